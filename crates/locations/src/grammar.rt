@@ -1,0 +1,97 @@
+//! The names that a location is made of: networks, bodies and junctions.
+
+/// A consensus network, in the order of the XCM format.
+#[derive(Clone, Copy, Debug, PartialEq, Eq, PartialOrd, Ord)]
+pub enum NetworkId {
+    /// The network whose first block has this hash.
+    ByGenesis([u8; 32]),
+    /// The network that left another one at this block.
+    ByFork {
+        block_number: u64,
+        block_hash: [u8; 32],
+    },
+    Polkadot,
+    Kusama,
+    Westend,
+    Rococo,
+    Wococo,
+    /// The Ethereum network of this chain id.
+    Ethereum {
+        chain_id: u64,
+    },
+    BitcoinCore,
+    BitcoinCash,
+}
+
+/// A body of people that decides together.
+#[derive(Clone, Copy, Debug, PartialEq, Eq, PartialOrd, Ord)]
+pub enum BodyId {
+    Unit,
+    /// A body with a name of four bytes.
+    Moniker([u8; 4]),
+    /// A body with a number.
+    Index(u32),
+    Executive,
+    Technical,
+    Legislative,
+    Judicial,
+    Defense,
+    Administration,
+    Treasury,
+}
+
+/// How much of a body speaks.
+#[derive(Clone, Copy, Debug, PartialEq, Eq, PartialOrd, Ord)]
+pub enum BodyPart {
+    /// The body's own decision.
+    Voice,
+    /// This many members.
+    Members { count: u32 },
+    /// Just this part of it.
+    Fraction { nom: u32, denom: u32 },
+    /// At least this part of it.
+    AtLeastProportion { nom: u32, denom: u32 },
+    /// More than this part of it.
+    MoreThanProportion { nom: u32, denom: u32 },
+}
+
+/// One step of a location, from a chain or a place on it to a place inside.
+#[derive(Clone, Copy, Debug, Default, PartialEq, Eq, PartialOrd, Ord)]
+pub enum Junction {
+    /// A parachain of the relay chain, by its number.
+    Parachain(u32),
+    /// An account of 32 bytes.
+    AccountId32 {
+        network: Option<NetworkId>,
+        id: [u8; 32],
+    },
+    /// An account by its number.
+    AccountIndex64 {
+        network: Option<NetworkId>,
+        index: u64,
+    },
+    /// An account of 20 bytes.
+    AccountKey20 {
+        network: Option<NetworkId>,
+        key: [u8; 20],
+    },
+    /// A pallet of the chain, by its place in the runtime.
+    PalletInstance(u8),
+    /// A number that the place above gives its meaning.
+    GeneralIndex(u128),
+    /// A key of which the first `length` bytes count.
+    GeneralKey {
+        length: u8,
+        key: [u8; 32],
+    },
+    /// The one child that a place is taken to have where its name isn't known.
+    #[default]
+    OnlyChild,
+    /// A part of a body.
+    Plurality {
+        id: BodyId,
+        part: BodyPart,
+    },
+    /// A network, seen from the root of all.
+    GlobalConsensus(NetworkId),
+}
