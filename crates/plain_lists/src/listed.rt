@@ -1,0 +1,66 @@
+ghost use Rattle.std.specs.Prelude.{◌≡◌};
+
+use std::marker::Model;
+
+/// A `Vec` that contracts see as the list of its elements, without capacity or place in memory.
+#[derive(Debug, Drop)]
+pub struct Listed<T> {
+    items: Vec<T>,
+}
+
+impl<T> Model for Listed<T> {
+    ghost use Rattle.std.specs.Prelude.{List};
+    ghost use Rattle.std.specs.Coded.{coded_list};
+
+    ghost Value = { List T };
+
+    ghost coded = { coded_list T.code };
+
+    ghost view = { λ it. it.items.items };
+}
+
+impl<T> Listed<T> {
+    /// The list of the elements of `items`. It takes no memory.
+    pub fn from_vec(items: Vec<T>) -> Listed<T>
+        ensures { result ≡ items.items }
+    {
+        Self { items }
+    }
+
+    /// The elements, in order.
+    pub fn items(&self) -> &[T]
+        ensures { result.now ≡ self.now }
+    {
+        self.items.as_slice()
+    }
+
+    /// The elements as a `Vec` again. It takes no memory.
+    pub fn into_vec(self) -> Vec<T>
+        ensures { result.items ≡ self }
+    {
+        let Listed { items } = self;
+        items
+    }
+}
+
+#[cfg(test)]
+mod tests {
+    use super::Listed;
+    use std::test::Fail;
+
+    #[test]
+    fn the_elements_come_back_in_order(rt: HostRuntime) -> Result<(), Fail> {
+        let seen = Listed::from_vec(vec![in rt.alloc(); 3u32, 1, 2]?);
+        assert_eq!(rt; seen.items(), [3, 1, 2].as_slice());
+        let back = seen.into_vec();
+        assert_eq!(rt; back.as_slice(), [3, 1, 2].as_slice());
+        Ok(())
+    }
+
+    #[test]
+    fn no_elements(rt: HostRuntime) -> Result<(), Fail> {
+        let seen: Listed<u8> = Listed::from_vec(Vec::new(rt.alloc()));
+        assert!(rt; seen.items().is_empty());
+        Ok(())
+    }
+}
