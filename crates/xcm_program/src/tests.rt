@@ -1,4 +1,5 @@
 use super::*;
+use std::test::Fail;
 
 /// The errors in the order of their indices, with their texts.
 const ERRORS: [(XcmError, &str); 35] = [
@@ -46,39 +47,42 @@ const ERRORS: [(XcmError, &str); 35] = [
 ];
 
 #[test]
-fn errors_have_their_texts(rt: HostRuntime) {
+fn errors_have_their_texts(rt: HostRuntime) -> Result<(), Fail> {
     for (error, want) in ERRORS {
-        let text = format!(in rt.alloc(); "{error}").unwrap();
+        let text = format!(in rt.alloc(); "{error}")?;
         assert_eq!(rt; text.as_str(), want);
-        let text = format!(in rt.alloc(); "{}", OutcomeError::Xcm(error)).unwrap();
+        let text = format!(in rt.alloc(); "{}", OutcomeError::Xcm(error))?;
         assert_eq!(rt; text.as_str(), want);
     }
+    Ok(())
 }
 
 #[test]
-fn refusals_before_a_run_have_their_texts(rt: HostRuntime) {
+fn refusals_before_a_run_have_their_texts(rt: HostRuntime) -> Result<(), Fail> {
     for (error, want) in [
         (OutcomeError::Barrier, "Barrier"),
         (OutcomeError::WeightNotComputable, "WeightNotComputable"),
         (OutcomeError::WeightLimitReached, "WeightLimitReached"),
     ] {
-        let text = format!(in rt.alloc(); "{error}").unwrap();
+        let text = format!(in rt.alloc(); "{error}")?;
         assert_eq!(rt; text.as_str(), want);
     }
+    Ok(())
 }
 
 #[test]
-fn weights_show_both_dimensions(rt: HostRuntime) {
+fn weights_show_both_dimensions(rt: HostRuntime) -> Result<(), Fail> {
     let weight = Weight {
         ref_time: 1_000_000_000_000,
         proof_size: 5_242_880,
     };
-    let text = format!(in rt.alloc(); "{weight}").unwrap();
+    let text = format!(in rt.alloc(); "{weight}")?;
     assert_eq!(rt; text.as_str(), "1000000000000 5242880");
+    Ok(())
 }
 
 #[test]
-fn instructions_have_their_indices_and_names(rt: HostRuntime) {
+fn instructions_have_their_indices_and_names(rt: HostRuntime) -> Result<(), Fail> {
     for (instruction, index, name) in [
         (Instruction::ClearOrigin, 10, "ClearOrigin"),
         (Instruction::Trap { code: 5 }, 25, "Trap"),
@@ -86,4 +90,5 @@ fn instructions_have_their_indices_and_names(rt: HostRuntime) {
         assert_eq!(rt; instruction.index(), index);
         assert_eq!(rt; instruction.name(), name);
     }
+    Ok(())
 }
