@@ -1,0 +1,11 @@
+//! The network document: the chains that are simulated.
+#![tactic(auto)]
+
+mod document;
+mod fault;
+
+pub use document::{NetworkSpec, read_network};
+pub use fault::{NetworkFault, Place, Section};
+
+
+
