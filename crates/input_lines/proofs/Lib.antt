@@ -1,0 +1,4 @@
+pub mod FirstLine
+pub mod Decimals
+pub mod FirstWord
+pub mod Joined

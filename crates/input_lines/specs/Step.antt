@@ -1,0 +1,64 @@
+-- What a line after the network asks for. Source: this project's own rule.
+use Rattle.std.specs.Prelude.{ℕ, ◌==◌, ◌||◌, nat_eq, List, [], ◌∷◌, length, drop, slice_index, Bool, Option, Some, None, codes, bytes_eq, if◌then◌else◌}
+use Rattle.std.specs.Borrow.{Bor}
+use Rattle.std.specs.List.{starts_with}
+use Rattle.std.specs.Option.{option_map}
+use Rattle.std.specs.Result.{result_ok}
+use Rattle.hex.specs.Hex.{decode_of, decode_sized}
+use Rattle.input_lines.specs.Numbers.{number_of}
+use Rattle.input_lines.specs.declared.line.ChainId.{ChainId}
+use Rattle.input_lines.specs.declared.line.ChainId.TheVariants.{Relay, Para}
+use Rattle.input_lines.specs.declared.line.Line.{Line}
+use Rattle.input_lines.specs.declared.line.Line.TheVariants.{NoStep, Exec, Refused}
+
+-- an empty line or a comment
+abbrev pub is_no_step : List ℕ → Bool
+is_no_step text = length text == 0 || slice_index text 0 == 35
+
+-- the bytes before the first space, and those behind it
+unfoldable pub split_word : List ℕ → Option (List ℕ × List ℕ)
+split_word [] = None
+split_word (b ∷ rest) = if b == 32 then Some ([], rest) else option_map (λ x. (b ∷ x.0, x.1)) (split_word rest)
+
+-- hex digits, without the `0x` that may stand in front
+abbrev pub plain_digits : List ℕ → List ℕ
+plain_digits text = if starts_with nat_eq text (codes "0x") then drop 2 text else text
+
+-- `relay`, or a parachain's number below 2^32 in decimal
+abbrev pub chain_of : List ℕ → Option ChainId
+chain_of text = if bytes_eq text (codes "relay") then Some Relay else option_map Para (number_of text)
+
+-- the 32 bytes of 64 hex digits
+abbrev pub account_of : List ℕ → Option (List ℕ)
+account_of text = result_ok (decode_sized (plain_digits text) 32)
+
+-- the bytes of an even number of hex digits; without a digit there is the `0x`
+abbrev pub bytes_of : List ℕ → Option (List ℕ)
+bytes_of text = if length text == 0 then None else result_ok (decode_of (plain_digits text))
+
+-- all three words have to be in form
+abbrev pub exec_of : Option ChainId → Option (List ℕ) → Option (List ℕ) → Line
+exec_of (Some chain) (Some account) (Some message) = Exec chain account message
+exec_of (Some chain) (Some account) None = Refused
+exec_of (Some chain) None message = Refused
+exec_of None account message = Refused
+
+-- an account and a message, behind a chain
+abbrev pub exec_tail : Option ChainId → Option (List ℕ × List ℕ) → Line
+exec_tail chain None = Refused
+exec_tail chain (Some words) = exec_of chain (account_of words.0) (bytes_of words.1)
+
+-- a chain, and the words behind it
+abbrev pub exec_words : Option (List ℕ × List ℕ) → Line
+exec_words None = Refused
+exec_words (Some words) = exec_tail (chain_of words.0) (split_word words.1)
+
+-- what a line asks for
+unfoldable pub read_line_of : List ℕ → Line
+read_line_of text =
+    if is_no_step text then NoStep
+    else (if starts_with nat_eq text (codes "exec ") then exec_words (split_word (drop 5 text)) else Refused)
+
+-- a split as a call answers it
+abbrev pub seen : Option (Bor (List ℕ) × Bor (List ℕ)) → Option (List ℕ × List ℕ)
+seen o = option_map (λ x. (x.0.now, x.1.now)) o

@@ -1,0 +1,10 @@
+//! The lines of an input, and what the ones after the network ask for.
+#![tactic(auto)]
+
+mod line;
+mod lines;
+mod number;
+mod words;
+
+pub use line::{ChainId, Line, read_line};
+pub use lines::{ends_network, line_len, text_of, without_feed};

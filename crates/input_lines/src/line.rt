@@ -1,0 +1,74 @@
+ghost use Rattle.std.specs.Prelude.{◌≡◌, IfOk};
+ghost use Rattle.input_lines.specs.Step.{read_line_of, exec_words, split_word};
+
+use crate::words::{read_account, read_bytes, read_chain, split_word};
+use plain_lists::Listed;
+use std::alloc::{AllocError, Global};
+
+/// A chain of the network.
+#[derive(Clone, Copy, Debug, PartialEq, Eq)]
+pub enum ChainId {
+    /// The relay chain.
+    Relay,
+    /// The parachain with this number.
+    Para(u32),
+}
+
+/// What a line after the network asks for.
+#[derive(Debug, Drop)]
+pub enum Line {
+    /// An empty line or a comment.
+    NoStep,
+    /// The local execution of a message on behalf of an account.
+    Exec {
+        /// Where the message is executed.
+        chain: ChainId,
+        /// The account.
+        account: [u8; 32],
+        /// The message's bytes. Contracts see them as their list.
+        message: Listed<u8>,
+    },
+    /// No line of the list.
+    Refused,
+}
+
+/// Reads what a line asks for, of the text without its line feed and the carriage return before it.
+/// `Err` is want of memory alone.
+#[tactic(auto, unfolding(crate::specs::Step::read_line_of))]
+pub fn read_line(alloc: Global, text: &[u8]) -> Result<Line, AllocError>
+    ensures { IfOk result (λ line. line ≡ read_line_of text.now) }
+{
+    if text.is_empty() || text[0] == b'#' {
+        return Ok(Line::NoStep);
+    }
+    if !text.starts_with(b"exec ") {
+        return Ok(Line::Refused);
+    }
+    read_exec(alloc, &text[5..])
+}
+
+/// Reads the words of an execution.
+fn read_exec(alloc: Global, words: &[u8]) -> Result<Line, AllocError>
+    ensures { IfOk result (λ line. line ≡ exec_words (split_word words.now)) }
+{
+    let Some((chain, words)) = split_word(words) else {
+        return Ok(Line::Refused);
+    };
+    let Some((account, message)) = split_word(words) else {
+        return Ok(Line::Refused);
+    };
+    let Some(chain) = read_chain(chain) else {
+        return Ok(Line::Refused);
+    };
+    let Some(account) = read_account(account) else {
+        return Ok(Line::Refused);
+    };
+    match read_bytes(alloc, message)? {
+        Some(message) => Ok(Line::Exec {
+            chain,
+            account,
+            message: Listed::from_vec(message),
+        }),
+        None => Ok(Line::Refused),
+    }
+}

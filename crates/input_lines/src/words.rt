@@ -1,0 +1,62 @@
+// The words of a line.
+ghost use Rattle.std.specs.Prelude.{◌≡◌, IfOk};
+ghost use Rattle.std.specs.Option.{option_map};
+ghost use Rattle.input_lines.specs.Step.{split_word, plain_digits, chain_of, account_of, bytes_of, seen};
+
+use crate::line::ChainId;
+use crate::number::read_number;
+use hex::{FromHex, FromHexError};
+use std::alloc::{AllocError, Global};
+
+/// The bytes before the first space, and those behind it.
+pub(crate) fn split_word(words: &[u8]) -> Option<(&[u8], &[u8])>
+    ensures { seen result ≡ split_word words.now }
+{
+    for (at, byte) in words.iter().enumerate() {
+        if *byte == b' ' {
+            return Some((&words[..at], &words[at + 1..]));
+        }
+    }
+    None
+}
+
+/// The digits behind the `0x` that may stand in front.
+fn without_prefix(text: &[u8]) -> &[u8]
+    ensures { result.now ≡ plain_digits text.now }
+{
+    if text.starts_with(b"0x") {
+        return &text[2..];
+    }
+    text
+}
+
+/// The chain that the text names: `relay`, or a number below 2^32 in decimal.
+pub(crate) fn read_chain(text: &[u8]) -> Option<ChainId>
+    ensures { result ≡ chain_of text.now }
+{
+    if text == b"relay".as_slice() {
+        return Some(ChainId::Relay);
+    }
+    read_number(text).map(ChainId::Para)
+}
+
+/// The account of 64 hex digits.
+pub(crate) fn read_account(text: &[u8]) -> Option<[u8; 32]>
+    ensures { result ≡ account_of text.now }
+{
+    <[u8; 32] as FromHex>::from_hex(without_prefix(text)).ok()
+}
+
+/// The bytes of an even number of hex digits. `Err` is want of memory alone.
+pub(crate) fn read_bytes(alloc: Global, text: &[u8]) -> Result<Option<Vec<u8>>, AllocError>
+    ensures { IfOk result (λ bytes. option_map (λ v. v.items) bytes ≡ bytes_of text.now) }
+{
+    if text.is_empty() {
+        return Ok(None);
+    }
+    match hex::decode(alloc, without_prefix(text)) {
+        Ok(bytes) => Ok(Some(bytes)),
+        Err(FromHexError::OutOfMemory) => Err(AllocError),
+        Err(_) => Ok(None),
+    }
+}
