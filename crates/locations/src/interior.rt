@@ -1,8 +1,12 @@
 //! The list of junctions of a location.
-ghost use Rattle.std.specs.Prelude.{◌≡◌, [], length, ◌≤◌};
+ghost use Rattle.std.specs.Prelude.{◌≡◌, [], ◌∷◌, ◌++◌, ◌+◌, length, ◌<◌, ◌≤◌, ◌↔◌, IsTrue, IsOk, IfOk, OnOk, OnErr};
+ghost use Rattle.std.specs.List.{common_prefix_len};
+ghost use Rattle.locations.specs.Chains;
+ghost use Rattle.locations.specs.Chains.{same_junction};
 
-use crate::Junction;
+use crate::{Full, Junction};
 use arrayvec::ArrayVec;
+use std::cmp::Ordering;
 use std::marker::Model;
 
 /// How many junctions a location holds at most, by the XCM format.
@@ -45,12 +49,139 @@ impl Junctions {
 
     /// The same junctions.
     pub fn copy(&self) -> Junctions
-        ensures { result ≡ self.now }
+        ensures same { result ≡ self.now }
+        ensures bound { length self.now ≤ 8 }
     {
-        let mut same = ArrayVec::new();
-        for junction in self.items.as_slice() {
-            same.push(*junction);
+        Self::from_few(self.items())
+    }
+
+    /// These junctions, of which there are at most eight.
+    pub(crate) fn from_few(junctions: &[Junction]) -> Junctions
+        requires { length junctions.now ≤ 8 }
+        ensures { result ≡ junctions.now }
+    {
+        let mut items = ArrayVec::new();
+        for junction in junctions {
+            items.push(*junction);
         }
-        Junctions { items: same }
+        Junctions { items }
+    }
+
+    /// Appends a junction, or `Full` where there are eight.
+    pub fn push(&mut self, junction: Junction) -> Result<(), Full>
+        ensures room { IsOk result ↔ (length self.old < 8) }
+        ensures ok { OnOk result (self.new ≡ self.old ++ junction ∷ []) }
+        ensures err { OnErr result (self.new ≡ self.old) }
+    {
+        self.items.try_push(junction).map_err(|_| Full)
+    }
+
+    /// Appends the other junctions, or `Full` where the two are more than eight.
+    pub fn append(&mut self, other: &Junctions) -> Result<(), Full>
+        ensures room { IsOk result ↔ (length self.old + length other.now ≤ 8) }
+        ensures ok { OnOk result (self.new ≡ self.old ++ other.now) }
+        ensures err { OnErr result (self.new ≡ self.old) }
+    {
+        let more = other.items();
+        self.items.try_extend_from_slice(more).map_err(|_| Full)
+    }
+
+    /// The first junctions and then the others, or `Full` where they are more than eight.
+    pub(crate) fn joined(front: &[Junction], back: &[Junction]) -> Result<Junctions, Full>
+        ensures room { IsOk result ↔ (length front.now + length back.now ≤ 8) }
+        ensures ok { IfOk result (λ both. both ≡ front.now ++ back.now) }
+    {
+        let mut items = ArrayVec::new();
+        items.try_extend_from_slice(front).map_err(|_| Full)?;
+        items.try_extend_from_slice(back).map_err(|_| Full)?;
+        Ok(Junctions { items })
+    }
+}
+
+/// The last `count` junctions, or all where there are fewer.
+pub(crate) fn last(chain: &[Junction], count: usize) -> &[Junction]
+    ensures last { result.now ≡ Chains.last count chain.now }
+    ensures few { length result.now ≤ count }
+{
+    &chain[chain.len().saturating_sub(count)..]
+}
+
+/// Whether two junctions are one and the same.
+pub(crate) fn are_same(ours: &Junction, theirs: &Junction) -> bool
+    ensures { IsTrue result ↔ (ours.now ≡ theirs.now) }
+{
+    ours == theirs
+}
+
+/// How many junctions two lists have in common from the front on.
+pub(crate) fn common_length(ours: &[Junction], theirs: &[Junction]) -> usize
+    ensures common { result ≡ common_prefix_len same_junction ours.now theirs.now }
+    ensures in_ours { result ≤ length ours.now }
+    ensures in_theirs { result ≤ length theirs.now }
+{
+    let shorter = ours.len().min(theirs.len());
+    for k in 0..shorter {
+        if !are_same(&ours[k], &theirs[k]) {
+            return k;
+        }
+    }
+    shorter
+}
+
+impl PartialEq for Junctions {
+    ghost use Rattle.std.specs.Cmp.{partial_equiv_from_equiv, eq_by_cmp_equiv};
+    ghost use Rattle.std.specs.Ordering.{eq_by_cmp};
+    ghost use Rattle.locations.specs.Order.{junctions_cmp};
+    ghost use Rattle.locations.specs.OrderLaws.{junctions_total};
+
+    ghost eq = { eq_by_cmp junctions_cmp };
+
+    ghost laws = { partial_equiv_from_equiv (eq_by_cmp_equiv junctions_total) };
+
+    fn eq(&self, other: &Junctions) -> bool {
+        self.cmp(other).is_eq()
+    }
+}
+
+impl Eq for Junctions {
+    ghost use Rattle.std.specs.Cmp.{eq_by_cmp_equiv};
+    ghost use Rattle.locations.specs.OrderLaws.{junctions_total};
+
+    ghost laws = { eq_by_cmp_equiv junctions_total };
+}
+
+impl PartialOrd for Junctions {
+    ghost use Rattle.std.specs.Prelude.{refl};
+    ghost use Rattle.std.specs.Cmp.{po};
+    ghost use Rattle.std.specs.Ordering.{as_partial_cmp};
+    ghost use Rattle.locations.specs.Order.{junctions_cmp};
+    ghost use Rattle.locations.specs.OrderLaws.{junctions_total};
+
+    ghost partial_cmp = { as_partial_cmp junctions_cmp };
+
+    ghost laws = { po junctions_total (λ _ _. refl) };
+
+    fn partial_cmp(&self, other: &Junctions) -> Option<Ordering> {
+        Some(self.cmp(other))
+    }
+}
+
+/// By the number of junctions, then junction by junction.
+impl Ord for Junctions {
+    ghost use Rattle.std.specs.Prelude.{refl};
+    ghost use Rattle.locations.specs.Order.{junctions_cmp};
+    ghost use Rattle.locations.specs.OrderLaws.{junctions_total};
+
+    ghost cmp = { junctions_cmp };
+
+    ghost total = { junctions_total };
+
+    ghost matches_partial_cmp = { λ _ _. refl };
+
+    ghost matches_eq = { λ _ _. refl };
+
+    fn cmp(&self, other: &Junctions) -> Ordering {
+        let (ours, theirs) = (self.items(), other.items());
+        ours.len().cmp(&theirs.len()).then(ours.cmp(theirs))
     }
 }

@@ -1,10 +1,14 @@
 //! Where a chain, an account or a part of a chain lies, as the XCM format names it.
 #![tactic(auto)]
 
+mod faults;
 mod grammar;
 mod interior;
+mod reanchor;
 mod relative;
 
+pub use faults::{Full, LocationFault, PathFault};
 pub use grammar::{BodyId, BodyPart, Junction, NetworkId};
 pub use interior::{Junctions, MAX_JUNCTIONS};
+pub use reanchor::invert_target;
 pub use relative::Location;

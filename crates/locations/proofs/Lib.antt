@@ -1,0 +1,4 @@
+pub mod DerivedOrders
+pub mod CommonPrefix
+pub mod Inversion
+pub mod ThreeSteps

@@ -1,0 +1,47 @@
+-- A chain's context is the list of junctions from the root of all consensus systems to the chain.
+-- The path of a location at a chain is the same list for the place that the location names.
+-- Source: the XCM format's locations ("parents" and "interior"), and this project's own word "path".
+use Rattle.std.specs.Prelude.{◌≡◌, ◌≢◌, ℕ, ◌-◌, ◌<◌, ◌≤◌, Bool, List, ◌++◌, length, take, drop, Some, slice_get}
+use Rattle.std.specs.List.{All}
+use Rattle.std.specs.Ordering.{eq_by_cmp}
+use Rattle.locations.specs.declared.grammar.Junction.{Junction}
+use Rattle.locations.specs.declared.grammar.Junction.TheVariants.{OnlyChild}
+use Rattle.locations.specs.declared.relative.Location.{Location}
+use Rattle.locations.specs.declared.faults.PathFault.{PathFault}
+use Rattle.locations.specs.declared.faults.PathFault.TheVariants.{PastRoot, Full}
+use Rattle.locations.specs.Order.{junction_cmp}
+
+-- whether two junctions are the same
+abbrev pub same_junction : Junction → Junction → Bool
+same_junction = eq_by_cmp junction_cmp
+
+-- the last n junctions, and the others
+abbrev pub last : ℕ → List Junction → List Junction
+last n chain = drop (length chain - n) chain
+
+abbrev pub without_last : ℕ → List Junction → List Junction
+without_last n chain = take (length chain - n) chain
+
+-- the parents don't lead past the root
+abbrev pub HasPath : List Junction → Location → Type 0
+HasPath context l = l.parents ≤ length context
+
+-- as many levels up as there are parents, then the junctions down. It has no limit of length
+abbrev pub path_of : List Junction → Location → List Junction
+path_of context l = without_last l.parents context ++ l.interior
+
+-- why a location has no path that a list of junctions can hold
+abbrev pub IsPathFault : List Junction → Location → PathFault → Type 0
+IsPathFault context l PastRoot = length context < l.parents
+IsPathFault context l Full = HasPath context l × (8 < length (path_of context l))
+
+-- the first junction does not lead back to where the last parent came from
+abbrev pub TurnsAway : List Junction → Location → Type 0
+TurnsAway context l = (first : Junction) → 0 < l.parents → slice_get l.interior 0 ≡ Some first
+    → slice_get context (length context - l.parents) ≢ Some first
+
+-- the shortest name of its place at a chain
+pub record IsNormal (context : List Junction) (l : Location) : Type 0 where
+  pub inside : HasPath context l
+  pub named : All (λ j. j ≢ OnlyChild) l.interior
+  pub turned : TurnsAway context l
