@@ -1,0 +1,27 @@
+ghost use Rattle.std.specs.Prelude.{◌≡◌, OnErr, IfOk, MatchResult};
+ghost use Rattle.xcm_executor.specs.PlainRun.{step};
+
+use xcm_program::{Instruction, XcmError};
+
+/// The registers (XCM format) that the built instructions read or change.
+#[derive(Drop)]
+pub struct Registers {
+    /// The account on whose behalf the program runs, until it gives the origin up.
+    pub origin: Option<[u8; 32]>,
+}
+
+impl Registers {
+    /// Executes one instruction. An instruction that fails leaves the registers as they were.
+    pub fn execute(&mut self, instruction: Instruction) -> Result<(), XcmError>
+        ensures { MatchResult result (λ _. step instruction self.old.origin ≡ Ok self.new.origin)
+            (λ error. (step instruction self.old.origin ≡ Err error) × (self.new ≡ self.old)) }
+    {
+        match instruction {
+            Instruction::ClearOrigin => {
+                self.origin = None;
+                Ok(())
+            }
+            Instruction::Trap { code } => Err(XcmError::Trap(code)),
+        }
+    }
+}
