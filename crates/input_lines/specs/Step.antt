@@ -1,5 +1,5 @@
 -- What a line after the network asks for. Source: this project's own rule.
-use Rattle.std.specs.Prelude.{ℕ, ◌==◌, ◌||◌, nat_eq, List, [], ◌∷◌, length, drop, slice_index, Bool, Option, Some, None, codes, bytes_eq, if◌then◌else◌}
+use Rattle.std.specs.Prelude.{ℕ, ◌==◌, ◌||◌, nat_eq, List, [], ◌∷◌, length, drop, slice_index, Bool, Option, Some, None, codes, decimal, bytes_eq, if◌then◌else◌}
 use Rattle.std.specs.Borrow.{Bor}
 use Rattle.std.specs.List.{starts_with}
 use Rattle.std.specs.Option.{option_map}
@@ -19,6 +19,11 @@ is_no_step text = length text == 0 || slice_index text 0 == 35
 unfoldable pub split_word : List ℕ → Option (List ℕ × List ℕ)
 split_word [] = None
 split_word (b ∷ rest) = if b == 32 then Some ([], rest) else option_map (λ x. (b ∷ x.0, x.1)) (split_word rest)
+
+-- the text of a chain
+abbrev pub chain_text : ChainId → List ℕ
+chain_text Relay = codes "relay"
+chain_text (Para number) = decimal number
 
 -- hex digits, without the `0x` that may stand in front
 abbrev pub plain_digits : List ℕ → List ℕ

@@ -8,3 +8,6 @@ mod words;
 
 pub use line::{ChainId, Line, read_line};
 pub use lines::{ends_network, line_len, text_of, without_feed};
+
+#[cfg(test)]
+mod tests;
