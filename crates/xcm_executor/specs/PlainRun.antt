@@ -6,7 +6,7 @@ use Rattle.xcm_program.specs.declared.weight.Weight.{Weight}
 use Rattle.xcm_program.specs.declared.instruction.Instruction.{Instruction}
 use Rattle.xcm_program.specs.declared.instruction.Instruction.TheVariants.{ClearOrigin, Trap}
 use Rattle.xcm_program.specs.declared.error.XcmError.{XcmError}
-use Rattle.xcm_program.specs.declared.error.XcmError.TheVariants as error
+use Rattle.xcm_program.specs.declared.error.XcmError.TheVariants.{Trap as TrapError}
 use Rattle.xcm_program.specs.declared.outcome.Outcome.{Outcome}
 use Rattle.xcm_program.specs.declared.outcome.Outcome.TheVariants.{Complete, Incomplete, Error}
 use Rattle.xcm_program.specs.declared.outcome.OutcomeError.TheVariants.{Xcm}
@@ -38,7 +38,7 @@ weight_of (instruction ∷ rest) = plus unit_weight (weight_of rest)
 -- what an instruction does: the origin register after it, or its error
 abbrev pub step : Instruction → Option (List ℕ) → Result (Option (List ℕ)) XcmError
 step ClearOrigin origin = Ok None
-step (Trap code) origin = Err (error.Trap code)
+step (Trap code) origin = Err (TrapError code)
 
 -- the trace of a run and its registers at the end
 pub record Ran : Type 0 where
