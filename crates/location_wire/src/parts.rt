@@ -1,0 +1,179 @@
+//! The readers behind the public ones. Where they leave the cursor after a refusal isn't said.
+
+ghost use Rattle.std.specs.Prelude.{◌≡◌, ◌≤◌};
+ghost use Rattle.scale_codec.specs.Reading.{take_at, optional_at, repeated};
+ghost use Rattle.scale_codec.specs.Answers.{Got};
+ghost use Rattle.location_wire.specs.Reading.{network_at, body_at, part_at, junction_at, junctions_at, location_at};
+
+use locations::{BodyId, BodyPart, Junction, Junctions, Location, NetworkId};
+use scale_codec::{Cursor, NoSpelling};
+
+/// The next bytes, as many as the array has.
+fn bytes_of<const N: usize>(c: &mut Cursor<'_>) -> Result<[u8; N], NoSpelling>
+    ensures { Got result (take_at N c.old) c.new }
+{
+    match c.take(N)?.first_chunk::<N>() {
+        Some(bytes) => Ok(*bytes),
+        None => Err(NoSpelling),
+    }
+}
+
+#[tactic(auto, unfolding(crate::specs::Reading::network_at))]
+pub fn network_of(c: &mut Cursor<'_>) -> Result<NetworkId, NoSpelling>
+    ensures { Got result (network_at c.old) c.new }
+{
+    match c.u8()? {
+        0 => Ok(NetworkId::ByGenesis(bytes_of(c)?)),
+        1 => {
+            let block_number = c.u64_le()?;
+            let block_hash = bytes_of(c)?;
+            Ok(NetworkId::ByFork {
+                block_number,
+                block_hash,
+            })
+        }
+        2 => Ok(NetworkId::Polkadot),
+        3 => Ok(NetworkId::Kusama),
+        4 => Ok(NetworkId::Westend),
+        5 => Ok(NetworkId::Rococo),
+        6 => Ok(NetworkId::Wococo),
+        7 => {
+            let chain_id = c.compact_u64()?;
+            Ok(NetworkId::Ethereum { chain_id })
+        }
+        8 => Ok(NetworkId::BitcoinCore),
+        9 => Ok(NetworkId::BitcoinCash),
+        _ => Err(NoSpelling),
+    }
+}
+
+/// A network that may be left out.
+fn optional_network_of(c: &mut Cursor<'_>) -> Result<Option<NetworkId>, NoSpelling>
+    ensures { Got result (optional_at network_at c.old) c.new }
+{
+    match c.u8()? {
+        0 => Ok(None),
+        1 => Ok(Some(network_of(c)?)),
+        _ => Err(NoSpelling),
+    }
+}
+
+#[tactic(auto, unfolding(crate::specs::Reading::body_at))]
+fn body_of(c: &mut Cursor<'_>) -> Result<BodyId, NoSpelling>
+    ensures { Got result (body_at c.old) c.new }
+{
+    match c.u8()? {
+        0 => Ok(BodyId::Unit),
+        1 => Ok(BodyId::Moniker(bytes_of(c)?)),
+        2 => Ok(BodyId::Index(c.compact_u32()?)),
+        3 => Ok(BodyId::Executive),
+        4 => Ok(BodyId::Technical),
+        5 => Ok(BodyId::Legislative),
+        6 => Ok(BodyId::Judicial),
+        7 => Ok(BodyId::Defense),
+        8 => Ok(BodyId::Administration),
+        9 => Ok(BodyId::Treasury),
+        _ => Err(NoSpelling),
+    }
+}
+
+#[tactic(auto, unfolding(crate::specs::Reading::part_at))]
+fn part_of(c: &mut Cursor<'_>) -> Result<BodyPart, NoSpelling>
+    ensures { Got result (part_at c.old) c.new }
+{
+    match c.u8()? {
+        0 => Ok(BodyPart::Voice),
+        1 => {
+            let count = c.compact_u32()?;
+            Ok(BodyPart::Members { count })
+        }
+        2 => {
+            let nom = c.compact_u32()?;
+            let denom = c.compact_u32()?;
+            Ok(BodyPart::Fraction { nom, denom })
+        }
+        3 => {
+            let nom = c.compact_u32()?;
+            let denom = c.compact_u32()?;
+            Ok(BodyPart::AtLeastProportion { nom, denom })
+        }
+        4 => {
+            let nom = c.compact_u32()?;
+            let denom = c.compact_u32()?;
+            Ok(BodyPart::MoreThanProportion { nom, denom })
+        }
+        _ => Err(NoSpelling),
+    }
+}
+
+#[tactic(auto, unfolding(crate::specs::Reading::junction_at))]
+pub fn junction_of(c: &mut Cursor<'_>) -> Result<Junction, NoSpelling>
+    ensures { Got result (junction_at c.old) c.new }
+{
+    match c.u8()? {
+        0 => Ok(Junction::Parachain(c.compact_u32()?)),
+        1 => {
+            let network = optional_network_of(c)?;
+            let id = bytes_of(c)?;
+            Ok(Junction::AccountId32 { network, id })
+        }
+        2 => {
+            let network = optional_network_of(c)?;
+            let index = c.compact_u64()?;
+            Ok(Junction::AccountIndex64 { network, index })
+        }
+        3 => {
+            let network = optional_network_of(c)?;
+            let key = bytes_of(c)?;
+            Ok(Junction::AccountKey20 { network, key })
+        }
+        4 => Ok(Junction::PalletInstance(c.u8()?)),
+        5 => Ok(Junction::GeneralIndex(c.compact_u128()?)),
+        6 => {
+            let length = c.u8()?;
+            let key = bytes_of(c)?;
+            Ok(Junction::GeneralKey { length, key })
+        }
+        7 => Ok(Junction::OnlyChild),
+        8 => {
+            let id = body_of(c)?;
+            let part = part_of(c)?;
+            Ok(Junction::Plurality { id, part })
+        }
+        9 => Ok(Junction::GlobalConsensus(network_of(c)?)),
+        _ => Err(NoSpelling),
+    }
+}
+
+/// So many junctions, at most eight.
+fn several_of(c: &mut Cursor<'_>, count: u8) -> Result<Junctions, NoSpelling>
+    requires { count ≤ 8 }
+    ensures { Got result (repeated junction_at count c.old) c.new }
+{
+    let mut junctions = Junctions::empty();
+    for _ in 0..count {
+        let junction = junction_of(c)?;
+        junctions.push(junction).unwrap();
+    }
+    Ok(junctions)
+}
+
+#[tactic(auto, unfolding(crate::specs::Reading::junctions_at))]
+pub fn junctions_of(c: &mut Cursor<'_>) -> Result<Junctions, NoSpelling>
+    ensures { Got result (junctions_at c.old) c.new }
+{
+    let count = c.u8()?;
+    if count > 8 {
+        return Err(NoSpelling);
+    }
+    several_of(c, count)
+}
+
+#[tactic(auto, unfolding(crate::specs::Reading::location_at))]
+pub fn location_of(c: &mut Cursor<'_>) -> Result<Location, NoSpelling>
+    ensures { Got result (location_at c.old) c.new }
+{
+    let parents = c.u8()?;
+    let interior = junctions_of(c)?;
+    Ok(Location { parents, interior })
+}

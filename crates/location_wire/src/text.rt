@@ -1,0 +1,109 @@
+//! The texts of locations and paths.
+
+ghost use Rattle.std.specs.Prelude.{◌≡◌, ◌++◌, OnOk, IfOk, map, codes};
+ghost use Rattle.std.specs.String.{string_bytes};
+ghost use Rattle.scale_codec.specs.Spelling.{joined};
+ghost use Rattle.location_wire.specs.Spelling.{junction};
+ghost use Rattle.location_wire.specs.Texts.{hex_text, junction_text, step_text, path_text, location_text};
+
+use crate::writing::put_junction;
+use locations::{Junction, Junctions, Location, NetworkId};
+use scale_codec::Out;
+use std::alloc::{AllocError, Global};
+use std::fmt::Write;
+
+/// Appends the hex of the junction's spelling.
+fn push_spelled(alloc: Global, text: &mut String, step: &Junction) -> Result<(), AllocError>
+    ensures { OnOk result (string_bytes text.new ≡ string_bytes text.old ++ hex_text (junction step.now)) }
+{
+    let mut out = Out::new(alloc);
+    put_junction(&mut out, step)?;
+    let digits = hex::encode(alloc, out.bytes())?;
+    write!(text, "0x{digits}")
+}
+
+/// Appends the text of an account that names no network.
+fn push_account(alloc: Global, text: &mut String, id: &[u8]) -> Result<(), AllocError>
+    ensures { OnOk result (string_bytes text.new ≡ string_bytes text.old ++ (codes "AccountId32(" ++ hex_text id.now ++ codes ")")) }
+{
+    let digits = hex::encode(alloc, id)?;
+    write!(text, "AccountId32(0x{digits})")
+}
+
+#[tactic(auto, unfolding(crate::specs::Texts::junction_text))]
+fn push_network(
+    alloc: Global,
+    text: &mut String,
+    net: &NetworkId,
+    step: &Junction,
+) -> Result<(), AllocError>
+    requires { step.now ≡ Junction.GlobalConsensus net.now }
+    ensures { OnOk result (string_bytes text.new ≡ string_bytes text.old ++ junction_text step.now) }
+{
+    match net {
+        NetworkId::Polkadot => text.push_str("GlobalConsensus(Polkadot)"),
+        NetworkId::Kusama => text.push_str("GlobalConsensus(Kusama)"),
+        NetworkId::Westend => text.push_str("GlobalConsensus(Westend)"),
+        NetworkId::Rococo => text.push_str("GlobalConsensus(Rococo)"),
+        NetworkId::Wococo => text.push_str("GlobalConsensus(Wococo)"),
+        NetworkId::ByGenesis(_)
+        | NetworkId::ByFork { .. }
+        | NetworkId::Ethereum { .. }
+        | NetworkId::BitcoinCore
+        | NetworkId::BitcoinCash => push_spelled(alloc, text, step),
+    }
+}
+
+#[tactic(auto, unfolding(crate::specs::Texts::junction_text))]
+fn push_junction(alloc: Global, text: &mut String, step: &Junction) -> Result<(), AllocError>
+    ensures { OnOk result (string_bytes text.new ≡ string_bytes text.old ++ junction_text step.now) }
+{
+    match step {
+        Junction::Parachain(id) => write!(text, "Parachain({id})"),
+        Junction::PalletInstance(index) => write!(text, "PalletInstance({index})"),
+        Junction::GeneralIndex(index) => write!(text, "GeneralIndex({index})"),
+        Junction::AccountId32 { network, id } => match network {
+            None => push_account(alloc, text, id.as_slice()),
+            Some(_) => push_spelled(alloc, text, step),
+        },
+        Junction::GlobalConsensus(net) => push_network(alloc, text, net, step),
+        Junction::AccountIndex64 { .. }
+        | Junction::AccountKey20 { .. }
+        | Junction::GeneralKey { .. }
+        | Junction::OnlyChild
+        | Junction::Plurality { .. } => push_spelled(alloc, text, step),
+    }
+}
+
+/// Appends each junction behind a slash.
+fn push_steps(alloc: Global, text: &mut String, items: &[Junction]) -> Result<(), AllocError>
+    ensures { OnOk result (string_bytes text.new ≡ string_bytes text.old ++ joined (map step_text items.now)) }
+{
+    for step in items {
+        text.push_str("/")?;
+        push_junction(alloc, text, step)?;
+    }
+    Ok(())
+}
+
+/// The text of a location, as `1/Parachain(2000)`: its parents, then each junction behind a slash.
+pub fn location_text(alloc: Global, l: &Location) -> Result<String, AllocError>
+    ensures { IfOk result (λ text. string_bytes text ≡ location_text l.now) }
+{
+    let parents = l.parents;
+    let mut text = format!(in alloc; "{parents}")?;
+    push_steps(alloc, &mut text, l.interior.items())?;
+    Ok(text)
+}
+
+/// The text of a path, as `/GlobalConsensus(Polkadot)/Parachain(2000)`: each junction behind a slash; the empty path is `/`.
+pub fn path_text(alloc: Global, p: &Junctions) -> Result<String, AllocError>
+    ensures { IfOk result (λ text. string_bytes text ≡ path_text p.now) }
+{
+    let mut text = String::new(alloc);
+    if p.items().is_empty() {
+        text.push_str("/")?;
+    }
+    push_steps(alloc, &mut text, p.items())?;
+    Ok(text)
+}
