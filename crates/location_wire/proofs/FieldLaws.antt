@@ -1,11 +1,11 @@
 -- One law for each type: its reader takes what is spelled, and nothing else.
-use Rattle.std.proofs.Common.{◌≡◌, ℕ, ◌≤◌, ◌<◌, ◌^◌, List, ◌++◌, length, Some, refl, arith}
+use Rattle.std.proofs.Common.{◌≡◌, ℕ, List, ◌++◌, length, Some, refl, arith}
 use Rattle.std.specs.Prelude.{IfSome}
-use Rattle.scale_codec.specs.Spelling.{byte, fixed, compact, optional, counted}
+use Rattle.scale_codec.specs.Spelling.{byte, fixed, compact, optional}
 use Rattle.scale_codec.specs.Reading.{Reads, u8_at, take_at, indexed_at, optional_at}
 use Rattle.scale_codec.proofs.Laws.{byte_reads, fixed_reads, bytes_reads}
 use Rattle.scale_codec.proofs.Compact.{c32, c64, c128}
-use Rattle.scale_codec.proofs.Schemes.{◌&◌, AllFormed, reads_as, reads_fits, at_most_reads, indexed_reads, made1_again, made2_again, made2_reads, formed0, formed1, formed2, optional_reads, counted_reads}
+use Rattle.scale_codec.proofs.Schemes.{◌&◌, AllFormed, at_most_reads, indexed_reads, made1_again, made2_again, made2_reads, formed0, formed1, formed2, optional_reads, counted_reads}
 use Rattle.locations.specs.declared.grammar.NetworkId.{NetworkId}
 use Rattle.locations.specs.declared.grammar.NetworkId.TheVariants.{ByGenesis, ByFork, Polkadot, Kusama, Westend, Rococo, Wococo, Ethereum, BitcoinCore, BitcoinCash}
 use Rattle.locations.specs.declared.grammar.BodyId.{BodyId}
@@ -14,7 +14,6 @@ use Rattle.locations.specs.declared.grammar.BodyPart.{BodyPart}
 use Rattle.locations.specs.declared.grammar.BodyPart.TheVariants.{Voice, Members, Fraction, AtLeastProportion, MoreThanProportion}
 use Rattle.locations.specs.declared.grammar.Junction.{Junction}
 use Rattle.locations.specs.declared.grammar.Junction.TheVariants.{Parachain, AccountId32, AccountIndex64, AccountKey20, PalletInstance, GeneralIndex, GeneralKey, OnlyChild, Plurality, GlobalConsensus}
-use Rattle.locations.specs.declared.relative.Location.{Location}
 use Rattle.location_wire.specs.Spelling.{network, FitsNetwork, body, FitsBody, part, FitsPart, junction, FitsJunction, junctions, FitsJunctions, location, FitsLocation}
 use Rattle.location_wire.specs.Reading.{network_forms, network_at, body_forms, body_at, part_forms, part_at, junction_forms, junction_at, junction_count_at, junctions_at, location_at}
 

@@ -1,6 +1,6 @@
 -- The one spelling of each part of a location, and which values have one. Source: the XCM format, versions 3 and 4, which spell
 -- locations alike, in the SCALE codec: an enum is its index and then its fields in order.
-use Rattle.std.specs.Prelude.{◌≡◌, ℕ, ◌<◌, ◌≤◌, ◌^◌, List, [], ◌∷◌, ◌++◌, length, Option, IfSome, ⊤}
+use Rattle.std.specs.Prelude.{◌≡◌, ℕ, ◌<◌, ◌≤◌, ◌^◌, List, [], ◌∷◌, ◌++◌, length, IfSome, ⊤}
 use Rattle.std.specs.List.{AllByRecursion}
 use Rattle.scale_codec.specs.Spelling.{byte, fixed, compact, optional, counted}
 use Rattle.locations.specs.declared.grammar.NetworkId.{NetworkId}

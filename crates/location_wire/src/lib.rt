@@ -1,11 +1,15 @@
 //! Locations as bytes and as texts, both ways.
 #![tactic(auto)]
 
+mod law;
 mod parts;
 mod reading;
+#[cfg(test)]
+mod tests;
 mod text;
 mod writing;
 
+pub use law::{law_of_no_prefix, law_of_one_spelling, law_of_readers};
 pub use reading::{read_junction, read_junctions, read_location, read_network_id};
 pub use text::{location_text, path_text};
 pub use writing::{write_junction, write_junctions, write_location, write_network_id};

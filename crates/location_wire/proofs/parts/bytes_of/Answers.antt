@@ -1,4 +1,4 @@
-use Rattle.std.proofs.Common.{◌≡◌, ℕ, List, Some, ap, sym, ◌∙◌, take, length, arith}
+use Rattle.std.proofs.Common.{ℕ, List, Some, ap, sym, ◌∙◌, arith}
 use Rattle.std.proofs.lemmas.List.{take_all}
 use Rattle.location_wire.proofs.parts.bytes_of.Goals as goal
 
