@@ -2,3 +2,5 @@ pub mod DerivedOrders
 pub mod CommonPrefix
 pub mod Inversion
 pub mod ThreeSteps
+pub mod Gets
+pub mod PathLaws

@@ -1,9 +1,10 @@
 -- The order of networks, bodies, junctions and locations: by variant in the order of the XCM format,
 -- then by the fields from the first on; a location by parents, number of junctions, junctions.
 -- It is this project's own rule.
-use Rattle.std.specs.Prelude.{ℕ, List, [], ◌∷◌, length, Option, Some, None}
+use Rattle.std.specs.Prelude.{◌≡◌, ◌↔◌, ℕ, List, [], ◌∷◌, length, Option, Some, None}
 use Rattle.std.specs.declared.cmp.Ordering.{Ordering}
-use Rattle.std.specs.Ordering.{nat_cmp, on, then_cmp}
+use Rattle.std.specs.declared.cmp.Ordering.TheVariants.{Less, Equal}
+use Rattle.std.specs.Ordering.{nat_cmp, on, then_cmp, ordering_reverse}
 use Rattle.std.specs.Cmp.Lexicographic.{slice_cmp}
 use Rattle.locations.specs.declared.grammar.NetworkId.{NetworkId}
 use Rattle.locations.specs.declared.grammar.NetworkId.TheVariants.{ByGenesis, ByFork, Polkadot, Kusama, Westend, Rococo, Wococo, Ethereum, BitcoinCore, BitcoinCash}
@@ -100,3 +101,9 @@ junctions_cmp = then_cmp (on length nat_cmp) (slice_cmp junction_cmp)
 -- by parents, then number of junctions, then junction by junction
 abbrev pub location_cmp : Location → Location → Ordering
 location_cmp = then_cmp (on (λ (l : Location). l.parents) nat_cmp) (on (λ (l : Location). l.interior) junctions_cmp)
+
+-- a total order that ties only equal values
+pub record IsExactOrder {K : Type 0} (R : K → K → Ordering) : Type 0 where
+  pub antisymmetric : (x y : K) → R x y ≡ ordering_reverse (R y x)
+  pub transitive : (x y z : K) → R x y ≡ Less → R y z ≡ Less → R x z ≡ Less
+  pub exact : (x y : K) → (R x y ≡ Equal) ↔ (x ≡ y)

@@ -17,7 +17,7 @@ use Rattle.locations.specs.declared.grammar.BodyPart.TheVariants.{Voice, Members
 use Rattle.locations.specs.declared.grammar.Junction.{Junction}
 use Rattle.locations.specs.declared.grammar.Junction.TheVariants.{Parachain, AccountId32, AccountIndex64, AccountKey20, PalletInstance, GeneralIndex, GeneralKey, OnlyChild, Plurality, GlobalConsensus}
 use Rattle.locations.specs.declared.relative.Location.{Location}
-use Rattle.locations.specs.Order.{network_fields, any_network_fields, body_fields, part_fields, junction_fields, fields_cmp, network_cmp, body_cmp, part_cmp, junction_cmp, junctions_cmp, location_cmp}
+use Rattle.locations.specs.Order.{network_fields, any_network_fields, body_fields, part_fields, junction_fields, fields_cmp, network_cmp, body_cmp, part_cmp, junction_cmp, junctions_cmp, location_cmp, IsExactOrder}
 
 -- the bytes or the number at a place
 abbrev bytes_at : ℕ → List (List ℕ) → List ℕ
@@ -174,3 +174,28 @@ location_decides = tie_decides location_total location_exact
 
 pub junction_decides : (x y : Junction) → Decides (eq_by_cmp junction_cmp x y) (x ≡ y)
 junction_decides = tie_decides junction_total junction_exact
+
+pub exact_order : {K : Type 0} {R : K → K → Ordering} → IsTotalOrder R → IsAntisymmetric R → IsExactOrder R
+exact_order {R = R} total exact = record {
+  antisymmetric = total.antisymm;
+  transitive = total.trans;
+  exact = λ x y. (exact x y, λ same. ap (λ z. R x z) (sym same) ∙ tied_itself total x);
+}
+
+pub networks_exactly : IsExactOrder network_cmp
+networks_exactly = exact_order network_total network_exact
+
+pub bodies_exactly : IsExactOrder body_cmp
+bodies_exactly = exact_order body_total body_exact
+
+pub parts_exactly : IsExactOrder part_cmp
+parts_exactly = exact_order part_total part_exact
+
+pub junctions_exactly : IsExactOrder junction_cmp
+junctions_exactly = exact_order junction_total junction_exact
+
+pub interiors_exactly : IsExactOrder junctions_cmp
+interiors_exactly = exact_order junctions_total junctions_exact
+
+pub locations_exactly : IsExactOrder location_cmp
+locations_exactly = exact_order location_total location_exact

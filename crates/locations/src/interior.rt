@@ -55,8 +55,8 @@ impl Junctions {
         Self::from_few(self.items())
     }
 
-    /// These junctions, of which there are at most eight.
-    pub(crate) fn from_few(junctions: &[Junction]) -> Junctions
+    /// The junctions of a slice, of which there must be at most eight.
+    pub fn from_few(junctions: &[Junction]) -> Junctions
         requires { length junctions.now ≤ 8 }
         ensures { result ≡ junctions.now }
     {

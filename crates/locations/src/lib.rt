@@ -1,14 +1,20 @@
 //! Where a chain, an account or a part of a chain lies, as the XCM format names it.
 #![tactic(auto)]
 
+mod chain_path;
 mod faults;
 mod grammar;
 mod interior;
+mod law;
 mod reanchor;
 mod relative;
 
 pub use faults::{Full, LocationFault, PathFault};
 pub use grammar::{BodyId, BodyPart, Junction, NetworkId};
 pub use interior::{Junctions, MAX_JUNCTIONS};
+pub use law::{law_of_derived_order, law_of_order, law_of_paths};
 pub use reanchor::invert_target;
 pub use relative::Location;
+
+#[cfg(test)]
+mod tests;
