@@ -1,4 +1,4 @@
--- Numbers in decimal, without leading zeros.
+-- Numbers in decimal, without leading zeros. Source: this project's own rule.
 use Rattle.std.specs.Prelude.{ℕ, ◌^◌, ◌==◌, ◌&&◌, ◌||◌, nat_lt, not, List, length, slice_index, Bool, Option, Some, None, if◌then◌else◌}
 use Rattle.std.specs.Str.{all_ascii_digits}
 use Rattle.std.specs.Str.Parse.{digits_value}

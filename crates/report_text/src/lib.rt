@@ -6,3 +6,6 @@ mod step;
 
 pub use run::write_run;
 pub use step::exec_block;
+
+#[cfg(test)]
+mod tests;
