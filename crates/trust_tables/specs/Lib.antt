@@ -1,0 +1,5 @@
+pub mod Chains
+pub mod Accounts
+pub mod Trust
+pub mod ChainLaws
+pub mod TrustLaws

@@ -1,0 +1,99 @@
+-- What the tests of `Trust` say in words.
+use Rattle.std.specs.Prelude.{◌≡◌, ℕ, ◌↔◌, Bool, true, false, IsTrue, ◌&&◌, if◌then◌else◌, List, length, nat_lt, slice_get, position, Option, Some, None, is_none, unwrap_or, IsSomeAnd, option_and_then, refl}
+use Rattle.std.specs.List.{position_or_len}
+use Rattle.std.proofs.Common.{sym, ap, ◌∙◌, ltb-false, true≢false}
+use Rattle.std.proofs.lemmas.Option.{slice_get_past}
+use Rattle.std.proofs.lemmas.List.Folds.{Any-from_list_any, list_any-from_Any, find_at}
+use Rattle.locations.specs.declared.relative.Location.{Location}
+use Rattle.locations.specs.OrderLaws.{location_decides}
+use Rattle.asset_lists.specs.declared.units.Asset.{Asset}
+use Rattle.asset_lists.specs.declared.units.AssetId.{AssetId}
+use Rattle.asset_lists.specs.declared.units.AssetId.TheVariants.{Concrete, Abstract}
+use Rattle.asset_lists.specs.declared.units.Kind.{Kind}
+use Rattle.asset_lists.specs.declared.units.Kind.TheVariants.{Fungible, Class}
+use Rattle.trust_tables.specs.declared.chains.ChainId.{ChainId}
+use Rattle.trust_tables.specs.declared.chains.Site.{Site}
+use Rattle.trust_tables.specs.declared.rows.AssetRow.{AssetRow}
+use Rattle.trust_tables.specs.declared.rows.AssetRole.{AssetRole}
+use Rattle.trust_tables.specs.declared.rows.AssetRole.TheVariants.{Native, Derivative}
+use Rattle.trust_tables.specs.Chains.{location_of}
+use Rattle.trust_tables.specs.Trust.{kind_of, same_kind, is_id, is_row_of, row_of, is_named, is_location_of, is_reserve_role, is_partner_role, is_reserve, is_partner, holds_of, IsRowOf, IsReserveRole, IsPartnerRole, IsReserve, IsPartner}
+
+some_same : {A : Type 0} (x y : A) → Some x ≡ Some y → x ≡ y
+some_same x y e = ap (λ o. unwrap_or o x) e
+
+not_none : {A : Type 0} (x : A) → None ≡ Some x → ⊥
+not_none x e = true≢false (ap is_none e)
+
+-- ---- rows
+id_told : AssetId → Location → Location
+id_told (Concrete l) m = l
+id_told (Abstract name) m = m
+
+is_concrete : AssetId → Bool
+is_concrete (Concrete l) = true
+is_concrete (Abstract name) = false
+
+is_id_says : (id : AssetId) (l : Location) → IsTrue (is_id id l) ↔ (id ≡ Concrete l)
+unfolding id_told is_concrete
+is_id_says (Concrete m) l = (λ e. ap Concrete ((location_decides m l).0 e), λ e. (location_decides m l).1 (ap (λ id. id_told id l) e))
+is_id_says (Abstract name) l = (λ e. absurd (true≢false (sym e)), λ e. absurd (true≢false (sym (ap is_concrete e))))
+
+is_class : Kind → Bool
+is_class Fungible = false
+is_class Class = true
+
+same_kind_says : (a b : Kind) → IsTrue (same_kind a b) ↔ (a ≡ b)
+unfolding is_class
+same_kind_says Fungible Fungible = (λ e. refl, λ e. refl)
+same_kind_says Class Class = (λ e. refl, λ e. refl)
+same_kind_says Fungible Class = (λ e. absurd (true≢false (sym e)), λ e. absurd (true≢false (sym (ap is_class e))))
+same_kind_says Class Fungible = (λ e. absurd (true≢false (sym e)), λ e. absurd (true≢false (ap is_class e)))
+
+and_says : (a b : Bool) → IsTrue (a && b) ↔ (IsTrue a × IsTrue b)
+and_says true b = (λ e. (refl, e), λ e. e.1)
+and_says false b = (λ e. absurd (true≢false (sym e)), λ e. e.0)
+
+pub is_row_of_says : (a : Asset) (row : AssetRow) → IsTrue (is_row_of a row) ↔ IsRowOf a row
+is_row_of_says a row =
+    let both = and_says (is_id a.id row.id) (same_kind (kind_of a.fun) row.kind) in
+    let ids = is_id_says a.id row.id in
+    let kinds = same_kind_says (kind_of a.fun) row.kind in
+    (λ e. (ids.0 (both.0 e).0, kinds.0 (both.0 e).1), λ e. both.1 (ids.1 e.0, kinds.1 e.1))
+
+past_end : {A : Type 0} (xs : List A) (i : ℕ) (b : Bool) → nat_lt i (length xs) ≡ b → slice_get xs i ≡ option_and_then (slice_get xs) (if b then Some i else None)
+past_end xs i true e = refl
+past_end xs i false e = slice_get_past xs i (ltb-false i (length xs) e)
+
+-- the row at the place that is found
+pub row_at-position : (rows : List AssetRow) (a : Asset) → option_and_then (slice_get rows) (position (is_row_of a) rows) ≡ row_of rows a
+row_at-position rows a = sym (find_at (is_row_of a) rows ∙ past_end rows (position_or_len (is_row_of a) rows) _ refl)
+
+-- ---- roles
+is_named_says : (named : Option Location) (l : Location) → IsTrue (is_named named l) ↔ (named ≡ Some l)
+is_named_says None l = (λ e. absurd (true≢false (sym e)), λ e. absurd (not_none l e))
+is_named_says (Some named) l = (λ e. ap Some ((location_decides named l).0 e), λ e. (location_decides named l).1 (some_same named l e))
+
+is_location_of_says : (here chain : ChainId) (l : Location) → IsTrue (is_location_of here chain l) ↔ (location_of here chain ≡ Some l)
+is_location_of_says here chain l = is_named_says (location_of here chain) l
+
+is_reserve_role_says : (here : ChainId) (l : Location) (role : AssetRole) → IsTrue (is_reserve_role here l role) ↔ IsReserveRole here l role
+is_reserve_role_says here l (Native partners) = (λ e. true≢false (sym e), λ e. absurd e)
+is_reserve_role_says here l (Derivative reserve) = is_location_of_says here reserve l
+
+is_partner_role_says : (here : ChainId) (l : Location) (role : AssetRole) → IsTrue (is_partner_role here l role) ↔ IsPartnerRole here l role
+is_partner_role_says here l (Native partners) = (
+  λ e. let some = Any-from_list_any (λ chain. is_location_of here chain l) partners e in (some.0, some.1, some.2, some.3, (is_location_of_says here some.1 l).0 some.4),
+  λ some. list_any-from_Any (λ chain. is_location_of here chain l) partners (some.0, some.1, some.2, some.3, (is_location_of_says here some.1 l).1 some.4),
+)
+is_partner_role_says here l (Derivative reserve) = (λ e. true≢false (sym e), λ e. absurd e)
+
+holds_of_says : (test : AssetRole → Bool) (Says : AssetRole → Type 0) → ((role : AssetRole) → IsTrue (test role) ↔ Says role) → (row : Option AssetRow) → IsTrue (holds_of test row) ↔ IsSomeAnd row (λ r. Says r.role)
+holds_of_says test Says says None = (λ e. true≢false (sym e), λ e. absurd e)
+holds_of_says test Says says (Some row) = says row.role
+
+pub is_reserve_says : (rows : List AssetRow) (site : Site) (a : Asset) (l : Location) → IsTrue (is_reserve rows site a l) ↔ IsReserve rows site a l
+is_reserve_says rows site a l = holds_of_says (is_reserve_role site.chain l) (IsReserveRole site.chain l) (is_reserve_role_says site.chain l) (row_of rows a)
+
+pub is_partner_says : (rows : List AssetRow) (site : Site) (a : Asset) (l : Location) → IsTrue (is_partner rows site a l) ↔ IsPartner rows site a l
+is_partner_says rows site a l = holds_of_says (is_partner_role site.chain l) (IsPartnerRole site.chain l) (is_partner_role_says site.chain l) (row_of rows a)

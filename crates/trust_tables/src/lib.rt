@@ -1,0 +1,17 @@
+//! Whose account a location is on a chain, and which chains are believed about an asset.
+#![tactic(auto)]
+
+mod accounts;
+mod chains;
+mod laws;
+mod rows;
+mod trust;
+
+pub use accounts::{account_of, is_sovereign};
+pub use chains::{ChainId, Site, location_of};
+pub use laws::{law_of_chain_locations, law_of_sovereign_accounts, law_of_trust};
+pub use rows::{AssetRole, AssetRow};
+pub use trust::{find_row, is_partner, is_reserve};
+
+#[cfg(test)]
+mod tests;

@@ -1,0 +1,98 @@
+//! Which row of a chain's table an asset has, and which chains are believed about it.
+ghost use Rattle.std.specs.Prelude.{◌≡◌, position};
+ghost use Rattle.std.specs.List.{list_any};
+ghost use Rattle.std.specs.Option.{option_copied};
+ghost use Rattle.trust_tables.specs.Trust as trust;
+ghost use Rattle.trust_tables.specs.Trust.{is_row_of, kind_of, is_reserve_role, is_partner_role};
+
+use crate::{AssetRole, AssetRow, ChainId, Site, location_of};
+use asset_lists::{Asset, AssetId, Fun, Kind};
+use locations::Location;
+
+/// The place of the first row whose id is the asset's and whose kind fits. It takes no memory.
+pub fn find_row(rows: &[AssetRow], a: &Asset) -> Option<usize>
+    ensures { result ≡ position (is_row_of a.now) rows.now }
+{
+    rows.iter().position(|row| lists(row, a))
+}
+
+/// Whether the asset's row is a derivative whose reserve lies at the location. A reserve that is the site's own
+/// chain has no location. It takes no memory.
+pub fn is_reserve(rows: &[AssetRow], site: &Site, a: &Asset, l: &Location) -> bool
+    ensures { result ≡ trust.is_reserve rows.now site.now a.now l.now }
+{
+    match row_of(rows, a) {
+        None => false,
+        Some(row) => has_reserve(&row.role, site.chain, l),
+    }
+}
+
+/// Whether the asset's row is native and has a partner that lies at the location. A partner that is the site's own
+/// chain has no location. It takes no memory.
+pub fn is_partner(rows: &[AssetRow], site: &Site, a: &Asset, l: &Location) -> bool
+    ensures { result ≡ trust.is_partner rows.now site.now a.now l.now }
+{
+    match row_of(rows, a) {
+        None => false,
+        Some(row) => has_partner(&row.role, site.chain, l),
+    }
+}
+
+/// The first row whose id is the asset's and whose kind fits.
+fn row_of<'a>(rows: &'a [AssetRow], a: &Asset) -> Option<&'a AssetRow>
+    ensures { option_copied result ≡ trust.row_of rows.now a.now }
+{
+    rows.iter().find(|row| lists(row, a))
+}
+
+/// Whether the row has the asset's id and kind.
+fn lists(row: &AssetRow, a: &Asset) -> bool
+    ensures { result ≡ is_row_of a.now row.now }
+{
+    match &a.id {
+        AssetId::Concrete(id) => *id == row.id && kind(&a.fun) == row.kind,
+        AssetId::Abstract(_) => false,
+    }
+}
+
+/// An amount is of a fungible asset, and an instance of a class.
+fn kind(fun: &Fun) -> Kind
+    ensures { result ≡ kind_of fun.now }
+{
+    match fun {
+        Fun::Fungible(_) => Kind::Fungible,
+        Fun::NonFungible(_) => Kind::Class,
+    }
+}
+
+fn has_reserve(role: &AssetRole, here: ChainId, l: &Location) -> bool
+    ensures { result ≡ is_reserve_role here l.now role.now }
+{
+    match role {
+        AssetRole::Native { .. } => false,
+        AssetRole::Derivative { reserve } => lies_at(*reserve, here, l),
+    }
+}
+
+fn has_partner(role: &AssetRole, here: ChainId, l: &Location) -> bool
+    ensures { result ≡ is_partner_role here l.now role.now }
+{
+    match role {
+        AssetRole::Native { partners } => any_lies_at(partners.items(), here, l),
+        AssetRole::Derivative { .. } => false,
+    }
+}
+
+/// Whether the location is how the chain `here` names one of the chains.
+fn any_lies_at(chains: &[ChainId], here: ChainId, l: &Location) -> bool
+    ensures { result ≡ list_any (λ chain. trust.is_location_of here chain l.now) chains.now }
+{
+    chains.iter().any(|chain| lies_at(*chain, here, l))
+}
+
+/// Whether the location is how the chain `here` names the other.
+fn lies_at(chain: ChainId, here: ChainId, l: &Location) -> bool
+    ensures { result ≡ trust.is_location_of here chain l.now }
+{
+    here != chain && location_of(here, chain) == *l
+}
