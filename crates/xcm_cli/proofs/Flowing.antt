@@ -1,0 +1,289 @@
+-- Lines that are taken whole, whatever comes behind them.
+use Rattle.std.proofs.Common.{◌≡◌, ◌≢◌, ◌∙◌, ◌⊎◌, inl, inr, ◌<◌, ◌≤◌, ◌+◌, ◌-◌, ℕ, suc, Bool, true, false, cond, eqb, ◌&&◌, Global, List, [], ◌∷◌, ◌++◌, length, take, drop, get_or, refl, sym, ap, Option, Some, None, Result, Ok, Err, append_assoc, append-nil, arith, length-take, length-drop, length-append}
+use Rattle.std.proofs.lemmas.List.{drop-drop}
+use Rattle.std.proofs.lemmas.Bool.{ne_eqb}
+use Rattle.std.proofs.lemmas.Bool.Decides.{nat_tests}
+use Rattle.std.specs.Prelude.{nat_le, Vec}
+use Rattle.std.specs.Io.KnownBytes.{Appends}
+use Rattle.std.proofs.KnownBytes.{Appends-nil, Appends-trans}
+use Rattle.xcm_io.specs.Bytes.{IsFront, IsProperFront}
+use Rattle.xcm_io.specs.Causes.{Rose}
+use Rattle.input_lines.specs.Lines.{lines_of, HasNoFeed, onto, is_mark, without_feed, ends_with, joined}
+use Rattle.input_lines.proofs.FirstLine.{past_other, mark_short, no_lines, only_line}
+use Rattle.xcm_cli.specs.declared.session.Session.{Session}
+use Rattle.xcm_cli.specs.declared.session.Phase.{Phase}
+use Rattle.xcm_cli.specs.declared.session.Phase.TheVariants.{Network, Steps}
+use Rattle.xcm_cli.specs.declared.feeder.Feeder.{Feeder}
+use Rattle.xcm_cli.specs.declared.status.Status.{Status}
+use Rattle.xcm_cli.specs.declared.status.Status.TheVariants.{Done, WriteFault, ReadFault, TooLong}
+use Rattle.xcm_cli.specs.Report.{Outcome, ends, then_on, lines_outcome, max_input, max_line, max_network, is_within}
+use Rattle.xcm_cli.specs.Session.{Advances, Finishes, Flows, Stops, StopsInLine, StopsAtLimit, TakesLines, AllWhole, IsReady, outcome_at}
+use Rattle.xcm_cli.specs.Feeding.{Ends, StopsAtEnd}
+use Rattle.xcm_cli.proofs.Advance.{line_over, long_step, at_steps, nothing_yet}
+
+-- ---- outcomes one after the other
+
+pub then_then : (whole rest : Outcome) (text more : List ℕ) (last : Outcome) → whole ≡ then_on text rest → rest ≡ then_on more last → whole ≡ then_on (text ++ more) last
+then_then whole rest text more last a b = a ∙ ap (then_on text) b ∙ ap (λ t. record { text = t; status = last.status }) (sym (append_assoc text more last.text))
+
+pub then_front : (whole rest : Outcome) (text more : List ℕ) → whole ≡ then_on text rest → IsFront more rest.text → IsFront (text ++ more) whole.text
+then_front whole rest text more e f = (f.0, ap (λ o. o.text) e ∙ ap (λ t. text ++ t) f.1 ∙ sym (append_assoc text more f.0))
+
+pub then_proper : (whole rest : Outcome) (text more : List ℕ) → whole ≡ then_on text rest → IsProperFront more rest.text → IsProperFront (text ++ more) whole.text
+then_proper whole rest text more e f = (f.0, ap (λ o. o.text) e ∙ ap (λ t. text ++ t) f.1 ∙ sym (append_assoc text more f.0), f.2)
+
+pub then_ends : (whole rest : Outcome) (text more : List ℕ) (status : Status) → whole ≡ then_on text rest → rest ≡ ends more status → whole ≡ ends (text ++ more) status
+then_ends whole rest text more status e r = e ∙ ap (then_on text) r
+
+-- where no line comes behind, just the text
+pub then_nothing : (whole rest : Outcome) (text : List ℕ) → whole ≡ then_on text rest → rest ≡ ends [] Done → whole ≡ ends text Done
+then_nothing whole rest text e n = e ∙ ap (then_on text) n ∙ ap (λ t. ends t Done) (append-nil text)
+
+-- ---- lines taken one after the other
+
+pub whole_more : (took : List (List ℕ)) (line : List ℕ) → AllWhole took → ends_with 10 line ≡ true → AllWhole (took ++ line ∷ [])
+whole_more [] line w e = (e, tt)
+whole_more (x ∷ xs) line w e = (w.0, whole_more xs line w.1 e)
+
+pub all_whole : (one two : List (List ℕ)) → AllWhole one → AllWhole two → AllWhole (one ++ two)
+all_whole [] two a b = b
+all_whole (x ∷ xs) two a b = (a.0, all_whole xs two a.1 b)
+
+pub flows_start : (session : Session) (bytes : List ℕ) (known : Option (List ℕ)) → Flows session session bytes bytes known known
+flows_start session bytes known = record { took = []; text = []; appends = Appends-nil known; cut = λ more. refl; whole = tt; goes = λ at_end lines. refl }
+
+module _ (session now : Session) (bytes rest : List ℕ) (old mid : Option (List ℕ)) (f : Flows session now bytes rest old mid) where
+  -- what these lines report, and then the rest
+  flow_goes : (at_end : Bool) (lines : List (List ℕ)) → outcome_at session at_end (f.took ++ lines) ≡ then_on f.text (outcome_at now at_end lines)
+  flow_goes = f.goes
+
+  -- the same of bytes
+  pub flow_bytes : (at_end : Bool) (more : List ℕ) → outcome_at session at_end (lines_of (bytes ++ more)) ≡ then_on f.text (outcome_at now at_end (lines_of (rest ++ more)))
+  flow_bytes at_end more = ap (outcome_at session at_end) (f.cut more) ∙ f.goes at_end (lines_of (rest ++ more))
+
+  -- what was taken is reported so far
+  pub flow_so_far : IsReady now → outcome_at session false f.took ≡ ends f.text Done
+  flow_so_far r = then_nothing _ _ f.text (ap (outcome_at session false) (sym (append-nil f.took)) ∙ f.goes false []) (nothing_yet now r)
+
+  -- the bytes have no more behind them
+  pub flow_lines : lines_of bytes ≡ f.took ++ lines_of rest
+  flow_lines = ap lines_of (sym (append-nil bytes)) ∙ f.cut [] ∙ ap (λ b. f.took ++ lines_of b) (append-nil rest)
+
+  -- a line is taken: `next` says how the bytes that come begin with it
+  pub flows_line : {E : Type 0} (then : Session) (less line : List ℕ) (due : List ℕ) (new : Option (List ℕ)) (result : Result (Option Status) E)
+      → Advances (λ (x : Bool × List (List ℕ)). outcome_at now x.0 (line ∷ x.1)) (λ x. outcome_at then x.0 x.1) due mid new result → result ≡ Ok None
+      → ((more : List ℕ) → lines_of (rest ++ more) ≡ line ∷ lines_of (less ++ more)) → ends_with 10 line ≡ true → Flows session then bytes less old new
+  flows_line then less line due new result a e next w = record {
+    took = f.took ++ line ∷ [];
+    text = f.text ++ a.text;
+    appends = Appends-trans old mid new f.text a.text f.appends a.appends;
+    cut = λ more. f.cut more ∙ ap (λ l. f.took ++ l) (next more) ∙ sym (append_assoc f.took (line ∷ []) (lines_of (less ++ more)));
+    whole = whole_more f.took line f.whole w;
+    goes = λ at_end lines. ap (outcome_at session at_end) (append_assoc f.took (line ∷ []) lines)
+        ∙ then_then _ _ f.text a.text (outcome_at then at_end lines) (f.goes at_end (line ∷ lines)) (a.goes_on e (at_end, lines));
+  }
+
+  -- a call on the next line that ends the run, or gives up
+  pub flows_over : {E F : Type 0} (then : Session) (less line : List ℕ) (new : Option (List ℕ)) (result : Result (Option Status) E) (answer : Result (Option Status) F)
+      → IsReady now → Advances (λ (x : Bool × List (List ℕ)). outcome_at now x.0 (line ∷ x.1)) (λ x. outcome_at then x.0 x.1) (outcome_at now false (line ∷ [])).text mid new result
+      → ((status : Status) → answer ≡ Ok (Some status) → result ≡ Ok (Some status))
+      → ((more : List ℕ) → lines_of (rest ++ more) ≡ line ∷ lines_of (less ++ more)) → ends_with 10 line ≡ true → Stops session bytes old new answer
+  flows_over then less line new result answer r a same next w =
+      let at : (at_end : Bool) (more : List ℕ) → outcome_at session at_end (lines_of (bytes ++ more)) ≡ then_on f.text (outcome_at now at_end (line ∷ lines_of (less ++ more))) =
+      λ at_end more. flow_bytes at_end more ∙ ap (λ l. then_on f.text (outcome_at now at_end l)) (next more) in
+      let here : lines_of bytes ≡ f.took ++ line ∷ lines_of less =
+      ap lines_of (sym (append-nil bytes)) ∙ f.cut [] ∙ ap (λ l. f.took ++ l) (next []) ∙ ap (λ b. f.took ++ line ∷ lines_of b) (append-nil less) in
+      record {
+        text = f.text ++ a.text;
+        appends = Appends-trans old mid new f.text a.text f.appends a.appends;
+        front = λ at_end more. then_front _ _ f.text a.text (at at_end more) (a.front (at_end, lines_of (less ++ more)));
+        ended = λ status e n at_end more. then_ends _ _ f.text a.text status (at at_end more) (a.ended status (same status e) n (at_end, lines_of (less ++ more)));
+        short = λ e. record {
+          before = f.took;
+          line = line;
+          behind = lines_of less;
+          lines = here;
+          reported = (a.text, ap (λ t. t ++ a.text) (sym (ap (λ o. o.text) (flow_so_far r))));
+          short = then_proper _ _ f.text a.text (f.goes false (line ∷ [])) (a.short (same WriteFault e));
+          near = inl w;
+        };
+        long = λ e. record {
+          before = f.took;
+          behind = line ∷ lines_of less;
+          lines = here;
+          reported = flow_so_far r ∙ ap (λ t. ends t Done) (sym (ap (λ t. f.text ++ t) (a.long (same TooLong e)) ∙ append-nil f.text));
+        };
+      }
+
+  -- memory was refused behind the lines
+  pub flows_err : {E : Type 0} (refused : E) → Stops session bytes old mid (Err refused)
+  flows_err refused = record {
+    text = f.text;
+    appends = f.appends;
+    front = λ at_end more. ((outcome_at now at_end (lines_of (rest ++ more))).text, ap (λ o. o.text) (flow_bytes at_end more));
+    ended = λ status e n at_end more. cc;
+    short = λ e. absurd cc;
+    long = λ e. absurd cc;
+  }
+
+pub takes_going : {E : Type 0} (session now : Session) (bytes rest : List ℕ) (old new : Option (List ℕ)) → Flows session now bytes rest old new → TakesLines {E = E} session now bytes rest old new (Ok None)
+takes_going session now bytes rest old new f = record { going = λ e. f; over = λ n. absurd (n refl) }
+
+pub takes_over : {E : Type 0} (session now : Session) (bytes rest : List ℕ) (old new : Option (List ℕ)) (result : Result (Option Status) E) → result ≢ Ok None → Stops session bytes old new result
+    → TakesLines session now bytes rest old new result
+takes_over session now bytes rest old new result n s = record { going = λ e. absurd (n e); over = λ m. s }
+
+-- ---- the next line of what is left
+
+pub cut_at : (bytes : List ℕ) (at n : ℕ) (rest line : List ℕ) → rest ≡ drop at bytes → line ≡ take n (drop at bytes)
+    → ((more : List ℕ) → lines_of (rest ++ more) ≡ take n rest ∷ lines_of (drop n rest ++ more))
+    → (more : List ℕ) → lines_of (drop at bytes ++ more) ≡ line ∷ lines_of (drop (at + n) bytes ++ more)
+cut_at bytes at n rest line r l cut more =
+    let h : lines_of (drop at bytes ++ more) ≡ take n (drop at bytes) ∷ lines_of (drop n (drop at bytes) ++ more) = rw (← r) (cut more) in
+    h ∙ ap (λ x. x ∷ lines_of (drop n (drop at bytes) ++ more)) (sym l) ∙ ap (λ x. line ∷ lines_of (x ++ more)) (drop-drop n at bytes)
+
+pub feed_at : (bytes : List ℕ) (at n : ℕ) (rest line : List ℕ) → rest ≡ drop at bytes → line ≡ take n (drop at bytes) → ends_with 10 (take n rest) ≡ true → ends_with 10 line ≡ true
+feed_at bytes at n rest line r l e = ap (ends_with 10) (l ∙ ap (take n) (sym r)) ∙ e
+
+pub take_there : (bytes : List ℕ) (at n : ℕ) → take (at + n - at) (drop at bytes) ≡ take n (drop at bytes)
+take_there bytes at n = let e : at + n - at ≡ n = omega arith in ap (λ k. take k (drop at bytes)) e
+
+pub line_size : (bytes : List ℕ) (at n : ℕ) → at ≤ length bytes → n ≤ length (take (length bytes - at) (drop at bytes)) → (length (take (at + n - at) (drop at bytes)) ≡ n) × (at + n ≤ length bytes)
+line_size bytes at n r l = (omega (arith, length-take {A = ℕ}, length-drop {A = ℕ}), omega (arith, length-take {A = ℕ}, length-drop {A = ℕ}))
+
+pub rose_since : (before now new : ℕ) → before ≤ now → Rose now new → Rose before new
+rose_since before now new l r = omega arith
+
+-- ---- a line that is past a limit, whatever comes
+
+begins_one : (b : ℕ) (more : List ℕ) (lines : List (List ℕ)) → lines_of more ≡ lines → (b ≡ 10 → ⊥) → (tail : List ℕ) × ((rest : List (List ℕ)) × (lines_of (b ∷ more) ≡ (b ∷ tail) ∷ rest))
+begins_one b more [] e n = ([], ([], past_other b more n ∙ ap (onto b) e))
+begins_one b more (line ∷ lines) e n = (line, (lines, past_other b more n ∙ ap (onto b) e))
+
+-- bytes without a feed begin the first line
+begins : (bytes more : List ℕ) → 0 < length bytes → HasNoFeed bytes → (tail : List ℕ) × ((lines : List (List ℕ)) × (lines_of (bytes ++ more) ≡ (bytes ++ tail) ∷ lines))
+begins [] more l n = absurd (omega arith)
+begins (b ∷ []) more l n = begins_one b more (lines_of more) refl (n 0 (omega arith))
+begins (b ∷ c ∷ rest) more l n =
+    let h = begins (c ∷ rest) more (omega arith) (λ k i. n (suc k) (omega arith)) in
+    (h.0, (h.1.0, past_other b ((c ∷ rest) ++ more) (n 0 (omega arith)) ∙ ap (onto b) h.1.1))
+
+no_mark : (line : List ℕ) (b : Bool) → is_mark line ≡ b → 5 < length line → is_mark line ≡ false
+no_mark line true e l = let h : length line ≤ 5 = mark_short line e in absurd (omega arith)
+no_mark line false e l = e
+
+second_false : (a b : Bool) → b ≡ false → (a && b) ≡ false
+second_false true b e = e
+second_false false b e = refl
+
+first_false : (a b : Bool) → a ≡ false → (a && b) ≡ false
+first_false true b e = cc
+first_false false b e = refl
+
+pub no_feed_end : (bytes : List ℕ) → 0 < length bytes → HasNoFeed bytes → ends_with 10 bytes ≡ false
+no_feed_end bytes l n = second_false _ (eqb (get_or bytes (length bytes - 1) 0) 10) (ne_eqb (get_or bytes (length bytes - 1) 0) 10 (n (length bytes - 1) (omega arith)))
+
+cut_length : (b : Bool) (line : List ℕ) → length line ≤ length (cond {A = List ℕ} b (take (length line - 1) line) line) + 1
+cut_length true line = omega (arith, length-take {A = ℕ})
+cut_length false line = omega arith
+
+-- a line that begins with bytes without a feed is no shorter without its own
+kept_length : (bytes tail : List ℕ) → 0 < length bytes → HasNoFeed bytes → length bytes ≤ length (without_feed (bytes ++ tail))
+kept_length bytes [] l n = rw (append-nil, no_feed_end bytes l n) (omega arith)
+kept_length bytes (t ∷ ts) l n = omega (arith, cut_length (ends_with 10 (bytes ++ t ∷ ts)) (bytes ++ t ∷ ts), length-append bytes (t ∷ ts))
+
+pub over_total : (f : Feeder) (done : ℕ) (at_end : Bool) (more : List ℕ) → HasNoFeed f.pending.items → 0 < length f.pending.items → f.session.phase ≡ Steps done → max_input < f.session.taken + length f.pending.items
+    → outcome_at f.session at_end (lines_of (f.pending.items ++ more)) ≡ ends [] TooLong
+over_total f done at_end more n some e l =
+    let h = begins f.pending.items more some n in
+    let size : max_input < f.session.taken + length (f.pending.items ++ h.0) = omega (arith, length-append f.pending.items h.0) in
+    let past : is_within f.session.taken (f.pending.items ++ h.0) ≡ false = second_false _ (nat_le (f.session.taken + length (f.pending.items ++ h.0)) max_input) (grind (arith, nat_tests)) in
+    ap (outcome_at f.session at_end) h.1.1 ∙ at_steps f.session done at_end _ e ∙ long_step done f.session.lines f.session.taken (f.pending.items ++ h.0) h.1.0 past
+
+pub over_line : (f : Feeder) (done : ℕ) (at_end : Bool) (more : List ℕ) → HasNoFeed f.pending.items → f.session.phase ≡ Steps done → max_line < length f.pending.items
+    → outcome_at f.session at_end (lines_of (f.pending.items ++ more)) ≡ ends [] TooLong
+over_line f done at_end more n e l =
+    let some : 0 < length f.pending.items = omega arith in
+    let h = begins f.pending.items more some n in
+    let kept : length f.pending.items ≤ length (without_feed (f.pending.items ++ h.0)) = kept_length f.pending.items h.0 some n in
+    let past : is_within f.session.taken (f.pending.items ++ h.0) ≡ false = first_false (nat_le (length (without_feed (f.pending.items ++ h.0))) max_line) _ (grind (arith, nat_tests)) in
+    ap (outcome_at f.session at_end) h.1.1 ∙ at_steps f.session done at_end _ e ∙ long_step done f.session.lines f.session.taken (f.pending.items ++ h.0) h.1.0 past
+
+pub over_network : (f : Feeder) (part : Vec ℕ Global) (at_end : Bool) (more : List ℕ) → HasNoFeed f.pending.items → f.session.phase ≡ Network part → 5 < length f.pending.items → max_network < length part.items + length f.pending.items
+    → outcome_at f.session at_end (lines_of (f.pending.items ++ more)) ≡ ends [] TooLong
+over_network f part at_end more n e some l =
+    let h = begins f.pending.items more (omega arith) n in
+    let size : length (f.pending.items ++ h.0) ≡ length f.pending.items + length h.0 = length-append f.pending.items h.0 in
+    ap (outcome_at f.session at_end) h.1.1 ∙ line_over f.session part (f.pending.items ++ h.0) at_end h.1.0 e (no_mark (f.pending.items ++ h.0) (is_mark (f.pending.items ++ h.0)) refl (omega arith)) (omega arith)
+
+-- ---- the end of the input
+
+-- nothing is pending
+pub ends_empty : {E : Type 0} (s : Session) (bytes : List ℕ) (old new : Option (List ℕ)) (result : Result Status E) → length bytes ≡ 0 → IsReady s → Finishes (outcome_at s true []) old new result → Ends s bytes old new result
+ends_empty s bytes old new result z r f =
+    let none : lines_of bytes ≡ [] = no_lines bytes z in
+    record {
+      text = f.text;
+      appends = f.appends;
+      front = rw none f.front;
+      ended = λ status e n. rw none (f.ended status e n);
+      short = λ e. inr (record { reported = rw (none, nothing_yet s r) (f.text, refl); short = rw none (f.short e) });
+      long = λ e. absurd (f.long e);
+      no_read = f.no_read;
+    }
+
+module _ (s now : Session) (bytes : List ℕ) (old mid : Option (List ℕ)) (line : lines_of bytes ≡ bytes ∷ []) (ready : IsReady s) where
+  -- the last line is taken, and the input ends behind it
+  pub ends_behind : {E F : Type 0} (due : List ℕ) (new : Option (List ℕ)) (taken : Result (Option Status) F) (result : Result Status E) → taken ≡ Ok None → IsReady now
+      → Advances (λ (x : Bool × List (List ℕ)). outcome_at s x.0 (bytes ∷ x.1)) (λ x. outcome_at now x.0 x.1) due old mid taken → Finishes (outcome_at now true []) mid new result → Ends s bytes old new result
+  ends_behind due new taken result t r a f = record {
+    text = a.text ++ f.text;
+    appends = Appends-trans old mid new a.text f.text a.appends f.appends;
+    front = rw line (then_front _ _ a.text f.text (a.goes_on t (true, [])) f.front);
+    ended = λ status e n. rw line (then_ends _ _ a.text f.text status (a.goes_on t (true, [])) (f.ended status e n));
+    short = λ e. inr (record {
+      reported = rw (line, then_nothing _ _ a.text (a.goes_on t (false, [])) (nothing_yet now r)) (f.text, refl);
+      short = rw line (then_proper _ _ a.text f.text (a.goes_on t (true, [])) (f.short e));
+    });
+    long = λ e. absurd (f.long e);
+    no_read = f.no_read;
+  }
+
+  -- a call on the last line ended the run
+  pub ends_in : {E F : Type 0} (taken : Result (Option Status) F) (answer : Status) → taken ≡ Ok (Some answer) → taken ≢ Ok (Some ReadFault)
+      → Advances (λ (x : Bool × List (List ℕ)). outcome_at s x.0 (bytes ∷ x.1)) (λ x. outcome_at now x.0 x.1) (outcome_at s false (bytes ∷ [])).text old mid taken → Ends {E = E} s bytes old mid (Ok answer)
+  ends_in taken answer t n a = record {
+    text = a.text;
+    appends = a.appends;
+    front = rw line (a.front (true, []));
+    ended = λ status e k. rw line (a.ended status (t ∙ ap (λ x. Ok (Some x)) cc) k (true, []));
+    short = λ e. inl (record {
+      before = [];
+      line = bytes;
+      behind = [];
+      lines = line;
+      reported = rw (nothing_yet s ready) (a.text, refl);
+      short = a.short (t ∙ ap (λ x. Ok (Some x)) cc);
+      near = inr refl;
+    });
+    long = λ e. record {
+      before = [];
+      behind = bytes ∷ [];
+      lines = line;
+      reported = nothing_yet s ready ∙ ap (λ x. ends x Done) (sym (a.long (t ∙ ap (λ x. Ok (Some x)) cc)));
+    };
+    no_read = λ e. n (t ∙ ap (λ x. Ok (Some x)) cc);
+  }
+
+  -- memory was refused in it
+  pub ends_err : {E F : Type 0} (taken : Result (Option Status) F) (refused : E) (due : List ℕ) → Advances (λ (x : Bool × List (List ℕ)). outcome_at s x.0 (bytes ∷ x.1)) (λ x. outcome_at now x.0 x.1) due old mid taken
+      → Ends s bytes old mid (Err refused)
+  ends_err taken refused due a = record {
+    text = a.text;
+    appends = a.appends;
+    front = rw line (a.front (true, []));
+    ended = λ status e k. cc;
+    short = λ e. absurd cc;
+    long = λ e. absurd cc;
+    no_read = λ e. cc;
+  }

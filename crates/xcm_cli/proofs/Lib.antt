@@ -1,0 +1,4 @@
+pub mod Advance
+pub mod Flowing
+pub mod Streams
+pub mod Headline

@@ -1,0 +1,304 @@
+-- A run over a source, read by pieces.
+use Rattle.std.proofs.Common.{◌≡◌, ◌≢◌, ◌∙◌, ◌⊎◌, inl, inr, ◌<◌, ◌≤◌, ◌+◌, ◌-◌, ℕ, suc, Bool, true, false, List, [], ◌∷◌, ◌++◌, length, get_or, eqb, refl, sym, ap, Option, Some, None, Result, Ok, Err, IfSome, append_assoc, append-nil, arith, length-append}
+use Rattle.std.proofs.lemmas.Bool.{eqb-true}
+use Rattle.std.proofs.lemmas.Bool.Decides.{nat_tests}
+use Rattle.std.proofs.lemmas.List.{get_or-append-add, get_or_append_left}
+use Rattle.std.specs.Prelude.{filter, nat_lt, ◌&&◌}
+use Rattle.std.specs.Io.KnownBytes.{Appends, Consumes, Keeps, IsAtEnd}
+use Rattle.std.proofs.KnownBytes.{Appends-nil, Appends-trans, Consumes-nil, Consumes-trans, Consumes-kept}
+use Rattle.xcm_io.specs.Bytes.{IsFront, IsProperFront}
+use Rattle.input_lines.specs.Lines.{lines_of, joined, ends_with, HasNoFeed}
+use Rattle.input_lines.proofs.FirstLine.{no_lines, only_line}
+use Rattle.input_lines.proofs.Joined.{joined-lines_of}
+use Rattle.xcm_cli.specs.declared.session.Session.{Session}
+use Rattle.xcm_cli.specs.declared.feeder.Feeder.{Feeder}
+use Rattle.xcm_cli.specs.declared.status.Status.{Status}
+use Rattle.xcm_cli.specs.declared.status.Status.TheVariants.{Done, ReadFault, WriteFault, TooLong}
+use Rattle.xcm_cli.specs.Report.{Outcome, ends, then_on, lines_outcome, bytes_outcome, whole_lines, so_far}
+use Rattle.xcm_cli.specs.Session.{AllWhole, Flows, Stops, StopsInLine, StopsAtLimit, IsFault, IsReady, outcome_at}
+use Rattle.xcm_cli.specs.Feeding.{Ends, StopsAtEnd}
+use Rattle.xcm_cli.specs.Serving.{Serves, FailedInLine, FailedAtEnd, StoppedAtLimit}
+use Rattle.xcm_cli.proofs.Advance.{nothing_yet}
+use Rattle.xcm_cli.proofs.Flowing.{then_then, then_front, then_proper, then_ends, then_nothing, all_whole, no_feed_end}
+
+-- so far: these bytes were taken, and this text was written for the lines among them that are whole; whatever comes, the session
+-- has the rest of the report
+pub record Streams (left rest old now : Option (List ℕ)) (session : Session) (pending : List ℕ) : Type 0 where
+  pub taken : List ℕ
+  pub consumed : Consumes left rest taken
+  pub reported : List (List ℕ)
+  pub text : List ℕ
+  pub appends : Appends old now text
+  pub cut : (more : List ℕ) → lines_of (taken ++ more) ≡ reported ++ lines_of (pending ++ more)
+  pub whole : AllWhole reported
+  pub goes : (at_end : Bool) (lines : List (List ℕ)) → lines_outcome at_end (reported ++ lines) ≡ then_on text (outcome_at session at_end lines)
+
+pub streams_start : (left old : Option (List ℕ)) (session : Session) (pending : List ℕ) → pending ≡ []
+    → ((at_end : Bool) (lines : List (List ℕ)) → outcome_at session at_end lines ≡ lines_outcome at_end lines) → Streams left left old old session pending
+streams_start left old session pending none start = record {
+  taken = [];
+  consumed = Consumes-nil left;
+  reported = [];
+  text = [];
+  appends = Appends-nil old;
+  cut = λ more. ap (λ p. lines_of (p ++ more)) (sym none);
+  whole = tt;
+  goes = λ at_end lines. sym (start at_end lines);
+}
+
+-- ---- whole lines
+
+keeps_whole : (lines : List (List ℕ)) → AllWhole lines → filter (ends_with 10) lines ≡ lines
+keeps_whole [] w = refl
+keeps_whole (line ∷ lines) w = rw w.0 (ap (λ l. line ∷ l) (keeps_whole lines w.1))
+
+drops_open : (lines : List (List ℕ)) (line : List ℕ) → AllWhole lines → ends_with 10 line ≡ false → filter (ends_with 10) (lines ++ line ∷ []) ≡ lines
+drops_open [] line w e = rw e refl
+drops_open (first ∷ lines) line w e = rw w.0 (ap (λ l. first ∷ l) (drops_open lines line w.1 e))
+
+whole_of : (lines : List (List ℕ)) (pending : List ℕ) → AllWhole lines → HasNoFeed pending → filter (ends_with 10) (lines ++ lines_of pending) ≡ lines
+whole_of lines [] w n = ap (λ l. filter (ends_with 10) (lines ++ l)) (no_lines [] refl) ∙ ap (filter (ends_with 10)) (append-nil lines) ∙ keeps_whole lines w
+whole_of lines (b ∷ rest) w n =
+    ap (λ l. filter (ends_with 10) (lines ++ l)) (only_line (b ∷ rest) (omega arith) n) ∙ drops_open lines (b ∷ rest) w (no_feed_end (b ∷ rest) (omega arith) n)
+
+module _ (left rest old now : Option (List ℕ)) (session : Session) (pending : List ℕ) (s : Streams left rest old now session pending) where
+  -- the report of what was taken and of what comes
+  stream_bytes : (more : List ℕ) → bytes_outcome (s.taken ++ more) ≡ then_on s.text (outcome_at session true (lines_of (pending ++ more)))
+  stream_bytes more = ap (lines_outcome true) (s.cut more) ∙ s.goes true (lines_of (pending ++ more))
+
+  -- the report of what was taken
+  stream_taken : bytes_outcome s.taken ≡ then_on s.text (outcome_at session true (lines_of pending))
+  stream_taken = ap bytes_outcome (sym (append-nil s.taken)) ∙ stream_bytes [] ∙ ap (λ p. then_on s.text (outcome_at session true (lines_of p))) (append-nil pending)
+
+  stream_lines : lines_of s.taken ≡ s.reported ++ lines_of pending
+  stream_lines = ap lines_of (sym (append-nil s.taken)) ∙ s.cut [] ∙ ap (λ p. s.reported ++ lines_of p) (append-nil pending)
+
+  -- what is reported so far
+  stream_reported : IsReady session → lines_outcome false s.reported ≡ ends s.text Done
+  stream_reported r = then_nothing _ _ s.text (ap (lines_outcome false) (sym (append-nil s.reported)) ∙ s.goes false []) (nothing_yet session r)
+
+  stream_so_far : IsReady session → HasNoFeed pending → so_far s.taken ≡ ends s.text Done
+  stream_so_far r n = ap (λ l. lines_outcome false (filter (ends_with 10) l)) stream_lines ∙ ap (lines_outcome false) (whole_of s.reported pending s.whole n) ∙ stream_reported r
+
+  stream_front : IsFront s.text (bytes_outcome s.taken).text
+  stream_front = ((outcome_at session true (lines_of pending)).text, ap (λ o. o.text) stream_taken)
+
+  -- nothing more is taken or written
+  pub streams_kept : (less : Option (List ℕ)) → Keeps rest less → Streams left less old now session pending
+  streams_kept less k = record {
+    taken = s.taken;
+    consumed = Consumes-kept left rest less s.taken s.consumed k;
+    reported = s.reported;
+    text = s.text;
+    appends = s.appends;
+    cut = s.cut;
+    whole = s.whole;
+    goes = s.goes;
+  }
+
+  -- the source failed
+  pub streams_fault : {E : Type 0} → IsReady session → HasNoFeed pending → Serves {E = E} left rest old now (Ok ReadFault)
+  streams_fault r n = record {
+    taken = s.taken;
+    consumed = s.consumed;
+    text = s.text;
+    appends = s.appends;
+    front = stream_front;
+    ended = λ status e k. absurd (k (inl cc));
+    read_failed = λ e. stream_so_far r n;
+    write_failed = λ e. absurd cc;
+    past_limit = λ e. absurd cc;
+  }
+
+  joined_more : (piece more : List ℕ) → lines_of ((s.taken ++ piece) ++ more) ≡ s.reported ++ lines_of ((pending ++ piece) ++ more)
+  joined_more piece more = ap lines_of (append_assoc s.taken piece more) ∙ s.cut (piece ++ more) ∙ ap (λ b. s.reported ++ lines_of b) (sym (append_assoc pending piece more))
+
+  joined_here : (piece : List ℕ) → lines_of (s.taken ++ piece) ≡ s.reported ++ lines_of (pending ++ piece)
+  joined_here piece = s.cut piece
+
+  -- a piece is taken
+  pub streams_more : (less new : Option (List ℕ)) (then : Session) (piece unended : List ℕ) → Consumes rest less piece → Flows session then (pending ++ piece) unended now new → Streams left less old new then unended
+  streams_more less new then piece unended c f = record {
+    taken = s.taken ++ piece;
+    consumed = Consumes-trans left rest less s.taken piece s.consumed c;
+    reported = s.reported ++ f.took;
+    text = s.text ++ f.text;
+    appends = Appends-trans old now new s.text f.text s.appends f.appends;
+    cut = λ more. joined_more piece more ∙ ap (λ l. s.reported ++ l) (f.cut more) ∙ sym (append_assoc s.reported f.took (lines_of (unended ++ more)));
+    whole = all_whole s.reported f.took s.whole f.whole;
+    goes = λ at_end lines. ap (lines_outcome at_end) (append_assoc s.reported f.took lines)
+        ∙ then_then _ _ s.text f.text (outcome_at then at_end lines) (s.goes at_end (f.took ++ lines)) (f.goes at_end lines);
+  }
+
+-- ---- what is behind a line that ends in the last piece
+
+last_feed : (line : List ℕ) (some : Bool) → (some && eqb (get_or line (length line - 1) 0) 10) ≡ true → get_or line (length line - 1) 0 ≡ 10
+last_feed line true e = eqb-true (get_or line (length line - 1) 0) 10 e
+last_feed line false e = absurd cc
+
+some_line : (line : List ℕ) (some rest : Bool) → nat_lt 0 (length line) ≡ some → (some && rest) ≡ true → 0 < length line
+some_line line true rest n e = grind (arith, nat_tests)
+some_line line false rest n e = absurd cc
+
+-- a line with its feed does not end inside bytes that have none
+ends_behind : (pending piece before line behind : List ℕ) → pending ++ piece ≡ before ++ (line ++ behind) → HasNoFeed pending → ends_with 10 line ≡ true → length pending < length before + length line
+ends_behind pending piece before line behind e n w = by_test (nat_lt (length pending) (length before + length line)) refl
+  where
+    some : 0 < length line
+    some = some_line line (nat_lt 0 (length line)) (eqb (get_or line (length line - 1) 0) 10) refl w
+
+    feed : get_or line (length line - 1) 0 ≡ 10
+    feed = last_feed line (nat_lt 0 (length line)) w
+
+    there : get_or (pending ++ piece) (length before + (length line - 1)) 0 ≡ 10
+    there = ap (λ b. get_or b (length before + (length line - 1)) 0) e ∙ get_or-append-add before (line ++ behind) (length line - 1) 0 ∙ get_or_append_left line behind 0 (length line - 1) (omega (arith, some)) ∙ feed
+
+    by_test : (b : Bool) → nat_lt (length pending) (length before + length line) ≡ b → length pending < length before + length line
+    by_test true t = grind (arith, nat_tests)
+    by_test false t =
+        let inside : length before + length line ≤ length pending = grind (arith, nat_tests) in
+        let here : get_or pending (length before + (length line - 1)) 0 ≡ 10 = sym (get_or_append_left pending piece 0 (length before + (length line - 1)) (omega (arith, some))) ∙ there in
+        absurd (n (length before + (length line - 1)) (omega (arith, some)) here)
+
+joined-append : (one two : List (List ℕ)) → joined (one ++ two) ≡ joined one ++ joined two
+joined-append [] two = refl
+joined-append (line ∷ lines) two = ap (λ b. line ++ b) (joined-append lines two) ∙ sym (append_assoc line (joined lines) (joined two))
+
+near_of : (pending piece : List ℕ) (before : List (List ℕ)) (line : List ℕ) (behind : List (List ℕ)) → lines_of (pending ++ piece) ≡ before ++ line ∷ behind → HasNoFeed pending → length piece ≤ 65536
+    → (ends_with 10 line ≡ true) ⊎ (behind ≡ []) → length (joined behind) < 65536
+near_of pending piece before line behind e n few (inr none) = rw none (omega arith)
+near_of pending piece before line behind e n few (inl w) =
+    let parts : pending ++ piece ≡ joined before ++ (line ++ joined behind) = sym (joined-lines_of (pending ++ piece)) ∙ ap joined e ∙ joined-append before (line ∷ behind) in
+    let past : length pending < length (joined before) + length line = ends_behind pending piece (joined before) line (joined behind) parts n w in
+    let size : length pending + length piece ≡ length (joined before) + (length line + length (joined behind)) =
+    sym (length-append pending piece) ∙ ap length parts ∙ length-append (joined before) (line ++ joined behind) ∙ ap (λ k. length (joined before) + k) (length-append line (joined behind)) in
+    omega arith
+
+told : (left rest : Option (List ℕ)) (taken : List ℕ) (P : List ℕ → Type 0) → Consumes left rest taken → ((more : List ℕ) → P (taken ++ more)) → IfSome left P
+told None rest taken P c f = tt
+told (Some bytes) None taken P c f = absurd c
+told (Some bytes) (Some more) taken P c f = rw c (f more)
+
+at_end_of : (left rest : Option (List ℕ)) (taken : List ℕ) (P : List ℕ → Type 0) → Consumes left rest taken → IsAtEnd rest → P taken → IfSome left P
+at_end_of None rest taken P c a p = tt
+at_end_of (Some bytes) None taken P c a p = absurd c
+at_end_of (Some bytes) (Some more) taken P c a p = let e : bytes ≡ taken = c ∙ ap (λ m. taken ++ m) a ∙ append-nil taken in rw e p
+
+module _ (left rest old now : Option (List ℕ)) (session : Session) (pending : List ℕ) (s : Streams left rest old now session pending) where
+  -- the report of these lines goes on from what is written
+  before_front : (before : List (List ℕ)) (text : List ℕ) → IsFront (outcome_at session false before).text text → IsFront (lines_outcome false (s.reported ++ before)).text (s.text ++ text)
+  before_front before text f =
+      let e : (lines_outcome false (s.reported ++ before)).text ≡ s.text ++ (outcome_at session false before).text = ap (λ o. o.text) (s.goes false before) in
+      (f.0, ap (λ t. s.text ++ t) f.1 ∙ sym (append_assoc s.text (outcome_at session false before).text f.0) ∙ ap (λ t. t ++ f.0) (sym e))
+
+  -- a write failed in a line
+  failed_in : (less : Option (List ℕ)) (piece text : List ℕ) → length piece ≤ 65536 → HasNoFeed pending → StopsInLine session (pending ++ piece) text → FailedInLine (s.taken ++ piece) (s.text ++ text)
+  failed_in less piece text few n i = record {
+    before = s.reported ++ i.before;
+    line = i.line;
+    behind = i.behind;
+    lines = joined_here left rest old now session pending s piece ∙ ap (λ l. s.reported ++ l) i.lines ∙ sym (append_assoc s.reported i.before (i.line ∷ i.behind));
+    reported = before_front i.before text i.reported;
+    short = rw (append_assoc s.reported i.before (i.line ∷ [])) (then_proper _ _ s.text text (s.goes false (i.before ++ i.line ∷ [])) i.short);
+    near = near_of pending piece i.before i.line i.behind i.lines n few i.near;
+  }
+
+  stopped_at : (piece text : List ℕ) → StopsAtLimit session (pending ++ piece) text → StoppedAtLimit (s.taken ++ piece) (s.text ++ text)
+  stopped_at piece text i = record {
+    before = s.reported ++ i.before;
+    behind = i.behind;
+    lines = joined_here left rest old now session pending s piece ∙ ap (λ l. s.reported ++ l) i.lines ∙ sym (append_assoc s.reported i.before i.behind);
+    reported = then_ends _ _ s.text text Done (s.goes false i.before) i.reported;
+  }
+
+  -- what comes behind a piece
+  piece_bytes : (piece more : List ℕ) → bytes_outcome ((s.taken ++ piece) ++ more) ≡ then_on s.text (outcome_at session true (lines_of ((pending ++ piece) ++ more)))
+  piece_bytes piece more = ap (lines_outcome true) (joined_more left rest old now session pending s piece more) ∙ s.goes true (lines_of ((pending ++ piece) ++ more))
+
+  piece_taken : (piece : List ℕ) → bytes_outcome (s.taken ++ piece) ≡ then_on s.text (outcome_at session true (lines_of (pending ++ piece)))
+  piece_taken piece = ap (lines_outcome true) (joined_here left rest old now session pending s piece) ∙ s.goes true (lines_of (pending ++ piece))
+
+  front_here : (piece text : List ℕ) → ((at_end : Bool) (more : List ℕ) → IsFront text (outcome_at session at_end (lines_of ((pending ++ piece) ++ more))).text) → IsFront text (outcome_at session true (lines_of (pending ++ piece))).text
+  front_here piece text f = let g = f true [] in (g.0, ap (λ b. (outcome_at session true (lines_of b)).text) (sym (append-nil (pending ++ piece))) ∙ g.1)
+
+  -- a call on a piece ended the run
+  pub streams_over : {E F : Type 0} (less new : Option (List ℕ)) (piece : List ℕ) (result : Result (Option Status) F) (answer : Status) → Consumes rest less piece → length piece ≤ 65536 → HasNoFeed pending
+      → Stops session (pending ++ piece) now new result → result ≡ Ok (Some answer) → result ≢ Ok (Some ReadFault) → Serves {E = E} left less old new (Ok answer)
+  streams_over less new piece result answer c few n p e k = record {
+    taken = s.taken ++ piece;
+    consumed = Consumes-trans left rest less s.taken piece s.consumed c;
+    text = s.text ++ p.text;
+    appends = Appends-trans old now new s.text p.text s.appends p.appends;
+    front = then_front _ _ s.text p.text (piece_taken piece) (front_here piece p.text p.front);
+    ended = λ status r f. told left less (s.taken ++ piece) (λ bytes. bytes_outcome bytes ≡ ends (s.text ++ p.text) status) (Consumes-trans left rest less s.taken piece s.consumed c)
+        (λ more. then_ends _ _ s.text p.text status (piece_bytes piece more) (p.ended status (e ∙ ap (λ x. Ok (Some x)) cc) (λ w. f (inr w)) true more));
+    read_failed = λ r. absurd (k (e ∙ ap (λ x. Ok (Some x)) cc));
+    write_failed = λ r. inl (failed_in less piece p.text few n (p.short (e ∙ ap (λ x. Ok (Some x)) cc)));
+    past_limit = λ r. stopped_at piece p.text (p.long (e ∙ ap (λ x. Ok (Some x)) cc));
+  }
+
+  -- memory was refused in a piece
+  pub streams_err : {E F : Type 0} (less new : Option (List ℕ)) (piece : List ℕ) (result : Result (Option Status) F) (refused : E) → Consumes rest less piece → Stops session (pending ++ piece) now new result → Serves left less old new (Err refused)
+  streams_err less new piece result refused c p = record {
+    taken = s.taken ++ piece;
+    consumed = Consumes-trans left rest less s.taken piece s.consumed c;
+    text = s.text ++ p.text;
+    appends = Appends-trans old now new s.text p.text s.appends p.appends;
+    front = then_front _ _ s.text p.text (piece_taken piece) (front_here piece p.text p.front);
+    ended = λ status r f. cc;
+    read_failed = λ r. absurd cc;
+    write_failed = λ r. absurd cc;
+    past_limit = λ r. absurd cc;
+  }
+
+  failed_at_end : (less : Option (List ℕ)) (text : List ℕ) → IsAtEnd less → StopsAtEnd session pending text → FailedAtEnd s.taken (s.text ++ text) less
+  failed_at_end less text a i = record {
+    reported = rw (stream_lines left rest old now session pending s) (before_front (lines_of pending) text i.reported);
+    short = then_proper _ _ s.text text (stream_taken left rest old now session pending s) i.short;
+    ended = a;
+  }
+
+  failed_last : (text : List ℕ) → HasNoFeed pending → StopsInLine session pending text → FailedInLine s.taken (s.text ++ text)
+  failed_last text n i =
+      let f : FailedInLine (s.taken ++ []) (s.text ++ text) = failed_in None [] text (omega arith) n (rw (append-nil pending) i) in
+      rw (append-nil s.taken) at f
+
+  stopped_last : (text : List ℕ) → StopsAtLimit session pending text → StoppedAtLimit s.taken (s.text ++ text)
+  stopped_last text i =
+      let f : StoppedAtLimit (s.taken ++ []) (s.text ++ text) = stopped_at [] text (rw (append-nil pending) i) in
+      rw (append-nil s.taken) at f
+
+  -- the input is at its end
+  pub streams_end : {E : Type 0} (less new : Option (List ℕ)) (result : Result Status E) → Consumes rest less [] → IsAtEnd less → HasNoFeed pending → Ends session pending now new result → Serves left less old new result
+  streams_end less new result c a n f =
+      let consumed : Consumes left less s.taken = rw (append-nil s.taken) at (Consumes-trans left rest less s.taken [] s.consumed c) in
+      record {
+        taken = s.taken;
+        consumed = consumed;
+        text = s.text ++ f.text;
+        appends = Appends-trans old now new s.text f.text s.appends f.appends;
+        front = then_front _ _ s.text f.text (stream_taken left rest old now session pending s) f.front;
+        ended = λ status r k. at_end_of left less s.taken (λ bytes. bytes_outcome bytes ≡ ends (s.text ++ f.text) status) consumed a
+            (then_ends _ _ s.text f.text status (stream_taken left rest old now session pending s) (f.ended status r (λ w. k (inr w))));
+        read_failed = λ r. absurd (f.no_read r);
+        write_failed = λ r. elim (f.short r) [ inl i ↦ inl (failed_last f.text n i) | inr i ↦ inr (failed_at_end less f.text a i) ];
+        past_limit = λ r. stopped_last f.text (f.long r);
+      }
+
+  limit_here : IsReady session → StoppedAtLimit s.taken s.text
+  limit_here r = record { before = s.reported; behind = lines_of pending; lines = stream_lines left rest old now session pending s; reported = stream_reported left rest old now session pending s r }
+
+  -- past a limit, whatever comes
+  pub streams_long : {E : Type 0} → IsReady session → ((at_end : Bool) (more : List ℕ) → outcome_at session at_end (lines_of (pending ++ more)) ≡ ends [] TooLong) → Serves {E = E} left rest old now (Ok TooLong)
+  streams_long r over = record {
+    taken = s.taken;
+    consumed = s.consumed;
+    text = s.text;
+    appends = s.appends;
+    front = stream_front left rest old now session pending s;
+    ended = λ status e k. told left rest s.taken (λ bytes. bytes_outcome bytes ≡ ends s.text status) s.consumed
+        (λ more. then_ends _ _ s.text [] TooLong (stream_bytes left rest old now session pending s more) (over true more) ∙ ap (λ t. ends t TooLong) (append-nil s.text) ∙ ap (λ x. ends s.text x) cc);
+    read_failed = λ e. absurd cc;
+    write_failed = λ e. absurd cc;
+    past_limit = λ e. limit_here r;
+  }

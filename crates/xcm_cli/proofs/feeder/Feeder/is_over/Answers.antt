@@ -1,0 +1,21 @@
+use Rattle.std.proofs.Common.{◌+◌, ◌<◌, ◌≤◌, length, arith, ltb-true}
+use Rattle.xcm_cli.proofs.Advance.{steps_size}
+use Rattle.xcm_cli.proofs.Flowing.{over_line, over_total, over_network}
+use Rattle.xcm_cli.proofs.feeder.Feeder.is_over.Goals as goal
+
+pub returns-then-pending-gt-MAX_LINE-clause-over : goal.returns-then-pending-gt-MAX_LINE-clause-over
+returns-then-pending-gt-MAX_LINE-clause-over c t at_end more =
+    let long : 262144 < c.len-pending.result = ltb-true 262144 c.len-pending.result t in
+    over_line c.args.self.now _ at_end more c.requires.open c.in-Steps.is (omega (arith, c.len-pending.ensures, c.args.self.now.pending.ok))
+
+pub returns-else-pending-gt-MAX_LINE-clause-over : goal.returns-else-pending-gt-MAX_LINE-clause-over
+returns-else-pending-gt-MAX_LINE-clause-over c t at_end more =
+    let past : 67108864 < c.args.self.now.session.taken + c.len-pending.result = ltb-true 67108864 _ t in
+    let size : c.args.self.now.session.taken ≤ 67108864 = steps_size c.args.self.now.session _ c.in-Steps.is c.requires.ready in
+    over_total c.args.self.now _ at_end more c.requires.open (omega (arith, c.len-pending.ensures, c.args.self.now.pending.ok)) c.in-Steps.is (omega (arith, c.len-pending.ensures, c.args.self.now.pending.ok))
+
+pub returns-then-pending-gt5-clause-over : goal.returns-then-pending-gt5-clause-over
+returns-then-pending-gt5-clause-over c t at_end more =
+    let past : 1048576 < c.len.result + c.len-pending.result = ltb-true 1048576 _ t in
+    over_network c.args.self.now _ at_end more c.requires.open c.in-Network.is (omega (arith, c.if-pending-gt5.true, c.len-pending.ensures, c.args.self.now.pending.ok))
+    (omega (arith, c.len.ensures, c.in-Network.part.ok, c.len-pending.ensures, c.args.self.now.pending.ok))

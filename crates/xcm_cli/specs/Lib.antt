@@ -1,0 +1,4 @@
+pub mod Report
+pub mod Session
+pub mod Feeding
+pub mod Serving

@@ -1,0 +1,13 @@
+//! The run of the program over a source and a sink: the network, the step lines, the report.
+#![tactic(auto)]
+
+mod feeder;
+mod limits;
+mod serving;
+mod session;
+mod status;
+mod texts;
+mod top;
+
+pub use status::Status;
+pub use top::run;

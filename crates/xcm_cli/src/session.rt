@@ -1,0 +1,221 @@
+// A run, a line at a time.
+ghost use Rattle.std.specs.Prelude.{◌≡◌, ◌≢◌, ◌⊎◌, ◌+◌, ◌^◌, ◌<◌, ◌≤◌, ℕ, List, [], ◌∷◌, length, drop, Bool, false, true, Some, None, Ok};
+ghost use Rattle.xcm_io.specs.Causes.{Rose};
+ghost use Rattle.input_lines.specs.Lines.{HasNoFeed};
+ghost use Rattle.network_config.specs.Document.{network_of};
+ghost use Rattle.xcm_cli.specs.Report.{lines_outcome, network_outcome, steps_outcome, is_within, max_input};
+ghost use Rattle.xcm_cli.specs.Session.{Writes, Advances, Finishes, HasWriteCause, IsReady, TakesLines, outcome_at};
+
+use crate::limits::{MAX_INPUT, MAX_LINE, MAX_NETWORK};
+use crate::status::Status;
+use crate::texts::{OPENING, line_refusal, network_refusal};
+use input_lines::{Line, ends_network, line_len, read_line, text_of, without_feed};
+use network_config::{NetworkFault, read_network};
+use report_text::exec_block;
+use std::alloc::{AllocError, Global};
+use xcm_io::{Sink, write_whole};
+
+/// Which part of the input is read.
+#[derive(Drop)]
+pub(crate) enum Phase {
+    /// The network part, of which these bytes have come.
+    Network(Vec<u8>),
+    /// The lines after it, with so many steps done.
+    Steps(u64),
+}
+
+/// Where a run stands: so many lines have come, of so many bytes.
+#[derive(Drop)]
+pub(crate) struct Session {
+    pub(crate) phase: Phase,
+    pub(crate) lines: u64,
+    pub(crate) taken: u64,
+}
+
+impl Session {
+    /// A run at the start of its input.
+    pub(crate) fn new(alloc: Global) -> Session
+        ensures start { (at_end : Bool) (lines : List (List ℕ)) → outcome_at result at_end lines ≡ lines_outcome at_end lines }
+        ensures ready { IsReady result }
+        ensures taken { result.taken ≡ 0 }
+    {
+        Session {
+            phase: Phase::Network(Vec::new(alloc)),
+            lines: 0,
+            taken: 0,
+        }
+    }
+
+    /// Takes the next line, with its line feed where it has one.
+    pub(crate) fn take_line<O: Sink>(
+        &mut self,
+        alloc: Global,
+        line: &[u8],
+        out: &mut O,
+    ) -> Result<Option<Status>, AllocError>
+        requires ready { IsReady self.old }
+        requires some { 0 < length line.now }
+        requires few { length line.now < 2 ^ 40 }
+        ensures run { Advances (λ (x : Bool × List (List ℕ)). outcome_at self.old x.0 (line.now ∷ x.1)) (λ x. outcome_at self.new x.0 x.1)
+            (outcome_at self.old false (line.now ∷ [])).text (O.written out.old) (O.written out.new) result }
+        ensures cause { HasWriteCause (O.faults out.old) (O.faults out.new) result }
+        ensures taken { result ≡ Ok None → self.new.taken ≡ self.old.taken + length line.now }
+        ensures ready { result ≡ Ok None → IsReady self.new }
+    {
+        let before = self.lines;
+        let taken = self.taken;
+        self.lines += 1;
+        self.taken += line.len() as u64;
+        match &mut self.phase {
+            Phase::Steps(done) => take_step(alloc, done, before, taken, line, out),
+            Phase::Network(part) => {
+                if ends_network(line) {
+                    let answer = open_network(alloc, part, out);
+                    self.phase = Phase::Steps(0);
+                    return answer;
+                }
+                if part.len() + line.len() > MAX_NETWORK {
+                    return Ok(Some(Status::TooLong));
+                }
+                part.extend_from_slice(line)?;
+                Ok(None)
+            }
+        }
+    }
+
+    /// Takes each whole line of the bytes, and tells how many bytes these are.
+    pub(crate) fn take_lines<O: Sink>(
+        &mut self,
+        alloc: Global,
+        bytes: &[u8],
+        used: &mut usize,
+        out: &mut O,
+    ) -> Result<Option<Status>, AllocError>
+        requires ready { IsReady self.old }
+        requires few { length bytes.now < 2 ^ 40 }
+        ensures run { TakesLines self.old self.new bytes.now (drop used.new bytes.now) (O.written out.old) (O.written out.new) result }
+        ensures cause { HasWriteCause (O.faults out.old) (O.faults out.new) result }
+        ensures used { used.new ≤ length bytes.now }
+        ensures rest { result ≡ Ok None → HasNoFeed (drop used.new bytes.now) }
+        ensures taken { result ≡ Ok None → self.new.taken ≡ self.old.taken + used.new }
+        ensures ready { result ≡ Ok None → IsReady self.new }
+    {
+        let mut at = 0;
+        while let Some(len) = line_len(&bytes[at..]) {
+            match self.take_line(alloc, &bytes[at..at + len], out) {
+                Ok(None) => at += len,
+                Ok(Some(status)) => {
+                    *used = at;
+                    return Ok(Some(status));
+                }
+                Err(refused) => {
+                    *used = at;
+                    return Err(refused);
+                }
+            }
+        }
+        *used = at;
+        Ok(None)
+    }
+
+    /// Ends the run where the input ends.
+    pub(crate) fn finish<O: Sink>(&self, alloc: Global, out: &mut O) -> Result<Status, AllocError>
+        requires { IsReady self.now }
+        ensures run { Finishes (outcome_at self.now true []) (O.written out.old) (O.written out.new) result }
+        ensures later { O.faults out.old ≤ O.faults out.new }
+        ensures cause { result ≡ Ok Status.WriteFault → Rose (O.faults out.old) (O.faults out.new) }
+        ensures usage { result ≢ Ok Status.Usage }
+    {
+        match &self.phase {
+            Phase::Steps(_) => Ok(Status::Done),
+            Phase::Network(part) => match open_network(alloc, part, out) {
+                Ok(Some(status)) => Ok(status),
+                Ok(None) => Ok(Status::Done),
+                Err(refused) => Err(refused),
+            },
+        }
+    }
+}
+
+/// Writes a text. The answer is the one handed in, or a write fault.
+fn write_text<O: Sink>(out: &mut O, text: &str, answer: Option<Status>) -> Option<Status>
+    ensures text { Writes text.now answer (O.written out.old) (O.written out.new) result }
+    ensures later { O.faults out.old ≤ O.faults out.new }
+    ensures cause { (result ≡ answer) ⊎ ((result ≡ Some Status.WriteFault) × Rose (O.faults out.old) (O.faults out.new)) }
+{
+    match write_whole(out, text.as_bytes()) {
+        Ok(()) => answer,
+        Err(_) => Some(Status::WriteFault),
+    }
+}
+
+/// Reads the network, and opens the report or refuses the network.
+fn open_network<O: Sink>(
+    alloc: Global,
+    part: &[u8],
+    out: &mut O,
+) -> Result<Option<Status>, AllocError>
+    ensures run { (before taken : ℕ) → Advances (network_outcome (network_of part.now) before taken) (steps_outcome 0 before taken)
+        (network_outcome (network_of part.now) before taken []).text (O.written out.old) (O.written out.new) result }
+    ensures cause { HasWriteCause (O.faults out.old) (O.faults out.new) result }
+    ensures short { result ≡ Ok (Some Status.TooLong) → ⊥ }
+{
+    match read_network(alloc, part) {
+        Ok(_) => Ok(write_text(out, OPENING, None)),
+        Err(NetworkFault::Memory) => Err(AllocError),
+        Err(fault) => {
+            let text = network_refusal(alloc, fault)?;
+            Ok(write_text(out, &text, Some(Status::NetworkRefused)))
+        }
+    }
+}
+
+/// Whether a later line is within its limit, and the input up to its end.
+fn is_within(taken: u64, line: &[u8]) -> bool
+    requires { taken + length line.now < 2 ^ 64 }
+    ensures { result ≡ is_within taken line.now }
+{
+    without_feed(line).len() <= MAX_LINE && taken + line.len() as u64 <= MAX_INPUT
+}
+
+/// Takes a line after the network, with so many lines and bytes before it.
+fn take_step<O: Sink>(
+    alloc: Global,
+    done: &mut u64,
+    before: u64,
+    taken: u64,
+    line: &[u8],
+    out: &mut O,
+) -> Result<Option<Status>, AllocError>
+    requires lines { before + 1 < 2 ^ 64 }
+    requires bytes { taken + length line.now < 2 ^ 64 }
+    requires steps { done.old ≤ before }
+    ensures run { Advances (λ lines. steps_outcome done.old before taken (line.now ∷ lines)) (steps_outcome done.new (before + 1) (taken + length line.now))
+        (steps_outcome done.old before taken (line.now ∷ [])).text (O.written out.old) (O.written out.new) result }
+    ensures cause { HasWriteCause (O.faults out.old) (O.faults out.new) result }
+    ensures steps { done.new ≤ before + 1 }
+    ensures within { result ≡ Ok None → taken + length line.now ≤ max_input }
+{
+    if !is_within(taken, line) {
+        return Ok(Some(Status::TooLong));
+    }
+    match read_line(alloc, text_of(line)) {
+        Ok(Line::NoStep) => Ok(None),
+        Ok(
+            Line::Exec {
+                chain,
+                account,
+                message,
+            },
+        ) => {
+            *done += 1;
+            let text = exec_block(alloc, *done, chain, &account, message.items())?;
+            Ok(write_text(out, &text, None))
+        }
+        Ok(Line::Refused) => {
+            let text = line_refusal(alloc, before + 1)?;
+            Ok(write_text(out, &text, Some(Status::LineRefused)))
+        }
+        Err(refused) => Err(refused),
+    }
+}
