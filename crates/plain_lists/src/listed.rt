@@ -43,6 +43,25 @@ impl<T> Listed<T> {
     }
 }
 
+/// Element by element. So a type that holds itself through a `Listed` may derive its comparison.
+impl<T: PartialEq> PartialEq for Listed<T> {
+    ghost use Rattle.std.specs.Cmp.Lexicographic.{pointwise, lists_per};
+
+    ghost eq = { pointwise T.eq };
+
+    ghost laws = { lists_per T.laws };
+
+    fn eq(&self, other: &Listed<T>) -> bool {
+        self.items() == other.items()
+    }
+}
+
+impl<T: Eq> Eq for Listed<T> {
+    ghost use Rattle.std.specs.Cmp.Lexicographic.{lists_equiv};
+
+    ghost laws = { lists_equiv T.Eq.laws };
+}
+
 #[cfg(test)]
 mod tests {
     use super::Listed;
@@ -54,6 +73,18 @@ mod tests {
         assert_eq!(rt; seen.items(), [3, 1, 2].as_slice());
         let back = seen.into_vec();
         assert_eq!(rt; back.as_slice(), [3, 1, 2].as_slice());
+        Ok(())
+    }
+
+    #[test]
+    fn lists_are_equal_element_by_element(rt: HostRuntime) -> Result<(), Fail> {
+        let mut roomy = Vec::with_capacity(rt.alloc(), 8)?;
+        roomy.push(3u32)?;
+        let one = Listed::from_vec(roomy);
+        let same = Listed::from_vec(vec![in rt.alloc(); 3u32]?);
+        let longer = Listed::from_vec(vec![in rt.alloc(); 3u32, 3]?);
+        assert!(rt; one == same);
+        assert!(rt; one != longer);
         Ok(())
     }
 
