@@ -11,7 +11,7 @@
 --     restriction p m      the amounts at the keys that pass the test
 --     map_keys f m      the amounts under other keys. Those that come under one key are added up
 --     IsWithin m n      at no key has m more than n
-use Rattle.std.specs.Prelude.{◌≡◌, ℕ, zero, suc, ◌+◌, ◌-◌, ◌≤◌, Bool, true, false, if◌then◌else◌, not, ◌&&◌, List, [], ◌∷◌, refl, None, Some, unwrap_or}
+use Rattle.std.specs.Prelude.{◌≡◌, ℕ, zero, suc, ◌+◌, ◌-◌, ◌≤◌, Bool, true, false, IsTrue, if◌then◌else◌, not, ◌&&◌, List, [], ◌∷◌, refl, None, Some, unwrap_or}
 use Rattle.std.specs.Ordering.{eq_by_cmp}
 use Rattle.std.specs.declared.cmp.Ordering.{Ordering}
 use Rattle.std.specs.declared.cmp.Ordering.TheVariants.{Equal}
@@ -100,7 +100,7 @@ module _ {K : Type 0} {R : K → K → Ordering} where
   total_alike p q m same = sum_where_alike p q (rows m) same
 
   -- a test that passes more keys gives no smaller total
-  pub total_at_most : (p q : K → Bool) (m : Amounts R) → ((k : K) → T (p k) → T (q k)) → total p m ≤ total q m
+  pub total_at_most : (p q : K → Bool) (m : Amounts R) → ((k : K) → IsTrue (p k) → IsTrue (q k)) → total p m ≤ total q m
   unfolding total
   total_at_most p q m more = sum_where_at_most p q (rows m) more
 

@@ -1,5 +1,5 @@
 -- What each operation on amounts has at a key, and what its totals are; and when two of them give one map.
-use Rattle.std.specs.Prelude.{◌≡◌, ℕ, ◌+◌, ◌-◌, ◌≤◌, Bool, true, false, if◌then◌else◌, not, min, List, [], ◌∷◌, ◌++◌, refl}
+use Rattle.std.specs.Prelude.{◌≡◌, ℕ, ◌+◌, ◌-◌, ◌≤◌, Bool, true, false, IsTrue, if◌then◌else◌, not, min, List, [], ◌∷◌, ◌++◌, refl}
 use Rattle.std.specs.Ordering.{eq_by_cmp, is_eq}
 use Rattle.std.specs.declared.cmp.Ordering.{Ordering}
 use Rattle.std.specs.Cmp.{tied_itself}
@@ -28,10 +28,6 @@ if_both false n = omega arith
 if_at_most : (b : Bool) (n : ℕ) → amount_if b n ≤ n
 if_at_most true n = omega arith
 if_at_most false n = omega arith
-
-T_true : (b : Bool) → T b → b ≡ true
-T_true true h = refl
-T_true false h = absurd h
 
 min_of_differences : (a b : ℕ) → a - (a - b) ≡ min a b
 min_of_differences a b = omega arith
@@ -126,9 +122,9 @@ module _ {K : Type 0} {R : K → K → Ordering} (o : IsKeyOrder R) where
   amount-lesser m n q = amount-difference m (difference m n) q ∙ ap (λ t. amount m q - t) (amount-difference m n q) ∙ min_of_differences (amount m q) (amount n q)
 
   -- no amount passes a total that counts its key
-  pub amount_at_most : (p : K → Bool) (m : Amounts R) (k : K) → T (p k) → amount m k ≤ total p m
+  pub amount_at_most : (p : K → Bool) (m : Amounts R) (k : K) → IsTrue (p k) → amount m k ≤ total p m
   amount_at_most p m k passes =
-      let here : (x : K) → T (eq_by_cmp R k x) → T (p x) = λ x t. subst (λ y. T (p y)) (key_same k x (T_true (eq_by_cmp R k x) t)) passes in
+      let here : (x : K) → IsTrue (eq_by_cmp R k x) → IsTrue (p x) = λ x t. subst (λ y. IsTrue (p y)) (key_same k x t) passes in
       subst (λ n. n ≤ total p m) (sym (amount-total o m k)) (total_at_most (eq_by_cmp R k) p m here)
 
   -- ---- one map in two ways

@@ -3,7 +3,7 @@
 --     raised_rows es, lowered_rows es      each amount one higher, one lower: a map keeps its amounts less one, so that none is 0
 --     IsPositive es      no amount is 0
 --     IsKeyOrder R      a total order in which only equal keys tie
-use Rattle.std.specs.Prelude.{◌≡◌, ℕ, suc, ◌+◌, ◌-◌, ◌<◌, ◌≤◌, Bool, true, false, if◌then◌else◌, not, ◌&&◌, List, [], ◌∷◌, ◌++◌, refl, Option, Some, None, unwrap_or}
+use Rattle.std.specs.Prelude.{◌≡◌, ℕ, suc, ◌+◌, ◌-◌, ◌<◌, ◌≤◌, Bool, true, false, IsTrue, if◌then◌else◌, not, ◌&&◌, List, [], ◌∷◌, ◌++◌, refl, Option, Some, None, unwrap_or}
 use Rattle.std.specs.Ordering.{eq_by_cmp, is_eq, is_lt}
 use Rattle.std.specs.declared.cmp.Ordering.{Ordering}
 use Rattle.std.specs.declared.cmp.Ordering.TheVariants.{Less, Equal, Greater}
@@ -13,7 +13,7 @@ use Rattle.std.specs.FinMap.Entries.{where_key, below_all, by_order}
 use Rattle.std.specs.List.{AllByRecursion}
 use Rattle.std.specs.List.Sorted.{IsStrictlySortedBy}
 use Rattle.std.specs.Map.{keys_of}
-use Rattle.std.proofs.Common.{sym, ap, ◌∙◌, subst, arith, T}
+use Rattle.std.proofs.Common.{true≢false, sym, ap, ◌∙◌, subst, arith, T}
 
 -- a total order of keys in which only equal keys tie
 pub record IsKeyOrder {K : Type 0} (R : K → K → Ordering) : Type 0 where
@@ -79,9 +79,9 @@ both : (a b : Bool) → T a → T b → T (a && b)
 both true b g h = h
 both false b g h = absurd g
 
-at_most_one : (a b : Bool) (n : ℕ) → (T a → T b) → amount_if a n ≤ amount_if b n
+at_most_one : (a b : Bool) (n : ℕ) → (IsTrue a → IsTrue b) → amount_if a n ≤ amount_if b n
 at_most_one true true n h = omega arith
-at_most_one true false n h = absurd (h tt)
+at_most_one true false n h = absurd (true≢false (sym (h refl)))
 at_most_one false b n h = omega arith
 
 split_one : (a b : Bool) (n : ℕ) → amount_if b n ≡ amount_if (a && b) n + amount_if (not a && b) n
@@ -105,7 +105,7 @@ module _ {K : Type 0} where
   sum_where_alike p q (e ∷ es) same = λ i. amount_if (same e.0 i) e.1 + sum_where_alike p q es same i
 
   -- a test that passes more keys gives no smaller sum
-  pub sum_where_at_most : (p q : K → Bool) (es : List (K × ℕ)) → ((k : K) → T (p k) → T (q k)) → sum_where p es ≤ sum_where q es
+  pub sum_where_at_most : (p q : K → Bool) (es : List (K × ℕ)) → ((k : K) → IsTrue (p k) → IsTrue (q k)) → sum_where p es ≤ sum_where q es
   sum_where_at_most p q [] more = omega arith
   sum_where_at_most p q (e ∷ es) more = let one = at_most_one (p e.0) (q e.0) e.1 (more e.0) in let rest = sum_where_at_most p q es more in omega (arith, one, rest)
 

@@ -1,5 +1,5 @@
-use Rattle.amounts.specs.Amounts.{amount-total, total-restriction, total-with_amount, total_split}
-use Rattle.amounts.specs.Laws.{total-difference, total-merge, total-minus, total-plus, total-single}
+use Rattle.amounts.specs.Amounts.{total_alike, total_at_most, amount-total, total-restriction, total-with_amount, total_split}
+use Rattle.amounts.specs.Laws.{amount_at_most, total-difference, total-merge, total-minus, total-plus, total-single}
 use Rattle.amounts.proofs.laws.law_of_totals.Goals as goal
 
 pub returns-clause-at_a_key : goal.returns-clause-at_a_key
@@ -28,3 +28,12 @@ returns-clause-chosen g c = total-restriction (record { total = g.met.K.Ord.tota
 
 pub returns-clause-split : goal.returns-clause-split
 returns-clause-split g c = total_split (record { total = g.met.K.Ord.total; exact = c.requires })
+
+pub returns-clause-alike : goal.returns-clause-alike
+returns-clause-alike g c = total_alike
+
+pub returns-clause-wider : goal.returns-clause-wider
+returns-clause-wider g c = total_at_most
+
+pub returns-clause-covered : goal.returns-clause-covered
+returns-clause-covered g c = amount_at_most (record { total = g.met.K.Ord.total; exact = c.requires })
