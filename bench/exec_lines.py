@@ -13,7 +13,7 @@ compared with the one that is wanted; the other runs write to the null device.
 Without --program it takes crates/rudderrusset/out/rudderrusset of this repository.
 `rt run` leaves it there:
 
-  (cd crates/rudderrusset && rt run < stdin)
+  (cd crates/rudderrusset && rt run -- run < stdin)
 """
 import argparse
 import os
@@ -90,7 +90,7 @@ def main():
     asked = words.parse_args()
     program = asked.program.resolve()
     if not program.exists():
-        sys.exit(f"{program} isn't there: build it first, (cd crates/rudderrusset && rt run < stdin)")
+        sys.exit(f"{program} isn't there: build it first, (cd crates/rudderrusset && rt run -- run < stdin)")
 
     print(f"{program.name} on {os.cpu_count()} processors")
     print(f"{'lines':>9} {'input':>10} {'seconds':>9} {'us a line':>10} {'peak memory':>12}")
