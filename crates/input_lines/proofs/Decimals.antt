@@ -1,8 +1,9 @@
 -- What `parse` reads of a number without leading zeros.
-use Rattle.std.proofs.Common.{◌≡◌, ◌≢◌, ℕ, zero, suc, ◌<◌, ◌≤◌, ◌^◌, List, [], ◌∷◌, length, get_or, Bool, true, false, cond, ◌&&◌, ◌||◌, not, refl, sym, arith, Some, None, Result, Ok, Err, eqb}
+use Rattle.std.proofs.Common.{◌≡◌, ◌≢◌, ℕ, zero, suc, ◌<◌, ◌≤◌, ◌^◌, List, [], ◌∷◌, length, get_or, Bool, true, false, cond, ◌&&◌, ◌||◌, not, refl, sym, arith, Some, None, Result, Ok, Err, eqb, ap, ◌∙◌, decimal}
 use Rattle.std.proofs.lemmas.Bool.Decides.{nat_tests}
 use Rattle.std.proofs.lemmas.Str.{IsUtf8-from_ascii}
 use Rattle.std.proofs.lemmas.Str.Parse.{IsNumeralModel, numerals_by_value, tells_all_ascii_digits, parse_plain}
+use Rattle.std.proofs.lemmas.Fmt.{digits_decimal, digits_value-decimal, first_decimal, decimal_digit, decimal_nonempty}
 use Rattle.std.specs.Str.{all_ascii_digits, IsUtf8, IsAscii}
 use Rattle.std.specs.Char.{is_ascii_digit}
 use Rattle.std.specs.Str.Parse.{digits_value, ParsesUnsigned}
@@ -10,7 +11,7 @@ use Rattle.std.specs.Result.{OkIff, result_ok}
 use Rattle.std.specs.Prelude.{nat_lt}
 use Rattle.input_lines.specs.Numbers.{number_of}
 
-own : IsNumeralModel (λ ds. all_ascii_digits ds ≡ true) (digits_value 10)
+pub own : IsNumeralModel (λ ds. all_ascii_digits ds ≡ true) (digits_value 10)
 own = numerals_by_value (λ ds. all_ascii_digits ds ≡ true) tells_all_ascii_digits
 
 third_false : (a b c d : Bool) (n : ℕ) → c ≡ false → cond (a && b && c && d) (Some n) None ≡ None
@@ -77,3 +78,16 @@ parsed_is text (Err e) h b c = sym (ends_false _ _ _ _ _ (λ a d. h (a, grind (a
 
 pub parsed : {E : Type 0} (text : List ℕ) (r : Result ℕ E) → ParsesUnsigned 32 10 text r → 0 < length text → get_or text 0 0 ≢ 43 → (get_or text 0 0 ≡ 48 → length text ≤ 1) → result_ok r ≡ number_of text
 parsed text r h l ne lead = parsed_is text r (parse_plain own 32 text r h ne) (grind (arith, nat_tests)) (grind (arith, nat_tests))
+
+plain_lead : (n : ℕ) → n < 2 ^ 32 → (eqb (length (decimal n)) 1 || not (eqb (get_or (decimal n) 0 0) 48)) ≡ true
+plain_lead zero l = rw (decimal_digit 0 (omega arith)) refl
+plain_lead (suc n) l = grind (arith, nat_tests, first_decimal (suc n) (omega arith) (omega arith))
+
+-- a number's own text is read as that number
+pub number_is : (n : ℕ) → n < 2 ^ 32 → number_of (decimal n) ≡ Some n
+unfolding number_of
+number_is n l =
+    let value : digits_value 10 (decimal n) ≡ n = digits_value-decimal (numerals_by_value (λ ds. all_ascii_digits ds ≡ true) tells_all_ascii_digits) n (omega arith) in
+    let small : nat_lt (digits_value 10 (decimal n)) (2 ^ 32) ≡ true = grind (arith, nat_tests) in
+    let full : nat_lt 0 (length (decimal n)) ≡ true = grind (arith, nat_tests, decimal_nonempty n (omega arith)) in
+    all_true _ _ _ _ _ (digits_decimal own n (omega arith)) full (plain_lead n l) small ∙ ap Some value

@@ -7,7 +7,7 @@ use Rattle.std.specs.Prelude.{codes}
 use Rattle.input_lines.specs.Lines.{lines_of, onto, line_text, is_mark, ends_with, without_last}
 
 -- a line feed is a line of its own in front of the others
-at_feed : (b : ℕ) (rest : List ℕ) → b ≡ 10 → lines_of (b ∷ rest) ≡ (b ∷ []) ∷ lines_of rest
+pub at_feed : (b : ℕ) (rest : List ℕ) → b ≡ 10 → lines_of (b ∷ rest) ≡ (b ∷ []) ∷ lines_of rest
 unfolding lines_of
 at_feed b rest e = cond-true (eqb b 10) _ _ (eq-eqb b 10 e)
 

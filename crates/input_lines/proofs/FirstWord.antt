@@ -5,11 +5,13 @@ use Rattle.std.proofs.lemmas.List.{take_all}
 use Rattle.std.specs.Option.{option_map}
 use Rattle.input_lines.specs.Step.{split_word}
 
-at_space : (b : ℕ) (rest : List ℕ) → b ≡ 32 → split_word (b ∷ rest) ≡ Some ([], rest)
+-- a space ends the word before it
+pub at_space : (b : ℕ) (rest : List ℕ) → b ≡ 32 → split_word (b ∷ rest) ≡ Some ([], rest)
 unfolding split_word
 at_space b rest e = cond-true (eqb b 32) _ _ (eq-eqb b 32 e)
 
-past_other : (b : ℕ) (rest : List ℕ) → (b ≡ 32 → ⊥) → split_word (b ∷ rest) ≡ option_map (λ x. (b ∷ x.0, x.1)) (split_word rest)
+-- any other byte goes in front of the first word
+pub past_other : (b : ℕ) (rest : List ℕ) → (b ≡ 32 → ⊥) → split_word (b ∷ rest) ≡ option_map (λ x. (b ∷ x.0, x.1)) (split_word rest)
 unfolding split_word
 past_other b rest n = cond-false (eqb b 32) _ _ (ne_eqb b 32 n)
 

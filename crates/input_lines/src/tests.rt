@@ -185,4 +185,6 @@ fn the_first_line_ends_with_the_first_feed(rt: HostRuntime) {
     assert_eq!(rt; line_len(b"\n\n"), Some(1));
     assert_eq!(rt; line_len(b"exec\r"), None);
     assert_eq!(rt; line_len(b""), None);
+    law_of_lines();
+    law_of_executions();
 }
