@@ -20,15 +20,12 @@ object_is (string s) ms e = cc
 object_is (array ds) ms e = cc
 object_is (object ns) ms e = cc
 
-
 some_members : (es : List (String Global × Value)) → (length es ≡ 0 → ⊥) → served (object (members_view es)) ≡ Err (NotBuilt top)
 some_members [] n = absurd (n refl)
 some_members (e ∷ es) n = refl
 
-
 pub fields : (d : Data) (es : List (String Global × Value)) → as_object d ≡ Some (members_view es) → (length es ≡ 0 → ⊥) → served d ≡ Err (NotBuilt top)
 fields d es o n = ap served (object_is d (members_view es) o) ∙ some_members es n
-
 
 pub read_value : (bytes : List ℕ) (d : Data) → IsUtf8 bytes → read bytes ≡ Some d → network_of bytes ≡ served d
 unfolding network_of json_of

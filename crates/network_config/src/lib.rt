@@ -7,5 +7,5 @@ mod fault;
 pub use document::{NetworkSpec, read_network};
 pub use fault::{NetworkFault, Place, Section};
 
-
-
+#[cfg(test)]
+mod tests;

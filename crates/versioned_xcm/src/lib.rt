@@ -8,3 +8,6 @@ mod message;
 pub use fault::MessageFault;
 pub use law::law_of_messages;
 pub use message::decode_message;
+
+#[cfg(test)]
+mod tests;
