@@ -19,7 +19,7 @@ top = record { section = Top; index = 0 }
 -- the network of a value: that of the object without fields, and no other yet
 abbrev pub served : Data → Result NetworkSpec NetworkFault
 served (object no_members) = Ok (record { entries = 0 })
-served (object (member name value members)) = Err (NotBuilt top)
+served (object (member name value others)) = Err (NotBuilt top)
 served null = Err (NotBuilt top)
 served (boolean b) = Err (NotBuilt top)
 served (number n) = Err (NotBuilt top)
