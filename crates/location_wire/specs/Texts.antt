@@ -1,8 +1,8 @@
 -- The texts of junctions, paths and locations, as lists of their bytes. This project's own rule; numbers are in decimal, hex is
 -- lower case.
-use Rattle.std.specs.Prelude.{ℕ, ◌<◌, ◌≤◌, ◌^◌, List, [], ◌∷◌, ◌++◌, length, map, Option, Some, None, codes}
+use Rattle.std.specs.Prelude.{ℕ, ◌<◌, ◌≤◌, ◌^◌, List, [], ◌∷◌, ◌++◌, length, map, Option, Some, None, codes, Bool, ◌==◌, not}
 use Rattle.std.specs.Option.{option_map}
-use Rattle.std.specs.List.{AllByRecursion}
+use Rattle.std.specs.List.{AllByRecursion, list_all}
 use Rattle.std.specs.Fmt.{decimal}
 use Rattle.hex.specs.Hex.{encode_lower}
 use Rattle.scale_codec.specs.Spelling.{joined}
@@ -61,3 +61,7 @@ IsJunction j = FitsJunction j × AllByRecursion (λ b. b < 2 ^ 8) (junction j)
 
 abbrev pub IsLocation : Location → Type 0
 IsLocation l = (l.parents < 2 ^ 8) × (length l.interior ≤ 8) × AllByRecursion IsJunction l.interior
+
+-- no byte of the text is c
+abbrev pub lacks : ℕ → List ℕ → Bool
+lacks c bytes = list_all (λ b. not (b == c)) bytes

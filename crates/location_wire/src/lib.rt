@@ -7,9 +7,11 @@ mod reading;
 #[cfg(test)]
 mod tests;
 mod text;
+mod text_reading;
 mod writing;
 
 pub use law::{law_of_no_prefix, law_of_one_spelling, law_of_readers};
 pub use reading::{read_junction, read_junctions, read_location, read_network_id};
 pub use text::{location_text, path_text};
+pub use text_reading::{TextFault, read_location_text};
 pub use writing::{write_junction, write_junctions, write_location, write_network_id};

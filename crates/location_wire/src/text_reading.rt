@@ -1,0 +1,196 @@
+//! Texts read as locations. The parts are read in a plain way, which may take more than the texts of the parts; in the end the
+//! text of what was read is compared with what was given.
+
+ghost use Rattle.std.specs.Prelude.{◌≡◌, ◌≢◌, ◌≤◌, ◌++◌, ◌==◌, ℕ, List, length, map, codes, IfOk, IfErr, IsTrue, MatchOption};
+ghost use Rattle.std.specs.List.{AllByRecursion, slice_split};
+ghost use Rattle.hex.specs.Hex.{encode_lower};
+ghost use Rattle.locations.specs.declared.grammar.Junction.{Junction};
+ghost use Rattle.locations.specs.declared.grammar.NetworkId.{NetworkId};
+ghost use Rattle.locations.specs.declared.relative.Location.{Location};
+ghost use Rattle.location_wire.specs.Spelling.{junction};
+ghost use Rattle.location_wire.specs.Texts.{lacks, network_name, named, junction_text, location_text, IsJunction, IsLocation};
+ghost use Rattle.location_wire.specs.declared.text_reading.TextFault.TheVariants.{BadText, Memory};
+
+use crate::parts::junction_of;
+use crate::text::location_text;
+use hex::{FromHex, FromHexError};
+use locations::{Junction, Junctions, Location, NetworkId};
+use scale_codec::Cursor;
+use std::alloc::{AllocError, Global};
+use thiserror::Error;
+
+/// Why a text is read as no location.
+#[derive(Clone, Copy, Debug, PartialEq, Eq, Error)]
+pub enum TextFault {
+    /// It is the text of no location.
+    #[error("not the text of a location")]
+    BadText,
+    /// There was no memory.
+    #[error("out of memory")]
+    Memory,
+}
+
+impl From<AllocError> for TextFault {
+    ghost use Rattle.std.specs.Prelude.{◌≡◌};
+    ghost use Rattle.location_wire.specs.declared.text_reading.TextFault.TheVariants.{Memory};
+
+    ghost from_gives = { λ _ fault. fault ≡ Memory };
+
+    fn from(_: AllocError) -> TextFault {
+        TextFault::Memory
+    }
+}
+
+/// The parts of a text between its slashes.
+fn parts_of(alloc: Global, text: &str) -> Result<Vec<&str>, AllocError>
+    ensures { IfOk result (λ parts. map (λ x. x.now) parts.items ≡ slice_split (λ b. b == 47) text.now) }
+{
+    text.split('/').collect(alloc)
+}
+
+/// What stands before an opening parenthesis, and what between it and a closing one at the end.
+fn name_and_inside(part: &str) -> Option<(&str, &str)>
+    ensures { (name inside : List ℕ) → IsTrue (lacks 40 name) → part.now ≡ name ++ codes "(" ++ inside ++ codes ")" → MatchOption result ⊥ (λ x. (x.0.now ≡ name) × (x.1.now ≡ inside)) }
+{
+    let (name, rest) = part.split_once('(')?;
+    let inside = rest.strip_suffix(')')?;
+    Some((name, inside))
+}
+
+/// The junction that hex digits spell.
+fn spelled_junction(alloc: Global, digits: &str) -> Result<Option<Junction>, AllocError>
+    ensures { IfOk result (λ o. (j : Junction) → IsJunction j → digits.now ≡ encode_lower (junction j) → o ≡ Some j) }
+{
+    match hex::decode(alloc, digits) {
+        Ok(bytes) => Ok(junction_of(&mut Cursor::new(bytes.as_slice())).ok()),
+        Err(fault) => match fault {
+            FromHexError::OutOfMemory => Err(AllocError),
+            _ => Ok(None),
+        },
+    }
+}
+
+fn network_of_name(name: &str) -> Option<NetworkId>
+    ensures { (net : NetworkId) → network_name net ≡ Some name.now → result ≡ Some net }
+{
+    match name {
+        "Polkadot" => Some(NetworkId::Polkadot),
+        "Kusama" => Some(NetworkId::Kusama),
+        "Westend" => Some(NetworkId::Westend),
+        "Rococo" => Some(NetworkId::Rococo),
+        "Wococo" => Some(NetworkId::Wococo),
+        _ => None,
+    }
+}
+
+/// What stands behind the `0x` at the front.
+fn behind_0x(text: &str) -> Option<&str>
+    ensures { MatchOption result ((rest : List ℕ) → text.now ≢ codes "0x" ++ rest) (λ x. text.now ≡ codes "0x" ++ x.now) }
+{
+    text.strip_prefix("0x")
+}
+
+fn parachain_of_text(inside: &str) -> Option<Junction>
+    ensures { (j : Junction) → IsJunction j → named j ≡ Some (codes "Parachain", inside.now) → result ≡ Some j }
+{
+    let id = inside.parse().ok()?;
+    Some(Junction::Parachain(id))
+}
+
+fn pallet_of_text(inside: &str) -> Option<Junction>
+    ensures { (j : Junction) → IsJunction j → named j ≡ Some (codes "PalletInstance", inside.now) → result ≡ Some j }
+{
+    let index = inside.parse().ok()?;
+    Some(Junction::PalletInstance(index))
+}
+
+fn general_index_of_text(inside: &str) -> Option<Junction>
+    ensures { (j : Junction) → IsJunction j → named j ≡ Some (codes "GeneralIndex", inside.now) → result ≡ Some j }
+{
+    let index = inside.parse().ok()?;
+    Some(Junction::GeneralIndex(index))
+}
+
+fn account_of_text(inside: &str) -> Option<Junction>
+    ensures { (j : Junction) → IsJunction j → named j ≡ Some (codes "AccountId32", inside.now) → result ≡ Some j }
+{
+    let digits = behind_0x(inside)?;
+    let id = <[u8; 32]>::from_hex(digits).ok()?;
+    Some(Junction::AccountId32 { network: None, id })
+}
+
+/// The junction of a name and what stands in its parentheses.
+fn named_junction(name: &str, inside: &str) -> Option<Junction>
+    ensures { (j : Junction) → IsJunction j → named j ≡ Some (name.now, inside.now) → result ≡ Some j }
+{
+    match name {
+        "Parachain" => parachain_of_text(inside),
+        "PalletInstance" => pallet_of_text(inside),
+        "GeneralIndex" => general_index_of_text(inside),
+        "AccountId32" => account_of_text(inside),
+        "GlobalConsensus" => network_of_name(inside).map(Junction::GlobalConsensus),
+        _ => None,
+    }
+}
+
+fn junction_of_text(alloc: Global, part: &str) -> Result<Option<Junction>, AllocError>
+    ensures { IfOk result (λ o. (j : Junction) → IsJunction j → part.now ≡ junction_text j → o ≡ Some j) }
+{
+    if let Some(digits) = behind_0x(part) {
+        return spelled_junction(alloc, digits);
+    }
+    let Some((name, inside)) = name_and_inside(part) else {
+        return Ok(None);
+    };
+    Ok(named_junction(name, inside))
+}
+
+/// A junction for each part, at most eight.
+fn interior_of_texts(alloc: Global, parts: &[&str]) -> Result<Option<Junctions>, AllocError>
+    ensures { IfOk result (λ o. (js : List Junction) → length js ≤ 8 → AllByRecursion IsJunction js → map (λ x. x.now) parts.now ≡ map junction_text js → o ≡ Some js) }
+{
+    let mut junctions = Junctions::empty();
+    for part in parts {
+        let Some(junction) = junction_of_text(alloc, part)? else {
+            return Ok(None);
+        };
+        let Ok(()) = junctions.push(junction) else {
+            return Ok(None);
+        };
+    }
+    Ok(Some(junctions))
+}
+
+/// The only location that the text can be of.
+fn location_of_text(alloc: Global, text: &str) -> Result<Option<Location>, AllocError>
+    ensures { IfOk result (λ o. (l : Location) → IsLocation l → text.now ≡ location_text l → o ≡ Some l) }
+{
+    let parts = parts_of(alloc, text)?;
+    let Some((first, steps)) = parts.as_slice().split_first() else {
+        return Ok(None);
+    };
+    let Ok(parents) = first.parse::<u8>() else {
+        return Ok(None);
+    };
+    let Some(interior) = interior_of_texts(alloc, steps)? else {
+        return Ok(None);
+    };
+    Ok(Some(Location { parents, interior }))
+}
+
+/// Reads the text of a location, as `location_text` writes it and no other, as `1/Parachain(2000)`. A text is that of one location
+/// at most.
+pub fn read_location_text(alloc: Global, s: &str) -> Result<Location, TextFault>
+    ensures text { IfOk result (λ l. s.now ≡ location_text l) }
+    ensures only { IfOk result (λ l. (m : Location) → IsLocation m → s.now ≡ location_text m → m ≡ l) }
+    ensures bad { IfErr result (λ e. e ≡ BadText → (m : Location) → IsLocation m → s.now ≢ location_text m) }
+{
+    let Some(location) = location_of_text(alloc, s)? else {
+        return Err(TextFault::BadText);
+    };
+    let text = location_text(alloc, &location)?;
+    if text.as_str() != s {
+        return Err(TextFault::BadText);
+    }
+    Ok(location)
+}
