@@ -1,22 +1,22 @@
 -- What the texts of junctions and locations look like, and what reads them back.
-use Rattle.std.proofs.Common.{◌≡◌, ℕ, zero, suc, ◌+◌, ◌*◌, ◌/◌, ◌%◌, ◌^◌, ◌<◌, ◌≤◌, Bool, true, false, not, ◌&&◌, eqb, List, [], ◌∷◌, ◌++◌, length, get_or, map, Option, Some, None, ◌⊎◌, inl, inr, Result, Ok, Err, refl, take, drop, lit<, sym, ap, subst, ◌∙◌, append_assoc, arith}
-use Rattle.std.specs.Prelude.{codes}
+use Rattle.std.proofs.Common.{◌≡◌, ℕ, zero, suc, ◌+◌, ◌*◌, ◌/◌, ◌%◌, ◌^◌, ◌<◌, ◌≤◌, Bool, true, false, cond, not, eqb, ltb, List, [], ◌∷◌, ◌++◌, length, get_or, map, Option, Some, None, ◌⊎◌, inl, inr, Result, Ok, Err, refl, take, drop, lit<, sym, ap, subst, ◌∙◌, append_assoc, arith}
+use Rattle.std.specs.Prelude.{codes, IfSome}
 use Rattle.std.specs.Option.{MatchOption, option_map}
 use Rattle.std.specs.Result.{result_ok}
-use Rattle.std.specs.List.{All, AllByRecursion, slice_split}
+use Rattle.std.specs.List.{AllByRecursion, slice_split}
 use Rattle.std.specs.Fmt.{decimal}
-use Rattle.std.specs.Str.Parse.{ParsesUnsigned}
+use Rattle.std.specs.Str.Parse.{ParsesUnsigned, digits_value}
 use Rattle.std.specs.Borrow.{Bor}
-use Rattle.std.proofs.lemmas.Bool.{and_parts, and_from, ne_eqb, eq-eqb, eqb-false}
-use Rattle.std.proofs.lemmas.List.{append-nil}
+use Rattle.std.proofs.lemmas.Bool.{and_parts, and_from, ne_eqb, eqb-false}
+use Rattle.std.proofs.lemmas.List.{append-nil, append_cancel_right}
 use Rattle.std.proofs.lemmas.List.Elements.{All-from_recursion}
 use Rattle.std.proofs.lemmas.List.Splits.{slice_split_at, slice_split_none}
-use Rattle.std.proofs.lemmas.Fmt.{decimal_by_steps_wide, parse-decimal_wide}
+use Rattle.std.proofs.lemmas.Fmt.{decimal_by_steps_wide, decimal_is_IsNumeral_wide, parse-decimal_wide}
 use Rattle.hex.specs.Hex.{encode_lower, encode_with, lower_digits, hex_digit_value, IsBytes, decode_of, decode_sized}
-use Rattle.hex.proofs.HexLemmas.{IsDigits-lower_digits, length-encode_with, decode_pairs-encode_with, decode_of-encode_lower}
+use Rattle.hex.proofs.HexLemmas.{IsDigits-lower_digits, length-encode_with, decode_of-encode_lower, decode_of-ok, decode_sized-ok, decode_sized-twice}
 use Rattle.std.proofs.lemmas.Str.Pattern.{IsSplitOnceResult, split_after}
 use Rattle.scale_codec.specs.declared.cursor.NoSpelling.{NoSpelling}
-use Rattle.scale_codec.specs.Spelling.{joined}
+use Rattle.scale_codec.specs.Spelling.{fixed, size, long, compact, joined}
 use Rattle.scale_codec.specs.Answers.{Got}
 use Rattle.scale_codec.proofs.Steps.{same_some}
 use Rattle.locations.specs.declared.grammar.NetworkId.{NetworkId}
@@ -27,7 +27,7 @@ use Rattle.location_wire.specs.Spelling.{junction, FitsJunction}
 use Rattle.location_wire.specs.Reading.{junction_at}
 use Rattle.location_wire.proofs.FieldLaws.{junction_reads}
 use Rattle.locations.specs.declared.relative.Location.{Location}
-use Rattle.location_wire.specs.Texts.{hex_text, network_name, named, shown, junction_text, step_text, location_text, lacks, IsJunction, IsLocation}
+use Rattle.location_wire.specs.Texts.{hex_text, network_name, named, shown, junction_text, step_text, location_text, lacks, IsJunction, IsLocation, IsTextOf}
 
 -- ---- bytes that a text lacks
 
@@ -188,6 +188,16 @@ is_account j inside e =
       | inr (inr (inr (inr h))) ↦ absurd (eqb-false 99 111 refl (ap (λ (y : List ℕ). get_or y 2 0) h.2))
     ]
 
+pub is_global : (j : Junction) (inside : List ℕ) → named j ≡ Some (codes "GlobalConsensus", inside) → (net : NetworkId) × (j ≡ GlobalConsensus net) × (network_name net ≡ Some inside)
+is_global j inside e =
+    elim (which j (codes "GlobalConsensus", inside) e) [
+      | inl h ↦ absurd (eqb-false 111 114 refl (third h.2))
+      | inr (inl h) ↦ absurd (eqb-false 111 108 refl (third h.2))
+      | inr (inr (inl h)) ↦ absurd (eqb-false 111 110 refl (third h.2))
+      | inr (inr (inr (inl h))) ↦ absurd (eqb-false 111 99 refl (third h.2))
+      | inr (inr (inr (inr h))) ↦ (h.0, h.1, h.3)
+    ]
+
 -- no name has a parenthesis in it, or a 0 at its front
 pub named_name : (j : Junction) (x : List ℕ × List ℕ) → named j ≡ Some x → (lacks 40 x.0 ≡ true) × (get_or x.0 0 0 ≡ 48 → ⊥)
 named_name j x e =
@@ -215,20 +225,22 @@ text_spelled j e = ap (shown j) e
 first_of : (x y : ℕ) (xs ys : List ℕ) → x ∷ xs ≡ y ∷ ys → x ≡ y
 first_of x y xs ys e = cc
 
+named_front : (name inside : List ℕ) → 48 ≡ get_or (name ++ codes "(" ++ inside ++ codes ")") 0 0 → (get_or name 0 0 ≡ 48 → ⊥) → ⊥
+named_front [] inside h k = omega arith
+named_front (c ∷ name) inside h k = k (sym h)
+
+named_not_0x : (j : Junction) (x : List ℕ × List ℕ) → named j ≡ Some x → (digits : List ℕ) → codes "0x" ++ digits ≡ junction_text j → ⊥
+named_not_0x j x is digits e =
+    let both : 48 ≡ get_or (x.0 ++ codes "(" ++ x.1 ++ codes ")") 0 0 = ap (λ (t : List ℕ). get_or t 0 0) (e ∙ text_named j x is) in
+    named_front x.0 x.1 both (named_name j x is).1
+
 -- behind 0x stands the spelling
 pub text_behind_0x : (j : Junction) (digits : List ℕ) → codes "0x" ++ digits ≡ junction_text j → digits ≡ encode_lower (junction j)
 text_behind_0x j digits e = by_name (named j) refl
   where
     by_name : (o : Option (List ℕ × List ℕ)) → named j ≡ o → digits ≡ encode_lower (junction j)
     by_name None is = ap (drop 2) (e ∙ text_spelled j is)
-    by_name (Some x) is =
-        let n = named_name j x is in
-        let both : 48 ≡ get_or (x.0 ++ codes "(" ++ x.1 ++ codes ")") 0 0 = ap (λ (t : List ℕ). get_or t 0 0) (e ∙ text_named j x is) in
-        absurd (front x.0 x.1 both n.1)
-      where
-        front : (name inside : List ℕ) → 48 ≡ get_or (name ++ codes "(" ++ inside ++ codes ")") 0 0 → (get_or name 0 0 ≡ 48 → ⊥) → ⊥
-        front [] inside h k = omega arith
-        front (c ∷ name) inside h k = k (sym h)
+    by_name (Some x) is = absurd (named_not_0x j x is digits e)
 
 -- without 0x at its front it is written by a name
 pub text_by_name : (j : Junction) → ((rest : List ℕ) → junction_text j ≡ codes "0x" ++ rest → ⊥) → (x : List ℕ × List ℕ) × (named j ≡ Some x)
@@ -276,11 +288,7 @@ pub read_as : {X : Type 0} (o : Option X) (x n : X) → o ≡ Some x → o ≡ S
 read_as o x n was is = same_some x n (sym was ∙ is)
 
 decode_sized_spelled : (xs : List ℕ) → AreBytes xs → length xs ≡ 32 → decode_sized (encode_lower xs) 32 ≡ Ok xs
-decode_sized_spelled xs h n =
-    let len = length-encode_with lower_digits xs in
-    let even : eqb (length (encode_lower xs) % 2) 1 ≡ false = ne_eqb (length (encode_lower xs) % 2) 1 (λ e. omega (arith, len)) in
-    let half : eqb (length (encode_lower xs) / 2) 32 ≡ true = eq-eqb (length (encode_lower xs) / 2) 32 (omega (arith, len)) in
-    rw (even, half) (decode_pairs-encode_with lower_digits IsDigits-lower_digits 0 xs (bytes_at xs h))
+decode_sized_spelled xs h n = decode_sized-twice (encode_lower xs) 32 (omega (arith, length-encode_with lower_digits xs)) ∙ decode_spelled xs h
 
 -- the digits of an account
 pub account_read : (j : Junction) (inside digits : List ℕ) (o : Option (List ℕ)) → IsJunction j → named j ≡ Some (codes "AccountId32", inside) → inside ≡ codes "0x" ++ digits → o ≡ result_ok (decode_sized digits 32)
@@ -349,3 +357,187 @@ first_part parts steps first y ys e is =
 
 pub parents_read : {E : Type 0} (l : Location) (text : List ℕ) (r : Result ℕ E) → IsLocation l → ParsesUnsigned 8 10 text r → text ≡ decimal l.parents → r ≡ Ok l.parents
 parents_read l text r h parsed e = parse-decimal_wide 8 l.parents text r h.0 (omega (arith, h.0)) e parsed
+
+-- ---- what is read is a value of the types
+
+AreBytes-append : (xs ys : List ℕ) → AreBytes xs → AreBytes ys → AreBytes (xs ++ ys)
+AreBytes-append [] ys h k = k
+AreBytes-append (x ∷ xs) ys h k = (h.0, AreBytes-append xs ys h.1 k)
+
+AreBytes-front : (xs ys : List ℕ) → AreBytes (xs ++ ys) → AreBytes xs
+AreBytes-front [] ys h = tt
+AreBytes-front (x ∷ xs) ys h = (h.0, AreBytes-front xs ys h.1)
+
+fixed_bytes : (k n : ℕ) → AreBytes (fixed k n)
+fixed_bytes zero n = tt
+fixed_bytes (suc k) n = (omega arith, fixed_bytes k (n / 256))
+
+either_bytes : (b : Bool) (xs ys : List ℕ) → AreBytes xs → AreBytes ys → AreBytes (cond b xs ys)
+either_bytes true xs ys h k = h
+either_bytes false xs ys h k = k
+
+size_most : (most n : ℕ) → size most n ≤ most
+size_most zero n = omega arith
+size_most (suc most) n = size_step (eqb n 0) (size most (n / 256)) most (size_most most (n / 256))
+  where
+    size_step : (b : Bool) (s m : ℕ) → s ≤ m → cond b 0 (suc s) ≤ suc m
+    size_step true s m h = omega arith
+    size_step false s m h = omega arith
+
+compact_bytes : (n : ℕ) → AreBytes (compact n)
+unfolding compact
+compact_bytes n =
+    either_bytes (ltb n 64) (fixed 1 (4 * n)) (cond (ltb n 16384) (fixed 2 (4 * n + 1)) (cond (ltb n 1073741824) (fixed 4 (4 * n + 2)) (long n))) (fixed_bytes 1 (4 * n))
+    (either_bytes (ltb n 16384) (fixed 2 (4 * n + 1)) (cond (ltb n 1073741824) (fixed 4 (4 * n + 2)) (long n)) (fixed_bytes 2 (4 * n + 1))
+    (either_bytes (ltb n 1073741824) (fixed 4 (4 * n + 2)) (long n) (fixed_bytes 4 (4 * n + 2)) (omega (arith, size_most 16 n), fixed_bytes (size 16 n) n)))
+
+pub parachain_fits : (n : ℕ) → n < 2 ^ 32 → IsJunction (Parachain n)
+unfolding junction
+parachain_fits n h = (h, (lit< tt, compact_bytes n))
+
+pub pallet_fits : (n : ℕ) → n < 2 ^ 8 → IsJunction (PalletInstance n)
+unfolding junction
+pallet_fits n h = (h, (lit< tt, (h, tt)))
+
+pub general_fits : (n : ℕ) → n < 2 ^ 128 → IsJunction (GeneralIndex n)
+unfolding junction
+general_fits n h = (h, (lit< tt, compact_bytes n))
+
+bytes_from : (xs : List ℕ) → ((i : ℕ) → get_or xs i 0 < 256) → AreBytes xs
+bytes_from [] h = tt
+bytes_from (x ∷ xs) h = (h 0, bytes_from xs (λ i. h (suc i)))
+
+ok_of : {X E : Type 0} (r : Result X E) (o : Option X) (x : X) → o ≡ result_ok r → o ≡ Some x → r ≡ Ok x
+ok_of (Ok y) o x is was = ap Ok (same_some y x (sym is ∙ was))
+ok_of (Err e) o x is was = absurd (cc (is, was))
+
+pub account_fits : (digits id : List ℕ) (o : Option (List ℕ)) → o ≡ result_ok (decode_sized digits 32) → o ≡ Some id → IsJunction (AccountId32 None id)
+unfolding junction
+account_fits digits id o is was =
+    let sized = ok_of (decode_sized digits 32) o id is was in
+    let long = decode_sized-ok digits 32 id sized in
+    let ok = decode_of-ok digits id (sym (decode_sized-twice digits 32 long) ∙ sized) in
+    ((tt, omega (arith, long, ok.2)), (lit< tt, (lit< tt, bytes_from id ok.3)))
+
+pub global_fits : (net : NetworkId) (name : List ℕ) → network_name net ≡ Some name → IsJunction (GlobalConsensus net)
+unfolding junction
+global_fits Polkadot name e = (tt, (lit< tt, (lit< tt, tt)))
+global_fits Kusama name e = (tt, (lit< tt, (lit< tt, tt)))
+global_fits Westend name e = (tt, (lit< tt, (lit< tt, tt)))
+global_fits Rococo name e = (tt, (lit< tt, (lit< tt, tt)))
+global_fits Wococo name e = (tt, (lit< tt, (lit< tt, tt)))
+global_fits _ name e = absurd (cc e)
+
+pub spelled_fits : (bytes front : List ℕ) (r : Result Junction NoSpelling) (new : List ℕ) → ((i : ℕ) → get_or bytes i 0 < 256) → front ≡ bytes → Got r (junction_at front) new → IfSome (result_ok r) IsJunction
+spelled_fits bytes front (Ok j) new h is got =
+    let t = junction_reads.takes front j new got in
+    (t.1, AreBytes-front (junction j) new (subst AreBytes (sym is ∙ t.0) (bytes_from bytes h)))
+spelled_fits bytes front (Err e) new h is got = tt
+
+pub one_more : (js : List Junction) (j : Junction) → AllByRecursion IsJunction js → IsJunction j → AllByRecursion IsJunction (js ++ j ∷ [])
+one_more [] j h k = (k, tt)
+one_more (x ∷ js) j h k = (h.0, one_more js j h.1 k)
+
+-- ---- a text is that of one location
+
+decimal_same : (m n : ℕ) → m < 10 ^ 64 → n < 10 ^ 64 → decimal m ≡ decimal n → m ≡ n
+decimal_same m n h k e = sym (decimal_is_IsNumeral_wide m h).1 ∙ ap (digits_value 10) e ∙ (decimal_is_IsNumeral_wide n k).1
+
+encode_same : (xs ys : List ℕ) → AreBytes xs → AreBytes ys → encode_lower xs ≡ encode_lower ys → xs ≡ ys
+encode_same xs ys h k e = let both = sym (decode_spelled xs h) ∙ ap decode_of e ∙ decode_spelled ys k in cc both
+
+-- the first two letters tell the networks apart
+abbrev network_of : List ℕ → NetworkId
+network_of name = let key = 256 * get_or name 0 0 + get_or name 1 0 in cond (eqb key 20591) Polkadot (cond (eqb key 19317) Kusama (cond (eqb key 22373) Westend (cond (eqb key 21103) Rococo Wococo)))
+
+network_back : (net : NetworkId) (name : List ℕ) → network_name net ≡ Some name → network_of name ≡ net
+network_back Polkadot name e = ap network_of (sym (same_some _ name e))
+network_back Kusama name e = ap network_of (sym (same_some _ name e))
+network_back Westend name e = ap network_of (sym (same_some _ name e))
+network_back Rococo name e = ap network_of (sym (same_some _ name e))
+network_back Wococo name e = ap network_of (sym (same_some _ name e))
+network_back _ name e = absurd (cc e)
+
+abbrev Named : (ℕ → Junction) → Type 0
+Named f = (n : ℕ) → IsJunction (f n) → n < 10 ^ 64
+
+number_same : (f : ℕ → Junction) → Named f → (j k : Junction) (m n : ℕ) (inside : List ℕ) → IsJunction j → IsJunction k → j ≡ f m → k ≡ f n → inside ≡ decimal m → inside ≡ decimal n → j ≡ k
+number_same f few j k m n inside h i jm kn em en =
+    let same : m ≡ n = decimal_same m n (few m (subst IsJunction jm h)) (few n (subst IsJunction kn i)) (sym em ∙ en) in
+    jm ∙ ap f same ∙ sym kn
+
+account_same : (j k : Junction) (a b : List ℕ) → IsJunction j → IsJunction k → j ≡ AccountId32 None a → k ≡ AccountId32 None b → hex_text a ≡ hex_text b → j ≡ k
+unfolding junction
+account_same j k a b h i ja kb e =
+    let x : IsJunction (AccountId32 None a) = subst IsJunction ja h in
+    let y : IsJunction (AccountId32 None b) = subst IsJunction kb i in
+    let same : a ≡ b = encode_same a b x.1.1.1 y.1.1.1 (ap (drop 2) e) in
+    ja ∙ ap (AccountId32 None) same ∙ sym kb
+
+named_same : (j k : Junction) (x : List ℕ × List ℕ) → IsJunction j → IsJunction k → named j ≡ Some x → named k ≡ Some x → j ≡ k
+named_same j k x h i e f =
+    elim (which j x e) [
+      | inl p ↦ let q = is_parachain k (decimal p.0) (f ∙ ap Some p.2) in number_same Parachain (λ n g. omega (arith, g.0)) j k p.0 q.0 (decimal p.0) h i p.1 q.1 refl q.2
+      | inr (inl p) ↦ let q = is_pallet k (decimal p.0) (f ∙ ap Some p.2) in number_same PalletInstance (λ n g. omega (arith, g.0)) j k p.0 q.0 (decimal p.0) h i p.1 q.1 refl q.2
+      | inr (inr (inl p)) ↦ let q = is_general k (decimal p.0) (f ∙ ap Some p.2) in number_same GeneralIndex (λ n g. omega (arith, g.0)) j k p.0 q.0 (decimal p.0) h i p.1 q.1 refl q.2
+      | inr (inr (inr (inl p))) ↦ let q = is_account k (hex_text p.0) (f ∙ ap Some p.2) in account_same j k p.0 q.0 h i p.1 q.1 q.2
+      | inr (inr (inr (inr p))) ↦
+          let q = is_global k x.1 (f ∙ ap (λ (name : List ℕ). Some (name, x.1)) p.2) in
+          let same : p.0 ≡ q.0 = sym (network_back p.0 x.1 p.3) ∙ network_back q.0 x.1 q.2 in
+          p.1 ∙ ap GlobalConsensus same ∙ sym q.1
+    ]
+
+-- in front of the first parenthesis, and behind it
+cut_same : (a b c d : List ℕ) → lacks 40 a ≡ true → lacks 40 c ≡ true → a ++ 40 ∷ b ≡ c ++ 40 ∷ d → (a ≡ c) × (b ≡ d)
+cut_same [] b [] d h k e = (refl, cc e)
+cut_same [] b (y ∷ c) d h k e = let p = and_parts (not (eqb y 40)) (lacks 40 c) k in absurd (eqb-false y 40 (not_byte 40 y p.0) (cc e))
+cut_same (x ∷ a) b [] d h k e = let p = and_parts (not (eqb x 40)) (lacks 40 a) h in absurd (eqb-false x 40 (not_byte 40 x p.0) (cc e))
+cut_same (x ∷ a) b (y ∷ c) d h k e =
+    let p = and_parts (not (eqb x 40)) (lacks 40 a) h in
+    let q = and_parts (not (eqb y 40)) (lacks 40 c) k in
+    let tail : a ++ 40 ∷ b ≡ c ++ 40 ∷ d = cc e in
+    let head : x ≡ y = cc e in
+    let rest = cut_same a b c d p.1 q.1 tail in
+    (rw (head, rest.0) refl, rest.1)
+
+regrouped : (name inside : List ℕ) → name ++ codes "(" ++ inside ++ codes ")" ≡ name ++ 40 ∷ (inside ++ codes ")")
+regrouped name inside = append_assoc (name ++ codes "(") inside (codes ")") ∙ append_assoc name (codes "(") (inside ++ codes ")")
+
+pair_same : (x y : List ℕ × List ℕ) → x.0 ≡ y.0 → x.1 ≡ y.1 → x ≡ y
+pair_same x y h k = ap (λ (a : List ℕ). let p : List ℕ × List ℕ = (a, x.1) in p) h ∙ ap (λ (b : List ℕ). let p : List ℕ × List ℕ = (y.0, b) in p) k
+
+pub junction_same : (j k : Junction) → IsJunction j → IsJunction k → junction_text j ≡ junction_text k → j ≡ k
+junction_same j k h i e = by_name (named j) refl
+  where
+    by_name : (o : Option (List ℕ × List ℕ)) → named j ≡ o → j ≡ k
+    by_name None is =
+        let digits = text_behind_0x k (encode_lower (junction j)) (sym (text_spelled j is) ∙ e) in
+        let text : junction j ≡ junction k = encode_same (junction j) (junction k) h.1 i.1 digits in
+        let both = sym (junction_reads.again j [] h.0) ∙ ap (λ (t : List ℕ). junction_at (t ++ [])) text ∙ junction_reads.again k [] i.0 in
+        ap (λ (p : Junction × List ℕ). p.0) (same_some (j, []) (k, []) both)
+    by_name (Some x) is =
+        let y = text_by_name k (λ rest f. named_not_0x j x is rest (sym (e ∙ f))) in
+        let whole = sym (regrouped x.0 x.1) ∙ sym (text_named j x is) ∙ e ∙ text_named k y.0 y.1 ∙ regrouped y.0.0 y.0.1 in
+        let parts = cut_same x.0 (x.1 ++ codes ")") y.0.0 (y.0.1 ++ codes ")") (named_name j x is).0 (named_name k y.0 y.1).0 whole in
+        let inside : x.1 ≡ y.0.1 = append_cancel_right x.1 y.0.1 (codes ")") parts.1 in
+        let same : x ≡ y.0 = pair_same x y.0 parts.0 inside in
+        named_same j k x h i is (y.1 ∙ ap Some (sym same))
+
+junctions_same : (js ks : List Junction) → AllByRecursion IsJunction js → AllByRecursion IsJunction ks → map junction_text js ≡ map junction_text ks → js ≡ ks
+junctions_same [] [] h i e = refl
+junctions_same [] (k ∷ ks) h i e = absurd (cc e)
+junctions_same (j ∷ js) [] h i e = absurd (cc e)
+junctions_same (j ∷ js) (k ∷ ks) h i e =
+    let head : junction_text j ≡ junction_text k = cc e in
+    let tail : map junction_text js ≡ map junction_text ks = cc e in
+    rw (junction_same j k h.0 i.0 head, junctions_same js ks h.1 i.1 tail) refl
+
+pub one_location : (text : List ℕ) (l m : Location) → IsTextOf l text → IsTextOf m text → l ≡ m
+one_location text l m h k =
+    let parts : decimal l.parents ∷ map junction_text l.interior ≡ decimal m.parents ∷ map junction_text m.interior =
+    sym (location_parts l h.0) ∙ ap (slice_split (λ b. eqb b 47)) (sym h.1 ∙ k.1) ∙ location_parts m k.0 in
+    let first : decimal l.parents ≡ decimal m.parents = cc parts in
+    let rest : map junction_text l.interior ≡ map junction_text m.interior = cc parts in
+    let parents : l.parents ≡ m.parents = decimal_same l.parents m.parents (omega (arith, h.0.0)) (omega (arith, k.0.0)) first in
+    let interior : l.interior ≡ m.interior = junctions_same l.interior m.interior h.0.2 k.0.2 rest in
+    rw (parents, interior) refl

@@ -1,6 +1,6 @@
 -- The texts of junctions, paths and locations, as lists of their bytes. This project's own rule; numbers are in decimal, hex is
 -- lower case.
-use Rattle.std.specs.Prelude.{ℕ, ◌<◌, ◌≤◌, ◌^◌, List, [], ◌∷◌, ◌++◌, length, map, Option, Some, None, codes, Bool, ◌==◌, not}
+use Rattle.std.specs.Prelude.{◌≡◌, ℕ, ◌<◌, ◌≤◌, ◌^◌, List, [], ◌∷◌, ◌++◌, length, map, Option, Some, None, codes, Bool, ◌==◌, not}
 use Rattle.std.specs.Option.{option_map}
 use Rattle.std.specs.List.{AllByRecursion, list_all}
 use Rattle.std.specs.Fmt.{decimal}
@@ -61,6 +61,10 @@ IsJunction j = FitsJunction j × AllByRecursion (λ b. b < 2 ^ 8) (junction j)
 
 abbrev pub IsLocation : Location → Type 0
 IsLocation l = (l.parents < 2 ^ 8) × (length l.interior ≤ 8) × AllByRecursion IsJunction l.interior
+
+-- the text is that of the location
+abbrev pub IsTextOf : Location → List ℕ → Type 0
+IsTextOf l text = IsLocation l × (text ≡ location_text l)
 
 -- no byte of the text is c
 abbrev pub lacks : ℕ → List ℕ → Bool

@@ -1,10 +1,13 @@
 //! The laws of the spellings: a value has one spelling, and no spelling is a proper prefix of another of its type. And of the
 //! readers: each takes what is spelled so, whatever follows it, and nothing else.
 
+ghost use Rattle.std.specs.Prelude.{◌≡◌, ℕ, List};
+ghost use Rattle.locations.specs.declared.relative.Location.{Location};
 ghost use Rattle.scale_codec.specs.Spelling.{HasOneSpelling, IsPrefixFree};
 ghost use Rattle.scale_codec.specs.Reading.{Reads};
 ghost use Rattle.location_wire.specs.Spelling.{network, FitsNetwork, junction, FitsJunction, junctions, FitsJunctions, location, FitsLocation};
 ghost use Rattle.location_wire.specs.Reading.{network_at, junction_at, junctions_at, location_at};
+ghost use Rattle.location_wire.specs.Texts.{IsTextOf};
 
 /// A network, a junction, a list of junctions and a location have at most one spelling.
 pub fn law_of_one_spelling()
@@ -28,4 +31,9 @@ pub fn law_of_readers()
     ensures junction { Reads junction FitsJunction junction_at }
     ensures junctions { Reads junctions FitsJunctions junctions_at }
     ensures location { Reads location FitsLocation location_at }
+{}
+
+/// A text is that of one location at most.
+pub fn law_of_one_location()
+    ensures { (text : List ℕ) (l m : Location) → IsTextOf l text → IsTextOf m text → l ≡ m }
 {}

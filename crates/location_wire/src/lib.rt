@@ -10,7 +10,7 @@ mod text;
 mod text_reading;
 mod writing;
 
-pub use law::{law_of_no_prefix, law_of_one_spelling, law_of_readers};
+pub use law::{law_of_no_prefix, law_of_one_location, law_of_one_spelling, law_of_readers};
 pub use reading::{read_junction, read_junctions, read_location, read_network_id};
 pub use text::{location_text, path_text};
 pub use text_reading::{TextFault, read_location_text};

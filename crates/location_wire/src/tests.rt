@@ -209,9 +209,94 @@ fn paths_have_texts(rt: HostRuntime) -> Result<(), Fail> {
     Ok(())
 }
 
+/// Texts of locations, one for each form of junction.
+const TEXTS: [&str; 10] = [
+    "0",
+    "255",
+    "1/Parachain(2000)/0x0101030202020202020202020202020202020202020202020202020202020202020202",
+    "0/PalletInstance(50)/GeneralIndex(340282366920938463463374607431768211455)",
+    "2/GlobalConsensus(Polkadot)/Parachain(4294967295)",
+    "0/GlobalConsensus(Kusama)/GlobalConsensus(Westend)/GlobalConsensus(Rococo)/GlobalConsensus(Wococo)",
+    "0/0x0908/0x09070101/0x07",
+    "0/AccountId32(0xabababababababababababababababababababababababababababababababab)",
+    "0/0x07/0x07/0x07/0x07/0x07/0x07/0x07/0x07",
+    "3/0x020004/0x0802040114/0x06ff0101010101010101010101010101010101010101010101010101010101010101",
+];
+
+#[test]
+fn texts_are_read_and_written_back(rt: HostRuntime) -> Result<(), Fail> {
+    for text in TEXTS {
+        let location = read_location_text(rt.alloc(), text)?;
+        let again = location_text(rt.alloc(), &location)?;
+        assert_eq!(rt; again.as_str(), text);
+    }
+    assert_eq!(rt;
+        read_location_text(rt.alloc(), TEXTS[2])?,
+        sibling_account(&rt)
+    );
+    Ok(())
+}
+
+/// Texts of no location: other numbers, other hex, other names, spelled where there is a name, too many junctions.
+const BAD_TEXTS: [&str; 29] = [
+    "",
+    "/",
+    "0/",
+    "-",
+    "00",
+    "+1",
+    "256",
+    " 0",
+    "0 ",
+    "0/Parachain(02000)",
+    "0/Parachain(+1)",
+    "0/Parachain()",
+    "0/Parachain(4294967296)",
+    "0/Parachain(1",
+    "0/Parachain(1))",
+    "0/parachain(1)",
+    "0/PalletInstance(256)",
+    "0/GeneralIndex(340282366920938463463374607431768211456)",
+    "0/GlobalConsensus(2)",
+    "0/GlobalConsensus(Ethereum)",
+    "0/AccountId32(0xABababababababababababababababababababababababababababababababab)",
+    "0/AccountId32(0xab)",
+    "0/0x0432",
+    "0/0x0902",
+    "0/0X07",
+    "0/0x7",
+    "0/0x0707",
+    "0/0x0A",
+    "0/0x07/0x07/0x07/0x07/0x07/0x07/0x07/0x07/0x07",
+];
+
+#[test]
+fn other_texts_are_refused(rt: HostRuntime) {
+    for text in BAD_TEXTS {
+        assert_eq!(rt;
+            read_location_text(rt.alloc(), text).err(),
+            Some(TextFault::BadText),
+            "{text}"
+        );
+    }
+}
+
+#[test]
+fn refusals_have_texts(rt: HostRuntime) -> Result<(), Fail> {
+    for (fault, want) in [
+        (TextFault::BadText, "not the text of a location"),
+        (TextFault::Memory, "out of memory"),
+    ] {
+        let text = fault.to_string(rt.alloc())?;
+        assert_eq!(rt; text.as_str(), want);
+    }
+    Ok(())
+}
+
 #[test]
 fn the_laws_can_be_called() {
     law_of_one_spelling();
     law_of_no_prefix();
     law_of_readers();
+    law_of_one_location();
 }

@@ -1,15 +1,15 @@
 //! Texts read as locations. The parts are read in a plain way, which may take more than the texts of the parts; in the end the
 //! text of what was read is compared with what was given.
 
-ghost use Rattle.std.specs.Prelude.{◌≡◌, ◌≢◌, ◌≤◌, ◌++◌, ◌==◌, ℕ, List, length, map, codes, IfOk, IfErr, IsTrue, MatchOption};
+ghost use Rattle.std.specs.Prelude.{◌≡◌, ◌≢◌, ◌≤◌, ◌++◌, ◌==◌, ℕ, List, length, map, codes, IfOk, IfSome, IsTrue, MatchOption, MatchResult};
 ghost use Rattle.std.specs.List.{AllByRecursion, slice_split};
 ghost use Rattle.hex.specs.Hex.{encode_lower};
 ghost use Rattle.locations.specs.declared.grammar.Junction.{Junction};
 ghost use Rattle.locations.specs.declared.grammar.NetworkId.{NetworkId};
 ghost use Rattle.locations.specs.declared.relative.Location.{Location};
 ghost use Rattle.location_wire.specs.Spelling.{junction};
-ghost use Rattle.location_wire.specs.Texts.{lacks, network_name, named, junction_text, location_text, IsJunction, IsLocation};
-ghost use Rattle.location_wire.specs.declared.text_reading.TextFault.TheVariants.{BadText, Memory};
+ghost use Rattle.location_wire.specs.Texts.{lacks, network_name, named, junction_text, IsJunction, IsLocation, IsTextOf};
+ghost use Rattle.location_wire.specs.TextFaults.{IsTextCause};
 
 use crate::parts::junction_of;
 use crate::text::location_text;
@@ -57,12 +57,21 @@ fn name_and_inside(part: &str) -> Option<(&str, &str)>
     Some((name, inside))
 }
 
+/// The junction that the bytes begin with.
+fn front_junction(bytes: &[u8]) -> Option<Junction>
+    ensures found { (j : Junction) → IsJunction j → bytes.now ≡ junction j → result ≡ Some j }
+    ensures fits { IfSome result IsJunction }
+{
+    junction_of(&mut Cursor::new(bytes)).ok()
+}
+
 /// The junction that hex digits spell.
 fn spelled_junction(alloc: Global, digits: &str) -> Result<Option<Junction>, AllocError>
-    ensures { IfOk result (λ o. (j : Junction) → IsJunction j → digits.now ≡ encode_lower (junction j) → o ≡ Some j) }
+    ensures found { IfOk result (λ o. (j : Junction) → IsJunction j → digits.now ≡ encode_lower (junction j) → o ≡ Some j) }
+    ensures fits { IfOk result (λ o. IfSome o IsJunction) }
 {
     match hex::decode(alloc, digits) {
-        Ok(bytes) => Ok(junction_of(&mut Cursor::new(bytes.as_slice())).ok()),
+        Ok(bytes) => Ok(front_junction(bytes.as_slice())),
         Err(fault) => match fault {
             FromHexError::OutOfMemory => Err(AllocError),
             _ => Ok(None),
@@ -71,7 +80,8 @@ fn spelled_junction(alloc: Global, digits: &str) -> Result<Option<Junction>, All
 }
 
 fn network_of_name(name: &str) -> Option<NetworkId>
-    ensures { (net : NetworkId) → network_name net ≡ Some name.now → result ≡ Some net }
+    ensures found { (net : NetworkId) → network_name net ≡ Some name.now → result ≡ Some net }
+    ensures named { IfSome result (λ net. network_name net ≡ Some name.now) }
 {
     match name {
         "Polkadot" => Some(NetworkId::Polkadot),
@@ -83,6 +93,14 @@ fn network_of_name(name: &str) -> Option<NetworkId>
     }
 }
 
+fn global_of_text(inside: &str) -> Option<Junction>
+    ensures found { (j : Junction) → IsJunction j → named j ≡ Some (codes "GlobalConsensus", inside.now) → result ≡ Some j }
+    ensures fits { IfSome result IsJunction }
+{
+    let network = network_of_name(inside)?;
+    Some(Junction::GlobalConsensus(network))
+}
+
 /// What stands behind the `0x` at the front.
 fn behind_0x(text: &str) -> Option<&str>
     ensures { MatchOption result ((rest : List ℕ) → text.now ≢ codes "0x" ++ rest) (λ x. text.now ≡ codes "0x" ++ x.now) }
@@ -91,28 +109,32 @@ fn behind_0x(text: &str) -> Option<&str>
 }
 
 fn parachain_of_text(inside: &str) -> Option<Junction>
-    ensures { (j : Junction) → IsJunction j → named j ≡ Some (codes "Parachain", inside.now) → result ≡ Some j }
+    ensures found { (j : Junction) → IsJunction j → named j ≡ Some (codes "Parachain", inside.now) → result ≡ Some j }
+    ensures fits { IfSome result IsJunction }
 {
     let id = inside.parse().ok()?;
     Some(Junction::Parachain(id))
 }
 
 fn pallet_of_text(inside: &str) -> Option<Junction>
-    ensures { (j : Junction) → IsJunction j → named j ≡ Some (codes "PalletInstance", inside.now) → result ≡ Some j }
+    ensures found { (j : Junction) → IsJunction j → named j ≡ Some (codes "PalletInstance", inside.now) → result ≡ Some j }
+    ensures fits { IfSome result IsJunction }
 {
     let index = inside.parse().ok()?;
     Some(Junction::PalletInstance(index))
 }
 
 fn general_index_of_text(inside: &str) -> Option<Junction>
-    ensures { (j : Junction) → IsJunction j → named j ≡ Some (codes "GeneralIndex", inside.now) → result ≡ Some j }
+    ensures found { (j : Junction) → IsJunction j → named j ≡ Some (codes "GeneralIndex", inside.now) → result ≡ Some j }
+    ensures fits { IfSome result IsJunction }
 {
     let index = inside.parse().ok()?;
     Some(Junction::GeneralIndex(index))
 }
 
 fn account_of_text(inside: &str) -> Option<Junction>
-    ensures { (j : Junction) → IsJunction j → named j ≡ Some (codes "AccountId32", inside.now) → result ≡ Some j }
+    ensures found { (j : Junction) → IsJunction j → named j ≡ Some (codes "AccountId32", inside.now) → result ≡ Some j }
+    ensures fits { IfSome result IsJunction }
 {
     let digits = behind_0x(inside)?;
     let id = <[u8; 32]>::from_hex(digits).ok()?;
@@ -121,20 +143,22 @@ fn account_of_text(inside: &str) -> Option<Junction>
 
 /// The junction of a name and what stands in its parentheses.
 fn named_junction(name: &str, inside: &str) -> Option<Junction>
-    ensures { (j : Junction) → IsJunction j → named j ≡ Some (name.now, inside.now) → result ≡ Some j }
+    ensures found { (j : Junction) → IsJunction j → named j ≡ Some (name.now, inside.now) → result ≡ Some j }
+    ensures fits { IfSome result IsJunction }
 {
     match name {
         "Parachain" => parachain_of_text(inside),
         "PalletInstance" => pallet_of_text(inside),
         "GeneralIndex" => general_index_of_text(inside),
         "AccountId32" => account_of_text(inside),
-        "GlobalConsensus" => network_of_name(inside).map(Junction::GlobalConsensus),
+        "GlobalConsensus" => global_of_text(inside),
         _ => None,
     }
 }
 
 fn junction_of_text(alloc: Global, part: &str) -> Result<Option<Junction>, AllocError>
-    ensures { IfOk result (λ o. (j : Junction) → IsJunction j → part.now ≡ junction_text j → o ≡ Some j) }
+    ensures found { IfOk result (λ o. (j : Junction) → IsJunction j → part.now ≡ junction_text j → o ≡ Some j) }
+    ensures fits { IfOk result (λ o. IfSome o IsJunction) }
 {
     if let Some(digits) = behind_0x(part) {
         return spelled_junction(alloc, digits);
@@ -147,7 +171,8 @@ fn junction_of_text(alloc: Global, part: &str) -> Result<Option<Junction>, Alloc
 
 /// A junction for each part, at most eight.
 fn interior_of_texts(alloc: Global, parts: &[&str]) -> Result<Option<Junctions>, AllocError>
-    ensures { IfOk result (λ o. (js : List Junction) → length js ≤ 8 → AllByRecursion IsJunction js → map (λ x. x.now) parts.now ≡ map junction_text js → o ≡ Some js) }
+    ensures found { IfOk result (λ o. (js : List Junction) → length js ≤ 8 → AllByRecursion IsJunction js → map (λ x. x.now) parts.now ≡ map junction_text js → o ≡ Some js) }
+    ensures fits { IfOk result (λ o. IfSome o (λ js. (length js ≤ 8) × AllByRecursion IsJunction js)) }
 {
     let mut junctions = Junctions::empty();
     for part in parts {
@@ -163,7 +188,8 @@ fn interior_of_texts(alloc: Global, parts: &[&str]) -> Result<Option<Junctions>,
 
 /// The only location that the text can be of.
 fn location_of_text(alloc: Global, text: &str) -> Result<Option<Location>, AllocError>
-    ensures { IfOk result (λ o. (l : Location) → IsLocation l → text.now ≡ location_text l → o ≡ Some l) }
+    ensures found { IfOk result (λ o. (l : Location) → IsTextOf l text.now → o ≡ Some l) }
+    ensures fits { IfOk result (λ o. IfSome o IsLocation) }
 {
     let parts = parts_of(alloc, text)?;
     let Some((first, steps)) = parts.as_slice().split_first() else {
@@ -178,12 +204,10 @@ fn location_of_text(alloc: Global, text: &str) -> Result<Option<Location>, Alloc
     Ok(Some(Location { parents, interior }))
 }
 
-/// Reads the text of a location, as `location_text` writes it and no other, as `1/Parachain(2000)`. A text is that of one location
-/// at most.
+/// Reads the text of a location, as `location_text` writes it and no other, as `1/Parachain(2000)`. `BadText` comes exactly where
+/// the text is that of no location.
 pub fn read_location_text(alloc: Global, s: &str) -> Result<Location, TextFault>
-    ensures text { IfOk result (λ l. s.now ≡ location_text l) }
-    ensures only { IfOk result (λ l. (m : Location) → IsLocation m → s.now ≡ location_text m → m ≡ l) }
-    ensures bad { IfErr result (λ e. e ≡ BadText → (m : Location) → IsLocation m → s.now ≢ location_text m) }
+    ensures { MatchResult result (λ l. IsTextOf l s.now) (IsTextCause s.now) }
 {
     let Some(location) = location_of_text(alloc, s)? else {
         return Err(TextFault::BadText);

@@ -6,4 +6,8 @@ use Rattle.location_wire.proofs.text_reading.interior_of_texts.Given as goal
 
 -- the junctions so far are the first of those that the texts are of
 abbrev pub invariant-loop-part : goal.invariant-loop-part
-invariant-loop-part l = (js : List Junction) → length js ≤ 8 → AllByRecursion IsJunction js → map (λ x. x.now) l.parts ≡ map junction_text js → l.junctions ≡ take l.part-index js
+invariant-loop-part l = record {
+  few : length l.junctions ≤ 8;
+  fits : AllByRecursion IsJunction l.junctions;
+  found : (js : List Junction) → length js ≤ 8 → AllByRecursion IsJunction js → map (λ x. x.now) l.parts ≡ map junction_text js → l.junctions ≡ take l.part-index js;
+}

@@ -3,27 +3,27 @@ use Rattle.std.specs.List.{slice_split}
 use Rattle.location_wire.proofs.TextLaws.{location_parts, no_parts, first_part, parents_read, read_as}
 use Rattle.location_wire.proofs.text_reading.location_of_text.Goals as goal
 
-pub returns-in_default : goal.returns-in_default
-returns-in_default c = λ l h e.
-    let parts = c.in_ok-parts.ensures ∙ ap (slice_split (λ b. eqb b 47)) e ∙ location_parts l h in
+pub returns-in_default-clause-found : goal.returns-in_default-clause-found
+returns-in_default-clause-found c = λ l h.
+    let parts = c.in_ok-parts.ensures ∙ ap (slice_split (λ b. eqb b 47)) h.1 ∙ location_parts l h.0 in
     absurd (no_parts c.in_ok-parts.parts.items _ _ parts (ap length (sym c.as_slice.ensures.value) ∙ c.in_default.ensures.cases))
 
-pub returns-in_default-parse : goal.returns-in_default-parse
-returns-in_default-parse c = λ l h e.
-    let parts = c.in_ok-parts.ensures ∙ ap (slice_split (λ b. eqb b 47)) e ∙ location_parts l h in
+pub returns-in_default-parse-clause-found : goal.returns-in_default-parse-clause-found
+returns-in_default-parse-clause-found c = λ l h.
+    let parts = c.in_ok-parts.ensures ∙ ap (slice_split (λ b. eqb b 47)) h.1 ∙ location_parts l h.0 in
     let first = first_part c.in_ok-parts.parts.items c.in-Some.steps.now c.in-Some.first.now _ _ parts (sym c.as_slice.ensures.value ∙ c.in-Some.ensures.cases.0) in
-    absurd (cc (parents_read l c.in-Some.first.now.now c.parse.result h c.parse.ensures.value.0 first.0, c.in_default-parse.is))
+    absurd (cc (parents_read l c.in-Some.first.now.now c.parse.result h.0 c.parse.ensures.value.0 first.0, c.in_default-parse.is))
 
-pub returns-in_default-2 : goal.returns-in_default-2
-returns-in_default-2 c = λ l h e.
-    let parts = c.in_ok-parts.ensures ∙ ap (slice_split (λ b. eqb b 47)) e ∙ location_parts l h in
+pub returns-in_default-2-clause-found : goal.returns-in_default-2-clause-found
+returns-in_default-2-clause-found c = λ l h.
+    let parts = c.in_ok-parts.ensures ∙ ap (slice_split (λ b. eqb b 47)) h.1 ∙ location_parts l h.0 in
     let first = first_part c.in_ok-parts.parts.items c.in-Some.steps.now c.in-Some.first.now _ _ parts (sym c.as_slice.ensures.value ∙ c.in-Some.ensures.cases.0) in
-    absurd (cc (c.in_ok-interior.ensures l.interior h.1 h.2 first.1, c.in_default-2.is))
+    absurd (cc (c.in_ok-interior.ensures.found l.interior h.0.1 h.0.2 first.1, c.in_default-2.is))
 
-pub returns : goal.returns
-returns c = λ l h e.
-    let parts = c.in_ok-parts.ensures ∙ ap (slice_split (λ b. eqb b 47)) e ∙ location_parts l h in
+pub returns-clause-found : goal.returns-clause-found
+returns-clause-found c = λ l h.
+    let parts = c.in_ok-parts.ensures ∙ ap (slice_split (λ b. eqb b 47)) h.1 ∙ location_parts l h.0 in
     let first = first_part c.in_ok-parts.parts.items c.in-Some.steps.now c.in-Some.first.now _ _ parts (sym c.as_slice.ensures.value ∙ c.in-Some.ensures.cases.0) in
-    let interior = read_as c.in_ok-interior.field-0 c.in-Some-2.interior l.interior c.in-Some-2.is (c.in_ok-interior.ensures l.interior h.1 h.2 first.1) in
-    let parents : c.in-Ok.parents ≡ l.parents = cc (parents_read l c.in-Some.first.now.now c.parse.result h c.parse.ensures.value.0 first.0, c.in-Ok.is) in
+    let interior = read_as c.in_ok-interior.field-0 c.in-Some-2.interior l.interior c.in-Some-2.is (c.in_ok-interior.ensures.found l.interior h.0.1 h.0.2 first.1) in
+    let parents : c.in-Ok.parents ≡ l.parents = cc (parents_read l c.in-Some.first.now.now c.parse.result h.0 c.parse.ensures.value.0 first.0, c.in-Ok.is) in
     rw (parents, interior) refl
