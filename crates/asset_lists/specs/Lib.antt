@@ -1,0 +1,4 @@
+pub mod Units
+pub mod UnitLaws
+pub mod Lists
+pub mod Moves
