@@ -1,2 +1,4 @@
 pub mod Rising
 pub mod KeptList
+pub mod Naming
+pub mod Sorting
