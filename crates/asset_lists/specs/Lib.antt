@@ -1,4 +1,5 @@
 pub mod Units
 pub mod UnitLaws
+pub mod DerivedOrder
 pub mod Lists
 pub mod Moves

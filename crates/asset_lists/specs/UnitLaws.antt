@@ -1,13 +1,13 @@
 -- The orders of instances, ids, units and assets are total, and only equal values tie.
 use Rattle.std.specs.Prelude.{◌≡◌, ℕ, List, [], ◌∷◌, Option, Some, None, refl, get_or}
-use Rattle.std.proofs.Common.{sym, ap, ◌∙◌, subst}
+use Rattle.std.proofs.Common.{sym, ap, subst}
 use Rattle.std.specs.declared.cmp.Ordering.{Ordering}
 use Rattle.std.specs.declared.cmp.Ordering.TheVariants.{Less, Equal, Greater}
 use Rattle.std.specs.Bool.{Decides}
 use Rattle.std.specs.Option.{option_cmp}
 use Rattle.std.specs.Ordering.{nat_cmp, on, then_cmp, ordering_then, eq_by_cmp}
 use Rattle.std.specs.Cmp.{IsTotalOrder, nat_cmp_total, on_total, then_total}
-use Rattle.std.specs.Cmp.Lexicographic.{slice_cmp, nat_list_cmp_total, options_total}
+use Rattle.std.specs.Cmp.Lexicographic.{slice_cmp, nat_list_cmp_total, options_total, lists_total}
 use Rattle.std.specs.FinMap.{IsAntisymmetric, nat_cmp-IsAntisymmetric, slice_cmp-IsAntisymmetric}
 use Rattle.locations.specs.declared.relative.Location.{Location}
 use Rattle.locations.specs.Order.{location_cmp, IsExactOrder}
@@ -19,7 +19,7 @@ use Rattle.asset_lists.specs.declared.units.Instance.TheVariants.{Undefined, Ind
 use Rattle.asset_lists.specs.declared.units.Fun.{Fun}
 use Rattle.asset_lists.specs.declared.units.Fun.TheVariants.{Fungible, NonFungible}
 use Rattle.asset_lists.specs.declared.units.Asset.{Asset}
-use Rattle.asset_lists.specs.Units.{instance_fields, instance_cmp, asset_id_cmp, Unit, instance_in, amount_in, unit_of, amount_of, kind_index, unit_cmp, asset_cmp}
+use Rattle.asset_lists.specs.Units.{instance_fields, instance_cmp, asset_id_cmp, Unit, instance_in, amount_in, unit_of, amount_of, kind_index, unit_cmp, asset_cmp, assets_cmp}
 
 -- the instance that the fields came from
 instance_of : List (List ℕ) → Instance
@@ -134,3 +134,9 @@ units_exactly = exact_order unit_total unit_exact
 
 pub assets_exactly : IsExactOrder asset_cmp
 assets_exactly = exact_order asset_total asset_exact
+
+pub assets_total : IsTotalOrder assets_cmp
+assets_total = lists_total asset_total
+
+pub assets_decide : (xs ys : List Asset) → Decides (eq_by_cmp assets_cmp xs ys) (xs ≡ ys)
+assets_decide = tie_decides assets_total (slice_cmp-IsAntisymmetric asset_exact)

@@ -1,7 +1,7 @@
 -- What an asset is an amount of, its unit, and the order of units: fungibles before instances, then by id,
 -- then by instance. Ids and instances are ordered by variant, then by their field. It is this project's
 -- own rule; the XCM format asks for a sorted list.
-use Rattle.std.specs.Prelude.{◌≡◌, ℕ, Bool, List, [], ◌∷◌, Option, Some, None, nat_eq}
+use Rattle.std.specs.Prelude.{ℕ, Bool, List, [], ◌∷◌, Option, Some, None, nat_eq}
 use Rattle.std.specs.declared.cmp.Ordering.{Ordering}
 use Rattle.std.specs.declared.cmp.Ordering.TheVariants.{Less, Greater}
 use Rattle.std.specs.Option.{option_cmp}
@@ -72,3 +72,7 @@ asset_cmp = then_cmp (on unit_of unit_cmp) (on amount_of nat_cmp)
 -- the unit of a stands before that of b
 abbrev pub is_before : Asset → Asset → Bool
 is_before a b = is_lt (unit_cmp (unit_of a) (unit_of b))
+
+-- asset by asset; it tells two lists apart
+abbrev pub assets_cmp : List Asset → List Asset → Ordering
+assets_cmp = slice_cmp asset_cmp
