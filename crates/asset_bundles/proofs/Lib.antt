@@ -1,0 +1,5 @@
+pub mod Finding
+pub mod Listing
+pub mod Minting
+pub mod Parts
+pub mod Giving

@@ -1,0 +1,10 @@
+use Rattle.std.proofs.Common.{ap, ◌∙◌, None}
+use Rattle.amounts.specs.Amounts.{amount}
+use Rattle.asset_bundles.specs.Bundles.{found}
+use Rattle.asset_bundles.specs.BundleLaws.{found-holding}
+use Rattle.asset_bundles.proofs.bundle.AssetBundle.amount.Goals as goal
+
+pub returns : goal.returns
+returns c =
+    c.held.ensures ∙ ap (found (c.copy.result, None)) c.as_slice.ensures.value ∙ ap (λ i. found (i, None) c.self.inside.items.items) c.copy.ensures
+    ∙ found-holding _ _ c.self.invariant ∙ ap (λ b. amount b (c.args.id.now, None)) c.self.view_is

@@ -1,0 +1,16 @@
+use Rattle.std.proofs.Common.{ap, sym, ◌∙◌, None}
+use Rattle.amounts.specs.Amounts.{total}
+use Rattle.asset_lists.specs.declared.units.Kind.{Kind}
+use Rattle.asset_bundles.specs.Bundles.{found, bundle_of, is_asset}
+use Rattle.asset_bundles.specs.BundleLaws.{total-bundle_of, found-holding}
+use Rattle.asset_bundles.proofs.Finding.{total-fungible}
+use Rattle.asset_bundles.proofs.items.total.Goals as goal
+
+pub returns-in-Fungible : goal.returns-in-Fungible
+returns-in-Fungible c =
+    c.held.ensures ∙ ap (λ i. found (i, None) c.args.items.now) c.copy.ensures ∙ found-holding c.args.items.now _ c.requires
+    ∙ total-fungible c.args.id.now (bundle_of c.args.items.now) ∙ ap (λ k. total (is_asset c.args.id.now k) (bundle_of c.args.items.now)) (sym c.in-Fungible.is)
+
+pub returns-in-Class : goal.returns-in-Class
+returns-in-Class c =
+    c.count.ensures ∙ sym (total-bundle_of (is_asset c.args.id.now Kind.Class) c.args.items.now) ∙ ap (λ k. total (is_asset c.args.id.now k) (bundle_of c.args.items.now)) (sym c.in-Class.is)

@@ -1,0 +1,58 @@
+-- A bundle and the list of its assets tell the same.
+use Rattle.std.specs.Prelude.{◌≡◌, suc, Bool, List, [], ◌∷◌, length, refl}
+use Rattle.std.specs.Ordering.{eq_by_cmp}
+use Rattle.std.proofs.Common.{sym, ap, ◌∙◌}
+use Rattle.std.specs.List.Sorted.{IsStrictlySortedBy}
+use Rattle.amounts.specs.Rows.{sum_where, is_sorted_of_keys, sum_where-find}
+use Rattle.amounts.specs.Amounts.{amount, total, rows, empty, same_amounts, amount-empty}
+use Rattle.amounts.specs.Laws.{amount-from_rows, total-from_rows, rows-from_rows}
+use Rattle.asset_lists.specs.declared.units.Fun.{Fun}
+use Rattle.asset_lists.specs.declared.units.Asset.{Asset}
+use Rattle.asset_lists.specs.Units.{Unit, unit_cmp, instance_in, amount_in}
+use Rattle.asset_bundles.specs.Bundles.{Bundle, unit_keys, rows_of, bundle_of, fun_of, assets_at, held_assets, IsHolding, found}
+
+pub same_bundles : (m n : Bundle) → ((u : Unit) → amount m u ≡ amount n u) → m ≡ n
+same_bundles = same_amounts unit_keys
+
+pub amount-bundle_of : (xs : List Asset) (u : Unit) → amount (bundle_of xs) u ≡ sum_where (eq_by_cmp unit_cmp u) (rows_of xs)
+unfolding bundle_of
+amount-bundle_of xs u = amount-from_rows unit_keys (rows_of xs) u
+
+pub total-bundle_of : (p : Unit → Bool) (xs : List Asset) → total p (bundle_of xs) ≡ sum_where p (rows_of xs)
+unfolding bundle_of
+total-bundle_of p xs = total-from_rows unit_keys p (rows_of xs)
+
+fun_back : (f : Fun) → fun_of (instance_in f) (amount_in f) ≡ f
+fun_back (Fun.Fungible amount) = refl
+fun_back (Fun.NonFungible instance) = refl
+
+pub assets_back : (xs : List Asset) → assets_at (rows_of xs) ≡ xs
+assets_back [] = refl
+assets_back (a ∷ xs) = λ i. record { id = a.id; fun = fun_back a.fun i } ∷ assets_back xs i
+
+-- the rows of a holding's bundle are its assets, and so is the list of the bundle
+pub rows-holding : (xs : List Asset) → IsHolding xs → rows (bundle_of xs) ≡ rows_of xs
+unfolding bundle_of
+rows-holding xs h = rows-from_rows unit_keys (rows_of xs) (is_sorted_of_keys unit_cmp (rows_of xs) h.rising) h.positive
+
+pub held_assets-holding : (xs : List Asset) → IsHolding xs → held_assets (bundle_of xs) ≡ xs
+unfolding held_assets
+held_assets-holding xs h = ap assets_at (rows-holding xs h) ∙ assets_back xs
+
+-- what is held of a unit is found at its one place
+pub found-holding : (xs : List Asset) (u : Unit) → IsHolding xs → found u xs ≡ amount (bundle_of xs) u
+found-holding xs u h = sym (sum_where-find unit_keys u (rows_of xs) (is_sorted_of_keys unit_cmp (rows_of xs) h.rising)) ∙ sym (amount-bundle_of xs u)
+
+pub bundle_of-none : bundle_of [] ≡ empty
+bundle_of-none = same_bundles _ _ (λ u. amount-bundle_of [] u ∙ sym (amount-empty unit_keys u))
+
+pub none_held : IsHolding []
+unfolding IsStrictlySortedBy
+none_held = record { rising = tt; positive = tt }
+
+length-rows_of : (xs : List Asset) → length (rows_of xs) ≡ length xs
+length-rows_of [] = refl
+length-rows_of (a ∷ xs) = ap (λ n. suc n) (length-rows_of xs)
+
+pub kinds-holding : (xs : List Asset) → IsHolding xs → length xs ≡ length (rows (bundle_of xs))
+kinds-holding xs h = sym (length-rows_of xs) ∙ sym (ap length (rows-holding xs h))

@@ -1,0 +1,10 @@
+pub mod Bundles
+pub mod BundleLaws
+pub mod Filters
+pub mod Changed
+pub mod Joins
+pub mod Landing
+pub mod Books
+pub mod Laws
+pub mod Portions
+pub mod Taking

@@ -1,0 +1,85 @@
+-- Lists of assets with other amounts, as the code makes them.
+use Rattle.std.specs.Ordering.{eq_by_cmp}
+use Rattle.std.specs.Prelude.{Bool, not, ℕ, zero, suc, ◌-◌, ◌≤◌, min, take, if◌then◌else◌, List, [], ◌∷◌, Option, Some, None, ⊤}
+use Rattle.asset_lists.specs.declared.units.AssetId.{AssetId}
+use Rattle.asset_lists.specs.declared.units.Instance.{Instance}
+use Rattle.asset_lists.specs.declared.units.Fun.{Fun}
+use Rattle.asset_lists.specs.declared.units.Asset.{Asset}
+use Rattle.asset_lists.specs.declared.filters.Wild.{Wild}
+use Rattle.asset_lists.specs.declared.filters.Filter.{Filter}
+use Rattle.asset_lists.specs.Units.{Unit, unit_of, amount_of, unit_cmp}
+use Rattle.asset_lists.specs.Lists.{IsAssetList}
+use Rattle.asset_bundles.specs.Bundles.{found}
+use Rattle.asset_bundles.specs.Filters.{is_all_of}
+
+abbrev pub fun_with : Fun → ℕ → Fun
+fun_with (Fun.Fungible amount) n = Fun.Fungible n
+fun_with (Fun.NonFungible instance) n = Fun.NonFungible instance
+
+-- the same asset with this amount; an instance stays as it is
+abbrev pub asset_with : Asset → ℕ → Asset
+asset_with a n = record { id = a.id; fun = fun_with a.fun n }
+
+-- in front of others, if the amount isn't 0
+abbrev pub kept : Asset → ℕ → List Asset → List Asset
+kept a zero rest = rest
+kept a (suc n) rest = asset_with a (suc n) ∷ rest
+
+-- each asset with the amount that f gives, without those that have none
+abbrev pub changed : (Unit → ℕ → ℕ) → List Asset → List Asset
+changed f [] = []
+changed f (a ∷ xs) = kept a (f (unit_of a) (amount_of a)) (changed f xs)
+
+-- an instance stays one or goes
+abbrev pub FitsInstances : (Unit → ℕ → ℕ) → Type 0
+FitsInstances f = (id : AssetId) (instance : Instance) → f (id, Some instance) 1 ≤ 1
+
+-- what is taken of each unit where these are asked for
+abbrev pub common_with : List Asset → Unit → ℕ → ℕ
+common_with list unit n = min n (found unit list)
+
+-- what is left of each unit where the listed assets are taken
+abbrev pub left_of : List Asset → Unit → ℕ → ℕ
+left_of taken unit n = n - found unit taken
+
+abbrev pub wanted_wild : Wild → Unit → ℕ → ℕ
+wanted_wild Wild.All unit n = n
+wanted_wild (Wild.AllOf id fun) unit n = if is_all_of id fun unit then n else 0
+wanted_wild (Wild.AllCounted count) unit n = n
+wanted_wild (Wild.AllOfCounted id fun count) unit n = if is_all_of id fun unit then n else 0
+
+-- what a filter wants of each unit, were there no count
+abbrev pub wanted : Filter → Unit → ℕ → ℕ
+wanted (Filter.Definite list) unit n = common_with list unit n
+wanted (Filter.Wild wild) unit n = wanted_wild wild unit n
+
+abbrev pub count_wild : Wild → Option ℕ
+count_wild Wild.All = None
+count_wild (Wild.AllOf id fun) = None
+count_wild (Wild.AllCounted count) = Some count
+count_wild (Wild.AllOfCounted id fun count) = Some count
+
+abbrev pub count_of_filter : Filter → Option ℕ
+count_of_filter (Filter.Definite list) = None
+count_of_filter (Filter.Wild wild) = count_wild wild
+
+abbrev pub at_most : Option ℕ → List Asset → List Asset
+at_most None xs = xs
+at_most (Some n) xs = take n xs
+
+-- what a filter takes of a list in holding order
+abbrev pub chosen : Filter → List Asset → List Asset
+chosen filter xs = at_most (count_of_filter filter) (changed (wanted filter) xs)
+
+-- the assets that a filter names are a list
+abbrev pub IsListed : Filter → Type 0
+IsListed (Filter.Definite list) = IsAssetList list
+IsListed (Filter.Wild wild) = ⊤
+
+-- so much of a unit taken from the first asset that is of it
+abbrev pub spent : Unit → ℕ → List Asset → List Asset
+spent unit n [] = []
+spent unit n (a ∷ xs) = if eq_by_cmp unit_cmp unit (unit_of a) then kept a (amount_of a - n) xs else (a ∷ spent unit n xs)
+
+abbrev pub is_other : Unit → Asset → Bool
+is_other unit a = not (eq_by_cmp unit_cmp unit (unit_of a))

@@ -1,0 +1,155 @@
+//! Bundles of assets.
+ghost use Rattle.std.specs.Prelude.{◌≡◌, ℕ, ◌≤◌, ◌↔◌, None, length, IsTrue, IsFalse, IfOk, OnOk, OnErr, MatchResult};
+ghost use Rattle.amounts.specs.Amounts.{empty, amount, total, rows, minus, difference, IsWithin};
+ghost use Rattle.asset_lists.specs.Units.{Unit, unit_of, amount_of};
+ghost use Rattle.asset_lists.specs.Lists.{has_zero};
+ghost use Rattle.asset_lists.specs.Moves.{count_of};
+ghost use Rattle.asset_bundles.specs.Bundles.{bundle_of, held_assets, is_asset};
+ghost use Rattle.asset_bundles.specs.Filters.{Taken, Left};
+ghost use Rattle.asset_bundles.specs.Taking.{IsTakeFault};
+
+use crate::TakeFault;
+use crate::items::{copied, held, holds, total};
+use crate::portions::{chosen, cut, without};
+use crate::spending::give_up;
+use asset_lists::{Asset, AssetId, Assets, Filter, Fun, Kind};
+use std::alloc::{AllocError, Global};
+use std::marker::Model;
+
+/// Assets that are held. A bundle isn't copied, and isn't dropped, not even when it is empty: it is spent
+/// by a call that takes it.
+pub struct AssetBundle {
+    pub(crate) items: Vec<Asset>,
+}
+
+impl Model for AssetBundle {
+    ghost use Rattle.std.specs.FinMap as map;
+    ghost use Rattle.std.specs.Coded.{coded_ℕ, coded×, coded_option};
+    ghost use Rattle.asset_lists.specs.contracts.units.AssetId.{the_row as asset_id};
+    ghost use Rattle.asset_lists.specs.contracts.units.Instance.{the_row as instance};
+    ghost use Rattle.asset_bundles.specs.Bundles.{Bundle, bundle_of, IsHolding};
+
+    ghost Value = { Bundle };
+
+    ghost coded = { map.code (coded× asset_id.coded (coded_option instance.coded)) coded_ℕ };
+
+    ghost view = { λ b. bundle_of b.items.items };
+
+    ghost invariant = { λ b. IsHolding b.items.items };
+}
+
+impl AssetBundle {
+    /// A bundle with nothing.
+    pub fn empty(alloc: Global) -> AssetBundle
+        ensures { result ≡ empty }
+    {
+        AssetBundle {
+            items: Vec::new(alloc),
+        }
+    }
+
+    /// Makes units: the bundle of just these assets, in any order.
+    pub fn mint(alloc: Global, items: &[Asset]) -> Result<AssetBundle, AllocError>
+        requires once { (unit : Unit) → count_of unit items.now ≤ 1 }
+        requires no_zero { IsFalse (has_zero items.now) }
+        ensures { IfOk result (λ goods. goods ≡ bundle_of items.now) }
+    {
+        let mut made = copied(alloc, items)?;
+        made.sort_unstable();
+        Ok(AssetBundle { items: made })
+    }
+
+    /// Gives up one asset, which is held in full.
+    pub fn spend(&mut self, asset: &Asset)
+        requires { amount_of asset.now ≤ amount self.old (unit_of asset.now) }
+        ensures { self.new ≡ minus self.old (unit_of asset.now) (amount_of asset.now) }
+    {
+        give_up(&mut self.items, asset);
+    }
+
+    /// Gives up all units.
+    pub fn melt(self) {
+        let AssetBundle { items: _ } = self;
+    }
+
+    /// How many kinds are held: a kind is one fungible id or one instance.
+    pub fn kinds(&self) -> usize
+        ensures { result ≡ length (rows self.now) }
+    {
+        self.items.len()
+    }
+
+    /// The amount of a fungible asset in its smallest unit, 0 where none is held.
+    pub fn amount(&self, id: &AssetId) -> u128
+        ensures { result ≡ amount self.now (id.now, None) }
+    {
+        let asset = Asset {
+            id: id.copy(),
+            fun: Fun::Fungible(0),
+        };
+        held(self.items.as_slice(), &asset)
+    }
+
+    /// The amount of a fungible asset in its smallest unit, or the number of instances of a class.
+    pub fn total(&self, id: &AssetId, kind: Kind) -> u128
+        ensures { result ≡ total (is_asset id.now kind) self.now }
+    {
+        total(self.items.as_slice(), id, kind)
+    }
+
+    /// Whether all listed assets are held in full.
+    pub fn contains(&self, list: &Assets) -> bool
+        ensures { IsTrue result ↔ IsWithin (bundle_of list.now) self.now }
+    {
+        holds(self.items.as_slice(), list.items())
+    }
+
+    /// All assets in holding order: fungibles by id, then instances by id and instance.
+    pub fn list(&self) -> Result<Vec<Asset>, AllocError>
+        ensures { IfOk result (λ assets. assets.items ≡ held_assets self.now) }
+    {
+        let assets = copied(*self.items.allocator(), self.items.as_slice())?;
+        Ok(assets)
+    }
+
+    /// What `take` would take, in holding order.
+    pub fn min(&self, filter: &Filter) -> Result<Vec<Asset>, AllocError>
+        ensures { IfOk result (λ assets. assets.items ≡ held_assets (Taken filter.now self.now)) }
+    {
+        let taken = chosen(*self.items.allocator(), self.items.as_slice(), filter)?;
+        Ok(taken)
+    }
+
+    /// Takes what the filter means, as far as it is held.
+    pub fn take(&mut self, filter: &Filter) -> Result<AssetBundle, AllocError>
+        ensures taken { IfOk result (λ goods. goods ≡ Taken filter.now self.old) }
+        ensures left { OnOk result (self.new ≡ Left filter.now self.old) }
+        ensures err { OnErr result (self.new ≡ self.old) }
+    {
+        let alloc = *self.items.allocator();
+        let taken = chosen(alloc, self.items.as_slice(), filter)?;
+        let left = without(alloc, self.items.as_slice(), taken.as_slice())?;
+        self.items = left;
+        Ok(AssetBundle { items: taken })
+    }
+
+    /// Takes just the listed assets, or nothing where one of them isn't held in full.
+    pub fn try_take(&mut self, list: &Assets) -> Result<AssetBundle, TakeFault>
+        ensures { MatchResult result
+            (λ goods. IsWithin (bundle_of list.now) self.old × (goods ≡ bundle_of list.now)
+            × (self.new ≡ difference self.old (bundle_of list.now)))
+            (λ fault. IsTakeFault self.old list.now fault × (self.new ≡ self.old)) }
+    {
+        if !self.contains(list) {
+            return Err(TakeFault::NotHeld);
+        }
+        let alloc = *self.items.allocator();
+        match cut(alloc, self.items.as_slice(), list.items()) {
+            Ok((taken, left)) => {
+                self.items = left;
+                Ok(AssetBundle { items: taken })
+            }
+            Err(_) => Err(TakeFault::Memory),
+        }
+    }
+}

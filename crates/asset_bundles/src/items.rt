@@ -1,0 +1,107 @@
+//! Lists of assets in holding order.
+ghost use Rattle.std.specs.Prelude.{◌≡◌, nat_le, IfOk};
+ghost use Rattle.std.specs.List.{list_all};
+ghost use Rattle.std.specs.Ordering.{eq_by_cmp};
+ghost use Rattle.amounts.specs.Rows.{sum_where};
+ghost use Rattle.amounts.specs.Amounts.{total};
+ghost use Rattle.asset_lists.specs.declared.units.Kind.{Kind};
+ghost use Rattle.asset_lists.specs.Units.{unit_of, amount_of, unit_cmp, assets_cmp};
+ghost use Rattle.asset_bundles.specs.Bundles.{rows_of, found, is_asset, bundle_of, IsHolding};
+
+use asset_lists::{Asset, AssetId, Fun, Kind};
+use std::alloc::{AllocError, Global};
+
+/// The amount in the asset's smallest unit; 1 for an instance.
+pub(crate) fn amount_of(asset: &Asset) -> u128
+    ensures { result ≡ amount_of asset.now }
+{
+    match asset.fun {
+        Fun::Fungible(amount) => amount,
+        Fun::NonFungible(_) => 1,
+    }
+}
+
+/// Whether both are of one unit.
+pub(crate) fn is_same_unit(asset: &Asset, other: &Asset) -> bool
+    ensures { result ≡ eq_by_cmp unit_cmp (unit_of asset.now) (unit_of other.now) }
+{
+    asset.unit_cmp(other).is_eq()
+}
+
+/// What there is of the unit of this asset.
+pub(crate) fn held(items: &[Asset], asset: &Asset) -> u128
+    ensures { result ≡ found (unit_of asset.now) items.now }
+{
+    for item in items {
+        if is_same_unit(asset, item) {
+            return amount_of(item);
+        }
+    }
+    0
+}
+
+/// Whether all listed assets are there in full.
+pub(crate) fn holds(items: &[Asset], list: &[Asset]) -> bool
+    ensures { result ≡ list_all (λ a. nat_le (amount_of a) (found (unit_of a) items.now)) list.now }
+{
+    list.iter()
+        .all(|asset| amount_of(asset) <= held(items, asset))
+}
+
+/// Whether it is an instance of the class.
+fn is_instance_of(item: &Asset, class: &AssetId) -> bool
+    ensures { result ≡ is_asset class.now Kind.Class (unit_of item.now) }
+{
+    match item.fun {
+        Fun::Fungible(_) => false,
+        Fun::NonFungible(_) => *class == item.id,
+    }
+}
+
+/// How many instances of the class there are.
+fn count(items: &[Asset], class: &AssetId) -> usize
+    ensures { result ≡ sum_where (is_asset class.now Kind.Class) (rows_of items.now) }
+{
+    let mut number = 0;
+    for item in items {
+        if is_instance_of(item, class) {
+            number += 1;
+        }
+    }
+    number
+}
+
+/// The same assets.
+pub(crate) fn copied(alloc: Global, items: &[Asset]) -> Result<Vec<Asset>, AllocError>
+    ensures { IfOk result (λ copies. copies.items ≡ items.now) }
+{
+    let mut copies = Vec::with_capacity(alloc, items.len())?;
+    for item in items {
+        copies.push(item.copy())?;
+    }
+    Ok(copies)
+}
+
+/// The amount of a fungible asset, or the number of instances of a class.
+pub(crate) fn total(items: &[Asset], id: &AssetId, kind: Kind) -> u128
+    requires { IsHolding items.now }
+    ensures { result ≡ total (is_asset id.now kind) (bundle_of items.now) }
+{
+    match kind {
+        Kind::Fungible => {
+            let asset = Asset {
+                id: id.copy(),
+                fun: Fun::Fungible(0),
+            };
+            held(items, &asset)
+        }
+        Kind::Class => count(items, id) as u128,
+    }
+}
+
+/// Whether both are the same list.
+pub(crate) fn are_same(items: &[Asset], list: &[Asset]) -> bool
+    ensures { result ≡ eq_by_cmp assets_cmp items.now list.now }
+{
+    items.cmp(list).is_eq()
+}

@@ -1,0 +1,17 @@
+//! Owned assets, which are neither copied nor dropped, and the book of what was burned.
+#![tactic(auto)]
+
+mod book;
+mod bundle;
+mod faults;
+mod items;
+mod laws;
+mod portions;
+mod spending;
+mod units;
+
+pub use book::{Cause, Total};
+pub use bundle::AssetBundle;
+pub use faults::TakeFault;
+pub use laws::{law_of_books, law_of_bundles, law_of_conservation, law_of_filters, law_of_joins};
+pub use units::Units;

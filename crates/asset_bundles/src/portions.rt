@@ -1,0 +1,170 @@
+//! Parts of a list in holding order.
+ghost use Rattle.std.specs.Prelude.{◌≡◌, ◌++◌, [], IfOk, OnOk};
+ghost use Rattle.asset_lists.specs.Units.{unit_of, amount_of};
+ghost use Rattle.asset_bundles.specs.Filters.{is_fun, is_all_of};
+ghost use Rattle.asset_bundles.specs.Portions.{asset_with, kept, changed, left_of, common_with, wanted_wild, count_wild, at_most, chosen, IsListed};
+
+use crate::items::{amount_of, copied, held};
+use asset_lists::{Asset, AssetId, Filter, Fun, Wild, WildFun};
+use std::alloc::{AllocError, Global};
+
+/// The same asset with this amount; an instance stays as it is.
+pub(crate) fn with_amount(item: &Asset, amount: u128) -> Asset
+    ensures { result ≡ asset_with item.now amount }
+{
+    let fun = match item.fun {
+        Fun::Fungible(_) => Fun::Fungible(amount),
+        Fun::NonFungible(instance) => Fun::NonFungible(instance),
+    };
+    Asset {
+        id: item.id.copy(),
+        fun,
+    }
+}
+
+/// Puts the asset with this amount at the end, unless that is 0.
+#[tactic(auto, using(crate::proofs::Parts::kept_some, crate::proofs::Parts::kept_none))]
+fn push_amount(list: &mut Vec<Asset>, item: &Asset, amount: u128) -> Result<(), AllocError>
+    ensures { OnOk result (list.new.items ≡ list.old.items ++ kept item.now amount []) }
+{
+    if amount == 0 {
+        return Ok(());
+    }
+    list.push(with_amount(item, amount))?;
+    Ok(())
+}
+
+/// What is left where these are taken.
+pub(crate) fn without(
+    alloc: Global,
+    items: &[Asset],
+    taken: &[Asset],
+) -> Result<Vec<Asset>, AllocError>
+    ensures { IfOk result (λ left. left.items ≡ changed (left_of taken.now) items.now) }
+{
+    let mut left = Vec::new(alloc);
+    for item in items {
+        let amount = amount_of(item).saturating_sub(held(taken, item));
+        push_amount(&mut left, item, amount)?;
+    }
+    Ok(left)
+}
+
+/// What there is of these, as far as it is asked for.
+fn common(alloc: Global, items: &[Asset], asked: &[Asset]) -> Result<Vec<Asset>, AllocError>
+    ensures { IfOk result (λ both. both.items ≡ changed (common_with asked.now) items.now) }
+{
+    let mut both = Vec::new(alloc);
+    for item in items {
+        let amount = amount_of(item).min(held(asked, item));
+        push_amount(&mut both, item, amount)?;
+    }
+    Ok(both)
+}
+
+/// Whether a wildcard's kind is that of the asset.
+fn is_fun(item: &Asset, fun: WildFun) -> bool
+    ensures { result ≡ is_fun fun (unit_of item.now).1 }
+{
+    match (fun, &item.fun) {
+        (WildFun::Fungible, Fun::Fungible(_)) => true,
+        (WildFun::Fungible, Fun::NonFungible(_)) => false,
+        (WildFun::NonFungible, Fun::Fungible(_)) => false,
+        (WildFun::NonFungible, Fun::NonFungible(_)) => true,
+    }
+}
+
+/// Whether it is an amount of the id, or an instance of the class, as the wildcard says.
+fn is_all_of(item: &Asset, id: &AssetId, fun: WildFun) -> bool
+    ensures { result ≡ is_all_of id.now fun (unit_of item.now) }
+{
+    *id == item.id && is_fun(item, fun)
+}
+
+/// What a wildcard wants of an asset, were there no count.
+fn wanted(item: &Asset, wild: &Wild) -> u128
+    ensures { result ≡ wanted_wild wild.now (unit_of item.now) (amount_of item.now) }
+{
+    let all = match wild {
+        Wild::All => true,
+        Wild::AllOf { id, fun } => is_all_of(item, id, *fun),
+        Wild::AllCounted(_) => true,
+        Wild::AllOfCounted { id, fun, count: _ } => is_all_of(item, id, *fun),
+    };
+    if all { amount_of(item) } else { 0 }
+}
+
+/// How many kinds a wildcard takes at most.
+fn count_of(wild: &Wild) -> Option<u32>
+    ensures { result ≡ count_wild wild.now }
+{
+    match wild {
+        Wild::All => None,
+        Wild::AllOf { id: _, fun: _ } => None,
+        Wild::AllCounted(count) => Some(*count),
+        Wild::AllOfCounted {
+            id: _,
+            fun: _,
+            count,
+        } => Some(*count),
+    }
+}
+
+/// What a wildcard wants of all assets, were there no count.
+fn all_wanted(alloc: Global, items: &[Asset], wild: &Wild) -> Result<Vec<Asset>, AllocError>
+    ensures { IfOk result (λ all. all.items ≡ changed (wanted_wild wild.now) items.now) }
+{
+    let mut all = Vec::new(alloc);
+    for item in items {
+        push_amount(&mut all, item, wanted(item, wild))?;
+    }
+    Ok(all)
+}
+
+/// What a wildcard takes.
+fn picked(alloc: Global, items: &[Asset], wild: &Wild) -> Result<Vec<Asset>, AllocError>
+    ensures { IfOk result (λ taken. taken.items ≡ at_most (count_wild wild.now) (changed (wanted_wild wild.now) items.now)) }
+{
+    let mut taken = all_wanted(alloc, items, wild)?;
+    match count_of(wild) {
+        Some(count) => {
+            taken.truncate(count as usize);
+            Ok(taken)
+        }
+        None => Ok(taken),
+    }
+}
+
+/// What a filter takes of a list in holding order.
+pub(crate) fn chosen(
+    alloc: Global,
+    items: &[Asset],
+    filter: &Filter,
+) -> Result<Vec<Asset>, AllocError>
+    ensures taken { IfOk result (λ taken. taken.items ≡ chosen filter.now items.now) }
+    ensures listed { IfOk result (λ _. IsListed filter.now) }
+{
+    match filter {
+        Filter::Definite(list) => {
+            let taken = common(alloc, items, list.items())?;
+            Ok(taken)
+        }
+        Filter::Wild(wild) => {
+            let taken = picked(alloc, items, wild)?;
+            Ok(taken)
+        }
+    }
+}
+
+/// These assets, and what is left where they are taken.
+pub(crate) fn cut(
+    alloc: Global,
+    items: &[Asset],
+    asked: &[Asset],
+) -> Result<(Vec<Asset>, Vec<Asset>), AllocError>
+    ensures { IfOk result (λ parts. (parts.0.items ≡ asked.now) × (parts.1.items ≡ changed (left_of asked.now) items.now)) }
+{
+    let taken = copied(alloc, asked)?;
+    let left = without(alloc, items, asked)?;
+    Ok((taken, left))
+}

@@ -1,0 +1,40 @@
+//! One asset given up from a list in holding order, in place.
+ghost use Rattle.std.specs.Prelude.{◌≡◌, ◌≤◌, length};
+ghost use Rattle.std.specs.List.{prefix_len};
+ghost use Rattle.asset_lists.specs.Units.{unit_of, amount_of};
+ghost use Rattle.asset_bundles.specs.Portions.{spent, is_other};
+
+use crate::items::{amount_of, is_same_unit};
+use crate::portions::with_amount;
+use asset_lists::Asset;
+
+/// Where the unit of this asset is: how many others stand before it.
+fn place_of(items: &[Asset], asset: &Asset) -> usize
+    ensures place { result ≡ prefix_len (is_other (unit_of asset.now)) items.now }
+    ensures within { result ≤ length items.now }
+{
+    for (i, item) in items.iter().enumerate() {
+        if is_same_unit(asset, item) {
+            return i;
+        }
+    }
+    items.len()
+}
+
+/// Gives up the asset, as far as it is there.
+pub(crate) fn give_up(items: &mut Vec<Asset>, asset: &Asset)
+    ensures { items.new.items ≡ spent (unit_of asset.now) (amount_of asset.now) items.old.items }
+{
+    let place = place_of(items.as_slice(), asset);
+    if place >= items.len() {
+        return;
+    }
+    let item = &items[place];
+    let left = amount_of(item).saturating_sub(amount_of(asset));
+    if left == 0 {
+        items.remove(place);
+        return;
+    }
+    let rest = with_amount(item, left);
+    items[place] = rest;
+}
