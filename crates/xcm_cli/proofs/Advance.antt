@@ -298,22 +298,8 @@ part_within s part e r = let h : (length part.items ≡ s.taken) × (s.taken ≤
 pub steps_size : (s : Session) (done : ℕ) → s.phase ≡ Steps done → IsReady s → s.taken ≤ max_input
 steps_size s done e r = let P : Phase → Type 0 = λ p. HoldsPart p s.taken in subst P e r.part
 
-pub steps_few : (s : Session) (done : ℕ) → s.phase ≡ Steps done → IsReady s → done ≤ s.lines
-steps_few s done e r = let P : Phase → Type 0 = λ p. phase_steps p ≤ s.lines in subst P e r.steps
-
-pub taken_small : (phase : Phase) (taken : ℕ) → HoldsPart phase taken → taken ≤ max_input
-taken_small (Network part) taken h = omega (arith, h.1)
-taken_small (Steps done) taken h = h
-
 pub ready_steps : (s : Session) (part : Vec ℕ Global) (line : List ℕ) → s.phase ≡ Network part → IsReady s → 0 < length line → length line ≤ 5
     → IsReady (record { phase = Steps 0; lines = s.lines + 1; taken = s.taken + length line })
 ready_steps s part line e r l m =
     let h : (length part.items ≡ s.taken) × (s.taken ≤ max_network) = part_size s part e r in
     record { steps = omega arith; lines = omega (arith, r.lines); part = omega (arith, h.1) }
-
-pub ready_part : (s : Session) (part more : Vec ℕ Global) (line : List ℕ) → s.phase ≡ Network part → IsReady s → 0 < length line → more.items ≡ part.items ++ line → length part.items + length line ≤ max_network
-    → IsReady (record { phase = Network more; lines = s.lines + 1; taken = s.taken + length line })
-ready_part s part more line e r l k m =
-    let h : (length part.items ≡ s.taken) × (s.taken ≤ max_network) = part_size s part e r in
-    let size : length more.items ≡ length part.items + length line = ap length k ∙ length-append part.items line in
-    record { steps = omega arith; lines = omega (arith, r.lines); part = (omega (arith, h.0), omega (arith, h.0)) }

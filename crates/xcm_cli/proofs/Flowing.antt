@@ -1,15 +1,16 @@
 -- Lines that are taken whole, whatever comes behind them.
-use Rattle.std.proofs.Common.{◌≡◌, ◌≢◌, ◌∙◌, ◌⊎◌, inl, inr, ◌<◌, ◌≤◌, ◌+◌, ◌-◌, ℕ, suc, Bool, true, false, cond, eqb, ◌&&◌, Global, List, [], ◌∷◌, ◌++◌, length, take, drop, get_or, refl, sym, ap, Option, Some, None, Result, Ok, Err, append_assoc, append-nil, arith, length-take, length-drop, length-append}
+use Rattle.std.proofs.Common.{◌≡◌, ◌≢◌, ◌∙◌, ◌⊎◌, inl, inr, ◌<◌, ◌≤◌, ◌+◌, ◌-◌, ℕ, zero, suc, Bool, true, false, cond, eqb, ◌&&◌, Global, List, [], ◌∷◌, ◌++◌, length, take, drop, get_or, refl, sym, ap, Option, Some, None, Result, Ok, Err, append_assoc, append-nil, arith, length-take, length-drop, length-append}
 use Rattle.std.proofs.lemmas.List.{drop-drop}
-use Rattle.std.proofs.lemmas.Bool.{ne_eqb}
+use Rattle.std.proofs.lemmas.Bool.{ne_eqb, eqb-true}
 use Rattle.std.proofs.lemmas.Bool.Decides.{nat_tests}
-use Rattle.std.specs.Prelude.{nat_le, Vec}
+use Rattle.std.specs.Prelude.{nat_le, nat_lt, nat_eq, Vec, codes}
+use Rattle.std.specs.List.{starts_with}
+use Rattle.std.proofs.lemmas.Slice.Eq.{bytes_eq-Decides}
 use Rattle.std.specs.Io.KnownBytes.{Appends}
 use Rattle.std.proofs.KnownBytes.{Appends-nil, Appends-trans}
 use Rattle.xcm_io.specs.Bytes.{IsFront, IsProperFront}
-use Rattle.xcm_io.specs.Causes.{Rose}
-use Rattle.input_lines.specs.Lines.{lines_of, HasNoFeed, onto, is_mark, without_feed, ends_with, joined}
-use Rattle.input_lines.proofs.FirstLine.{past_other, mark_short, no_lines, only_line}
+use Rattle.input_lines.specs.Lines.{lines_of, HasNoFeed, onto, is_mark, line_text, without_feed, without_last, ends_with}
+use Rattle.input_lines.proofs.FirstLine.{past_other, no_lines, only_line}
 use Rattle.xcm_cli.specs.declared.session.Session.{Session}
 use Rattle.xcm_cli.specs.declared.session.Phase.{Phase}
 use Rattle.xcm_cli.specs.declared.session.Phase.TheVariants.{Network, Steps}
@@ -54,20 +55,12 @@ flows_start session bytes known = record { took = []; text = []; appends = Appen
 
 module _ (session now : Session) (bytes rest : List ℕ) (old mid : Option (List ℕ)) (f : Flows session now bytes rest old mid) where
   -- what these lines report, and then the rest
-  flow_goes : (at_end : Bool) (lines : List (List ℕ)) → outcome_at session at_end (f.took ++ lines) ≡ then_on f.text (outcome_at now at_end lines)
-  flow_goes = f.goes
-
-  -- the same of bytes
   pub flow_bytes : (at_end : Bool) (more : List ℕ) → outcome_at session at_end (lines_of (bytes ++ more)) ≡ then_on f.text (outcome_at now at_end (lines_of (rest ++ more)))
   flow_bytes at_end more = ap (outcome_at session at_end) (f.cut more) ∙ f.goes at_end (lines_of (rest ++ more))
 
   -- what was taken is reported so far
   pub flow_so_far : IsReady now → outcome_at session false f.took ≡ ends f.text Done
   flow_so_far r = then_nothing _ _ f.text (ap (outcome_at session false) (sym (append-nil f.took)) ∙ f.goes false []) (nothing_yet now r)
-
-  -- the bytes have no more behind them
-  pub flow_lines : lines_of bytes ≡ f.took ++ lines_of rest
-  flow_lines = ap lines_of (sym (append-nil bytes)) ∙ f.cut [] ∙ ap (λ b. f.took ++ lines_of b) (append-nil rest)
 
   -- a line is taken: `next` says how the bytes that come begin with it
   pub flows_line : {E : Type 0} (then : Session) (less line : List ℕ) (due : List ℕ) (new : Option (List ℕ)) (result : Result (Option Status) E)
@@ -151,9 +144,6 @@ take_there bytes at n = let e : at + n - at ≡ n = omega arith in ap (λ k. tak
 pub line_size : (bytes : List ℕ) (at n : ℕ) → at ≤ length bytes → n ≤ length (take (length bytes - at) (drop at bytes)) → (length (take (at + n - at) (drop at bytes)) ≡ n) × (at + n ≤ length bytes)
 line_size bytes at n r l = (omega (arith, length-take {A = ℕ}, length-drop {A = ℕ}), omega (arith, length-take {A = ℕ}, length-drop {A = ℕ}))
 
-pub rose_since : (before now new : ℕ) → before ≤ now → Rose now new → Rose before new
-rose_since before now new l r = omega arith
-
 -- ---- a line that is past a limit, whatever comes
 
 begins_one : (b : ℕ) (more : List ℕ) (lines : List (List ℕ)) → lines_of more ≡ lines → (b ≡ 10 → ⊥) → (tail : List ℕ) × ((rest : List (List ℕ)) × (lines_of (b ∷ more) ≡ (b ∷ tail) ∷ rest))
@@ -167,10 +157,6 @@ begins (b ∷ []) more l n = begins_one b more (lines_of more) refl (n 0 (omega 
 begins (b ∷ c ∷ rest) more l n =
     let h = begins (c ∷ rest) more (omega arith) (λ k i. n (suc k) (omega arith)) in
     (h.0, (h.1.0, past_other b ((c ∷ rest) ++ more) (n 0 (omega arith)) ∙ ap (onto b) h.1.1))
-
-no_mark : (line : List ℕ) (b : Bool) → is_mark line ≡ b → 5 < length line → is_mark line ≡ false
-no_mark line true e l = let h : length line ≤ 5 = mark_short line e in absurd (omega arith)
-no_mark line false e l = e
 
 second_false : (a b : Bool) → b ≡ false → (a && b) ≡ false
 second_false true b e = e
@@ -209,12 +195,71 @@ over_line f done at_end more n e l =
     let past : is_within f.session.taken (f.pending.items ++ h.0) ≡ false = first_false (nat_le (length (without_feed (f.pending.items ++ h.0))) max_line) _ (grind (arith, nat_tests)) in
     ap (outcome_at f.session at_end) h.1.1 ∙ at_steps f.session done at_end _ e ∙ long_step done f.session.lines f.session.taken (f.pending.items ++ h.0) h.1.0 past
 
-pub over_network : (f : Feeder) (part : Vec ℕ Global) (at_end : Bool) (more : List ℕ) → HasNoFeed f.pending.items → f.session.phase ≡ Network part → 5 < length f.pending.items → max_network < length part.items + length f.pending.items
-    → outcome_at f.session at_end (lines_of (f.pending.items ++ more)) ≡ ends [] TooLong
-over_network f part at_end more n e some l =
-    let h = begins f.pending.items more (omega arith) n in
+-- ---- a line that begins so can't end the network part
+
+-- a list without its last item, and that item
+snoc_at : (line : List ℕ) (k : ℕ) → length line ≡ suc k → line ≡ take k line ++ get_or line k 0 ∷ []
+snoc_at [] k e = absurd (omega arith)
+snoc_at (b ∷ []) zero e = refl
+snoc_at (b ∷ []) (suc k) e = absurd (omega arith)
+snoc_at (b ∷ c ∷ rest) zero e = absurd (omega arith)
+snoc_at (b ∷ c ∷ rest) (suc k) e = ap (λ xs. b ∷ xs) (snoc_at (c ∷ rest) k (omega arith))
+
+snoc_is : (line : List ℕ) → 0 < length line → line ≡ take (length line - 1) line ++ get_or line (length line - 1) 0 ∷ []
+snoc_is line l = snoc_at line (length line - 1) (omega arith)
+
+last_is : (c : ℕ) (line : List ℕ) (some : Bool) → nat_lt 0 (length line) ≡ some → (some && eqb (get_or line (length line - 1) 0) c) ≡ true → line ≡ take (length line - 1) line ++ c ∷ []
+last_is c line true s e =
+    let some : 0 < length line = grind (arith, nat_tests) in
+    let last : get_or line (length line - 1) 0 ≡ c = eqb-true _ c e in
+    snoc_is line some ∙ ap (λ x. take (length line - 1) line ++ x ∷ []) last
+last_is c line false s e = absurd cc
+
+-- the line `---`, with the carriage return and the line feed that it may have
+marks : (line : List ℕ) (fed returned : Bool) → ends_with 10 line ≡ fed → ends_with 13 (without_last line) ≡ returned
+    → cond {A = List ℕ} fed (cond {A = List ℕ} returned (without_last (without_last line)) (without_last line)) line ≡ codes "---"
+    → (line ≡ codes "---") ⊎ ((line ≡ codes "---\n") ⊎ (line ≡ codes "---\r\n"))
+marks line true true f r e =
+    inr (inr (last_is 10 line (nat_lt 0 (length line)) refl f ∙ ap (λ xs. xs ++ 10 ∷ []) (last_is 13 (without_last line) (nat_lt 0 (length (without_last line))) refl r ∙ ap (λ xs. xs ++ 13 ∷ []) e)))
+marks line true false f r e = inr (inl (last_is 10 line (nat_lt 0 (length line)) refl f ∙ ap (λ xs. xs ++ 10 ∷ []) e))
+marks line false returned f r e = inl e
+
+mark_is : (line : List ℕ) → is_mark line ≡ true → (line ≡ codes "---") ⊎ ((line ≡ codes "---\n") ⊎ (line ≡ codes "---\r\n"))
+unfolding line_text
+mark_is line e = marks line (ends_with 10 line) (ends_with 13 (without_last line)) refl refl ((bytes_eq-Decides (line_text line) (codes "---")).0 e)
+
+-- what begins such a line and has no feed begins `---` and a carriage return
+begins_mark : (bytes tail : List ℕ) → HasNoFeed bytes → (bytes ++ tail ≡ codes "---") ⊎ ((bytes ++ tail ≡ codes "---\n") ⊎ (bytes ++ tail ≡ codes "---\r\n"))
+    → starts_with nat_eq (codes "---\r") bytes ≡ true
+begins_mark [] tail n e = refl
+begins_mark (a ∷ []) tail n (inl e) = let h : a ≡ 45 = cc in rw h refl
+begins_mark (a ∷ []) tail n (inr (inl e)) = let h : a ≡ 45 = cc in rw h refl
+begins_mark (a ∷ []) tail n (inr (inr e)) = let h : a ≡ 45 = cc in rw h refl
+begins_mark (a ∷ b ∷ []) tail n (inl e) = let h : a ≡ 45 = cc in let i : b ≡ 45 = cc in rw (h, i) refl
+begins_mark (a ∷ b ∷ []) tail n (inr (inl e)) = let h : a ≡ 45 = cc in let i : b ≡ 45 = cc in rw (h, i) refl
+begins_mark (a ∷ b ∷ []) tail n (inr (inr e)) = let h : a ≡ 45 = cc in let i : b ≡ 45 = cc in rw (h, i) refl
+begins_mark (a ∷ b ∷ c ∷ []) tail n (inl e) = let h : a ≡ 45 = cc in let i : b ≡ 45 = cc in let j : c ≡ 45 = cc in rw (h, i, j) refl
+begins_mark (a ∷ b ∷ c ∷ []) tail n (inr (inl e)) = let h : a ≡ 45 = cc in let i : b ≡ 45 = cc in let j : c ≡ 45 = cc in rw (h, i, j) refl
+begins_mark (a ∷ b ∷ c ∷ []) tail n (inr (inr e)) = let h : a ≡ 45 = cc in let i : b ≡ 45 = cc in let j : c ≡ 45 = cc in rw (h, i, j) refl
+begins_mark (a ∷ b ∷ c ∷ d ∷ rest) tail n (inl e) = absurd cc
+begins_mark (a ∷ b ∷ c ∷ d ∷ rest) tail n (inr (inl e)) = let k : d ≡ 10 = cc in absurd (n 3 (omega arith) k)
+begins_mark (a ∷ b ∷ c ∷ d ∷ []) tail n (inr (inr e)) = let h : a ≡ 45 = cc in let i : b ≡ 45 = cc in let j : c ≡ 45 = cc in let k : d ≡ 13 = cc in rw (h, i, j, k) refl
+begins_mark (a ∷ b ∷ c ∷ d ∷ f ∷ rest) tail n (inr (inr e)) = let k : f ≡ 10 = cc in absurd (n 4 (omega arith) k)
+
+unlike_mark : (bytes tail : List ℕ) (b : Bool) → HasNoFeed bytes → starts_with nat_eq (codes "---\r") bytes ≡ false → is_mark (bytes ++ tail) ≡ b → is_mark (bytes ++ tail) ≡ false
+unlike_mark bytes tail true n u e = let h : starts_with nat_eq (codes "---\r") bytes ≡ true = begins_mark bytes tail n (mark_is (bytes ++ tail) e) in absurd cc
+unlike_mark bytes tail false n u e = e
+
+some_byte : (bytes : List ℕ) → starts_with nat_eq (codes "---\r") bytes ≡ false → 0 < length bytes
+some_byte [] e = absurd cc
+some_byte (b ∷ rest) e = omega arith
+
+pub over_network : (f : Feeder) (part : Vec ℕ Global) (at_end : Bool) (more : List ℕ) → HasNoFeed f.pending.items → f.session.phase ≡ Network part → starts_with nat_eq (codes "---\r") f.pending.items ≡ false
+    → max_network < length part.items + length f.pending.items → outcome_at f.session at_end (lines_of (f.pending.items ++ more)) ≡ ends [] TooLong
+over_network f part at_end more n e u l =
+    let h = begins f.pending.items more (some_byte f.pending.items u) n in
     let size : length (f.pending.items ++ h.0) ≡ length f.pending.items + length h.0 = length-append f.pending.items h.0 in
-    ap (outcome_at f.session at_end) h.1.1 ∙ line_over f.session part (f.pending.items ++ h.0) at_end h.1.0 e (no_mark (f.pending.items ++ h.0) (is_mark (f.pending.items ++ h.0)) refl (omega arith)) (omega arith)
+    ap (outcome_at f.session at_end) h.1.1 ∙ line_over f.session part (f.pending.items ++ h.0) at_end h.1.0 e (unlike_mark f.pending.items h.0 (is_mark (f.pending.items ++ h.0)) n u refl) (omega arith)
 
 -- ---- the end of the input
 

@@ -12,6 +12,9 @@ use crate::status::Status;
 use std::alloc::{AllocError, Global};
 use xcm_io::Sink;
 
+/// What the line that ends the network part may begin with, before its line feed.
+const MARK: &[u8] = b"---\r";
+
 /// A run, and what has come of a line that is not whole.
 #[derive(Drop)]
 pub(crate) struct Feeder {
@@ -78,7 +81,9 @@ impl Feeder {
             Phase::Steps(_) => {
                 pending > MAX_LINE || self.session.taken + pending as u64 > MAX_INPUT
             }
-            Phase::Network(part) => pending > 5 && part.len() + pending > MAX_NETWORK,
+            Phase::Network(part) => {
+                !MARK.starts_with(&self.pending) && part.len() + pending > MAX_NETWORK
+            }
         }
     }
 

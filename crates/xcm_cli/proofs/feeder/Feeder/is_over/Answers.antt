@@ -1,4 +1,6 @@
-use Rattle.std.proofs.Common.{◌+◌, ◌<◌, ◌≤◌, length, arith, ltb-true}
+use Rattle.std.proofs.Common.{◌≡◌, ◌∙◌, ◌+◌, ◌<◌, ◌≤◌, length, arith, ltb-true, ap, sym, false}
+use Rattle.std.specs.Prelude.{nat_eq, codes}
+use Rattle.std.specs.List.{starts_with}
 use Rattle.xcm_cli.proofs.Advance.{steps_size}
 use Rattle.xcm_cli.proofs.Flowing.{over_line, over_total, over_network}
 use Rattle.xcm_cli.proofs.feeder.Feeder.is_over.Goals as goal
@@ -14,8 +16,9 @@ returns-else-pending-gt-MAX_LINE-clause-over c t at_end more =
     let size : c.args.self.now.session.taken ≤ 67108864 = steps_size c.args.self.now.session _ c.in-Steps.is c.requires.ready in
     over_total c.args.self.now _ at_end more c.requires.open (omega (arith, c.len-pending.ensures, c.args.self.now.pending.ok)) c.in-Steps.is (omega (arith, c.len-pending.ensures, c.args.self.now.pending.ok))
 
-pub returns-then-pending-gt5-clause-over : goal.returns-then-pending-gt5-clause-over
-returns-then-pending-gt5-clause-over c t at_end more =
+pub returns-then-not-starts_with-clause-over : goal.returns-then-not-starts_with-clause-over
+returns-then-not-starts_with-clause-over c t at_end more =
     let past : 1048576 < c.len.result + c.len-pending.result = ltb-true 1048576 _ t in
-    over_network c.args.self.now _ at_end more c.requires.open c.in-Network.is (omega (arith, c.if-pending-gt5.true, c.len-pending.ensures, c.args.self.now.pending.ok))
-    (omega (arith, c.len.ensures, c.in-Network.part.ok, c.len-pending.ensures, c.args.self.now.pending.ok))
+    let unlike : starts_with nat_eq (codes "---\r") c.args.self.now.pending.items ≡ false =
+    ap (starts_with nat_eq (codes "---\r")) (sym c.deref.ensures.value) ∙ sym c.starts_with.ensures.value ∙ c.if-not-starts_with.true in
+    over_network c.args.self.now _ at_end more c.requires.open c.in-Network.is unlike (omega (arith, c.len.ensures, c.in-Network.part.ok, c.len-pending.ensures, c.args.self.now.pending.ok))
