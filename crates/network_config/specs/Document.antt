@@ -1,11 +1,11 @@
 -- The network document, as the JSON value that its text is. Source: this project's own rule, over what `serde_json` reads.
 use Rattle.std.specs.Prelude.{ℕ, List, Option, Some, None, Result, Ok, Err, if◌then◌else◌}
 use Rattle.std.specs.Str.{is_utf8}
-use Rattle.serde_json.specs.Data.{Data, null, boolean, number, string, array, object, Members, no_members, member}
+use Rattle.serde_json.specs.Data.{Data, null, boolean, number, string, array, object, no_members, member}
 use Rattle.serde_json.specs.Read.{read}
 use Rattle.network_config.specs.declared.document.NetworkSpec.{NetworkSpec}
 use Rattle.network_config.specs.declared.fault.NetworkFault.{NetworkFault}
-use Rattle.network_config.specs.declared.fault.NetworkFault.TheVariants.{NotBuilt, Memory}
+use Rattle.network_config.specs.declared.fault.NetworkFault.TheVariants.{NotBuilt}
 use Rattle.network_config.specs.declared.fault.Place.{Place}
 use Rattle.network_config.specs.declared.fault.Section.TheVariants.{Top}
 

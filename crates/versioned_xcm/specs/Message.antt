@@ -1,7 +1,7 @@
 -- Which bytes are the message of which program, and why bytes are refused. Source: the XCM format (a version byte and one
 -- program, nothing after). The limits of 65,536 bytes and 100 instructions are this project's own rule; so is which
 -- instructions are built.
-use Rattle.std.specs.Prelude.{◌≡◌, ◌≢◌, ◌≤◌, ◌<◌, ◌⊎◌, ℕ, List, [], ◌∷◌, ◌++◌, length, map, false, codes}
+use Rattle.std.specs.Prelude.{◌≡◌, ◌≢◌, ◌≤◌, ◌<◌, ◌⊎◌, ℕ, List, ◌∷◌, ◌++◌, length, map, false, codes}
 use Rattle.std.specs.List.{AllByRecursion}
 use Rattle.scale_codec.specs.Spelling.{compact}
 use Rattle.xcm_program.specs.Spelling.{instruction_spelling, program_spelling, joined, is_built_index, Fits}

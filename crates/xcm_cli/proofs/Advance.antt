@@ -20,7 +20,7 @@ use Rattle.xcm_cli.specs.declared.session.Phase.TheVariants.{Network, Steps}
 use Rattle.xcm_cli.specs.declared.status.Status.{Status}
 use Rattle.xcm_cli.specs.declared.status.Status.TheVariants.{Done, ReadFault, WriteFault, LineRefused, TooLong}
 use Rattle.xcm_cli.specs.Report.{Outcome, ends, then_on, steps_outcome, network_outcome, part_outcome, lines_outcome, is_within, max_network, max_input, line_refused_text}
-use Rattle.xcm_cli.specs.Session.{Writes, Advances, Finishes, outcome_at, phase_outcome, phase_steps, HoldsPart, IsReady}
+use Rattle.xcm_cli.specs.Session.{Writes, Advances, Finishes, outcome_at, phase_outcome, HoldsPart, IsReady}
 
 -- ---- fronts
 

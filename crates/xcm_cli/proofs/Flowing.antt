@@ -6,20 +6,18 @@ use Rattle.std.proofs.lemmas.Bool.Decides.{nat_tests}
 use Rattle.std.specs.Prelude.{nat_le, nat_lt, nat_eq, Vec, codes}
 use Rattle.std.specs.List.{starts_with}
 use Rattle.std.proofs.lemmas.Slice.Eq.{bytes_eq-Decides}
-use Rattle.std.specs.Io.KnownBytes.{Appends}
 use Rattle.std.proofs.KnownBytes.{Appends-nil, Appends-trans}
 use Rattle.xcm_io.specs.Bytes.{IsFront, IsProperFront}
 use Rattle.input_lines.specs.Lines.{lines_of, HasNoFeed, onto, is_mark, line_text, without_feed, without_last, ends_with}
-use Rattle.input_lines.proofs.FirstLine.{past_other, no_lines, only_line}
+use Rattle.input_lines.proofs.FirstLine.{past_other, no_lines}
 use Rattle.xcm_cli.specs.declared.session.Session.{Session}
-use Rattle.xcm_cli.specs.declared.session.Phase.{Phase}
 use Rattle.xcm_cli.specs.declared.session.Phase.TheVariants.{Network, Steps}
 use Rattle.xcm_cli.specs.declared.feeder.Feeder.{Feeder}
 use Rattle.xcm_cli.specs.declared.status.Status.{Status}
 use Rattle.xcm_cli.specs.declared.status.Status.TheVariants.{Done, WriteFault, ReadFault, TooLong}
-use Rattle.xcm_cli.specs.Report.{Outcome, ends, then_on, lines_outcome, max_input, max_line, max_network, is_within}
-use Rattle.xcm_cli.specs.Session.{Advances, Finishes, Flows, Stops, StopsInLine, StopsAtLimit, TakesLines, AllWhole, IsReady, outcome_at}
-use Rattle.xcm_cli.specs.Feeding.{Ends, StopsAtEnd}
+use Rattle.xcm_cli.specs.Report.{Outcome, ends, then_on, max_input, max_line, max_network, is_within}
+use Rattle.xcm_cli.specs.Session.{Advances, Finishes, Flows, Stops, TakesLines, AllWhole, IsReady, outcome_at}
+use Rattle.xcm_cli.specs.Feeding.{Ends}
 use Rattle.xcm_cli.proofs.Advance.{line_over, long_step, at_steps, nothing_yet}
 
 -- ---- outcomes one after the other

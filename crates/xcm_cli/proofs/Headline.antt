@@ -1,13 +1,12 @@
 -- From the run over a source and a sink to the run of the words.
-use Rattle.std.proofs.Common.{◌≡◌, ◌∙◌, inr, ℕ, List, [], ◌++◌, refl, sym, ap, true, false, Option, Some, None, Result, Ok, Err, IfOk, IfSome, String, Global}
+use Rattle.std.proofs.Common.{◌≡◌, ◌∙◌, inr, ℕ, List, [], refl, ap, true, false, Option, Some, None, Result, Ok, Err, IfOk, IfSome, String, Global}
 use Rattle.std.proofs.lemmas.Bool.{cond-true, cond-false}
-use Rattle.std.specs.Io.KnownBytes.{Appends, Consumes}
+use Rattle.std.specs.Io.KnownBytes.{Appends}
 use Rattle.std.proofs.KnownBytes.{Consumes-nil}
 use Rattle.xcm_cli.specs.Report.{Outcome, ends, outcome, report, fate, is_run, bytes_outcome, usage_outcome}
 use Rattle.xcm_cli.specs.Session.{Finishes, IsFault}
 use Rattle.xcm_cli.specs.Serving.{Serves, ServesWords}
 use Rattle.xcm_cli.specs.declared.status.Status.{Status}
-use Rattle.xcm_cli.specs.declared.status.Status.TheVariants.{ReadFault, WriteFault, TooLong}
 
 outcome_run : (words : List (String Global)) (bytes : List ℕ) → is_run words ≡ true → outcome words bytes ≡ bytes_outcome bytes
 unfolding outcome

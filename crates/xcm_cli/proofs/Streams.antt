@@ -1,21 +1,20 @@
 -- A run over a source, read by pieces.
-use Rattle.std.proofs.Common.{◌≡◌, ◌≢◌, ◌∙◌, ◌⊎◌, inl, inr, ◌<◌, ◌≤◌, ◌+◌, ◌-◌, ℕ, suc, Bool, true, false, List, [], ◌∷◌, ◌++◌, length, get_or, eqb, refl, sym, ap, Option, Some, None, Result, Ok, Err, IfSome, append_assoc, append-nil, arith, length-append}
+use Rattle.std.proofs.Common.{◌≡◌, ◌≢◌, ◌∙◌, ◌⊎◌, inl, inr, ◌<◌, ◌≤◌, ◌+◌, ◌-◌, ℕ, Bool, true, false, List, [], ◌∷◌, ◌++◌, length, get_or, eqb, refl, sym, ap, Option, Some, None, Result, Ok, Err, IfSome, append_assoc, append-nil, arith, length-append}
 use Rattle.std.proofs.lemmas.Bool.{eqb-true}
 use Rattle.std.proofs.lemmas.Bool.Decides.{nat_tests}
 use Rattle.std.proofs.lemmas.List.{get_or-append-add, get_or_append_left}
 use Rattle.std.specs.Prelude.{filter, nat_lt, ◌&&◌}
 use Rattle.std.specs.Io.KnownBytes.{Appends, Consumes, Keeps, IsAtEnd}
 use Rattle.std.proofs.KnownBytes.{Appends-nil, Appends-trans, Consumes-nil, Consumes-trans, Consumes-kept}
-use Rattle.xcm_io.specs.Bytes.{IsFront, IsProperFront}
+use Rattle.xcm_io.specs.Bytes.{IsFront}
 use Rattle.input_lines.specs.Lines.{lines_of, joined, ends_with, HasNoFeed}
 use Rattle.input_lines.proofs.FirstLine.{no_lines, only_line}
 use Rattle.input_lines.proofs.Joined.{joined-lines_of}
 use Rattle.xcm_cli.specs.declared.session.Session.{Session}
-use Rattle.xcm_cli.specs.declared.feeder.Feeder.{Feeder}
 use Rattle.xcm_cli.specs.declared.status.Status.{Status}
-use Rattle.xcm_cli.specs.declared.status.Status.TheVariants.{Done, ReadFault, WriteFault, TooLong}
-use Rattle.xcm_cli.specs.Report.{Outcome, ends, then_on, lines_outcome, bytes_outcome, whole_lines, so_far}
-use Rattle.xcm_cli.specs.Session.{AllWhole, Flows, Stops, StopsInLine, StopsAtLimit, IsFault, IsReady, outcome_at}
+use Rattle.xcm_cli.specs.declared.status.Status.TheVariants.{Done, ReadFault, TooLong}
+use Rattle.xcm_cli.specs.Report.{ends, then_on, lines_outcome, bytes_outcome, so_far}
+use Rattle.xcm_cli.specs.Session.{AllWhole, Flows, Stops, StopsInLine, StopsAtLimit, IsReady, outcome_at}
 use Rattle.xcm_cli.specs.Feeding.{Ends, StopsAtEnd}
 use Rattle.xcm_cli.specs.Serving.{Serves, FailedInLine, FailedAtEnd, StoppedAtLimit}
 use Rattle.xcm_cli.proofs.Advance.{nothing_yet}

@@ -1,9 +1,9 @@
 -- A run over pieces of its input.
-use Rattle.std.specs.Prelude.{◌≡◌, ◌≢◌, ◌⊎◌, ◌≤◌, List, ℕ, [], length, true, false, Option, Result, Ok}
+use Rattle.std.specs.Prelude.{◌≡◌, ◌≢◌, ◌⊎◌, ◌≤◌, List, ℕ, length, true, false, Option, Result, Ok}
 use Rattle.std.specs.Io.KnownBytes.{Appends}
 use Rattle.xcm_io.specs.Bytes.{IsFront, IsProperFront}
 use Rattle.input_lines.specs.Lines.{lines_of, HasNoFeed}
-use Rattle.xcm_cli.specs.Report.{Outcome, ends, max_input}
+use Rattle.xcm_cli.specs.Report.{ends, max_input}
 use Rattle.xcm_cli.specs.Session.{outcome_at, IsReady, StopsInLine, StopsAtLimit}
 use Rattle.xcm_cli.specs.declared.feeder.Feeder.{Feeder}
 use Rattle.xcm_cli.specs.declared.session.Session.{Session}

@@ -3,7 +3,6 @@ use Rattle.std.specs.Prelude.{ℕ, ◌+◌, ◌&&◌, ◌||◌, nat_le, List, []
 use Rattle.std.specs.declared.alloc.Global.{Global}
 use Rattle.input_lines.specs.Lines.{lines_of, line_text, has_mark, network_part, later_lines, lines_through, bytes_through, without_feed, ends_with}
 use Rattle.input_lines.specs.Step.{read_line_of}
-use Rattle.input_lines.specs.declared.line.Line.{Line}
 use Rattle.input_lines.specs.declared.line.Line.TheVariants.{NoStep, Exec, Refused}
 use Rattle.network_config.specs.Document.{network_of}
 use Rattle.network_config.specs.Texts.{fault_text}

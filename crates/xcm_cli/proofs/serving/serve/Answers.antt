@@ -1,4 +1,4 @@
-use Rattle.std.proofs.Common.{◌∙◌, ◌<◌, ◌≤◌, length, take, ap, arith, rules, Ok, None}
+use Rattle.std.proofs.Common.{◌∙◌, ◌<◌, ◌≤◌, length, take, ap, arith, rules, Ok}
 use Rattle.std.specs.Io.KnownBytes.{Consumes}
 use Rattle.xcm_cli.proofs.Streams.{streams_start, streams_kept, streams_fault, streams_more, streams_over, streams_err, streams_end, streams_long}
 use Rattle.xcm_cli.proofs.serving.serve.Goals as goal

@@ -1,6 +1,6 @@
-use Rattle.std.proofs.Common.{◌≡◌, ◌∙◌, ◌+◌, ap, refl, arith, Ok, None, drop}
+use Rattle.std.proofs.Common.{◌≡◌, ◌∙◌, ◌+◌, ap, arith, Ok, None, drop}
 use Rattle.std.proofs.lemmas.List.{take_rest}
-use Rattle.xcm_cli.proofs.Flowing.{flows_start, flows_line, flows_over, takes_going, takes_over, cut_at, feed_at, take_there, line_size}
+use Rattle.xcm_cli.proofs.Flowing.{flows_start, flows_line, flows_over, takes_over, cut_at, feed_at, take_there, line_size}
 use Rattle.xcm_cli.proofs.session.Session.take_lines.Goals as goal
 
 pub loop-len-preserved : goal.loop-len-preserved
