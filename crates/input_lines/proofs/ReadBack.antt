@@ -12,10 +12,11 @@ use Rattle.std.specs.Result.{result_ok}
 use Rattle.hex.specs.Hex.{IsBytes, encode_with, encode_lower, lower_digits, hex_digit_value}
 use Rattle.hex.proofs.HexLemmas.{decode_of-encode_lower, decode_pairs-encode_with, length-encode_with, IsDigits-lower_digits}
 use Rattle.hex.proofs.Pairs.{decode_sized-pairs}
-use Rattle.input_lines.specs.Step.{split_word, chain_text, chain_of, account_of, bytes_of, exec_words, exec_tail, exec_of, read_line_of}
+use Rattle.input_lines.specs.Step.{split_word, chain_of, account_of, bytes_of, exec_words, exec_tail, exec_of, read_line_of}
 use Rattle.input_lines.specs.Laws.{ChainFits, exec_line}
-use Rattle.input_lines.specs.declared.line.ChainId.{ChainId}
-use Rattle.input_lines.specs.declared.line.ChainId.TheVariants.{Relay, Para}
+use Rattle.chain_ids.specs.Texts.{chain_text}
+use Rattle.chain_ids.specs.declared.chain.ChainId.{ChainId}
+use Rattle.chain_ids.specs.declared.chain.ChainId.TheVariants.{Relay, Para}
 use Rattle.input_lines.specs.declared.line.Line.TheVariants.{Exec}
 use Rattle.input_lines.proofs.FirstWord.{at_space, past_other}
 use Rattle.input_lines.proofs.Decimals.{own, number_is}

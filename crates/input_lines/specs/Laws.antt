@@ -2,9 +2,9 @@
 use Rattle.std.specs.Prelude.{◌≡◌, ◌<◌, ◌^◌, ◌⊎◌, ℕ, List, [], ◌∷◌, ◌++◌, length, codes}
 use Rattle.hex.specs.Hex.{encode_lower}
 use Rattle.input_lines.specs.Lines.{HasNoFeed}
-use Rattle.input_lines.specs.Step.{chain_text}
-use Rattle.input_lines.specs.declared.line.ChainId.{ChainId}
-use Rattle.input_lines.specs.declared.line.ChainId.TheVariants.{Relay, Para}
+use Rattle.chain_ids.specs.Texts.{chain_text}
+use Rattle.chain_ids.specs.declared.chain.ChainId.{ChainId}
+use Rattle.chain_ids.specs.declared.chain.ChainId.TheVariants.{Relay, Para}
 
 -- a line feed stands at the end, and none before
 abbrev pub IsEnded : List ℕ → Type 0

@@ -6,8 +6,8 @@ use Rattle.std.specs.Option.{option_map}
 use Rattle.std.specs.Result.{result_ok}
 use Rattle.hex.specs.Hex.{decode_of, decode_sized}
 use Rattle.input_lines.specs.Numbers.{number_of}
-use Rattle.input_lines.specs.declared.line.ChainId.{ChainId}
-use Rattle.input_lines.specs.declared.line.ChainId.TheVariants.{Relay, Para}
+use Rattle.chain_ids.specs.declared.chain.ChainId.{ChainId}
+use Rattle.chain_ids.specs.declared.chain.ChainId.TheVariants.{Relay, Para}
 use Rattle.input_lines.specs.declared.line.Line.{Line}
 use Rattle.input_lines.specs.declared.line.Line.TheVariants.{NoStep, Exec, Refused}
 
@@ -19,11 +19,6 @@ is_no_step text = length text == 0 || slice_index text 0 == 35
 unfoldable pub split_word : List ℕ → Option (List ℕ × List ℕ)
 split_word [] = None
 split_word (b ∷ rest) = if b == 32 then Some ([], rest) else option_map (λ x. (b ∷ x.0, x.1)) (split_word rest)
-
--- the text of a chain
-abbrev pub chain_text : ChainId → List ℕ
-chain_text Relay = codes "relay"
-chain_text (Para number) = decimal number
 
 -- hex digits, without the `0x` that may stand in front
 abbrev pub plain_digits : List ℕ → List ℕ

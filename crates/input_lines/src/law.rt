@@ -5,7 +5,7 @@ ghost use Rattle.hex.specs.Hex.{IsBytes};
 ghost use Rattle.input_lines.specs.Lines.{lines_of, joined};
 ghost use Rattle.input_lines.specs.Step.{read_line_of};
 ghost use Rattle.input_lines.specs.Laws.{AreLines, ChainFits, exec_line};
-ghost use Rattle.input_lines.specs.declared.line.ChainId.{ChainId};
+ghost use Rattle.chain_ids.specs.declared.chain.ChainId.{ChainId};
 
 use crate::line::Line;
 

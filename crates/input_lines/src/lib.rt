@@ -8,7 +8,7 @@ mod number;
 mod words;
 
 pub use law::{law_of_executions, law_of_lines};
-pub use line::{ChainId, Line, read_line};
+pub use line::{Line, read_line};
 pub use lines::{ends_network, line_len, text_of, without_feed};
 
 #[cfg(test)]

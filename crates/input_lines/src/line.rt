@@ -1,30 +1,10 @@
-ghost use Rattle.std.specs.Prelude.{◌≡◌, IfOk, Some};
-ghost use Rattle.input_lines.specs.Step.{read_line_of, exec_words, split_word, chain_text};
+ghost use Rattle.std.specs.Prelude.{◌≡◌, IfOk};
+ghost use Rattle.input_lines.specs.Step.{read_line_of, exec_words, split_word};
 
 use crate::words::{read_account, read_bytes, read_chain, split_word};
+use chain_ids::ChainId;
 use plain_lists::Listed;
 use std::alloc::{AllocError, Global};
-use std::fmt;
-
-/// A chain of the network. Its text is `relay`, or the parachain's number in decimal.
-#[derive(Clone, Copy, Debug, PartialEq, Eq)]
-pub enum ChainId {
-    /// The relay chain.
-    Relay,
-    /// The parachain with this number.
-    Para(u32),
-}
-
-impl fmt::Display for ChainId {
-    ghost output = { λ c. Some (chain_text c) };
-
-    fn fmt<W: fmt::Write>(&self, f: &mut fmt::Formatter<W>) -> fmt::Result {
-        match self {
-            ChainId::Relay => write!(f, "relay"),
-            ChainId::Para(number) => write!(f, "{number}"),
-        }
-    }
-}
 
 /// What a line after the network asks for.
 #[derive(Debug, Drop)]

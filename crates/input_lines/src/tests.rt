@@ -1,6 +1,7 @@
 //! The rules of the lines on examples, and a call of each public function.
 
 use super::*;
+use chain_ids::ChainId;
 use std::test::Fail;
 
 const ACCOUNT: &str = "00ff01AbaB0101010101010101010101010101010101010101010101010101aa";

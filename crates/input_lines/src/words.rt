@@ -3,8 +3,8 @@ ghost use Rattle.std.specs.Prelude.{◌≡◌, IfOk};
 ghost use Rattle.std.specs.Option.{option_map};
 ghost use Rattle.input_lines.specs.Step.{split_word, plain_digits, chain_of, account_of, bytes_of, seen};
 
-use crate::line::ChainId;
 use crate::number::read_number;
+use chain_ids::ChainId;
 use hex::{FromHex, FromHexError};
 use std::alloc::{AllocError, Global};
 

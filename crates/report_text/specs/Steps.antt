@@ -13,9 +13,9 @@ use Rattle.versioned_xcm.specs.declared.fault.MessageFault.{MessageFault}
 use Rattle.xcm_executor.specs.PlainRun.{plain_run}
 use Rattle.xcm_executor.specs.declared.plain.PlainLine.{PlainLine}
 use Rattle.xcm_executor.specs.declared.plain.PlainRun.{PlainRun}
-use Rattle.input_lines.specs.Step.{chain_text}
-use Rattle.input_lines.specs.declared.line.ChainId.{ChainId}
-use Rattle.input_lines.specs.declared.line.ChainId.TheVariants.{Relay, Para}
+use Rattle.chain_ids.specs.Texts.{chain_text}
+use Rattle.chain_ids.specs.declared.chain.ChainId.{ChainId}
+use Rattle.chain_ids.specs.declared.chain.ChainId.TheVariants.{Relay, Para}
 
 -- the first line of a step: its number from 1, and its words without the account and the message
 abbrev pub heading : ℕ → ChainId → List ℕ

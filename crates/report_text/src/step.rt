@@ -4,7 +4,7 @@ ghost use Rattle.versioned_xcm.specs.Reading.{message_of};
 ghost use Rattle.report_text.specs.Steps.{heading, message_text, exec_text};
 
 use crate::run::write_run;
-use input_lines::ChainId;
+use chain_ids::ChainId;
 use std::alloc::{AllocError, Global};
 use std::fmt::Write;
 use versioned_xcm::{MessageFault, decode_message};

@@ -1,7 +1,7 @@
 //! The blocks of executed steps, on examples.
 
 use super::*;
-use input_lines::ChainId;
+use chain_ids::ChainId;
 use plain_lists::Listed;
 use std::test::Fail;
 use xcm_executor::{PlainLine, PlainRun};

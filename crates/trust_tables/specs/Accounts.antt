@@ -9,8 +9,8 @@ use Rattle.locations.specs.declared.grammar.Junction.{Junction}
 use Rattle.locations.specs.declared.grammar.Junction.TheVariants.{Parachain, AccountId32}
 use Rattle.locations.specs.declared.relative.Location.{Location}
 use Rattle.locations.specs.Order.{network_cmp}
-use Rattle.trust_tables.specs.declared.chains.ChainId.{ChainId}
-use Rattle.trust_tables.specs.declared.chains.ChainId.TheVariants.{Relay, Para}
+use Rattle.chain_ids.specs.declared.chain.ChainId.{ChainId}
+use Rattle.chain_ids.specs.declared.chain.ChainId.TheVariants.{Relay, Para}
 use Rattle.trust_tables.specs.declared.chains.Site.{Site}
 
 -- a label of four letters, a parachain's number in four bytes from the lowest on, and zeros

@@ -9,8 +9,8 @@ use Rattle.locations.specs.declared.grammar.Junction.{Junction}
 use Rattle.locations.specs.declared.grammar.Junction.TheVariants.{Parachain, GlobalConsensus}
 use Rattle.locations.specs.declared.relative.Location.{Location}
 use Rattle.locations.specs.Chains.{path_of}
-use Rattle.trust_tables.specs.declared.chains.ChainId.{ChainId}
-use Rattle.trust_tables.specs.declared.chains.ChainId.TheVariants.{Relay, Para}
+use Rattle.chain_ids.specs.declared.chain.ChainId.{ChainId}
+use Rattle.chain_ids.specs.declared.chain.ChainId.TheVariants.{Relay, Para}
 use Rattle.trust_tables.specs.declared.chains.Site.{Site}
 use Rattle.trust_tables.specs.Chains.{below_relay, path_of_site, location_of}
 use Rattle.trust_tables.specs.Accounts.{account_of, labelled, sibling_account, parent_account, child_at, sibling_at, parent_at, sovereign_account, IsSovereign, IsChain}

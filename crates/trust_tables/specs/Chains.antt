@@ -4,8 +4,8 @@ use Rattle.std.specs.Prelude.{if◌then◌else◌, ◌==◌, List, [], ◌∷◌
 use Rattle.locations.specs.declared.grammar.Junction.{Junction}
 use Rattle.locations.specs.declared.grammar.Junction.TheVariants.{Parachain, GlobalConsensus}
 use Rattle.locations.specs.declared.relative.Location.{Location}
-use Rattle.trust_tables.specs.declared.chains.ChainId.{ChainId}
-use Rattle.trust_tables.specs.declared.chains.ChainId.TheVariants.{Relay, Para}
+use Rattle.chain_ids.specs.declared.chain.ChainId.{ChainId}
+use Rattle.chain_ids.specs.declared.chain.ChainId.TheVariants.{Relay, Para}
 use Rattle.trust_tables.specs.declared.chains.Site.{Site}
 
 -- the junctions from the relay chain to a chain

@@ -12,7 +12,7 @@ use Rattle.asset_lists.specs.declared.units.Fun.{Fun}
 use Rattle.asset_lists.specs.declared.units.Fun.TheVariants as fun
 use Rattle.asset_lists.specs.declared.units.Kind.{Kind}
 use Rattle.asset_lists.specs.declared.units.Kind.TheVariants as kind
-use Rattle.trust_tables.specs.declared.chains.ChainId.{ChainId}
+use Rattle.chain_ids.specs.declared.chain.ChainId.{ChainId}
 use Rattle.trust_tables.specs.declared.chains.Site.{Site}
 use Rattle.trust_tables.specs.declared.rows.AssetRow.{AssetRow}
 use Rattle.trust_tables.specs.declared.rows.AssetRole.{AssetRole}

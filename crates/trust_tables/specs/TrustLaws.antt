@@ -11,7 +11,7 @@ use Rattle.asset_lists.specs.declared.units.AssetId.{AssetId}
 use Rattle.asset_lists.specs.declared.units.AssetId.TheVariants.{Concrete, Abstract}
 use Rattle.asset_lists.specs.declared.units.Kind.{Kind}
 use Rattle.asset_lists.specs.declared.units.Kind.TheVariants.{Fungible, Class}
-use Rattle.trust_tables.specs.declared.chains.ChainId.{ChainId}
+use Rattle.chain_ids.specs.declared.chain.ChainId.{ChainId}
 use Rattle.trust_tables.specs.declared.chains.Site.{Site}
 use Rattle.trust_tables.specs.declared.rows.AssetRow.{AssetRow}
 use Rattle.trust_tables.specs.declared.rows.AssetRole.{AssetRole}

@@ -3,16 +3,8 @@ ghost use Rattle.std.specs.Prelude.{◌≡◌, ◌≢◌, ◌<◌, ◌++◌, [],
 ghost use Rattle.trust_tables.specs.Chains as chains;
 ghost use Rattle.trust_tables.specs.Chains.{path_of_site};
 
+use chain_ids::ChainId;
 use locations::{Junction, Junctions, Location, NetworkId};
-
-/// A chain of a network: the relay chain, or one of its parachains.
-#[derive(Clone, Copy, Debug, PartialEq, Eq, PartialOrd, Ord)]
-pub enum ChainId {
-    /// The relay chain.
-    Relay,
-    /// The parachain of this number.
-    Para(u32),
-}
 
 /// Where a chain stands: its network, and which chain of it.
 #[derive(Clone, Copy, Debug, PartialEq, Eq)]

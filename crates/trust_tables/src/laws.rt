@@ -4,7 +4,7 @@ ghost use Rattle.locations.specs.declared.grammar.NetworkId.{NetworkId};
 ghost use Rattle.locations.specs.declared.relative.Location.{Location};
 ghost use Rattle.locations.specs.Chains.{path_of};
 ghost use Rattle.asset_lists.specs.declared.units.Asset.{Asset};
-ghost use Rattle.trust_tables.specs.declared.chains.ChainId.{ChainId};
+ghost use Rattle.chain_ids.specs.declared.chain.ChainId.{ChainId};
 ghost use Rattle.trust_tables.specs.declared.chains.Site.{Site};
 ghost use Rattle.trust_tables.specs.declared.rows.AssetRow.{AssetRow};
 ghost use Rattle.trust_tables.specs.Chains.{location_of, path_of_site};

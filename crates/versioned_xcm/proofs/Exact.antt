@@ -5,11 +5,11 @@ use Rattle.std.proofs.lemmas.Bool.Decides.{nat_tests}
 use Rattle.std.proofs.lemmas.List.{append-nil}
 use Rattle.std.specs.Prelude.{nat_lt, nat_le, ◌||◌}
 use Rattle.std.specs.List.{AllByRecursion}
-use Rattle.scale_codec.specs.Spelling.{compact}
+use Rattle.scale_codec.specs.Spelling.{compact, joined}
 use Rattle.scale_codec.specs.Reading.{Reads, u8_at, below_at}
 use Rattle.scale_codec.proofs.Compact.{below_reads}
 use Rattle.scale_codec.proofs.Steps.{passed}
-use Rattle.xcm_program.specs.Spelling.{instruction_spelling, program_spelling, joined, is_built_index, Fits}
+use Rattle.xcm_program.specs.Spelling.{instruction_spelling, program_spelling, is_built_index, Fits}
 use Rattle.xcm_program.specs.declared.instruction.Instruction.{Instruction}
 use Rattle.xcm_program.specs.declared.instruction.Instruction.TheVariants.{ClearOrigin, Trap}
 use Rattle.versioned_xcm.specs.declared.fault.MessageFault.{MessageFault}

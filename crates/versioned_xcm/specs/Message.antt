@@ -3,8 +3,8 @@
 -- instructions are built.
 use Rattle.std.specs.Prelude.{◌≡◌, ◌≢◌, ◌≤◌, ◌<◌, ◌⊎◌, ℕ, List, ◌∷◌, ◌++◌, length, map, false, codes}
 use Rattle.std.specs.List.{AllByRecursion}
-use Rattle.scale_codec.specs.Spelling.{compact}
-use Rattle.xcm_program.specs.Spelling.{instruction_spelling, program_spelling, joined, is_built_index, Fits}
+use Rattle.scale_codec.specs.Spelling.{compact, joined}
+use Rattle.xcm_program.specs.Spelling.{instruction_spelling, program_spelling, is_built_index, Fits}
 use Rattle.xcm_program.specs.declared.instruction.Instruction.{Instruction}
 use Rattle.versioned_xcm.specs.declared.fault.MessageFault.{MessageFault}
 use Rattle.versioned_xcm.specs.declared.fault.MessageFault.TheVariants.{TooLong, UnknownVersion, NotBuilt, NotAMessage, Memory}

@@ -7,7 +7,7 @@ use Rattle.std.specs.Prelude.{Vec, nat_le, codes, ◌||◌}
 use Rattle.xcm_io.specs.Bytes.{IsFront, IsProperFront}
 use Rattle.input_lines.specs.Lines.{line_text, network_part, later_lines, lines_through, bytes_through, is_mark, has_mark}
 use Rattle.input_lines.specs.Step.{read_line_of}
-use Rattle.input_lines.specs.declared.line.ChainId.{ChainId}
+use Rattle.chain_ids.specs.declared.chain.ChainId.{ChainId}
 use Rattle.input_lines.specs.declared.line.Line.TheVariants.{NoStep, Exec, Refused}
 use Rattle.network_config.specs.Document.{network_of}
 use Rattle.network_config.specs.declared.document.NetworkSpec.{NetworkSpec}

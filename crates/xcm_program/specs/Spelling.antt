@@ -1,7 +1,7 @@
 -- The spelling of programs and messages. Source: the SCALE codec for numbers and lists, the XCM format for the indices and
 -- fields.
-use Rattle.std.specs.Prelude.{◌<◌, ◌^◌, ℕ, List, [], ◌∷◌, ◌++◌, length, map, Bool, ◌==◌, ◌||◌}
-use Rattle.scale_codec.specs.Spelling.{compact}
+use Rattle.std.specs.Prelude.{◌<◌, ◌^◌, ℕ, List, [], ◌∷◌, Bool, ◌==◌, ◌||◌}
+use Rattle.scale_codec.specs.Spelling.{compact, counted}
 use Rattle.xcm_program.specs.declared.instruction.Instruction.{Instruction}
 use Rattle.xcm_program.specs.declared.instruction.Instruction.TheVariants.{ClearOrigin, Trap}
 
@@ -20,14 +20,9 @@ abbrev pub Fits : Instruction → Type 0
 Fits ClearOrigin = Unit {0}
 Fits (Trap code) = code < 2 ^ 64
 
--- the instructions one after the other
-abbrev pub joined : List (List ℕ) → List ℕ
-joined [] = []
-joined (text ∷ texts) = text ++ joined texts
-
 -- their number, and the instructions in order
 abbrev pub program_spelling : List Instruction → List ℕ
-program_spelling program = compact (length program) ++ joined (map instruction_spelling program)
+program_spelling = counted compact instruction_spelling
 
 -- the indices of the instructions that are built
 abbrev pub is_built_index : ℕ → Bool
