@@ -15,3 +15,6 @@ pub use bundle::AssetBundle;
 pub use faults::TakeFault;
 pub use laws::{law_of_books, law_of_bundles, law_of_conservation, law_of_filters, law_of_joins};
 pub use units::Units;
+
+#[cfg(test)]
+mod tests;
