@@ -3,3 +3,4 @@ pub mod Listing
 pub mod Minting
 pub mod Parts
 pub mod Giving
+pub mod Burning

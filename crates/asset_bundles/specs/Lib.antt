@@ -8,3 +8,6 @@ pub mod Books
 pub mod Laws
 pub mod Portions
 pub mod Taking
+pub mod Totals
+pub mod BookCode
+pub mod BookRows

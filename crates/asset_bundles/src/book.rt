@@ -1,4 +1,6 @@
 //! The book of burns.
+use asset_lists::{AssetId, Kind};
+use std::marker::Model;
 
 /// Why assets were given up.
 #[derive(Clone, Copy, Debug, PartialEq, Eq, PartialOrd, Ord)]
@@ -19,4 +21,36 @@ pub enum Cause {
 pub struct Total {
     pub low: u128,
     pub high: u32,
+}
+
+/// A listed asset, and what was burned of it for each cause.
+#[derive(Drop)]
+pub(crate) struct BookRow {
+    pub(crate) id: AssetId,
+    pub(crate) kind: Kind,
+    pub(crate) burned: Total,
+    pub(crate) lost: Total,
+    pub(crate) merged: Total,
+    pub(crate) saturated: Total,
+}
+
+/// The book of burns: for each listed asset and each cause a total. Its rows are made when it opens.
+#[derive(Drop)]
+pub struct BurnBook {
+    pub(crate) rows: Vec<BookRow>,
+}
+
+impl Model for BurnBook {
+    ghost use Rattle.asset_bundles.specs.Books.{Book};
+    ghost use Rattle.asset_bundles.specs.BookCode.{book_code};
+
+    ghost Value = { Book };
+
+    ghost coded = { book_code };
+
+    ghost use Rattle.asset_bundles.specs.BookRows.{book_of, Stands};
+
+    ghost view = { λ b. book_of b.rows.items };
+
+    ghost invariant = { λ b. Stands b.rows.items };
 }

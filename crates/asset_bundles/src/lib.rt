@@ -2,6 +2,7 @@
 #![tactic(auto)]
 
 mod book;
+mod booking;
 mod bundle;
 mod faults;
 mod items;
@@ -10,7 +11,7 @@ mod portions;
 mod spending;
 mod units;
 
-pub use book::{Cause, Total};
+pub use book::{BurnBook, Cause, Total};
 pub use bundle::AssetBundle;
 pub use faults::TakeFault;
 pub use laws::{law_of_books, law_of_bundles, law_of_conservation, law_of_filters, law_of_joins};

@@ -1,0 +1,63 @@
+-- The rows that the code keeps, as the book that they are.
+use Rattle.std.specs.Prelude.{◌≡◌, ℕ, ◌+◌, ◌-◌, ◌*◌, ◌^◌, ◌≤◌, min, Bool, true, false, not, ◌&&◌, nat_eq, if◌then◌else◌, List, [], ◌∷◌}
+use Rattle.std.specs.Ordering.{eq_by_cmp, nat_cmp}
+use Rattle.amounts.specs.Amounts.{amount}
+use Rattle.amounts.specs.Entries.{from_entries}
+use Rattle.asset_bundles.specs.declared.book.Cause.{Cause}
+use Rattle.asset_bundles.specs.declared.book.Total.{Total}
+use Rattle.asset_bundles.specs.declared.book.BookRow.{BookRow}
+use Rattle.asset_bundles.specs.Books.{Listed, listed_cmp, cause_index, Burn, Book}
+use Rattle.asset_bundles.specs.Totals.{total_value}
+
+abbrev pub row_key : BookRow → Listed
+row_key r = (r.id, r.kind)
+
+abbrev pub total_for : Cause → BookRow → Total
+total_for Cause.BurnAsset r = r.burned
+total_for Cause.LostTeleport r = r.lost
+total_for Cause.Merged r = r.merged
+total_for Cause.Saturated r = r.saturated
+
+abbrev pub entry_for : Cause → BookRow → Burn × ℕ
+entry_for cause r = ((row_key r, cause), total_value (total_for cause r))
+
+abbrev pub keys_in : List BookRow → List Listed
+keys_in [] = []
+keys_in (r ∷ rs) = row_key r ∷ keys_in rs
+
+abbrev pub entries_in : List BookRow → List (Burn × ℕ)
+entries_in [] = []
+entries_in (r ∷ rs) = entry_for Cause.BurnAsset r ∷ entry_for Cause.LostTeleport r ∷ entry_for Cause.Merged r ∷ entry_for Cause.Saturated r ∷ entries_in rs
+
+unfoldable pub book_of : List BookRow → Book
+book_of rs = record { listed = keys_in rs; burns = from_entries (entries_in rs) }
+
+-- the total of the first row of an asset, or 0
+abbrev pub total_at : Listed → Cause → List BookRow → ℕ
+total_at k cause [] = 0
+total_at k cause (r ∷ rs) = if eq_by_cmp listed_cmp k (row_key r) then total_value (total_for cause r) else total_at k cause rs
+
+-- no total has passed its end
+abbrev pub Stands : List BookRow → Type 0
+Stands rs = (k : Listed) (cause : Cause) → total_at k cause rs ≤ 2 ^ 160 - 1
+
+abbrev pub is_other_row : Listed → BookRow → Bool
+is_other_row k r = not (eq_by_cmp listed_cmp k (row_key r))
+
+abbrev pub is_cause : Cause → Cause → Bool
+is_cause c d = eq_by_cmp nat_cmp (cause_index c) (cause_index d)
+
+-- a row with so much more for one cause
+pub record IsBurned (cause : Cause) (n : ℕ) (old new : BookRow) : Type 0 where
+  pub key : row_key new ≡ row_key old
+  pub totals : (c : Cause) → total_value (total_for c new) ≡ (if is_cause c cause then min (total_value (total_for c old) + n) (2 ^ 160 - 1) else total_value (total_for c old))
+
+abbrev pub CasesOf : Bool → Type 0 → Type 0 → Type 0
+CasesOf true P Q = P
+CasesOf false P Q = Q
+
+-- the first row of the asset with so much more
+abbrev pub IsBooked : Listed → Cause → ℕ → List BookRow → List BookRow → Type 0
+IsBooked k cause n [] new = new ≡ []
+IsBooked k cause n (r ∷ rs) [] = ⊥
+IsBooked k cause n (r ∷ rs) (s ∷ ss) = CasesOf (eq_by_cmp listed_cmp k (row_key r)) (IsBurned cause n r s × (ss ≡ rs)) ((s ≡ r) × IsBooked k cause n rs ss)

@@ -1,0 +1,174 @@
+//! Burns written into the book, and read.
+ghost use Rattle.std.specs.Prelude.{◌≡◌, ◌+◌, ◌-◌, ◌^◌, ◌≤◌, min, length, IsTrue, IfOk};
+ghost use Rattle.std.specs.List.{prefix_len};
+ghost use Rattle.std.specs.Ordering.{eq_by_cmp, nat_cmp};
+ghost use Rattle.amounts.specs.Amounts.{amount, single, empty};
+ghost use Rattle.asset_bundles.specs.Totals.{total_value};
+ghost use Rattle.asset_bundles.specs.declared.book.Cause.{Cause};
+ghost use Rattle.asset_bundles.specs.Books.{Booked, Listed, listed_cmp, kind_number, lists};
+ghost use Rattle.asset_bundles.specs.BookRows.{row_key, keys_in, total_for, total_at, is_other_row, IsBurned, IsBooked};
+
+use crate::book::BookRow;
+use crate::{BurnBook, Cause, Total};
+use asset_lists::{AssetId, Kind};
+use std::alloc::{AllocError, Global};
+
+/// Nothing burned.
+const NONE: Total = Total { low: 0, high: 0 };
+
+impl Total {
+    /// So much more; it stands at 2^160-1 where it would pass it.
+    fn plus(self, amount: u128) -> Total
+        ensures { total_value result ≡ min (total_value self + amount) (2 ^ 160 - 1) }
+    {
+        if amount <= u128::MAX - self.low {
+            return Total {
+                low: self.low + amount,
+                high: self.high,
+            };
+        }
+        if self.high == u32::MAX {
+            return Total {
+                low: u128::MAX,
+                high: u32::MAX,
+            };
+        }
+        Total {
+            low: amount - (u128::MAX - self.low) - 1,
+            high: self.high + 1,
+        }
+    }
+}
+
+impl BookRow {
+    /// The row of an asset of which nothing was burned.
+    fn new(id: &AssetId, kind: Kind) -> BookRow
+        ensures key { row_key result ≡ (id.now, kind) }
+        ensures none { (c : Cause) → total_value (total_for c result) ≡ 0 }
+    {
+        BookRow {
+            id: id.copy(),
+            kind,
+            burned: NONE,
+            lost: NONE,
+            merged: NONE,
+            saturated: NONE,
+        }
+    }
+
+    /// Whether it is the row of this asset.
+    fn is_of(&self, id: &AssetId, kind: Kind) -> bool
+        ensures { result ≡ eq_by_cmp listed_cmp (id.now, kind) (row_key self.now) }
+    {
+        *id == self.id && is_same_kind(kind, self.kind)
+    }
+
+    /// What was burned for a cause.
+    fn total(&self, cause: Cause) -> Total
+        ensures { result ≡ total_for cause self.now }
+    {
+        match cause {
+            Cause::BurnAsset => self.burned,
+            Cause::LostTeleport => self.lost,
+            Cause::Merged => self.merged,
+            Cause::Saturated => self.saturated,
+        }
+    }
+
+    /// Adds to what was burned for a cause.
+    fn add(&mut self, cause: Cause, amount: u128)
+        ensures { IsBurned cause amount self.old self.new }
+    {
+        match cause {
+            Cause::BurnAsset => self.burned = self.burned.plus(amount),
+            Cause::LostTeleport => self.lost = self.lost.plus(amount),
+            Cause::Merged => self.merged = self.merged.plus(amount),
+            Cause::Saturated => self.saturated = self.saturated.plus(amount),
+        }
+    }
+}
+
+/// Whether both are amounts, or both classes.
+fn is_same_kind(kind: Kind, other: Kind) -> bool
+    ensures { result ≡ eq_by_cmp nat_cmp (kind_number kind) (kind_number other) }
+{
+    match (kind, other) {
+        (Kind::Fungible, Kind::Fungible) => true,
+        (Kind::Fungible, Kind::Class) => false,
+        (Kind::Class, Kind::Fungible) => false,
+        (Kind::Class, Kind::Class) => true,
+    }
+}
+
+/// Where the row of an asset is: how many others stand before it.
+fn place_of(rows: &[BookRow], id: &AssetId, kind: Kind) -> usize
+    ensures place { result ≡ prefix_len (is_other_row (id.now, kind)) rows.now }
+    ensures within { result ≤ length rows.now }
+{
+    for (i, row) in rows.iter().enumerate() {
+        if row.is_of(id, kind) {
+            return i;
+        }
+    }
+    rows.len()
+}
+
+/// Adds to the row of an asset, if there is one.
+fn book_into(rows: &mut Vec<BookRow>, id: &AssetId, kind: Kind, cause: Cause, amount: u128)
+    ensures { IsBooked (id.now, kind) cause amount rows.old.items rows.new.items }
+{
+    let place = place_of(rows.as_slice(), id, kind);
+    if place >= rows.len() {
+        return;
+    }
+    rows[place].add(cause, amount);
+}
+
+/// What was burned of an asset, by its row.
+fn total_in(rows: &[BookRow], id: &AssetId, kind: Kind, cause: Cause) -> Total
+    ensures { total_value result ≡ total_at (id.now, kind) cause rows.now }
+{
+    for row in rows {
+        if row.is_of(id, kind) {
+            return row.total(cause);
+        }
+    }
+    NONE
+}
+
+/// A row for each asset, of which nothing was burned.
+fn new_rows(alloc: Global, assets: &[(AssetId, Kind)]) -> Result<Vec<BookRow>, AllocError>
+    ensures keys { IfOk result (λ rows. keys_in rows.items ≡ assets.now) }
+    ensures none { IfOk result (λ rows. (k : Listed) (c : Cause) → total_at k c rows.items ≡ 0) }
+{
+    let mut rows = Vec::new(alloc);
+    for asset in assets {
+        rows.push(BookRow::new(&asset.0, asset.1))?;
+    }
+    Ok(rows)
+}
+
+impl BurnBook {
+    /// A book of these assets, with nothing burned.
+    pub fn new(alloc: Global, rows: &[(AssetId, Kind)]) -> Result<BurnBook, AllocError>
+        ensures { IfOk result (λ book. book ≡ record { listed = rows.now; burns = empty }) }
+    {
+        let rows = new_rows(alloc, rows)?;
+        Ok(BurnBook { rows })
+    }
+
+    /// What was burned of an asset for a cause; 0 where the book doesn't list it.
+    pub fn total(&self, id: &AssetId, kind: Kind, cause: Cause) -> Total
+        ensures { total_value result ≡ amount self.now.burns ((id.now, kind), cause) }
+    {
+        total_in(self.rows.as_slice(), id, kind, cause)
+    }
+
+    /// Books so much of a listed asset.
+    pub(crate) fn add(&mut self, id: &AssetId, kind: Kind, cause: Cause, amount: u128)
+        requires { IsTrue (lists self.old.listed (id.now, kind)) }
+        ensures { self.new ≡ Booked self.old (single ((id.now, kind), cause) amount) }
+    {
+        book_into(&mut self.rows, id, kind, cause, amount);
+    }
+}
