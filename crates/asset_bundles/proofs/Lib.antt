@@ -4,3 +4,4 @@ pub mod Minting
 pub mod Parts
 pub mod Giving
 pub mod Burning
+pub mod BookedAll

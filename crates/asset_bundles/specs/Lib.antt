@@ -11,3 +11,4 @@ pub mod Taking
 pub mod Totals
 pub mod BookCode
 pub mod BookRows
+pub mod Losing

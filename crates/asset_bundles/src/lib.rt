@@ -4,10 +4,13 @@
 mod book;
 mod booking;
 mod bundle;
+mod burns;
 mod faults;
 mod items;
 mod laws;
 mod portions;
+mod shipment;
+mod shipping;
 mod spending;
 mod units;
 
@@ -15,6 +18,7 @@ pub use book::{BurnBook, Cause, Total};
 pub use bundle::AssetBundle;
 pub use faults::TakeFault;
 pub use laws::{law_of_books, law_of_bundles, law_of_conservation, law_of_filters, law_of_joins};
+pub use shipment::{Shipment, Way};
 pub use units::Units;
 
 #[cfg(test)]

@@ -1,0 +1,44 @@
+//! Bundles that are burned.
+ghost use Rattle.std.specs.Prelude.{◌≡◌, IsTrue};
+ghost use Rattle.std.specs.List.{list_all};
+ghost use Rattle.amounts.specs.Amounts.{from_rows};
+ghost use Rattle.amounts.specs.Rows.{rows_at};
+ghost use Rattle.asset_lists.specs.Units.{unit_of, instance_in};
+ghost use Rattle.asset_bundles.specs.Bundles.{rows_of};
+ghost use Rattle.asset_bundles.specs.Books.{Booked, Covers, burned_for, kind_of, listed_of, lists};
+
+use crate::items::amount_of;
+use crate::{AssetBundle, BurnBook, Cause};
+use asset_lists::{Asset, Fun, Kind};
+
+/// Whether it is an amount or an instance of a class.
+fn kind_of(item: &Asset) -> Kind
+    ensures { result ≡ kind_of (instance_in item.now.fun) }
+{
+    match item.fun {
+        Fun::Fungible(_) => Kind::Fungible,
+        Fun::NonFungible(_) => Kind::Class,
+    }
+}
+
+/// Books all these assets for one cause.
+fn book_all(book: &mut BurnBook, items: &[Asset], cause: Cause)
+    requires { IsTrue (list_all (λ a. lists book.old.listed (listed_of (unit_of a))) items.now) }
+    ensures { book.new ≡ Booked book.old (from_rows (rows_at (λ unit. (listed_of unit, cause)) (rows_of items.now))) }
+{
+    let _ = &book.rows;
+    for item in items {
+        book.add(&item.id, kind_of(item), cause, amount_of(item));
+    }
+}
+
+impl AssetBundle {
+    /// Burns all of it, and books it for this cause. The book lists each asset of it.
+    pub fn burn(self, book: &mut BurnBook, cause: Cause)
+        requires { Covers book.old self }
+        ensures { book.new ≡ Booked book.old (burned_for cause self) }
+    {
+        let AssetBundle { items } = self;
+        book_all(book, items.as_slice(), cause);
+    }
+}
