@@ -18,7 +18,6 @@ use Rattle.asset_bundles.specs.declared.book.BookRow.{BookRow}
 use Rattle.asset_bundles.specs.BookRows.{book_of, Stands}
 use Rattle.asset_bundles.proofs.Burning.{amount-book}
 
-
 standing_same : (rs : List BookRow) → Stands rs → Standing (book_of rs).burns ≡ (book_of rs).burns
 standing_same rs stands = same_amounts burn_keys _ _ (λ q.
     let least = amount-Standing (book_of rs).burns q in
@@ -45,7 +44,7 @@ booked_push book es k n i = record {
   listed = book.listed;
   burns = (standing_again (merge book.burns (from_rows es)) (single k n)
       ∙ ap Standing (merge_assoc burn_keys book.burns (from_rows es) (single k n) ∙ ap (λ m. merge book.burns (merge (from_rows es) m)) (sym (one_row k n))
-        ∙ ap (merge book.burns) (sym (from_rows-append burn_keys es ((k, n) ∷ []))))) i;
+      ∙ ap (merge book.burns) (sym (from_rows-append burn_keys es ((k, n) ∷ []))))) i;
 }
 
 rows-push : (cause : Cause) (xs : List Asset) (a : Asset) → rows_at (burn_of cause) (rows_of (xs ++ a ∷ [])) ≡ rows_at (burn_of cause) (rows_of xs) ++ ((listed_of (unit_of a), cause), amount_of a) ∷ []

@@ -1,7 +1,10 @@
 //! Each public call once, with values worked out by hand.
 ghost use Rattle.std.specs.Prelude.{◌≤◌, length};
 
-use crate::{AssetBundle, TakeFault};
+use crate::{
+    AssetBundle, BurnBook, Cause, TakeFault, Total, Way, law_of_books, law_of_bundles,
+    law_of_conservation, law_of_filters, law_of_joins,
+};
 use asset_lists::{Asset, AssetId, Assets, Filter, Fun, Instance, Kind, Wild, WildFun};
 use locations::{Junction, Junctions, Location};
 use std::alloc::{AllocError, Global};
@@ -175,4 +178,45 @@ fn units_rest_and_are_taken_up(rt: HostRuntime) -> Result<(), Fail> {
     nothing.melt();
     assert_eq!(rt; none, 0);
     Ok(())
+}
+
+/// Burns and loses empty bundles.
+fn burn_nothing(alloc: Global, book: &mut BurnBook) {
+    AssetBundle::empty(alloc).burn(book, Cause::BurnAsset);
+    let shipment = AssetBundle::empty(alloc).ship(Way::Teleport);
+    shipment.lose(book);
+}
+
+#[test]
+fn a_book_opens_with_nothing_burned(rt: HostRuntime) -> Result<(), Fail> {
+    let alloc = rt.alloc();
+    let assets = vec![in alloc; (coin(), Kind::Fungible), (class(), Kind::Class)]?;
+    let mut book = BurnBook::new(alloc, assets.as_slice())?;
+    burn_nothing(alloc, &mut book);
+    let none = Total { low: 0, high: 0 };
+    let burned = book.total(&coin(), Kind::Fungible, Cause::BurnAsset);
+    let unlisted = book.total(&coin(), Kind::Class, Cause::LostTeleport);
+    assert_eq!(rt; burned, none);
+    assert_eq!(rt; unlisted, none);
+    Ok(())
+}
+
+#[test]
+fn a_shipment_tells_what_it_holds(rt: HostRuntime) -> Result<(), Fail> {
+    let alloc = rt.alloc();
+    let list = three_kinds(alloc)?;
+    let shipment = minted(alloc, &list)?.ship(Way::Withdrawal);
+    assert_eq!(rt; shipment.way(), Way::Withdrawal);
+    assert_eq!(rt; shipment.total(&class(), Kind::Class), 2);
+    assert_eq!(rt; shipment.list()?.len(), 3);
+    Ok(())
+}
+
+#[test]
+fn laws() {
+    law_of_bundles();
+    law_of_filters();
+    law_of_joins();
+    law_of_books();
+    law_of_conservation();
 }

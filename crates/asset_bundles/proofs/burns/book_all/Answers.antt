@@ -19,5 +19,5 @@ pub loop-item-preserved : goal.loop-item-preserved
 loop-item-preserved c =
     booked_more c.args.cause _ c.loop-item.item-index c.item-item.result c.args.book.now c.loop-item.book _ c.loop-item-test.true c.item-item.is
     (c.add.ensures ∙ ap (λ k. Booked c.loop-item.book (single ((c.item-item.result.id, k), c.args.cause) c.amount_of.result)) c.kind_of.ensures
-      ∙ ap (λ n. Booked c.loop-item.book (single (listed_of (unit_of c.item-item.result), c.args.cause) n)) c.amount_of.ensures)
+    ∙ ap (λ n. Booked c.loop-item.book (single (listed_of (unit_of c.item-item.result), c.args.cause) n)) c.amount_of.ensures)
     c.loop-item.invariant
