@@ -1,18 +1,18 @@
 -- All assets of a list, booked one after the other.
-use Rattle.std.proofs.Common.{◌≡◌, ℕ, zero, suc, ◌+◌, ◌-◌, ◌^◌, ◌<◌, ◌≤◌, min, Bool, true, false, ◌&&◌, List, [], ◌∷◌, ◌++◌, length, get_or, take, take_all, refl, sym, ap, ◌∙◌, subst, arith}
+use Rattle.std.proofs.Common.{◌≡◌, ℕ, zero, suc, ◌+◌, ◌<◌, ◌≤◌, Bool, true, List, [], ◌∷◌, ◌++◌, length, get_or, take, refl, sym, ap, ◌∙◌, arith}
 use Rattle.std.specs.List.{list_all}
 use Rattle.std.specs.Ordering.{eq_by_cmp}
 use Rattle.std.proofs.lemmas.Bool.{and_from, and_parts}
 use Rattle.std.proofs.lemmas.List.{take_more}
 use Rattle.amounts.specs.Rows.{rows_at, sum_where, amount_if, IsPositive}
-use Rattle.amounts.specs.Amounts.{amount, rows, empty, from_rows, merge, single, map_keys, same_amounts, amount-empty}
-use Rattle.amounts.specs.Laws.{amount-merge, amount-from_rows, amount-single, merge-empty, merge_assoc, from_rows-append, same_key}
+use Rattle.amounts.specs.Amounts.{amount, empty, from_rows, merge, single, map_keys, same_amounts, amount-empty}
+use Rattle.amounts.specs.Laws.{amount-from_rows, amount-single, merge-empty, merge_assoc, from_rows-append, same_key}
 use Rattle.asset_lists.specs.declared.units.Asset.{Asset}
 use Rattle.asset_lists.specs.Units.{Unit, unit_of, amount_of, unit_cmp}
 use Rattle.asset_bundles.specs.declared.book.Cause.{Cause}
-use Rattle.asset_bundles.specs.Bundles.{Bundle, unit_keys, rows_of, bundle_of, IsHolding}
+use Rattle.asset_bundles.specs.Bundles.{unit_keys, rows_of, bundle_of, IsHolding}
 use Rattle.asset_bundles.specs.BundleLaws.{rows-holding, amount-bundle_of}
-use Rattle.asset_bundles.specs.Books.{Listed, Burn, burn_cmp, Burns, Book, Booked, Standing, Covers, burned_for, listed_of, lists}
+use Rattle.asset_bundles.specs.Books.{Listed, Burn, burn_cmp, Book, Booked, Standing, Covers, burned_for, listed_of, lists}
 use Rattle.asset_bundles.specs.Laws.{burn_keys, amount-Standing, standing_again}
 use Rattle.asset_bundles.specs.declared.book.BookRow.{BookRow}
 use Rattle.asset_bundles.specs.BookRows.{book_of, Stands}

@@ -1,6 +1,6 @@
 -- Rows of the book, as the map that they are.
-use Rattle.std.proofs.Common.{◌≡◌, ℕ, zero, suc, ◌+◌, ◌-◌, ◌*◌, ◌^◌, ◌<◌, ◌≤◌, min, Bool, true, false, ◌&&◌, ◌||◌, List, [], ◌∷◌, ◌++◌, length, get_or, take, drop, refl, sym, ap, ◌∙◌, subst, arith, add-one, drop-cons}
-use Rattle.std.specs.Prelude.{if◌then◌else◌, unwrap_or, Option, Some, None, not, slice_set, nat_eq}
+use Rattle.std.proofs.Common.{◌≡◌, ℕ, zero, suc, ◌+◌, ◌-◌, ◌^◌, ◌<◌, ◌≤◌, min, Bool, true, false, ◌&&◌, ◌||◌, List, [], ◌∷◌, ◌++◌, length, get_or, take, drop, refl, sym, ap, ◌∙◌, subst, arith, add-one, drop-cons}
+use Rattle.std.specs.Prelude.{if◌then◌else◌, unwrap_or, Option, Some, not, slice_set}
 use Rattle.std.specs.List.{prefix_len}
 use Rattle.std.specs.Ordering.{eq_by_cmp, is_eq, ordering_then, nat_cmp}
 use Rattle.std.specs.declared.cmp.Ordering.{Ordering}
@@ -12,12 +12,11 @@ use Rattle.std.specs.Cmp.{eq_by_cmp_equiv}
 use Rattle.amounts.specs.Rows.{amount_if}
 use Rattle.amounts.specs.Amounts.{amount, empty, merge, single, same_amounts, amount-empty}
 use Rattle.amounts.specs.Laws.{amount-merge, amount-single, key_same}
-use Rattle.amounts.specs.Entries.{from_entries, amount-from_entries}
+use Rattle.amounts.specs.Entries.{amount-from_entries}
 use Rattle.asset_bundles.specs.declared.book.Cause.{Cause}
-use Rattle.asset_bundles.specs.declared.book.Total.{Total}
 use Rattle.asset_bundles.specs.declared.book.BookRow.{BookRow}
 use Rattle.asset_bundles.specs.Totals.{total_value}
-use Rattle.asset_bundles.specs.Books.{Listed, listed_cmp, cause_index, Burn, burn_cmp, Burns, Book, Booked, Standing, lists}
+use Rattle.asset_bundles.specs.Books.{Listed, listed_cmp, cause_index, burn_cmp, Booked, Standing, lists}
 use Rattle.asset_bundles.specs.Laws.{burn_keys, listed_keys, amount-Standing}
 use Rattle.asset_bundles.specs.BookRows.{row_key, total_for, entries_in, keys_in, book_of, total_at, Stands, is_other_row, is_cause, IsBurned, CasesOf, IsBooked}
 
