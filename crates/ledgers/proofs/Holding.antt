@@ -1,5 +1,5 @@
 -- The list of what a bundle holds has each unit once, and no amount of 0.
-use Rattle.std.proofs.Common.{◌≡◌, ℕ, zero, suc, ◌<◌, ◌≤◌, true, false, ◌&&◌, ◌||◌, List, [], ◌∷◌, Option, Some, None, refl, ap, ◌∙◌, arith}
+use Rattle.std.proofs.Common.{◌≡◌, ℕ, ◌<◌, ◌≤◌, true, false, ◌&&◌, ◌||◌, List, [], ◌∷◌, Option, Some, None, refl, ap, ◌∙◌, arith}
 use Rattle.std.specs.Prelude.{nat_eq}
 use Rattle.std.specs.Ordering.{is_lt}
 use Rattle.std.specs.List.Sorted.{IsStrictlySortedBy}
@@ -7,8 +7,7 @@ use Rattle.std.specs.Map.{keys_of}
 use Rattle.amounts.specs.Rows.{IsPositive, keys_rising}
 use Rattle.amounts.specs.Amounts.{rows, rows_sorted, rows_positive}
 use Rattle.asset_lists.specs.declared.units.Instance.{Instance}
-use Rattle.asset_lists.specs.declared.units.Asset.{Asset}
-use Rattle.asset_lists.specs.Units.{Unit, unit_of, unit_cmp, instance_in, amount_in, is_before}
+use Rattle.asset_lists.specs.Units.{Unit, unit_of, unit_cmp, instance_in, amount_in}
 use Rattle.asset_lists.specs.Lists.{has_zero, is_rising}
 use Rattle.asset_lists.specs.Moves.{count_of}
 use Rattle.asset_lists.proofs.Sorting.{once_each}

@@ -1,3 +1,4 @@
 pub mod Cutting
 pub mod Holding
 pub mod Claiming
+pub mod Conserving

@@ -1,14 +1,13 @@
 -- The trap store: what was left in the holding register, kept until it is claimed.
 -- Source: xcm-executor's documentation of asset traps and claims. Pieces and numbers are this project's own rule.
-use Rattle.std.specs.Prelude.{◌≡◌, ℕ, zero, suc, ◌+◌, ◌-◌, ◌*◌, ◌/◌, ◌%◌, ◌^◌, ◌<◌, List, [], ◌∷◌, ◌++◌, length, min, take, drop, get_or, remove}
+use Rattle.std.specs.Prelude.{◌≡◌, ℕ, zero, suc, ◌+◌, ◌-◌, ◌/◌, ◌%◌, ◌^◌, ◌<◌, List, [], ◌∷◌, ◌++◌, length, min, take, drop, get_or, remove}
 use Rattle.std.specs.List.{sum_by}
 use Rattle.amounts.specs.Amounts.{total}
 use Rattle.locations.specs.declared.relative.Location.{Location}
 use Rattle.asset_lists.specs.declared.units.AssetId.{AssetId}
 use Rattle.asset_lists.specs.declared.units.Kind.{Kind}
 use Rattle.asset_lists.specs.declared.units.Asset.{Asset}
-use Rattle.asset_bundles.specs.Bundles.{Bundle, bundle_of, held_assets, is_asset}
-use Rattle.asset_bundles.specs.declared.book.Total.{Total}
+use Rattle.asset_bundles.specs.Bundles.{bundle_of, is_asset}
 use Rattle.ledgers.specs.declared.trap.Trap.{Trap}
 
 -- the traps that are kept, oldest first, and the number that the next trap gets
@@ -64,7 +63,3 @@ IsUnknown list origin store = NoneBefore list origin (length store.0) store.0
 -- the amount of a fungible asset in all traps, or the number of instances of a class
 abbrev pub trapped : AssetId → Kind → List Trap → ℕ
 trapped id kind traps = sum_by (λ (t : Trap). total (is_asset id kind) t.goods) traps
-
--- a total as a number
-abbrev pub value_of : Total → ℕ
-value_of t = t.high * 2 ^ 128 + t.low

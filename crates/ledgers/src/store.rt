@@ -2,7 +2,8 @@
 ghost use Rattle.std.specs.Prelude.{◌≡◌, ℕ, ◌+◌, ◌-◌, ◌^◌, ◌<◌, [], ◌↔◌, length, min, IsTrue, IfOk, OnErr, MatchOption, MatchResult};
 ghost use Rattle.amounts.specs.Amounts.{rows};
 ghost use Rattle.asset_bundles.specs.Bundles.{Bundle, bundle_of, held_assets};
-ghost use Rattle.ledgers.specs.Traps.{with_trapped, Fits, NoneBefore, IsOldest, IsClaimed, IsUnknown, trapped, value_of};
+ghost use Rattle.asset_bundles.specs.Totals.{total_value};
+ghost use Rattle.ledgers.specs.Traps.{with_trapped, Fits, NoneBefore, IsOldest, IsClaimed, IsUnknown, trapped};
 
 use crate::Trap;
 use crate::pieces::in_pieces;
@@ -102,7 +103,7 @@ impl TrapStore {
     /// The amount of a fungible asset in all traps, or the number of instances of a class; it stands at
     /// 2^160-1 once it would pass it.
     pub fn total(&self, id: &AssetId, kind: Kind) -> Total
-        ensures { value_of result ≡ min (trapped id.now kind self.now.0) (2 ^ 160 - 1) }
+        ensures { total_value result ≡ min (trapped id.now kind self.now.0) (2 ^ 160 - 1) }
     {
         let mut sum = Total { low: 0, high: 0 };
         for trap in self.traps.as_slice() {

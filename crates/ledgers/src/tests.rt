@@ -1,7 +1,7 @@
 //! Each public call once, with values worked out by hand.
 ghost use Rattle.std.specs.Prelude.{◌≤◌, length};
 
-use crate::{TrapStore, Unknown};
+use crate::{TrapStore, Unknown, law_of_traps};
 use asset_bundles::{AssetBundle, Total};
 use asset_lists::{Asset, AssetId, Assets, Fun, Instance, Kind};
 use locations::{Junction, Junctions, Location};
@@ -74,6 +74,7 @@ fn the_oldest_trap_of_a_list_is_claimed(rt: HostRuntime) -> Result<(), Fail> {
     let origin = place(&[]);
     let other = place(&[Junction::GeneralIndex(1)]);
     let mut store = TrapStore::new(alloc);
+    law_of_traps();
     assert_eq!(rt;
         trap_list(&mut store, minted(alloc, &list)?, &origin),
         Some(1)

@@ -1,12 +1,12 @@
 //! Sums of amounts.
 ghost use Rattle.std.specs.Prelude.{◌≡◌, ◌+◌, ◌-◌, ◌^◌, min};
-ghost use Rattle.ledgers.specs.Traps.{value_of};
+ghost use Rattle.asset_bundles.specs.Totals.{total_value};
 
 use asset_bundles::Total;
 
 /// So much more; it stands at 2^160-1 where it would pass it.
 pub(crate) fn plus(total: Total, amount: u128) -> Total
-    ensures { value_of result ≡ min (value_of total + amount) (2 ^ 160 - 1) }
+    ensures { total_value result ≡ min (total_value total + amount) (2 ^ 160 - 1) }
 {
     if amount <= u128::MAX - total.low {
         return Total {

@@ -1,4 +1,4 @@
-use Rattle.std.proofs.Common.{◌≡◌, ℕ, ◌+◌, ◌<◌, ◌≤◌, ◌^◌, ◌-◌, length, ap, ◌∙◌, arith}
+use Rattle.std.proofs.Common.{◌+◌, ◌≤◌, ◌^◌, ◌-◌, ap, ◌∙◌, arith}
 use Rattle.std.specs.Prelude.{min}
 use Rattle.ledgers.specs.declared.trap.Trap.{Trap}
 use Rattle.ledgers.proofs.Cutting.{once_in_parts, no_zero_in_parts, at_most, behind_most, next_piece, next_number, last_number, no_further}

@@ -1,4 +1,4 @@
-use Rattle.std.proofs.Common.{◌≡◌, ℕ, ◌+◌, ◌-◌, ◌^◌, ◌≤◌, ◌++◌, false}
+use Rattle.std.proofs.Common.{◌≡◌, ◌+◌, ◌-◌, ◌^◌, ◌≤◌, ◌++◌, false}
 use Rattle.std.specs.Prelude.{min}
 use Rattle.asset_lists.specs.Units.{Unit}
 use Rattle.asset_lists.specs.Lists.{has_zero}

@@ -1,5 +1,5 @@
 use Rattle.std.proofs.Common.{subst, sym}
-use Rattle.std.specs.Prelude.{ℕ, ◌≤◌, IsFalse}
+use Rattle.std.specs.Prelude.{◌≤◌, IsFalse}
 use Rattle.asset_lists.specs.Units.{Unit}
 use Rattle.asset_lists.specs.Lists.{has_zero}
 use Rattle.asset_lists.specs.Moves.{count_of}

@@ -1,0 +1,17 @@
+//! The laws of the trap store. The function has an empty body, and its contract is the law.
+ghost use Rattle.std.specs.Prelude.{◌≡◌, ◌+◌, List};
+ghost use Rattle.amounts.specs.Amounts.{total};
+ghost use Rattle.locations.specs.declared.relative.Location.{Location};
+ghost use Rattle.asset_lists.specs.declared.units.AssetId.{AssetId};
+ghost use Rattle.asset_lists.specs.declared.units.Asset.{Asset};
+ghost use Rattle.asset_lists.specs.declared.units.Kind.{Kind};
+ghost use Rattle.asset_bundles.specs.Bundles.{bundle_of, is_asset};
+ghost use Rattle.ledgers.specs.Traps.{Store, with_trapped, IsClaimed, trapped};
+
+/// Trapping adds to the traps just what is trapped, and a claim takes out just what it names.
+pub fn law_of_traps()
+    ensures kept { (store : Store) (origin : Location) (assets : List Asset) (id : AssetId) (kind : Kind)
+        → trapped id kind (with_trapped store origin assets).0 ≡ trapped id kind store.0 + total (is_asset id kind) (bundle_of assets) }
+    ensures given { (list : List Asset) (origin : Location) (old new : Store) (id : AssetId) (kind : Kind)
+        → IsClaimed list origin old new → trapped id kind new.0 + total (is_asset id kind) (bundle_of list) ≡ trapped id kind old.0 }
+{}
