@@ -19,7 +19,9 @@ pub enum Cause {
 /// 2^160-1 once it would pass it.
 #[derive(Clone, Copy, Debug, PartialEq, Eq)]
 pub struct Total {
+    /// The sum below 2^128.
     pub low: u128,
+    /// How often 2^128 is in it.
     pub high: u32,
 }
 

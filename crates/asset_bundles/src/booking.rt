@@ -18,7 +18,7 @@ const NONE: Total = Total { low: 0, high: 0 };
 
 impl Total {
     /// So much more; it stands at 2^160-1 where it would pass it.
-    fn plus(self, amount: u128) -> Total
+    pub fn plus(self, amount: u128) -> Total
         ensures { total_value result ≡ min (total_value self + amount) (2 ^ 160 - 1) }
     {
         if amount <= u128::MAX - self.low {

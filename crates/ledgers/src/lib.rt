@@ -4,7 +4,6 @@
 mod laws;
 mod pieces;
 mod store;
-mod totals;
 mod trap;
 
 pub use laws::law_of_traps;

@@ -7,7 +7,6 @@ ghost use Rattle.ledgers.specs.Traps.{with_trapped, Fits, NoneBefore, IsOldest, 
 
 use crate::Trap;
 use crate::pieces::in_pieces;
-use crate::totals::plus;
 use asset_bundles::{AssetBundle, Total, Units};
 use asset_lists::{AssetId, Assets, Kind};
 use locations::Location;
@@ -107,7 +106,7 @@ impl TrapStore {
     {
         let mut sum = Total { low: 0, high: 0 };
         for trap in self.traps.as_slice() {
-            sum = plus(sum, trap.goods.total(id, kind));
+            sum = sum.plus(trap.goods.total(id, kind));
         }
         sum
     }
