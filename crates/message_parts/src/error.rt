@@ -1,5 +1,5 @@
 ghost use Rattle.std.specs.Prelude.{Some};
-ghost use Rattle.xcm_program.specs.Texts.{error_text};
+ghost use Rattle.message_parts.specs.Texts.{error_text};
 
 use std::fmt;
 

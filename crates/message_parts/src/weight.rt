@@ -1,5 +1,5 @@
 ghost use Rattle.std.specs.Prelude.{Some};
-ghost use Rattle.xcm_program.specs.Texts.{weight_text};
+ghost use Rattle.message_parts.specs.Texts.{weight_text};
 
 use std::fmt;
 
@@ -21,4 +21,13 @@ impl fmt::Display for Weight {
         let proof_size = self.proof_size;
         write!(f, "{ref_time} {proof_size}")
     }
+}
+
+/// The most weight that an instruction may take (XCM format: `WeightLimit`).
+#[derive(Clone, Copy, Debug, PartialEq, Eq)]
+pub enum WeightLimit {
+    /// No limit.
+    Unlimited,
+    /// At most so much.
+    Limited(Weight),
 }

@@ -1,0 +1,12 @@
+/// With which right a call is dispatched (XCM format: `OriginKind`).
+#[derive(Clone, Copy, Debug, PartialEq, Eq)]
+pub enum OriginKind {
+    /// The origin that is native to the location, as another chain's own.
+    Native,
+    /// The account that stands for the location.
+    SovereignAccount,
+    /// The chain's root, where the location may be that.
+    Superuser,
+    /// The location itself, as an origin of XCM.
+    Xcm,
+}
