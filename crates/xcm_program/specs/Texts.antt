@@ -1,56 +1,59 @@
--- The texts of weights, instructions, errors and outcomes in a report. This project's own rule; the names are the XCM format's.
-use Rattle.std.specs.Prelude.{ℕ, List, ◌++◌, codes, decimal}
-use Rattle.xcm_program.specs.declared.weight.Weight.{Weight}
-use Rattle.xcm_program.specs.declared.instruction.Instruction.{Instruction}
-use Rattle.xcm_program.specs.declared.instruction.Instruction.TheVariants.{ClearOrigin, Trap as TrapInstruction}
-use Rattle.xcm_program.specs.declared.error.XcmError.{XcmError}
-use Rattle.xcm_program.specs.declared.error.XcmError.TheVariants.{Overflow, Unimplemented, UntrustedReserveLocation, UntrustedTeleportLocation, LocationFull, LocationNotInvertible, BadOrigin, InvalidLocation, AssetNotFound, FailedToTransactAsset, NotWithdrawable, LocationCannotHold, ExceedsMaxMessageSize, DestinationUnsupported, Transport, Unroutable, UnknownClaim, FailedToDecode, MaxWeightInvalid, NotHoldingFees, TooExpensive, Trap, ExpectationFalse, PalletNotFound, NameMismatch, VersionIncompatible, HoldingWouldOverflow, ExportError, ReanchorFailed, NoDeal, FeesNotMet, LockError, NoPermission, Unanchored, NotDepositable}
+-- The texts of instructions and outcomes in a report. This project's own rule; the names are the XCM format's.
+use Rattle.std.specs.Prelude.{ℕ, List, codes}
+use Rattle.message_parts.specs.Texts.{error_text}
+use Rattle.xcm_program.specs.declared.instruction.Instruction.TheOpen.{Instruction-F}
 use Rattle.xcm_program.specs.declared.outcome.OutcomeError.{OutcomeError}
 use Rattle.xcm_program.specs.declared.outcome.OutcomeError.TheVariants.{Xcm, Barrier, WeightNotComputable, WeightLimitReached}
 
-abbrev pub weight_text : Weight → List ℕ
-weight_text w = decimal w.ref_time ++ codes " " ++ decimal w.proof_size
-
-abbrev pub instruction_name : Instruction → List ℕ
-instruction_name ClearOrigin = codes "ClearOrigin"
-instruction_name (TrapInstruction code) = codes "Trap"
-
-abbrev pub error_text : XcmError → List ℕ
-error_text Overflow = codes "Overflow"
-error_text Unimplemented = codes "Unimplemented"
-error_text UntrustedReserveLocation = codes "UntrustedReserveLocation"
-error_text UntrustedTeleportLocation = codes "UntrustedTeleportLocation"
-error_text LocationFull = codes "LocationFull"
-error_text LocationNotInvertible = codes "LocationNotInvertible"
-error_text BadOrigin = codes "BadOrigin"
-error_text InvalidLocation = codes "InvalidLocation"
-error_text AssetNotFound = codes "AssetNotFound"
-error_text FailedToTransactAsset = codes "FailedToTransactAsset"
-error_text NotWithdrawable = codes "NotWithdrawable"
-error_text LocationCannotHold = codes "LocationCannotHold"
-error_text ExceedsMaxMessageSize = codes "ExceedsMaxMessageSize"
-error_text DestinationUnsupported = codes "DestinationUnsupported"
-error_text Transport = codes "Transport"
-error_text Unroutable = codes "Unroutable"
-error_text UnknownClaim = codes "UnknownClaim"
-error_text FailedToDecode = codes "FailedToDecode"
-error_text MaxWeightInvalid = codes "MaxWeightInvalid"
-error_text NotHoldingFees = codes "NotHoldingFees"
-error_text TooExpensive = codes "TooExpensive"
-error_text (Trap code) = codes "Trap(" ++ decimal code ++ codes ")"
-error_text ExpectationFalse = codes "ExpectationFalse"
-error_text PalletNotFound = codes "PalletNotFound"
-error_text NameMismatch = codes "NameMismatch"
-error_text VersionIncompatible = codes "VersionIncompatible"
-error_text HoldingWouldOverflow = codes "HoldingWouldOverflow"
-error_text ExportError = codes "ExportError"
-error_text ReanchorFailed = codes "ReanchorFailed"
-error_text NoDeal = codes "NoDeal"
-error_text FeesNotMet = codes "FeesNotMet"
-error_text LockError = codes "LockError"
-error_text NoPermission = codes "NoPermission"
-error_text Unanchored = codes "Unanchored"
-error_text NotDepositable = codes "NotDepositable"
+abbrev pub instruction_name : {X : Type 0} → Instruction-F X → List ℕ
+instruction_name (Instruction-F.WithdrawAsset _) = codes "WithdrawAsset"
+instruction_name (Instruction-F.ReserveAssetDeposited _) = codes "ReserveAssetDeposited"
+instruction_name (Instruction-F.ReceiveTeleportedAsset _) = codes "ReceiveTeleportedAsset"
+instruction_name (Instruction-F.QueryResponse _ _ _ _) = codes "QueryResponse"
+instruction_name (Instruction-F.TransferAsset _ _) = codes "TransferAsset"
+instruction_name (Instruction-F.TransferReserveAsset _ _ _) = codes "TransferReserveAsset"
+instruction_name (Instruction-F.Transact _ _ _) = codes "Transact"
+instruction_name (Instruction-F.HrmpNewChannelOpenRequest _ _ _) = codes "HrmpNewChannelOpenRequest"
+instruction_name (Instruction-F.HrmpChannelAccepted _) = codes "HrmpChannelAccepted"
+instruction_name (Instruction-F.HrmpChannelClosing _ _ _) = codes "HrmpChannelClosing"
+instruction_name Instruction-F.ClearOrigin = codes "ClearOrigin"
+instruction_name (Instruction-F.DescendOrigin _) = codes "DescendOrigin"
+instruction_name (Instruction-F.ReportError _) = codes "ReportError"
+instruction_name (Instruction-F.DepositAsset _ _) = codes "DepositAsset"
+instruction_name (Instruction-F.DepositReserveAsset _ _ _) = codes "DepositReserveAsset"
+instruction_name (Instruction-F.ExchangeAsset _ _ _) = codes "ExchangeAsset"
+instruction_name (Instruction-F.InitiateReserveWithdraw _ _ _) = codes "InitiateReserveWithdraw"
+instruction_name (Instruction-F.InitiateTeleport _ _ _) = codes "InitiateTeleport"
+instruction_name (Instruction-F.ReportHolding _ _) = codes "ReportHolding"
+instruction_name (Instruction-F.BuyExecution _ _) = codes "BuyExecution"
+instruction_name Instruction-F.RefundSurplus = codes "RefundSurplus"
+instruction_name (Instruction-F.SetErrorHandler _) = codes "SetErrorHandler"
+instruction_name (Instruction-F.SetAppendix _) = codes "SetAppendix"
+instruction_name Instruction-F.ClearError = codes "ClearError"
+instruction_name (Instruction-F.ClaimAsset _ _) = codes "ClaimAsset"
+instruction_name (Instruction-F.Trap _) = codes "Trap"
+instruction_name (Instruction-F.SubscribeVersion _ _) = codes "SubscribeVersion"
+instruction_name Instruction-F.UnsubscribeVersion = codes "UnsubscribeVersion"
+instruction_name (Instruction-F.BurnAsset _) = codes "BurnAsset"
+instruction_name (Instruction-F.ExpectAsset _) = codes "ExpectAsset"
+instruction_name (Instruction-F.ExpectOrigin _) = codes "ExpectOrigin"
+instruction_name (Instruction-F.ExpectError _) = codes "ExpectError"
+instruction_name (Instruction-F.ExpectTransactStatus _) = codes "ExpectTransactStatus"
+instruction_name (Instruction-F.QueryPallet _ _) = codes "QueryPallet"
+instruction_name (Instruction-F.ExpectPallet _ _ _ _ _) = codes "ExpectPallet"
+instruction_name (Instruction-F.ReportTransactStatus _) = codes "ReportTransactStatus"
+instruction_name Instruction-F.ClearTransactStatus = codes "ClearTransactStatus"
+instruction_name (Instruction-F.UniversalOrigin _) = codes "UniversalOrigin"
+instruction_name (Instruction-F.ExportMessage _ _ _) = codes "ExportMessage"
+instruction_name (Instruction-F.LockAsset _ _) = codes "LockAsset"
+instruction_name (Instruction-F.UnlockAsset _ _) = codes "UnlockAsset"
+instruction_name (Instruction-F.NoteUnlockable _ _) = codes "NoteUnlockable"
+instruction_name (Instruction-F.RequestUnlock _ _) = codes "RequestUnlock"
+instruction_name (Instruction-F.SetFeesMode _) = codes "SetFeesMode"
+instruction_name (Instruction-F.SetTopic _) = codes "SetTopic"
+instruction_name Instruction-F.ClearTopic = codes "ClearTopic"
+instruction_name (Instruction-F.AliasOrigin _) = codes "AliasOrigin"
+instruction_name (Instruction-F.UnpaidExecution _ _) = codes "UnpaidExecution"
 
 abbrev pub outcome_error_text : OutcomeError → List ℕ
 outcome_error_text (Xcm error) = error_text error

@@ -1,8 +1,7 @@
 ghost use Rattle.std.specs.Prelude.{Some};
 ghost use Rattle.xcm_program.specs.Texts.{outcome_error_text};
 
-use crate::error::XcmError;
-use crate::weight::Weight;
+use message_parts::{Weight, XcmError};
 use std::fmt;
 
 /// Why an execution isn't complete (xcm-executor's documentation). Its text is its name, that of `Xcm` the error's.

@@ -1,0 +1,84 @@
+-- How large programs are, by what stands inside one layer of an instruction. This project's own rule; "deep" counts through all
+-- nested programs.
+use Rattle.std.specs.Prelude.{ℕ, ◌+◌, max, Bool, true, false, if◌then◌else◌, List, [], ◌∷◌, map, Option, Some, None}
+use Rattle.xcm_program.specs.declared.instruction.Instruction.{Instruction, out-Instruction, fold-Instruction}
+use Rattle.xcm_program.specs.declared.instruction.Instruction.TheOpen.{Instruction-F}
+
+-- the program inside, which stands last in each instruction that has one
+abbrev pub inner : {X : Type 0} → Instruction-F X → Option (List X)
+inner (Instruction-F.TransferReserveAsset list place xcm) = Some xcm
+inner (Instruction-F.DepositReserveAsset taken place xcm) = Some xcm
+inner (Instruction-F.InitiateReserveWithdraw taken place xcm) = Some xcm
+inner (Instruction-F.InitiateTeleport taken place xcm) = Some xcm
+inner (Instruction-F.SetErrorHandler xcm) = Some xcm
+inner (Instruction-F.SetAppendix xcm) = Some xcm
+inner (Instruction-F.ExportMessage net path xcm) = Some xcm
+inner _ = None
+
+-- the same with another program inside
+abbrev pub with_inner : {X : Type 0} → Instruction-F X → List X → Instruction-F X
+with_inner (Instruction-F.TransferReserveAsset list place _) program = Instruction-F.TransferReserveAsset list place program
+with_inner (Instruction-F.DepositReserveAsset taken place _) program = Instruction-F.DepositReserveAsset taken place program
+with_inner (Instruction-F.InitiateReserveWithdraw taken place _) program = Instruction-F.InitiateReserveWithdraw taken place program
+with_inner (Instruction-F.InitiateTeleport taken place _) program = Instruction-F.InitiateTeleport taken place program
+with_inner (Instruction-F.SetErrorHandler _) program = Instruction-F.SetErrorHandler program
+with_inner (Instruction-F.SetAppendix _) program = Instruction-F.SetAppendix program
+with_inner (Instruction-F.ExportMessage net path _) program = Instruction-F.ExportMessage net path program
+with_inner layer program = layer
+
+abbrev pub inner_of : Instruction → Option (List Instruction)
+inner_of i = inner (out-Instruction i)
+
+-- ---- sums and greatest of what stands inside
+
+abbrev pub total : List ℕ → ℕ
+total [] = 0
+total (n ∷ ns) = n + total ns
+
+abbrev pub sum_inside : Option (List ℕ) → ℕ
+sum_inside None = 0
+sum_inside (Some ns) = total ns
+
+abbrev pub greatest : List ℕ → ℕ
+greatest [] = 0
+greatest (n ∷ ns) = max n (greatest ns)
+
+abbrev pub greatest_inside : Option (List ℕ) → ℕ
+greatest_inside None = 0
+greatest_inside (Some ns) = 1 + greatest ns
+
+-- ---- instructions, levels, sent messages
+
+-- an instruction, with those of the program inside
+abbrev pub count_one : Instruction → ℕ
+count_one = fold-Instruction ℕ (λ l. 1 + sum_inside (inner l))
+
+-- the deep count
+abbrev pub count_of : List Instruction → ℕ
+count_of program = total (map count_one program)
+
+-- the depth of the program inside
+abbrev pub depth_inside : Instruction → ℕ
+depth_inside = fold-Instruction ℕ (λ l. greatest_inside (inner l))
+
+abbrev pub depth_of : List Instruction → ℕ
+depth_of program = 1 + greatest (map depth_inside program)
+
+-- the instructions that send a message
+abbrev pub is_sending : {X : Type 0} → Instruction-F X → Bool
+is_sending (Instruction-F.TransferReserveAsset _ _ _) = true
+is_sending (Instruction-F.ReportError _) = true
+is_sending (Instruction-F.DepositReserveAsset _ _ _) = true
+is_sending (Instruction-F.InitiateReserveWithdraw _ _ _) = true
+is_sending (Instruction-F.InitiateTeleport _ _ _) = true
+is_sending (Instruction-F.ReportHolding _ _) = true
+is_sending (Instruction-F.QueryPallet _ _) = true
+is_sending (Instruction-F.ReportTransactStatus _) = true
+is_sending _ = false
+
+abbrev pub sends_one : Instruction → ℕ
+sends_one = fold-Instruction ℕ (λ l. (if is_sending l then 1 else 0) + sum_inside (inner l))
+
+-- the deep count of sending instructions
+abbrev pub sends_of : List Instruction → ℕ
+sends_of program = total (map sends_one program)
