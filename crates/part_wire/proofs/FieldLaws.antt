@@ -209,8 +209,11 @@ query_info_reads =
     reads_fits query_info _ FitsInfo query_info_at (λ _ h. (h.0.0, h.0.1, h.1)) (λ _ h. ((h.0, h.1), h.2))
     (made3_reads location _ _ location_reads compact _ _ c64 weight _ _ weight_reads (λ d q w. record { destination = d; query_id = q; max_weight = w }) (λ i. ((i.destination, i.query_id), i.max_weight)) (λ _. refl) (λ _. refl))
 
-optional_failure_reads : Reads (optional failure) (λ o. IfSome o FitsFailure) (optional_at failure_at)
+pub optional_failure_reads : Reads (optional failure) (λ o. IfSome o FitsFailure) (optional_at failure_at)
 optional_failure_reads = optional_reads failure _ _ failure_reads
+
+pub optional_location_reads : Reads (optional location) (λ o. IfSome o FitsLocation) (optional_at location_at)
+optional_location_reads = optional_reads location _ _ location_reads
 
 response_formed : (v : Version) → AllFormed (response v) (FitsResponse v) 0 (response_forms v)
 response_formed v =

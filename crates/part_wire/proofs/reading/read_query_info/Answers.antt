@@ -1,0 +1,11 @@
+use Rattle.std.proofs.Common.{Ok, Err, ◌∙◌}
+use Rattle.scale_codec.proofs.ReadLaws.{is_read}
+use Rattle.message_parts.specs.Spelling.{query_info}
+use Rattle.part_wire.proofs.FieldLaws.{query_info_reads}
+use Rattle.part_wire.proofs.reading.read_query_info.Goals as goal
+
+pub returns-in-Ok-clause-spelling : goal.returns-in-Ok-clause-spelling
+returns-in-Ok-clause-spelling c = is_read query_info _ _ query_info_reads (Ok c.in-Ok.info) _ _ c.in-Ok.ensures
+
+pub returns-in-Err-clause-spelling : goal.returns-in-Err-clause-spelling
+returns-in-Err-clause-spelling c = is_read query_info _ _ query_info_reads (Err c.in-Err.fault) _ _ (c.in-Err.ensures, c.new.ensures ∙ c.rest-start.ensures)
