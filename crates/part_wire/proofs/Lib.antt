@@ -1,2 +1,3 @@
 pub mod FieldLaws
 pub mod Forms
+pub mod Written
