@@ -3,7 +3,7 @@ use Rattle.std.proofs.Common.{◌≡◌, ℕ, ◌+◌, ◌<◌, ◌≤◌, max, 
 use Rattle.std.specs.Option.{option_map}
 use Rattle.xcm_program.specs.declared.instruction.Instruction.{Instruction, out-Instruction, fold_out-Instruction, map-Instruction}
 use Rattle.xcm_program.specs.declared.instruction.Instruction.TheOpen.{Instruction-F}
-use Rattle.xcm_program.specs.Measure.{inner, with_inner, inner_of, total, sum_inside, greatest, greatest_inside, count_one, count_of, depth_inside, depth_of}
+use Rattle.xcm_program.specs.Measure.{inner, with_inner, inner_of, total, sum_inside, greatest, greatest_inside, count_one, count_of, depth_inside, depth_of, sending, sends_one, sends_of}
 
 -- the program inside a layer, with f of each instruction in it
 pub inner-map : {X Y : Type 0} (f : X → Y) (l : Instruction-F X) → inner (map-Instruction X Y f l) ≡ option_map (map f) (inner l)
@@ -34,6 +34,10 @@ count_one-is i =
 
 pub count-drop : (p : List Instruction) (k : ℕ) (d : Instruction) → k < length p → count_of (drop k p) ≡ count_one (get_or p k d) + count_of (drop (k + 1) p)
 count-drop p k d lt = rw (add-one, drop-cons p k d) refl
+
+-- the instruction at k, with what stands in it, and what stands behind it
+pub count-one-at : (p : List Instruction) (k : ℕ) (i : Instruction) → k < length p → i ≡ get_or p k i → count_of (drop k p) ≡ count_one i + count_of (drop (k + 1) p)
+count-one-at p k i lt at = count-drop p k i lt ∙ ap (λ (j : Instruction). count_one j + count_of (drop (k + 1) p)) (sym at)
 
 abbrev pub depth_of_inside : Option (List Instruction) → ℕ
 depth_of_inside None = 0
@@ -66,6 +70,39 @@ pub depth-at : (p : List Instruction) (k : ℕ) (i : Instruction) (nested : Opti
     → greatest (map depth_inside (drop k p)) ≡ max (depth_of_inside nested) (greatest (map depth_inside (drop (k + 1) p)))
 depth-at p k i nested lt at inside =
     greatest-drop p k i lt ∙ ap (λ (n : ℕ). max n (greatest (map depth_inside (drop (k + 1) p)))) (ap depth_inside (sym at) ∙ depth_inside-is i ∙ ap depth_of_inside (sym inside))
+
+-- ---- sent messages by one layer
+
+sending-map : {X Y : Type 0} (f : X → Y) (l : Instruction-F X) → sending (map-Instruction X Y f l) ≡ sending l
+sending-map f (Instruction-F.WithdrawAsset list) = refl
+sending-map f _ = refl
+
+abbrev pub sends_inside : Option (List Instruction) → ℕ
+sends_inside None = 0
+sends_inside (Some p) = sends_of p
+
+sends_inside-map : (o : Option (List Instruction)) → sum_inside (option_map (map sends_one) o) ≡ sends_inside o
+sends_inside-map None = refl
+sends_inside-map (Some p) = refl
+
+pub sends_one-is : (i : Instruction) → sends_one i ≡ sending (out-Instruction i) + sends_inside (inner_of i)
+sends_one-is i =
+    fold_out-Instruction ℕ (λ l. sending l + sum_inside (inner l)) i
+    ∙ ap (λ (n : ℕ). n + sum_inside (inner (map-Instruction Instruction ℕ sends_one (out-Instruction i)))) (sending-map sends_one (out-Instruction i))
+    ∙ ap (λ (o : Option (List ℕ)). sending (out-Instruction i) + sum_inside o) (inner-map sends_one (out-Instruction i))
+    ∙ ap (λ (n : ℕ). sending (out-Instruction i) + n) (sends_inside-map (inner_of i))
+
+sends-drop : (p : List Instruction) (k : ℕ) (d : Instruction) → k < length p → sends_of (drop k p) ≡ sends_one (get_or p k d) + sends_of (drop (k + 1) p)
+sends-drop p k d lt = rw (add-one, drop-cons p k d) refl
+
+pub sends-at : (p : List Instruction) (k : ℕ) (i : Instruction) (nested : Option (List Instruction)) → k < length p → i ≡ get_or p k i → nested ≡ inner_of i
+    → sends_of (drop k p) ≡ sending (out-Instruction i) + sends_inside nested + sends_of (drop (k + 1) p)
+sends-at p k i nested lt at inside =
+    let a = sends-drop p k i lt in
+    let b = ap sends_one at in
+    let c = sends_one-is i in
+    let d = ap sends_inside inside in
+    omega (arith, a, b, c, d)
 
 -- ---- another program inside
 

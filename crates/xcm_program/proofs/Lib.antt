@@ -1,3 +1,4 @@
 pub mod Layers
 pub mod EveryLayer
 pub mod Whole
+pub mod Converting

@@ -1,6 +1,6 @@
 -- How large programs are, by what stands inside one layer of an instruction. This project's own rule; "deep" counts through all
 -- nested programs.
-use Rattle.std.specs.Prelude.{ℕ, ◌+◌, max, Bool, true, false, if◌then◌else◌, List, [], ◌∷◌, map, Option, Some, None}
+use Rattle.std.specs.Prelude.{ℕ, ◌+◌, max, List, [], ◌∷◌, map, Option, Some, None}
 use Rattle.xcm_program.specs.declared.instruction.Instruction.{Instruction, out-Instruction, fold-Instruction}
 use Rattle.xcm_program.specs.declared.instruction.Instruction.TheOpen.{Instruction-F}
 
@@ -64,20 +64,20 @@ depth_inside = fold-Instruction ℕ (λ l. greatest_inside (inner l))
 abbrev pub depth_of : List Instruction → ℕ
 depth_of program = 1 + greatest (map depth_inside program)
 
--- the instructions that send a message
-abbrev pub is_sending : {X : Type 0} → Instruction-F X → Bool
-is_sending (Instruction-F.TransferReserveAsset _ _ _) = true
-is_sending (Instruction-F.ReportError _) = true
-is_sending (Instruction-F.DepositReserveAsset _ _ _) = true
-is_sending (Instruction-F.InitiateReserveWithdraw _ _ _) = true
-is_sending (Instruction-F.InitiateTeleport _ _ _) = true
-is_sending (Instruction-F.ReportHolding _ _) = true
-is_sending (Instruction-F.QueryPallet _ _) = true
-is_sending (Instruction-F.ReportTransactStatus _) = true
-is_sending _ = false
+-- 1 for the instructions that send a message where they succeed
+abbrev pub sending : {X : Type 0} → Instruction-F X → ℕ
+sending (Instruction-F.TransferReserveAsset _ _ _) = 1
+sending (Instruction-F.ReportError _) = 1
+sending (Instruction-F.DepositReserveAsset _ _ _) = 1
+sending (Instruction-F.InitiateReserveWithdraw _ _ _) = 1
+sending (Instruction-F.InitiateTeleport _ _ _) = 1
+sending (Instruction-F.ReportHolding _ _) = 1
+sending (Instruction-F.QueryPallet _ _) = 1
+sending (Instruction-F.ReportTransactStatus _) = 1
+sending _ = 0
 
 abbrev pub sends_one : Instruction → ℕ
-sends_one = fold-Instruction ℕ (λ l. (if is_sending l then 1 else 0) + sum_inside (inner l))
+sends_one = fold-Instruction ℕ (λ l. sending l + sum_inside (inner l))
 
 -- the deep count of sending instructions
 abbrev pub sends_of : List Instruction → ℕ

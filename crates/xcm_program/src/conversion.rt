@@ -1,6 +1,6 @@
 ghost use Rattle.std.specs.Prelude.{◌≡◌};
 ghost use Rattle.xcm_program.specs.declared.instruction.Instruction.{out-Instruction};
-ghost use Rattle.xcm_program.specs.Conversions.{is_place, are_places, filter_is_places, response_is_places, names_places, is_convertible};
+ghost use Rattle.xcm_program.specs.Conversions.{is_place, are_places, filter_is_places, response_is_places, names_places, convertible_one, is_convertible};
 
 use crate::instruction::{Instruction, Program};
 use crate::nested::inner;
@@ -67,17 +67,27 @@ fn names_places(instruction: &Instruction) -> bool
     }
 }
 
+/// Whether no asset id of the instruction is bytes, at any depth.
+#[cycle(convertible)]
+fn converts(instruction: &Instruction) -> bool
+    ensures { result ≡ convertible_one instruction.now }
+{
+    if !names_places(instruction) {
+        return false;
+    }
+    match inner(instruction) {
+        Some(nested) => is_convertible(nested),
+        None => true,
+    }
+}
+
 /// Whether both versions can say the program: no asset id is bytes, at any depth.
+#[cycle(convertible)]
 pub fn is_convertible(program: &Program) -> bool
     ensures { result ≡ is_convertible program.now }
 {
     for instruction in program.items() {
-        let convertible = names_places(instruction)
-            && match inner(instruction) {
-                Some(nested) => is_convertible(nested),
-                None => true,
-            };
-        if !convertible {
+        if !converts(instruction) {
             return false;
         }
     }

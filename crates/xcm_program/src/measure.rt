@@ -1,6 +1,6 @@
 ghost use Rattle.std.specs.Prelude.{◌≡◌, ◌<◌, ◌≤◌, ◌+◌, ◌^◌, max};
 ghost use Rattle.xcm_program.specs.declared.instruction.Instruction.{out-Instruction};
-ghost use Rattle.xcm_program.specs.Measure.{count_of, depth_of, sends_of, is_sending};
+ghost use Rattle.xcm_program.specs.Measure.{count_of, depth_of, sends_of, sending};
 
 use crate::instruction::{Instruction, Program};
 use crate::nested::inner;
@@ -43,21 +43,22 @@ pub fn depth(program: &Program) -> u32
     deepest + 1
 }
 
-/// Whether the instruction sends a message where it succeeds.
-fn is_sending(instruction: &Instruction) -> bool
-    ensures { result ≡ is_sending (out-Instruction instruction.now) }
+/// 1 where the instruction sends a message if it succeeds.
+fn sending(instruction: &Instruction) -> u32
+    ensures exact { result ≡ sending (out-Instruction instruction.now) }
+    ensures bound { result ≤ 1 }
 {
-    matches!(
-        instruction,
+    match instruction {
         Instruction::TransferReserveAsset { .. }
-            | Instruction::ReportError { .. }
-            | Instruction::DepositReserveAsset { .. }
-            | Instruction::InitiateReserveWithdraw { .. }
-            | Instruction::InitiateTeleport { .. }
-            | Instruction::ReportHolding { .. }
-            | Instruction::QueryPallet { .. }
-            | Instruction::ReportTransactStatus { .. }
-    )
+        | Instruction::ReportError { .. }
+        | Instruction::DepositReserveAsset { .. }
+        | Instruction::InitiateReserveWithdraw { .. }
+        | Instruction::InitiateTeleport { .. }
+        | Instruction::ReportHolding { .. }
+        | Instruction::QueryPallet { .. }
+        | Instruction::ReportTransactStatus { .. } => 1,
+        _ => 0,
+    }
 }
 
 /// The instructions of a program that send a message, through all nested programs. Fewer than 2^32 instructions may be held.
@@ -68,12 +69,11 @@ pub fn sends(program: &Program) -> u32
 {
     let mut count = 0;
     for instruction in program.items() {
-        let own = if is_sending(instruction) { 1 } else { 0 };
         let nested = match inner(instruction) {
             Some(xcm) => sends(xcm),
             None => 0,
         };
-        count += own + nested;
+        count += sending(instruction) + nested;
     }
     count
 }

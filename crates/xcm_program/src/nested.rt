@@ -26,33 +26,36 @@ pub fn with_program(instruction: Instruction, xcm: Program) -> Instruction
     ensures { out-Instruction result ≡ with_inner (out-Instruction instruction) xcm }
 {
     match instruction {
-        Instruction::TransferReserveAsset { assets, dest, .. } =>
-            Instruction::TransferReserveAsset { assets, dest, xcm },
-        Instruction::DepositReserveAsset { assets, dest, .. } => Instruction::DepositReserveAsset {
+        Instruction::TransferReserveAsset {
             assets,
             dest,
-            xcm,
-        },
+            xcm: _old,
+        } => Instruction::TransferReserveAsset { assets, dest, xcm },
+        Instruction::DepositReserveAsset {
+            assets,
+            dest,
+            xcm: _old,
+        } => Instruction::DepositReserveAsset { assets, dest, xcm },
         Instruction::InitiateReserveWithdraw {
             assets,
             reserve,
-            ..
+            xcm: _old,
         } => Instruction::InitiateReserveWithdraw {
             assets,
             reserve,
             xcm,
         },
-        Instruction::InitiateTeleport { assets, dest, .. } => Instruction::InitiateTeleport {
+        Instruction::InitiateTeleport {
             assets,
             dest,
-            xcm,
-        },
-        Instruction::SetErrorHandler { xcm: _ } => Instruction::SetErrorHandler { xcm },
-        Instruction::SetAppendix { xcm: _ } => Instruction::SetAppendix { xcm },
+            xcm: _old,
+        } => Instruction::InitiateTeleport { assets, dest, xcm },
+        Instruction::SetErrorHandler { xcm: _old } => Instruction::SetErrorHandler { xcm },
+        Instruction::SetAppendix { xcm: _old } => Instruction::SetAppendix { xcm },
         Instruction::ExportMessage {
             network,
             destination,
-            ..
+            xcm: _old,
         } => Instruction::ExportMessage {
             network,
             destination,

@@ -1,0 +1,247 @@
+-- A program is convertible just where version 4 can say each id of it.
+use Rattle.std.proofs.Common.{◌≡◌, ℕ, zero, suc, ◌+◌, ◌<◌, ◌≤◌, Bool, true, false, ◌&&◌, List, [], ◌∷◌, length, map, get_or, drop, Option, Some, None, refl, sym, ap, subst, ◌∙◌, add-one, arith, drop-cons}
+use Rattle.std.specs.Option.{option_map}
+use Rattle.std.specs.Cmp.Derive.{both_true}
+use Rattle.std.specs.List.{AllByRecursion}
+use Rattle.asset_lists.specs.declared.units.AssetId.{AssetId}
+use Rattle.asset_lists.specs.declared.units.AssetId.TheVariants.{Concrete, Abstract}
+use Rattle.asset_lists.specs.declared.units.Asset.{Asset}
+use Rattle.asset_lists.specs.declared.filters.Wild.{Wild}
+use Rattle.asset_lists.specs.declared.filters.Wild.TheVariants.{All, AllOf, AllCounted, AllOfCounted}
+use Rattle.asset_lists.specs.declared.filters.Filter.{Filter}
+use Rattle.asset_lists.specs.declared.filters.Filter.TheVariants as filters
+use Rattle.asset_wire.specs.declared.version.Version.{Version}
+use Rattle.asset_wire.specs.declared.version.Version.TheVariants.{V3, V4}
+use Rattle.asset_wire.specs.Spelling.{IsNamed, AreNamed, IsWildNamed, IsFilterNamed}
+use Rattle.message_parts.specs.declared.query.Response.{Response}
+use Rattle.message_parts.specs.declared.query.Response.TheVariants as responses
+use Rattle.xcm_program.specs.declared.instruction.Instruction.{Instruction, out-Instruction, fold_out-Instruction, map-Instruction}
+use Rattle.xcm_program.specs.declared.instruction.Instruction.TheOpen.{Instruction-F}
+use Rattle.xcm_program.specs.Measure.{inner, inner_of, count_one, count_of}
+use Rattle.xcm_program.specs.Everywhere.{AllInside}
+use Rattle.xcm_program.specs.Conversions.{is_place, are_places, wild_is_place, filter_is_places, response_is_places, names_places, all_true, all_true_inside, convertible_one, is_convertible, IsResponseNamed, IsNamedHead, IsNamedOne}
+use Rattle.xcm_program.proofs.Layers.{inner-map, count_inside, count_one-is}
+use Rattle.xcm_program.proofs.Whole.{named_open, named_here}
+
+-- ---- by one layer
+
+names_places-map : {X Y : Type 0} (f : X → Y) (l : Instruction-F X) → names_places (map-Instruction X Y f l) ≡ names_places l
+names_places-map f (Instruction-F.WithdrawAsset list) = refl
+names_places-map f _ = refl
+
+abbrev pub convertible_inside : Option (List Instruction) → Bool
+convertible_inside None = true
+convertible_inside (Some p) = is_convertible p
+
+convertible_inside-map : (o : Option (List Instruction)) → all_true_inside (option_map (map convertible_one) o) ≡ convertible_inside o
+convertible_inside-map None = refl
+convertible_inside-map (Some p) = refl
+
+pub convertible_one-is : (i : Instruction) → convertible_one i ≡ names_places (out-Instruction i) && convertible_inside (inner_of i)
+convertible_one-is i =
+    fold_out-Instruction Bool (λ l. names_places l && all_true_inside (inner l)) i
+    ∙ ap (λ (b : Bool). b && all_true_inside (inner (map-Instruction Instruction Bool convertible_one (out-Instruction i)))) (names_places-map convertible_one (out-Instruction i))
+    ∙ ap (λ (o : Option (List Bool)). names_places (out-Instruction i) && all_true_inside o) (inner-map convertible_one (out-Instruction i))
+    ∙ ap (λ (b : Bool). names_places (out-Instruction i) && b) (convertible_inside-map (inner_of i))
+
+-- where the head has been looked at, the program inside decides
+pub convertible-not : (i : Instruction) → names_places (out-Instruction i) ≡ false → false ≡ convertible_one i
+convertible-not i h = sym (convertible_one-is i ∙ ap (λ (b : Bool). b && convertible_inside (inner_of i)) h)
+
+pub convertible-by : (i : Instruction) (nested : Option (List Instruction)) → names_places (out-Instruction i) ≡ true → nested ≡ inner_of i → convertible_inside nested ≡ convertible_one i
+convertible-by i nested h inside = sym (convertible_one-is i ∙ ap (λ (b : Bool). b && convertible_inside (inner_of i)) h ∙ ap convertible_inside (sym inside))
+
+-- the instruction at k, and what stands behind it
+pub convertible-at : (p : List Instruction) (k : ℕ) (i : Instruction) → k < length p → i ≡ get_or p k i → is_convertible (drop k p) ≡ convertible_one i && is_convertible (drop (k + 1) p)
+convertible-at p k i lt at = rw (add-one, drop-cons p k i lt) (ap (λ (j : Instruction). convertible_one j && is_convertible (drop (suc k) p)) (sym at))
+
+-- ---- what is named
+
+split : (a b : Bool) → (a && b) ≡ true → (a ≡ true) × (b ≡ true)
+split true b h = (refl, h)
+split false b h = absurd cc
+
+id_named : (id : AssetId) → is_place id ≡ true → IsNamed V4 id
+id_named (Concrete place) h = tt
+id_named (Abstract bytes) h = absurd cc
+
+id_placed : (id : AssetId) → IsNamed V4 id → is_place id ≡ true
+id_placed (Concrete place) h = refl
+id_placed (Abstract bytes) h = absurd h
+
+list_named : (list : List Asset) → are_places list ≡ true → AreNamed V4 list
+list_named [] h = tt
+list_named (a ∷ list) h = let b = split (is_place a.id) (are_places list) h in (id_named a.id b.0, list_named list b.1)
+
+list_placed : (list : List Asset) → AreNamed V4 list → are_places list ≡ true
+list_placed [] h = refl
+list_placed (a ∷ list) h = both_true (id_placed a.id h.0) (list_placed list h.1)
+
+wild_named : (w : Wild) → wild_is_place w ≡ true → IsWildNamed V4 w
+wild_named All h = tt
+wild_named (AllOf id fun) h = id_named id h
+wild_named (AllCounted count) h = tt
+wild_named (AllOfCounted id fun count) h = id_named id h
+
+wild_placed : (w : Wild) → IsWildNamed V4 w → wild_is_place w ≡ true
+wild_placed All h = refl
+wild_placed (AllOf id fun) h = id_placed id h
+wild_placed (AllCounted count) h = refl
+wild_placed (AllOfCounted id fun count) h = id_placed id h
+
+filter_named : (f : Filter) → filter_is_places f ≡ true → IsFilterNamed V4 f
+filter_named (filters.Definite list) h = list_named list h
+filter_named (filters.Wild which) h = wild_named which h
+
+filter_placed : (f : Filter) → IsFilterNamed V4 f → filter_is_places f ≡ true
+filter_placed (filters.Definite list) h = list_placed list h
+filter_placed (filters.Wild which) h = wild_placed which h
+
+response_named : (r : Response) → response_is_places r ≡ true → IsResponseNamed V4 r
+response_named (responses.Assets list) h = list_named list h
+response_named _ h = tt
+
+response_placed : (r : Response) → IsResponseNamed V4 r → response_is_places r ≡ true
+response_placed (responses.Assets list) h = list_placed list h
+response_placed _ h = refl
+
+head_named : {X : Type 0} (l : Instruction-F X) → names_places l ≡ true → IsNamedHead V4 X l
+head_named (Instruction-F.WithdrawAsset list) h = list_named list h
+head_named (Instruction-F.ReserveAssetDeposited list) h = list_named list h
+head_named (Instruction-F.ReceiveTeleportedAsset list) h = list_named list h
+head_named (Instruction-F.QueryResponse _ answer _ _) h = response_named answer h
+head_named (Instruction-F.TransferAsset list _) h = list_named list h
+head_named (Instruction-F.TransferReserveAsset list _ _) h = list_named list h
+head_named (Instruction-F.DepositAsset taken _) h = filter_named taken h
+head_named (Instruction-F.DepositReserveAsset taken _ _) h = filter_named taken h
+head_named (Instruction-F.ExchangeAsset taken list _) h = let b = split (filter_is_places taken) (are_places list) h in (filter_named taken b.0, list_named list b.1)
+head_named (Instruction-F.InitiateReserveWithdraw taken _ _) h = filter_named taken h
+head_named (Instruction-F.InitiateTeleport taken _ _) h = filter_named taken h
+head_named (Instruction-F.ReportHolding _ taken) h = filter_named taken h
+head_named (Instruction-F.BuyExecution fees _) h = id_named fees.id h
+head_named (Instruction-F.ClaimAsset list _) h = list_named list h
+head_named (Instruction-F.BurnAsset list) h = list_named list h
+head_named (Instruction-F.ExpectAsset list) h = list_named list h
+head_named (Instruction-F.LockAsset goods _) h = id_named goods.id h
+head_named (Instruction-F.UnlockAsset goods _) h = id_named goods.id h
+head_named (Instruction-F.NoteUnlockable goods _) h = id_named goods.id h
+head_named (Instruction-F.RequestUnlock goods _) h = id_named goods.id h
+head_named _ h = tt
+
+head_placed : {X : Type 0} (l : Instruction-F X) → IsNamedHead V4 X l → names_places l ≡ true
+head_placed (Instruction-F.WithdrawAsset list) h = list_placed list h
+head_placed (Instruction-F.ReserveAssetDeposited list) h = list_placed list h
+head_placed (Instruction-F.ReceiveTeleportedAsset list) h = list_placed list h
+head_placed (Instruction-F.QueryResponse _ answer _ _) h = response_placed answer h
+head_placed (Instruction-F.TransferAsset list _) h = list_placed list h
+head_placed (Instruction-F.TransferReserveAsset list _ _) h = list_placed list h
+head_placed (Instruction-F.DepositAsset taken _) h = filter_placed taken h
+head_placed (Instruction-F.DepositReserveAsset taken _ _) h = filter_placed taken h
+head_placed (Instruction-F.ExchangeAsset taken list _) h = both_true (filter_placed taken h.0) (list_placed list h.1)
+head_placed (Instruction-F.InitiateReserveWithdraw taken _ _) h = filter_placed taken h
+head_placed (Instruction-F.InitiateTeleport taken _ _) h = filter_placed taken h
+head_placed (Instruction-F.ReportHolding _ taken) h = filter_placed taken h
+head_placed (Instruction-F.BuyExecution fees _) h = id_placed fees.id h
+head_placed (Instruction-F.ClaimAsset list _) h = list_placed list h
+head_placed (Instruction-F.BurnAsset list) h = list_placed list h
+head_placed (Instruction-F.ExpectAsset list) h = list_placed list h
+head_placed (Instruction-F.LockAsset goods _) h = id_placed goods.id h
+head_placed (Instruction-F.UnlockAsset goods _) h = id_placed goods.id h
+head_placed (Instruction-F.NoteUnlockable goods _) h = id_placed goods.id h
+head_placed (Instruction-F.RequestUnlock goods _) h = id_placed goods.id h
+head_placed _ h = refl
+
+-- ---- version 3 can say every id
+
+list_named3 : (list : List Asset) → AreNamed V3 list
+list_named3 [] = tt
+list_named3 (a ∷ list) = (tt, list_named3 list)
+
+wild_named3 : (w : Wild) → IsWildNamed V3 w
+wild_named3 All = tt
+wild_named3 (AllOf id fun) = tt
+wild_named3 (AllCounted count) = tt
+wild_named3 (AllOfCounted id fun count) = tt
+
+filter_named3 : (f : Filter) → IsFilterNamed V3 f
+filter_named3 (filters.Definite list) = list_named3 list
+filter_named3 (filters.Wild which) = wild_named3 which
+
+response_named3 : (r : Response) → IsResponseNamed V3 r
+response_named3 (responses.Assets list) = list_named3 list
+response_named3 _ = tt
+
+head_named3 : {X : Type 0} (l : Instruction-F X) → IsNamedHead V3 X l
+head_named3 (Instruction-F.WithdrawAsset list) = list_named3 list
+head_named3 (Instruction-F.ReserveAssetDeposited list) = list_named3 list
+head_named3 (Instruction-F.ReceiveTeleportedAsset list) = list_named3 list
+head_named3 (Instruction-F.QueryResponse _ answer _ _) = response_named3 answer
+head_named3 (Instruction-F.TransferAsset list _) = list_named3 list
+head_named3 (Instruction-F.TransferReserveAsset list _ _) = list_named3 list
+head_named3 (Instruction-F.DepositAsset taken _) = filter_named3 taken
+head_named3 (Instruction-F.DepositReserveAsset taken _ _) = filter_named3 taken
+head_named3 (Instruction-F.ExchangeAsset taken list _) = (filter_named3 taken, list_named3 list)
+head_named3 (Instruction-F.InitiateReserveWithdraw taken _ _) = filter_named3 taken
+head_named3 (Instruction-F.InitiateTeleport taken _ _) = filter_named3 taken
+head_named3 (Instruction-F.ReportHolding _ taken) = filter_named3 taken
+head_named3 (Instruction-F.BuyExecution _ _) = tt
+head_named3 (Instruction-F.ClaimAsset list _) = list_named3 list
+head_named3 (Instruction-F.BurnAsset list) = list_named3 list
+head_named3 (Instruction-F.ExpectAsset list) = list_named3 list
+head_named3 (Instruction-F.LockAsset _ _) = tt
+head_named3 (Instruction-F.UnlockAsset _ _) = tt
+head_named3 (Instruction-F.NoteUnlockable _ _) = tt
+head_named3 (Instruction-F.RequestUnlock _ _) = tt
+head_named3 _ = tt
+
+-- ---- whole programs, of at most n instructions
+
+behind_less : (n : ℕ) (i : Instruction) (rest : List Instruction) → count_of (i ∷ rest) ≤ suc n → (count_inside (inner_of i) ≤ n) × (count_of rest ≤ n)
+behind_less n i rest few = let c = count_one-is i in (omega (arith, c, few), omega (arith, c, few))
+
+some_count : (i : Instruction) (rest : List Instruction) → count_of (i ∷ rest) ≤ 0 → ⊥
+some_count i rest few = omega (arith, count_one-is i, few)
+
+module _ (v : Version) (Ok : List Instruction → Type 0) (head : (i : Instruction) (rest : List Instruction) → Ok (i ∷ rest) → IsNamedHead v Instruction (out-Instruction i))
+    (inside : (i : Instruction) (rest p : List Instruction) → inner_of i ≡ Some p → Ok (i ∷ rest) → Ok p) (behind : (i : Instruction) (rest : List Instruction) → Ok (i ∷ rest) → Ok rest) where
+  named_inside : (n : ℕ) → ((p : List Instruction) → count_of p ≤ n → Ok p → AllByRecursion (IsNamedOne v) p) → (i : Instruction) (rest : List Instruction) (o : Option (List Instruction))
+      → inner_of i ≡ o → count_inside o ≤ n → Ok (i ∷ rest) → AllInside (IsNamedOne v) o
+  named_inside n h i rest None is few ok = tt
+  named_inside n h i rest (Some p) is few ok = h p few (inside i rest p is ok)
+
+  -- what a fact of programs says of each head, it says at every depth
+  named_by : (n : ℕ) (p : List Instruction) → count_of p ≤ n → Ok p → AllByRecursion (IsNamedOne v) p
+  named_by n [] few ok = tt
+  named_by zero (i ∷ rest) few ok = absurd (some_count i rest few)
+  named_by (suc n) (i ∷ rest) few ok =
+      let b = behind_less n i rest few in
+      (named_here v i (head i rest ok) (named_inside n (named_by n) i rest (inner_of i) refl b.0 ok), named_by n rest b.1 (behind i rest ok))
+
+head_true : (i : Instruction) (rest : List Instruction) → is_convertible (i ∷ rest) ≡ true → (names_places (out-Instruction i) ≡ true) × (convertible_inside (inner_of i) ≡ true)
+head_true i rest ok = split (names_places (out-Instruction i)) (convertible_inside (inner_of i)) (sym (convertible_one-is i) ∙ (split (convertible_one i) (is_convertible rest) ok).0)
+
+pub named_from : (p : List Instruction) → is_convertible p ≡ true → AllByRecursion (IsNamedOne V4) p
+named_from p =
+    named_by V4 (λ q. is_convertible q ≡ true)
+    (λ i rest ok. head_named (out-Instruction i) (head_true i rest ok).0)
+    (λ i rest q is ok. ap convertible_inside (sym is) ∙ (head_true i rest ok).1)
+    (λ i rest ok. (split (convertible_one i) (is_convertible rest) ok).1)
+    (count_of p) p (omega arith)
+
+pub named3 : (p : List Instruction) → AllByRecursion (IsNamedOne V3) p
+named3 p = named_by V3 (λ q. Unit {0}) (λ i rest ok. head_named3 (out-Instruction i)) (λ i rest q is ok. tt) (λ i rest ok. tt) (count_of p) p (omega arith) tt
+
+placed_inside : (n : ℕ) → ((p : List Instruction) → count_of p ≤ n → AllByRecursion (IsNamedOne V4) p → is_convertible p ≡ true) → (o : Option (List Instruction)) → count_inside o ≤ n → AllInside (IsNamedOne V4) o → convertible_inside o ≡ true
+placed_inside n h None few all = refl
+placed_inside n h (Some p) few all = h p few all
+
+placed_by : (n : ℕ) (p : List Instruction) → count_of p ≤ n → AllByRecursion (IsNamedOne V4) p → is_convertible p ≡ true
+placed_by n [] few all = refl
+placed_by zero (i ∷ rest) few all = absurd (some_count i rest few)
+placed_by (suc n) (i ∷ rest) few all =
+    let b = behind_less n i rest few in
+    let o = named_open V4 i all.0 in
+    both_true (convertible_one-is i ∙ both_true (head_placed (out-Instruction i) o.0) (placed_inside n (placed_by n) (inner_of i) b.0 o.1)) (placed_by n rest b.1 all.1)
+
+pub named_to : (p : List Instruction) → AllByRecursion (IsNamedOne V4) p → is_convertible p ≡ true
+named_to p = placed_by (count_of p) p (omega arith)
