@@ -1,0 +1,2 @@
+//! Instructions as bytes, both ways, without the programs inside.
+#![tactic(auto)]
