@@ -1,0 +1,25 @@
+//! The laws of the spellings of programs, and of their reader.
+
+ghost use Rattle.std.specs.Prelude.{ℕ, List};
+ghost use Rattle.scale_codec.specs.Spelling.{HasOneSpelling, IsPrefixFree};
+ghost use Rattle.scale_codec.specs.Reading.{Reads};
+ghost use Rattle.asset_wire.specs.declared.version.Version.{Version};
+ghost use Rattle.xcm_program.specs.Spelling.{program_spelling, FitsProgram};
+ghost use Rattle.xcm_program.specs.Messages.{IsReadable};
+ghost use Rattle.program_wire.specs.Reading.{readable_at};
+
+/// A program has at most one spelling in a version.
+pub fn law_of_one_spelling()
+    ensures { (v : Version) → HasOneSpelling (program_spelling v) (FitsProgram v) }
+{}
+
+/// No spelling of a program is a proper prefix of another in the same version, and no two programs have the same; whatever their
+/// size and depth.
+pub fn law_of_no_prefix()
+    ensures { (v : Version) → IsPrefixFree (program_spelling v) (FitsProgram v) }
+{}
+
+/// The reader takes what is spelled so within the limits, whatever follows it, and nothing else.
+pub fn law_of_readers()
+    ensures { (v : Version) → Reads (program_spelling v) (IsReadable v) (readable_at v) }
+{}

@@ -1,0 +1,13 @@
+//! XCM programs as bytes, both ways, in versions 3 and 4 of the format.
+#![tactic(auto)]
+
+mod law;
+mod reading;
+#[cfg(test)]
+mod tests;
+mod writing;
+
+pub use asset_wire::{WireFault, read_instance, write_instance};
+pub use law::{law_of_no_prefix, law_of_one_spelling, law_of_readers};
+pub use reading::read_program;
+pub use writing::{write_instruction, write_program};
