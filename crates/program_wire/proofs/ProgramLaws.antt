@@ -50,7 +50,7 @@ pub record TookOne (v : Version) (d b : ℕ) (bytes : List ℕ) (i : Instruction
 
 pub record TookItems (v : Version) (d b n : ℕ) (bytes : List ℕ) (p : List Instruction) (c : ℕ) (rest : List ℕ) : Type 0 where
   pub text : bytes ≡ joined (map (instruction_spelling v) p) ++ rest
-  pub fits : AllByRecursion FitsInstruction v p
+  pub fits : AllByRecursion (FitsInstruction v) p
   pub long : length p ≡ n
   pub count : count_of p + c ≡ b
   pub depth : greatest (map depth_inside p) ≤ d
@@ -174,7 +174,7 @@ instruction_again v d nested again (suc b) i rest fits few low =
     ap (instruction_at v nested (suc b)) text
     ∙ rw (head_again v l (behind (texts v (inner_of i)) ++ rest) f.0, some, back) (closed_again v d nested again b i rest few low (inner_of i) refl f.1)
 
-items_again : (v : Version) (d : ℕ) (nested : Nested) → Again v d nested → (p : List Instruction) (b : ℕ) (rest : List ℕ) → AllByRecursion FitsInstruction v p → count_of p ≤ b → greatest (map depth_inside p) ≤ d
+items_again : (v : Version) (d : ℕ) (nested : Nested) → Again v d nested → (p : List Instruction) (b : ℕ) (rest : List ℕ) → AllByRecursion (FitsInstruction v) p → count_of p ≤ b → greatest (map depth_inside p) ≤ d
     → items_at v nested (length p) b (joined (map (instruction_spelling v) p) ++ rest) ≡ Some (p, (b - count_of p, rest))
 unfolding repeated
 items_again v d nested again [] b rest fits few low = let e : b - 0 ≡ b = omega arith in rw e refl

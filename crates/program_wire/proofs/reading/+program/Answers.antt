@@ -12,12 +12,12 @@ program_of-returns-then-depth-eq0 t c = program_at_none _ _ _ _ c.if-depth-eq0.t
 pub program_of-returns-in_err-count : goal.program_of-returns-in_err-count
 program_of-returns-in_err-count t c =
     let p = err_from_is_err_and c.from_residual.result c.from_residual.ensures.1 in
-    rw (p.1, p.2) (program_at_fails _ _ _ _ c.if-depth-eq0.false c.in_err-count.ensures.0)
+    rw (p.1, p.2) (program_at_fails _ _ _ _ c.if-depth-eq0.false c.in_err-count.ensures.read.0)
 
 pub program_of-loop-init : goal.program_of-loop-init
 program_of-loop-init t c =
     rw c.new-items.ensures.items (begins (instruction_step c.args.v (program_at c.args.v (c.args.depth - 1))) c.in_ok-count.count (c.args.most, c.compact_u32.new.self)
-    ∙ program_at_counts _ _ _ _ _ _ c.if-depth-eq0.false c.in_ok-count.ensures)
+    ∙ program_at_counts _ _ _ _ _ _ c.if-depth-eq0.false c.in_ok-count.ensures.read)
 
 pub program_of-returns-in_err-instruction : goal.program_of-returns-in_err-instruction
 program_of-returns-in_err-instruction t c =

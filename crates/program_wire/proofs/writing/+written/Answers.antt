@@ -5,7 +5,7 @@ use Rattle.program_wire.proofs.WriteLaws.{nested_writable, wrote_plain, wrote_ne
 use Rattle.program_wire.proofs.writing.+written.Goals as goal
 
 pub put_instruction-write_head-requires : goal.put_instruction-write_head-requires
-put_instruction-write_head-requires t c = ((named_open c.args.v c.args.i.now c.requires.named).0, (amounts_open c.args.i.now c.requires.amounts).0)
+put_instruction-write_head-requires t c = record { named = (named_open c.args.v c.args.i.now c.requires.named).0; amount = (amounts_open c.args.i.now c.requires.amounts).0 }
 
 pub put_instruction-put_program-requires : goal.put_instruction-put_program-requires
 put_instruction-put_program-requires t c =
