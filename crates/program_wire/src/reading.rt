@@ -1,10 +1,10 @@
 //! Reads of programs.
 
 ghost use Rattle.std.specs.Prelude.{◌≡◌};
-ghost use Rattle.asset_wire.specs.Answers.{IsReadOrFails};
+ghost use Rattle.asset_wire.specs.Answers.{GivesOrFails, IsReadOrFails};
 ghost use Rattle.xcm_program.specs.Spelling.{program_spelling};
 ghost use Rattle.xcm_program.specs.Messages.{IsReadable};
-ghost use Rattle.program_wire.specs.Reading.{instruction_at, program_at};
+ghost use Rattle.program_wire.specs.Reading.{instruction_at, program_at, readable_at};
 ghost use Rattle.program_wire.specs.Answers.{GotWith};
 
 use asset_wire::WireFault;
@@ -71,7 +71,8 @@ fn program_of(
 /// The program at the front of what is left, as the version spells it. `NoSpelling` comes exactly where no prefix spells a program
 /// with at most 100 instructions, nested ones counted, and at most 8 levels. After a refusal the cursor stands where it stood.
 pub fn read_program(alloc: Global, c: &mut Cursor<'_>, v: Version) -> Result<Program, WireFault>
-    ensures { IsReadOrFails (program_spelling v) (IsReadable v) result c.old c.new }
+    ensures read { GivesOrFails result (readable_at v c.old) c.old c.new }
+    ensures spelling { IsReadOrFails (program_spelling v) (IsReadable v) result c.old c.new }
 {
     let start = c.rest();
     match program_of(alloc, c, v, MAX_DEPTH, MAX_INSTRUCTIONS) {
