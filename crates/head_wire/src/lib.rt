@@ -2,5 +2,7 @@
 #![tactic(auto)]
 
 mod reading;
+mod writing;
 
 pub use reading::read_head;
+pub use writing::write_head;
