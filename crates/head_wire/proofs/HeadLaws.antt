@@ -1,10 +1,10 @@
 -- An instruction without the program inside: a line for each in either law.
-use Rattle.std.proofs.Common.{◌≡◌, ℕ, ◌+◌, ◌-◌, Bool, true, false, ltb, cond, List, [], ◌∷◌, ◌++◌, Option, Some, refl, ◌∙◌, arith}
+use Rattle.std.proofs.Common.{◌≡◌, ℕ, ◌+◌, ◌-◌, Bool, true, false, ltb, cond, List, [], ◌∷◌, ◌++◌, Option, Some, Result, Ok, Err, refl, sym, ap, ◌∙◌, arith}
 use Rattle.std.proofs.lemmas.Bool.{ltb-false}
-use Rattle.std.specs.Prelude.{IfSome}
+use Rattle.std.specs.Prelude.{IfSome, OnErr}
 use Rattle.scale_codec.specs.Spelling.{compact, flag, optional}
 use Rattle.scale_codec.specs.Reading.{Reader, Reads, u8_at, chosen, optional_at}
-use Rattle.scale_codec.proofs.Steps.{bind_some}
+use Rattle.scale_codec.proofs.Steps.{bind_some, same_some}
 use Rattle.scale_codec.proofs.Laws.{byte_takes, bytes_reads}
 use Rattle.scale_codec.proofs.Compact.{c32, c64}
 use Rattle.scale_codec.proofs.Schemes.{◌&◌, AllFormed, chosen_takes, formed0, formed1, formed2, formed3, formed4, formed5, made1_again, made2_again, made3_again, made4_again, made5_again, flag_reads, optional_reads}
@@ -14,12 +14,17 @@ use Rattle.location_wire.proofs.FieldLaws.{network_reads, junction_reads, juncti
 use Rattle.asset_wire.specs.declared.version.Version.{Version}
 use Rattle.asset_wire.specs.Spelling.{asset, assets, filter}
 use Rattle.asset_wire.proofs.FieldLaws.{asset_reads, assets_reads, filter_reads}
+use Rattle.asset_wire.specs.declared.fault.WireFault.{WireFault}
+use Rattle.asset_wire.specs.declared.fault.WireFault.TheVariants as faults
+use Rattle.asset_wire.specs.Answers.{GotOrFails, IsReadOrFails}
 use Rattle.message_parts.specs.Spelling.{weight, weight_limit, origin_kind, failure, FitsFailure, bytes, FitsBytes, maybe_error, query_info, response}
 use Rattle.part_wire.specs.Reading.{failure_at, bytes_at}
 use Rattle.part_wire.proofs.FieldLaws.{weight_reads, weight_limit_reads, origin_kind_reads, failure_reads, bytes_reads_most, maybe_error_reads, query_info_reads, response_reads}
+use Rattle.xcm_program.specs.declared.instruction.Instruction.{Instruction, out-Instruction}
 use Rattle.xcm_program.specs.declared.instruction.Instruction.TheOpen.{Instruction-F}
 use Rattle.xcm_program.specs.Measure.{with_inner}
 use Rattle.xcm_program.specs.Spelling.{head, FitsHead}
+use Rattle.xcm_program.proofs.Whole.{head-with}
 use Rattle.head_wire.specs.Reading.{Layer, forms0, forms1, forms2, forms3, forms4, forms5, group0_at, group1_at, group2_at, group3_at, group4_at, group5_at, form_at, head_at}
 
 -- ---- fields that are options or bytes
@@ -194,3 +199,29 @@ head_again v (Instruction-F.SetTopic topic) rest fits = made1_again (λ x. x) _ 
 head_again v Instruction-F.ClearTopic rest fits = refl
 head_again v (Instruction-F.AliasOrigin place) rest fits = made1_again location _ _ location_reads Instruction-F.AliasOrigin place rest fits
 head_again v (Instruction-F.UnpaidExecution most place) rest fits = made2_again weight_limit _ _ weight_limit_reads (optional location) _ _ optional_location_reads Instruction-F.UnpaidExecution most place rest fits.0 fits.1
+
+-- ---- of both
+
+-- the program inside what is read is empty
+pub head_empty : (v : Version) (bytes : List ℕ) (l : Layer) (rest : List ℕ) → head_at v bytes ≡ Some (l, rest) → with_inner l [] ≡ l
+head_empty v bytes l rest e =
+    let t = head_takes v bytes l rest e in
+    let same = same_some (with_inner l [], rest) (l, rest) (sym (head_again v l rest t.1) ∙ sym (ap (head_at v) t.0) ∙ e) in
+    ap (λ (x : Layer × List ℕ). x.0) same
+
+-- whatever follows two heads
+pub head_no_prefix : (v : Version) (l m : Layer) (a b : List ℕ) → FitsHead v l → FitsHead v m → head v l ++ a ≡ head v m ++ b
+    → (with_inner l [] ≡ with_inner m []) × (head v l ≡ head v m) × (a ≡ b)
+head_no_prefix v l m a b fl fm is =
+    let same = same_some (with_inner l [], a) (with_inner m [], b) (sym (head_again v l a fl) ∙ ap (head_at v) is ∙ head_again v m b fm) in
+    let layers = ap (λ (x : Layer × List ℕ). x.0) same in
+    (layers, sym (head-with v l []) ∙ ap (head v) layers ∙ head-with v m [], ap (λ (x : Layer × List ℕ). x.1) same)
+
+-- ---- a call that answers as the reader does
+
+pub is_head_read : (v : Version) (r : Result Instruction WireFault) (old new : List ℕ) → GotOrFails out-Instruction r (head_at v old) new → (OnErr r (new ≡ old))
+    → IsReadOrFails (λ i. head v (out-Instruction i)) (λ i. FitsHead v (out-Instruction i)) r old new
+is_head_read v (Ok i) old new given stays = let t = head_takes v old (out-Instruction i) new given in (t.1, t.0)
+is_head_read v (Err faults.NoSpelling) old new given stays =
+    ((λ i rest fits is. let found : head_at v old ≡ Some (with_inner (out-Instruction i) [], rest) = ap (head_at v) is ∙ head_again v (out-Instruction i) rest fits in absurd (cc (found, given))), stays)
+is_head_read v (Err faults.Memory) old new given stays = (tt, stays)

@@ -1,8 +1,10 @@
 //! Reads of instructions.
 
-ghost use Rattle.std.specs.Prelude.{◌≡◌, OnErr};
-ghost use Rattle.asset_wire.specs.Answers.{GotOrFails};
+ghost use Rattle.std.specs.Prelude.{◌≡◌, [], IfOk};
+ghost use Rattle.asset_wire.specs.Answers.{GotOrFails, IsReadOrFails};
 ghost use Rattle.xcm_program.specs.declared.instruction.Instruction.{out-Instruction};
+ghost use Rattle.xcm_program.specs.Measure.{with_inner};
+ghost use Rattle.xcm_program.specs.Spelling.{head, FitsHead};
 ghost use Rattle.head_wire.specs.Reading.{head_at};
 
 mod group0;
@@ -46,7 +48,8 @@ fn head_of(alloc: Global, c: &mut Cursor<'_>, v: Version) -> Result<Instruction,
 /// stands where it stood.
 pub fn read_head(alloc: Global, c: &mut Cursor<'_>, v: Version) -> Result<Instruction, WireFault>
     ensures read { GotOrFails (λ i. out-Instruction i) result (head_at v c.old) c.new }
-    ensures stays { OnErr result (c.new ≡ c.old) }
+    ensures spelling { IsReadOrFails (λ i. head v (out-Instruction i)) (λ i. FitsHead v (out-Instruction i)) result c.old c.new }
+    ensures empty { IfOk result (λ i. with_inner (out-Instruction i) [] ≡ out-Instruction i) }
 {
     let start = c.rest();
     match head_of(alloc, c, v) {

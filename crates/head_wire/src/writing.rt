@@ -5,15 +5,43 @@ ghost use Rattle.scale_codec.specs.Answers.{Appends};
 ghost use Rattle.xcm_program.specs.declared.instruction.Instruction.{Instruction, out-Instruction};
 ghost use Rattle.xcm_program.specs.Spelling.{head, FitsHead};
 ghost use Rattle.xcm_program.specs.Conversions.{IsNamedHead, HasAmount};
+ghost use Rattle.head_wire.specs.Fields.{fields};
 
-mod fields;
+mod group0;
+mod group1;
+mod group2;
+mod group3;
+mod group4;
+mod group5;
 mod several;
 
 use asset_wire::Version;
-use fields::put_fields;
+use group0::put_group0;
+use group1::put_group1;
+use group2::put_group2;
+use group3::put_group3;
+use group4::put_group4;
+use group5::put_group5;
 use scale_codec::Out;
 use std::alloc::AllocError;
 use xcm_program::Instruction;
+
+/// What stands behind the index, by the groups of the index.
+fn put_fields(o: &mut Out, i: &Instruction, v: Version) -> Result<(), AllocError>
+    requires named { IsNamedHead v Instruction (out-Instruction i.now) }
+    requires amount { HasAmount Instruction (out-Instruction i.now) }
+    ensures { OnOk result (Appends o.old o.new (fields v (out-Instruction i.now)) (FitsHead v (out-Instruction i.now))) }
+{
+    match i.index() {
+        0..=7 => put_group0(o, i, v),
+        8..=15 => put_group1(o, i, v),
+        16..=23 => put_group2(o, i, v),
+        24..=31 => put_group3(o, i, v),
+        32..=39 => put_group4(o, i, v),
+        40..=47 => put_group5(o, i, v),
+        _ => unreachable!(),
+    }
+}
 
 /// Appends the one spelling of the instruction in the version, up to the program inside, which stands last. The version must have one:
 /// it can say each asset id outside that program, and no amount is 0. Where memory is refused, `o` is as before.

@@ -1,21 +1,15 @@
-//! Fields that stand together in several instructions, and instructions of many fields.
+//! Fields that stand together in several instructions.
 
-ghost use Rattle.std.specs.Prelude.{◌≡◌, ◌++◌, ◌<◌, ◌^◌, OnOk, IfSome, IsFalse};
-ghost use Rattle.scale_codec.specs.Spelling.{compact, flag, optional};
+ghost use Rattle.std.specs.Prelude.{◌≡◌, ◌++◌, ◌<◌, ◌^◌, OnOk};
+ghost use Rattle.scale_codec.specs.Spelling.{compact, flag};
 ghost use Rattle.scale_codec.specs.Answers.{Appends};
 ghost use Rattle.location_wire.specs.Spelling.{location, FitsLocation};
 ghost use Rattle.asset_wire.specs.Spelling.{asset, FitsAsset, assets, FitsAssets, filter, FitsFilter, IsWritable, AreNamed, IsFilterNamed};
-ghost use Rattle.message_parts.specs.Spelling.{weight, FitsWeight, origin_kind, bytes, FitsBytes, response, FitsResponse};
-ghost use Rattle.part_wire.specs.Named.{IsResponseNamed};
 
 use asset_lists::{Asset, Assets, Filter};
 use asset_wire::{Version, write_asset, write_assets, write_filter};
 use location_wire::write_location;
 use locations::Location;
-use message_parts::{LongBytes, OriginKind, Response, Weight};
-use part_wire::{
-    write_bytes, write_optional_location, write_origin_kind, write_response, write_weight,
-};
 use scale_codec::Out;
 use std::alloc::AllocError;
 
