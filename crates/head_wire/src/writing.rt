@@ -1,6 +1,6 @@
 //! Writes of instructions: each appends the one spelling.
 
-ghost use Rattle.std.specs.Prelude.{◌≡◌, OnOk, OnErr};
+ghost use Rattle.std.specs.Prelude.{◌≡◌, OnOk, MatchResult};
 ghost use Rattle.scale_codec.specs.Answers.{Appends};
 ghost use Rattle.xcm_program.specs.declared.instruction.Instruction.{Instruction, out-Instruction};
 ghost use Rattle.xcm_program.specs.Spelling.{head, FitsHead};
@@ -49,8 +49,7 @@ fn put_fields(o: &mut Out, i: &Instruction, v: Version) -> Result<(), AllocError
 pub fn write_head(o: &mut Out, i: &Instruction, v: Version) -> Result<(), AllocError>
     requires named { IsNamedHead v Instruction (out-Instruction i.now) }
     requires amount { HasAmount Instruction (out-Instruction i.now) }
-    ensures ok { OnOk result (Appends o.old o.new (head v (out-Instruction i.now)) (FitsHead v (out-Instruction i.now))) }
-    ensures err { OnErr result (o.new ≡ o.old) }
+    ensures { MatchResult result (λ _. Appends o.old o.new (head v (out-Instruction i.now)) (FitsHead v (out-Instruction i.now))) (λ _. o.new ≡ o.old) }
 {
     let mut text = Out::new(o.allocator());
     text.put_u8(i.index())?;
