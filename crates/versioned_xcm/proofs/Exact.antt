@@ -65,10 +65,13 @@ convertible_told : (bytes : List ℕ) (program : List Instruction) (b : Bool) �
 convertible_told bytes program true e short m = record { message = m; convertible = e }
 convertible_told bytes program false e short m = (short, record { program = program; message = m; abstract_id = e })
 
+more_left : (byte : ℕ) (bytes : List ℕ) → byte ∷ bytes ≡ [] → ⊥
+more_left byte bytes e = absurd cc
+
 read_told : (v : Version) (rest : List ℕ) (read : Option (List Instruction × List ℕ)) → readable_at v rest ≡ read → length (version_byte v ∷ rest) ≤ 65536 → Told (version_byte v ∷ rest) (ended read)
 read_told v rest None e short = (short, not_unknown v rest, not_read v rest None e (λ program h. absurd cc))
 read_told v rest (Some (program, [])) e short = convertible_told (version_byte v ∷ rest) program (is_convertible program) refl short (is_message v rest program short e)
-read_told v rest (Some (program, byte ∷ bytes)) e short = (short, not_unknown v rest, not_read v rest (Some (program, byte ∷ bytes)) e (λ other h. absurd cc))
+read_told v rest (Some (program, byte ∷ bytes)) e short = (short, not_unknown v rest, not_read v rest (Some (program, byte ∷ bytes)) e (λ other h. more_left byte bytes (ap (λ (x : List Instruction × List ℕ). x.1) (same_some (program, byte ∷ bytes) (other, []) h))))
 
 in_told : (v : Version) (version : ℕ) (rest : List ℕ) → version ≡ version_byte v → length (version ∷ rest) ≤ 65536 → Told (version ∷ rest) (program_in v rest)
 in_told v version rest is short =

@@ -2,8 +2,7 @@
 -- project's own rule.
 use Rattle.std.specs.Prelude.{◌≡◌, ◌<◌, ◌≤◌, ◌⊎◌, ℕ, true, false, List, [], ◌∷◌, length, codes, ⊤}
 use Rattle.asset_wire.specs.declared.version.Version.{Version}
-use Rattle.xcm_program.specs.declared.instruction.Instruction.{Instruction, roll-Instruction}
-use Rattle.xcm_program.specs.declared.instruction.Instruction.TheOpen.{Instruction-F}
+use Rattle.xcm_program.specs.declared.instruction.Instruction.{Instruction, ClearOrigin}
 use Rattle.xcm_program.specs.Measure.{count_of, depth_of}
 use Rattle.xcm_program.specs.Messages.{message, IsMessage}
 use Rattle.xcm_program.specs.Conversions.{is_convertible}
@@ -53,7 +52,7 @@ fault_text Memory = codes "no memory"
 
 -- what a chain sends on: its own instruction, and the origin is given up before the rest
 abbrev pub forwarded : Instruction → List Instruction → List Instruction
-forwarded first rest = first ∷ roll-Instruction Instruction-F.ClearOrigin ∷ rest
+forwarded first rest = first ∷ ClearOrigin ∷ rest
 
 -- the program passes a limit
 abbrev pub IsEncodeCause : Version → List Instruction → EncodeFault → Type 0

@@ -9,6 +9,6 @@ mod law;
 mod tests;
 
 pub use decoding::decode_message;
-pub use encoding::encode_message;
+pub use encoding::{encode_forwarded, encode_message};
 pub use fault::{EncodeFault, MessageFault};
 pub use law::{law_of_messages, law_of_one_program, law_of_round_trip};

@@ -14,11 +14,11 @@ put_instruction-put_program-requires t c =
 
 pub put_instruction-returns-in-Some : goal.put_instruction-returns-in-Some
 put_instruction-returns-in-Some t c =
-    wrote_nested_so c.put_program.result c.args.v c.args.i.now c.in-Some.xcm.now c.args.o.now c.write_head.new.o c.put_program.new.o (rw c.in-Some.is at c.inner.ensures) c.in_ok-write_head.ensures.ok c.put_program.ensures
+    wrote_nested_so c.put_program.result c.args.v c.args.i.now c.in-Some.xcm.now c.args.o.now c.write_head.new.o c.put_program.new.o (rw c.in-Some.is at c.inner.ensures) c.in_ok-write_head.ensures c.put_program.ensures
 
 pub put_instruction-returns-in-None : goal.put_instruction-returns-in-None
 put_instruction-returns-in-None t c =
-    wrote_plain c.args.v c.args.i.now c.args.o.now c.write_head.new.o (rw c.in-None.is at c.inner.ensures) c.in_ok-write_head.ensures.ok
+    wrote_plain c.args.v c.args.i.now c.args.o.now c.write_head.new.o (rw c.in-None.is at c.inner.ensures) c.in_ok-write_head.ensures
 
 pub put_program-returns : goal.put_program-returns
 put_program-returns t c =
