@@ -2,15 +2,18 @@
 -- instructions and of the errors are the XCM format's.
 use Rattle.std.specs.Prelude.{ℕ, List, [], ◌++◌, flat_map, slice_get, Option, Some, None, Result, Ok, Err, codes, decimal}
 use Rattle.hex.specs.Hex.{encode_lower}
-use Rattle.xcm_program.specs.Texts.{weight_text, instruction_name, error_text, outcome_error_text}
-use Rattle.xcm_program.specs.declared.instruction.Instruction.{Instruction}
-use Rattle.xcm_program.specs.declared.error.XcmError.{XcmError}
+use Rattle.message_parts.specs.Texts.{weight_text, error_text}
+use Rattle.message_parts.specs.declared.error.XcmError.{XcmError}
+use Rattle.xcm_program.specs.Texts.{instruction_name, outcome_error_text}
+use Rattle.xcm_program.specs.declared.instruction.Instruction.{Instruction, out-Instruction}
 use Rattle.xcm_program.specs.declared.outcome.Outcome.{Outcome}
 use Rattle.xcm_program.specs.declared.outcome.Outcome.TheVariants.{Complete, Incomplete, Error}
 use Rattle.versioned_xcm.specs.Message.{fault_text}
 use Rattle.versioned_xcm.specs.Reading.{message_of}
 use Rattle.versioned_xcm.specs.declared.fault.MessageFault.{MessageFault}
+use Rattle.xcm_executor.specs.Built.{plain_program}
 use Rattle.xcm_executor.specs.PlainRun.{plain_run}
+use Rattle.xcm_executor.specs.declared.instruction.PlainInstruction.{PlainInstruction}
 use Rattle.xcm_executor.specs.declared.plain.PlainLine.{PlainLine}
 use Rattle.xcm_executor.specs.declared.plain.PlainRun.{PlainRun}
 use Rattle.chain_ids.specs.Texts.{chain_text}
@@ -24,7 +27,7 @@ heading step chain = codes "#" ++ decimal step ++ codes " exec " ++ chain_text c
 -- the name of an instruction, where there is one
 abbrev pub name_text : Option Instruction → List ℕ
 name_text None = []
-name_text (Some instruction) = instruction_name instruction
+name_text (Some instruction) = instruction_name (out-Instruction instruction)
 
 -- how an instruction ended
 abbrev pub result_text : Option XcmError → List ℕ
@@ -55,9 +58,14 @@ outcome_text (Error error) = codes "  = error " ++ outcome_error_text error ++ c
 unfoldable pub run_text : List Instruction → PlainRun → List ℕ
 run_text program run = flat_map (line_text program) run.lines ++ end_text run ++ outcome_text run.outcome
 
+-- a message is refused too where an instruction of it isn't built
+abbrev pub run_or_refusal : List ℕ → List Instruction → Option (List PlainInstruction) → List ℕ
+run_or_refusal account program None = codes "  = message refused: not built\n"
+run_or_refusal account program (Some plain) = run_text program (plain_run account plain)
+
 -- what a message does on behalf of an account, or why it is refused
 abbrev pub message_text : List ℕ → Result (List Instruction) MessageFault → List ℕ
-message_text account (Ok program) = run_text program (plain_run account program)
+message_text account (Ok program) = run_or_refusal account program (plain_program program)
 message_text account (Err fault) = codes "  = message refused: " ++ fault_text fault ++ codes "\n"
 
 -- the relay is the one chain

@@ -8,7 +8,7 @@ use chain_ids::ChainId;
 use std::alloc::{AllocError, Global};
 use std::fmt::Write;
 use versioned_xcm::{MessageFault, decode_message};
-use xcm_executor::run_plain;
+use xcm_executor::{plain_program, run_plain};
 
 /// The block of the step with this number, from 1, that executes a message (SCALE codec, XCM format) on a chain on behalf of
 /// an account: the heading, and below it what the message does, why it is refused, or that there is no such chain. The relay
@@ -49,10 +49,13 @@ fn write_execution(
     ensures { OnOk result (string_bytes text.new ≡ string_bytes text.old ++ message_text account.now (message_of message.now)) }
 {
     match decode_message(alloc, message) {
-        Ok(program) => {
-            let run = run_plain(alloc, account, &program)?;
-            write_run(alloc, text, &program, &run)
-        }
+        Ok(program) => match plain_program(alloc, &program)? {
+            Some(plain) => {
+                let run = run_plain(alloc, account, &plain)?;
+                write_run(alloc, text, &program, &run)
+            }
+            None => write!(text, "  = message refused: not built\n"),
+        },
         Err(MessageFault::Memory) => Err(AllocError),
         Err(fault) => write!(text, "  = message refused: {fault}\n"),
     }

@@ -2,9 +2,9 @@
 use Rattle.std.proofs.Common.{◌≡◌, ℕ, ◌+◌, ◌-◌, ◌<◌, ◌≤◌, List, [], ◌∷◌, ◌++◌, length, take, drop, refl, sym, ◌∙◌, ap, arith, length-drop, length-append, Option, None, Some, slice_index_or}
 use Rattle.std.specs.Prelude.{Err}
 use Rattle.std.proofs.lemmas.List.{drop_more, append-nil, length-take-le, nil_from_length}
-use Rattle.xcm_program.specs.declared.weight.Weight.{Weight}
-use Rattle.xcm_program.specs.declared.instruction.Instruction.{Instruction}
-use Rattle.xcm_program.specs.declared.error.XcmError.{XcmError}
+use Rattle.message_parts.specs.declared.weight.Weight.{Weight}
+use Rattle.xcm_executor.specs.declared.instruction.PlainInstruction.{PlainInstruction}
+use Rattle.message_parts.specs.declared.error.XcmError.{XcmError}
 use Rattle.xcm_program.specs.declared.outcome.Outcome.TheVariants.{Complete, Incomplete}
 use Rattle.xcm_program.specs.declared.outcome.OutcomeError.TheVariants.{Xcm}
 use Rattle.xcm_executor.specs.declared.plain.PlainLine.{PlainLine}
@@ -12,7 +12,7 @@ use Rattle.xcm_executor.specs.declared.plain.PlainRun.{PlainRun}
 use Rattle.xcm_executor.specs.PlainRun.{plus, less, times, no_weight, unit_weight, weight_of, step, Ran, after_lines, run_from, plain_run}
 
 -- what has run so far, and what is left
-pub record Stands (account : List ℕ) (program : List Instruction) (lines : List PlainLine) (index : ℕ) (origin : Option (List ℕ)) : Type 0 where
+pub record Stands (account : List ℕ) (program : List PlainInstruction) (lines : List PlainLine) (index : ℕ) (origin : Option (List ℕ)) : Type 0 where
   pub goes : run_from 0 (Some account) program ≡ after_lines lines (run_from index origin (drop index program))
   pub each : length lines ≡ index
 
@@ -21,30 +21,30 @@ weights_equal : (a b c d : ℕ) → a ≡ b → c ≡ d → (let v : Weight = re
 weights_equal a b c d e f = rw (e, f) refl
 
 -- a program of n instructions weighs n times one
-pub weight_of-times : (program : List Instruction) → weight_of program ≡ times (length program) unit_weight
+pub weight_of-times : (program : List PlainInstruction) → weight_of program ≡ times (length program) unit_weight
 weight_of-times [] = refl
 weight_of-times (instruction ∷ rest) =
     ap (plus unit_weight) (weight_of-times rest)
     ∙ weights_equal _ _ _ _ (omega arith) (omega arith)
 
 -- the weight of all less that of what is left
-pub less-weight_of-drop : (program : List Instruction) (n : ℕ) → n ≤ length program → less (weight_of program) (weight_of (drop n program)) ≡ times n unit_weight
+pub less-weight_of-drop : (program : List PlainInstruction) (n : ℕ) → n ≤ length program → less (weight_of program) (weight_of (drop n program)) ≡ times n unit_weight
 less-weight_of-drop program n h =
     let left : length (drop n program) ≡ length program - n = length-drop n program in
     rw (weight_of-times program, weight_of-times (drop n program), left) (weights_equal _ _ _ _ (omega arith) (omega arith))
 
-pub weight_of-drop : (program : List Instruction) (n : ℕ) → weight_of (drop n program) ≡ times (length program - n) unit_weight
+pub weight_of-drop : (program : List PlainInstruction) (n : ℕ) → weight_of (drop n program) ≡ times (length program - n) unit_weight
 weight_of-drop program n = weight_of-times (drop n program) ∙ ap (λ k. times k unit_weight) (length-drop n program)
 
-pub weight_of-take : (program : List Instruction) (n : ℕ) → n ≤ length program → weight_of (take n program) ≡ times n unit_weight
+pub weight_of-take : (program : List PlainInstruction) (n : ℕ) → n ≤ length program → weight_of (take n program) ≡ times n unit_weight
 weight_of-take program n h = weight_of-times (take n program) ∙ ap (λ k. times k unit_weight) (length-take-le n program h)
 
 -- an instruction that fails ends the run
-run_from-fails : (index : ℕ) (origin : Option (List ℕ)) (instruction : Instruction) (rest : List Instruction) (error : XcmError) → step instruction origin ≡ Err error
+run_from-fails : (index : ℕ) (origin : Option (List ℕ)) (instruction : PlainInstruction) (rest : List PlainInstruction) (error : XcmError) → step instruction origin ≡ Err error
     → run_from index origin (instruction ∷ rest) ≡ record { lines = record { index = index; error = Some error } ∷ []; origin = origin; error = Some error; surplus = weight_of rest }
 run_from-fails index origin instruction rest error e = rw (e, run_from) refl
 
-run_from-failed : (account : List ℕ) (program : List Instruction) (lines : List PlainLine) (index : ℕ) (origin : Option (List ℕ)) (d : Instruction) (error : XcmError)
+run_from-failed : (account : List ℕ) (program : List PlainInstruction) (lines : List PlainLine) (index : ℕ) (origin : Option (List ℕ)) (d : PlainInstruction) (error : XcmError)
     → Stands account program lines index origin → index < length program → step (slice_index_or program index d) origin ≡ Err error
     → run_from 0 (Some account) program ≡ record { lines = lines ++ record { index = index; error = Some error } ∷ []; origin = origin; error = Some error; surplus = weight_of (drop (index + 1) program) }
 run_from-failed account program lines index origin d error s h e =
@@ -52,7 +52,7 @@ run_from-failed account program lines index origin d error s h e =
     ∙ ap (λ p. after_lines lines (run_from index origin p)) (drop_more program index d h)
     ∙ ap (after_lines lines) (run_from-fails index origin (slice_index_or program index d) (drop (index + 1) program) error e)
 
-run_from-ended : (account : List ℕ) (program : List Instruction) (lines : List PlainLine) (index : ℕ) (origin : Option (List ℕ))
+run_from-ended : (account : List ℕ) (program : List PlainInstruction) (lines : List PlainLine) (index : ℕ) (origin : Option (List ℕ))
     → Stands account program lines index origin → length program ≤ index
     → run_from 0 (Some account) program ≡ record { lines = lines; origin = origin; error = None; surplus = no_weight }
 run_from-ended account program lines index origin s h =
@@ -62,7 +62,7 @@ run_from-ended account program lines index origin s h =
     ∙ ap (λ l. let r : Ran = record { lines = l; origin = origin; error = None; surplus = no_weight } in r) (append-nil lines)
 
 -- the whole run, where an instruction failed
-pub plain_run-failed : (account : List ℕ) (program : List Instruction) (lines now : List PlainLine) (index : ℕ) (origin after : Option (List ℕ)) (d : Instruction) (error : XcmError) (used surplus : Weight)
+pub plain_run-failed : (account : List ℕ) (program : List PlainInstruction) (lines now : List PlainLine) (index : ℕ) (origin after : Option (List ℕ)) (d : PlainInstruction) (error : XcmError) (used surplus : Weight)
     → Stands account program lines index origin → index < length program → step (slice_index_or program index d) origin ≡ Err error → after ≡ origin
     → now ≡ lines ++ record { index = index; error = Some error } ∷ []
     → used ≡ times (index + 1) unit_weight → surplus ≡ times (length program - index - 1) unit_weight
@@ -73,7 +73,7 @@ plain_run-failed account program lines now index origin after d error used surpl
     rw (run_from-failed account program lines index origin d error s h e, spent, left, n, o) refl
 
 -- the whole run, where none failed
-pub plain_run-ended : (account : List ℕ) (program : List Instruction) (lines : List PlainLine) (index : ℕ) (origin : Option (List ℕ)) (used surplus : Weight)
+pub plain_run-ended : (account : List ℕ) (program : List PlainInstruction) (lines : List PlainLine) (index : ℕ) (origin : Option (List ℕ)) (used surplus : Weight)
     → Stands account program lines index origin → length program ≤ index
     → used ≡ times (length program) unit_weight → surplus ≡ times 0 unit_weight
     → (let r : PlainRun = record { lines = lines; origin = origin; surplus = surplus; outcome = Complete used } in r) ≡ plain_run account program
@@ -82,10 +82,10 @@ plain_run-ended account program lines index origin used surplus s h u w =
     rw (run_from-ended account program lines index origin s h, spent, w) refl
 
 -- what ran weighs what was used, and what didn't is surplus, where n instructions ran
-pub used-of_lines : (program : List Instruction) (lines : List PlainLine) (used : Weight) (n : ℕ) → length lines ≡ n → n ≤ length program → used ≡ times n unit_weight → used ≡ weight_of (take (length lines) program)
+pub used-of_lines : (program : List PlainInstruction) (lines : List PlainLine) (used : Weight) (n : ℕ) → length lines ≡ n → n ≤ length program → used ≡ times n unit_weight → used ≡ weight_of (take (length lines) program)
 used-of_lines program lines used n e h u = u ∙ sym (ap (λ k. weight_of (take k program)) e ∙ weight_of-take program n h)
 
-pub surplus-of_lines : (program : List Instruction) (lines : List PlainLine) (surplus : Weight) (n m : ℕ) → length lines ≡ n → m ≡ length program - n → surplus ≡ times m unit_weight → surplus ≡ weight_of (drop (length lines) program)
+pub surplus-of_lines : (program : List PlainInstruction) (lines : List PlainLine) (surplus : Weight) (n m : ℕ) → length lines ≡ n → m ≡ length program - n → surplus ≡ times m unit_weight → surplus ≡ weight_of (drop (length lines) program)
 surplus-of_lines program lines surplus n m e i w =
     w ∙ ap (λ k. times k unit_weight) i ∙ sym (ap (λ k. weight_of (drop k program)) e ∙ weight_of-drop program n)
 

@@ -2,11 +2,11 @@
 -- neither a handler nor an appendix. Sources: the XCM format for the instructions and the registers, xcm-executor's
 -- documentation for surplus and outcome; the default weights are this project's own rule.
 use Rattle.std.specs.Prelude.{ℕ, ◌+◌, ◌-◌, ◌*◌, List, [], ◌∷◌, ◌++◌, Option, None, Some, Result, Ok, Err}
-use Rattle.xcm_program.specs.declared.weight.Weight.{Weight}
-use Rattle.xcm_program.specs.declared.instruction.Instruction.{Instruction}
-use Rattle.xcm_program.specs.declared.instruction.Instruction.TheVariants.{ClearOrigin, Trap}
-use Rattle.xcm_program.specs.declared.error.XcmError.{XcmError}
-use Rattle.xcm_program.specs.declared.error.XcmError.TheVariants.{Trap as TrapError}
+use Rattle.message_parts.specs.declared.weight.Weight.{Weight}
+use Rattle.xcm_executor.specs.declared.instruction.PlainInstruction.{PlainInstruction}
+use Rattle.xcm_executor.specs.declared.instruction.PlainInstruction.TheVariants.{ClearOrigin, Trap}
+use Rattle.message_parts.specs.declared.error.XcmError.{XcmError}
+use Rattle.message_parts.specs.declared.error.XcmError.TheVariants.{Trap as TrapError}
 use Rattle.xcm_program.specs.declared.outcome.Outcome.{Outcome}
 use Rattle.xcm_program.specs.declared.outcome.Outcome.TheVariants.{Complete, Incomplete, Error}
 use Rattle.xcm_program.specs.declared.outcome.OutcomeError.TheVariants.{Xcm}
@@ -31,12 +31,12 @@ abbrev pub unit_weight : Weight
 unit_weight = record { ref_time = 1000; proof_size = 100 }
 
 -- a program weighs the sum over its instructions
-abbrev pub weight_of : List Instruction → Weight
+abbrev pub weight_of : List PlainInstruction → Weight
 weight_of [] = no_weight
 weight_of (instruction ∷ rest) = plus unit_weight (weight_of rest)
 
 -- what an instruction does: the origin register after it, or its error
-abbrev pub step : Instruction → Option (List ℕ) → Result (Option (List ℕ)) XcmError
+abbrev pub step : PlainInstruction → Option (List ℕ) → Result (Option (List ℕ)) XcmError
 step ClearOrigin origin = Ok None
 step (Trap code) origin = Err (TrapError code)
 
@@ -53,7 +53,7 @@ after_lines lines ran = record ran { lines = lines ++ ran.lines }
 
 -- The instructions run in turn, the first of them at this index. The first error ends the run, and the weight of the
 -- instructions after it is surplus.
-abbrev pub run_from : ℕ → Option (List ℕ) → List Instruction → Ran
+abbrev pub run_from : ℕ → Option (List ℕ) → List PlainInstruction → Ran
 run_from index origin [] = record { lines = []; origin = origin; error = None; surplus = no_weight }
 run_from index origin (instruction ∷ rest) = elim (step instruction origin) [
   | Ok after ↦ after_lines (record { index = index; error = None } ∷ []) (run_from (index + 1) after rest)
@@ -66,7 +66,7 @@ outcome_of used None = Complete used
 outcome_of used (Some error) = Incomplete used (Xcm error)
 
 -- the run on behalf of an account: used is the weight of the program less the surplus
-abbrev pub plain_run : List ℕ → List Instruction → PlainRun
+abbrev pub plain_run : List ℕ → List PlainInstruction → PlainRun
 plain_run account program =
     let ran : Ran = run_from 0 (Some account) program in
     record { lines = ran.lines; origin = ran.origin; surplus = ran.surplus; outcome = outcome_of (less (weight_of program) ran.surplus) ran.error }

@@ -2,10 +2,11 @@
 ghost use Rattle.std.specs.Prelude.{◌≡◌, ◌*◌, ◌^◌, ◌<◌, IfOk, length, take, drop};
 ghost use Rattle.xcm_executor.specs.PlainRun.{plain_run, unit_weight, times, weight_of, used_of};
 
+use crate::instruction::PlainProgram;
 use crate::registers::Registers;
 use plain_lists::Listed;
 use std::alloc::{AllocError, Global};
-use xcm_program::{Outcome, OutcomeError, Program, Weight, XcmError};
+use xcm_program::{Outcome, OutcomeError, Weight, XcmError};
 
 /// One instruction that ran: the trace of a run has a line for each, in order.
 #[derive(Clone, Copy, Debug, PartialEq, Eq)]
@@ -47,7 +48,7 @@ fn weight_of_count(count: u32) -> Weight
 pub fn run_plain(
     alloc: Global,
     account: &[u8; 32],
-    program: &Program,
+    program: &PlainProgram,
 ) -> Result<PlainRun, AllocError>
     requires { length program.now < 2 ^ 32 }
     ensures run { IfOk result (λ run. run ≡ plain_run account.now program.now) }

@@ -1,7 +1,8 @@
 ghost use Rattle.std.specs.Prelude.{◌≡◌, OnErr, IfOk, MatchResult};
 ghost use Rattle.xcm_executor.specs.PlainRun.{step};
 
-use xcm_program::{Instruction, XcmError};
+use crate::instruction::PlainInstruction;
+use xcm_program::XcmError;
 
 /// The registers (XCM format) that the built instructions read or change.
 #[derive(Drop)]
@@ -12,16 +13,16 @@ pub struct Registers {
 
 impl Registers {
     /// Executes one instruction. An instruction that fails leaves the registers as they were.
-    pub fn execute(&mut self, instruction: Instruction) -> Result<(), XcmError>
+    pub fn execute(&mut self, instruction: PlainInstruction) -> Result<(), XcmError>
         ensures { MatchResult result (λ _. step instruction self.old.origin ≡ Ok self.new.origin)
             (λ error. (step instruction self.old.origin ≡ Err error) × (self.new ≡ self.old)) }
     {
         match instruction {
-            Instruction::ClearOrigin => {
+            PlainInstruction::ClearOrigin => {
                 self.origin = None;
                 Ok(())
             }
-            Instruction::Trap { code } => Err(XcmError::Trap(code)),
+            PlainInstruction::Trap { code } => Err(XcmError::Trap(code)),
         }
     }
 }

@@ -8,7 +8,7 @@ use xcm_program::{Instruction, Outcome, OutcomeError, Program, Weight, XcmError}
 
 const ACCOUNT: [u8; 32] = [1; 32];
 
-fn program_of(alloc: Global, instructions: &[Instruction]) -> Result<Program, AllocError>
+fn program_of(alloc: Global, instructions: &[PlainInstruction]) -> Result<PlainProgram, AllocError>
     ensures { IfOk result (λ program. program ≡ instructions.now) }
 {
     Ok(Listed::from_vec(Vec::from_slice(alloc, instructions)?))
@@ -36,7 +36,7 @@ fn line(index: u32, error: Option<XcmError>) -> PlainLine {
 fn a_trap_ends_the_run_with_its_code(rt: HostRuntime) -> Result<(), Fail> {
     let alloc = rt.alloc();
     for code in [5, 64, 1_073_741_824, u64::MAX] {
-        let program = program_of(alloc, &[Instruction::Trap { code }])?;
+        let program = program_of(alloc, &[PlainInstruction::Trap { code }])?;
         let run = run_plain(alloc, &ACCOUNT, &program)?;
         let lines = [line(0, Some(XcmError::Trap(code)))];
         assert_eq!(rt; run.lines.items(), lines.as_slice(), "code {code}");
@@ -50,7 +50,7 @@ fn a_trap_ends_the_run_with_its_code(rt: HostRuntime) -> Result<(), Fail> {
 #[test]
 fn a_hundred_instructions_are_complete(rt: HostRuntime) -> Result<(), Fail> {
     let alloc = rt.alloc();
-    let program = program_of(alloc, &[Instruction::ClearOrigin; 100])?;
+    let program = program_of(alloc, &[PlainInstruction::ClearOrigin; 100])?;
     let run = run_plain(alloc, &ACCOUNT, &program)?;
     assert_eq!(rt; run.lines.items().len(), 100);
     assert_eq!(rt; run.lines.items().last().copied(), Some(line(99, None)));
@@ -64,8 +64,8 @@ fn a_hundred_instructions_are_complete(rt: HostRuntime) -> Result<(), Fail> {
 #[test]
 fn what_stands_behind_an_error_is_surplus(rt: HostRuntime) -> Result<(), Fail> {
     let alloc = rt.alloc();
-    let clear = Instruction::ClearOrigin;
-    let trap = Instruction::Trap { code: 7 };
+    let clear = PlainInstruction::ClearOrigin;
+    let trap = PlainInstruction::Trap { code: 7 };
     let error = Some(XcmError::Trap(7));
 
     let program = program_of(alloc, &[clear, trap, clear, trap, clear])?;
@@ -95,5 +95,33 @@ fn no_instructions_take_no_weight(rt: HostRuntime) -> Result<(), Fail> {
     assert_eq!(rt; run.origin, Some(ACCOUNT));
     let used = weight(0, 0);
     assert_eq!(rt; run.outcome, Outcome::Complete { used });
+    Ok(())
+}
+
+#[test]
+fn programs_of_built_instructions_alone_are_built(rt: HostRuntime) -> Result<(), Fail> {
+    let alloc = rt.alloc();
+    let built = Program::from_vec(vec![in alloc;
+        Instruction::ClearOrigin,
+        Instruction::Trap { code: 7 },
+    ]?);
+    let Some(plain) = plain_program(alloc, &built)? else {
+        assert!(rt; false, "both are built");
+        return Ok(());
+    };
+    let want = [
+        PlainInstruction::ClearOrigin,
+        PlainInstruction::Trap { code: 7 },
+    ];
+    assert_eq!(rt; plain.items(), want.as_slice());
+
+    let xcm = Program::from_vec(vec![in alloc; Instruction::ClearOrigin]?);
+    let nested = Program::from_vec(vec![in alloc;
+        Instruction::ClearOrigin,
+        Instruction::SetAppendix { xcm },
+    ]?);
+    assert!(rt; plain_program(alloc, &nested)?.is_none());
+    let refund = Program::from_vec(vec![in alloc; Instruction::RefundSurplus]?);
+    assert!(rt; plain_program(alloc, &refund)?.is_none());
     Ok(())
 }
