@@ -188,7 +188,6 @@ pub maybe_error_reads : Reads maybe_error FitsMaybeError maybe_error_at
 unfolding maybe_error_at
 maybe_error_reads = indexed_reads maybe_error FitsMaybeError maybe_error_forms maybe_error_formed maybe_error_again
 
-
 pub pallet_info_reads : Reads pallet_info FitsPallet pallet_info_at
 unfolding pallet_info pallet_info_at
 pallet_info_reads =
