@@ -6,7 +6,7 @@ ghost use Rattle.scale_codec.specs.Spelling.{optional, counted, compact};
 ghost use Rattle.scale_codec.specs.Answers.{Appends};
 ghost use Rattle.location_wire.specs.Spelling.{location, FitsLocation};
 ghost use Rattle.message_parts.specs.Spelling.{weight, FitsWeight, weight_limit, FitsLimit, origin_kind, xcm_error, FitsError, failure, FitsFailure, bytes, FitsBytes, maybe_error, FitsMaybeError, pallet_info, FitsPallet, query_info, FitsInfo, response, FitsResponse};
-ghost use Rattle.part_wire.specs.Named.{IsResponseNamed};
+ghost use Rattle.message_parts.specs.Named.{IsResponseNamed};
 
 use asset_wire::{Version, write_assets};
 use location_wire::write_location;
