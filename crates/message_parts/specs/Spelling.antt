@@ -1,6 +1,6 @@
 -- The one spelling of each part of an instruction, and which values have one. Source: the XCM format, versions 3 and 4, in the SCALE
 -- codec: an enum is its index and then its fields in order. The versions spell the assets of a response alone in two ways.
-use Rattle.std.specs.Prelude.{◌≡◌, ℕ, ◌<◌, ◌≤◌, ◌^◌, List, [], ◌∷◌, ◌++◌, length, Option, IfSome, ⊤}
+use Rattle.std.specs.Prelude.{ℕ, ◌<◌, ◌≤◌, ◌^◌, List, [], ◌∷◌, ◌++◌, length, IfSome, ⊤}
 use Rattle.std.specs.List.{AllByRecursion}
 use Rattle.scale_codec.specs.Spelling.{fixed, compact, optional, counted, measured}
 use Rattle.location_wire.specs.Spelling.{location, FitsLocation}

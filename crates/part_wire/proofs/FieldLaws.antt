@@ -1,9 +1,9 @@
 -- One law for each type: its reader takes what is spelled, and nothing else.
-use Rattle.std.proofs.Common.{◌≡◌, ℕ, ◌<◌, ◌≤◌, ◌^◌, List, ◌++◌, length, Option, Some, refl, arith}
+use Rattle.std.proofs.Common.{◌≡◌, ℕ, ◌<◌, ◌≤◌, ◌^◌, List, ◌++◌, length, Some, refl, arith}
 use Rattle.std.specs.Prelude.{IfSome}
 use Rattle.std.specs.List.{AllByRecursion}
 use Rattle.scale_codec.specs.Spelling.{fixed, compact, optional, counted}
-use Rattle.scale_codec.specs.Reading.{Reads, fixed_at, below_at, made4, indexed_at, optional_at}
+use Rattle.scale_codec.specs.Reading.{Reads, below_at, indexed_at, optional_at}
 use Rattle.scale_codec.proofs.Laws.{fixed_reads}
 use Rattle.scale_codec.proofs.Compact.{c32, c64}
 use Rattle.scale_codec.proofs.Schemes.{◌&◌, AllFormed, reads_fits, at_most_reads, indexed_reads, made1_again, made2_reads, made3_reads, made4_reads, both_reads, formed0, formed1, optional_reads, counted_reads, measured_reads}
@@ -13,7 +13,6 @@ use Rattle.location_wire.proofs.FieldLaws.{location_reads}
 use Rattle.asset_wire.specs.declared.version.Version.{Version}
 use Rattle.asset_wire.specs.Spelling.{assets}
 use Rattle.asset_wire.proofs.FieldLaws.{assets_reads}
-use Rattle.message_parts.specs.declared.weight.Weight.{Weight}
 use Rattle.message_parts.specs.declared.weight.WeightLimit.{WeightLimit}
 use Rattle.message_parts.specs.declared.weight.WeightLimit.TheVariants.{Unlimited, Limited}
 use Rattle.message_parts.specs.declared.origin.OriginKind.{OriginKind}
@@ -22,12 +21,10 @@ use Rattle.message_parts.specs.declared.error.XcmError.{XcmError}
 use Rattle.message_parts.specs.declared.error.XcmError.TheVariants.{Overflow, Unimplemented, UntrustedReserveLocation, UntrustedTeleportLocation, LocationFull, LocationNotInvertible, BadOrigin, InvalidLocation, AssetNotFound, FailedToTransactAsset, NotWithdrawable, LocationCannotHold, ExceedsMaxMessageSize, DestinationUnsupported, Transport, Unroutable, UnknownClaim, FailedToDecode, MaxWeightInvalid, NotHoldingFees, TooExpensive, Trap, ExpectationFalse, PalletNotFound, NameMismatch, VersionIncompatible, HoldingWouldOverflow, ExportError, ReanchorFailed, NoDeal, FeesNotMet, LockError, NoPermission, Unanchored, NotDepositable}
 use Rattle.message_parts.specs.declared.status.MaybeError.{MaybeError}
 use Rattle.message_parts.specs.declared.status.MaybeError.TheVariants.{Success, Error, TruncatedError}
-use Rattle.message_parts.specs.declared.pallet.PalletInfo.{PalletInfo}
-use Rattle.message_parts.specs.declared.query.QueryInfo.{QueryInfo}
 use Rattle.message_parts.specs.declared.query.Response.{Response}
 use Rattle.message_parts.specs.declared.query.Response.TheVariants as responses
 use Rattle.message_parts.specs.Spelling.{weight, FitsWeight, weight_limit, FitsLimit, origin_kind, xcm_error, FitsError, failure, FitsFailure, bytes, FitsBytes, maybe_error, FitsMaybeError, pallet_info, FitsPallet, query_info, FitsInfo, response, FitsResponse}
-use Rattle.part_wire.specs.Reading.{weight_at, weight_limit_forms, weight_limit_at, origin_kind_forms, origin_kind_at, error_forms, error_at, failure_at, at_most_at, bytes_at, maybe_error_forms, maybe_error_at, named_at, pallet_info_at, pallet_infos_at, query_info_at, response_forms, response_at}
+use Rattle.part_wire.specs.Reading.{weight_at, weight_limit_forms, weight_limit_at, origin_kind_forms, origin_kind_at, error_forms, error_at, failure_at, at_most_at, bytes_at, maybe_error_forms, maybe_error_at, pallet_info_at, pallet_infos_at, query_info_at, response_forms, response_at}
 
 -- ---- weights
 
@@ -187,7 +184,6 @@ maybe_error_again (TruncatedError b) rest fits = made1_again bytes _ _ of_128 Tr
 pub maybe_error_reads : Reads maybe_error FitsMaybeError maybe_error_at
 unfolding maybe_error_at
 maybe_error_reads = indexed_reads maybe_error FitsMaybeError maybe_error_forms maybe_error_formed maybe_error_again
-
 
 pub pallet_info_reads : Reads pallet_info FitsPallet pallet_info_at
 unfolding pallet_info pallet_info_at

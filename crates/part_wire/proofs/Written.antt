@@ -4,7 +4,7 @@ use Rattle.asset_wire.proofs.Written.{assets_named}
 use Rattle.message_parts.specs.declared.query.Response.{Response}
 use Rattle.message_parts.specs.declared.query.Response.TheVariants as responses
 use Rattle.message_parts.specs.Spelling.{FitsResponse}
-use Rattle.part_wire.specs.Named.{IsResponseNamed}
+use Rattle.message_parts.specs.Named.{IsResponseNamed}
 
 pub response_named : (v : Version) (r : Response) → FitsResponse v r → IsResponseNamed v r
 response_named v responses.Null fits = tt

@@ -175,11 +175,7 @@ pub fn pallet_info_of(alloc: Global, c: &mut Cursor<'_>) -> Result<PalletInfo, W
 }
 
 /// So many pallets. Memory is taken as they are read, and not by their number.
-fn several_of(
-    alloc: Global,
-    c: &mut Cursor<'_>,
-    count: u32,
-) -> Result<Vec<PalletInfo>, WireFault>
+fn several_of(alloc: Global, c: &mut Cursor<'_>, count: u32) -> Result<Vec<PalletInfo>, WireFault>
     ensures read { GotOrFails (λ items. items.items) result (repeated pallet_info_at count c.old) c.new }
     ensures count { IfOk result (λ items. vec_len items ≡ count) }
 {

@@ -137,7 +137,10 @@ pub fn read_optional_location(c: &mut Cursor<'_>) -> Result<Option<Location>, No
 
 /// The bytes at the front of what is left, behind their number. `NoSpelling` comes exactly where no prefix spells at most `MOST`
 /// bytes. Memory is taken when they are all there, and not by their number. After a refusal the cursor stands where it stood.
-pub fn read_bytes<const MOST: usize>(alloc: Global, c: &mut Cursor<'_>) -> Result<BoundedVec<u8, MOST>, WireFault>
+pub fn read_bytes<const MOST: usize>(
+    alloc: Global,
+    c: &mut Cursor<'_>,
+) -> Result<BoundedVec<u8, MOST>, WireFault>
     requires { MOST < 2 ^ 32 }
     ensures read { GivesOrFails result (bytes_at MOST c.old) c.old c.new }
     ensures spelling { IsReadOrFails bytes (FitsBytes MOST) result c.old c.new }

@@ -6,7 +6,7 @@ ghost use Rattle.scale_codec.specs.Spelling.{optional, counted, compact};
 ghost use Rattle.scale_codec.specs.Answers.{Appends};
 ghost use Rattle.location_wire.specs.Spelling.{location, FitsLocation};
 ghost use Rattle.message_parts.specs.Spelling.{weight, FitsWeight, weight_limit, FitsLimit, origin_kind, xcm_error, FitsError, failure, FitsFailure, bytes, FitsBytes, maybe_error, FitsMaybeError, pallet_info, FitsPallet, query_info, FitsInfo, response, FitsResponse};
-ghost use Rattle.part_wire.specs.Named.{IsResponseNamed};
+ghost use Rattle.message_parts.specs.Named.{IsResponseNamed};
 
 use asset_wire::{Version, write_assets};
 use location_wire::write_location;
@@ -91,10 +91,7 @@ fn put_failure(o: &mut Out, failed: &(u32, XcmError)) -> Result<(), AllocError>
     put_error(o, error)
 }
 
-fn put_optional_failure(
-    o: &mut Out,
-    failed: &Option<(u32, XcmError)>,
-) -> Result<(), AllocError>
+fn put_optional_failure(o: &mut Out, failed: &Option<(u32, XcmError)>) -> Result<(), AllocError>
     ensures { OnOk result (Appends o.old o.new (optional failure failed.now) (IfSome failed.now FitsFailure)) }
 {
     match failed {
@@ -118,10 +115,7 @@ fn put_optional_location(o: &mut Out, place: &Option<Location>) -> Result<(), Al
     }
 }
 
-fn put_bytes<const MOST: usize>(
-    o: &mut Out,
-    b: &BoundedVec<u8, MOST>,
-) -> Result<(), AllocError>
+fn put_bytes<const MOST: usize>(o: &mut Out, b: &BoundedVec<u8, MOST>) -> Result<(), AllocError>
     ensures { OnOk result (Appends o.old o.new (bytes b.now) (FitsBytes MOST b.now)) }
 {
     let items = b.items();
@@ -263,7 +257,10 @@ pub fn write_failure(o: &mut Out, failed: &(u32, XcmError)) -> Result<(), AllocE
 
 /// Appends the one spelling of where an execution failed, and why, or that it didn't. Where memory is refused, `o` is as
 /// before.
-pub fn write_optional_failure(o: &mut Out, failed: &Option<(u32, XcmError)>) -> Result<(), AllocError>
+pub fn write_optional_failure(
+    o: &mut Out,
+    failed: &Option<(u32, XcmError)>,
+) -> Result<(), AllocError>
     ensures ok { OnOk result (Appends o.old o.new (optional failure failed.now) (IfSome failed.now FitsFailure)) }
     ensures err { OnErr result (o.new ≡ o.old) }
 {
@@ -283,7 +280,10 @@ pub fn write_optional_location(o: &mut Out, place: &Option<Location>) -> Result<
 }
 
 /// Appends the one spelling of the bytes: their number, and the bytes as they are. Where memory is refused, `o` is as before.
-pub fn write_bytes<const MOST: usize>(o: &mut Out, b: &BoundedVec<u8, MOST>) -> Result<(), AllocError>
+pub fn write_bytes<const MOST: usize>(
+    o: &mut Out,
+    b: &BoundedVec<u8, MOST>,
+) -> Result<(), AllocError>
     ensures ok { OnOk result (Appends o.old o.new (bytes b.now) (FitsBytes MOST b.now)) }
     ensures err { OnErr result (o.new ≡ o.old) }
 {
