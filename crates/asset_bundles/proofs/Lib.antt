@@ -5,3 +5,5 @@ pub mod Parts
 pub mod Giving
 pub mod Burning
 pub mod BookedAll
+pub mod Sums
+pub mod Naming

@@ -7,6 +7,8 @@ mod bundle;
 mod burns;
 mod faults;
 mod items;
+mod joining;
+mod landing;
 mod laws;
 mod portions;
 mod shipment;

@@ -2,7 +2,7 @@ use Rattle.std.proofs.Common.{◌≡◌, [], ap, subst, ◌∙◌}
 use Rattle.amounts.specs.Amounts.{from_rows, single}
 use Rattle.asset_lists.specs.Units.{unit_of}
 use Rattle.asset_bundles.specs.Books.{Booked, listed_of, lists}
-use Rattle.asset_bundles.proofs.BookedAll.{booked_none, booked_more, listed_at}
+use Rattle.asset_bundles.proofs.BookedAll.{booked_none, booked_more, burn_of, listed_at}
 use Rattle.asset_bundles.proofs.burns.book_all.Goals as goal
 
 pub loop-item-init : goal.loop-item-init
@@ -17,7 +17,7 @@ add-requires c =
 
 pub loop-item-preserved : goal.loop-item-preserved
 loop-item-preserved c =
-    booked_more c.args.cause _ c.loop-item.item-index c.item-item.result c.args.book.now c.loop-item.book _ c.loop-item-test.true c.item-item.is
+    booked_more (burn_of c.args.cause) _ c.loop-item.item-index c.item-item.result c.args.book.now c.loop-item.book _ c.loop-item-test.true c.item-item.is
     (c.add.ensures ∙ ap (λ k. Booked c.loop-item.book (single ((c.item-item.result.id, k), c.args.cause) c.amount_of.result)) c.kind_of.ensures
     ∙ ap (λ n. Booked c.loop-item.book (single (listed_of (unit_of c.item-item.result), c.args.cause) n)) c.amount_of.ensures)
     c.loop-item.invariant
