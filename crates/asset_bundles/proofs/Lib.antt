@@ -7,3 +7,4 @@ pub mod Burning
 pub mod BookedAll
 pub mod Sums
 pub mod Naming
+pub mod Conditions
