@@ -39,6 +39,12 @@ covered_at listed (a ∷ xs) all u some =
 pub covers_listed : (book : Book) (xs : List Asset) → list_all (λ a. lists book.listed (listed_of (unit_of a))) xs ≡ true → Covers book (bundle_of xs)
 covers_listed book xs all u some = covered_at book.listed xs all u (subst (λ n. 0 < n) (amount-bundle_of xs u) some)
 
+-- the book of a list of rows, and the bundle of a list of assets
+pub covers_tested : (book : Book) (rows : List Listed) (xs : List Asset) (goods : Bundle) (test : Bool) → book.listed ≡ rows → goods ≡ bundle_of xs
+    → test ≡ list_all (λ a. lists rows (listed_of (unit_of a))) xs → test ≡ true → Covers book goods
+covers_tested book rows xs goods test opens is tested passes =
+    subst (Covers book) (sym is) (covers_listed book xs (ap (λ ls. list_all (λ a. lists ls (listed_of (unit_of a))) xs) opens ∙ sym tested ∙ passes))
+
 of_either : (P : Type 0) (m n k : ℕ) → (0 < m → P) → (0 < n → P) → 0 < (m + n) - k → P
 of_either P zero n k first second some = second (omega (arith, some))
 of_either P (suc m) n k first second some = first (omega arith)

@@ -1,5 +1,5 @@
 -- A list of assets under other ids.
-use Rattle.std.proofs.Common.{◌≡◌, ℕ, zero, suc, ◌+◌, ◌<◌, ◌≤◌, Bool, true, false, ◌||◌, cond, List, [], ◌∷◌, ◌++◌, length, get_or, take, drop, refl, sym, ap, ◌∙◌, subst, arith, inl, inr}
+use Rattle.std.proofs.Common.{◌≡◌, ℕ, zero, suc, ◌+◌, ◌<◌, ◌≤◌, true, false, cond, List, [], ◌∷◌, ◌++◌, length, get_or, take, drop, refl, sym, ap, ◌∙◌, subst, arith, inl, inr}
 use Rattle.std.specs.Prelude.{slice_set}
 use Rattle.std.specs.List.{AllByRecursion}
 use Rattle.std.specs.List.Sorted.{IsPermutation, IsSorted, IsStrictlySortedBy}
@@ -10,13 +10,13 @@ use Rattle.std.proofs.lemmas.Bool.{cases_Bool}
 use Rattle.std.proofs.lemmas.List.{append-nil, take_all}
 use Rattle.std.proofs.lemmas.List.Sums.{sum_by-cons}
 use Rattle.amounts.specs.Rows.{amount_if, sum_where, rows_at, IsPositive}
-use Rattle.amounts.specs.Amounts.{amount, from_rows}
+use Rattle.amounts.specs.Amounts.{from_rows}
 use Rattle.amounts.specs.Laws.{same_key, key_same}
 use Rattle.locations.specs.declared.grammar.Junction.{Junction}
 use Rattle.locations.specs.declared.relative.Location.{Location}
 use Rattle.asset_lists.specs.declared.units.Asset.{Asset}
 use Rattle.asset_lists.specs.Units.{Unit, unit_of, amount_of, unit_cmp, asset_cmp}
-use Rattle.asset_lists.specs.Lists.{has_zero, is_of}
+use Rattle.asset_lists.specs.Lists.{is_of}
 use Rattle.asset_lists.specs.Moves.{count_of}
 use Rattle.asset_bundles.specs.Bundles.{unit_keys, rows_of, bundle_of, IsHolding}
 use Rattle.asset_bundles.specs.BundleLaws.{amount-bundle_of, map_keys-bundle_of}

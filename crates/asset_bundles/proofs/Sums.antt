@@ -1,6 +1,6 @@
 -- Two lists in holding order joined, as the bundles that they are.
-use Rattle.std.proofs.Common.{◌≡◌, ℕ, zero, suc, ◌+◌, ◌-◌, ◌<◌, ◌≤◌, Bool, true, false, ◌&&◌, ◌||◌, cond, List, [], ◌∷◌, ◌++◌, ◌^◌, length, get_or, take, refl, sym, ap, ◌∙◌, subst, arith, inl, inr}
-use Rattle.std.specs.Prelude.{if◌then◌else◌, nat_eq, min, unwrap_or, Some, None, Option}
+use Rattle.std.proofs.Common.{◌≡◌, ℕ, zero, suc, ◌+◌, ◌-◌, ◌<◌, ◌≤◌, Bool, true, false, ◌&&◌, ◌||◌, cond, List, [], ◌∷◌, ◌++◌, ◌^◌, length, get_or, take, refl, sym, ap, ◌∙◌, subst, arith}
+use Rattle.std.specs.Prelude.{if◌then◌else◌, nat_eq, min, unwrap_or, Some, None}
 use Rattle.std.specs.FinMap.{find}
 use Rattle.std.specs.List.{list_all}
 use Rattle.std.proofs.lemmas.List.Folds.{list_all_more}
@@ -11,14 +11,14 @@ use Rattle.std.specs.Cmp.{eq_by_cmp_equiv}
 use Rattle.std.proofs.lemmas.Bool.{and_parts, and_from, leb-true, le-leb}
 use Rattle.std.proofs.lemmas.List.Sums.{sum_by-cons, sum_by-append}
 use Rattle.amounts.specs.Rows.{amount_if, sum_where, sum_where-append, IsPositive}
-use Rattle.amounts.specs.Amounts.{amount, merge}
-use Rattle.amounts.specs.Laws.{amount-merge, key_same}
+use Rattle.amounts.specs.Amounts.{amount}
+use Rattle.amounts.specs.Laws.{key_same}
 use Rattle.asset_lists.specs.declared.units.AssetId.{AssetId}
 use Rattle.asset_lists.specs.declared.units.Instance.{Instance}
 use Rattle.asset_lists.specs.declared.units.Fun.{Fun}
 use Rattle.asset_lists.specs.declared.units.Asset.{Asset}
 use Rattle.asset_lists.specs.UnitLaws.{unit_total}
-use Rattle.asset_lists.specs.Units.{Unit, unit_of, amount_of, unit_cmp, instance_in, amount_in, asset_cmp, is_zero}
+use Rattle.asset_lists.specs.Units.{Unit, unit_of, amount_of, unit_cmp, instance_in, amount_in, asset_cmp}
 use Rattle.asset_lists.specs.Lists.{has_zero, is_rising, is_of}
 use Rattle.asset_lists.specs.Moves.{count_of}
 use Rattle.asset_lists.proofs.Sorting.{once_each}
@@ -27,7 +27,7 @@ use Rattle.asset_bundles.specs.BundleLaws.{same_bundles, amount-bundle_of, found
 use Rattle.asset_bundles.specs.Changed.{amount-with_amounts}
 use Rattle.asset_bundles.specs.Joins.{most_of, Joined, Excess, IsJoin}
 use Rattle.asset_bundles.specs.Laws.{amount-Joined, amount-Excess}
-use Rattle.asset_bundles.specs.Portions.{asset_with, kept, changed, FitsInstances, grown_by, above_by, new_to, is_within_most, AreWithinMost}
+use Rattle.asset_bundles.specs.Portions.{kept, changed, FitsInstances, grown_by, above_by, new_to, is_within_most, AreWithinMost}
 use Rattle.asset_bundles.proofs.Minting.{bundle_of-IsPermutation, sorted_holding}
 use Rattle.asset_bundles.proofs.Parts.{bundle_of-changed, changed_holding}
 

@@ -12,7 +12,7 @@ use crate::{AssetBundle, BurnBook, Cause};
 use asset_lists::{Asset, Fun, Kind};
 
 /// Whether it is an amount or an instance of a class.
-fn kind_of(item: &Asset) -> Kind
+pub(crate) fn kind_of(item: &Asset) -> Kind
     ensures { result ≡ kind_of (instance_in item.now.fun) }
 {
     match item.fun {

@@ -1,4 +1,4 @@
-use Rattle.std.proofs.Common.{◌≡◌, ◌<◌, ◌≤◌, length, ap, sym, ◌∙◌, arith}
+use Rattle.std.proofs.Common.{◌≡◌, ◌<◌, ◌≤◌, length, ap, ◌∙◌, arith}
 use Rattle.asset_bundles.proofs.Naming.{first_more, first_all, written_back}
 use Rattle.asset_bundles.proofs.landing.rename_all.Goals as goal
 
