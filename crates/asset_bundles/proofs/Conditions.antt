@@ -1,11 +1,10 @@
 -- When bundles may be joined, and when a shipment may land.
-use Rattle.std.proofs.Common.{◌≡◌, ℕ, zero, suc, ◌+◌, ◌-◌, ◌<◌, ◌≤◌, Bool, true, false, cond, List, [], ◌∷◌, Option, Some, None, refl, sym, ap, ◌∙◌, subst, arith}
+use Rattle.std.proofs.Common.{◌≡◌, ℕ, zero, suc, ◌+◌, ◌-◌, ◌<◌, ◌≤◌, Bool, true, false, List, [], ◌∷◌, Option, Some, None, refl, sym, ap, ◌∙◌, subst, arith}
 use Rattle.std.specs.Prelude.{IsSomeAnd, unwrap_or}
 use Rattle.std.specs.Option.{option_map}
 use Rattle.std.specs.List.{list_all}
 use Rattle.std.specs.Ordering.{eq_by_cmp}
 use Rattle.std.proofs.lemmas.Bool.{and_parts}
-use Rattle.std.proofs.lemmas.List.Sums.{sum_by-cons}
 use Rattle.amounts.specs.Rows.{amount_if, sum_where}
 use Rattle.amounts.specs.Amounts.{amount}
 use Rattle.amounts.specs.Laws.{same_key, key_same}
@@ -23,7 +22,7 @@ use Rattle.asset_bundles.specs.Joins.{most_of, Excess}
 use Rattle.asset_bundles.specs.Landing.{renamed, Renamed, StayApart, renamed_asset, renamed_assets}
 use Rattle.asset_bundles.specs.Laws.{amount-Excess}
 use Rattle.asset_bundles.proofs.Minting.{bundle_of-IsPermutation}
-use Rattle.asset_bundles.proofs.Naming.{renamed_is}
+use Rattle.asset_bundles.proofs.Naming.{renamed_is, count_first, named}
 
 -- ---- rows of the book
 covered_at : (listed : List Listed) (xs : List Asset) → list_all (λ a. lists listed (listed_of (unit_of a))) xs ≡ true → (u : Unit)
@@ -80,13 +79,10 @@ module _ (target : Location) (context : List Junction) where
       sym (renamed_is target context xs h) ∙ sym (bundle_of-IsPermutation (renamed_assets target context xs) new (moved_renamed xs new moved).same_units)
 
   -- ---- its units stay apart
-  count_first : (u : Unit) (a : Asset) (xs : List Asset) → count_of u (renamed_assets target context (a ∷ xs)) ≡ cond {A = ℕ} (is_of u (renamed_asset target context a)) 1 0 + count_of u (renamed_assets target context xs)
-  count_first u a xs = sum_by-cons (λ b. cond {A = ℕ} (is_of u b) 1 0) (renamed_asset target context a) (renamed_assets target context xs)
-
   count_here : (u : Unit) (a : Asset) (xs : List Asset) → renamed target context (unit_of a) ≡ u → count_of u (renamed_assets target context (a ∷ xs)) ≡ 1 + count_of u (renamed_assets target context xs)
   count_here u a xs is =
       let here : is_of u (renamed_asset target context a) ≡ true = subst (λ v. eq_by_cmp unit_cmp (renamed target context (unit_of a)) v ≡ true) is (same_key unit_keys (renamed target context (unit_of a))) in
-      count_first u a xs ∙ ap (λ b. cond {A = ℕ} b 1 0 + count_of u (renamed_assets target context xs)) here
+      named target context u a xs here
 
   counted_renamed : (u : Unit) (xs : List Asset) → 0 < sum_where (eq_by_cmp unit_cmp u) (rows_of xs) → 1 ≤ count_of (renamed target context u) (renamed_assets target context xs)
   counted_renamed u [] some = absurd (omega (arith, some))
@@ -94,7 +90,7 @@ module _ (target : Location) (context : List Junction) where
       elim (eq_by_cmp unit_cmp u (unit_of a)) as (λ b. eq_by_cmp unit_cmp u (unit_of a) ≡ b → 0 < amount_if b (amount_of a) + sum_where (eq_by_cmp unit_cmp u) (rows_of xs)
       → 1 ≤ count_of (renamed target context u) (renamed_assets target context (a ∷ xs))) [
         | true ↦ λ t _. (let first = count_here (renamed target context u) a xs (ap (renamed target context) (sym (key_same unit_keys u (unit_of a) t))) in omega (arith, first))
-        | false ↦ λ t more. (let rest = counted_renamed u xs (omega (arith, more)) in let first = count_first (renamed target context u) a xs in omega (arith, rest, first))
+        | false ↦ λ t more. (let rest = counted_renamed u xs (omega (arith, more)) in let first = count_first target context (renamed target context u) a xs in omega (arith, rest, first))
       ] refl some
 
   -- the first one's new unit isn't that of a later one
@@ -110,7 +106,7 @@ module _ (target : Location) (context : List Junction) where
       → 0 < sum_where (eq_by_cmp unit_cmp u) (rows_of xs) → 0 < sum_where (eq_by_cmp unit_cmp v) (rows_of xs) → renamed target context u ≡ renamed target context v → u ≡ v
   kept_apart [] once u v u_held v_held same = absurd (omega (arith, u_held))
   kept_apart (a ∷ xs) once u v u_held v_held same =
-      let later : (w : Unit) → count_of w (renamed_assets target context xs) ≤ 1 = λ w. (let most = once w in let first = count_first w a xs in omega (arith, most, first)) in
+      let later : (w : Unit) → count_of w (renamed_assets target context xs) ≤ 1 = λ w. (let most = once w in let first = count_first target context w a xs in omega (arith, most, first)) in
       elim (eq_by_cmp unit_cmp u (unit_of a)) as (λ b. eq_by_cmp unit_cmp u (unit_of a) ≡ b → 0 < amount_if b (amount_of a) + sum_where (eq_by_cmp unit_cmp u) (rows_of xs) → u ≡ v) [
         | true ↦ λ t _. elim (eq_by_cmp unit_cmp v (unit_of a)) as (λ d. eq_by_cmp unit_cmp v (unit_of a) ≡ d → 0 < amount_if d (amount_of a) + sum_where (eq_by_cmp unit_cmp v) (rows_of xs) → u ≡ v) [
           | true ↦ λ s _. key_same unit_keys u (unit_of a) t ∙ sym (key_same unit_keys v (unit_of a) s)

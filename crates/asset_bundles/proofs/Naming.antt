@@ -86,16 +86,15 @@ module _ (target : Location) (context : List Junction) where
   unfolding held_in
   later_held u a xs some = omega (arith, some)
 
-  named : (u : Unit) (a : Asset) (xs : List Asset) → is_of u (renamed_asset target context a) ≡ true → count_of u (renamed_assets target context (a ∷ xs)) ≡ 1 + count_of u (renamed_assets target context xs)
-  named u a xs is = sum_by-cons (λ b. cond {A = ℕ} (is_of u b) 1 0) (renamed_asset target context a) (renamed_assets target context xs)
-      ∙ ap (λ b. cond {A = ℕ} b 1 0 + count_of u (renamed_assets target context xs)) is
+  pub count_first : (u : Unit) (a : Asset) (xs : List Asset)
+      → count_of u (renamed_assets target context (a ∷ xs)) ≡ cond {A = ℕ} (is_of u (renamed_asset target context a)) 1 0 + count_of u (renamed_assets target context xs)
+  count_first u a xs = sum_by-cons (λ b. cond {A = ℕ} (is_of u b) 1 0) (renamed_asset target context a) (renamed_assets target context xs)
 
-  not_named : (u : Unit) (a : Asset) (xs : List Asset) → is_of u (renamed_asset target context a) ≡ false → count_of u (renamed_assets target context (a ∷ xs)) ≡ count_of u (renamed_assets target context xs)
-  not_named u a xs is =
-      let first : count_of u (renamed_assets target context (a ∷ xs)) ≡ 0 + count_of u (renamed_assets target context xs) =
-      sum_by-cons (λ b. cond {A = ℕ} (is_of u b) 1 0) (renamed_asset target context a) (renamed_assets target context xs)
-      ∙ ap (λ b. cond {A = ℕ} b 1 0 + count_of u (renamed_assets target context xs)) is in
-      omega (arith, first)
+  pub named : (u : Unit) (a : Asset) (xs : List Asset) → is_of u (renamed_asset target context a) ≡ true → count_of u (renamed_assets target context (a ∷ xs)) ≡ 1 + count_of u (renamed_assets target context xs)
+  named u a xs is = count_first u a xs ∙ ap (λ b. cond {A = ℕ} b 1 0 + count_of u (renamed_assets target context xs)) is
+
+  not_named : (u : Unit) (a : Asset) (xs : List Asset) → is_of u (renamed_asset target context a) ≡ false → count_of u (renamed_assets target context (a ∷ xs)) ≡ 0 + count_of u (renamed_assets target context xs)
+  not_named u a xs is = count_first u a xs ∙ ap (λ b. cond {A = ℕ} b 1 0 + count_of u (renamed_assets target context xs)) is
 
   none_named : (u : Unit) (xs : List Asset) → IsPositive (rows_of xs) → ((v : Unit) → 0 < held_in v xs → renamed target context v ≡ u → ⊥) → count_of u (renamed_assets target context xs) ≡ 0
   none_named u [] positive none = refl
@@ -103,7 +102,7 @@ module _ (target : Location) (context : List Junction) where
       let rest = none_named u xs positive.1 (λ v some. none v (later_held v a xs some)) in
       elim (cases_Bool (is_of u (renamed_asset target context a))) [
         | inl here ↦ absurd (none (unit_of a) (first_held a xs positive.0) (key_same unit_keys (renamed target context (unit_of a)) u here))
-        | inr other ↦ not_named u a xs other ∙ rest
+        | inr other ↦ omega (arith, not_named u a xs other, rest)
       ]
 
   named_once : (xs : List Asset) → IsStrictlySortedBy unit_cmp (keys_of (rows_of xs)) → IsPositive (rows_of xs)

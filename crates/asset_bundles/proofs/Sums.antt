@@ -7,7 +7,6 @@ use Rattle.std.proofs.lemmas.List.Folds.{list_all_more}
 use Rattle.std.specs.List.Sorted.{IsPermutation, IsSorted, IsStrictlySortedBy}
 use Rattle.std.specs.Map.{keys_of}
 use Rattle.std.specs.Ordering.{eq_by_cmp, is_lt}
-use Rattle.std.specs.Cmp.{eq_by_cmp_equiv}
 use Rattle.std.proofs.lemmas.Bool.{and_parts, and_from, leb-true, le-leb}
 use Rattle.std.proofs.lemmas.List.Sums.{sum_by-cons, sum_by-append}
 use Rattle.amounts.specs.Rows.{amount_if, sum_where, sum_where-append, IsPositive}
@@ -17,7 +16,6 @@ use Rattle.asset_lists.specs.declared.units.AssetId.{AssetId}
 use Rattle.asset_lists.specs.declared.units.Instance.{Instance}
 use Rattle.asset_lists.specs.declared.units.Fun.{Fun}
 use Rattle.asset_lists.specs.declared.units.Asset.{Asset}
-use Rattle.asset_lists.specs.UnitLaws.{unit_total}
 use Rattle.asset_lists.specs.Units.{Unit, unit_of, amount_of, unit_cmp, instance_in, amount_in, asset_cmp}
 use Rattle.asset_lists.specs.Lists.{has_zero, is_rising, is_of}
 use Rattle.asset_lists.specs.Moves.{count_of}
@@ -28,6 +26,7 @@ use Rattle.asset_bundles.specs.Changed.{amount-with_amounts}
 use Rattle.asset_bundles.specs.Joins.{most_of, Joined, Excess, IsJoin}
 use Rattle.asset_bundles.specs.Laws.{amount-Joined, amount-Excess}
 use Rattle.asset_bundles.specs.Portions.{kept, changed, FitsInstances, grown_by, above_by, new_to, is_within_most, AreWithinMost}
+use Rattle.asset_bundles.proofs.Giving.{eq_turned}
 use Rattle.asset_bundles.proofs.Minting.{bundle_of-IsPermutation, sorted_holding}
 use Rattle.asset_bundles.proofs.Parts.{bundle_of-changed, changed_holding}
 
@@ -179,9 +178,6 @@ is_rising_of (a ∷ b ∷ xs) rising =
     let rest = is_rising_of (b ∷ xs) rising.1 in
     λ i. is_lt (rising.0.0 i) && rest i
 
-turned : (u v : Unit) → eq_by_cmp unit_cmp u v ≡ eq_by_cmp unit_cmp v u
-turned u v = (eq_by_cmp_equiv unit_total).symm u v
-
 one_if : (b : Bool) (n : ℕ) → 0 < n → cond {A = ℕ} b 1 0 ≤ amount_if b n
 one_if true n positive = omega (arith, positive)
 one_if false n positive = omega arith
@@ -191,7 +187,7 @@ counted_at_most u [] positive = omega arith
 counted_at_most u (a ∷ xs) positive =
     let first = sum_by-cons (λ b. cond {A = ℕ} (is_of u b) 1 0) a xs in
     let one = one_if (is_of u a) (amount_of a) positive.0 in
-    let same : amount_if (is_of u a) (amount_of a) ≡ amount_if (eq_by_cmp unit_cmp u (unit_of a)) (amount_of a) = ap (λ b. amount_if b (amount_of a)) (turned (unit_of a) u) in
+    let same : amount_if (is_of u a) (amount_of a) ≡ amount_if (eq_by_cmp unit_cmp u (unit_of a)) (amount_of a) = ap (λ b. amount_if b (amount_of a)) (eq_turned (unit_of a) u) in
     let rest = counted_at_most u xs positive.1 in
     omega (arith, first, one, same, rest)
 

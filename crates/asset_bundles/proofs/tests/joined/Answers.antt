@@ -1,4 +1,4 @@
-use Rattle.std.proofs.Common.{◌≡◌, List, ap, sym, ◌∙◌}
+use Rattle.std.proofs.Common.{List, ap, sym, ◌∙◌}
 use Rattle.std.specs.List.{list_all}
 use Rattle.asset_lists.specs.Units.{unit_of}
 use Rattle.asset_bundles.specs.Books.{Listed, listed_of, lists}
