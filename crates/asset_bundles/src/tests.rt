@@ -262,7 +262,11 @@ fn joined(alloc: Global, first: &Assets, second: &Assets) -> Result<Outcome, Fai
     if listed {
         match holding.join(AssetBundle::take_up(other), &mut book) {
             Ok(()) => {}
-            Err(other) => other.melt(),
+            Err(other) => {
+                other.melt();
+                holding.melt();
+                return Err(AllocError.into());
+            }
         }
     }
     let held = holding.list();
