@@ -8,11 +8,13 @@ use Rattle.amounts.specs.Rows.{rows_at, sum_where, amount_if, IsPositive}
 use Rattle.amounts.specs.Amounts.{amount, empty, from_rows, merge, single, map_keys, same_amounts, amount-empty}
 use Rattle.amounts.specs.Laws.{amount-from_rows, amount-single, merge-empty, merge_assoc, from_rows-append, same_key}
 use Rattle.asset_lists.specs.declared.units.Asset.{Asset}
-use Rattle.asset_lists.specs.Units.{Unit, unit_of, amount_of, unit_cmp}
+use Rattle.asset_lists.specs.declared.units.Kind.{Kind}
+use Rattle.asset_lists.specs.Units.{Unit, unit_of, amount_of, unit_cmp, instance_in}
 use Rattle.asset_bundles.specs.declared.book.Cause.{Cause}
-use Rattle.asset_bundles.specs.Bundles.{unit_keys, rows_of, bundle_of, IsHolding}
-use Rattle.asset_bundles.specs.BundleLaws.{rows-holding, amount-bundle_of}
-use Rattle.asset_bundles.specs.Books.{Listed, Burn, burn_cmp, Book, Booked, Standing, Covers, burned_for, listed_of, lists}
+use Rattle.asset_bundles.specs.Bundles.{Bundle, unit_keys, rows_of, bundle_of, IsHolding}
+use Rattle.asset_bundles.specs.BundleLaws.{amount-bundle_of, map_keys-bundle_of}
+use Rattle.asset_bundles.specs.Joins.{Excess}
+use Rattle.asset_bundles.specs.Books.{Listed, Burn, burn_cmp, Burns, Book, kind_of, Booked, Standing, Covers, burned_for, given_up, excess_cause, listed_of, lists}
 use Rattle.asset_bundles.specs.Laws.{burn_keys, amount-Standing, standing_again}
 use Rattle.asset_bundles.specs.declared.book.BookRow.{BookRow}
 use Rattle.asset_bundles.specs.BookRows.{book_of, Stands}
@@ -47,24 +49,41 @@ booked_push book es k n i = record {
       ∙ ap (merge book.burns) (sym (from_rows-append burn_keys es ((k, n) ∷ []))))) i;
 }
 
-rows-push : (cause : Cause) (xs : List Asset) (a : Asset) → rows_at (burn_of cause) (rows_of (xs ++ a ∷ [])) ≡ rows_at (burn_of cause) (rows_of xs) ++ ((listed_of (unit_of a), cause), amount_of a) ∷ []
-rows-push cause [] a = refl
-rows-push cause (x ∷ xs) a = ap (λ es. ((listed_of (unit_of x), cause), amount_of x) ∷ es) (rows-push cause xs a)
+rows-push : (burn : Unit → Burn) (xs : List Asset) (a : Asset) → rows_at burn (rows_of (xs ++ a ∷ [])) ≡ rows_at burn (rows_of xs) ++ (burn (unit_of a), amount_of a) ∷ []
+rows-push burn [] a = refl
+rows-push burn (x ∷ xs) a = ap (λ es. (burn (unit_of x), amount_of x) ∷ es) (rows-push burn xs a)
 
-pub booked_more : (cause : Cause) (xs : List Asset) (i : ℕ) (a : Asset) (first before next : Book) → i < length xs → a ≡ get_or xs i a
-    → next ≡ Booked before (single (listed_of (unit_of a), cause) (amount_of a))
-    → before ≡ Booked first (from_rows (rows_at (burn_of cause) (rows_of (take i xs))))
-    → next ≡ Booked first (from_rows (rows_at (burn_of cause) (rows_of (take (i + 1) xs))))
-booked_more cause xs i a first before next inside is added so_far =
-    added ∙ ap (λ b. Booked b (single (listed_of (unit_of a), cause) (amount_of a))) so_far
-    ∙ booked_push first (rows_at (burn_of cause) (rows_of (take i xs))) (listed_of (unit_of a), cause) (amount_of a)
-    ∙ ap (λ es. Booked first (from_rows es)) (sym (rows-push cause (take i xs) a))
-    ∙ ap (λ ys. Booked first (from_rows (rows_at (burn_of cause) (rows_of ys)))) (ap (λ x. take i xs ++ x ∷ []) is ∙ sym (take_more xs i a inside))
+booked_more : (burn : Unit → Burn) (xs : List Asset) (i : ℕ) (a : Asset) (first before next : Book) → i < length xs → a ≡ get_or xs i a
+    → next ≡ Booked before (single (burn (unit_of a)) (amount_of a))
+    → before ≡ Booked first (from_rows (rows_at burn (rows_of (take i xs))))
+    → next ≡ Booked first (from_rows (rows_at burn (rows_of (take (i + 1) xs))))
+booked_more burn xs i a first before next inside is added so_far =
+    added ∙ ap (λ b. Booked b (single (burn (unit_of a)) (amount_of a))) so_far
+    ∙ booked_push first (rows_at burn (rows_of (take i xs))) (burn (unit_of a)) (amount_of a)
+    ∙ ap (λ es. Booked first (from_rows es)) (sym (rows-push burn (take i xs) a))
+    ∙ ap (λ ys. Booked first (from_rows (rows_at burn (rows_of ys)))) (ap (λ x. take i xs ++ x ∷ []) is ∙ sym (take_more xs i a inside))
 
-pub listed_at : (p : Asset → Bool) (xs : List Asset) (i : ℕ) (a : Asset) → list_all p xs ≡ true → i < length xs → a ≡ get_or xs i a → p a ≡ true
+listed_at : (p : Asset → Bool) (xs : List Asset) (i : ℕ) (a : Asset) → list_all p xs ≡ true → i < length xs → a ≡ get_or xs i a → p a ≡ true
 listed_at p [] i a all inside is = absurd (omega (arith, inside))
 listed_at p (x ∷ xs) zero a all inside is = ap p is ∙ (and_parts (p x) (list_all p xs) all).0
 listed_at p (x ∷ xs) (suc i) a all inside is = listed_at p xs i a (and_parts (p x) (list_all p xs) all).1 (omega (arith, inside)) is
+
+-- one asset booked
+pub booked_item : (burn : Unit → Burn) (xs : List Asset) (i : ℕ) (a : Asset) (first before next : Book) (kind : Kind) (cause : Cause) (n : ℕ) → i < length xs → a ≡ get_or xs i a
+    → next ≡ Booked before (single ((a.id, kind), cause) n) → kind ≡ kind_of (instance_in a.fun) → (listed_of (unit_of a), cause) ≡ burn (unit_of a) → n ≡ amount_of a
+    → before ≡ Booked first (from_rows (rows_at burn (rows_of (take i xs))))
+    → next ≡ Booked first (from_rows (rows_at burn (rows_of (take (i + 1) xs))))
+booked_item burn xs i a first before next kind cause n inside is added kind_is burn_is amount_is so_far =
+    booked_more burn xs i a first before next inside is
+    (added ∙ ap (λ k. Booked before (single ((a.id, k), cause) n)) kind_is ∙ ap (λ b. Booked before (single b n)) burn_is ∙ ap (λ m. Booked before (single (burn (unit_of a)) m)) amount_is)
+    so_far
+
+-- booking leaves the rows as they are
+pub listed_item : (xs : List Asset) (i : ℕ) (a : Asset) (first before : Book) (more : Burns) (kind : Kind) → list_all (λ x. lists first.listed (listed_of (unit_of x))) xs ≡ true
+    → i < length xs → a ≡ get_or xs i a → kind ≡ kind_of (instance_in a.fun) → before ≡ Booked first more → lists before.listed (a.id, kind) ≡ true
+unfolding Booked
+listed_item xs i a first before more kind all inside is kind_is so_far =
+    ap (λ k. lists before.listed (a.id, k)) kind_is ∙ ap (λ b. lists b.listed (listed_of (unit_of a))) so_far ∙ listed_at (λ x. lists first.listed (listed_of (unit_of x))) xs i a all inside is
 
 covers_up_to : (listed : List Listed) (most : Unit → ℕ) (xs : List Asset) → IsPositive (rows_of xs) → ((u : Unit) → sum_where (eq_by_cmp unit_cmp u) (rows_of xs) ≤ most u)
     → ((u : Unit) → 0 < most u → lists listed (listed_of u) ≡ true) → list_all (λ a. lists listed (listed_of (unit_of a))) xs ≡ true
@@ -80,5 +99,13 @@ pub all_covered : (book : Book) (xs : List Asset) → IsHolding xs → Covers bo
 all_covered book xs h covered = covers_up_to book.listed (λ u. amount (bundle_of xs) u) xs h.positive (λ u. let e = amount-bundle_of xs u in omega (arith, e)) covered
 
 pub burned_rows : (cause : Cause) (xs : List Asset) → IsHolding xs → from_rows (rows_at (burn_of cause) (rows_of xs)) ≡ burned_for cause (bundle_of xs)
-unfolding burned_for map_keys
-burned_rows cause xs h = ap (λ es. from_rows (rows_at (burn_of cause) es)) (sym (rows-holding xs h))
+unfolding burned_for
+burned_rows cause xs h = map_keys-bundle_of (burn_of cause) xs h
+
+-- what a join gives up
+abbrev pub excess_of : Unit → Burn
+excess_of unit = (listed_of unit, excess_cause unit.1)
+
+pub given_up_rows : (m n : Bundle) (xs : List Asset) → IsHolding xs → bundle_of xs ≡ Excess m n → from_rows (rows_at excess_of (rows_of xs)) ≡ given_up m n
+unfolding given_up
+given_up_rows m n xs h is = map_keys-bundle_of excess_of xs h ∙ ap (map_keys excess_of) is

@@ -89,7 +89,7 @@ if_minus : (b : Bool) (m n : ℕ) → (if b then m - n else m) ≡ m - amount_if
 if_minus true m n = refl
 if_minus false m n = omega arith
 
-eq_turned : (u v : Unit) → eq_by_cmp unit_cmp u v ≡ eq_by_cmp unit_cmp v u
+pub eq_turned : (u v : Unit) → eq_by_cmp unit_cmp u v ≡ eq_by_cmp unit_cmp v u
 eq_turned u v = (eq_by_cmp_equiv unit_total).symm u v
 
 pub spent_minus : (u : Unit) (n : ℕ) (xs : List Asset) → IsHolding xs → bundle_of (spent u n xs) ≡ minus (bundle_of xs) u n

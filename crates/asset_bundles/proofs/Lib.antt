@@ -5,3 +5,6 @@ pub mod Parts
 pub mod Giving
 pub mod Burning
 pub mod BookedAll
+pub mod Sums
+pub mod Naming
+pub mod Conditions

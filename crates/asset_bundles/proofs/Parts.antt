@@ -6,7 +6,7 @@ use Rattle.std.specs.declared.cmp.Ordering.TheVariants.{Less}
 use Rattle.std.specs.List.{AllByRecursion}
 use Rattle.std.specs.List.Sorted.{IsStrictlySortedBy}
 use Rattle.std.specs.Map.{keys_of}
-use Rattle.std.proofs.lemmas.List.{take_more}
+use Rattle.std.proofs.lemmas.List.{take_more, append_assoc}
 use Rattle.amounts.specs.Rows.{sum_where, amount_if, IsPositive}
 use Rattle.amounts.specs.Amounts.{amount, rows, from_rows, restriction, difference, amount-restriction}
 use Rattle.amounts.specs.Laws.{amount-from_rows, amount-difference, amount-lesser}
@@ -115,6 +115,13 @@ pub changed_more : (f : Unit → ℕ → ℕ) (xs : List Asset) (i n : ℕ) (a :
     → next ≡ so_far ++ kept a n [] → so_far ≡ changed f (take i xs) → next ≡ changed f (take (i + 1) xs)
 changed_more f xs i n a so_far next inside is amount pushed before =
     pushed ∙ ap (λ ys. ys ++ kept a n []) before ∙ ap (λ m. changed f (take i xs) ++ kept a m []) amount ∙ sym (changed_take f xs i a inside is)
+
+-- behind what is there already
+pub changed_behind : (f : Unit → ℕ → ℕ) (front xs : List Asset) (i n : ℕ) (a : Asset) (so_far next : List Asset) → i < length xs → a ≡ get_or xs i a → n ≡ f (unit_of a) (amount_of a)
+    → next ≡ so_far ++ kept a n [] → so_far ≡ front ++ changed f (take i xs) → next ≡ front ++ changed f (take (i + 1) xs)
+changed_behind f front xs i n a so_far next inside is amount pushed before =
+    pushed ∙ ap (λ ys. ys ++ kept a n []) before ∙ append_assoc front (changed f (take i xs)) (kept a n [])
+    ∙ ap (λ ys. front ++ ys) (changed_more f xs i n a (changed f (take i xs)) (changed f (take i xs) ++ kept a n []) inside is amount refl refl)
 
 -- ---- what is left
 fits_left : (taken : List Asset) → FitsInstances (left_of taken)

@@ -1,10 +1,11 @@
 -- A bundle and the list of its assets tell the same.
 use Rattle.std.specs.Prelude.{◌≡◌, suc, Bool, List, [], ◌∷◌, length, refl}
 use Rattle.std.specs.Ordering.{eq_by_cmp}
+use Rattle.std.specs.declared.cmp.Ordering.{Ordering}
 use Rattle.std.proofs.Common.{sym, ap, ◌∙◌}
 use Rattle.std.specs.List.Sorted.{IsStrictlySortedBy}
-use Rattle.amounts.specs.Rows.{sum_where, is_sorted_of_keys, sum_where-find}
-use Rattle.amounts.specs.Amounts.{amount, total, rows, empty, same_amounts, amount-empty}
+use Rattle.amounts.specs.Rows.{rows_at, sum_where, is_sorted_of_keys, sum_where-find}
+use Rattle.amounts.specs.Amounts.{amount, total, rows, empty, from_rows, map_keys, same_amounts, amount-empty}
 use Rattle.amounts.specs.Laws.{amount-from_rows, total-from_rows, rows-from_rows}
 use Rattle.asset_lists.specs.declared.units.Fun.{Fun}
 use Rattle.asset_lists.specs.declared.units.Asset.{Asset}
@@ -56,3 +57,8 @@ length-rows_of (a ∷ xs) = ap (λ n. suc n) (length-rows_of xs)
 
 pub kinds-holding : (xs : List Asset) → IsHolding xs → length xs ≡ length (rows (bundle_of xs))
 kinds-holding xs h = sym (length-rows_of xs) ∙ sym (ap length (rows-holding xs h))
+
+-- other keys on the list are other keys on the bundle
+pub map_keys-bundle_of : {K : Type 0} {R : K → K → Ordering} (f : Unit → K) (xs : List Asset) → IsHolding xs → from_rows {R = R} (rows_at f (rows_of xs)) ≡ map_keys f (bundle_of xs)
+unfolding map_keys
+map_keys-bundle_of {R = R} f xs h = ap (λ es. from_rows {R = R} (rows_at f es)) (sym (rows-holding xs h))

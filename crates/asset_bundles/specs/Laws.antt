@@ -20,7 +20,7 @@ use Rattle.asset_bundles.specs.Changed.{amount-with_amounts}
 use Rattle.asset_bundles.specs.Joins.{most_of, within_most, above_most, Joined, Excess}
 use Rattle.asset_bundles.specs.Landing.{renamed, Renamed}
 use Rattle.asset_bundles.specs.declared.book.Cause.{Cause}
-use Rattle.asset_bundles.specs.Books.{cause_index, kind_number, Listed, listed_cmp, Burn, burn_cmp, Burns, listed_of, excess_cause, burned_for, given_up, Standing, is_unit_of, is_burn_of}
+use Rattle.asset_bundles.specs.Books.{cause_index, kind_number, Listed, listed_cmp, Burn, burn_cmp, Burns, Book, Booked, listed_of, excess_cause, burned_for, given_up, Standing, is_unit_of, is_burn_of}
 
 -- ---- filters
 take_at_most : (p : Unit → Bool) (n : ℕ) (es : List (Unit × ℕ)) → sum_where p (take n es) ≤ sum_where p es
@@ -113,6 +113,14 @@ standing_again m n = same_amounts burn_keys _ _ (λ k.
     ∙ ap (λ a. min a (2 ^ 160 - 1)) (amount-merge burn_keys (Standing m) n k ∙ ap (λ a. a + amount n k) (amount-Standing m k))
     ∙ least_twice (amount m k) (amount n k) (2 ^ 160 - 1)
     ∙ sym (ap (λ a. min a (2 ^ 160 - 1)) (amount-merge burn_keys m n k)) ∙ sym (amount-Standing (merge m n) k))
+
+-- totals that don't reach their end
+pub booked_below : (book : Book) (more : Burns) → ((k : Burn) → amount (merge book.burns more) k ≤ 2 ^ 160 - 1) → (Booked book more).burns ≡ merge book.burns more
+unfolding Booked
+booked_below book more below = same_amounts burn_keys _ _ (λ k.
+    let stands = amount-Standing (merge book.burns more) k in
+    let le = below k in
+    omega (arith, stands, le))
 
 -- ---- what they conserve
 pub total-burned_for : (k : Listed) (cause : Cause) (b : Bundle) → total (is_burn_of k) (burned_for cause b) ≡ total (is_unit_of k) b

@@ -1,16 +1,18 @@
 -- Lists of assets with other amounts, as the code makes them.
 use Rattle.std.specs.Ordering.{eq_by_cmp}
-use Rattle.std.specs.Prelude.{Bool, not, ℕ, zero, suc, ◌-◌, ◌≤◌, min, take, if◌then◌else◌, List, [], ◌∷◌, Option, Some, None, ⊤}
+use Rattle.std.specs.Prelude.{Bool, not, ℕ, zero, suc, ◌+◌, ◌-◌, ◌≤◌, nat_eq, nat_le, min, take, if◌then◌else◌, List, [], ◌∷◌, Option, Some, None, IsTrue, ⊤}
 use Rattle.asset_lists.specs.declared.units.AssetId.{AssetId}
 use Rattle.asset_lists.specs.declared.units.Instance.{Instance}
 use Rattle.asset_lists.specs.declared.units.Fun.{Fun}
 use Rattle.asset_lists.specs.declared.units.Asset.{Asset}
 use Rattle.asset_lists.specs.declared.filters.Wild.{Wild}
 use Rattle.asset_lists.specs.declared.filters.Filter.{Filter}
+use Rattle.std.specs.List.{list_all}
 use Rattle.asset_lists.specs.Units.{Unit, unit_of, amount_of, unit_cmp}
 use Rattle.asset_lists.specs.Lists.{IsAssetList}
 use Rattle.asset_bundles.specs.Bundles.{found}
 use Rattle.asset_bundles.specs.Filters.{is_all_of}
+use Rattle.asset_bundles.specs.Joins.{most_of, within_most, above_most}
 
 abbrev pub fun_with : Fun → ℕ → Fun
 fun_with (Fun.Fungible amount) n = Fun.Fungible n
@@ -83,3 +85,22 @@ spent unit n (a ∷ xs) = if eq_by_cmp unit_cmp unit (unit_of a) then kept a (am
 
 abbrev pub is_other : Unit → Asset → Bool
 is_other unit a = not (eq_by_cmp unit_cmp unit (unit_of a))
+
+-- what stands of each unit with what there is more of it
+abbrev pub grown_by : List Asset → Unit → ℕ → ℕ
+grown_by more unit n = within_most unit (n + found unit more)
+
+-- what is given up of each unit with what there is more of it
+abbrev pub above_by : List Asset → Unit → ℕ → ℕ
+above_by more unit n = above_most unit (n + found unit more)
+
+-- what there is of each unit that isn't there yet
+abbrev pub new_to : List Asset → Unit → ℕ → ℕ
+new_to items unit n = if nat_eq (found unit items) 0 then n else 0
+
+abbrev pub is_within_most : Asset → Bool
+is_within_most a = nat_le (amount_of a) (most_of (unit_of a).1)
+
+-- no amount is above the most that a bundle holds
+abbrev pub AreWithinMost : List Asset → Type 0
+AreWithinMost xs = IsTrue (list_all is_within_most xs)

@@ -89,7 +89,7 @@ impl BookRow {
 }
 
 /// Whether both are amounts, or both classes.
-fn is_same_kind(kind: Kind, other: Kind) -> bool
+pub(crate) fn is_same_kind(kind: Kind, other: Kind) -> bool
     ensures { result ≡ eq_by_cmp nat_cmp (kind_number kind) (kind_number other) }
 {
     match (kind, other) {

@@ -5,14 +5,14 @@ ghost use Rattle.amounts.specs.Amounts.{from_rows};
 ghost use Rattle.amounts.specs.Rows.{rows_at};
 ghost use Rattle.asset_lists.specs.Units.{unit_of, instance_in};
 ghost use Rattle.asset_bundles.specs.Bundles.{rows_of};
-ghost use Rattle.asset_bundles.specs.Books.{Booked, Covers, burned_for, kind_of, listed_of, lists};
+ghost use Rattle.asset_bundles.specs.Books.{Booked, Covers, burned_for, excess_cause, kind_of, listed_of, lists};
 
 use crate::items::amount_of;
 use crate::{AssetBundle, BurnBook, Cause};
 use asset_lists::{Asset, Fun, Kind};
 
 /// Whether it is an amount or an instance of a class.
-fn kind_of(item: &Asset) -> Kind
+pub(crate) fn kind_of(item: &Asset) -> Kind
     ensures { result ≡ kind_of (instance_in item.now.fun) }
 {
     match item.fun {
@@ -29,6 +29,27 @@ fn book_all(book: &mut BurnBook, items: &[Asset], cause: Cause)
     let _ = &book.rows;
     for item in items {
         book.add(&item.id, kind_of(item), cause, amount_of(item));
+    }
+}
+
+/// Why what is above the most of this asset is given up.
+fn excess_cause(item: &Asset) -> Cause
+    ensures { result ≡ excess_cause (instance_in item.now.fun) }
+{
+    match item.fun {
+        Fun::Fungible(_) => Cause::Saturated,
+        Fun::NonFungible(_) => Cause::Merged,
+    }
+}
+
+/// Books all these assets as what a join gives up.
+pub(crate) fn book_excess(book: &mut BurnBook, items: &[Asset])
+    requires { IsTrue (list_all (λ a. lists book.old.listed (listed_of (unit_of a))) items.now) }
+    ensures { book.new ≡ Booked book.old (from_rows (rows_at (λ unit. (listed_of unit, excess_cause unit.1)) (rows_of items.now))) }
+{
+    let _ = &book.rows;
+    for item in items {
+        book.add(&item.id, kind_of(item), excess_cause(item), amount_of(item));
     }
 }
 

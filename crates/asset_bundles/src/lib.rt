@@ -7,6 +7,8 @@ mod bundle;
 mod burns;
 mod faults;
 mod items;
+mod joining;
+mod landing;
 mod laws;
 mod portions;
 mod shipment;
@@ -17,7 +19,9 @@ mod units;
 pub use book::{BurnBook, Cause, Total};
 pub use bundle::AssetBundle;
 pub use faults::TakeFault;
-pub use laws::{law_of_books, law_of_bundles, law_of_conservation, law_of_filters, law_of_joins};
+pub use laws::{
+    law_of_books, law_of_bundles, law_of_conservation, law_of_filters, law_of_joins, law_of_landing,
+};
 pub use shipment::{Shipment, Way};
 pub use units::Units;
 

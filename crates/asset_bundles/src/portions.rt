@@ -24,7 +24,11 @@ pub(crate) fn with_amount(item: &Asset, amount: u128) -> Asset
 
 /// Puts the asset with this amount at the end, unless that is 0.
 #[tactic(auto, using(crate::proofs::Parts::kept_some, crate::proofs::Parts::kept_none))]
-fn push_amount(list: &mut Vec<Asset>, item: &Asset, amount: u128) -> Result<(), AllocError>
+pub(crate) fn push_amount(
+    list: &mut Vec<Asset>,
+    item: &Asset,
+    amount: u128,
+) -> Result<(), AllocError>
     ensures { OnOk result (list.new.items ≡ list.old.items ++ kept item.now amount []) }
 {
     if amount == 0 {
