@@ -1,6 +1,7 @@
-ghost use Rattle.std.specs.Prelude.{◌≡◌};
+ghost use Rattle.std.specs.Prelude.{◌≡◌, ◌<◌, length, slice_set, slice_get, Some};
 
 use std::marker::Model;
+use std::mem;
 
 /// A `Vec` that contracts see as the list of its elements, without capacity or place in memory.
 #[derive(Debug, Drop)]
@@ -32,6 +33,15 @@ impl<T> Listed<T> {
         ensures { result.now ≡ self.now }
     {
         self.items.as_slice()
+    }
+
+    /// Puts an element in the place of the one at `index`, which must be there, and hands that one back. It takes no memory.
+    pub fn replace(&mut self, index: usize, item: T) -> T
+        requires { index < length self.old }
+        ensures list { self.new ≡ slice_set self.old index item }
+        ensures old { Some result ≡ slice_get self.old index }
+    {
+        mem::replace(&mut self.items[index], item)
     }
 
     /// The elements as a `Vec` again. It takes no memory.
@@ -85,6 +95,14 @@ mod tests {
         let longer = Listed::from_vec(vec![in rt.alloc(); 3u32, 3]?);
         assert!(rt; one == same);
         assert!(rt; one != longer);
+        Ok(())
+    }
+
+    #[test]
+    fn an_element_is_replaced(rt: HostRuntime) -> Result<(), Fail> {
+        let mut seen = Listed::from_vec(vec![in rt.alloc(); 3u32, 1, 2]?);
+        assert_eq!(rt; seen.replace(1, 7), 1);
+        assert_eq!(rt; seen.items(), [3, 7, 2].as_slice());
         Ok(())
     }
 
