@@ -1,5 +1,5 @@
 -- What is read can be written.
-use Rattle.std.proofs.Common.{◌≡◌, true, ◌≤◌, ◌^◌, List, ◌∷◌, Option, Some, subst, arith}
+use Rattle.std.proofs.Common.{◌≡◌, true, ◌<◌, ◌≤◌, ◌^◌, List, [], ◌∷◌, length, get_or, Option, Some, sym, subst, arith}
 use Rattle.std.specs.List.{AllByRecursion}
 use Rattle.asset_wire.specs.declared.version.Version.{Version}
 use Rattle.asset_wire.specs.declared.version.Version.TheVariants.{V3, V4}
@@ -35,3 +35,8 @@ named_in V4 p convertible = named_from p convertible
 
 pub writable_in : (v w : Version) (p : List Instruction) → IsReadable v p → is_convertible p ≡ true → IsWritable w p
 writable_in v w p r convertible = record { few = omega (arith, r.small.few); named = named_in w p convertible; amounts = fits_amounts v p r.fits }
+
+-- what holds of each holds of the first
+pub of_first : (P : Instruction → Type 0) (p : List Instruction) (i : Instruction) → 0 < length p → i ≡ get_or p 0 i → AllByRecursion P p → P i
+of_first P [] i some at all = absurd (omega (arith, some))
+of_first P (j ∷ p) i some at all = subst P (sym at) all.0
