@@ -2,3 +2,8 @@ pub mod Cutting
 pub mod Holding
 pub mod Claiming
 pub mod Conserving
+pub mod RowLookups
+pub mod RowAmounts
+pub mod Numbers
+pub mod RowMoves
+pub mod Tables

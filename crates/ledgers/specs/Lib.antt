@@ -1,1 +1,7 @@
 pub mod Traps
+pub mod Ledgers
+pub mod AssetHash
+pub mod AssetTable
+pub mod AssetKeys
+pub mod Sums
+pub mod LedgerRows

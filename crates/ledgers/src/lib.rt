@@ -1,9 +1,12 @@
-//! What chains keep of assets: the trap store.
+//! What chains keep of assets: the ledger and the trap store.
 #![tactic(auto)]
 
+mod asset_table;
 mod laws;
+mod listed_asset;
 mod pieces;
 mod store;
+mod sums;
 mod trap;
 
 pub use laws::law_of_traps;
