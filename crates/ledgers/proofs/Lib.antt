@@ -7,3 +7,6 @@ pub mod RowAmounts
 pub mod Numbers
 pub mod RowMoves
 pub mod Tables
+pub mod RowWriting
+pub mod Soundness
+pub mod Bounds

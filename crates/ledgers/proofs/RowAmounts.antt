@@ -13,8 +13,8 @@ use Rattle.asset_lists.specs.declared.units.Instance.{Instance}
 use Rattle.asset_lists.specs.declared.units.Kind.{Kind}
 use Rattle.asset_bundles.specs.Books.{Listed, listed_cmp, kind_of}
 use Rattle.ledgers.specs.Ledgers.{Holder, account_cmp, holder_cmp, Held}
-use Rattle.ledgers.specs.LedgerRows.{IsOnce, AmountKey, amount_key_cmp, OwnerKey, owner_key_cmp, amount_at, owner_at, amount_rows, owner_rows, held_in}
-use Rattle.ledgers.proofs.RowLookups.{holder_keys, amount_keys, owner_keys, account_keys, not_true, apart, both_ways, same_as, owned, shown, lookup-amounts, lookup-past_amounts, lookup-past_owners, lookup-owners, same_instances, same_ids, same_kinds}
+use Rattle.ledgers.specs.LedgerRows.{owned, IsOnce, AmountKey, amount_key_cmp, OwnerKey, owner_key_cmp, amount_at, owner_at, amount_rows, owner_rows, held_in}
+use Rattle.ledgers.proofs.RowLookups.{holder_keys, amount_keys, owner_keys, account_keys, not_true, apart, both_ways, same_as, shown, lookup-amounts, lookup-past_amounts, lookup-past_owners, lookup-owners, same_instances, same_ids, same_kinds}
 
 module _ (listed : List Listed) (once : IsOnce listed) (amounts : List (AmountKey × ℕ)) (owners : List (OwnerKey × Option (List ℕ))) where
   pub held-fungible : (n : ℕ) (who : List ℕ) (id : AssetId) → slice_get listed n ≡ Some (id, Kind.Fungible)

@@ -21,7 +21,7 @@ use Rattle.asset_lists.proofs.Laws.{instances_same}
 use Rattle.asset_bundles.specs.Bundles.{unit_keys}
 use Rattle.asset_bundles.specs.Books.{Listed}
 use Rattle.ledgers.specs.Ledgers.{Holder, account_cmp, holder_cmp}
-use Rattle.ledgers.specs.LedgerRows.{IsOnce, AmountKey, amount_key_cmp, OwnerKey, owner_key_cmp, fungible_row, amount_row, amount_rows, instance_row, owner_row, owner_rows}
+use Rattle.ledgers.specs.LedgerRows.{IsOnce, owned, AmountKey, amount_key_cmp, OwnerKey, owner_key_cmp, fungible_row, amount_row, amount_rows, instance_row, owner_row, owner_rows}
 
 pub account_keys : IsKeyOrder account_cmp
 account_keys = list_keys number_keys
@@ -156,11 +156,6 @@ module _ (listed : List Listed) (h : Holder) where
 -- ---- owners
 pub same_instances : (a b : Instance) → Some a ≡ Some b → a ≡ b
 same_instances a b e = cc
-
--- what the row of an instance says of an account
-abbrev pub owned : List ℕ → Option (List ℕ) → ℕ
-owned who None = 0
-owned who (Some owner) = if eq_by_cmp account_cmp who owner then 1 else 0
 
 module _ (listed : List Listed) (once : IsOnce listed) (who : List ℕ) (id : AssetId) (instance : Instance) (n : ℕ) (at : slice_get listed n ≡ Some (id, Kind.Class)) where
   same_owner_row : (m : ℕ) (i : Instance) (other : AssetId) → slice_get listed m ≡ Some (other, Kind.Class) → id ≡ other → instance ≡ i → eq_by_cmp owner_key_cmp (n, instance) (m, i) ≡ true

@@ -12,8 +12,8 @@ use Rattle.asset_lists.specs.declared.units.Kind.{Kind}
 use Rattle.asset_lists.specs.Units.{Unit}
 use Rattle.asset_bundles.specs.Books.{Listed}
 use Rattle.ledgers.specs.Ledgers.{Holder, account_cmp, holder_cmp, Held, number_in}
-use Rattle.ledgers.specs.LedgerRows.{IsOnce, AmountKey, amount_key_cmp, OwnerKey, owner_key_cmp, amount_at, owner_at, held_in}
-use Rattle.ledgers.proofs.RowLookups.{holder_keys, amount_keys, owner_keys, account_keys, apart, both_ways, same_as, owned, same_instances, same_ids, same_kinds}
+use Rattle.ledgers.specs.LedgerRows.{owned, IsOnce, AmountKey, amount_key_cmp, OwnerKey, owner_key_cmp, amount_at, owner_at, held_in}
+use Rattle.ledgers.proofs.RowLookups.{holder_keys, amount_keys, owner_keys, account_keys, apart, both_ways, same_as, same_instances, same_ids, same_kinds}
 use Rattle.ledgers.proofs.RowAmounts.{held-fungible, held-no_fungible, held-instance, held-no_instance}
 use Rattle.ledgers.proofs.Numbers.{number_at, no_number}
 

@@ -1,7 +1,7 @@
 -- The rows that a ledger keeps, as what its accounts hold. Amounts stand by asset number and account, and owners
 -- by asset number and instance. For a class the amount is how many instances the account has: it is kept beside
 -- the owners, which say the same.
-use Rattle.std.specs.Prelude.{◌≡◌, ℕ, ◌-◌, ◌^◌, ◌≤◌, List, [], ◌∷◌, length, slice_get, Option, None, Some, unwrap_or, IsSome}
+use Rattle.std.specs.Prelude.{◌≡◌, ℕ, ◌-◌, ◌^◌, ◌≤◌, if◌then◌else◌, List, [], ◌∷◌, length, slice_get, slice_set, Option, None, Some, unwrap_or, IsSome, ⊤}
 use Rattle.std.specs.Ordering.{nat_cmp, on, then_cmp, eq_by_cmp}
 use Rattle.std.specs.declared.cmp.Ordering.{Ordering}
 use Rattle.std.specs.List.{AllByRecursion}
@@ -38,6 +38,16 @@ amount_at rows k = unwrap_or (lookup (eq_by_cmp amount_key_cmp k) rows) 0
 -- the owner in the row of a key
 abbrev pub owner_at : List (OwnerKey × Option (List ℕ)) → OwnerKey → Option (List ℕ)
 owner_at rows k = unwrap_or (lookup (eq_by_cmp owner_key_cmp k) rows) None
+
+-- what the row of an instance says of an account
+abbrev pub owned : List ℕ → Option (List ℕ) → ℕ
+owned who None = 0
+owned who (Some owner) = if eq_by_cmp account_cmp who owner then 1 else 0
+
+-- the row of an instance says now this; a fungible asset has no such row
+abbrev pub OwnerIs : Option Instance → ℕ → Option (List ℕ) → List (OwnerKey × Option (List ℕ)) → List (OwnerKey × Option (List ℕ)) → Type 0
+OwnerIs None n owner old new = (q : OwnerKey) → owner_at new q ≡ owner_at old q
+OwnerIs (Some i) n owner old new = (q : OwnerKey) → owner_at new q ≡ (if eq_by_cmp owner_key_cmp (n, i) q then owner else owner_at old q)
 
 -- ---- what the rows hold
 -- the row of a fungible asset, in front of others
@@ -84,6 +94,15 @@ HasAmountRow rows k = IsSome (lookup (eq_by_cmp amount_key_cmp k) rows)
 
 abbrev pub HasOwnerRow : List (OwnerKey × Option (List ℕ)) → OwnerKey → Type 0
 HasOwnerRow rows k = IsSome (lookup (eq_by_cmp owner_key_cmp k) rows)
+
+abbrev pub HasInstanceRow : List (OwnerKey × Option (List ℕ)) → ℕ → Option Instance → Type 0
+HasInstanceRow rows n None = ⊤
+HasInstanceRow rows n (Some i) = HasOwnerRow rows (n, i)
+
+-- a running sum is another one
+pub record IsSumWritten (n : ℕ) (old new : List Sum) (s t : Sum) : Type 0 where
+  pub was : slice_get old n ≡ Some s
+  pub written : new ≡ slice_set old n t
 
 -- counts and running sums are those of what is held
 pub record IsSound (listed : List Listed) (amounts : List (AmountKey × ℕ)) (owners : List (OwnerKey × Option (List ℕ))) (sums : List Sum) : Type 0 where

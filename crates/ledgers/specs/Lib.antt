@@ -5,3 +5,4 @@ pub mod AssetTable
 pub mod AssetKeys
 pub mod Sums
 pub mod LedgerRows
+pub mod RowState
