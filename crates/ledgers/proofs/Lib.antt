@@ -10,3 +10,4 @@ pub mod Tables
 pub mod RowWriting
 pub mod Soundness
 pub mod Bounds
+pub mod RowChanges

@@ -6,6 +6,7 @@ mod laws;
 mod listed_asset;
 mod pieces;
 mod row_moves;
+mod row_state;
 mod row_writes;
 mod rows;
 mod store;

@@ -50,7 +50,7 @@ pub(crate) fn owned(owner: Option<[u8; 32]>, who: &[u8; 32]) -> u128
 }
 
 /// The instance of an asset loses its owner.
-fn end_owner(rows: &mut OwnerRows, number: u32, asset: &Asset)
+pub(crate) fn end_owner(rows: &mut OwnerRows, number: u32, asset: &Asset)
     ensures wrote { OwnerIs (instance_in asset.now.fun) number None rows.old.entries rows.new.entries }
     ensures sorted { IsStrictlySortedBy owner_key_cmp (keys_of rows.old.entries) → IsStrictlySortedBy owner_key_cmp (keys_of rows.new.entries) }
 {
@@ -61,7 +61,7 @@ fn end_owner(rows: &mut OwnerRows, number: u32, asset: &Asset)
 }
 
 /// The instance of an asset gets an owner.
-fn begin_owner(rows: &mut OwnerRows, number: u32, asset: &Asset, who: &[u8; 32])
+pub(crate) fn begin_owner(rows: &mut OwnerRows, number: u32, asset: &Asset, who: &[u8; 32])
     requires { HasInstanceRow rows.old.entries number (instance_in asset.now.fun) }
     ensures wrote { OwnerIs (instance_in asset.now.fun) number (Some who.now) rows.old.entries rows.new.entries }
     ensures stay { (q : OwnerKey) → HasOwnerRow rows.old.entries q → HasOwnerRow rows.new.entries q }
@@ -74,7 +74,7 @@ fn begin_owner(rows: &mut OwnerRows, number: u32, asset: &Asset, who: &[u8; 32])
 }
 
 /// Makes the row of an instance where there is none.
-fn make_instance_row(rows: &mut OwnerRows, number: u32, asset: &Asset) -> Result<(), AllocError>
+pub(crate) fn make_instance_row(rows: &mut OwnerRows, number: u32, asset: &Asset) -> Result<(), AllocError>
     ensures same { (q : OwnerKey) → owner_at rows.new.entries q ≡ owner_at rows.old.entries q }
     ensures stay { (q : OwnerKey) → HasOwnerRow rows.old.entries q → HasOwnerRow rows.new.entries q }
     ensures made { OnOk result (HasInstanceRow rows.new.entries number (instance_in asset.now.fun)) }
@@ -87,7 +87,7 @@ fn make_instance_row(rows: &mut OwnerRows, number: u32, asset: &Asset) -> Result
 }
 
 /// Lowers the running sum of an asset.
-fn lower_sum(sums: &mut Vec<Sum>, number: u32, amount: u128)
+pub(crate) fn lower_sum(sums: &mut Vec<Sum>, number: u32, amount: u128)
     requires within { number < length sums.old.items }
     requires enough { (s : Sum) → slice_get sums.old.items number ≡ Some s → amount ≤ sum_value s }
     ensures { (s : Sum) × (t : Sum) × IsSumWritten number sums.old.items sums.new.items s t × (sum_value t ≡ sum_value s - amount) }
@@ -98,7 +98,7 @@ fn lower_sum(sums: &mut Vec<Sum>, number: u32, amount: u128)
 }
 
 /// Raises the running sum of an asset.
-fn raise_sum(sums: &mut Vec<Sum>, number: u32, amount: u128)
+pub(crate) fn raise_sum(sums: &mut Vec<Sum>, number: u32, amount: u128)
     requires within { number < length sums.old.items }
     requires room { (s : Sum) → slice_get sums.old.items number ≡ Some s → sum_value s + amount < 2 ^ 192 }
     ensures { (s : Sum) × (t : Sum) × IsSumWritten number sums.old.items sums.new.items s t × (sum_value t ≡ sum_value s + amount) }
