@@ -11,3 +11,4 @@ pub mod RowWriting
 pub mod Soundness
 pub mod Bounds
 pub mod RowChanges
+pub mod AccountMoves

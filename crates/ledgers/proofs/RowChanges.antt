@@ -1,8 +1,8 @@
 -- An asset taken out of an account or given to it, and what the rows hold then.
 use Rattle.std.proofs.Common.{◌≡◌, ℕ, zero, suc, ◌+◌, ◌-◌, ◌^◌, ◌<◌, ◌≤◌, Bool, true, false, ◌&&◌, if◌then◌else◌, List, [], ◌∷◌, length, set, refl, sym, ap, ◌∙◌, subst, arith, true≢false}
-use Rattle.std.specs.Prelude.{Option, None, Some, unwrap_or, slice_get}
+use Rattle.std.specs.Prelude.{Option, None, Some, unwrap_or, slice_get, IsSome}
 use Rattle.std.specs.Ordering.{eq_by_cmp}
-use Rattle.std.specs.Map.{keys_of}
+use Rattle.std.specs.Map.{keys_of, lookup}
 use Rattle.std.specs.List.Sorted.{IsStrictlySortedBy}
 use Rattle.std.proofs.lemmas.Bool.{and_from}
 use Rattle.amounts.specs.Amounts.{amount, total, with_amount, plus, minus}
@@ -16,7 +16,7 @@ use Rattle.asset_bundles.specs.Books.{Listed, kind_of, listed_of}
 use Rattle.ledgers.specs.declared.sums.Sum.{Sum}
 use Rattle.ledgers.specs.Sums.{sum_value}
 use Rattle.ledgers.specs.Ledgers.{Holder, account_cmp, holder_cmp, Held, is_account, is_in, sum_of, part_of, number_in}
-use Rattle.ledgers.specs.LedgerRows.{AmountKey, amount_key_cmp, OwnerKey, owner_key_cmp, amount_at, owner_at, owned, OwnerIs, held_in, IsOnce, AreSmall, IsSumWritten, IsSound}
+use Rattle.ledgers.specs.LedgerRows.{AmountKey, amount_key_cmp, OwnerKey, owner_key_cmp, amount_at, owner_at, owned, OwnerIs, held_in, IsOnce, AreSmall, IsSumWritten, IsSound, HasAmountRow, HasOwnerRow, HasInstanceRow}
 use Rattle.ledgers.specs.RowState.{may_take}
 use Rattle.ledgers.proofs.RowLookups.{holder_keys, amount_keys, account_keys, apart, same_as}
 use Rattle.ledgers.proofs.RowAmounts.{held-fungible, held-no_fungible, held-instance, held-no_instance}
@@ -234,3 +234,25 @@ module _ (listed : List Listed) (amounts : List (AmountKey × ℕ)) (owners : Li
 pub wrote_as : (rows more : List (AmountKey × ℕ)) (k : AmountKey) (v w : ℕ) → v ≡ w → ((q : AmountKey) → amount_at more q ≡ (if eq_by_cmp amount_key_cmp k q then v else amount_at rows q))
     → (q : AmountKey) → amount_at more q ≡ (if eq_by_cmp amount_key_cmp k q then w else amount_at rows q)
 wrote_as rows more k v w e h q = subst (λ x. amount_at more q ≡ (if eq_by_cmp amount_key_cmp k q then x else amount_at rows q)) e (h q)
+
+-- ---- rows that say something are there
+pub amount_row_there : (rows : List (AmountKey × ℕ)) (k : AmountKey) → 0 < amount_at rows k → HasAmountRow rows k
+amount_row_there rows k h = there (lookup (eq_by_cmp amount_key_cmp k) rows) h
+  where
+    there : (o : Option ℕ) → 0 < unwrap_or o 0 → IsSome o
+    there None h = absurd (omega (arith, h))
+    there (Some v) h = refl
+
+pub owner_row_there : (rows : List (OwnerKey × Option (List ℕ))) (k : OwnerKey) (who : List ℕ) → 0 < owned who (owner_at rows k) → HasOwnerRow rows k
+owner_row_there rows k who h = there (lookup (eq_by_cmp owner_key_cmp k) rows) h
+  where
+    there : (o : Option (Option (List ℕ))) → 0 < owned who (unwrap_or o None) → IsSome o
+    there None h = absurd (omega (arith, h))
+    there (Some v) h = refl
+
+pub instance_row_there : (listed : List Listed) (amounts : List (AmountKey × ℕ)) (owners : List (OwnerKey × Option (List ℕ))) (sums : List Sum) → IsSound listed amounts owners sums → (n : ℕ) (who : List ℕ) (id : AssetId) (x : Option Instance)
+    → number_in listed (listed_of (id, x)) ≡ Some n → 0 < amount (held_in listed amounts owners) (who, (id, x)) → HasInstanceRow owners n x
+instance_row_there listed amounts owners sums sound n who id None is some = tt
+instance_row_there listed amounts owners sums sound n who id (Some i) is some =
+    let same = held_instance listed amounts owners sums sound n who id i is in
+    owner_row_there owners (n, i) who (omega (arith, same, some))

@@ -50,3 +50,16 @@ none_there b (Some x) e f = absurd (true≢false (sym e ∙ f))
 
 pub within_most : (n : ℕ) → n < 2 ^ 128 → n ≤ 2 ^ 128 - 1
 within_most n h = omega (arith, h)
+
+-- a row that says what no row says may be taken out
+pub nothing_lost : {K X : Type 0} (R : K → K → Ordering) → IsKeyOrder R → (k : K) (v : X) (es fs : List (K × X)) → ((q : K) → lookup (eq_by_cmp R q) fs ≡ (if eq_by_cmp R k q then None else lookup (eq_by_cmp R q) es))
+    → unwrap_or (lookup (eq_by_cmp R k) es) v ≡ v → (q : K) → unwrap_or (lookup (eq_by_cmp R q) fs) v ≡ unwrap_or (lookup (eq_by_cmp R q) es) v
+nothing_lost R o k v es fs removed says q =
+    ap (λ r. unwrap_or r v) (removed q)
+    ∙ elim (eq_by_cmp R k q) as (λ b. eq_by_cmp R k q ≡ b → unwrap_or (if b then None else lookup (eq_by_cmp R q) es) v ≡ unwrap_or (lookup (eq_by_cmp R q) es) v) [
+      | true ↦ λ t. sym says ∙ ap (λ x. unwrap_or (lookup (eq_by_cmp R x) es) v) (key_same o k q t)
+      | false ↦ λ t. refl
+    ] refl
+
+pub no_amount : (n : ℕ) → n ≤ 0 → n ≡ 0
+no_amount n h = omega (arith, h)

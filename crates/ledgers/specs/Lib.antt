@@ -6,3 +6,4 @@ pub mod AssetKeys
 pub mod Sums
 pub mod LedgerRows
 pub mod RowState
+pub mod AccountRows

@@ -3,6 +3,7 @@
 
 mod asset_table;
 mod laws;
+mod list_moves;
 mod listed_asset;
 mod pieces;
 mod row_moves;

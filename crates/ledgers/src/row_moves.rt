@@ -7,7 +7,7 @@ ghost use Rattle.asset_bundles.specs.Books.{kind_of, listed_of};
 ghost use Rattle.ledgers.specs.Sums.{sum_value};
 ghost use Rattle.ledgers.specs.LedgerRows.{OwnerKey, owner_key_cmp, owner_at, owned, OwnerIs, HasOwnerRow, HasInstanceRow, IsSumWritten};
 
-use crate::row_writes::{OwnerRows, clear_owner, make_owner_row, write_owner};
+use crate::row_writes::{OwnerRows, make_owner_row, sweep_owner, write_owner};
 use crate::rows::Rows;
 use crate::sums::Sum;
 use asset_lists::{Asset, AssetId, Fun, Instance, Kind};
@@ -49,27 +49,32 @@ pub(crate) fn owned(owner: Option<[u8; 32]>, who: &[u8; 32]) -> u128
     }
 }
 
-/// The instance of an asset loses its owner.
-pub(crate) fn end_owner(rows: &mut OwnerRows, number: u32, asset: &Asset)
-    ensures wrote { OwnerIs (instance_in asset.now.fun) number None rows.old.entries rows.new.entries }
-    ensures sorted { IsStrictlySortedBy owner_key_cmp (keys_of rows.old.entries) → IsStrictlySortedBy owner_key_cmp (keys_of rows.new.entries) }
-{
-    match asset.fun {
-        Fun::Fungible(_) => {}
-        Fun::NonFungible(instance) => clear_owner(rows, number, instance),
-    }
-}
-
-/// The instance of an asset gets an owner.
-pub(crate) fn begin_owner(rows: &mut OwnerRows, number: u32, asset: &Asset, who: &[u8; 32])
+/// Writes who owns the instance of an asset.
+pub(crate) fn set_owner(
+    rows: &mut OwnerRows,
+    number: u32,
+    asset: &Asset,
+    owner: Option<[u8; 32]>,
+)
     requires { HasInstanceRow rows.old.entries number (instance_in asset.now.fun) }
-    ensures wrote { OwnerIs (instance_in asset.now.fun) number (Some who.now) rows.old.entries rows.new.entries }
+    ensures wrote { OwnerIs (instance_in asset.now.fun) number owner rows.old.entries rows.new.entries }
     ensures stay { (q : OwnerKey) → HasOwnerRow rows.old.entries q → HasOwnerRow rows.new.entries q }
     ensures sorted { IsStrictlySortedBy owner_key_cmp (keys_of rows.old.entries) → IsStrictlySortedBy owner_key_cmp (keys_of rows.new.entries) }
 {
     match asset.fun {
         Fun::Fungible(_) => {}
-        Fun::NonFungible(instance) => write_owner(rows, number, instance, who),
+        Fun::NonFungible(instance) => write_owner(rows, number, instance, owner),
+    }
+}
+
+/// Takes the row of an instance out where it names nobody.
+pub(crate) fn sweep_instance(rows: &mut OwnerRows, number: u32, asset: &Asset)
+    ensures same { (q : OwnerKey) → owner_at rows.new.entries q ≡ owner_at rows.old.entries q }
+    ensures sorted { IsStrictlySortedBy owner_key_cmp (keys_of rows.old.entries) → IsStrictlySortedBy owner_key_cmp (keys_of rows.new.entries) }
+{
+    match asset.fun {
+        Fun::Fungible(_) => {}
+        Fun::NonFungible(instance) => sweep_owner(rows, number, instance),
     }
 }
 

@@ -1,6 +1,8 @@
 //! What the rows of a ledger say, and how an asset goes into an account or out of it.
-use crate::row_moves::{amount_of, begin_owner, end_owner, kind_of, lower_sum, make_instance_row, owned, raise_sum};
-use crate::row_writes::{amount_in, lower_amount, make_amount_row, owner_in, write_amount};
+use crate::row_moves::{
+    amount_of, kind_of, lower_sum, make_instance_row, owned, raise_sum, set_owner, sweep_instance,
+};
+use crate::row_writes::{amount_in, make_amount_row, owner_in, sweep_amount, write_amount};
 use crate::rows::Rows;
 use asset_lists::{Asset, Fun};
 use std::alloc::AllocError;
@@ -43,7 +45,7 @@ impl Rows {
         requires some { 0 < amount_of_asset asset.now }
         requires enough { amount_of_asset asset.now ≤ amount (rows_held self.old) (who.now, unit_of asset.now) }
         ensures sound { AreSound self.new }
-        ensures listed { self.new.assets ≡ self.old.assets }
+        ensures stay { KeepsRows self.old self.new }
         ensures held { rows_held self.new ≡ minus (rows_held self.old) (who.now, unit_of asset.now) (amount_of_asset asset.now) }
     {
         let Some(number) = self.number(asset) else {
@@ -51,9 +53,23 @@ impl Rows {
         };
         let amount = amount_of(asset);
         let have = amount_in(&self.amounts, number, who);
-        lower_amount(&mut self.amounts, number, who, have - amount);
-        end_owner(&mut self.owners, number, asset);
+        write_amount(&mut self.amounts, number, who, have - amount);
+        set_owner(&mut self.owners, number, asset, None);
         lower_sum(&mut self.sums, number, amount);
+    }
+
+    /// Takes out the rows that say nothing after an asset was taken.
+    pub(crate) fn sweep(&mut self, who: &[u8; 32], asset: &Asset)
+        requires { AreSound self.old }
+        ensures sound { AreSound self.new }
+        ensures assets { self.new.assets ≡ self.old.assets }
+        ensures held { rows_held self.new ≡ rows_held self.old }
+    {
+        let Some(number) = self.number(asset) else {
+            return;
+        };
+        sweep_amount(&mut self.amounts, number, who);
+        sweep_instance(&mut self.owners, number, asset);
     }
 
     /// Makes the rows that `give` writes.
@@ -91,7 +107,7 @@ impl Rows {
         let amount = amount_of(asset);
         let have = amount_in(&self.amounts, number, who);
         write_amount(&mut self.amounts, number, who, have + amount);
-        begin_owner(&mut self.owners, number, asset, who);
+        set_owner(&mut self.owners, number, asset, Some(*who));
         raise_sum(&mut self.sums, number, amount);
     }
 }

@@ -1,5 +1,5 @@
 //! Rows read and written, one at a time. A row is made before it is written, so that writing takes no memory.
-ghost use Rattle.std.specs.Prelude.{◌≡◌, ◌-◌, ◌^◌, ◌<◌, ◌≤◌, None, Some, IsSome, OnOk, OnErr, length, if◌then◌else◌};
+ghost use Rattle.std.specs.Prelude.{◌≡◌, OnOk, if◌then◌else◌};
 ghost use Rattle.std.specs.Ordering.{eq_by_cmp};
 ghost use Rattle.std.specs.Map.{keys_of};
 ghost use Rattle.std.specs.List.Sorted.{IsStrictlySortedBy};
@@ -54,17 +54,15 @@ pub(crate) fn write_amount(rows: &mut AmountRows, number: u32, who: &[u8; 32], a
     }
 }
 
-/// Writes a lower amount, or takes the row out where nothing is left.
-pub(crate) fn lower_amount(rows: &mut AmountRows, number: u32, who: &[u8; 32], amount: u128)
-    requires { amount < amount_at rows.old.entries (number, who.now) }
-    ensures wrote { (q : AmountKey) → amount_at rows.new.entries q ≡ (if eq_by_cmp amount_key_cmp (number, who.now) q then amount else amount_at rows.old.entries q) }
+/// Takes a row that says 0 out.
+pub(crate) fn sweep_amount(rows: &mut AmountRows, number: u32, who: &[u8; 32])
+    ensures same { (q : AmountKey) → amount_at rows.new.entries q ≡ amount_at rows.old.entries q }
     ensures small { AreSmall rows.old.entries → AreSmall rows.new.entries }
 {
-    if amount == 0 {
-        rows.remove(&(number, *who));
+    if amount_in(rows, number, who) > 0 {
         return;
     }
-    write_amount(rows, number, who, amount);
+    rows.remove(&(number, *who));
 }
 
 /// The owner of an instance.
@@ -94,23 +92,32 @@ pub(crate) fn make_owner_row(
     Ok(())
 }
 
-/// Writes the owner into a row that is there.
-pub(crate) fn write_owner(rows: &mut OwnerRows, number: u32, instance: Instance, who: &[u8; 32])
+/// Writes the owner, or nobody, into a row that is there.
+pub(crate) fn write_owner(
+    rows: &mut OwnerRows,
+    number: u32,
+    instance: Instance,
+    owner: Option<[u8; 32]>,
+)
     requires { HasOwnerRow rows.old.entries (number, instance) }
-    ensures wrote { (q : OwnerKey) → owner_at rows.new.entries q ≡ (if eq_by_cmp owner_key_cmp (number, instance) q then Some who.now else owner_at rows.old.entries q) }
+    ensures wrote { (q : OwnerKey) → owner_at rows.new.entries q ≡ (if eq_by_cmp owner_key_cmp (number, instance) q then owner else owner_at rows.old.entries q) }
     ensures stay { (q : OwnerKey) → HasOwnerRow rows.old.entries q → HasOwnerRow rows.new.entries q }
     ensures sorted { IsStrictlySortedBy owner_key_cmp (keys_of rows.new.entries) }
 {
-    match rows.insert((number, instance), Some(*who)) {
+    match rows.insert((number, instance), owner) {
         Ok(_) => {}
         Err(_) => unreachable!(),
     }
 }
 
-/// Takes the row of an instance out.
-pub(crate) fn clear_owner(rows: &mut OwnerRows, number: u32, instance: Instance)
-    ensures wrote { (q : OwnerKey) → owner_at rows.new.entries q ≡ (if eq_by_cmp owner_key_cmp (number, instance) q then None else owner_at rows.old.entries q) }
+/// Takes a row that names nobody out.
+pub(crate) fn sweep_owner(rows: &mut OwnerRows, number: u32, instance: Instance)
+    ensures same { (q : OwnerKey) → owner_at rows.new.entries q ≡ owner_at rows.old.entries q }
     ensures sorted { IsStrictlySortedBy owner_key_cmp (keys_of rows.new.entries) }
 {
+    let _ = rows.len();
+    if owner_in(rows, number, instance).is_some() {
+        return;
+    }
     rows.remove(&(number, instance));
 }

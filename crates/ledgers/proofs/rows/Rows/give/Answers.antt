@@ -26,9 +26,9 @@ returns c =
     let r = c.args.self.now in
     let a = c.args.asset.now in
     let sum = c.raise_sum.ensures in
-    let whole = given r.assets r.amounts.entries r.owners.entries r.sums.items c.requires.sound c.write_amount.new.rows.entries c.begin_owner.new.rows.entries
-        (c.begin_owner.ensures.sorted c.requires.sound.sorted) c.in-Some.number c.args.who.now a.id a.fun (sym c.in-Some.ensures) c.requires.may
+    let whole = given r.assets r.amounts.entries r.owners.entries r.sums.items c.requires.sound c.write_amount.new.rows.entries c.set_owner.new.rows.entries
+        (c.set_owner.ensures.sorted c.requires.sound.sorted) c.in-Some.number c.args.who.now a.id a.fun (sym c.in-Some.ensures) c.requires.may
         (wrote_as r.amounts.entries c.write_amount.new.rows.entries (c.in-Some.number, c.args.who.now) _ _ (λ i. c.amount_in-have.ensures i + c.amount_of-amount.ensures i) c.write_amount.ensures.wrote)
-        c.begin_owner.ensures.wrote (c.write_amount.ensures.small c.requires.sound.small)
+        c.set_owner.ensures.wrote (c.write_amount.ensures.small c.requires.sound.small)
         c.raise_sum.new.sums.items (sum.0, sum.1, sum.2, sum.3 ∙ ap (λ n. sum_value sum.0 + n) c.amount_of-amount.ensures) in
-    record { sound = whole.1; stay = record { assets = refl; amounts = c.write_amount.ensures.stay; owners = c.begin_owner.ensures.stay }; held = whole.0 }
+    record { sound = whole.1; stay = record { assets = refl; amounts = c.write_amount.ensures.stay; owners = c.set_owner.ensures.stay }; held = whole.0 }
