@@ -12,3 +12,6 @@ pub mod Soundness
 pub mod Bounds
 pub mod RowChanges
 pub mod AccountMoves
+pub mod Totals
+pub mod Reading
+pub mod Opening

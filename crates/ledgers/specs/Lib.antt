@@ -7,3 +7,5 @@ pub mod Sums
 pub mod LedgerRows
 pub mod RowState
 pub mod AccountRows
+pub mod LedgerFaults
+pub mod LedgerCode

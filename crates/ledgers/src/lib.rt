@@ -2,7 +2,9 @@
 #![tactic(auto)]
 
 mod asset_table;
+mod faults;
 mod laws;
+mod ledger;
 mod list_moves;
 mod listed_asset;
 mod pieces;
@@ -14,7 +16,9 @@ mod store;
 mod sums;
 mod trap;
 
+pub use faults::{DepositFault, LedgerFault, TransferFault};
 pub use laws::law_of_traps;
+pub use ledger::Ledger;
 pub use store::{TrapStore, Unknown};
 pub use trap::Trap;
 

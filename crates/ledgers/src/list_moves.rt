@@ -1,14 +1,16 @@
 //! Lists of assets moved into an account or out of it.
-ghost use Rattle.std.specs.Prelude.{◌≡◌, OnOk, IsTrue, IsFalse, IsSome};
+ghost use Rattle.std.specs.Prelude.{◌≡◌, None, OnOk, IsTrue, IsFalse, IsSomeAnd, MatchOption};
 ghost use Rattle.std.specs.List.{list_all};
 ghost use Rattle.amounts.specs.Amounts.{plus_all, minus_all};
 ghost use Rattle.asset_lists.specs.Units.{unit_of};
 ghost use Rattle.asset_lists.specs.Lists.{has_zero, is_rising};
 ghost use Rattle.asset_bundles.specs.Books.{listed_of, lists};
-ghost use Rattle.ledgers.specs.Ledgers.{shortage};
+ghost use Rattle.ledgers.specs.Ledgers.{shortage, barred};
+ghost use Rattle.ledgers.specs.LedgerFaults.{IsBarred};
 ghost use Rattle.ledgers.specs.RowState.{rows_held, AreSound, KeepsRows};
 ghost use Rattle.ledgers.specs.AccountRows.{account_rows, HasAll, MayTakeAll, HasAllRoom};
 
+use crate::DepositFault;
 use crate::row_moves::amount_of;
 use crate::rows::Rows;
 use asset_lists::Asset;
@@ -23,6 +25,22 @@ pub(crate) fn shortage(rows: &Rows, who: &[u8; 32], list: &[Asset]) -> Option<u1
         let have = rows.held(who, asset);
         if have < amount_of(asset) {
             return Some(have);
+        }
+    }
+    None
+}
+
+/// Why the account can't take in the first asset that it can't take in.
+pub(crate) fn barred(rows: &Rows, who: &[u8; 32], list: &[Asset]) -> Option<DepositFault>
+    requires { AreSound rows.now }
+    ensures { MatchOption result
+        (barred (rows_held rows.now) who.now list.now ≡ None)
+        (λ fault. IsSomeAnd (barred (rows_held rows.now) who.now list.now) (λ a. IsBarred (rows_held rows.now) who.now a fault)) }
+{
+    for asset in list {
+        match rows.barred(who, asset) {
+            Some(fault) => return Some(fault),
+            None => {}
         }
     }
     None

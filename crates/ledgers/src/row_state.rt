@@ -4,15 +4,19 @@ use crate::row_moves::{
 };
 use crate::row_writes::{amount_in, make_amount_row, owner_in, sweep_amount, write_amount};
 use crate::rows::Rows;
-use asset_lists::{Asset, Fun};
+use crate::sums::Sum;
+use crate::DepositFault;
+use asset_lists::{Asset, AssetId, Fun, Instance, Kind};
 use std::alloc::AllocError;
 
 impl Rows {
-    ghost use Rattle.std.specs.Prelude.{◌≡◌, ◌<◌, ◌≤◌, OnOk, IsSome};
+    ghost use Rattle.std.specs.Prelude.{◌≡◌, ◌<◌, ◌≤◌, Some, OnOk, IsSome, IsTrue, IsFalse, MatchOption};
     ghost use Rattle.amounts.specs.Amounts.{amount, plus, minus};
     ghost use Rattle.asset_lists.specs.Units.{unit_of, amount_of as amount_of_asset};
     ghost use Rattle.asset_bundles.specs.Books.{listed_of};
-    ghost use Rattle.ledgers.specs.Ledgers.{number_in};
+    ghost use Rattle.ledgers.specs.Sums.{sum_value};
+    ghost use Rattle.ledgers.specs.Ledgers.{number_in, part_of, sum_of, owners_of, IsOwner, is_barred};
+    ghost use Rattle.ledgers.specs.LedgerFaults.{IsBarred};
     ghost use Rattle.ledgers.specs.RowState.{rows_held, AreSound, HasRoom, KeepsRows, MayTake};
 
     /// The number of the asset's row in the list.
@@ -36,6 +40,63 @@ impl Rows {
                 }
             },
             None => 0,
+        }
+    }
+
+    /// What an account has of a fungible asset, or how many instances of a class, by the asset's row.
+    pub(crate) fn part(&self, who: &[u8; 32], id: &AssetId, kind: Kind) -> u128
+        requires { AreSound self.now }
+        ensures { result ≡ part_of who.now (id.now, kind) (rows_held self.now) }
+    {
+        match self.assets.number_of(id, kind) {
+            Some(number) => amount_in(&self.amounts, number, who),
+            None => 0,
+        }
+    }
+
+    /// The account that has an instance.
+    pub(crate) fn owner(&self, id: &AssetId, instance: Instance) -> Option<[u8; 32]>
+        requires { AreSound self.now }
+        ensures { MatchOption result
+            (owners_of (id.now, Some instance) (rows_held self.now) ≡ 0)
+            (IsOwner (rows_held self.now) (id.now, Some instance)) }
+    {
+        match self.assets.number_of(id, Kind::Class) {
+            Some(number) => owner_in(&self.owners, number, instance),
+            None => None,
+        }
+    }
+
+    /// The sum of an asset over all accounts.
+    pub(crate) fn sum(&self, id: &AssetId, kind: Kind) -> Sum
+        requires { AreSound self.now }
+        ensures { sum_value result ≡ sum_of (id.now, kind) (rows_held self.now) }
+    {
+        match self.assets.number_of(id, kind) {
+            Some(number) => self.sums[number as usize],
+            None => Sum::zero(),
+        }
+    }
+
+    /// Why an account can't take the asset in.
+    pub(crate) fn barred(&self, who: &[u8; 32], asset: &Asset) -> Option<DepositFault>
+        requires { AreSound self.now }
+        ensures { MatchOption result
+            (IsFalse (is_barred (rows_held self.now) who.now asset.now))
+            (λ fault. IsTrue (is_barred (rows_held self.now) who.now asset.now) × IsBarred (rows_held self.now) who.now asset.now fault) }
+    {
+        match asset.fun {
+            Fun::Fungible(amount) => {
+                let have = self.held(who, asset);
+                if have > u128::MAX - amount {
+                    return Some(DepositFault::Overflow { have });
+                }
+                None
+            }
+            Fun::NonFungible(instance) => match self.owner(&asset.id, instance) {
+                Some(owner) => Some(DepositFault::InstanceExists { owner }),
+                None => None,
+            },
         }
     }
 

@@ -1,9 +1,11 @@
 //! Running sums over all accounts.
-ghost use Rattle.std.specs.Prelude.{◌≡◌, ◌+◌, ◌-◌, ◌^◌, ◌<◌, ◌≤◌, min};
+ghost use Rattle.std.specs.Prelude.{◌≡◌, ℕ, ◌+◌, ◌-◌, ◌^◌, ◌<◌, ◌≤◌, min, length, slice_get, Some, IfOk};
 ghost use Rattle.asset_bundles.specs.Totals.{total_value};
 ghost use Rattle.ledgers.specs.Sums.{sum_value};
+ghost use Rattle.ledgers.specs.declared.sums.Sum.{Sum};
 
 use asset_bundles::Total;
+use std::alloc::{AllocError, Global};
 
 /// A sum of amounts, `high * 2^128 + low`: wide enough for as many accounts as there may be.
 #[derive(Clone, Copy, Debug)]
@@ -69,4 +71,16 @@ impl Sum {
             high: self.high as u32,
         }
     }
+}
+
+/// So many sums of nothing.
+pub(crate) fn zero_sums(alloc: Global, count: usize) -> Result<Vec<Sum>, AllocError>
+    ensures count { IfOk result (λ sums. length sums.items ≡ count) }
+    ensures zero { IfOk result (λ sums. (k : ℕ) (s : Sum) → slice_get sums.items k ≡ Some s → sum_value s ≡ 0) }
+{
+    let mut sums = Vec::with_capacity(alloc, count)?;
+    for _ in 0..count {
+        sums.push(Sum::zero())?;
+    }
+    Ok(sums)
 }
