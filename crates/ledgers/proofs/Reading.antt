@@ -33,10 +33,10 @@ fungible_part held who id =
     total_one holder_keys (λ h. is_account who h && is_in (id, Kind.Fungible) h) held (who, (id, None))
     (and_from _ _ (same_key account_keys who) (is_its_asset (id, Kind.Fungible) (id, None) refl))
     (λ q passes other.
-        let parts = and_parts (is_account who q) (is_in (id, Kind.Fungible) q) passes in
-        let accounts : who ≡ q.0 = key_same account_keys who q.0 parts.0 in
-        let units = no_instance id q.1.0 q.1.1 (asset_is (id, Kind.Fungible) q.1 parts.1) in
-        absurd (true≢false (sym (subst (λ k. eq_by_cmp holder_cmp k (who, (id, None)) ≡ true) (λ i. (accounts i, units i)) (same_key holder_keys (who, (id, None)))) ∙ other)))
+    let parts = and_parts (is_account who q) (is_in (id, Kind.Fungible) q) passes in
+    let accounts : who ≡ q.0 = key_same account_keys who q.0 parts.0 in
+    let units = no_instance id q.1.0 q.1.1 (asset_is (id, Kind.Fungible) q.1 parts.1) in
+    absurd (true≢false (sym (subst (λ k. eq_by_cmp holder_cmp k (who, (id, None)) ≡ true) (λ i. (accounts i, units i)) (same_key holder_keys (who, (id, None)))) ∙ other)))
 
 pub inside : {X : Type 0} (xs : List X) (i : ℕ) (x : X) → slice_get xs i ≡ Some x → i < length xs
 inside [] i x h = absurd (cc)
@@ -73,13 +73,13 @@ module _ (listed : List Listed) (amounts : List (AmountKey × ℕ)) (owners : Li
   pub owner_none : (n : ℕ) (id : AssetId) (i : Instance) → number_in listed (id, Kind.Class) ≡ Some n → owner_at owners (n, i) ≡ None → owners_of (id, Some i) (held_in listed amounts owners) ≡ 0
   owner_none n id i is none =
       total_none holder_keys (λ (h : Holder). eq_by_cmp unit_cmp (id, Some i) h.1) (held_in listed amounts owners) (λ h passes.
-          ap (amount (held_in listed amounts owners)) (same_unit (id, Some i) h passes)
-          ∙ held-instance listed sound.once amounts owners sound.sorted n h.0 id i (number_at listed (id, Kind.Class) n is) ∙ ap (owned h.0) none)
+      ap (amount (held_in listed amounts owners)) (same_unit (id, Some i) h passes)
+      ∙ held-instance listed sound.once amounts owners sound.sorted n h.0 id i (number_at listed (id, Kind.Class) n is) ∙ ap (owned h.0) none)
 
   pub owner_unlisted : (id : AssetId) (i : Instance) → number_in listed (id, Kind.Class) ≡ None → owners_of (id, Some i) (held_in listed amounts owners) ≡ 0
   owner_unlisted id i none =
       total_none holder_keys (λ (h : Holder). eq_by_cmp unit_cmp (id, Some i) h.1) (held_in listed amounts owners) (λ h passes.
-          ap (amount (held_in listed amounts owners)) (same_unit (id, Some i) h passes) ∙ held_listed listed amounts owners sums sound h.0 id (Some i) none)
+      ap (amount (held_in listed amounts owners)) (same_unit (id, Some i) h passes) ∙ held_listed listed amounts owners sums sound h.0 id (Some i) none)
 
   pub owner_is : (n : ℕ) (id : AssetId) (i : Instance) (who : List ℕ) → number_in listed (id, Kind.Class) ≡ Some n → owner_at owners (n, i) ≡ Some who → IsOwner (held_in listed amounts owners) (id, Some i) who
   owner_is n id i who is at =
@@ -90,10 +90,10 @@ module _ (listed : List Listed) (amounts : List (AmountKey × ℕ)) (owners : Li
         has = has;
         alone = total_one holder_keys (λ (h : Holder). eq_by_cmp unit_cmp (id, Some i) h.1) (held_in listed amounts owners) (who, (id, Some i)) (same_key unit_keys (id, Some i))
             (λ h passes other.
-                let account : eq_by_cmp account_cmp h.0 who ≡ false = not_true _ (λ t.
-                    true≢false (sym (subst (λ k. eq_by_cmp holder_cmp k (who, (id, Some i)) ≡ true) (λ j. (sym (key_same account_keys h.0 who t) j, key_same unit_keys (id, Some i) h.1 passes j)) (same_key holder_keys (who, (id, Some i)))) ∙ other)) in
-                ap (amount (held_in listed amounts owners)) (same_unit (id, Some i) h passes)
-                ∙ held-instance listed sound.once amounts owners sound.sorted n h.0 id i place ∙ ap (owned h.0) at ∙ ap (λ b. if b then 1 else 0) account)
+            let account : eq_by_cmp account_cmp h.0 who ≡ false = not_true _ (λ t.
+            true≢false (sym (subst (λ k. eq_by_cmp holder_cmp k (who, (id, Some i)) ≡ true) (λ j. (sym (key_same account_keys h.0 who t) j, key_same unit_keys (id, Some i) h.1 passes j)) (same_key holder_keys (who, (id, Some i)))) ∙ other)) in
+            ap (amount (held_in listed amounts owners)) (same_unit (id, Some i) h passes)
+            ∙ held-instance listed sound.once amounts owners sound.sorted n h.0 id i place ∙ ap (owned h.0) at ∙ ap (λ b. if b then 1 else 0) account)
             ∙ has;
       }
 

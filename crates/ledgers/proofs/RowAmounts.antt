@@ -49,4 +49,3 @@ module _ (listed : List Listed) (once : IsOnce listed) (amounts : List (AmountKe
       → amount (held_in listed amounts owners) (who, (id, Some i)) ≡ 0
   held-no_instance who id i none = past_instances who id i
       ∙ ap (λ o. unwrap_or o 0) (lookup-past_owners listed (who, (id, Some i)) (λ m w other j e h. none m (e ∙ ap (λ x. Some (x, Kind.Class)) (sym (ap (λ (k : Holder). k.1.0) h)))) owners)
-

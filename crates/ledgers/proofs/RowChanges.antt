@@ -94,7 +94,7 @@ module _ (listed : List Listed) (amounts : List (AmountKey × ℕ)) (owners : Li
         ∙ ap (λ v. with_amount (held_in listed amounts owners) (who, (id, None)) (v - a)) (sym (held-fungible listed sound.once amounts owners n who id at))
     taken_held (Fun.NonFungible i) at enough wrote owner =
         held-with_owner listed sound.once amounts more_amounts owners more_owners sound.sorted sorted n who id i (amount (held_in listed amounts owners) (who, (id, Some i)) - 1) None at
-            (λ m w other. wrote (m, w) ∙ elsewhere m w other) owner (means (owner_at owners (n, i)) (held-instance listed sound.once amounts owners sound.sorted n who id i at))
+        (λ m w other. wrote (m, w) ∙ elsewhere m w other) owner (means (owner_at owners (n, i)) (held-instance listed sound.once amounts owners sound.sorted n who id i at))
       where
         elsewhere : (m : ℕ) (w : List ℕ) → (n ≡ m → ⊥) → (if eq_by_cmp amount_key_cmp (n, who) (m, w) then amount_at amounts (n, who) - 1 else amount_at amounts (m, w)) ≡ amount_at amounts (m, w)
         elsewhere m w other = ap (λ b. if b then amount_at amounts (n, who) - 1 else amount_at amounts (m, w)) (apart amount_keys (n, who) (m, w) (λ e. other (ap (λ (k : AmountKey). k.0) e)))
@@ -161,7 +161,7 @@ module _ (listed : List Listed) (amounts : List (AmountKey × ℕ)) (owners : Li
         ∙ ap (λ v. with_amount (held_in listed amounts owners) (who, (id, None)) (v + a)) (sym (held-fungible listed sound.once amounts owners n who id at))
     given_held (Fun.NonFungible i) at may wrote owner =
         held-with_owner listed sound.once amounts more_amounts owners more_owners sound.sorted sorted n who id i (amount (held_in listed amounts owners) (who, (id, Some i)) + 1) (Some who) at
-            (λ m w other. wrote (m, w) ∙ elsewhere m w other) owner means
+        (λ m w other. wrote (m, w) ∙ elsewhere m w other) owner means
       where
         elsewhere : (m : ℕ) (w : List ℕ) → (n ≡ m → ⊥) → (if eq_by_cmp amount_key_cmp (n, who) (m, w) then amount_at amounts (n, who) + 1 else amount_at amounts (m, w)) ≡ amount_at amounts (m, w)
         elsewhere m w other = ap (λ b. if b then amount_at amounts (n, who) + 1 else amount_at amounts (m, w)) (apart amount_keys (n, who) (m, w) (λ e. other (ap (λ (k : AmountKey). k.0) e)))
@@ -220,14 +220,14 @@ module _ (listed : List Listed) (amounts : List (AmountKey × ℕ)) (owners : Li
   held_of_amount a is e =
       let at : (f : Fun) → f ≡ Fun.Fungible a → Some n ≡ number_in listed (listed_of (id, instance_in f)) → amount_at amounts (n, who) ≡ amount (held_in listed amounts owners) (who, (id, instance_in f)) =
       λ f h. subst (λ g. Some n ≡ number_in listed (listed_of (id, instance_in g)) → amount_at amounts (n, who) ≡ amount (held_in listed amounts owners) (who, (id, instance_in g))) (sym h)
-          (λ num. held_fungible listed amounts owners sums sound n who id (sym num)) in
+      (λ num. held_fungible listed amounts owners sums sound n who id (sym num)) in
       at fun e is
 
   pub held_of_instance : (i : Instance) → Some n ≡ number_in listed (listed_of (id, instance_in fun)) → fun ≡ Fun.NonFungible i → owned who (owner_at owners (n, i)) ≡ amount (held_in listed amounts owners) (who, (id, instance_in fun))
   held_of_instance i is e =
       let at : (f : Fun) → f ≡ Fun.NonFungible i → Some n ≡ number_in listed (listed_of (id, instance_in f)) → owned who (owner_at owners (n, i)) ≡ amount (held_in listed amounts owners) (who, (id, instance_in f)) =
       λ f h. subst (λ g. Some n ≡ number_in listed (listed_of (id, instance_in g)) → owned who (owner_at owners (n, i)) ≡ amount (held_in listed amounts owners) (who, (id, instance_in g))) (sym h)
-          (λ num. held_instance listed amounts owners sums sound n who id i (sym num)) in
+      (λ num. held_instance listed amounts owners sums sound n who id i (sym num)) in
       at fun e is
 
 -- the same write, by another name of what is written

@@ -85,15 +85,15 @@ module _ (listed : List Listed) (once : IsOnce listed) (who : List ℕ) (id : As
       → eq_by_cmp holder_cmp (who, (id, None)) (w, (other, None)) ≡ eq_by_cmp amount_key_cmp (n, who) (m, w)
   same_row m w other there = both_ways _ _
       (λ t.
-          let holders = key_same holder_keys (who, (id, None)) (w, (other, None)) t in
-          let ids : id ≡ other = ap (λ (h : Holder). h.1.0) holders in
-          let places : n ≡ m = once.place n m (id, Kind.Fungible) at (there ∙ ap (λ x. Some (x, Kind.Fungible)) (sym ids)) in
-          same_as amount_keys (n, who) (m, w) (λ i. (places i, ap (λ (h : Holder). h.0) holders i)))
+      let holders = key_same holder_keys (who, (id, None)) (w, (other, None)) t in
+      let ids : id ≡ other = ap (λ (h : Holder). h.1.0) holders in
+      let places : n ≡ m = once.place n m (id, Kind.Fungible) at (there ∙ ap (λ x. Some (x, Kind.Fungible)) (sym ids)) in
+      same_as amount_keys (n, who) (m, w) (λ i. (places i, ap (λ (h : Holder). h.0) holders i)))
       (λ t.
-          let keys = key_same amount_keys (n, who) (m, w) t in
-          let here : slice_get listed m ≡ Some (id, Kind.Fungible) = subst (λ k. slice_get listed k ≡ Some (id, Kind.Fungible)) (ap (λ (k : AmountKey). k.0) keys) at in
-          let ids : id ≡ other = same_ids (id, Kind.Fungible) (other, Kind.Fungible) (sym here ∙ there) in
-          same_as holder_keys (who, (id, None)) (w, (other, None)) (λ i. (ap (λ (k : AmountKey). k.1) keys i, (ids i, None))))
+      let keys = key_same amount_keys (n, who) (m, w) t in
+      let here : slice_get listed m ≡ Some (id, Kind.Fungible) = subst (λ k. slice_get listed k ≡ Some (id, Kind.Fungible)) (ap (λ (k : AmountKey). k.0) keys) at in
+      let ids : id ≡ other = same_ids (id, Kind.Fungible) (other, Kind.Fungible) (sym here ∙ there) in
+      same_as holder_keys (who, (id, None)) (w, (other, None)) (λ i. (ap (λ (k : AmountKey). k.1) keys i, (ids i, None))))
 
   other_row : (m : ℕ) (w : List ℕ) → (slice_get listed m ≡ Some (id, Kind.Fungible) → ⊥) → eq_by_cmp amount_key_cmp (n, who) (m, w) ≡ false
   other_row m w none = apart amount_keys (n, who) (m, w) (λ e. none (subst (λ k. slice_get listed k ≡ Some (id, Kind.Fungible)) (ap (λ (k : AmountKey). k.0) e) at))
@@ -111,7 +111,7 @@ module _ (listed : List Listed) (once : IsOnce listed) (who : List ℕ) (id : As
   lookup-amounts (row ∷ rows) rest none =
       let further = lookup-amounts rows rest none in
       elim (slice_get listed row.0.0) as (λ o. slice_get listed row.0.0 ≡ o → lookup (eq_by_cmp holder_cmp (who, (id, None))) (amount_row o row.0.1 row.1 (amount_rows listed rows rest))
-          ≡ (if eq_by_cmp amount_key_cmp (n, who) row.0 then Some row.1 else lookup (eq_by_cmp amount_key_cmp (n, who)) rows)) [
+      ≡ (if eq_by_cmp amount_key_cmp (n, who) row.0 then Some row.1 else lookup (eq_by_cmp amount_key_cmp (n, who)) rows)) [
         | None ↦ λ e. further ∙ sym (passed _ (Some row.1) _ (other_row row.0.0 row.0.1 (λ here. (let two : None ≡ Some (id, Kind.Fungible) = sym e ∙ here in absurd (cc)))))
         | Some asset ↦ λ e. placed row.0.0 row.0.1 row.1 asset.0 asset.1 (amount_rows listed rows rest) _ e further
       ] refl
@@ -189,10 +189,10 @@ module _ (listed : List Listed) (once : IsOnce listed) (who : List ℕ) (id : As
   shown_here w i other more ids instances none =
       let tests : eq_by_cmp holder_cmp (who, (id, Some instance)) (w, (other, Some i)) ≡ eq_by_cmp account_cmp who w =
       both_ways _ _
-          (λ t. same_as account_keys who w (ap (λ (h : Holder). h.0) (key_same holder_keys (who, (id, Some instance)) (w, (other, Some i)) t)))
-          (λ t. same_as holder_keys (who, (id, Some instance)) (w, (other, Some i)) (λ j. (key_same account_keys who w t j, (ids j, Some (instances j))))) in
+      (λ t. same_as account_keys who w (ap (λ (h : Holder). h.0) (key_same holder_keys (who, (id, Some instance)) (w, (other, Some i)) t)))
+      (λ t. same_as holder_keys (who, (id, Some instance)) (w, (other, Some i)) (λ j. (key_same account_keys who w t j, (ids j, Some (instances j))))) in
       elim (eq_by_cmp account_cmp who w) as (λ b. eq_by_cmp holder_cmp (who, (id, Some instance)) (w, (other, Some i)) ≡ b
-          → unwrap_or (if eq_by_cmp holder_cmp (who, (id, Some instance)) (w, (other, Some i)) then Some 1 else lookup (eq_by_cmp holder_cmp (who, (id, Some instance))) more) 0 ≡ (if b then 1 else 0)) [
+      → unwrap_or (if eq_by_cmp holder_cmp (who, (id, Some instance)) (w, (other, Some i)) then Some 1 else lookup (eq_by_cmp holder_cmp (who, (id, Some instance))) more) 0 ≡ (if b then 1 else 0)) [
         | true ↦ λ t. ap (λ b. unwrap_or (if b then Some 1 else lookup (eq_by_cmp holder_cmp (who, (id, Some instance))) more) 0) t
         | false ↦ λ t. ap (λ b. unwrap_or (if b then Some 1 else lookup (eq_by_cmp holder_cmp (who, (id, Some instance))) more) 0) t ∙ none
       ] tests
@@ -204,8 +204,8 @@ module _ (listed : List Listed) (once : IsOnce listed) (who : List ℕ) (id : As
   shown_past w i other more none =
       let test : eq_by_cmp holder_cmp (who, (id, Some instance)) (w, (other, Some i)) ≡ false =
       not_true _ (λ t.
-          let holders = key_same holder_keys (who, (id, Some instance)) (w, (other, Some i)) t in
-          none (ap (λ (h : Holder). h.1.0) holders) (same_instances instance i (ap (λ (h : Holder). h.1.1) holders))) in
+      let holders = key_same holder_keys (who, (id, Some instance)) (w, (other, Some i)) t in
+      none (ap (λ (h : Holder). h.1.0) holders) (same_instances instance i (ap (λ (h : Holder). h.1.1) holders))) in
       ap (λ o. unwrap_or o 0) (passed _ (Some 1) _ test)
 
   -- the row of a class, in front of what is behind it
@@ -216,7 +216,7 @@ module _ (listed : List Listed) (once : IsOnce listed) (who : List ℕ) (id : As
       ≡ owned who (unwrap_or (if eq_by_cmp owner_key_cmp (n, instance) (m, i) then Some owner else lookup (eq_by_cmp owner_key_cmp (n, instance)) rows) None)
   shown_class m i owner other rows e later further =
       elim (eq_by_cmp owner_key_cmp (n, instance) (m, i)) as (λ b. eq_by_cmp owner_key_cmp (n, instance) (m, i) ≡ b → shown (instance_row other Kind.Class i owner (owner_rows listed rows))
-          ≡ owned who (unwrap_or (if b then Some owner else lookup (eq_by_cmp owner_key_cmp (n, instance)) rows) None)) [
+      ≡ owned who (unwrap_or (if b then Some owner else lookup (eq_by_cmp owner_key_cmp (n, instance)) rows) None)) [
         | true ↦ λ t. here owner (key_same owner_keys (n, instance) (m, i) t) (further ∙ ap (λ o. owned who (unwrap_or o None)) (none_behind (m, i) rows later t))
         | false ↦ λ t. past owner t
       ] refl
@@ -251,7 +251,7 @@ module _ (listed : List Listed) (once : IsOnce listed) (who : List ℕ) (id : As
   lookup-owners (row ∷ rows) sorted =
       let further = lookup-owners rows sorted.1 in
       elim (slice_get listed row.0.0) as (λ o. slice_get listed row.0.0 ≡ o → shown (owner_row o row.0.1 row.1 (owner_rows listed rows))
-          ≡ owned who (unwrap_or (if eq_by_cmp owner_key_cmp (n, instance) row.0 then Some row.1 else lookup (eq_by_cmp owner_key_cmp (n, instance)) rows) None)) [
+      ≡ owned who (unwrap_or (if eq_by_cmp owner_key_cmp (n, instance) row.0 then Some row.1 else lookup (eq_by_cmp owner_key_cmp (n, instance)) rows) None)) [
         | None ↦ λ e. further ∙ ap (λ o. owned who (unwrap_or o None)) (sym (passed _ (Some row.1) _ (other_owner_row row.0.0 row.0.1 (λ here. (let two : None ≡ Some (id, Kind.Class) = sym e ∙ here in absurd (cc))))))
         | Some asset ↦ λ e. shown_row row.0.0 row.0.1 row.1 asset.0 asset.1 rows e sorted.0 further
       ] refl

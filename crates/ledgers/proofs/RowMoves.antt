@@ -67,15 +67,15 @@ module _ (listed : List Listed) (once : IsOnce listed)
         → amount (held_in listed more_amounts more_owners) (w, (other, None)) ≡ (if eq_by_cmp holder_cmp (w, (other, None)) (who, (id, None)) then v else amount (held_in listed amounts owners) (w, (other, None)))
     fungible_here w other m there =
         let tests : eq_by_cmp amount_key_cmp (n, who) (m, w) ≡ eq_by_cmp holder_cmp (w, (other, None)) (who, (id, None)) = both_ways _ _
-            (λ t.
-                let keys = key_same amount_keys (n, who) (m, w) t in
-                let here : slice_get listed m ≡ Some (id, Kind.Fungible) = subst (λ k. slice_get listed k ≡ Some (id, Kind.Fungible)) (ap (λ (k : AmountKey). k.0) keys) at in
-                let ids : other ≡ id = same_ids (other, Kind.Fungible) (id, Kind.Fungible) (sym there ∙ here) in
-                same_as holder_keys (w, (other, None)) (who, (id, None)) (λ i. (sym (ap (λ (k : AmountKey). k.1) keys) i, (ids i, None))))
-            (λ t.
-                let holders = key_same holder_keys (w, (other, None)) (who, (id, None)) t in
-                let places : n ≡ m = once.place n m (id, Kind.Fungible) at (there ∙ ap (λ x. Some (x, Kind.Fungible)) (ap (λ (h : Holder). h.1.0) holders)) in
-                same_as amount_keys (n, who) (m, w) (λ i. (places i, sym (ap (λ (h : Holder). h.0) holders) i))) in
+        (λ t.
+        let keys = key_same amount_keys (n, who) (m, w) t in
+        let here : slice_get listed m ≡ Some (id, Kind.Fungible) = subst (λ k. slice_get listed k ≡ Some (id, Kind.Fungible)) (ap (λ (k : AmountKey). k.0) keys) at in
+        let ids : other ≡ id = same_ids (other, Kind.Fungible) (id, Kind.Fungible) (sym there ∙ here) in
+        same_as holder_keys (w, (other, None)) (who, (id, None)) (λ i. (sym (ap (λ (k : AmountKey). k.1) keys) i, (ids i, None))))
+        (λ t.
+        let holders = key_same holder_keys (w, (other, None)) (who, (id, None)) t in
+        let places : n ≡ m = once.place n m (id, Kind.Fungible) at (there ∙ ap (λ x. Some (x, Kind.Fungible)) (ap (λ (h : Holder). h.1.0) holders)) in
+        same_as amount_keys (n, who) (m, w) (λ i. (places i, sym (ap (λ (h : Holder). h.0) holders) i))) in
         held-fungible listed once more_amounts more_owners m w other there ∙ wrote (m, w)
         ∙ (λ i. if tests i then v else sym (held-fungible listed once amounts owners m w other there) i)
 
@@ -89,7 +89,7 @@ module _ (listed : List Listed) (once : IsOnce listed)
         → amount (held_in listed more_amounts more_owners) (w, (other, x)) ≡ (if eq_by_cmp holder_cmp (w, (other, x)) (who, (id, None)) then v else amount (held_in listed amounts owners) (w, (other, x)))
     fungible_at w other None =
         elim (number_in listed (other, Kind.Fungible)) as (λ o. number_in listed (other, Kind.Fungible) ≡ o
-            → amount (held_in listed more_amounts more_owners) (w, (other, None)) ≡ (if eq_by_cmp holder_cmp (w, (other, None)) (who, (id, None)) then v else amount (held_in listed amounts owners) (w, (other, None)))) [
+        → amount (held_in listed more_amounts more_owners) (w, (other, None)) ≡ (if eq_by_cmp holder_cmp (w, (other, None)) (who, (id, None)) then v else amount (held_in listed amounts owners) (w, (other, None)))) [
           | None ↦ λ e. fungible_nowhere w other (no_number listed (other, Kind.Fungible) e)
           | Some m ↦ λ e. fungible_here w other m (number_at listed (other, Kind.Fungible) m e)
         ] refl
@@ -110,20 +110,20 @@ module _ (listed : List Listed) (once : IsOnce listed)
     instance_here w other j m there =
         held-instance listed once more_amounts more_owners more_sorted m w other j there ∙ ap (owned w) (wrote (m, j))
         ∙ elim (eq_by_cmp owner_key_cmp (n, i) (m, j)) as (λ b. eq_by_cmp owner_key_cmp (n, i) (m, j) ≡ b
-            → owned w (if b then owner else owner_at owners (m, j)) ≡ (if eq_by_cmp holder_cmp (w, (other, Some j)) (who, (id, Some i)) then v else amount (held_in listed amounts owners) (w, (other, Some j)))) [
+        → owned w (if b then owner else owner_at owners (m, j)) ≡ (if eq_by_cmp holder_cmp (w, (other, Some j)) (who, (id, Some i)) then v else amount (held_in listed amounts owners) (w, (other, Some j)))) [
           | true ↦ λ t.
               let keys = key_same owner_keys (n, i) (m, j) t in
               let here : slice_get listed m ≡ Some (id, Kind.Class) = subst (λ k. slice_get listed k ≡ Some (id, Kind.Class)) (ap (λ (k : OwnerKey). k.0) keys) at in
               let ids : other ≡ id = same_ids (other, Kind.Class) (id, Kind.Class) (sym there ∙ here) in
               let tests : eq_by_cmp account_cmp w who ≡ eq_by_cmp holder_cmp (w, (other, Some j)) (who, (id, Some i)) = both_ways _ _
-                  (λ s. same_as holder_keys (w, (other, Some j)) (who, (id, Some i)) (λ k. (key_same account_keys w who s k, (ids k, Some (sym (ap (λ (x : OwnerKey). x.1) keys) k)))))
-                  (λ s. same_as account_keys w who (ap (λ (h : Holder). h.0) (key_same holder_keys (w, (other, Some j)) (who, (id, Some i)) s))) in
+              (λ s. same_as holder_keys (w, (other, Some j)) (who, (id, Some i)) (λ k. (key_same account_keys w who s k, (ids k, Some (sym (ap (λ (x : OwnerKey). x.1) keys) k)))))
+              (λ s. same_as account_keys w who (ap (λ (h : Holder). h.0) (key_same holder_keys (w, (other, Some j)) (who, (id, Some i)) s))) in
               means w ∙ (λ k. if tests k then v else (ap (λ x. owned w (owner_at owners x)) keys ∙ sym (held-instance listed once amounts owners sorted m w other j there)) k)
           | false ↦ λ t.
               let test = apart holder_keys (w, (other, Some j)) (who, (id, Some i)) (λ h.
-                  let places : n ≡ m = once.place n m (id, Kind.Class) at (there ∙ ap (λ x. Some (x, Kind.Class)) (ap (λ (k : Holder). k.1.0) h)) in
-                  let instances : j ≡ i = same_instances j i (ap (λ (k : Holder). k.1.1) h) in
-                  true≢false (sym (same_as owner_keys (n, i) (m, j) (λ k. (places k, sym instances k))) ∙ t)) in
+              let places : n ≡ m = once.place n m (id, Kind.Class) at (there ∙ ap (λ x. Some (x, Kind.Class)) (ap (λ (k : Holder). k.1.0) h)) in
+              let instances : j ≡ i = same_instances j i (ap (λ (k : Holder). k.1.1) h) in
+              true≢false (sym (same_as owner_keys (n, i) (m, j) (λ k. (places k, sym instances k))) ∙ t)) in
               sym (held-instance listed once amounts owners sorted m w other j there) ∙ sym (if_false _ v _ test)
         ] refl
 
@@ -141,7 +141,7 @@ module _ (listed : List Listed) (once : IsOnce listed)
         ∙ sym (if_false _ v _ test)
     instance_at w other (Some j) =
         elim (number_in listed (other, Kind.Class)) as (λ o. number_in listed (other, Kind.Class) ≡ o
-            → amount (held_in listed more_amounts more_owners) (w, (other, Some j)) ≡ (if eq_by_cmp holder_cmp (w, (other, Some j)) (who, (id, Some i)) then v else amount (held_in listed amounts owners) (w, (other, Some j)))) [
+        → amount (held_in listed more_amounts more_owners) (w, (other, Some j)) ≡ (if eq_by_cmp holder_cmp (w, (other, Some j)) (who, (id, Some i)) then v else amount (held_in listed amounts owners) (w, (other, Some j)))) [
           | None ↦ λ e. instance_nowhere w other j (no_number listed (other, Kind.Class) e)
           | Some m ↦ λ e. instance_here w other j m (number_at listed (other, Kind.Class) m e)
         ] refl

@@ -68,12 +68,12 @@ module _ (listed : List Listed) (once : IsOnce listed) (n : ℕ) (who : List ℕ
   same_holding : (m : ℕ) (w : List ℕ) (asset : Listed) → slice_get listed m ≡ Some asset → (is_account w (who, unit) && is_in asset (who, unit)) ≡ eq_by_cmp amount_key_cmp (n, who) (m, w)
   same_holding m w asset there = both_ways _ _
       (λ t.
-          let parts = and_parts (eq_by_cmp account_cmp w who) (is_asset asset.0 asset.1 unit) t in
-          let places : n ≡ m = key_same number_keys n m (sym (same_place m asset there) ∙ parts.1) in
-          same_as amount_keys (n, who) (m, w) (λ i. (places i, sym (key_same account_keys w who parts.0) i)))
+      let parts = and_parts (eq_by_cmp account_cmp w who) (is_asset asset.0 asset.1 unit) t in
+      let places : n ≡ m = key_same number_keys n m (sym (same_place m asset there) ∙ parts.1) in
+      same_as amount_keys (n, who) (m, w) (λ i. (places i, sym (key_same account_keys w who parts.0) i)))
       (λ t.
-          let keys = key_same amount_keys (n, who) (m, w) t in
-          and_from _ _ (same_as account_keys w who (sym (ap (λ (k : AmountKey). k.1) keys))) (same_place m asset there ∙ same_as number_keys n m (ap (λ (k : AmountKey). k.0) keys)))
+      let keys = key_same amount_keys (n, who) (m, w) t in
+      and_from _ _ (same_as account_keys w who (sym (ap (λ (k : AmountKey). k.1) keys))) (same_place m asset there ∙ same_as number_keys n m (ap (λ (k : AmountKey). k.0) keys)))
 
 if_moved : (b : Bool) (row next part more v had : ℕ) → row ≡ part → next + had ≡ row + v → more + amount_if b had ≡ part + amount_if b v → (if b then next else row) ≡ more
 if_moved true row next part more v had e f g = omega (arith, e, f, g)
@@ -140,7 +140,7 @@ still_sound listed amounts more_amounts owners more_owners sums n who unit v nex
         if_here : (b : Bool) → eq_by_cmp amount_key_cmp (n, who) (m, w) ≡ b → eq_by_cmp amount_key_cmp (n, who) (m, w) ≡ (is_account w (who, unit) && is_in (id, Kind.Class) (who, unit))
             → amount_at amounts (m, w) ≡ part_of w (id, Kind.Class) (held_in listed amounts owners)
             → part_of w (id, Kind.Class) (held_in listed more_amounts more_owners) + amount_if (is_account w (who, unit) && is_in (id, Kind.Class) (who, unit)) (amount (held_in listed amounts owners) (who, unit))
-              ≡ part_of w (id, Kind.Class) (held_in listed amounts owners) + amount_if (is_account w (who, unit) && is_in (id, Kind.Class) (who, unit)) v
+            ≡ part_of w (id, Kind.Class) (held_in listed amounts owners) + amount_if (is_account w (who, unit) && is_in (id, Kind.Class) (who, unit)) v
             → (if b then next else amount_at amounts (m, w)) ≡ part_of w (id, Kind.Class) (held_in listed more_amounts more_owners)
         if_here true e same count whole =
             let passes : (is_account w (who, unit) && is_in (id, Kind.Class) (who, unit)) ≡ true = sym same ∙ e in

@@ -37,6 +37,7 @@ not_concrete (x ∷ xs) zero bytes kind at = clash (Concrete x.id) (ap (λ (o : 
     id_of : Option Listed → AssetId
     id_of None = Abstract bytes
     id_of (Some k) = k.0
+
     clash : (a : AssetId) → ◌≡◌ {A = AssetId} (Concrete x.id) (Abstract bytes) → ⊥
     clash a e = absurd (cc)
 not_concrete (x ∷ xs) (suc n) bytes kind at = not_concrete xs n bytes kind at

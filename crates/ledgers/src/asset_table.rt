@@ -35,10 +35,7 @@ impl Model for AssetTable {
 
 impl AssetTable {
     /// The table of these assets, of which none is there twice.
-    pub(crate) fn open(
-        alloc: Global,
-        list: Vec<(Location, Kind)>,
-    ) -> Result<AssetTable, AllocError>
+    pub(crate) fn open(alloc: Global, list: Vec<(Location, Kind)>) -> Result<AssetTable, AllocError>
         requires { IsDistinct (eq_by_cmp listed_cmp) (map listed_row list.items) }
         ensures { IfOk result (λ table. table ≡ map listed_row list.items) }
     {

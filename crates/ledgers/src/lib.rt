@@ -23,4 +23,6 @@ pub use store::{TrapStore, Unknown};
 pub use trap::Trap;
 
 #[cfg(test)]
+mod ledger_tests;
+#[cfg(test)]
 mod tests;

@@ -38,24 +38,13 @@ pub(crate) fn owned(owner: Option<[u8; 32]>, who: &[u8; 32]) -> u128
     ensures { result ≡ owned who.now owner }
 {
     match owner {
-        Some(owner) => {
-            if who.cmp(&owner).is_eq() {
-                1
-            } else {
-                0
-            }
-        }
+        Some(owner) => { if who.cmp(&owner).is_eq() { 1 } else { 0 } }
         None => 0,
     }
 }
 
 /// Writes who owns the instance of an asset.
-pub(crate) fn set_owner(
-    rows: &mut OwnerRows,
-    number: u32,
-    asset: &Asset,
-    owner: Option<[u8; 32]>,
-)
+pub(crate) fn set_owner(rows: &mut OwnerRows, number: u32, asset: &Asset, owner: Option<[u8; 32]>)
     requires { HasInstanceRow rows.old.entries number (instance_in asset.now.fun) }
     ensures wrote { OwnerIs (instance_in asset.now.fun) number owner rows.old.entries rows.new.entries }
     ensures stay { (q : OwnerKey) → HasOwnerRow rows.old.entries q → HasOwnerRow rows.new.entries q }
@@ -79,7 +68,11 @@ pub(crate) fn sweep_instance(rows: &mut OwnerRows, number: u32, asset: &Asset)
 }
 
 /// Makes the row of an instance where there is none.
-pub(crate) fn make_instance_row(rows: &mut OwnerRows, number: u32, asset: &Asset) -> Result<(), AllocError>
+pub(crate) fn make_instance_row(
+    rows: &mut OwnerRows,
+    number: u32,
+    asset: &Asset,
+) -> Result<(), AllocError>
     ensures same { (q : OwnerKey) → owner_at rows.new.entries q ≡ owner_at rows.old.entries q }
     ensures stay { (q : OwnerKey) → HasOwnerRow rows.old.entries q → HasOwnerRow rows.new.entries q }
     ensures made { OnOk result (HasInstanceRow rows.new.entries number (instance_in asset.now.fun)) }

@@ -1,11 +1,11 @@
 //! What the rows of a ledger say, and how an asset goes into an account or out of it.
+use crate::DepositFault;
 use crate::row_moves::{
     amount_of, kind_of, lower_sum, make_instance_row, owned, raise_sum, set_owner, sweep_instance,
 };
 use crate::row_writes::{amount_in, make_amount_row, owner_in, sweep_amount, write_amount};
 use crate::rows::Rows;
 use crate::sums::Sum;
-use crate::DepositFault;
 use asset_lists::{Asset, AssetId, Fun, Instance, Kind};
 use std::alloc::AllocError;
 

@@ -42,10 +42,10 @@ set_owner-requires c =
 
 pub lower_sum-requires-clause-enough : goal.lower_sum-requires-clause-enough
 lower_sum-requires-clause-enough c = λ s was. (
-  let r = c.args.self.now in
-  let at = number_at r.assets (listed_of (c.args.asset.now.id, instance_in c.args.asset.now.fun)) c.in-Some.number (sym c.in-Some.ensures) in
-  let most = sum_at_least r.assets r.amounts.entries r.owners.entries r.sums.items c.requires.sound c.in-Some.number c.args.who.now (c.args.asset.now.id, instance_in c.args.asset.now.fun) s at was in
-  omega (arith, most, c.requires.enough, c.amount_of-amount.ensures))
+    let r = c.args.self.now in
+    let at = number_at r.assets (listed_of (c.args.asset.now.id, instance_in c.args.asset.now.fun)) c.in-Some.number (sym c.in-Some.ensures) in
+    let most = sum_at_least r.assets r.amounts.entries r.owners.entries r.sums.items c.requires.sound c.in-Some.number c.args.who.now (c.args.asset.now.id, instance_in c.args.asset.now.fun) s at was in
+    omega (arith, most, c.requires.enough, c.amount_of-amount.ensures))
 
 pub returns : goal.returns
 returns c =
@@ -53,8 +53,8 @@ returns c =
     let a = c.args.asset.now in
     let sum = c.lower_sum.ensures in
     let whole = taken r.assets r.amounts.entries r.owners.entries r.sums.items c.requires.sound c.write_amount.new.rows.entries c.set_owner.new.rows.entries
-        (c.set_owner.ensures.sorted c.requires.sound.sorted) c.in-Some.number c.args.who.now a.id a.fun (sym c.in-Some.ensures) c.requires.enough
-        (wrote_as r.amounts.entries c.write_amount.new.rows.entries (c.in-Some.number, c.args.who.now) _ _ (λ i. c.amount_in-have.ensures i - c.amount_of-amount.ensures i) c.write_amount.ensures.wrote)
-        c.set_owner.ensures.wrote (c.write_amount.ensures.small c.requires.sound.small)
-        c.lower_sum.new.sums.items (sum.0, sum.1, sum.2, sum.3 ∙ ap (λ n. sum_value sum.0 - n) c.amount_of-amount.ensures) in
+    (c.set_owner.ensures.sorted c.requires.sound.sorted) c.in-Some.number c.args.who.now a.id a.fun (sym c.in-Some.ensures) c.requires.enough
+    (wrote_as r.amounts.entries c.write_amount.new.rows.entries (c.in-Some.number, c.args.who.now) _ _ (λ i. c.amount_in-have.ensures i - c.amount_of-amount.ensures i) c.write_amount.ensures.wrote)
+    c.set_owner.ensures.wrote (c.write_amount.ensures.small c.requires.sound.small)
+    c.lower_sum.new.sums.items (sum.0, sum.1, sum.2, sum.3 ∙ ap (λ n. sum_value sum.0 - n) c.amount_of-amount.ensures) in
     record { sound = whole.1; stay = record { assets = refl; amounts = c.write_amount.ensures.stay; owners = c.set_owner.ensures.stay }; held = whole.0 }
