@@ -15,3 +15,5 @@ pub mod AccountMoves
 pub mod Totals
 pub mod Reading
 pub mod Opening
+pub mod Transferring
+pub mod LedgerLaws

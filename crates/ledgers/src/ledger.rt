@@ -8,14 +8,14 @@ ghost use Rattle.asset_bundles.specs.Bundles.{bundle_of, held_assets};
 ghost use Rattle.asset_bundles.specs.Books.{Listed, listed_cmp};
 ghost use Rattle.asset_bundles.specs.Totals.{total_value};
 ghost use Rattle.ledgers.specs.Sums.{sum_value};
-ghost use Rattle.ledgers.specs.Ledgers.{listed_row, number_in, AreListed, sum_of, part_of, owners_of, IsOwner, shortage, barred, Withdrawn, Deposited};
-ghost use Rattle.ledgers.specs.LedgerFaults.{IsLedgerFault, IsDepositFault};
+ghost use Rattle.ledgers.specs.Ledgers.{listed_row, number_in, AreListed, sum_of, part_of, owners_of, IsOwner, shortage, overflow, barred, Withdrawn, Deposited, Transferred};
+ghost use Rattle.ledgers.specs.LedgerFaults.{IsLedgerFault, IsDepositFault, IsTransferFault};
 
 use crate::asset_table::AssetTable;
-use crate::list_moves::{barred, give_all, make_all_room, shortage, sweep_all, take_all};
+use crate::list_moves::{barred, give_all, make_all_room, overflow, shortage, sweep_all, take_all};
 use crate::rows::Rows;
 use crate::sums::{Sum, zero_sums};
-use crate::{DepositFault, LedgerFault};
+use crate::{DepositFault, LedgerFault, TransferFault};
 use asset_bundles::{AssetBundle, Total};
 use asset_lists::{AssetId, Assets, Instance, Kind};
 use locations::Location;
@@ -161,6 +161,42 @@ impl Ledger {
         }
         give_all(&mut self.rows, who, assets.as_slice());
         goods.melt();
+        Ok(())
+    }
+
+    /// Moves the listed assets from one account to another: all of them, or none. It is the withdrawal and
+    /// then the deposit, as one change.
+    pub fn transfer(
+        &mut self,
+        from: &[u8; 32],
+        to: &[u8; 32],
+        list: &Assets,
+    ) -> Result<(), TransferFault>
+        ensures { MatchResult result
+            (λ _. (shortage self.old.held from.now list.now ≡ None)
+            × (overflow (Withdrawn from.now list.now self.old).held to.now list.now ≡ None)
+            × (self.new ≡ Transferred from.now to.now list.now self.old))
+            (λ fault. IsTransferFault self.old from.now to.now list.now fault × (self.new ≡ self.old)) }
+    {
+        let assets = list.items();
+        match shortage(&self.rows, from, assets) {
+            Some(have) => return Err(TransferFault::NotEnough { have }),
+            None => {}
+        }
+        if from.cmp(to).is_eq() {
+            return Ok(());
+        }
+        match overflow(&self.rows, to, assets) {
+            Some(have) => return Err(TransferFault::Overflow { have }),
+            None => {}
+        }
+        match make_all_room(&mut self.rows, to, assets) {
+            Ok(()) => {}
+            Err(_) => return Err(TransferFault::Memory),
+        }
+        take_all(&mut self.rows, from, assets);
+        give_all(&mut self.rows, to, assets);
+        sweep_all(&mut self.rows, from, assets);
         Ok(())
     }
 }

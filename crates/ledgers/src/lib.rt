@@ -14,12 +14,14 @@ mod row_writes;
 mod rows;
 mod store;
 mod sums;
+mod supply;
 mod trap;
 
 pub use faults::{DepositFault, LedgerFault, TransferFault};
-pub use laws::law_of_traps;
+pub use laws::{law_of_ledgers, law_of_traps};
 pub use ledger::Ledger;
 pub use store::{TrapStore, Unknown};
+pub use supply::{Backing, Supply};
 pub use trap::Trap;
 
 #[cfg(test)]

@@ -5,7 +5,7 @@ ghost use Rattle.amounts.specs.Amounts.{plus_all, minus_all};
 ghost use Rattle.asset_lists.specs.Units.{unit_of};
 ghost use Rattle.asset_lists.specs.Lists.{has_zero, is_rising};
 ghost use Rattle.asset_bundles.specs.Books.{listed_of, lists};
-ghost use Rattle.ledgers.specs.Ledgers.{shortage, barred};
+ghost use Rattle.ledgers.specs.Ledgers.{shortage, overflow, barred};
 ghost use Rattle.ledgers.specs.LedgerFaults.{IsBarred};
 ghost use Rattle.ledgers.specs.RowState.{rows_held, AreSound, KeepsRows};
 ghost use Rattle.ledgers.specs.AccountRows.{account_rows, HasAll, MayTakeAll, HasAllRoom};
@@ -24,6 +24,20 @@ pub(crate) fn shortage(rows: &Rows, who: &[u8; 32], list: &[Asset]) -> Option<u1
     for asset in list {
         let have = rows.held(who, asset);
         if have < amount_of(asset) {
+            return Some(have);
+        }
+    }
+    None
+}
+
+/// What the account has of the first asset of which it would have more than 2^128-1.
+pub(crate) fn overflow(rows: &Rows, who: &[u8; 32], list: &[Asset]) -> Option<u128>
+    requires { AreSound rows.now }
+    ensures { result ≡ overflow (rows_held rows.now) who.now list.now }
+{
+    for asset in list {
+        let have = rows.held(who, asset);
+        if have > u128::MAX - amount_of(asset) {
             return Some(have);
         }
     }
