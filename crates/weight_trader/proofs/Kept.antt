@@ -1,10 +1,10 @@
 -- Weights by one layer of an instruction, with the handler or appendix in it.
-use Rattle.std.proofs.Common.{◌≡◌, ℕ, ◌+◌, ◌*◌, ◌^◌, ◌<◌, ◌≤◌, List, [], ◌∷◌, length, map, get_or, drop, Option, Some, None, refl, sym, ap, ◌∙◌, add-one, arith, drop-cons}
+use Rattle.std.proofs.Common.{◌≡◌, ℕ, ◌+◌, ◌*◌, ◌^◌, ◌<◌, ◌≤◌, List, length, map, get_or, drop, Option, Some, None, refl, ap, ◌∙◌, add-one, arith, drop-cons}
 use Rattle.std.specs.Option.{option_map}
 use Rattle.message_parts.specs.declared.weight.Weight.{Weight}
 use Rattle.xcm_program.specs.declared.instruction.Instruction.{Instruction, out-Instruction, fold-Instruction, fold_out-Instruction, map-Instruction}
 use Rattle.xcm_program.specs.declared.instruction.Instruction.TheOpen.{Instruction-F}
-use Rattle.xcm_program.specs.Measure.{inner, total, sum_inside, count_one, count_of}
+use Rattle.xcm_program.specs.Measure.{inner, total, sum_inside, count_of}
 use Rattle.xcm_program.specs.Weights.{kept, required, kept_one, kept_count, weight_one, weight_in}
 use Rattle.weight_trader.specs.Sums.{IsSum}
 use Rattle.xcm_program.proofs.Layers.{count_inside, count_one-is, count-one-at}

@@ -1,5 +1,4 @@
 use Rattle.std.proofs.Common.{Some, None, arith, sym, subst}
-use Rattle.xcm_program.proofs.Layers.{count-at}
 use Rattle.weight_trader.specs.declared.weighing.Sums.{Sums}
 use Rattle.weight_trader.proofs.Kept.{IsSumInside, Inside, inside_some, inside_none, count-kept, sum_fits, sum_more}
 use Rattle.weight_trader.proofs.weighing.+sum_up.Goals as goal
