@@ -1,0 +1,9 @@
+//! The barriers of a chain: which programs are let in.
+#![tactic(auto)]
+
+mod barrier;
+mod paid;
+
+pub use barrier::{Barrier, Origins, allow};
+pub use message_parts::{OpenQuery, Weight};
+pub use xcm_program::Program;
