@@ -117,7 +117,11 @@ abbrev pub left_by : Weight → List Instruction → Barrier → List Instructio
 left_by weight program Paid = with_purchase weight program
 left_by weight program _ = program
 
--- the answer of the chain's barriers, and the program after it: the first that allows decides, and where none does the program stays
+-- the answer by the barrier that decides, where there is one, and the program after it
+abbrev pub decided : Weight → List Instruction → Option Barrier → Bool × List Instruction
+decided weight program None = (false, program)
+decided weight program (Some barrier) = (true, left_by weight program barrier)
+
+-- the first barrier of the chain that allows decides
 abbrev pub admission : Location → Weight → Weight → List OpenQuery → List Barrier → List Instruction → Bool × List Instruction
-admission origin weight credit queries list program =
-    option_map_or (λ barrier. (true, left_by weight program barrier)) (find (allows origin weight credit queries program) list) (false, program)
+admission origin weight credit queries list program = decided weight program (find (allows origin weight credit queries program) list)

@@ -1,4 +1,4 @@
-use Rattle.barriers.proofs.Deciding.{paid-some}
+use Rattle.barriers.proofs.Purchases.{paid-some}
 use Rattle.barriers.proofs.barrier.pays.Goals as goal
 
 pub returns-in-Some-clause-answer : goal.returns-in-Some-clause-answer
