@@ -1,18 +1,15 @@
 -- The paid barrier's purchase: where one is found, and its limit set by two replacements.
-use Rattle.std.proofs.Common.{◌≡◌, ℕ, suc, ◌+◌, ◌<◌, Bool, true, false, cond, List, [], ◌∷◌, length, get_or, drop, Option, Some, None, refl, sym, ap, ◌∙◌, add-one, arith, drop-cons}
+use Rattle.std.proofs.Common.{◌≡◌, ℕ, true, List, Some, None, sym, ap, ◌∙◌}
 use Rattle.std.proofs.Math.ListN.{set}
 use Rattle.std.proofs.lemmas.List.{set-set}
 use Rattle.std.proofs.lemmas.Option.{cond_some}
 use Rattle.std.specs.Bool.{if◌then◌else◌}
-use Rattle.std.specs.List.{find, slice_get}
+use Rattle.std.specs.List.{slice_get}
 use Rattle.std.specs.Option.{option_map_or}
-use Rattle.locations.specs.declared.relative.Location.{Location}
-use Rattle.message_parts.specs.declared.query.OpenQuery.{OpenQuery}
 use Rattle.message_parts.specs.declared.weight.Weight.{Weight}
 use Rattle.message_parts.specs.declared.weight.WeightLimit.{WeightLimit}
 use Rattle.xcm_program.specs.declared.instruction.Instruction.{Instruction, out-Instruction, roll-Instruction, roll-out-Instruction}
-use Rattle.barriers.specs.declared.barrier.Barrier.{Barrier}
-use Rattle.barriers.specs.Barriers.{is_paid, purchase_index, with_limit, limited, with_limit_at, allows, left_by, admission}
+use Rattle.barriers.specs.Barriers.{is_paid, purchase_index, with_limit, limited, with_limit_at}
 
 -- the instruction with its new limit, put in the place of the old one
 pub limit_set : (limit : WeightLimit) (p : List Instruction) (k : ℕ) (old between new : Instruction) → Some old ≡ slice_get p k → out-Instruction new ≡ with_limit limit (out-Instruction old)

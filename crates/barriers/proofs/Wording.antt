@@ -1,8 +1,8 @@
 -- The tests of barriers in words, and what an answer leaves of the program.
-use Rattle.std.proofs.Common.{◌≡◌, ◌≢◌, ℕ, zero, suc, ◌+◌, ◌<◌, ◌≤◌, ◌⊎◌, inl, inr, Bool, true, false, cond, ◌&&◌, ◌||◌, IsTrue, IsFalse, Decides, List, [], ◌∷◌, ◌++◌, length, get_or, drop, Option, Some, None, refl, sym, ap, subst, ◌∙◌, leb, arith, length-set, get_or-set_same}
+use Rattle.std.proofs.Common.{◌≡◌, ◌≢◌, ℕ, zero, suc, ◌<◌, ◌≤◌, ◌⊎◌, inl, inr, Bool, true, false, cond, ◌||◌, IsTrue, IsFalse, Decides, List, [], ◌∷◌, ◌++◌, length, get_or, Option, Some, None, refl, sym, ap, subst, ◌∙◌, leb, arith, length-set, get_or-set_same}
 use Rattle.std.proofs.Math.ListN.{set}
 use Rattle.std.proofs.lemmas.Bool.{leb-true, le-leb}
-use Rattle.std.proofs.lemmas.Bool.Decides.{Decides-and, Decides-eqb, Decides-like}
+use Rattle.std.proofs.lemmas.Bool.Decides.{Decides-and, Decides-eqb}
 use Rattle.std.proofs.lemmas.List.Folds.{Any-from_list_any, list_any-from_Any}
 use Rattle.std.proofs.lemmas.List.Sums.{prefix_len_is, prefix_len_passes, prefix_len-le-length}
 use Rattle.std.proofs.lemmas.Option.{same_Some, slice_get_within, slice_get-get_or, get_or_from_slice_get}
@@ -16,11 +16,11 @@ use Rattle.message_parts.specs.declared.query.OpenQuery.{OpenQuery}
 use Rattle.message_parts.specs.declared.weight.Weight.{Weight}
 use Rattle.message_parts.specs.declared.weight.WeightLimit.{WeightLimit}
 use Rattle.message_parts.specs.declared.weight.WeightLimit.TheVariants.{Unlimited, Limited}
-use Rattle.xcm_program.specs.declared.instruction.Instruction.{Instruction, out-Instruction, roll-Instruction, out-roll-Instruction}
+use Rattle.xcm_program.specs.declared.instruction.Instruction.{Instruction, out-Instruction, out-roll-Instruction}
 use Rattle.xcm_program.specs.declared.instruction.Instruction.TheOpen.{Instruction-F}
 use Rattle.barriers.specs.declared.barrier.Barrier.{Barrier}
 use Rattle.barriers.specs.declared.barrier.Barrier.TheVariants.{Credit, Paid, Explicit, Unpaid, Responses}
-use Rattle.barriers.specs.Barriers.{is_within, fits, is_listed, holds_at, brings_few, clears_origin, buys, leading_clears, purchase_index, is_paid, with_limit, limited, with_limit_at, with_purchase, asks_unpaid, is_query, is_open, responds, is_response, allows, left_by, decided, admission}
+use Rattle.barriers.specs.Barriers.{is_within, fits, is_listed, brings_few, clears_origin, buys, purchase_index, is_paid, with_limit, limited, with_limit_at, asks_unpaid, is_query, responds, is_response, allows, left_by, decided, admission}
 use Rattle.barriers.specs.Meaning.{IsWithin, Fits, HoldsAt, BringsFew, ClearsOrigin, Buys, PaysAt, AsksUnpaid, IsQuery, Responds, Allows, IsLimited, SetsLimit, Leaves}
 
 -- ---- tests in words

@@ -1,5 +1,5 @@
 -- What the tests of `Barriers` say, in words.
-use Rattle.std.specs.Prelude.{◌≡◌, ◌≢◌, ◌<◌, ◌≤◌, ◌⊎◌, ℕ, ⊤, List, [], ◌∷◌, length, slice_get, IsSomeAnd, Any, Contains}
+use Rattle.std.specs.Prelude.{◌≡◌, ◌≢◌, ◌<◌, ◌≤◌, ℕ, ⊤, List, length, slice_get, IsSomeAnd, Any, Contains}
 use Rattle.locations.specs.declared.relative.Location.{Location}
 use Rattle.asset_lists.specs.declared.units.Asset.{Asset}
 use Rattle.message_parts.specs.declared.query.OpenQuery.{OpenQuery}
