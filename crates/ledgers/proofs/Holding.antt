@@ -17,7 +17,7 @@ instance_back : (o : Option Instance) (n : ℕ) → instance_in (fun_of o n) ≡
 instance_back None n = refl
 instance_back (Some instance) n = refl
 
-unit_back : (r : Unit × ℕ) → unit_of (record { id = r.0.0; fun = fun_of r.0.1 r.1 }) ≡ r.0
+pub unit_back : (r : Unit × ℕ) → unit_of (record { id = r.0.0; fun = fun_of r.0.1 r.1 }) ≡ r.0
 unit_back r = ap (λ o. (r.0.0, o)) (instance_back r.0.1 r.1)
 
 rises : (rs : List (Unit × ℕ)) → IsStrictlySortedBy unit_cmp (keys_of rs) → is_rising (assets_at rs) ≡ true
@@ -41,6 +41,10 @@ not_zero (Some instance) n h = refl
 none_zero : (rs : List (Unit × ℕ)) → IsPositive rs → has_zero (assets_at rs) ≡ false
 none_zero [] positive = refl
 none_zero (r ∷ rs) positive = ap (λ b. b || has_zero (assets_at rs)) (not_zero r.0.1 r.1 positive.0) ∙ none_zero rs positive.1
+
+pub held_rises : (b : Bundle) → is_rising (held_assets b) ≡ true
+unfolding held_assets
+held_rises b = rises (rows b) (keys_rising unit_cmp (rows b) (rows_sorted b))
 
 pub held_once : (b : Bundle) (u : Unit) → count_of u (held_assets b) ≤ 1
 unfolding held_assets

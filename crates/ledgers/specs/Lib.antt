@@ -1,1 +1,11 @@
 pub mod Traps
+pub mod Ledgers
+pub mod AssetHash
+pub mod AssetTable
+pub mod AssetKeys
+pub mod Sums
+pub mod LedgerRows
+pub mod RowState
+pub mod AccountRows
+pub mod LedgerFaults
+pub mod LedgerCode

@@ -1,0 +1,42 @@
+-- The numbers of listed assets: places in a list in which nothing stands twice.
+use Rattle.std.proofs.Common.{◌≡◌, ℕ, zero, suc, ◌+◌, ◌<◌, ◌≤◌, Bool, true, false, not, cond, List, [], ◌∷◌, length, get_or, refl, sym, ap, ◌∙◌, subst, arith, true≢false, inl, inr, ◌⊎◌}
+use Rattle.std.specs.Prelude.{Option, None, Some, unwrap_or, slice_get, nat_lt}
+use Rattle.std.specs.Ordering.{eq_by_cmp}
+use Rattle.std.specs.List.{position, position_or_len, prefix_len, IsDistinct, AllByRecursion}
+use Rattle.std.proofs.lemmas.Bool.{cases_Bool}
+use Rattle.std.proofs.lemmas.List.Quantifiers.{position-Some}
+use Rattle.std.proofs.lemmas.Option.{slice_get-get_or}
+use Rattle.amounts.specs.Laws.{same_key, key_same}
+use Rattle.asset_bundles.specs.Books.{Listed, listed_cmp}
+use Rattle.asset_bundles.specs.Laws.{listed_keys}
+use Rattle.ledgers.specs.Ledgers.{number_in}
+use Rattle.ledgers.specs.LedgerRows.{IsOnce}
+
+pub number_at : (listed : List Listed) (k : Listed) (n : ℕ) → number_in listed k ≡ Some n → slice_get listed n ≡ Some k
+number_at listed k n is =
+    let found = position-Some (eq_by_cmp listed_cmp k) listed n k is in
+    slice_get-get_or listed n k found.0 ∙ ap Some (sym (key_same listed_keys k (get_or listed n k) found.1))
+
+stands_within : (p : Listed → Bool) (xs : List Listed) (n : ℕ) (k : Listed) → slice_get xs n ≡ Some k → p k ≡ true → position_or_len p xs < length xs
+stands_within p [] n k at passes = absurd (cc)
+stands_within p (x ∷ xs) zero k at passes =
+    let same : x ≡ k = cc in
+    subst (λ b. cond {A = ℕ} (not b) (1 + position_or_len p xs) 0 < suc (length xs)) (sym (ap p same ∙ passes)) (omega arith)
+stands_within p (x ∷ xs) (suc n) k at passes =
+    let rest = stands_within p xs n k at passes in
+    elim (p x) as (λ b. cond {A = ℕ} (not b) (1 + position_or_len p xs) 0 < suc (length xs)) [ true ↦ omega arith | false ↦ omega (arith, rest) ]
+
+found_some : (n m : ℕ) → n < m → cond (nat_lt n m) (Some n) None ≡ Some n
+found_some n m h = grind (arith, h)
+
+pub no_number : (listed : List Listed) (k : Listed) → number_in listed k ≡ None → (n : ℕ) → slice_get listed n ≡ Some k → ⊥
+no_number listed k none n at =
+    let found = found_some _ (length listed) (stands_within (eq_by_cmp listed_cmp k) listed n k at (same_key listed_keys k)) in
+    let two : None ≡ Some (position_or_len (eq_by_cmp listed_cmp k) listed) = sym none ∙ found in absurd (cc)
+
+pub at_number : (listed : List Listed) → IsOnce listed → (k : Listed) (n : ℕ) → slice_get listed n ≡ Some k → number_in listed k ≡ Some n
+at_number listed once k n at =
+    elim (number_in listed k) as (λ o. number_in listed k ≡ o → o ≡ Some n) [
+      | None ↦ λ e. absurd (no_number listed k e n at)
+      | Some m ↦ λ e. ap Some (once.place m n k (number_at listed k m e) at)
+    ] refl

@@ -1,0 +1,65 @@
+-- What stands in rows after one is written.
+use Rattle.std.proofs.Common.{◌≡◌, ℕ, ◌+◌, ◌-◌, ◌*◌, ◌^◌, ◌<◌, ◌≤◌, Bool, true, false, List, [], ◌∷◌, length, refl, sym, ap, ◌∙◌, subst, arith, true≢false}
+use Rattle.std.specs.Prelude.{Option, None, Some, unwrap_or, IsSome, is_some, if◌then◌else◌}
+use Rattle.std.specs.Ordering.{eq_by_cmp, match_ordering}
+use Rattle.std.specs.declared.cmp.Ordering.{Ordering}
+use Rattle.std.specs.declared.cmp.Ordering.TheVariants.{Less, Equal, Greater}
+use Rattle.std.specs.Map.{lookup, remove_entry}
+use Rattle.std.specs.BTreeMap.{insert_entry}
+use Rattle.amounts.specs.Rows.{IsKeyOrder}
+use Rattle.amounts.specs.Laws.{key_same}
+use Rattle.ledgers.specs.LedgerRows.{AmountKey, amount_key_cmp, AreSmall}
+
+module _ {K X : Type 0} (R : K → K → Ordering) (k : K) (v : X) (es fs : List (K × X)) (wrote : (q : K) → lookup (eq_by_cmp R q) fs ≡ (if eq_by_cmp R k q then Some v else lookup (eq_by_cmp R q) es)) where
+  -- rows stay
+  some_after : (b : Bool) (found : Option X) → IsSome found → IsSome (if b then Some v else found)
+  some_after true found h = refl
+  some_after false found h = h
+
+  pub rows_stay : (q : K) → IsSome (lookup (eq_by_cmp R q) es) → IsSome (lookup (eq_by_cmp R q) fs)
+  rows_stay q h = subst (λ o. IsSome o) (sym (wrote q)) (some_after (eq_by_cmp R k q) (lookup (eq_by_cmp R q) es) h)
+
+  -- a new row that says what no row says changes nothing
+  pub nothing_said : IsKeyOrder R → lookup (eq_by_cmp R k) es ≡ None → (q : K) → unwrap_or (lookup (eq_by_cmp R q) fs) v ≡ unwrap_or (lookup (eq_by_cmp R q) es) v
+  nothing_said o none q =
+      ap (λ r. unwrap_or r v) (wrote q)
+      ∙ elim (eq_by_cmp R k q) as (λ b. eq_by_cmp R k q ≡ b → unwrap_or (if b then Some v else lookup (eq_by_cmp R q) es) v ≡ unwrap_or (lookup (eq_by_cmp R q) es) v) [
+        | true ↦ λ t. ap (λ r. unwrap_or r v) (sym none) ∙ ap (λ x. unwrap_or (lookup (eq_by_cmp R x) es) v) (key_same o k q t)
+        | false ↦ λ t. refl
+      ] refl
+
+pub small_insert : (k : AmountKey) (v : ℕ) (es : List (AmountKey × ℕ)) → v ≤ 2 ^ 128 - 1 → AreSmall es → AreSmall (insert_entry amount_key_cmp es k v)
+small_insert k v [] h small = (h, tt)
+small_insert k v (e ∷ es) h small =
+    elim (amount_key_cmp k e.0) as (λ r. AreSmall (match_ordering r ((k, v) ∷ e ∷ es) ((e.0, v) ∷ es) (e ∷ insert_entry amount_key_cmp es k v))) [
+      | Less ↦ (h, small)
+      | Equal ↦ (h, small.1)
+      | Greater ↦ (small.0, small_insert k v es h small.1)
+    ]
+
+pub small_remove : (test : AmountKey → Bool) (es : List (AmountKey × ℕ)) → AreSmall es → AreSmall (remove_entry test es)
+small_remove test [] small = small
+small_remove test (e ∷ es) small = elim (test e.0) as (λ b. AreSmall (if b then es else e ∷ remove_entry test es)) [ true ↦ small.1 | false ↦ (small.0, small_remove test es small.1) ]
+
+pub small_zero : 0 ≤ 2 ^ 128 - 1
+small_zero = omega arith
+
+pub none_there : {X : Type 0} (b : Bool) (o : Option X) → b ≡ is_some o → b ≡ false → o ≡ None
+none_there b None e f = refl
+none_there b (Some x) e f = absurd (true≢false (sym e ∙ f))
+
+pub within_most : (n : ℕ) → n < 2 ^ 128 → n ≤ 2 ^ 128 - 1
+within_most n h = omega (arith, h)
+
+-- a row that says what no row says may be taken out
+pub nothing_lost : {K X : Type 0} (R : K → K → Ordering) → IsKeyOrder R → (k : K) (v : X) (es fs : List (K × X)) → ((q : K) → lookup (eq_by_cmp R q) fs ≡ (if eq_by_cmp R k q then None else lookup (eq_by_cmp R q) es))
+    → unwrap_or (lookup (eq_by_cmp R k) es) v ≡ v → (q : K) → unwrap_or (lookup (eq_by_cmp R q) fs) v ≡ unwrap_or (lookup (eq_by_cmp R q) es) v
+nothing_lost R o k v es fs removed says q =
+    ap (λ r. unwrap_or r v) (removed q)
+    ∙ elim (eq_by_cmp R k q) as (λ b. eq_by_cmp R k q ≡ b → unwrap_or (if b then None else lookup (eq_by_cmp R q) es) v ≡ unwrap_or (lookup (eq_by_cmp R q) es) v) [
+      | true ↦ λ t. sym says ∙ ap (λ x. unwrap_or (lookup (eq_by_cmp R x) es) v) (key_same o k q t)
+      | false ↦ λ t. refl
+    ] refl
+
+pub no_amount : (n : ℕ) → n ≤ 0 → n ≡ 0
+no_amount n h = omega (arith, h)

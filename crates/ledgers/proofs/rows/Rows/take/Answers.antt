@@ -1,0 +1,60 @@
+use Rattle.std.proofs.Common.{◌≡◌, ℕ, ◌-◌, ◌≤◌, refl, sym, ap, ◌∙◌, subst, arith}
+use Rattle.std.specs.Prelude.{if◌then◌else◌, Option, None, Some}
+use Rattle.std.specs.Ordering.{eq_by_cmp}
+use Rattle.asset_lists.specs.Units.{instance_in, amount_in}
+use Rattle.asset_bundles.specs.Books.{listed_of}
+use Rattle.ledgers.specs.Sums.{sum_value}
+use Rattle.ledgers.specs.Ledgers.{number_in}
+use Rattle.ledgers.specs.LedgerRows.{AmountKey, amount_key_cmp, amount_at}
+use Rattle.ledgers.proofs.Numbers.{number_at}
+use Rattle.ledgers.proofs.RowChanges.{held_listed, row_at_least, sum_at_least, taken, wrote_as, amount_row_there, instance_row_there}
+use Rattle.ledgers.proofs.rows.Rows.take.Goals as goal
+
+none_left : (o : Option ℕ) → ((x : ℕ) → o ≡ Some x → ⊥) → o ≡ None
+none_left None h = refl
+none_left (Some x) h = absurd (h x refl)
+
+pub unreachable-requires : goal.unreachable-requires
+unreachable-requires c =
+    let r = c.args.self.now in
+    let none = none_left c.number.result c.in_default.not-Some in
+    let nothing = held_listed r.assets r.amounts.entries r.owners.entries r.sums.items c.requires.sound c.args.who.now c.args.asset.now.id (instance_in c.args.asset.now.fun) (sym c.number.ensures ∙ none) in
+    omega (arith, nothing, c.requires.some, c.requires.enough)
+
+pub overflow_sub-have : goal.overflow_sub-have
+overflow_sub-have c =
+    let r = c.args.self.now in
+    let at = number_at r.assets (listed_of (c.args.asset.now.id, instance_in c.args.asset.now.fun)) c.in-Some.number (sym c.in-Some.ensures) in
+    let row = row_at_least r.assets r.amounts.entries r.owners.entries r.sums.items c.requires.sound c.in-Some.number c.args.who.now c.args.asset.now.id (instance_in c.args.asset.now.fun) at in
+    omega (arith, row, c.requires.enough, c.amount_of-amount.ensures, c.amount_in-have.ensures)
+
+pub write_amount-requires : goal.write_amount-requires
+write_amount-requires c =
+    let r = c.args.self.now in
+    let at = number_at r.assets (listed_of (c.args.asset.now.id, instance_in c.args.asset.now.fun)) c.in-Some.number (sym c.in-Some.ensures) in
+    let row = row_at_least r.assets r.amounts.entries r.owners.entries r.sums.items c.requires.sound c.in-Some.number c.args.who.now c.args.asset.now.id (instance_in c.args.asset.now.fun) at in
+    amount_row_there r.amounts.entries (c.in-Some.number, c.args.who.now) (omega (arith, row, c.requires.some, c.requires.enough))
+
+pub set_owner-requires : goal.set_owner-requires
+set_owner-requires c =
+    let r = c.args.self.now in
+    instance_row_there r.assets r.amounts.entries r.owners.entries r.sums.items c.requires.sound c.in-Some.number c.args.who.now c.args.asset.now.id (instance_in c.args.asset.now.fun) (sym c.in-Some.ensures) (omega (arith, c.requires.some, c.requires.enough))
+
+pub lower_sum-requires-clause-enough : goal.lower_sum-requires-clause-enough
+lower_sum-requires-clause-enough c = λ s was. (
+    let r = c.args.self.now in
+    let at = number_at r.assets (listed_of (c.args.asset.now.id, instance_in c.args.asset.now.fun)) c.in-Some.number (sym c.in-Some.ensures) in
+    let most = sum_at_least r.assets r.amounts.entries r.owners.entries r.sums.items c.requires.sound c.in-Some.number c.args.who.now (c.args.asset.now.id, instance_in c.args.asset.now.fun) s at was in
+    omega (arith, most, c.requires.enough, c.amount_of-amount.ensures))
+
+pub returns : goal.returns
+returns c =
+    let r = c.args.self.now in
+    let a = c.args.asset.now in
+    let sum = c.lower_sum.ensures in
+    let whole = taken r.assets r.amounts.entries r.owners.entries r.sums.items c.requires.sound c.write_amount.new.rows.entries c.set_owner.new.rows.entries
+    (c.set_owner.ensures.sorted c.requires.sound.sorted) c.in-Some.number c.args.who.now a.id a.fun (sym c.in-Some.ensures) c.requires.enough
+    (wrote_as r.amounts.entries c.write_amount.new.rows.entries (c.in-Some.number, c.args.who.now) _ _ (λ i. c.amount_in-have.ensures i - c.amount_of-amount.ensures i) c.write_amount.ensures.wrote)
+    c.set_owner.ensures.wrote (c.write_amount.ensures.small c.requires.sound.small)
+    c.lower_sum.new.sums.items (sum.0, sum.1, sum.2, sum.3 ∙ ap (λ n. sum_value sum.0 - n) c.amount_of-amount.ensures) in
+    record { sound = whole.1; stay = record { assets = refl; amounts = c.write_amount.ensures.stay; owners = c.set_owner.ensures.stay }; held = whole.0 }

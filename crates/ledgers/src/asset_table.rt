@@ -1,0 +1,77 @@
+//! The list of a chain's assets, in which each has a number.
+ghost use Rattle.std.specs.Prelude.{◌≡◌, map, length, IfOk, ◌<◌, ◌^◌, slice_get, option_copied};
+ghost use Rattle.std.specs.Ordering.{eq_by_cmp};
+ghost use Rattle.std.specs.List.{IsDistinct};
+ghost use Rattle.std.specs.Option.{option_map};
+ghost use Rattle.asset_bundles.specs.Books.{listed_cmp};
+ghost use Rattle.ledgers.specs.Ledgers.{listed_row, number_in};
+
+use crate::listed_asset::ListedAsset;
+use asset_lists::{AssetId, Kind};
+use indexmap::IndexSet;
+use locations::Location;
+use std::alloc::{AllocError, Global};
+use std::marker::Model;
+
+/// The assets that a chain lists, each once. The place of an asset is its number.
+#[derive(Drop)]
+pub(crate) struct AssetTable {
+    assets: IndexSet<ListedAsset>,
+}
+
+impl Model for AssetTable {
+    ghost use Rattle.std.specs.Prelude.{List, length, ◌<◌, ◌^◌};
+    ghost use Rattle.asset_bundles.specs.Books.{Listed};
+    ghost use Rattle.ledgers.specs.AssetTable.{keys_in, table_code};
+
+    ghost Value = { List Listed };
+
+    ghost coded = { table_code };
+
+    ghost view = { λ t. keys_in t.assets.keys };
+
+    ghost invariant = { λ t. length t.assets.keys < 2 ^ 32 };
+}
+
+impl AssetTable {
+    /// The table of these assets, of which none is there twice.
+    pub(crate) fn open(alloc: Global, list: Vec<(Location, Kind)>) -> Result<AssetTable, AllocError>
+        requires { IsDistinct (eq_by_cmp listed_cmp) (map listed_row list.items) }
+        ensures { IfOk result (λ table. table ≡ map listed_row list.items) }
+    {
+        if list.len() > u32::MAX as usize {
+            return Err(AllocError);
+        }
+        let mut assets = IndexSet::with_capacity(alloc, list.len())?;
+        for (id, kind) in list {
+            assets.insert(ListedAsset { id, kind })?;
+        }
+        Ok(AssetTable { assets })
+    }
+
+    /// How many assets there are.
+    pub(crate) fn len(&self) -> usize
+        ensures { result ≡ length self.now }
+    {
+        self.assets.len()
+    }
+
+    /// The number of an asset.
+    pub(crate) fn number_of(&self, id: &AssetId, kind: Kind) -> Option<u32>
+        ensures { result ≡ number_in self.now (id.now, kind) }
+    {
+        match id {
+            AssetId::Concrete(place) => {
+                let asset = ListedAsset {
+                    id: place.copy(),
+                    kind,
+                };
+                match self.assets.get_index_of(&asset) {
+                    Some(number) => Some(number as u32),
+                    None => None,
+                }
+            }
+            AssetId::Abstract(_) => None,
+        }
+    }
+}

@@ -1,0 +1,121 @@
+//! Lists of assets moved into an account or out of it.
+ghost use Rattle.std.specs.Prelude.{◌≡◌, None, OnOk, IsTrue, IsFalse, IsSomeAnd, MatchOption};
+ghost use Rattle.std.specs.List.{list_all};
+ghost use Rattle.amounts.specs.Amounts.{plus_all, minus_all};
+ghost use Rattle.asset_lists.specs.Units.{unit_of};
+ghost use Rattle.asset_lists.specs.Lists.{has_zero, is_rising};
+ghost use Rattle.asset_bundles.specs.Books.{listed_of, lists};
+ghost use Rattle.ledgers.specs.Ledgers.{shortage, overflow, barred};
+ghost use Rattle.ledgers.specs.LedgerFaults.{IsBarred};
+ghost use Rattle.ledgers.specs.RowState.{rows_held, AreSound, KeepsRows};
+ghost use Rattle.ledgers.specs.AccountRows.{account_rows, HasAll, MayTakeAll, HasAllRoom};
+
+use crate::DepositFault;
+use crate::row_moves::amount_of;
+use crate::rows::Rows;
+use asset_lists::Asset;
+use std::alloc::AllocError;
+
+/// What the account has of the first asset of which it has less than is listed.
+pub(crate) fn shortage(rows: &Rows, who: &[u8; 32], list: &[Asset]) -> Option<u128>
+    requires { AreSound rows.now }
+    ensures { result ≡ shortage (rows_held rows.now) who.now list.now }
+{
+    for asset in list {
+        let have = rows.held(who, asset);
+        if have < amount_of(asset) {
+            return Some(have);
+        }
+    }
+    None
+}
+
+/// What the account has of the first asset of which it would have more than 2^128-1.
+pub(crate) fn overflow(rows: &Rows, who: &[u8; 32], list: &[Asset]) -> Option<u128>
+    requires { AreSound rows.now }
+    ensures { result ≡ overflow (rows_held rows.now) who.now list.now }
+{
+    for asset in list {
+        let have = rows.held(who, asset);
+        if have > u128::MAX - amount_of(asset) {
+            return Some(have);
+        }
+    }
+    None
+}
+
+/// Why the account can't take in the first asset that it can't take in.
+pub(crate) fn barred(rows: &Rows, who: &[u8; 32], list: &[Asset]) -> Option<DepositFault>
+    requires { AreSound rows.now }
+    ensures { MatchOption result
+        (barred (rows_held rows.now) who.now list.now ≡ None)
+        (λ fault. IsSomeAnd (barred (rows_held rows.now) who.now list.now) (λ a. IsBarred (rows_held rows.now) who.now a fault)) }
+{
+    for asset in list {
+        match rows.barred(who, asset) {
+            Some(fault) => return Some(fault),
+            None => {}
+        }
+    }
+    None
+}
+
+/// Takes the listed assets out of an account, which has them.
+pub(crate) fn take_all(rows: &mut Rows, who: &[u8; 32], list: &[Asset])
+    requires sound { AreSound rows.old }
+    requires no_zero { IsFalse (has_zero list.now) }
+    requires has { HasAll (rows_held rows.old) who.now list.now }
+    ensures sound { AreSound rows.new }
+    ensures stay { KeepsRows rows.old rows.new }
+    ensures held { rows_held rows.new ≡ minus_all (rows_held rows.old) (account_rows who.now list.now) }
+{
+    for asset in list {
+        rows.take(who, asset);
+    }
+}
+
+/// Takes out the rows that say nothing after these were taken.
+pub(crate) fn sweep_all(rows: &mut Rows, who: &[u8; 32], list: &[Asset])
+    requires { AreSound rows.old }
+    ensures sound { AreSound rows.new }
+    ensures assets { rows.new.assets ≡ rows.old.assets }
+    ensures held { rows_held rows.new ≡ rows_held rows.old }
+{
+    for asset in list {
+        rows.sweep(who, asset);
+    }
+}
+
+/// Makes the rows that `give_all` writes.
+pub(crate) fn make_all_room(
+    rows: &mut Rows,
+    who: &[u8; 32],
+    list: &[Asset],
+) -> Result<(), AllocError>
+    requires { AreSound rows.old }
+    ensures sound { AreSound rows.new }
+    ensures stay { KeepsRows rows.old rows.new }
+    ensures held { rows_held rows.new ≡ rows_held rows.old }
+    ensures room { OnOk result (HasAllRoom rows.new who.now list.now) }
+{
+    for asset in list {
+        rows.make_room(who, asset)?;
+    }
+    Ok(())
+}
+
+/// Gives the listed assets to an account that may take them.
+pub(crate) fn give_all(rows: &mut Rows, who: &[u8; 32], list: &[Asset])
+    requires sound { AreSound rows.old }
+    requires listed { IsTrue (list_all (λ a. lists rows.old.assets (listed_of (unit_of a))) list.now) }
+    requires room { HasAllRoom rows.old who.now list.now }
+    requires may { MayTakeAll (rows_held rows.old) who.now list.now }
+    requires once { IsTrue (is_rising list.now) }
+    ensures sound { AreSound rows.new }
+    ensures assets { rows.new.assets ≡ rows.old.assets }
+    ensures held { rows_held rows.new ≡ plus_all (rows_held rows.old) (account_rows who.now list.now) }
+{
+    for asset in list {
+        rows.give(who, asset);
+    }
+}

@@ -1,0 +1,90 @@
+//! What a chain lists.
+ghost use Rattle.std.specs.Prelude.{◌≡◌, fold};
+ghost use Rattle.std.specs.Ordering.{eq_by_cmp, nat_cmp};
+ghost use Rattle.asset_bundles.specs.Books.{kind_number};
+ghost use Rattle.ledgers.specs.AssetHash.{junction_input, location_input};
+
+use asset_lists::Kind;
+use locations::{Junction, Location};
+use std::hash::{Hash, Hasher};
+
+/// An asset that a chain lists: a place that has amounts, or a class of instances.
+#[derive(Debug, Drop)]
+pub(crate) struct ListedAsset {
+    pub(crate) id: Location,
+    pub(crate) kind: Kind,
+}
+
+impl PartialEq for ListedAsset {
+    ghost use Rattle.std.specs.Cmp.{partial_equiv_from_equiv, eq_by_cmp_equiv};
+    ghost use Rattle.std.specs.Ordering.{eq_by_cmp};
+    ghost use Rattle.ledgers.specs.AssetTable.{row_cmp, rows_total};
+
+    ghost eq = { eq_by_cmp row_cmp };
+
+    ghost laws = { partial_equiv_from_equiv (eq_by_cmp_equiv rows_total) };
+
+    fn eq(&self, other: &ListedAsset) -> bool {
+        self.id == other.id && is_same_kind(self.kind, other.kind)
+    }
+}
+
+impl Eq for ListedAsset {
+    ghost use Rattle.std.specs.Cmp.{eq_by_cmp_equiv};
+    ghost use Rattle.ledgers.specs.AssetTable.{rows_total};
+
+    ghost laws = { eq_by_cmp_equiv rows_total };
+}
+
+impl Hash for ListedAsset {
+    ghost use Rattle.ledgers.specs.AssetHash.{location_input};
+    ghost use Rattle.ledgers.specs.AssetKeys.{hashed_alike};
+
+    ghost hash_input = { λ a. location_input a.id };
+
+    ghost respects_eq = { hashed_alike };
+
+    fn hash<H: Hasher>(&self, state: &mut H) {
+        hash_location(&self.id, state);
+    }
+}
+
+/// Whether both are amounts, or both classes.
+fn is_same_kind(kind: Kind, other: Kind) -> bool
+    ensures { result ≡ eq_by_cmp nat_cmp (kind_number kind) (kind_number other) }
+{
+    match (kind, other) {
+        (Kind::Fungible, Kind::Fungible) => true,
+        (Kind::Fungible, Kind::Class) => false,
+        (Kind::Class, Kind::Fungible) => false,
+        (Kind::Class, Kind::Class) => true,
+    }
+}
+
+/// Hashes how high the place lies, and what each junction says.
+fn hash_location<H: Hasher>(location: &Location, state: &mut H)
+    ensures { state.new ≡ fold H.write state.old (location_input location.now) }
+{
+    state.write_u8(location.parents);
+    for junction in location.interior.items() {
+        hash_junction(junction, state);
+    }
+}
+
+/// Hashes the number or the bytes of a junction.
+fn hash_junction<H: Hasher>(junction: &Junction, state: &mut H)
+    ensures { state.new ≡ fold H.write state.old (junction_input junction.now) }
+{
+    match junction {
+        Junction::Parachain(para) => state.write_u32(*para),
+        Junction::AccountId32 { network: _, id } => state.write(id),
+        Junction::AccountIndex64 { network: _, index } => state.write_u64(*index),
+        Junction::AccountKey20 { network: _, key } => state.write(key),
+        Junction::PalletInstance(index) => state.write_u8(*index),
+        Junction::GeneralIndex(index) => state.write_u128(*index),
+        Junction::GeneralKey { length: _, key } => state.write(key),
+        Junction::OnlyChild => {}
+        Junction::Plurality { id: _, part: _ } => {}
+        Junction::GlobalConsensus(_) => {}
+    }
+}

@@ -1,0 +1,182 @@
+//! Weight that is bought with what a chain's rates name, and given back.
+ghost use Rattle.std.specs.Prelude.{◌≡◌, None, IsTrue, IfOk, OnOk, OnErr, MatchOption};
+ghost use Rattle.std.specs.List.{position};
+ghost use Rattle.amounts.specs.Amounts.{amount, single};
+ghost use Rattle.asset_lists.specs.declared.units.AssetId.TheVariants.{Concrete};
+ghost use Rattle.weight_trader.specs.Purchases.{new_lines, coin_of, NameEachOnce, AreApart, paid_goods, is_covered, IsTooExpensive, IsCharge};
+ghost use Rattle.weight_trader.specs.Refunds.{refund_at, is_refunded, refund_of, goods_of, Refunded, Closed};
+ghost use Rattle.weight_trader.specs.Closing.{paid_assets};
+
+use crate::Rate;
+use crate::purchases::Purchases;
+use asset_bundles::AssetBundle;
+use asset_lists::{Asset, AssetId};
+use locations::Location;
+use message_parts::Weight;
+use std::alloc::{AllocError, Global};
+use std::marker::Model;
+use thiserror::Error;
+
+/// No rate's price is covered by the payment.
+#[derive(Clone, Copy, Debug, PartialEq, Eq, Error)]
+#[error("a payment that covers no price")]
+pub struct TooExpensive;
+
+/// What is bought and paid at each rate of a chain, in listed order. Contracts see it as the list of its lines.
+#[derive(Drop)]
+pub struct Trader {
+    lines: Vec<Purchases>,
+}
+
+impl Model for Trader {
+    ghost use Rattle.std.specs.Prelude.{List};
+    ghost use Rattle.weight_trader.specs.Purchases.{Line, AreApart};
+
+    ghost Value = { List Line };
+
+    ghost view = { λ t. t.lines.items };
+
+    ghost invariant = { λ t. AreApart t.lines.items };
+}
+
+/// Where the first rate is whose price the payment covers.
+fn first_covered(lines: &[Purchases], weight: Weight, payment: &AssetBundle) -> Option<usize>
+    ensures { result ≡ position (is_covered weight payment.now) lines.now }
+{
+    lines
+        .iter()
+        .position(|line| line.is_covered(weight, payment))
+}
+
+/// Where the first line is that gives something back for the weight.
+fn first_refunded(lines: &[Purchases], weight: Weight) -> Option<usize>
+    ensures { result ≡ position (is_refunded weight) lines.now }
+{
+    lines.iter().position(|line| line.is_refunded(weight))
+}
+
+/// What is paid at each line at which something is.
+fn paid_assets(alloc: Global, lines: &[Purchases]) -> Result<Vec<Asset>, AllocError>
+    ensures { IfOk result (λ assets. assets.items ≡ paid_assets lines.now) }
+{
+    let mut assets = Vec::new(alloc);
+    for line in lines {
+        if line.is_paid() {
+            assets.push(line.coins(line.paid()))?;
+        }
+    }
+    Ok(assets)
+}
+
+/// Makes what is paid at all these lines.
+fn minted(alloc: Global, lines: &[Purchases]) -> Result<AssetBundle, AllocError>
+    requires { AreApart lines.now }
+    ensures { IfOk result (λ goods. goods ≡ paid_goods lines.now) }
+{
+    let assets = paid_assets(alloc, lines)?;
+    let goods = AssetBundle::mint(alloc, assets.as_slice())?;
+    Ok(goods)
+}
+
+/// Makes what a line gives back for the weight.
+fn minted_refund(alloc: Global, line: &Purchases, weight: Weight) -> Result<AssetBundle, AllocError>
+    requires { IsTrue (is_refunded weight line.now) }
+    ensures { IfOk result (λ goods. goods ≡ single (coin_of line.now.rate) (refund_at weight line.now)) }
+{
+    let coins = line.coins(line.refund_amount(weight));
+    let goods = AssetBundle::mint(alloc, &[coins])?;
+    Ok(goods)
+}
+
+/// A line for each rate, at which nothing is bought.
+fn new_lines(alloc: Global, rates: &[Rate]) -> Result<Vec<Purchases>, AllocError>
+    ensures { IfOk result (λ lines. lines.items ≡ new_lines rates.now) }
+{
+    let mut lines = Vec::new(alloc);
+    for rate in rates {
+        lines.push(Purchases::new(rate))?;
+    }
+    Ok(lines)
+}
+
+/// Forgets all that is bought and paid.
+fn clear_all(lines: &mut [Purchases])
+    ensures { lines.new ≡ Closed lines.old }
+{
+    for line in lines.iter_mut() {
+        line.clear();
+    }
+}
+
+impl Trader {
+    /// A trader with these rates, at which nothing is bought. No two rates name the same asset.
+    pub fn new(alloc: Global, rates: &[Rate]) -> Result<Trader, AllocError>
+        requires { NameEachOnce rates.now }
+        ensures { IfOk result (λ trader. trader ≡ new_lines rates.now) }
+    {
+        let lines = new_lines(alloc, rates)?;
+        Ok(Trader { lines })
+    }
+
+    /// Takes the price of the weight at the first rate that the payment covers, and records it. The answer is the asset, and what would
+    /// have passed 2^128-1 of what is paid in it; none where each price passes the payment.
+    fn charge(&mut self, weight: Weight, payment: &mut AssetBundle) -> Option<(AssetId, u128)>
+        ensures { MatchOption result
+            (IsTooExpensive weight payment.old self.old × (payment.new ≡ payment.old) × (self.new ≡ self.old))
+            (λ above. IsCharge weight payment.old self.old payment.new self.new above.0 above.1) }
+    {
+        let Some(place) = first_covered(self.lines.as_slice(), weight, payment) else {
+            return None;
+        };
+        let line = &mut self.lines[place];
+        let above = line.sell(weight, payment);
+        Some((AssetId::Concrete(line.asset()), above))
+    }
+
+    /// What would be given back for the weight: the asset, and the amount in its smallest unit. None where each line gives nothing.
+    pub fn refund_of(&self, weight: Weight) -> Option<(Location, u128)>
+        ensures { result ≡ refund_of weight self.now }
+    {
+        let line = self.lines.iter().find(|line| line.is_refunded(weight))?;
+        Some((line.asset(), line.refund_amount(weight)))
+    }
+
+    /// Gives back what `refund_of` says, and nothing where it says none. An `Err` is want of memory and changes nothing.
+    pub fn refund(&mut self, weight: Weight) -> Result<AssetBundle, AllocError>
+        ensures goods { IfOk result (λ goods. goods ≡ goods_of (refund_of weight self.old)) }
+        ensures lines { OnOk result (self.new ≡ Refunded weight self.old) }
+        ensures err { OnErr result (self.new ≡ self.old) }
+    {
+        let alloc = *self.lines.allocator();
+        let Some(place) = first_refunded(self.lines.as_slice(), weight) else {
+            return Ok(AssetBundle::empty(alloc));
+        };
+        let goods = minted_refund(alloc, &self.lines[place], weight)?;
+        self.lines[place].give_back(weight);
+        Ok(goods)
+    }
+
+    /// Hands out all that is still paid, and forgets what was bought. An `Err` is want of memory and changes nothing.
+    pub fn close(&mut self) -> Result<AssetBundle, AllocError>
+        ensures goods { IfOk result (λ goods. goods ≡ paid_goods self.old) }
+        ensures lines { OnOk result (self.new ≡ Closed self.old) }
+        ensures err { OnErr result (self.new ≡ self.old) }
+    {
+        let alloc = *self.lines.allocator();
+        let goods = minted(alloc, self.lines.as_slice())?;
+        clear_all(self.lines.as_mut_slice());
+        Ok(goods)
+    }
+
+    /// What is still paid in this asset, in its smallest unit; 0 where no rate names it.
+    pub fn paid(&self, asset: &Location) -> u128
+        ensures { result ≡ amount (paid_goods self.now) (Concrete asset.now, None) }
+    {
+        for line in self.lines.as_slice() {
+            if line.is_in(asset) {
+                return line.paid();
+            }
+        }
+        0
+    }
+}
