@@ -1,0 +1,2 @@
+pub mod Purchases
+pub mod Wording
