@@ -299,6 +299,11 @@ fn responses_to_open_queries(rt: HostRuntime) -> Result<(), Fail> {
 }
 
 #[test]
+fn the_law_can_be_called(_rt: HostRuntime) {
+    law_of_barriers();
+}
+
+#[test]
 fn the_first_barrier_that_allows_decides(rt: HostRuntime) -> Result<(), Fail> {
     let alloc = rt.alloc();
     let origin = para(1);
