@@ -3,6 +3,8 @@
 
 mod law;
 mod reading;
+#[cfg(test)]
+mod tests;
 mod writing;
 
 pub use law::{law_of_heads, law_of_no_prefix, law_of_writable};

@@ -1,12 +1,12 @@
 //! The ledger's public calls, with values worked out by hand.
-ghost use Rattle.std.specs.Prelude.{◌≡◌, ◌≤◌, [], ◌∷◌, length, IsTrue, IfOk, OnOk};
+ghost use Rattle.std.specs.Prelude.{◌≡◌, [], ◌∷◌, length, IsTrue, IfOk};
 ghost use Rattle.asset_lists.specs.declared.units.Kind.{Kind};
 ghost use Rattle.asset_lists.specs.Units.{unit_of};
 ghost use Rattle.asset_bundles.specs.Bundles.{bundle_of};
 ghost use Rattle.ledgers.specs.Ledgers.{AreListed};
 
 use crate::row_moves::kind_of;
-use crate::{DepositFault, Ledger, LedgerFault};
+use crate::{DepositFault, Ledger, LedgerFault, TransferFault, law_of_ledgers};
 use asset_bundles::{AssetBundle, Total};
 use asset_lists::{Asset, AssetId, Assets, Fun, Instance, Kind};
 use locations::{Junction, Junctions, Location};
@@ -175,5 +175,34 @@ fn what_is_listed_is_counted(rt: HostRuntime) -> Result<(), Fail> {
     assert_eq!(rt; ledger.count(&A1, &class), 1);
     assert_eq!(rt; ledger.sum(&class, Kind::Class), one);
     assert_eq!(rt; ledger.number_of(&class, Kind::Fungible), None);
+    Ok(())
+}
+
+#[test]
+fn a_transfer_moves_all_or_nothing(rt: HostRuntime) -> Result<(), Fail> {
+    let alloc = rt.alloc();
+    let mut ledger = opened(alloc)?;
+    let both = Assets::from_sorted(vec![in alloc; coins(5), piece(1)]?)?;
+    let six = Assets::from_sorted(vec![in alloc; coins(6)]?)?;
+    let short = Err(TransferFault::NotEnough { have: 5 });
+    law_of_ledgers();
+    assert_eq!(rt; put(&mut ledger, &A1, &both, minted(alloc, &both)?), None);
+    assert_eq!(rt; ledger.transfer(&A1, &A2, &six), short);
+    assert_eq!(rt; ledger.transfer(&A1, &A2, &both), Ok(()));
+    let class = AssetId::Concrete(inside());
+    assert_eq!(rt; ledger.owner(&class, &Instance::Index(1)), Some(A2));
+    Ok(())
+}
+
+#[test]
+fn more_than_the_most_is_refused(rt: HostRuntime) -> Result<(), Fail> {
+    let alloc = rt.alloc();
+    let mut ledger = opened(alloc)?;
+    let most = Assets::from_sorted(vec![in alloc; coins(u128::MAX)]?)?;
+    let five = Assets::from_sorted(vec![in alloc; coins(5)]?)?;
+    let over = Err(TransferFault::Overflow { have: u128::MAX });
+    assert_eq!(rt; put(&mut ledger, &A2, &most, minted(alloc, &most)?), None);
+    assert_eq!(rt; put(&mut ledger, &A1, &five, minted(alloc, &five)?), None);
+    assert_eq!(rt; ledger.transfer(&A1, &A2, &five), over);
     Ok(())
 }

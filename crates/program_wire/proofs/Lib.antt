@@ -1,2 +1,3 @@
 pub mod ProgramLaws
 pub mod WriteLaws
+pub mod Writable

@@ -17,12 +17,14 @@ use Rattle.xcm_program.proofs.Whole.{texts, spelling-is, Inside, fits_here, name
 
 pub nested_writable : (v : Version) (i : Instruction) (p : List Instruction) → Some p ≡ inner_of i → IsNamedOne v i → HasAmounts i → count_one i < 2 ^ 32 → (count_one i ≡ 1 + count_of p) × IsWritable v p
 nested_writable v i p is named amounts few =
-    let n : count_one i ≡ 1 + count_of p = count_one-is i ∙ ap (λ (o : Option (List Instruction)). 1 + count_inside o) (sym is) in
-    (n, record {
-      few = omega (arith, n);
-      named = subst (λ (o : Option (List Instruction)). AllInside (IsNamedOne v) o) (sym is) (named_open v i named).1;
-      amounts = subst (λ (o : Option (List Instruction)). AllInside HasAmounts o) (sym is) (amounts_open i amounts).1;
-    })
+    let n : count_one i ≡ 1 + count_of p = count_one-is i ∙ ap (λ (o : Option (List Instruction)). 1 + count_inside o) (sym is) in (
+      n,
+      record {
+        few = omega (arith, n);
+        named = subst (λ (o : Option (List Instruction)). AllInside (IsNamedOne v) o) (sym is) (named_open v i named).1;
+        amounts = subst (λ (o : Option (List Instruction)). AllInside HasAmounts o) (sym is) (amounts_open i amounts).1;
+      },
+    )
 
 pub wrote_plain : (v : Version) (i : Instruction) (old new : List ℕ) → None ≡ inner_of i → Appends old new (head v (out-Instruction i)) (FitsHead v (out-Instruction i)) → Appends old new (instruction_spelling v i) (FitsInstruction v i)
 wrote_plain v i old new is a =

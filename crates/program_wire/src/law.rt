@@ -1,11 +1,13 @@
 //! The laws of the spellings of programs, and of their reader.
 
-ghost use Rattle.std.specs.Prelude.{ℕ, List};
+ghost use Rattle.std.specs.Prelude.{◌≡◌, true, List};
 ghost use Rattle.scale_codec.specs.Spelling.{HasOneSpelling, IsPrefixFree};
 ghost use Rattle.scale_codec.specs.Reading.{Reads};
 ghost use Rattle.asset_wire.specs.declared.version.Version.{Version};
 ghost use Rattle.xcm_program.specs.Spelling.{program_spelling, FitsProgram};
 ghost use Rattle.xcm_program.specs.Messages.{IsReadable};
+ghost use Rattle.xcm_program.specs.Conversions.{is_convertible, IsWritable};
+ghost use Rattle.xcm_program.specs.declared.instruction.Instruction.{Instruction};
 ghost use Rattle.program_wire.specs.Reading.{readable_at};
 
 /// A program has at most one spelling in a version.
@@ -17,6 +19,12 @@ pub fn law_of_one_spelling()
 /// size and depth.
 pub fn law_of_no_prefix()
     ensures { (v : Version) → IsPrefixFree (program_spelling v) (FitsProgram v) }
+{}
+
+/// What was read in a version can be written in it, and in either version where both can say it.
+pub fn law_of_writable()
+    ensures same { (v : Version) (p : List Instruction) → IsReadable v p → IsWritable v p }
+    ensures either { (v w : Version) (p : List Instruction) → IsReadable v p → is_convertible p ≡ true → IsWritable w p }
 {}
 
 /// The reader takes what is spelled so within the limits, whatever follows it, and nothing else.

@@ -15,7 +15,14 @@ const NO_WEIGHT: Weight = Weight {
 };
 
 /// Messages that are executed on the relay, and what stands below the heading.
-const EXECUTED: [(&[u8], &str); 5] = [
+const EXECUTED: [(&[u8], &str); 6] = [
+    (
+        b"\x03\x04\x0a",
+        "  p0 ClearOrigin ok
+  end origin - topic - surplus 0 0 refunded 0 0
+  = complete 1000 100
+",
+    ),
     (
         b"\x04\x04\x19\x14",
         "  p0 Trap Trap(5)
@@ -54,7 +61,16 @@ const EXECUTED: [(&[u8], &str); 5] = [
 ];
 
 /// Messages that are refused, and the line of the refusal.
-const REFUSED: [(&[u8], &str); 5] = [
+const REFUSED: [(&[u8], &str); 8] = [
+    (b"\x03\x04\x2f\x00\x00", "  = message refused: not built\n"),
+    (
+        b"\x04\x08\x0a\x16\x04\x0a",
+        "  = message refused: not built\n",
+    ),
+    (
+        b"\x03\x04\x00\x04\x01\x00\x00\x00\x00\x00\x00\x00\x00\x00\x00\x00\x00\x00\x00\x00\x00\x00\x00\x00\x00\x00\x00\x00\x00\x00\x00\x00\x00\x00\x00\x00\x00\x00\x04",
+        "  = message refused: not convertible\n",
+    ),
     (
         b"\x04\x04\x19\x15\x00",
         "  = message refused: not a message\n",

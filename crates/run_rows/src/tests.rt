@@ -91,7 +91,9 @@ fn end_line(alloc: Global, cleared: bool, surplus: &str) -> Result<String, Fail>
 }
 
 /// Messages of one Trap, by the code's compact number, and the code.
-const TRAPS: [(&str, &str); 5] = [
+const TRAPS: [(&str, &str); 6] = [
+    // version 3
+    ("03041914", "5"),
     ("04041914", "5"),
     ("0x04041914", "5"),
     ("0404190101", "64"),
@@ -129,7 +131,7 @@ fn instructions_behind_an_error_are_surplus(rt: HostRuntime) -> Result<(), Fail>
 }
 
 /// Messages that are refused, with the cause.
-const REFUSED: [(&str, &str); 16] = [
+const REFUSED: [(&str, &str); 24] = [
     // 5 in two bytes
     ("0404191500", "not a message"),
     // a byte left over
@@ -142,18 +144,35 @@ const REFUSED: [(&str, &str); 16] = [
     ("0408", "not a message"),
     ("040419", "not a message"),
     ("04", "not a message"),
+    ("03", "not a message"),
     ("0x", "not a message"),
+    ("04080a00", "not a message"),
     // no instruction has the index 48
     ("040430", "not a message"),
     ("05", "unknown version"),
     ("00", "unknown version"),
+    // an asset that is named by bytes, which version 4 can't say; there the same bytes spell an amount of 0
+    (
+        "030400040100000000000000000000000000000000000000000000000000000000000000000004",
+        "not convertible",
+    ),
+    (
+        "040400040100000000000000000000000000000000000000000000000000000000000000000004",
+        "not a message",
+    ),
+    // an instruction that isn't built, in both versions, and behind one that is
     ("04042f0000", "not built"),
-    ("03041914", "not built"),
-    ("03", "not built"),
-    // a built instruction, and then one that isn't
-    ("04080a00", "not built"),
+    ("03042f0000", "not built"),
+    ("04080a14", "not built"),
+    // depth 8, and depth 9
+    ("040416041604160416041604160416040a", "not built"),
+    ("0404160416041604160416041604160416040a", "not a message"),
+    // a count, and the length of a call, of 2^32-1
+    ("0403ffffffff", "not a message"),
+    ("04040600000003ffffffff", "not a message"),
     // more instructions than a message has
     ("0495010a00", "not a message"),
+    ("0495010a16040a", "not a message"),
 ];
 
 #[test]

@@ -12,7 +12,7 @@ use Rattle.xcm_program.specs.Messages.{version_byte, message}
 use Rattle.xcm_program.proofs.Layers.{count_inside, count_one-is, depth_of_inside, depth_inside-is}
 use Rattle.versioned_xcm.specs.Message.{forwarded}
 
-clear-out : out-Instruction ClearOrigin ≡ Instruction-F.ClearOrigin
+pub clear-out : out-Instruction ClearOrigin ≡ Instruction-F.ClearOrigin
 unfolding out-Instruction denote.Hole.Carrier.out
 clear-out = refl
 

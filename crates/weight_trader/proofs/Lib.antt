@@ -6,3 +6,4 @@ pub mod Changes
 pub mod Lines
 pub mod Charging
 pub mod Trading
+pub mod Counting

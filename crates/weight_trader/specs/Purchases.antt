@@ -11,7 +11,7 @@ use Rattle.asset_lists.specs.declared.units.AssetId.{AssetId}
 use Rattle.asset_lists.specs.Units.{Unit}
 use Rattle.asset_bundles.specs.declared.book.Cause.{Cause}
 use Rattle.asset_bundles.specs.Bundles.{Bundle}
-use Rattle.asset_bundles.specs.Books.{Book, Booked, listed_of, lists}
+use Rattle.asset_bundles.specs.Books.{Book, Booked, Listed, listed_of, lists}
 use Rattle.weight_trader.specs.declared.rate.Rate.{Rate}
 use Rattle.weight_trader.specs.Prices.{price}
 
@@ -109,10 +109,10 @@ pub record IsCharge (w : Weight) (payment : Bundle) (lines : List Line) (left : 
   pub asset_is : asset ≡ AssetId.Concrete line.rate.asset
   pub above_is : above ≡ excess w line
 
--- the book with so much of the rate's asset that would have passed the end
-abbrev pub with_saturated : Rate → ℕ → Book → Book
-with_saturated rate zero book = book
-with_saturated rate (suc n) book = Booked book (single (listed_of (coin_of rate), Cause.Saturated) (suc n))
+-- the book with so much of an asset that would have passed the end
+abbrev pub with_saturated : Listed → ℕ → Book → Book
+with_saturated asset zero book = book
+with_saturated asset (suc n) book = Booked book (single (asset, Cause.Saturated) (suc n))
 
 -- a purchase at a line: what is left of the payment, and the record and the book after it
 pub record IsPurchase (w : Weight) (payment : Bundle) (lines : List Line) (book : Book) (left : Bundle) (lines_after : List Line) (book_after : Book) : Type 0 where
@@ -120,4 +120,4 @@ pub record IsPurchase (w : Weight) (payment : Bundle) (lines : List Line) (book 
   pub first : paying w payment lines ≡ Some line
   pub left_is : left ≡ unspent_at w payment line
   pub lines_are : lines_after ≡ Bought w payment lines
-  pub book_is : book_after ≡ with_saturated line.rate (excess w line) book
+  pub book_is : book_after ≡ with_saturated (listed_of (coin_of line.rate)) (excess w line) book

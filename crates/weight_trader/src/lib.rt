@@ -11,3 +11,6 @@ pub use laws::law_of_trading;
 pub use rate::{Rate, price};
 pub use trader::{TooExpensive, Trader};
 pub use weighing::{NotComputable, weigh};
+
+#[cfg(test)]
+mod tests;

@@ -120,7 +120,11 @@ impl Trader {
 
     /// Takes the price of the weight at the first rate that the payment covers, and records it. The answer is the asset, and what would
     /// have passed 2^128-1 of what is paid in it; none where each price passes the payment.
-    fn charge(&mut self, weight: Weight, payment: &mut AssetBundle) -> Option<(AssetId, u128)>
+    pub(crate) fn charge(
+        &mut self,
+        weight: Weight,
+        payment: &mut AssetBundle,
+    ) -> Option<(AssetId, u128)>
         ensures { MatchOption result
             (IsTooExpensive weight payment.old self.old × (payment.new ≡ payment.old) × (self.new ≡ self.old))
             (λ above. IsCharge weight payment.old self.old payment.new self.new above.0 above.1) }

@@ -15,13 +15,15 @@ use Rattle.asset_wire.specs.declared.version.Version.TheVariants.{V3, V4}
 use Rattle.asset_wire.specs.Spelling.{IsNamed, AreNamed, IsWildNamed, IsFilterNamed}
 use Rattle.message_parts.specs.declared.query.Response.{Response}
 use Rattle.message_parts.specs.declared.query.Response.TheVariants as responses
+use Rattle.message_parts.specs.Named.{IsResponseNamed}
 use Rattle.xcm_program.specs.declared.instruction.Instruction.{Instruction, out-Instruction, fold_out-Instruction, map-Instruction}
 use Rattle.xcm_program.specs.declared.instruction.Instruction.TheOpen.{Instruction-F}
 use Rattle.xcm_program.specs.Measure.{inner, inner_of, count_one, count_of}
 use Rattle.xcm_program.specs.Everywhere.{AllInside}
-use Rattle.xcm_program.specs.Conversions.{is_place, are_places, wild_is_place, filter_is_places, response_is_places, names_places, all_true, all_true_inside, convertible_one, is_convertible, IsResponseNamed, IsNamedHead, IsNamedOne}
-use Rattle.xcm_program.proofs.Layers.{inner-map, count_inside, count_one-is}
-use Rattle.xcm_program.proofs.Whole.{named_open, named_here}
+use Rattle.xcm_program.specs.Conversions.{is_place, are_places, wild_is_place, filter_is_places, response_is_places, names_places, all_true, all_true_inside, convertible_one, is_convertible, IsNamedHead, IsNamedOne}
+use Rattle.xcm_program.proofs.Layers.{inner-map, count_inside}
+use Rattle.xcm_program.proofs.Whole.{IsNamedHead-IsOfLayer, named_open}
+use Rattle.xcm_program.proofs.Induction.{behind_less, some_count, everywhere_by}
 
 -- ---- by one layer
 
@@ -196,40 +198,19 @@ head_named3 _ = tt
 
 -- ---- whole programs, of at most n instructions
 
-behind_less : (n : ℕ) (i : Instruction) (rest : List Instruction) → count_of (i ∷ rest) ≤ suc n → (count_inside (inner_of i) ≤ n) × (count_of rest ≤ n)
-behind_less n i rest few = let c = count_one-is i in (omega (arith, c, few), omega (arith, c, few))
-
-some_count : (i : Instruction) (rest : List Instruction) → count_of (i ∷ rest) ≤ 0 → ⊥
-some_count i rest few = omega (arith, count_one-is i, few)
-
-module _ (v : Version) (Ok : List Instruction → Type 0) (head : (i : Instruction) (rest : List Instruction) → Ok (i ∷ rest) → IsNamedHead v Instruction (out-Instruction i))
-    (inside : (i : Instruction) (rest p : List Instruction) → inner_of i ≡ Some p → Ok (i ∷ rest) → Ok p) (behind : (i : Instruction) (rest : List Instruction) → Ok (i ∷ rest) → Ok rest) where
-  named_inside : (n : ℕ) → ((p : List Instruction) → count_of p ≤ n → Ok p → AllByRecursion (IsNamedOne v) p) → (i : Instruction) (rest : List Instruction) (o : Option (List Instruction))
-      → inner_of i ≡ o → count_inside o ≤ n → Ok (i ∷ rest) → AllInside (IsNamedOne v) o
-  named_inside n h i rest None is few ok = tt
-  named_inside n h i rest (Some p) is few ok = h p few (inside i rest p is ok)
-
-  -- what a fact of programs says of each head, it says at every depth
-  named_by : (n : ℕ) (p : List Instruction) → count_of p ≤ n → Ok p → AllByRecursion (IsNamedOne v) p
-  named_by n [] few ok = tt
-  named_by zero (i ∷ rest) few ok = absurd (some_count i rest few)
-  named_by (suc n) (i ∷ rest) few ok =
-      let b = behind_less n i rest few in
-      (named_here v i (head i rest ok) (named_inside n (named_by n) i rest (inner_of i) refl b.0 ok), named_by n rest b.1 (behind i rest ok))
-
 head_true : (i : Instruction) (rest : List Instruction) → is_convertible (i ∷ rest) ≡ true → (names_places (out-Instruction i) ≡ true) × (convertible_inside (inner_of i) ≡ true)
 head_true i rest ok = split (names_places (out-Instruction i)) (convertible_inside (inner_of i)) (sym (convertible_one-is i) ∙ (split (convertible_one i) (is_convertible rest) ok).0)
 
 pub named_from : (p : List Instruction) → is_convertible p ≡ true → AllByRecursion (IsNamedOne V4) p
 named_from p =
-    named_by V4 (λ q. is_convertible q ≡ true)
+    everywhere_by (IsNamedHead V4) (IsNamedHead-IsOfLayer V4) (λ q. is_convertible q ≡ true)
     (λ i rest ok. head_named (out-Instruction i) (head_true i rest ok).0)
     (λ i rest q is ok. ap convertible_inside (sym is) ∙ (head_true i rest ok).1)
     (λ i rest ok. (split (convertible_one i) (is_convertible rest) ok).1)
-    (count_of p) p (omega arith)
+    p
 
 pub named3 : (p : List Instruction) → AllByRecursion (IsNamedOne V3) p
-named3 p = named_by V3 (λ q. Unit {0}) (λ i rest ok. head_named3 (out-Instruction i)) (λ i rest q is ok. tt) (λ i rest ok. tt) (count_of p) p (omega arith) tt
+named3 p = everywhere_by (IsNamedHead V3) (IsNamedHead-IsOfLayer V3) (λ q. Unit {0}) (λ i rest ok. head_named3 (out-Instruction i)) (λ i rest q is ok. tt) (λ i rest ok. tt) p tt
 
 placed_inside : (n : ℕ) → ((p : List Instruction) → count_of p ≤ n → AllByRecursion (IsNamedOne V4) p → is_convertible p ≡ true) → (o : Option (List Instruction)) → count_inside o ≤ n → AllInside (IsNamedOne V4) o → convertible_inside o ≡ true
 placed_inside n h None few all = refl

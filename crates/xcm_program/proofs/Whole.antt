@@ -85,7 +85,7 @@ fits_here v i h k =
 
 -- ---- what can be written
 
-IsNamedHead-IsOfLayer : (v : Version) → IsOfLayer (IsNamedHead v)
+pub IsNamedHead-IsOfLayer : (v : Version) → IsOfLayer (IsNamedHead v)
 IsNamedHead-IsOfLayer v X Y f (Instruction-F.WithdrawAsset list) = refl
 IsNamedHead-IsOfLayer v X Y f _ = refl
 
@@ -95,7 +95,7 @@ named_open v = everywhere_open (IsNamedHead v) (IsNamedHead-IsOfLayer v)
 pub named_here : (v : Version) (i : Instruction) → IsNamedHead v Instruction (out-Instruction i) → AllInside (IsNamedOne v) (inner_of i) → IsNamedOne v i
 named_here v = everywhere_here (IsNamedHead v) (IsNamedHead-IsOfLayer v)
 
-HasAmount-IsOfLayer : IsOfLayer HasAmount
+pub HasAmount-IsOfLayer : IsOfLayer HasAmount
 HasAmount-IsOfLayer X Y f (Instruction-F.WithdrawAsset list) = refl
 HasAmount-IsOfLayer X Y f _ = refl
 

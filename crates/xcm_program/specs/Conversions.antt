@@ -13,6 +13,7 @@ use Rattle.asset_wire.specs.declared.version.Version.{Version}
 use Rattle.asset_wire.specs.Spelling.{IsNamed, AreNamed, IsFilterNamed}
 use Rattle.message_parts.specs.declared.query.Response.{Response}
 use Rattle.message_parts.specs.declared.query.Response.TheVariants as responses
+use Rattle.message_parts.specs.Named.{IsResponseNamed}
 use Rattle.xcm_program.specs.declared.instruction.Instruction.{Instruction, fold-Instruction}
 use Rattle.xcm_program.specs.declared.instruction.Instruction.TheOpen.{Instruction-F}
 use Rattle.xcm_program.specs.Measure.{inner, count_of}
@@ -80,10 +81,6 @@ abbrev pub is_convertible : List Instruction → Bool
 is_convertible program = all_true (map convertible_one program)
 
 -- ---- what no type keeps of a program that has a spelling in a version
-
-abbrev pub IsResponseNamed : Version → Response → Type 0
-IsResponseNamed v (responses.Assets list) = AreNamed v list
-IsResponseNamed v _ = ⊤
 
 -- the version can say each id
 abbrev pub IsNamedHead : Version → (X : Type 0) → Instruction-F X → Type 0
