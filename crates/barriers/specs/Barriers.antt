@@ -1,6 +1,7 @@
--- Which programs a chain's barriers let in. Source: xcm-executor's documentation of barriers, and xcm-builder's of those that are built
--- here (TakeWeightCredit, AllowTopLevelPaidExecutionFrom, AllowExplicitUnpaidExecutionFrom, AllowUnpaidExecutionFrom,
--- AllowKnownQueryResponses). The numbers of assets and of instructions that the paid barrier allows are this project's own rule.
+-- Which programs a chain's barriers let in. Sources: xcm-executor's documentation of barriers, and xcm-builder's of TakeWeightCredit,
+-- AllowTopLevelPaidExecutionFrom (with its two assets and five instructions), AllowExplicitUnpaidExecutionFrom, AllowUnpaidExecutionFrom
+-- and AllowKnownQueryResponses. That the credit is compared and not used up, and that a response's querier plays no part, are this
+-- project's own rules.
 use Rattle.std.specs.Prelude.{ℕ, ◌+◌, nat_le, ◌==◌, Bool, true, false, ◌&&◌, List, [], ◌∷◌, length, drop, find, slice_get, slice_set, Option, Some, None}
 use Rattle.std.specs.List.{list_any, prefix_len}
 use Rattle.std.specs.Option.{option_map_or}

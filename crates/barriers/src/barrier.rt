@@ -12,19 +12,19 @@ use xcm_program::{Instruction, Program};
 /// Origins of which a barrier speaks, as seen from the chain. Contracts see them as their list.
 pub type Origins = Listed<Location>;
 
-/// A rule by which a chain lets a program in (xcm-executor's documentation).
+/// A rule by which a chain lets a program in (xcm-executor's and xcm-builder's documentation of barriers).
 #[derive(Debug, Drop, PartialEq, Eq)]
 pub enum Barrier {
-    /// Allows where the credit is at least the weight.
+    /// Allows where the credit is at least the weight, in both dimensions.
     Credit,
-    /// Allows where the program brings at most two assets and buys at least its weight, at index 4 at most. What it buys is then
-    /// set to the weight.
+    /// Allows where the program brings at most two assets and then, behind ClearOrigins alone and at index 4 at most, buys at least
+    /// its weight. What it buys is then set to the weight.
     Paid,
     /// Allows these origins where the program asks for unpaid execution of at least its weight.
     Explicit(Origins),
     /// Allows these origins.
     Unpaid(Origins),
-    /// Allows a single response to a query that is open, from where it was asked.
+    /// Allows a single response to an open query, from the location that may answer it. Its querier plays no part.
     Responses,
 }
 

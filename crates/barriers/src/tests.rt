@@ -161,51 +161,38 @@ fn purchases(rt: HostRuntime) -> Result<(), Fail> {
     Ok(())
 }
 
+/// The instruction of this index, with these assets.
+fn bringing(index: u8, assets: Assets) -> Instruction {
+    match index {
+        1 => Instruction::ReserveAssetDeposited { assets },
+        2 => Instruction::ReceiveTeleportedAsset { assets },
+        24 => Instruction::ClaimAsset {
+            assets,
+            ticket: here(),
+        },
+        _ => Instruction::BurnAsset { assets },
+    }
+}
+
 #[test]
 fn what_a_paid_program_begins_with(rt: HostRuntime) -> Result<(), Fail> {
     let alloc = rt.alloc();
-    let ticket = here();
-    let cases = [
-        (
-            Instruction::ReserveAssetDeposited {
-                assets: assets(alloc, 2)?,
-            },
-            true,
-        ),
-        (
-            Instruction::ReceiveTeleportedAsset {
-                assets: assets(alloc, 2)?,
-            },
-            true,
-        ),
-        (
-            Instruction::ClaimAsset {
-                assets: assets(alloc, 2)?,
-                ticket,
-            },
-            true,
-        ),
-        (
-            Instruction::BurnAsset {
-                assets: assets(alloc, 2)?,
-            },
-            false,
-        ),
-        (Instruction::ClearOrigin, false),
-    ];
-    for (first, wanted) in cases {
-        let index = first.index();
+    for (index, wanted) in [(1, true), (2, true), (24, true), (28, false)] {
+        let first = bringing(index, assets(alloc, 2)?);
         let mut program = paying(alloc, first, 1, WeightLimit::Unlimited)?;
         assert_eq!(rt; pays(&mut program), wanted, "instruction {index}");
     }
+    Ok(())
+}
 
+#[test]
+fn programs_without_a_purchase(rt: HostRuntime) -> Result<(), Fail> {
+    let alloc = rt.alloc();
     let mut nothing = Program::from_vec(Vec::new(alloc));
     assert!(rt; !pays(&mut nothing));
-    let first = Instruction::WithdrawAsset {
-        assets: assets(alloc, 1)?,
-    };
-    let mut no_purchase = Program::from_vec(vec![in alloc; first, depositing()]?);
-    assert!(rt; !pays(&mut no_purchase));
+    let first = bringing(1, assets(alloc, 1)?);
+    let mut program = Program::from_vec(vec![in alloc; first]?);
+    assert!(rt; !pays(&mut program));
     Ok(())
 }
 
@@ -296,6 +283,11 @@ fn responses_to_open_queries(rt: HostRuntime) -> Result<(), Fail> {
         assert_eq!(rt; answer, wanted, "query {id} from {number}");
     }
     Ok(())
+}
+
+#[test]
+fn the_law_can_be_called(_rt: HostRuntime) {
+    law_of_barriers();
 }
 
 #[test]

@@ -15,5 +15,5 @@ pub returns : goal.returns
 returns c =
     let all = YieldsList-at c.take_while.ensures.source (YieldsList-from_skip 1 (YieldsList-from_slice c.args.program.now (cc)) c.skip.ensures.count) in
     ap (λ n. 1 + n)
-    (count_from_yields_List c.take_while.result _ c.count-clears.ensures.ran (YieldsList-from_take_while _ clears all c.take_while.ensures.closure c.take_while.ensures.done (λ x b q k. search (rules, tests)))
+    (count_from_yields_List c.take_while.result c.count-clears.result c.count-clears.ensures.ran (YieldsList-from_take_while _ clears all c.take_while.ensures.closure c.take_while.ensures.done (λ x b q k. search (rules, tests)))
     ∙ length-prefix_len clears (drop 1 c.args.program.now))
