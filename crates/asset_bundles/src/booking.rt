@@ -164,8 +164,8 @@ impl BurnBook {
         total_in(self.rows.as_slice(), id, kind, cause)
     }
 
-    /// Books so much of a listed asset.
-    pub(crate) fn add(&mut self, id: &AssetId, kind: Kind, cause: Cause, amount: u128)
+    /// Books so much of a listed asset, in its smallest unit. No memory is taken.
+    pub fn add(&mut self, id: &AssetId, kind: Kind, cause: Cause, amount: u128)
         requires { IsTrue (lists self.old.listed (id.now, kind)) }
         ensures { self.new ≡ Booked self.old (single ((id.now, kind), cause) amount) }
     {

@@ -1,5 +1,5 @@
 //! Bundles of assets.
-ghost use Rattle.std.specs.Prelude.{◌≡◌, ℕ, ◌≤◌, ◌↔◌, None, length, IsTrue, IsFalse, IfOk, OnOk, OnErr, MatchResult};
+ghost use Rattle.std.specs.Prelude.{◌≡◌, ◌≤◌, ◌↔◌, None, length, IsTrue, IsFalse, IfOk, OnOk, OnErr, MatchResult};
 ghost use Rattle.amounts.specs.Amounts.{empty, amount, total, rows, minus, difference, IsWithin};
 ghost use Rattle.asset_lists.specs.Units.{Unit, unit_of, amount_of};
 ghost use Rattle.asset_lists.specs.Lists.{has_zero};
@@ -106,7 +106,8 @@ impl AssetBundle {
 
     /// All assets in holding order: fungibles by id, then instances by id and instance.
     pub fn list(&self) -> Result<Vec<Asset>, AllocError>
-        ensures { IfOk result (λ assets. assets.items ≡ held_assets self.now) }
+        ensures listed { IfOk result (λ assets. assets.items ≡ held_assets self.now) }
+        ensures bundle { IfOk result (λ assets. bundle_of assets.items ≡ self.now) }
     {
         let assets = copied(*self.items.allocator(), self.items.as_slice())?;
         Ok(assets)
@@ -114,7 +115,8 @@ impl AssetBundle {
 
     /// What `take` would take, in holding order.
     pub fn min(&self, filter: &Filter) -> Result<Vec<Asset>, AllocError>
-        ensures { IfOk result (λ assets. assets.items ≡ held_assets (Taken filter.now self.now)) }
+        ensures listed { IfOk result (λ assets. assets.items ≡ held_assets (Taken filter.now self.now)) }
+        ensures bundle { IfOk result (λ assets. bundle_of assets.items ≡ Taken filter.now self.now) }
     {
         let taken = chosen(*self.items.allocator(), self.items.as_slice(), filter)?;
         Ok(taken)

@@ -1,7 +1,7 @@
 //! Shipments sent off, read and lost.
 ghost use Rattle.std.specs.Prelude.{◌≡◌, IfOk};
 ghost use Rattle.amounts.specs.Amounts.{total};
-ghost use Rattle.asset_bundles.specs.Bundles.{held_assets, is_asset};
+ghost use Rattle.asset_bundles.specs.Bundles.{bundle_of, held_assets, is_asset};
 ghost use Rattle.asset_bundles.specs.Books.{Covers};
 ghost use Rattle.asset_bundles.specs.Losing.{book_after_loss};
 
@@ -40,7 +40,8 @@ impl Shipment {
 
     /// All assets in holding order, under the sender's ids.
     pub fn list(&self) -> Result<Vec<Asset>, AllocError>
-        ensures { IfOk result (λ assets. assets.items ≡ held_assets self.now.units) }
+        ensures listed { IfOk result (λ assets. assets.items ≡ held_assets self.now.units) }
+        ensures bundle { IfOk result (λ assets. bundle_of assets.items ≡ self.now.units) }
     {
         self.units.list()
     }

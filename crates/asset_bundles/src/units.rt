@@ -59,7 +59,8 @@ impl Units {
 
     /// All assets in holding order.
     pub fn list(&self) -> Result<Vec<Asset>, AllocError>
-        ensures { IfOk result (λ assets. assets.items ≡ held_assets self.now) }
+        ensures listed { IfOk result (λ assets. assets.items ≡ held_assets self.now) }
+        ensures bundle { IfOk result (λ assets. bundle_of assets.items ≡ self.now) }
     {
         let assets = copied(*self.items.allocator(), self.items.as_slice())?;
         Ok(assets)

@@ -4,14 +4,11 @@ use Rattle.std.proofs.lemmas.Bool.{eqb-false, ne_eqb}
 use Rattle.std.proofs.lemmas.List.{length-map, append-nil}
 use Rattle.std.specs.List.{AllByRecursion}
 use Rattle.std.specs.Option.{option_map}
-use Rattle.scale_codec.specs.Spelling.{compact, joined, Spells, IsPrefixFree}
+use Rattle.scale_codec.specs.Spelling.{compact, joined, IsPrefixFree}
 use Rattle.scale_codec.specs.Reading.{◌>>=◌, Reads, below_at, repeated}
 use Rattle.scale_codec.proofs.Steps.{bind_some, same_some, unless}
 use Rattle.scale_codec.proofs.Compact.{c32}
 use Rattle.asset_wire.specs.declared.version.Version.{Version}
-use Rattle.asset_wire.specs.declared.fault.WireFault.{WireFault}
-use Rattle.asset_wire.specs.Answers.{Refuses}
-use Rattle.asset_wire.proofs.Refusals.{refuses_as}
 use Rattle.xcm_program.specs.declared.instruction.Instruction.{Instruction, out-Instruction, roll-Instruction, out-roll-Instruction, roll-out-Instruction}
 use Rattle.xcm_program.specs.Measure.{inner, inner_of, with_inner, greatest, count_one, count_of, depth_inside, depth_of}
 use Rattle.xcm_program.specs.Spelling.{head, FitsHead, behind, instruction_spelling, program_spelling, FitsInstruction, FitsProgram}

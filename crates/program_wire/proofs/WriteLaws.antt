@@ -1,9 +1,9 @@
 -- What is written, by one layer.
-use Rattle.std.proofs.Common.{◌≡◌, ℕ, ◌+◌, ◌<◌, ◌≤◌, ◌^◌, List, [], ◌∷◌, ◌++◌, length, map, drop, Option, Some, None, Result, Ok, Err, refl, sym, ap, subst, ◌∙◌, append_assoc, arith}
+use Rattle.std.proofs.Common.{◌≡◌, ℕ, ◌+◌, ◌<◌, ◌≤◌, ◌^◌, List, [], ◌∷◌, ◌++◌, length, map, drop, Option, Some, None, Result, Ok, Err, sym, ap, subst, ◌∙◌, append_assoc, arith}
 use Rattle.std.specs.Prelude.{OnOk}
-use Rattle.std.proofs.lemmas.List.{append-nil, length-map}
+use Rattle.std.proofs.lemmas.List.{append-nil}
 use Rattle.std.specs.List.{AllByRecursion}
-use Rattle.scale_codec.specs.Spelling.{compact, joined}
+use Rattle.scale_codec.specs.Spelling.{joined}
 use Rattle.scale_codec.specs.Answers.{Appends}
 use Rattle.scale_codec.proofs.WriteLoops.{wrote_all, fits_all}
 use Rattle.asset_wire.specs.declared.version.Version.{Version}

@@ -9,5 +9,5 @@ mod writing;
 
 pub use asset_wire::{WireFault, read_instance, write_instance};
 pub use law::{law_of_no_prefix, law_of_one_spelling, law_of_readers, law_of_writable};
-pub use reading::read_program;
+pub use reading::{MAX_DEPTH, MAX_INSTRUCTIONS, read_program};
 pub use writing::{write_instruction, write_program};

@@ -13,11 +13,11 @@ use scale_codec::Cursor;
 use std::alloc::Global;
 use xcm_program::{Instruction, Program, Version, inner, with_program};
 
-/// The most levels of nested programs.
-const MAX_DEPTH: u32 = 8;
+/// The most levels of nested programs. Source: the XCM format's limit on decoding.
+pub const MAX_DEPTH: u32 = 8;
 
-/// The most instructions, those of nested programs counted.
-const MAX_INSTRUCTIONS: u32 = 100;
+/// The most instructions of a program, those of nested programs counted. Source: the XCM format's limit on decoding.
+pub const MAX_INSTRUCTIONS: u32 = 100;
 
 /// An instruction, and how many there may still be.
 #[cycle(program)]

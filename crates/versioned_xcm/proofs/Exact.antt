@@ -1,5 +1,5 @@
 -- Decoding accepts just the messages that both versions can say, and each refusal has its cause.
-use Rattle.std.proofs.Common.{◌≡◌, ◌∙◌, ◌⊎◌, inl, inr, ℕ, ◌<◌, ◌≤◌, List, [], ◌∷◌, ◌++◌, length, Bool, true, false, cond, eqb, Option, Some, None, Result, Ok, Err, MatchResult, refl, sym, ap, subst, arith}
+use Rattle.std.proofs.Common.{◌≡◌, ◌∙◌, ◌⊎◌, inl, inr, ℕ, ◌≤◌, List, [], ◌∷◌, ◌++◌, length, Bool, true, false, cond, eqb, Option, Some, None, Result, Ok, Err, MatchResult, refl, sym, ap, subst, arith}
 use Rattle.std.specs.Prelude.{nat_lt}
 use Rattle.std.proofs.lemmas.Bool.{eqb-true, eqb-false}
 use Rattle.std.proofs.lemmas.Bool.Decides.{nat_tests}
@@ -14,8 +14,8 @@ use Rattle.xcm_program.specs.Conversions.{is_convertible}
 use Rattle.program_wire.specs.Reading.{readable_at}
 use Rattle.program_wire.proofs.ProgramLaws.{program_reads}
 use Rattle.versioned_xcm.specs.declared.fault.MessageFault.{MessageFault}
-use Rattle.versioned_xcm.specs.declared.fault.MessageFault.TheVariants.{TooLong, UnknownVersion, NotAMessage, NotConvertible, Memory}
-use Rattle.versioned_xcm.specs.Message.{IsDecoded, IsAbstract, IsKnown, HasUnknownVersion, IsCause}
+use Rattle.versioned_xcm.specs.declared.fault.MessageFault.TheVariants.{TooLong, UnknownVersion, NotConvertible, Memory}
+use Rattle.versioned_xcm.specs.Message.{IsDecoded, IsKnown, HasUnknownVersion, IsCause}
 use Rattle.versioned_xcm.specs.Reading.{ended, program_in, versioned_at, message_of}
 
 -- ---- the version of a message

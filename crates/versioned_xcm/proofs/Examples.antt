@@ -2,7 +2,7 @@
 use Rattle.std.proofs.Common.{◌≡◌, ◌<◌, ◌≤◌, ◌+◌, ◌^◌, List, [], ◌∷◌, ◌++◌, length, get_or, refl, sym, ap, subst, arith}
 use Rattle.std.specs.List.{AllByRecursion}
 use Rattle.asset_wire.specs.declared.version.Version.{Version}
-use Rattle.xcm_program.specs.declared.instruction.Instruction.{Instruction, ClearOrigin, out-Instruction}
+use Rattle.xcm_program.specs.declared.instruction.Instruction.{Instruction, ClearOrigin}
 use Rattle.xcm_program.specs.declared.instruction.Instruction.TheOpen.{Instruction-F}
 use Rattle.xcm_program.specs.Measure.{inner, count_one, count_of}
 use Rattle.xcm_program.specs.Everywhere.{AllInside}

@@ -1,7 +1,7 @@
 -- A program that is sent on: its measures, and what is written for it.
 use denote.Hole.Carrier
-use Rattle.std.proofs.Common.{◌≡◌, ◌∙◌, ℕ, ◌+◌, List, [], ◌∷◌, ◌++◌, length, map, refl, sym, ap, append_assoc, arith}
-use Rattle.std.proofs.lemmas.List.{length-map, append-nil}
+use Rattle.std.proofs.Common.{◌≡◌, ◌∙◌, ℕ, ◌+◌, List, ◌++◌, length, map, refl, ap, append_assoc, arith}
+use Rattle.std.proofs.lemmas.List.{length-map}
 use Rattle.scale_codec.specs.Spelling.{byte, compact, joined}
 use Rattle.asset_wire.specs.declared.version.Version.{Version}
 use Rattle.xcm_program.specs.declared.instruction.Instruction.{Instruction, ClearOrigin, out-Instruction}

@@ -1,25 +1,20 @@
 //! From programs to bytes.
 
-ghost use Rattle.std.specs.Prelude.{◌≡◌, ◌<◌, ◌≤◌, ◌+◌, ◌^◌, ◌⊎◌, OnOk, MatchResult, MatchBool};
+ghost use Rattle.std.specs.Prelude.{◌≡◌, ◌<◌, ◌≤◌, ◌+◌, ◌^◌, ◌⊎◌, length, OnOk, MatchResult, MatchBool};
 ghost use Rattle.scale_codec.specs.Answers.{Appends};
 ghost use Rattle.xcm_program.specs.Measure.{count_one, count_of, depth_inside, depth_of};
 ghost use Rattle.xcm_program.specs.Spelling.{FitsProgram};
 ghost use Rattle.xcm_program.specs.Messages.{version_byte, message, IsSmall, IsMessageIn};
 ghost use Rattle.xcm_program.specs.Conversions.{IsWritable};
 ghost use Rattle.versioned_xcm.specs.Message.{forwarded, IsEncodeCause};
+ghost use Rattle.versioned_xcm.specs.declared.fault.EncodeFault.TheVariants.{ExceedsLimits};
 
 use crate::decoding::MAX_BYTES;
 use crate::fault::EncodeFault;
-use program_wire::{write_instruction, write_program};
+use program_wire::{MAX_DEPTH, MAX_INSTRUCTIONS, write_instruction, write_program};
 use scale_codec::Out;
 use std::alloc::{AllocError, Global};
 use xcm_program::{Instruction, Program, Version, deep_count, depth, inner};
-
-/// The most instructions of a message, those of nested programs counted.
-const MAX_INSTRUCTIONS: u32 = 100;
-
-/// The most levels of nested programs.
-const MAX_DEPTH: u32 = 8;
 
 fn version_byte(v: Version) -> u8
     ensures { result ≡ version_byte v }
@@ -40,6 +35,18 @@ fn put_message(o: &mut Out, program: &Program, v: Version) -> Result<(), AllocEr
     write_program(o, program, v)
 }
 
+/// What was written, where it is no longer than a message may be.
+fn finished(out: Out) -> Result<Vec<u8>, EncodeFault>
+    ensures { MatchResult result
+        (λ bytes. (bytes.items ≡ out) × (length out ≤ 65536))
+        (λ fault. (fault ≡ ExceedsLimits) × (65536 < length out)) }
+{
+    if out.bytes().len() > MAX_BYTES {
+        return Err(EncodeFault::ExceedsLimits);
+    }
+    Ok(out.into_vec())
+}
+
 /// The message of a program in a version. The version must be able to say it: it can say each asset id, and no amount is 0; and the
 /// program holds fewer than 2^32 instructions. `ExceedsLimits` comes exactly past 100 instructions, nested ones counted, 8 levels or
 /// 65,536 bytes.
@@ -52,12 +59,7 @@ pub fn encode_message(alloc: Global, program: &Program, v: Version) -> Result<Ve
     }
     let mut out = Out::new(alloc);
     match put_message(&mut out, program, v) {
-        Ok(()) => {
-            if out.bytes().len() > MAX_BYTES {
-                return Err(EncodeFault::ExceedsLimits);
-            }
-            Ok(out.into_vec())
-        }
+        Ok(()) => finished(out),
         Err(_) => Err(EncodeFault::Memory),
     }
 }
@@ -133,12 +135,7 @@ pub fn encode_forwarded(
     }
     let mut out = Out::new(alloc);
     match put_forwarded(&mut out, first, rest, v) {
-        Ok(()) => {
-            if out.bytes().len() > MAX_BYTES {
-                return Err(EncodeFault::ExceedsLimits);
-            }
-            Ok(out.into_vec())
-        }
+        Ok(()) => finished(out),
         Err(_) => Err(EncodeFault::Memory),
     }
 }

@@ -1,5 +1,5 @@
 -- A program is convertible just where version 4 can say each id of it.
-use Rattle.std.proofs.Common.{◌≡◌, ℕ, zero, suc, ◌+◌, ◌<◌, ◌≤◌, Bool, true, false, ◌&&◌, List, [], ◌∷◌, length, map, get_or, drop, Option, Some, None, refl, sym, ap, subst, ◌∙◌, add-one, arith, drop-cons}
+use Rattle.std.proofs.Common.{◌≡◌, ℕ, zero, suc, ◌+◌, ◌<◌, ◌≤◌, Bool, true, false, ◌&&◌, List, [], ◌∷◌, length, map, get_or, drop, Option, Some, None, refl, sym, ap, ◌∙◌, add-one, arith, drop-cons}
 use Rattle.std.specs.Option.{option_map}
 use Rattle.std.specs.Cmp.Derive.{both_true}
 use Rattle.std.specs.List.{AllByRecursion}
@@ -10,7 +10,6 @@ use Rattle.asset_lists.specs.declared.filters.Wild.{Wild}
 use Rattle.asset_lists.specs.declared.filters.Wild.TheVariants.{All, AllOf, AllCounted, AllOfCounted}
 use Rattle.asset_lists.specs.declared.filters.Filter.{Filter}
 use Rattle.asset_lists.specs.declared.filters.Filter.TheVariants as filters
-use Rattle.asset_wire.specs.declared.version.Version.{Version}
 use Rattle.asset_wire.specs.declared.version.Version.TheVariants.{V3, V4}
 use Rattle.asset_wire.specs.Spelling.{IsNamed, AreNamed, IsWildNamed, IsFilterNamed}
 use Rattle.message_parts.specs.declared.query.Response.{Response}
@@ -18,9 +17,9 @@ use Rattle.message_parts.specs.declared.query.Response.TheVariants as responses
 use Rattle.message_parts.specs.Named.{IsResponseNamed}
 use Rattle.xcm_program.specs.declared.instruction.Instruction.{Instruction, out-Instruction, fold_out-Instruction, map-Instruction}
 use Rattle.xcm_program.specs.declared.instruction.Instruction.TheOpen.{Instruction-F}
-use Rattle.xcm_program.specs.Measure.{inner, inner_of, count_one, count_of}
+use Rattle.xcm_program.specs.Measure.{inner, inner_of, count_of}
 use Rattle.xcm_program.specs.Everywhere.{AllInside}
-use Rattle.xcm_program.specs.Conversions.{is_place, are_places, wild_is_place, filter_is_places, response_is_places, names_places, all_true, all_true_inside, convertible_one, is_convertible, IsNamedHead, IsNamedOne}
+use Rattle.xcm_program.specs.Conversions.{is_place, are_places, wild_is_place, filter_is_places, response_is_places, names_places, all_true_inside, convertible_one, is_convertible, IsNamedHead, IsNamedOne}
 use Rattle.xcm_program.proofs.Layers.{inner-map, count_inside}
 use Rattle.xcm_program.proofs.Whole.{IsNamedHead-IsOfLayer, named_open}
 use Rattle.xcm_program.proofs.Induction.{behind_less, some_count, everywhere_by}

@@ -1,9 +1,9 @@
 -- One layer of an instruction, and the program inside.
-use Rattle.std.proofs.Common.{◌≡◌, ℕ, ◌+◌, ◌<◌, ◌≤◌, max, List, [], ◌∷◌, length, map, get_or, drop, Option, Some, None, refl, sym, ap, ◌∙◌, add-one, arith, drop-cons}
+use Rattle.std.proofs.Common.{◌≡◌, ℕ, ◌+◌, ◌<◌, max, List, length, map, get_or, drop, Option, Some, None, refl, sym, ap, ◌∙◌, add-one, arith, drop-cons}
 use Rattle.std.specs.Option.{option_map}
 use Rattle.xcm_program.specs.declared.instruction.Instruction.{Instruction, out-Instruction, fold_out-Instruction, map-Instruction}
 use Rattle.xcm_program.specs.declared.instruction.Instruction.TheOpen.{Instruction-F}
-use Rattle.xcm_program.specs.Measure.{inner, with_inner, inner_of, total, sum_inside, greatest, greatest_inside, count_one, count_of, depth_inside, depth_of, sending, sends_one, sends_of}
+use Rattle.xcm_program.specs.Measure.{inner, with_inner, inner_of, sum_inside, greatest, greatest_inside, count_one, count_of, depth_inside, depth_of, sending, sends_one, sends_of}
 
 -- the program inside a layer, with f of each instruction in it
 pub inner-map : {X Y : Type 0} (f : X → Y) (l : Instruction-F X) → inner (map-Instruction X Y f l) ≡ option_map (map f) (inner l)

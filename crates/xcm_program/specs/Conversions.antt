@@ -1,11 +1,11 @@
 -- Which programs each version can say. Source: the XCM format: an asset id of version 4 is a location, one of version 3 may be 32 bytes.
-use Rattle.std.specs.Prelude.{◌≡◌, ◌<◌, ◌^◌, Bool, true, false, ◌&&◌, List, [], ◌∷◌, map, Option, Some, None, IsFalse, ⊤}
+use Rattle.std.specs.Prelude.{◌<◌, ◌^◌, Bool, true, false, ◌&&◌, List, [], ◌∷◌, map, Option, Some, None, IsFalse, ⊤}
 use Rattle.std.specs.List.{AllByRecursion, list_all}
 use Rattle.asset_lists.specs.declared.units.AssetId.{AssetId}
 use Rattle.asset_lists.specs.declared.units.AssetId.TheVariants.{Concrete, Abstract}
 use Rattle.asset_lists.specs.declared.units.Asset.{Asset}
 use Rattle.asset_lists.specs.declared.filters.Wild.{Wild}
-use Rattle.asset_lists.specs.declared.filters.Wild.TheVariants.{All, AllOf, AllCounted, AllOfCounted}
+use Rattle.asset_lists.specs.declared.filters.Wild.TheVariants.{AllOf, AllOfCounted}
 use Rattle.asset_lists.specs.declared.filters.Filter.{Filter}
 use Rattle.asset_lists.specs.declared.filters.Filter.TheVariants as filters
 use Rattle.asset_lists.specs.Units.{is_zero}

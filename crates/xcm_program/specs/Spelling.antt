@@ -1,6 +1,6 @@
 -- The one spelling of each program in each version, and which programs have one. Source: the XCM format, versions 3 and 4, in the SCALE
 -- codec: an instruction is its index and then its fields in order, a program is how many instructions, and these.
-use Rattle.std.specs.Prelude.{◌≡◌, ℕ, ◌<◌, ◌≤◌, ◌^◌, List, [], ◌∷◌, ◌++◌, length, map, Option, Some, None, IfSome, ⊤}
+use Rattle.std.specs.Prelude.{◌≡◌, ℕ, ◌<◌, ◌^◌, List, [], ◌∷◌, ◌++◌, length, map, Option, Some, None, IfSome, ⊤}
 use Rattle.std.specs.List.{AllByRecursion}
 use Rattle.scale_codec.specs.Spelling.{compact, flag, optional, joined}
 use Rattle.location_wire.specs.Spelling.{network, FitsNetwork, junction, FitsJunction, junctions, FitsJunctions, location, FitsLocation}
@@ -9,7 +9,7 @@ use Rattle.asset_wire.specs.Spelling.{asset, FitsAsset, assets, FitsAssets, filt
 use Rattle.message_parts.specs.Spelling.{weight, FitsWeight, weight_limit, FitsLimit, origin_kind, failure, FitsFailure, bytes, FitsBytes, maybe_error, FitsMaybeError, query_info, FitsInfo, response, FitsResponse}
 use Rattle.xcm_program.specs.declared.instruction.Instruction.{Instruction, fold-Instruction}
 use Rattle.xcm_program.specs.declared.instruction.Instruction.TheOpen.{Instruction-F}
-use Rattle.xcm_program.specs.Measure.{inner, count_of, depth_of}
+use Rattle.xcm_program.specs.Measure.{inner}
 use Rattle.xcm_program.specs.Everywhere.{Everywhere}
 
 -- ---- an instruction without the program inside, which stands last

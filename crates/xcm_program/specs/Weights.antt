@@ -1,6 +1,6 @@
 -- What a program weighs. Source: xcm-executor's documentation of weights (a handler or an appendix weighs as if it ran). That each
 -- instruction weighs one unit, and the most instructions that are counted, are this project's own rule.
-use Rattle.std.specs.Prelude.{ℕ, ◌+◌, ◌*◌, ◌^◌, ◌&&◌, nat_le, nat_lt, if◌then◌else◌, List, map, Option, Some, None}
+use Rattle.std.specs.Prelude.{ℕ, ◌+◌, ◌^◌, ◌&&◌, nat_le, nat_lt, if◌then◌else◌, List, map, Option, Some, None}
 use Rattle.message_parts.specs.declared.weight.Weight.{Weight}
 use Rattle.xcm_program.specs.declared.rule.WeightRule.{WeightRule}
 use Rattle.xcm_program.specs.declared.instruction.Instruction.{Instruction, fold-Instruction}

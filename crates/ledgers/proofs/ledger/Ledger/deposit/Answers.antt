@@ -15,7 +15,7 @@ use Rattle.ledgers.proofs.ledger.Ledger.deposit.Goals as goal
 
 pub give_all-requires-clause-listed : goal.give_all-requires-clause-listed
 give_all-requires-clause-listed c =
-    let assets = c.as_slice-3.ensures.value ∙ c.in-Ok.ensures in
+    let assets = c.as_slice-3.ensures.value ∙ c.in-Ok.ensures.listed in
     let listed = c.make_all_room.ensures.stay.assets ∙ ap (λ (l : Accounts). l.listed) c.self.view_is in
     let all = goods_listed c.args.self.now.listed c.args.goods c.requires in
     subst (λ xs. list_all (λ a. lists c.make_all_room.new.rows.assets (listed_of (unit_of a))) xs ≡ true) (sym assets)
@@ -33,7 +33,7 @@ give_all-requires-clause-may c =
 
 pub give_all-requires-clause-once : goal.give_all-requires-clause-once
 give_all-requires-clause-once c =
-    let assets = c.as_slice-3.ensures.value ∙ c.in-Ok.ensures in
+    let assets = c.as_slice-3.ensures.value ∙ c.in-Ok.ensures.listed in
     subst (λ xs. is_rising xs ≡ true) (sym assets) (held_rises c.args.goods)
 
 pub returns : goal.returns
@@ -41,8 +41,8 @@ returns c =
     let rows = c.self.inside.rows in
     let who = c.args.who.now in
     let given = c.as_slice-3.result.now in
-    let first = c.as_slice.ensures.value ∙ c.in-Ok.ensures in
-    let same = c.as_slice-3.ensures.value ∙ c.in-Ok.ensures in
+    let first = c.as_slice.ensures.value ∙ c.in-Ok.ensures.listed in
+    let same = c.as_slice-3.ensures.value ∙ c.in-Ok.ensures.listed in
     let was = c.self.view_is in
     let listed = c.give_all.ensures.assets ∙ c.make_all_room.ensures.stay.assets in
     let held = c.give_all.ensures.held ∙ plus_whole (rows_held c.make_all_room.new.rows) who given ∙ ap (λ h. (Deposited who given (record { listed = rows.assets; held = h })).held) c.make_all_room.ensures.held in
