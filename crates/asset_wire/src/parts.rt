@@ -1,7 +1,7 @@
 //! The readers behind the public ones. Where they leave the cursor after a refusal isn't said.
 
 ghost use Rattle.std.specs.Prelude.{◌≡◌, ◌≤◌};
-ghost use Rattle.scale_codec.specs.Reading.{take_at, repeated};
+ghost use Rattle.scale_codec.specs.Reading.{repeated};
 ghost use Rattle.scale_codec.specs.Answers.{Got};
 ghost use Rattle.asset_wire.specs.Reading.{asset_id_at, instance_at, amount_at, fun_at, asset_at, assets_at, wild_fun_at, wild_at, filter_at};
 ghost use Rattle.asset_wire.specs.Answers.{GotOrFails};
@@ -12,16 +12,6 @@ use location_wire::read_location;
 use scale_codec::{Cursor, NoSpelling};
 use std::alloc::Global;
 
-/// The next bytes, as many as the array has.
-fn bytes_of<const N: usize>(c: &mut Cursor<'_>) -> Result<[u8; N], NoSpelling>
-    ensures { Got result (take_at N c.old) c.new }
-{
-    match c.take(N)?.first_chunk::<N>() {
-        Some(bytes) => Ok(*bytes),
-        None => Err(NoSpelling),
-    }
-}
-
 #[tactic(auto, unfolding(crate::specs::Reading::asset_id_at))]
 pub fn asset_id_of(c: &mut Cursor<'_>, v: Version) -> Result<AssetId, NoSpelling>
     ensures { Got result (asset_id_at v c.old) c.new }
@@ -29,7 +19,7 @@ pub fn asset_id_of(c: &mut Cursor<'_>, v: Version) -> Result<AssetId, NoSpelling
     match v {
         Version::V3 => match c.u8()? {
             0 => Ok(AssetId::Concrete(read_location(c)?)),
-            1 => Ok(AssetId::Abstract(bytes_of(c)?)),
+            1 => Ok(AssetId::Abstract(c.take_array()?)),
             _ => Err(NoSpelling),
         },
         Version::V4 => Ok(AssetId::Concrete(read_location(c)?)),
@@ -43,10 +33,10 @@ pub fn instance_of(c: &mut Cursor<'_>) -> Result<Instance, NoSpelling>
     match c.u8()? {
         0 => Ok(Instance::Undefined),
         1 => Ok(Instance::Index(c.compact_u128()?)),
-        2 => Ok(Instance::Array4(bytes_of(c)?)),
-        3 => Ok(Instance::Array8(bytes_of(c)?)),
-        4 => Ok(Instance::Array16(bytes_of(c)?)),
-        5 => Ok(Instance::Array32(bytes_of(c)?)),
+        2 => Ok(Instance::Array4(c.take_array()?)),
+        3 => Ok(Instance::Array8(c.take_array()?)),
+        4 => Ok(Instance::Array16(c.take_array()?)),
+        5 => Ok(Instance::Array32(c.take_array()?)),
         _ => Err(NoSpelling),
     }
 }

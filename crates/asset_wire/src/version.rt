@@ -4,6 +4,8 @@
 /// in front of an id.
 #[derive(Clone, Copy, Debug, PartialEq, Eq)]
 pub enum Version {
+    /// Version 3.
     V3,
+    /// Version 4.
     V4,
 }

@@ -1,32 +1,22 @@
 //! The readers behind the public ones. Where they leave the cursor after a refusal isn't said.
 
 ghost use Rattle.std.specs.Prelude.{◌≡◌, ◌≤◌};
-ghost use Rattle.scale_codec.specs.Reading.{take_at, optional_at, repeated};
+ghost use Rattle.scale_codec.specs.Reading.{optional_at, repeated};
 ghost use Rattle.scale_codec.specs.Answers.{Got};
 ghost use Rattle.location_wire.specs.Reading.{network_at, body_at, part_at, junction_at, junctions_at, location_at};
 
 use locations::{BodyId, BodyPart, Junction, Junctions, Location, NetworkId};
 use scale_codec::{Cursor, NoSpelling};
 
-/// The next bytes, as many as the array has.
-fn bytes_of<const N: usize>(c: &mut Cursor<'_>) -> Result<[u8; N], NoSpelling>
-    ensures { Got result (take_at N c.old) c.new }
-{
-    match c.take(N)?.first_chunk::<N>() {
-        Some(bytes) => Ok(*bytes),
-        None => Err(NoSpelling),
-    }
-}
-
 #[tactic(auto, unfolding(crate::specs::Reading::network_at))]
 pub fn network_of(c: &mut Cursor<'_>) -> Result<NetworkId, NoSpelling>
     ensures { Got result (network_at c.old) c.new }
 {
     match c.u8()? {
-        0 => Ok(NetworkId::ByGenesis(bytes_of(c)?)),
+        0 => Ok(NetworkId::ByGenesis(c.take_array()?)),
         1 => {
             let block_number = c.u64_le()?;
-            let block_hash = bytes_of(c)?;
+            let block_hash = c.take_array()?;
             Ok(NetworkId::ByFork {
                 block_number,
                 block_hash,
@@ -64,7 +54,7 @@ fn body_of(c: &mut Cursor<'_>) -> Result<BodyId, NoSpelling>
 {
     match c.u8()? {
         0 => Ok(BodyId::Unit),
-        1 => Ok(BodyId::Moniker(bytes_of(c)?)),
+        1 => Ok(BodyId::Moniker(c.take_array()?)),
         2 => Ok(BodyId::Index(c.compact_u32()?)),
         3 => Ok(BodyId::Executive),
         4 => Ok(BodyId::Technical),
@@ -114,7 +104,7 @@ pub fn junction_of(c: &mut Cursor<'_>) -> Result<Junction, NoSpelling>
         0 => Ok(Junction::Parachain(c.compact_u32()?)),
         1 => {
             let network = optional_network_of(c)?;
-            let id = bytes_of(c)?;
+            let id = c.take_array()?;
             Ok(Junction::AccountId32 { network, id })
         }
         2 => {
@@ -124,14 +114,14 @@ pub fn junction_of(c: &mut Cursor<'_>) -> Result<Junction, NoSpelling>
         }
         3 => {
             let network = optional_network_of(c)?;
-            let key = bytes_of(c)?;
+            let key = c.take_array()?;
             Ok(Junction::AccountKey20 { network, key })
         }
         4 => Ok(Junction::PalletInstance(c.u8()?)),
         5 => Ok(Junction::GeneralIndex(c.compact_u128()?)),
         6 => {
             let length = c.u8()?;
-            let key = bytes_of(c)?;
+            let key = c.take_array()?;
             Ok(Junction::GeneralKey { length, key })
         }
         7 => Ok(Junction::OnlyChild),

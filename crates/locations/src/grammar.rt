@@ -10,33 +10,48 @@ pub enum NetworkId {
         block_number: u64,
         block_hash: [u8; 32],
     },
+    /// The Polkadot main network.
     Polkadot,
+    /// The Kusama canary network.
     Kusama,
+    /// The Westend test network.
     Westend,
+    /// The Rococo test network.
     Rococo,
+    /// The Wococo test network.
     Wococo,
     /// The Ethereum network of this chain id.
     Ethereum {
         chain_id: u64,
     },
+    /// The Bitcoin network of Bitcoin Core.
     BitcoinCore,
+    /// The Bitcoin Cash network.
     BitcoinCash,
 }
 
 /// A body of people that decides together.
 #[derive(Clone, Copy, Debug, PartialEq, Eq, PartialOrd, Ord)]
 pub enum BodyId {
+    /// The only body of its place.
     Unit,
     /// A body with a name of four bytes.
     Moniker([u8; 4]),
     /// A body with a number.
     Index(u32),
+    /// The body that decides on behalf of all.
     Executive,
+    /// The body of technical experts.
     Technical,
+    /// The body that makes laws.
     Legislative,
+    /// The body that judges.
     Judicial,
+    /// The body that defends the system.
     Defense,
+    /// The body that administers the system.
     Administration,
+    /// The body that has the treasury.
     Treasury,
 }
 

@@ -7,7 +7,9 @@ use std::cmp::Ordering;
 /// A place, seen from another place: `parents` levels up, and then the junctions down.
 #[derive(Debug, Drop)]
 pub struct Location {
+    /// How many levels up.
     pub parents: u8,
+    /// The junctions down from there.
     pub interior: Junctions,
 }
 

@@ -94,7 +94,9 @@ fn numbers_flags_and_bytes(rt: HostRuntime) -> Result<(), Fail> {
     assert_eq!(rt; cursor.u32_le(), Err(NoSpelling));
     assert_eq!(rt; cursor.u64_le(), Err(NoSpelling));
     assert_eq!(rt; cursor.take(3), Err(NoSpelling));
-    assert_eq!(rt; cursor.take(2), Ok([9, 9].as_slice()));
+    assert_eq!(rt; cursor.take_array::<3>(), Err(NoSpelling));
+    assert_eq!(rt; cursor.take_array::<1>(), Ok([9]));
+    assert_eq!(rt; cursor.take(1), Ok([9].as_slice()));
     assert_eq!(rt; cursor.u8(), Err(NoSpelling));
     Ok(())
 }

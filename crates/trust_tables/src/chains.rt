@@ -9,7 +9,9 @@ use locations::{Junction, Junctions, Location, NetworkId};
 /// Where a chain stands: its network, and which chain of it.
 #[derive(Clone, Copy, Debug, PartialEq, Eq)]
 pub struct Site {
+    /// The network that the chain belongs to.
     pub network: NetworkId,
+    /// Which chain of it.
     pub chain: ChainId,
 }
 

@@ -16,7 +16,10 @@ pub enum AssetRole {
 /// An asset that a chain lists: its id as seen from the chain, whether it has amounts or instances, and its role.
 #[derive(Debug, Drop)]
 pub struct AssetRow {
+    /// Its id, as seen from the chain.
     pub id: Location,
+    /// Whether it has amounts or instances.
     pub kind: Kind,
+    /// Where it is at home, and whom the chain trusts with it.
     pub role: AssetRole,
 }
