@@ -1,14 +1,13 @@
 -- One amount is written: the counts and the running sums follow.
-use Rattle.std.proofs.Common.{◌≡◌, ℕ, zero, suc, ◌+◌, ◌-◌, ◌*◌, ◌^◌, ◌<◌, ◌≤◌, Bool, true, false, ◌&&◌, if◌then◌else◌, ◌⊎◌, inl, inr, length-set, List, [], ◌∷◌, length, set, refl, sym, ap, ◌∙◌, subst, arith, true≢false}
-use Rattle.std.specs.Prelude.{Option, None, Some, unwrap_or, slice_get, IsSome}
+use Rattle.std.proofs.Common.{◌≡◌, ℕ, zero, suc, ◌+◌, ◌-◌, ◌≤◌, Bool, true, false, ◌&&◌, if◌then◌else◌, ◌⊎◌, inl, inr, length-set, List, [], ◌∷◌, set, refl, sym, ap, ◌∙◌, subst, arith, true≢false}
+use Rattle.std.specs.Prelude.{Option, None, Some, slice_get}
 use Rattle.std.specs.Ordering.{eq_by_cmp, nat_cmp}
-use Rattle.std.specs.Map.{lookup, keys_of}
-use Rattle.std.specs.List.{AllByRecursion}
+use Rattle.std.specs.Map.{keys_of}
 use Rattle.std.specs.List.Sorted.{IsStrictlySortedBy}
 use Rattle.std.proofs.lemmas.Bool.{and_parts, and_from}
 use Rattle.amounts.specs.Rows.{IsKeyOrder, amount_if, sum_where}
 use Rattle.amounts.specs.Keys.{number_keys}
-use Rattle.amounts.specs.Amounts.{Amounts, amount, total, with_amount, empty, total-with_amount, total-empty}
+use Rattle.amounts.specs.Amounts.{amount, total, with_amount, total-with_amount, total-empty}
 use Rattle.amounts.specs.Entries.{from_entries}
 use Rattle.amounts.specs.Laws.{same_key, key_same}
 use Rattle.asset_lists.specs.declared.units.AssetId.{AssetId}
@@ -20,9 +19,9 @@ use Rattle.asset_bundles.specs.Bundles.{is_asset, is_kind}
 use Rattle.asset_bundles.specs.Books.{Listed, kind_of, listed_of}
 use Rattle.ledgers.specs.declared.sums.Sum.{Sum}
 use Rattle.ledgers.specs.Sums.{sum_value}
-use Rattle.ledgers.specs.Ledgers.{Holder, account_cmp, holder_cmp, Held, is_account, is_in, sum_of, part_of}
-use Rattle.ledgers.specs.LedgerRows.{AmountKey, amount_key_cmp, OwnerKey, owner_key_cmp, amount_at, owner_at, held_in, IsOnce, AreSmall, IsSound}
-use Rattle.ledgers.proofs.RowLookups.{holder_keys, amount_keys, account_keys, not_true, apart, both_ways, same_as}
+use Rattle.ledgers.specs.Ledgers.{Holder, account_cmp, is_account, is_in, sum_of, part_of}
+use Rattle.ledgers.specs.LedgerRows.{AmountKey, amount_key_cmp, OwnerKey, owner_key_cmp, amount_at, held_in, IsOnce, AreSmall, IsSound}
+use Rattle.ledgers.proofs.RowLookups.{holder_keys, amount_keys, account_keys, apart, both_ways, same_as}
 
 id_keys : IsKeyOrder Rattle.asset_lists.specs.Units.asset_id_cmp
 id_keys = record { total = asset_id_total; exact = asset_id_exact }

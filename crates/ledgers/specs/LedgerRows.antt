@@ -15,7 +15,7 @@ use Rattle.asset_lists.specs.declared.units.Kind.{Kind}
 use Rattle.asset_bundles.specs.Books.{Listed}
 use Rattle.ledgers.specs.declared.sums.Sum.{Sum}
 use Rattle.ledgers.specs.Sums.{sum_value}
-use Rattle.ledgers.specs.Ledgers.{Holder, account_cmp, holder_cmp, Held, sum_of, part_of}
+use Rattle.ledgers.specs.Ledgers.{Holder, account_cmp, Held, sum_of, part_of}
 
 -- an asset's number and an account
 abbrev pub AmountKey : Type 0
