@@ -96,7 +96,7 @@ unfolding plus_all
 plus_none held = refl
 
 -- ---- units that stand once
-counted_first : (u : Unit) (a : Asset) (xs : List Asset) → count_of u (a ∷ xs) ≡ cond {A = ℕ} (is_of u a) 1 0 + count_of u xs
+pub counted_first : (u : Unit) (a : Asset) (xs : List Asset) → count_of u (a ∷ xs) ≡ cond {A = ℕ} (is_of u a) 1 0 + count_of u xs
 counted_first u a xs = sum_by-cons (λ b. cond {A = ℕ} (is_of u b) 1 0) a xs
 
 one_at_least : (b : Bool) (n m : ℕ) → n ≡ cond {A = ℕ} b 1 0 + m → n ≤ 1 → b ≡ true → m ≡ 0

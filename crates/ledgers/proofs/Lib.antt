@@ -17,3 +17,4 @@ pub mod Reading
 pub mod Opening
 pub mod Transferring
 pub mod LedgerLaws
+pub mod AccountGoods

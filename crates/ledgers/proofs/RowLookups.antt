@@ -157,7 +157,7 @@ pub same_instances : (a b : Instance) → Some a ≡ Some b → a ≡ b
 same_instances a b e = cc
 
 module _ (listed : List Listed) (once : IsOnce listed) (who : List ℕ) (id : AssetId) (instance : Instance) (n : ℕ) (at : slice_get listed n ≡ Some (id, Kind.Class)) where
-  same_owner_row : (m : ℕ) (i : Instance) (other : AssetId) → slice_get listed m ≡ Some (other, Kind.Class) → id ≡ other → instance ≡ i → eq_by_cmp owner_key_cmp (n, instance) (m, i) ≡ true
+  pub same_owner_row : (m : ℕ) (i : Instance) (other : AssetId) → slice_get listed m ≡ Some (other, Kind.Class) → id ≡ other → instance ≡ i → eq_by_cmp owner_key_cmp (n, instance) (m, i) ≡ true
   same_owner_row m i other there ids instances =
       let places : n ≡ m = once.place n m (id, Kind.Class) at (there ∙ ap (λ x. Some (x, Kind.Class)) (sym ids)) in
       same_as owner_keys (n, instance) (m, i) (λ j. (places j, instances j))
@@ -169,7 +169,7 @@ module _ (listed : List Listed) (once : IsOnce listed) (who : List ℕ) (id : As
   here_listed m i t = subst (λ k. slice_get listed k ≡ Some (id, Kind.Class)) (ap (λ (k : OwnerKey). k.0) (key_same owner_keys (n, instance) (m, i) t)) at
 
   -- rows behind the one that is found have other keys
-  none_behind : (k : OwnerKey) (rows : List (OwnerKey × Option (List ℕ))) → AllByRecursion (λ q. owner_key_cmp k q ≡ Less) (keys_of rows) → eq_by_cmp owner_key_cmp (n, instance) k ≡ true
+  pub none_behind : (k : OwnerKey) (rows : List (OwnerKey × Option (List ℕ))) → AllByRecursion (λ q. owner_key_cmp k q ≡ Less) (keys_of rows) → eq_by_cmp owner_key_cmp (n, instance) k ≡ true
       → lookup (eq_by_cmp owner_key_cmp (n, instance)) rows ≡ None
   none_behind k [] later here = refl
   none_behind k (row ∷ rows) later here =

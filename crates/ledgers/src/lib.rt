@@ -1,6 +1,7 @@
 //! What chains keep of assets: the ledger and the trap store.
 #![tactic(auto)]
 
+mod account_goods;
 mod asset_table;
 mod faults;
 mod laws;
