@@ -18,3 +18,4 @@ pub mod Opening
 pub mod Transferring
 pub mod LedgerLaws
 pub mod AccountGoods
+pub mod NextAccounts

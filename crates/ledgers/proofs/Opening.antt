@@ -56,6 +56,7 @@ opened listed sums distinct many zeros = record {
   small = tt;
   sorted = no_rows;
   counted = λ n who id at. sym (ap (total (λ h. is_account who h && is_in (id, Kind.Class) h)) (nothing_held listed) ∙ total-empty holder_keys (λ h. is_account who h && is_in (id, Kind.Class) h));
+  numbered = λ n who some. absurd (omega (arith, some));
   as_many = many;
   summed = λ n asset s at is. zeros n s is ∙ sym (ap (total (is_in asset)) (nothing_held listed) ∙ total-empty holder_keys (is_in asset));
 }

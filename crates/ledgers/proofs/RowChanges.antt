@@ -76,6 +76,7 @@ module _ (listed : List Listed) (amounts : List (AmountKey × ℕ)) (owners : Li
           small = small;
           sorted = sorted;
           counted = λ n who id at. same_amount (n, who) ∙ sound.counted n who id at ∙ sym (ap (part_of who (id, Kind.Class)) held);
+          numbered = λ n who some. sound.numbered n who (subst (λ v. 0 < v) (same_amount (n, who)) some);
           as_many = sound.as_many;
           summed = λ n asset s at is. sound.summed n asset s at is ∙ sym (ap (sum_of asset) held);
         },

@@ -1,5 +1,5 @@
 //! The ledger of a chain.
-ghost use Rattle.std.specs.Prelude.{◌≡◌, ◌-◌, ◌^◌, ◌<◌, ℕ, None, Some, map, min, length, slice_get, IfOk, IfSome, MatchOption, MatchResult};
+ghost use Rattle.std.specs.Prelude.{◌≡◌, ◌-◌, ◌^◌, ◌<◌, ℕ, None, Some, map, min, List, option_copied, length, slice_get, IfOk, IfSome, MatchOption, MatchResult};
 ghost use Rattle.std.specs.Ordering.{eq_by_cmp};
 ghost use Rattle.std.specs.List.{IsDistinct};
 ghost use Rattle.amounts.specs.Amounts.{amount, empty};
@@ -8,11 +8,12 @@ ghost use Rattle.asset_bundles.specs.Bundles.{bundle_of, held_assets};
 ghost use Rattle.asset_bundles.specs.Books.{Listed, listed_cmp};
 ghost use Rattle.asset_bundles.specs.Totals.{total_value};
 ghost use Rattle.ledgers.specs.Sums.{sum_value};
-ghost use Rattle.ledgers.specs.Ledgers.{listed_row, number_in, AreListed, sum_of, part_of, owners_of, IsOwner, account_goods, shortage, overflow, barred, Withdrawn, Deposited, Transferred};
+ghost use Rattle.ledgers.specs.Ledgers.{listed_row, number_in, AreListed, sum_of, part_of, owners_of, IsOwner, holding_of, IsAfter, IsNext, account_goods, shortage, overflow, barred, Withdrawn, Deposited, Transferred};
 ghost use Rattle.ledgers.specs.LedgerFaults.{IsLedgerFault, IsDepositFault, IsTransferFault};
 
 use crate::asset_table::AssetTable;
 use crate::list_moves::{barred, give_all, make_all_room, overflow, shortage, sweep_all, take_all};
+use crate::next_account::next_holder;
 use crate::rows::Rows;
 use crate::sums::{Sum, zero_sums};
 use crate::{DepositFault, LedgerFault, TransferFault};
@@ -108,6 +109,16 @@ impl Ledger {
             (IsOwner self.now.held (id.now, Some instance.now)) }
     {
         self.rows.owner(id, *instance)
+    }
+
+    /// The first account by bytes that holds something, of those after the given one; None where there is
+    /// none. It takes time in proportion to the rows of all accounts.
+    pub fn next_account(&self, after: Option<&[u8; 32]>) -> Option<[u8; 32]>
+        ensures { MatchOption result
+            ((who : List ℕ) → IsAfter (option_copied after.entry) who → holding_of who self.now.held ≡ 0)
+            (IsNext (option_copied after.entry) self.now.held) }
+    {
+        next_holder(&self.rows.amounts, after)
     }
 
     /// What an account holds, in holding order: fungibles by id, then instances by id and instance. An `Err`

@@ -8,6 +8,7 @@ mod laws;
 mod ledger;
 mod list_moves;
 mod listed_asset;
+mod next_account;
 mod pieces;
 mod row_moves;
 mod row_state;
