@@ -1,13 +1,13 @@
 -- Lists of assets as rows of an account.
-use Rattle.std.proofs.Common.{◌≡◌, ℕ, zero, suc, ◌+◌, ◌-◌, ◌^◌, ◌<◌, ◌≤◌, Bool, true, false, ◌&&◌, ◌||◌, if◌then◌else◌, cond, List, [], ◌∷◌, length, get_or, take, drop, drop-cons, add-one, not, inl, inr, ◌⊎◌, refl, sym, ap, ◌∙◌, subst, arith, true≢false}
+use Rattle.std.proofs.Common.{◌≡◌, ℕ, zero, suc, ◌+◌, ◌-◌, ◌<◌, ◌≤◌, Bool, true, false, ◌||◌, if◌then◌else◌, cond, List, [], ◌∷◌, length, get_or, drop, drop-cons, add-one, not, inl, inr, ◌⊎◌, refl, sym, ap, ◌∙◌, subst, arith, true≢false}
 use Rattle.std.specs.Prelude.{Option, None, Some, slice_get, nat_lt, nat_eq, IsSome}
-use Rattle.std.specs.Ordering.{eq_by_cmp, is_eq}
+use Rattle.std.specs.Ordering.{eq_by_cmp}
 use Rattle.std.specs.List.{list_any, position_or_len}
 use Rattle.std.proofs.lemmas.Bool.{and_parts, cases_Bool}
 use Rattle.std.proofs.lemmas.Option.{slice_get-get_or}
 use Rattle.std.proofs.lemmas.List.Sums.{sum_by-cons}
-use Rattle.amounts.specs.Rows.{sum_where, rows_at, amount_if, sum_where-rows_at}
-use Rattle.amounts.specs.Amounts.{amount, plus, minus, plus_all, minus_all, from_rows, merge, difference, IsWithin, map_keys, same_amounts}
+use Rattle.amounts.specs.Rows.{sum_where, amount_if, sum_where-rows_at}
+use Rattle.amounts.specs.Amounts.{amount, plus, minus, plus_all, minus_all, from_rows, merge, difference, same_amounts}
 use Rattle.amounts.specs.Laws.{same_key, key_same, amount-from_rows, amount-map_keys, amount-plus, amount-minus, plus_all-from_rows, minus_all-from_rows}
 use Rattle.asset_lists.specs.declared.units.Fun.{Fun}
 use Rattle.asset_lists.specs.declared.units.Asset.{Asset}
@@ -22,9 +22,9 @@ use Rattle.asset_bundles.specs.Books.{Listed, listed_cmp, listed_of, lists}
 use Rattle.ledgers.specs.declared.rows.Rows.{Rows}
 use Rattle.ledgers.specs.Ledgers.{Holder, holder_cmp, Held, held_by, shortage, number_in}
 use Rattle.ledgers.specs.LedgerRows.{HasInstanceRow}
-use Rattle.ledgers.specs.RowState.{may_take, MayTake, HasRoom, KeepsRows}
+use Rattle.ledgers.specs.RowState.{may_take, HasRoom, KeepsRows}
 use Rattle.ledgers.specs.AccountRows.{account_rows, HasAll, MayTakeAll}
-use Rattle.ledgers.proofs.RowLookups.{holder_keys, not_true, apart}
+use Rattle.ledgers.proofs.RowLookups.{holder_keys, apart}
 
 -- ---- a list at one place
 pub at_place : (xs : List Asset) (i : ℕ) (a : Asset) → i < length xs → a ≡ get_or xs i a → drop i xs ≡ a ∷ drop (i + 1) xs
@@ -96,7 +96,7 @@ unfolding plus_all
 plus_none held = refl
 
 -- ---- units that stand once
-counted_first : (u : Unit) (a : Asset) (xs : List Asset) → count_of u (a ∷ xs) ≡ cond {A = ℕ} (is_of u a) 1 0 + count_of u xs
+pub counted_first : (u : Unit) (a : Asset) (xs : List Asset) → count_of u (a ∷ xs) ≡ cond {A = ℕ} (is_of u a) 1 0 + count_of u xs
 counted_first u a xs = sum_by-cons (λ b. cond {A = ℕ} (is_of u b) 1 0) a xs
 
 one_at_least : (b : Bool) (n m : ℕ) → n ≡ cond {A = ℕ} b 1 0 + m → n ≤ 1 → b ≡ true → m ≡ 0

@@ -1,5 +1,5 @@
 -- How large sums over rows may be.
-use Rattle.std.proofs.Common.{◌≡◌, ℕ, zero, suc, ◌+◌, ◌-◌, ◌*◌, ◌^◌, ◌<◌, ◌≤◌, Bool, true, false, ◌&&◌, List, [], ◌∷◌, length, refl, sym, ap, ◌∙◌, subst, arith}
+use Rattle.std.proofs.Common.{◌≡◌, ℕ, ◌+◌, ◌-◌, ◌*◌, ◌^◌, ◌<◌, ◌≤◌, Bool, true, false, ◌&&◌, List, [], ◌∷◌, length, refl, ap, ◌∙◌, arith}
 use Rattle.std.specs.Prelude.{Option, None, Some, slice_get}
 use Rattle.amounts.specs.Rows.{amount_if, sum_where}
 use Rattle.amounts.specs.Amounts.{total}
@@ -9,7 +9,7 @@ use Rattle.asset_lists.specs.declared.units.Kind.{Kind}
 use Rattle.asset_lists.specs.Units.{asset_id_cmp}
 use Rattle.std.specs.Ordering.{eq_by_cmp}
 use Rattle.asset_bundles.specs.Books.{Listed}
-use Rattle.ledgers.specs.Ledgers.{Holder, Held, is_account, is_in, sum_of, part_of}
+use Rattle.ledgers.specs.Ledgers.{Holder, is_account, is_in, part_of}
 use Rattle.ledgers.specs.LedgerRows.{AmountKey, OwnerKey, fungible_row, amount_row, amount_rows, instance_row, owner_row, owner_rows, held_in, AreSmall}
 use Rattle.ledgers.proofs.RowLookups.{holder_keys}
 use Rattle.ledgers.proofs.Soundness.{total-at_most}

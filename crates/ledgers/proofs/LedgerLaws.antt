@@ -1,7 +1,7 @@
 -- What moves conserve.
-use Rattle.std.proofs.Common.{◌≡◌, ℕ, ◌+◌, List, ap, sym, ◌∙◌, arith}
+use Rattle.std.proofs.Common.{◌≡◌, ℕ, ◌+◌, List, ap, ◌∙◌, arith}
 use Rattle.std.specs.Prelude.{None}
-use Rattle.amounts.specs.Amounts.{total, merge, difference}
+use Rattle.amounts.specs.Amounts.{total}
 use Rattle.amounts.specs.Laws.{total-merge, total-difference, total-map_keys}
 use Rattle.asset_lists.specs.declared.units.AssetId.{AssetId}
 use Rattle.asset_lists.specs.declared.units.Kind.{Kind}
@@ -10,7 +10,7 @@ use Rattle.asset_lists.specs.Units.{Unit, unit_cmp}
 use Rattle.asset_lists.specs.Lists.{IsAssetList}
 use Rattle.asset_bundles.specs.Bundles.{bundle_of, is_asset}
 use Rattle.asset_bundles.specs.Books.{Listed}
-use Rattle.ledgers.specs.Ledgers.{Accounts, Held, held_by, is_in, sum_of, shortage, Withdrawn, Deposited, Transferred}
+use Rattle.ledgers.specs.Ledgers.{Accounts, held_by, is_in, sum_of, shortage, Withdrawn, Deposited, Transferred}
 use Rattle.ledgers.proofs.RowLookups.{holder_keys}
 use Rattle.ledgers.proofs.AccountMoves.{has_all}
 use Rattle.ledgers.proofs.Transferring.{has_held_by}

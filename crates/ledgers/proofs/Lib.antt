@@ -17,3 +17,5 @@ pub mod Reading
 pub mod Opening
 pub mod Transferring
 pub mod LedgerLaws
+pub mod AccountGoods
+pub mod NextAccounts

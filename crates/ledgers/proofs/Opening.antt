@@ -1,10 +1,9 @@
 -- A ledger with nothing, and deposits of what a bundle holds.
 use Rattle.std.proofs.Common.{◌≡◌, ℕ, zero, suc, ◌+◌, ◌-◌, ◌^◌, ◌<◌, ◌≤◌, Bool, true, false, ◌&&◌, if◌then◌else◌, List, [], ◌∷◌, length, refl, sym, ap, ◌∙◌, subst, arith, true≢false}
-use Rattle.std.specs.Prelude.{Option, None, Some, slice_get, nat_lt, nat_eq}
+use Rattle.std.specs.Prelude.{Option, None, Some, slice_get, nat_lt}
 use Rattle.std.specs.Ordering.{eq_by_cmp}
-use Rattle.std.specs.List.{IsDistinct, AllByRecursion, list_all, find}
+use Rattle.std.specs.List.{IsDistinct, AllByRecursion, list_all}
 use Rattle.std.specs.List.Sorted.{IsStrictlySortedBy}
-use Rattle.std.specs.Map.{keys_of}
 use Rattle.std.proofs.lemmas.Bool.{and_from, and_parts}
 use Rattle.std.proofs.lemmas.Map.Keys.{any_passes_from_place}
 use Rattle.amounts.specs.Rows.{IsPositive, sum_where, amount_if}
@@ -15,14 +14,14 @@ use Rattle.asset_lists.specs.declared.units.Kind.{Kind}
 use Rattle.asset_lists.specs.declared.units.Fun.{Fun}
 use Rattle.asset_lists.specs.declared.units.Asset.{Asset}
 use Rattle.asset_lists.specs.Units.{Unit, unit_of, amount_of, unit_cmp}
-use Rattle.asset_bundles.specs.Bundles.{Bundle, unit_keys, rows_of, bundle_of, fun_of, assets_at, held_assets}
+use Rattle.asset_bundles.specs.Bundles.{Bundle, unit_keys, rows_of, bundle_of, assets_at, held_assets}
 use Rattle.asset_bundles.specs.BundleLaws.{amount-bundle_of}
 use Rattle.asset_bundles.specs.Books.{Listed, listed_cmp, listed_of, lists}
 use Rattle.asset_bundles.specs.Laws.{listed_keys}
 use Rattle.ledgers.specs.declared.sums.Sum.{Sum}
 use Rattle.ledgers.specs.Sums.{sum_value}
 use Rattle.ledgers.specs.Ledgers.{Holder, Held, is_account, is_in, owners_of, AreListed, number_in, is_barred, is_barred_fun, barred}
-use Rattle.ledgers.specs.LedgerRows.{AmountKey, OwnerKey, owner_key_cmp, held_in, IsOnce, IsSound}
+use Rattle.ledgers.specs.LedgerRows.{owner_key_cmp, held_in, IsSound}
 use Rattle.ledgers.specs.RowState.{may_take}
 use Rattle.ledgers.specs.AccountRows.{MayTakeAll}
 use Rattle.ledgers.proofs.RowLookups.{holder_keys}
@@ -57,6 +56,7 @@ opened listed sums distinct many zeros = record {
   small = tt;
   sorted = no_rows;
   counted = λ n who id at. sym (ap (total (λ h. is_account who h && is_in (id, Kind.Class) h)) (nothing_held listed) ∙ total-empty holder_keys (λ h. is_account who h && is_in (id, Kind.Class) h));
+  numbered = λ n who some. absurd (omega (arith, some));
   as_many = many;
   summed = λ n asset s at is. zeros n s is ∙ sym (ap (total (is_in asset)) (nothing_held listed) ∙ total-empty holder_keys (is_in asset));
 }

@@ -1,20 +1,18 @@
 -- What a ledger's rows hold, at each account and unit.
-use Rattle.std.proofs.Common.{◌≡◌, ℕ, zero, suc, ◌+◌, ◌-◌, ◌<◌, ◌≤◌, Bool, true, false, List, [], ◌∷◌, length, get_or, refl, sym, ap, ◌∙◌, subst, arith, true≢false}
-use Rattle.std.specs.Prelude.{Option, None, Some, unwrap_or, slice_get, if◌then◌else◌}
+use Rattle.std.proofs.Common.{◌≡◌, ℕ, ◌-◌, List, sym, ap, ◌∙◌}
+use Rattle.std.specs.Prelude.{Option, None, Some, unwrap_or, slice_get}
 use Rattle.std.specs.Ordering.{eq_by_cmp}
 use Rattle.std.specs.Map.{lookup, keys_of}
-use Rattle.std.specs.List.{position, IsDistinct}
 use Rattle.std.specs.List.Sorted.{IsStrictlySortedBy}
-use Rattle.amounts.specs.Amounts.{amount, with_amount, same_amounts, amount-with_amount}
+use Rattle.amounts.specs.Amounts.{amount}
 use Rattle.amounts.specs.Entries.{amount-from_entries}
-use Rattle.amounts.specs.Laws.{same_key, key_same}
 use Rattle.asset_lists.specs.declared.units.AssetId.{AssetId}
 use Rattle.asset_lists.specs.declared.units.Instance.{Instance}
 use Rattle.asset_lists.specs.declared.units.Kind.{Kind}
-use Rattle.asset_bundles.specs.Books.{Listed, listed_cmp, kind_of}
-use Rattle.ledgers.specs.Ledgers.{Holder, account_cmp, holder_cmp, Held}
-use Rattle.ledgers.specs.LedgerRows.{owned, IsOnce, AmountKey, amount_key_cmp, OwnerKey, owner_key_cmp, amount_at, owner_at, amount_rows, owner_rows, held_in}
-use Rattle.ledgers.proofs.RowLookups.{holder_keys, amount_keys, owner_keys, account_keys, not_true, apart, both_ways, same_as, shown, lookup-amounts, lookup-past_amounts, lookup-past_owners, lookup-owners, same_instances, same_ids, same_kinds}
+use Rattle.asset_bundles.specs.Books.{Listed}
+use Rattle.ledgers.specs.Ledgers.{Holder, holder_cmp}
+use Rattle.ledgers.specs.LedgerRows.{owned, IsOnce, AmountKey, OwnerKey, owner_key_cmp, amount_at, owner_at, amount_rows, owner_rows, held_in}
+use Rattle.ledgers.proofs.RowLookups.{holder_keys, shown, lookup-amounts, lookup-past_amounts, lookup-past_owners, lookup-owners}
 
 module _ (listed : List Listed) (once : IsOnce listed) (amounts : List (AmountKey × ℕ)) (owners : List (OwnerKey × Option (List ℕ))) where
   pub held-fungible : (n : ℕ) (who : List ℕ) (id : AssetId) → slice_get listed n ≡ Some (id, Kind.Fungible)

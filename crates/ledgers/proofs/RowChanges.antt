@@ -1,28 +1,28 @@
 -- An asset taken out of an account or given to it, and what the rows hold then.
-use Rattle.std.proofs.Common.{◌≡◌, ℕ, zero, suc, ◌+◌, ◌-◌, ◌^◌, ◌<◌, ◌≤◌, Bool, true, false, ◌&&◌, if◌then◌else◌, List, [], ◌∷◌, length, set, refl, sym, ap, ◌∙◌, subst, arith, true≢false}
+use Rattle.std.proofs.Common.{◌≡◌, ℕ, ◌+◌, ◌-◌, ◌^◌, ◌<◌, ◌≤◌, Bool, true, false, ◌&&◌, if◌then◌else◌, List, length, refl, sym, ap, ◌∙◌, subst, arith}
 use Rattle.std.specs.Prelude.{Option, None, Some, unwrap_or, slice_get, IsSome}
 use Rattle.std.specs.Ordering.{eq_by_cmp}
 use Rattle.std.specs.Map.{keys_of, lookup}
 use Rattle.std.specs.List.Sorted.{IsStrictlySortedBy}
 use Rattle.std.proofs.lemmas.Bool.{and_from}
-use Rattle.amounts.specs.Amounts.{amount, total, with_amount, plus, minus}
+use Rattle.amounts.specs.Amounts.{amount, with_amount, plus, minus}
 use Rattle.amounts.specs.Laws.{same_key, key_same, amount_at_most}
 use Rattle.asset_lists.specs.declared.units.AssetId.{AssetId}
 use Rattle.asset_lists.specs.declared.units.Instance.{Instance}
 use Rattle.asset_lists.specs.declared.units.Kind.{Kind}
 use Rattle.asset_lists.specs.declared.units.Fun.{Fun}
 use Rattle.asset_lists.specs.Units.{Unit, instance_in, amount_in}
-use Rattle.asset_bundles.specs.Books.{Listed, kind_of, listed_of}
+use Rattle.asset_bundles.specs.Books.{Listed, listed_of}
 use Rattle.ledgers.specs.declared.sums.Sum.{Sum}
 use Rattle.ledgers.specs.Sums.{sum_value}
-use Rattle.ledgers.specs.Ledgers.{Holder, account_cmp, holder_cmp, Held, is_account, is_in, sum_of, part_of, number_in}
-use Rattle.ledgers.specs.LedgerRows.{AmountKey, amount_key_cmp, OwnerKey, owner_key_cmp, amount_at, owner_at, owned, OwnerIs, held_in, IsOnce, AreSmall, IsSumWritten, IsSound, HasAmountRow, HasOwnerRow, HasInstanceRow}
+use Rattle.ledgers.specs.Ledgers.{account_cmp, is_account, is_in, sum_of, part_of, number_in}
+use Rattle.ledgers.specs.LedgerRows.{AmountKey, amount_key_cmp, OwnerKey, owner_key_cmp, amount_at, owner_at, owned, OwnerIs, held_in, AreSmall, IsSumWritten, IsSound, HasAmountRow, HasOwnerRow, HasInstanceRow}
 use Rattle.ledgers.specs.RowState.{may_take}
-use Rattle.ledgers.proofs.RowLookups.{holder_keys, amount_keys, account_keys, apart, same_as}
+use Rattle.ledgers.proofs.RowLookups.{holder_keys, amount_keys, account_keys, apart}
 use Rattle.ledgers.proofs.RowAmounts.{held-fungible, held-no_fungible, held-instance, held-no_instance}
 use Rattle.ledgers.proofs.RowMoves.{same_rows, held-with_amount, held-with_owner}
 use Rattle.ledgers.proofs.Numbers.{number_at, no_number}
-use Rattle.ledgers.proofs.Soundness.{asset_is, is_its_asset, IsWrite, still_sound}
+use Rattle.ledgers.proofs.Soundness.{is_its_asset, IsWrite, still_sound}
 use Rattle.ledgers.proofs.Bounds.{sum_bound, count_bound}
 
 owned_most : (b : Bool) → (if b then 1 else 0) ≤ 1
@@ -76,6 +76,7 @@ module _ (listed : List Listed) (amounts : List (AmountKey × ℕ)) (owners : Li
           small = small;
           sorted = sorted;
           counted = λ n who id at. same_amount (n, who) ∙ sound.counted n who id at ∙ sym (ap (part_of who (id, Kind.Class)) held);
+          numbered = λ n who some. sound.numbered n who (subst (λ v. 0 < v) (same_amount (n, who)) some);
           as_many = sound.as_many;
           summed = λ n asset s at is. sound.summed n asset s at is ∙ sym (ap (sum_of asset) held);
         },

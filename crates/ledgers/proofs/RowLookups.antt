@@ -1,13 +1,12 @@
 -- What is looked up in a ledger's rows.
-use Rattle.std.proofs.Common.{◌≡◌, ℕ, zero, suc, ◌<◌, ◌≤◌, Bool, true, false, ◌⊎◌, inl, inr, List, [], ◌∷◌, refl, sym, ap, ◌∙◌, subst, arith, true≢false}
-use Rattle.std.specs.Prelude.{Option, None, Some, unwrap_or, slice_get, if◌then◌else◌, length}
-use Rattle.std.specs.Ordering.{eq_by_cmp, is_lt, ordering_reverse, is_eq}
+use Rattle.std.proofs.Common.{◌≡◌, ℕ, Bool, true, false, List, [], ◌∷◌, refl, sym, ap, ◌∙◌, subst, true≢false}
+use Rattle.std.specs.Prelude.{Option, None, Some, unwrap_or, slice_get, if◌then◌else◌}
+use Rattle.std.specs.Ordering.{eq_by_cmp, is_eq}
 use Rattle.std.specs.declared.cmp.Ordering.{Ordering}
-use Rattle.std.specs.declared.cmp.Ordering.TheVariants.{Less, Equal, Greater}
+use Rattle.std.specs.declared.cmp.Ordering.TheVariants.{Less}
 use Rattle.std.specs.Map.{lookup, keys_of}
 use Rattle.std.specs.List.{AllByRecursion}
 use Rattle.std.specs.List.Sorted.{IsStrictlySortedBy}
-use Rattle.std.proofs.lemmas.Bool.{cases_Bool}
 use Rattle.amounts.specs.Rows.{IsKeyOrder}
 use Rattle.amounts.specs.Keys.{number_keys, list_keys, pair_keys}
 use Rattle.amounts.specs.Laws.{same_key, key_same}
@@ -158,7 +157,7 @@ pub same_instances : (a b : Instance) → Some a ≡ Some b → a ≡ b
 same_instances a b e = cc
 
 module _ (listed : List Listed) (once : IsOnce listed) (who : List ℕ) (id : AssetId) (instance : Instance) (n : ℕ) (at : slice_get listed n ≡ Some (id, Kind.Class)) where
-  same_owner_row : (m : ℕ) (i : Instance) (other : AssetId) → slice_get listed m ≡ Some (other, Kind.Class) → id ≡ other → instance ≡ i → eq_by_cmp owner_key_cmp (n, instance) (m, i) ≡ true
+  pub same_owner_row : (m : ℕ) (i : Instance) (other : AssetId) → slice_get listed m ≡ Some (other, Kind.Class) → id ≡ other → instance ≡ i → eq_by_cmp owner_key_cmp (n, instance) (m, i) ≡ true
   same_owner_row m i other there ids instances =
       let places : n ≡ m = once.place n m (id, Kind.Class) at (there ∙ ap (λ x. Some (x, Kind.Class)) (sym ids)) in
       same_as owner_keys (n, instance) (m, i) (λ j. (places j, instances j))
@@ -170,7 +169,7 @@ module _ (listed : List Listed) (once : IsOnce listed) (who : List ℕ) (id : As
   here_listed m i t = subst (λ k. slice_get listed k ≡ Some (id, Kind.Class)) (ap (λ (k : OwnerKey). k.0) (key_same owner_keys (n, instance) (m, i) t)) at
 
   -- rows behind the one that is found have other keys
-  none_behind : (k : OwnerKey) (rows : List (OwnerKey × Option (List ℕ))) → AllByRecursion (λ q. owner_key_cmp k q ≡ Less) (keys_of rows) → eq_by_cmp owner_key_cmp (n, instance) k ≡ true
+  pub none_behind : (k : OwnerKey) (rows : List (OwnerKey × Option (List ℕ))) → AllByRecursion (λ q. owner_key_cmp k q ≡ Less) (keys_of rows) → eq_by_cmp owner_key_cmp (n, instance) k ≡ true
       → lookup (eq_by_cmp owner_key_cmp (n, instance)) rows ≡ None
   none_behind k [] later here = refl
   none_behind k (row ∷ rows) later here =

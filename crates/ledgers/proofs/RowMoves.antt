@@ -1,17 +1,16 @@
 -- A row that is written changes what the rows hold at one account and unit.
-use Rattle.std.proofs.Common.{◌≡◌, ℕ, ◌+◌, ◌-◌, ◌<◌, ◌≤◌, Bool, true, false, List, [], ◌∷◌, refl, sym, ap, ◌∙◌, subst, true≢false}
-use Rattle.std.specs.Prelude.{Option, None, Some, unwrap_or, slice_get, if◌then◌else◌}
+use Rattle.std.proofs.Common.{◌≡◌, ℕ, ◌-◌, Bool, true, false, List, refl, sym, ap, ◌∙◌, subst, true≢false}
+use Rattle.std.specs.Prelude.{Option, None, Some, slice_get, if◌then◌else◌}
 use Rattle.std.specs.Ordering.{eq_by_cmp}
 use Rattle.std.specs.Map.{keys_of}
 use Rattle.std.specs.List.Sorted.{IsStrictlySortedBy}
 use Rattle.amounts.specs.Amounts.{amount, with_amount, same_amounts, amount-with_amount}
-use Rattle.amounts.specs.Laws.{same_key, key_same}
+use Rattle.amounts.specs.Laws.{key_same}
 use Rattle.asset_lists.specs.declared.units.AssetId.{AssetId}
 use Rattle.asset_lists.specs.declared.units.Instance.{Instance}
 use Rattle.asset_lists.specs.declared.units.Kind.{Kind}
-use Rattle.asset_lists.specs.Units.{Unit}
 use Rattle.asset_bundles.specs.Books.{Listed}
-use Rattle.ledgers.specs.Ledgers.{Holder, account_cmp, holder_cmp, Held, number_in}
+use Rattle.ledgers.specs.Ledgers.{Holder, account_cmp, holder_cmp, number_in}
 use Rattle.ledgers.specs.LedgerRows.{owned, IsOnce, AmountKey, amount_key_cmp, OwnerKey, owner_key_cmp, amount_at, owner_at, held_in}
 use Rattle.ledgers.proofs.RowLookups.{holder_keys, amount_keys, owner_keys, account_keys, apart, both_ways, same_as, same_instances, same_ids, same_kinds}
 use Rattle.ledgers.proofs.RowAmounts.{held-fungible, held-no_fungible, held-instance, held-no_instance}

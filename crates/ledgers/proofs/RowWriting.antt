@@ -1,5 +1,5 @@
 -- What stands in rows after one is written.
-use Rattle.std.proofs.Common.{◌≡◌, ℕ, ◌+◌, ◌-◌, ◌*◌, ◌^◌, ◌<◌, ◌≤◌, Bool, true, false, List, [], ◌∷◌, length, refl, sym, ap, ◌∙◌, subst, arith, true≢false}
+use Rattle.std.proofs.Common.{◌≡◌, ℕ, ◌-◌, ◌^◌, ◌<◌, ◌≤◌, Bool, true, false, List, [], ◌∷◌, refl, sym, ap, ◌∙◌, subst, arith, true≢false}
 use Rattle.std.specs.Prelude.{Option, None, Some, unwrap_or, IsSome, is_some, if◌then◌else◌}
 use Rattle.std.specs.Ordering.{eq_by_cmp, match_ordering}
 use Rattle.std.specs.declared.cmp.Ordering.{Ordering}

@@ -1,14 +1,13 @@
 -- One amount is written: the counts and the running sums follow.
-use Rattle.std.proofs.Common.{◌≡◌, ℕ, zero, suc, ◌+◌, ◌-◌, ◌*◌, ◌^◌, ◌<◌, ◌≤◌, Bool, true, false, ◌&&◌, if◌then◌else◌, ◌⊎◌, inl, inr, length-set, List, [], ◌∷◌, length, set, refl, sym, ap, ◌∙◌, subst, arith, true≢false}
-use Rattle.std.specs.Prelude.{Option, None, Some, unwrap_or, slice_get, IsSome}
+use Rattle.std.proofs.Common.{◌≡◌, ℕ, zero, suc, ◌+◌, ◌-◌, ◌<◌, ◌≤◌, Bool, true, false, ◌&&◌, if◌then◌else◌, ◌⊎◌, inl, inr, length-set, List, [], ◌∷◌, set, refl, sym, ap, ◌∙◌, subst, arith, true≢false}
+use Rattle.std.specs.Prelude.{Option, None, Some, slice_get, IsSome}
 use Rattle.std.specs.Ordering.{eq_by_cmp, nat_cmp}
-use Rattle.std.specs.Map.{lookup, keys_of}
-use Rattle.std.specs.List.{AllByRecursion}
+use Rattle.std.specs.Map.{keys_of}
 use Rattle.std.specs.List.Sorted.{IsStrictlySortedBy}
 use Rattle.std.proofs.lemmas.Bool.{and_parts, and_from}
 use Rattle.amounts.specs.Rows.{IsKeyOrder, amount_if, sum_where}
 use Rattle.amounts.specs.Keys.{number_keys}
-use Rattle.amounts.specs.Amounts.{Amounts, amount, total, with_amount, empty, total-with_amount, total-empty}
+use Rattle.amounts.specs.Amounts.{amount, total, with_amount, total-with_amount, total-empty}
 use Rattle.amounts.specs.Entries.{from_entries}
 use Rattle.amounts.specs.Laws.{same_key, key_same}
 use Rattle.asset_lists.specs.declared.units.AssetId.{AssetId}
@@ -20,9 +19,9 @@ use Rattle.asset_bundles.specs.Bundles.{is_asset, is_kind}
 use Rattle.asset_bundles.specs.Books.{Listed, kind_of, listed_of}
 use Rattle.ledgers.specs.declared.sums.Sum.{Sum}
 use Rattle.ledgers.specs.Sums.{sum_value}
-use Rattle.ledgers.specs.Ledgers.{Holder, account_cmp, holder_cmp, Held, is_account, is_in, sum_of, part_of}
-use Rattle.ledgers.specs.LedgerRows.{AmountKey, amount_key_cmp, OwnerKey, owner_key_cmp, amount_at, owner_at, held_in, IsOnce, AreSmall, IsSound}
-use Rattle.ledgers.proofs.RowLookups.{holder_keys, amount_keys, account_keys, not_true, apart, both_ways, same_as}
+use Rattle.ledgers.specs.Ledgers.{Holder, account_cmp, is_account, is_in, sum_of, part_of}
+use Rattle.ledgers.specs.LedgerRows.{AmountKey, amount_key_cmp, OwnerKey, owner_key_cmp, amount_at, held_in, IsOnce, AreSmall, IsSound}
+use Rattle.ledgers.proofs.RowLookups.{holder_keys, amount_keys, account_keys, apart, both_ways, same_as}
 
 id_keys : IsKeyOrder Rattle.asset_lists.specs.Units.asset_id_cmp
 id_keys = record { total = asset_id_total; exact = asset_id_exact }
@@ -120,6 +119,7 @@ still_sound listed amounts more_amounts owners more_owners sums n who unit v nex
   small = write.small;
   sorted = write.sorted;
   counted = counted;
+  numbered = numbered;
   as_many = length-set sums n t ∙ sound.as_many;
   summed = summed;
 }
@@ -148,6 +148,13 @@ still_sound listed amounts more_amounts owners more_owners sums n who unit v nex
             let row : next + amount (held_in listed amounts owners) (who, unit) ≡ part_of w (id, Kind.Class) (held_in listed amounts owners) + v = write.row ∙ ap (λ k. amount_at amounts k + v) keys ∙ ap (λ k. k + v) count in
             if_raised _ _ _ v _ _ next whole passes refl row
         if_here false e same count whole = count ∙ sym (if_summed _ _ _ v _ whole (sym same ∙ e))
+
+    numbered : (m : ℕ) (w : List ℕ) → 0 < amount_at more_amounts (m, w) → IsSome (slice_get listed m)
+    numbered m w some = by (eq_by_cmp amount_key_cmp (n, who) (m, w)) refl
+      where
+        by : (b : Bool) → eq_by_cmp amount_key_cmp (n, who) (m, w) ≡ b → IsSome (slice_get listed m)
+        by true e = subst (λ k. IsSome (slice_get listed k)) (ap (λ (k : AmountKey). k.0) (key_same amount_keys (n, who) (m, w) e)) (subst IsSome (sym write.at) refl)
+        by false e = sound.numbered m w (subst (λ v. 0 < v) (write.wrote (m, w) ∙ ap (λ b. if b then next else amount_at amounts (m, w)) e) some)
 
     summed : (m : ℕ) (asset : Listed) (x : Sum) → slice_get listed m ≡ Some asset → slice_get (set sums n t) m ≡ Some x → sum_value x ≡ sum_of asset (held_in listed more_amounts more_owners)
     summed m asset x there is =

@@ -1,21 +1,18 @@
 -- The list of assets as the table keeps it.
-use Rattle.std.proofs.Common.{◌≡◌, ℕ, zero, suc, ◌+◌, ◌<◌, ◌≤◌, Bool, true, false, not, ◌||◌, cond, if◌then◌else◌, List, [], ◌∷◌, ◌++◌, map, length, refl, sym, ap, ◌∙◌, subst, arith, true≢false}
+use Rattle.std.proofs.Common.{◌≡◌, ℕ, zero, suc, ◌+◌, false, not, ◌||◌, cond, if◌then◌else◌, List, [], ◌∷◌, ◌++◌, length, refl, sym, ap, ◌∙◌}
 use Rattle.std.specs.Prelude.{Option, None, Some, nat_lt, slice_get}
 use Rattle.std.specs.Ordering.{eq_by_cmp}
 use Rattle.std.specs.List.{position, position_or_len, list_any, IsDistinct, AllByRecursion}
 use Rattle.std.specs.Cmp.{eq_by_cmp_equiv}
-use Rattle.std.proofs.lemmas.Bool.{cases_Bool}
 use Rattle.asset_lists.specs.declared.units.AssetId.{AssetId}
 use Rattle.asset_lists.specs.declared.units.AssetId.TheVariants.{Concrete, Abstract}
 use Rattle.asset_lists.specs.declared.units.Kind.{Kind}
 use Rattle.asset_bundles.specs.Books.{Listed, listed_cmp}
 use Rattle.asset_bundles.specs.Laws.{listed_keys}
-use Rattle.amounts.specs.Laws.{same_key, key_same}
 use Rattle.indexmap.specs.IndexSet.{insert_key}
 use Rattle.ledgers.specs.declared.listed_asset.ListedAsset.{ListedAsset}
 use Rattle.ledgers.specs.AssetTable.{key_of, row_cmp, keys_in}
 use Rattle.ledgers.specs.Ledgers.{number_in}
-use Rattle.ledgers.proofs.RowLookups.{not_true}
 use Rattle.ledgers.proofs.Numbers.{number_at}
 
 pub keys_length : (xs : List ListedAsset) → length (keys_in xs) ≡ length xs

@@ -1,11 +1,9 @@
 -- Totals over a map of which little is known.
-use Rattle.std.proofs.Common.{◌≡◌, ℕ, suc, ◌+◌, ◌-◌, ◌<◌, ◌≤◌, Bool, true, false, ◌&&◌, if◌then◌else◌, refl, sym, ap, ◌∙◌, subst, arith, true≢false}
+use Rattle.std.proofs.Common.{◌≡◌, ◌-◌, Bool, true, false, ◌&&◌, if◌then◌else◌, refl, sym, ap, ◌∙◌, arith}
 use Rattle.std.specs.Ordering.{eq_by_cmp}
 use Rattle.std.specs.declared.cmp.Ordering.{Ordering}
-use Rattle.std.proofs.lemmas.Bool.{cases_Bool}
 use Rattle.amounts.specs.Rows.{IsKeyOrder, amount_if}
 use Rattle.amounts.specs.Amounts.{Amounts, amount, total, empty, restriction, with_amount, same_amounts, amount-empty, total-empty, total_alike, amount-restriction, total-restriction, amount-with_amount, total-with_amount}
-use Rattle.amounts.specs.Laws.{same_key, key_same}
 
 both_same : (b : Bool) → (b && b) ≡ b
 both_same true = refl

@@ -1,12 +1,12 @@
 -- What one account gives and another gets.
-use Rattle.std.proofs.Common.{◌≡◌, ℕ, zero, suc, ◌+◌, ◌-◌, ◌^◌, ◌<◌, ◌≤◌, Bool, true, false, ◌&&◌, if◌then◌else◌, List, [], ◌∷◌, length, refl, sym, ap, ◌∙◌, subst, arith, true≢false, inl, inr}
-use Rattle.std.specs.Prelude.{Option, None, Some, slice_get, nat_lt, unwrap_or}
+use Rattle.std.proofs.Common.{◌≡◌, ℕ, ◌+◌, ◌-◌, ◌^◌, ◌<◌, ◌≤◌, Bool, true, false, if◌then◌else◌, List, [], ◌∷◌, refl, sym, ap, ◌∙◌, subst, arith, true≢false, inl, inr}
+use Rattle.std.specs.Prelude.{Option, None, Some, nat_lt, unwrap_or}
 use Rattle.std.specs.Ordering.{eq_by_cmp}
-use Rattle.std.specs.List.{AllByRecursion, list_all}
+use Rattle.std.specs.List.{list_all}
 use Rattle.std.specs.Map.{lookup}
 use Rattle.std.proofs.lemmas.Bool.{and_from, cases_Bool}
 use Rattle.amounts.specs.Rows.{sum_where, amount_if}
-use Rattle.amounts.specs.Amounts.{amount, from_rows, merge, difference, IsWithin}
+use Rattle.amounts.specs.Amounts.{amount, difference, IsWithin}
 use Rattle.amounts.specs.Laws.{same_key, key_same, amount-from_rows, amount-difference, merge-difference}
 use Rattle.asset_lists.specs.declared.units.AssetId.{AssetId}
 use Rattle.asset_lists.specs.declared.units.Instance.{Instance}
@@ -17,11 +17,11 @@ use Rattle.asset_lists.specs.Units.{Unit, unit_of, amount_of, instance_in, amoun
 use Rattle.asset_lists.specs.Lists.{has_zero}
 use Rattle.asset_bundles.specs.Books.{Listed, listed_of, lists}
 use Rattle.ledgers.specs.declared.sums.Sum.{Sum}
-use Rattle.ledgers.specs.Ledgers.{Holder, account_cmp, holder_cmp, Held, Accounts, held_by, number_in, overflow, Withdrawn, Transferred}
+use Rattle.ledgers.specs.Ledgers.{Holder, account_cmp, holder_cmp, Held, Accounts, held_by, number_in, overflow, Transferred}
 use Rattle.ledgers.specs.LedgerRows.{AmountKey, amount_key_cmp, OwnerKey, amount_at, owner_at, owned, held_in, AreSmall, IsSound}
 use Rattle.ledgers.specs.RowState.{may_take}
 use Rattle.ledgers.specs.AccountRows.{account_rows, HasAll, MayTakeAll}
-use Rattle.ledgers.proofs.RowLookups.{holder_keys, account_keys, not_true, apart}
+use Rattle.ledgers.proofs.RowLookups.{holder_keys, account_keys, apart}
 use Rattle.ledgers.proofs.RowAmounts.{held-fungible, held-instance}
 use Rattle.ledgers.proofs.Numbers.{number_at}
 use Rattle.ledgers.proofs.RowChanges.{held_listed}

@@ -1,5 +1,5 @@
 -- A list of assets as rows of an account, and what of it may be taken or given asset by asset.
-use Rattle.std.specs.Prelude.{◌≡◌, ℕ, ◌≤◌, List, [], ◌∷◌, slice_get, Some, ⊤}
+use Rattle.std.specs.Prelude.{◌≡◌, ℕ, List, [], ◌∷◌, slice_get, Some, ⊤}
 use Rattle.amounts.specs.Rows.{rows_at}
 use Rattle.amounts.specs.Amounts.{IsWithin, from_rows}
 use Rattle.asset_lists.specs.declared.units.Asset.{Asset}

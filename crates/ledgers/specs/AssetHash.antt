@@ -1,5 +1,5 @@
 -- What of a listed asset is hashed: how high its place lies, and what its junctions say, a number or bytes each.
-use Rattle.std.specs.Prelude.{◌++◌, List, []}
+use Rattle.std.specs.Prelude.{◌++◌, []}
 use Rattle.std.specs.List.{flat_map}
 use Rattle.std.specs.Hash as fed
 use Rattle.std.specs.Hash.{HashWrites}

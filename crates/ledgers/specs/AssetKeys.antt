@@ -5,7 +5,7 @@ use Rattle.std.proofs.Common.{ap}
 use Rattle.locations.specs.declared.relative.Location.{Location}
 use Rattle.asset_lists.specs.declared.units.AssetId.{AssetId}
 use Rattle.asset_lists.specs.declared.units.AssetId.TheVariants.{Concrete, Abstract}
-use Rattle.asset_bundles.specs.Books.{Listed, listed_cmp}
+use Rattle.asset_bundles.specs.Books.{Listed}
 use Rattle.asset_bundles.specs.Laws.{listed_keys}
 use Rattle.amounts.specs.Laws.{key_same}
 use Rattle.ledgers.specs.declared.listed_asset.ListedAsset.{ListedAsset}

@@ -1,5 +1,5 @@
 -- The list of assets as the code keeps it.
-use Rattle.std.specs.Prelude.{List, map, length, ℕ, ◌<◌, ◌^◌}
+use Rattle.std.specs.Prelude.{List, map}
 use Rattle.std.specs.Ordering.{on}
 use Rattle.std.specs.declared.cmp.Ordering.{Ordering}
 use Rattle.std.specs.Cmp.{IsTotalOrder, on_total}

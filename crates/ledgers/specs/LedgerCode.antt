@@ -1,5 +1,5 @@
 -- How a proof tells ledgers apart.
-use Rattle.std.specs.Prelude.{List, ℕ, refl}
+use Rattle.std.specs.Prelude.{List, refl}
 use Rattle.std.specs.FinMap as map
 use Rattle.std.specs.Coded.{Coded, code_by, coded_ℕ, coded×, coded_list, coded_option}
 use Rattle.asset_lists.specs.contracts.units.AssetId.{the_row as asset_id}

@@ -1,9 +1,10 @@
 -- The rows that a ledger keeps, as what its accounts hold. Amounts stand by asset number and account, and owners
 -- by asset number and instance. For a class the amount is how many instances the account has: it is kept beside
 -- the owners, which say the same.
-use Rattle.std.specs.Prelude.{◌≡◌, ℕ, ◌-◌, ◌^◌, ◌≤◌, if◌then◌else◌, List, [], ◌∷◌, length, slice_get, slice_set, Option, None, Some, unwrap_or, IsSome, ⊤}
+use Rattle.std.specs.Prelude.{◌≡◌, ℕ, ◌-◌, ◌^◌, ◌<◌, ◌≤◌, if◌then◌else◌, List, [], ◌∷◌, length, slice_get, slice_set, Option, None, Some, unwrap_or, IsSome, ⊤}
 use Rattle.std.specs.Ordering.{nat_cmp, on, then_cmp, eq_by_cmp}
 use Rattle.std.specs.declared.cmp.Ordering.{Ordering}
+use Rattle.std.specs.declared.cmp.Ordering.TheVariants.{Less}
 use Rattle.std.specs.List.{AllByRecursion}
 use Rattle.std.specs.List.Sorted.{IsStrictlySortedBy}
 use Rattle.std.specs.Map.{lookup, keys_of}
@@ -15,7 +16,7 @@ use Rattle.asset_lists.specs.declared.units.Kind.{Kind}
 use Rattle.asset_bundles.specs.Books.{Listed}
 use Rattle.ledgers.specs.declared.sums.Sum.{Sum}
 use Rattle.ledgers.specs.Sums.{sum_value}
-use Rattle.ledgers.specs.Ledgers.{Holder, account_cmp, holder_cmp, Held, sum_of, part_of}
+use Rattle.ledgers.specs.Ledgers.{Holder, account_cmp, Held, sum_of, part_of, IsAfter}
 
 -- an asset's number and an account
 abbrev pub AmountKey : Type 0
@@ -104,11 +105,25 @@ pub record IsSumWritten (n : ℕ) (old new : List Sum) (s t : Sum) : Type 0 wher
   pub was : slice_get old n ≡ Some s
   pub written : new ≡ slice_set old n t
 
--- counts and running sums are those of what is held
+-- counts and running sums are those of what is held, and only listed assets have amounts
 pub record IsSound (listed : List Listed) (amounts : List (AmountKey × ℕ)) (owners : List (OwnerKey × Option (List ℕ))) (sums : List Sum) : Type 0 where
   pub once : IsOnce listed
   pub small : AreSmall amounts
   pub sorted : IsStrictlySortedBy owner_key_cmp (keys_of owners)
   pub counted : (n : ℕ) (who : List ℕ) (id : AssetId) → slice_get listed n ≡ Some (id, Kind.Class) → amount_at amounts (n, who) ≡ part_of who (id, Kind.Class) (held_in listed amounts owners)
+  pub numbered : (n : ℕ) (who : List ℕ) → 0 < amount_at amounts (n, who) → IsSome (slice_get listed n)
   pub as_many : length sums ≡ length listed
   pub summed : (n : ℕ) (asset : Listed) (s : Sum) → slice_get listed n ≡ Some asset → slice_get sums n ≡ Some s → sum_value s ≡ sum_of asset (held_in listed amounts owners)
+
+-- ---- accounts in order
+-- before an account, or any account where none is given
+abbrev pub IsBefore : List ℕ → Option (List ℕ) → Type 0
+IsBefore who None = ⊤
+IsBefore who (Some b) = account_cmp who b ≡ Less
+
+-- the first account after another of which a row says more than 0
+pub record IsNextRow (after : Option (List ℕ)) (rows : List (AmountKey × ℕ)) (who : List ℕ) : Type 0 where
+  pub number : ℕ
+  pub has : 0 < amount_at rows (number, who)
+  pub later : IsAfter after who
+  pub least : (k : AmountKey) → IsAfter after k.1 → IsBefore k.1 (Some who) → amount_at rows k ≡ 0

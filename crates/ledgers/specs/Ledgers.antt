@@ -1,7 +1,7 @@
 -- The ledger of a chain: which assets the chain lists, and what each account holds of them.
 -- Source: the accounts behind xcm-executor's asset transactors. That an amount ends at 2^128-1, that an
 -- instance has one owner, and the order of refusals are this project's own rules.
-use Rattle.std.specs.Prelude.{◌≡◌, ℕ, ◌+◌, ◌-◌, ◌^◌, ◌<◌, ◌&&◌, Bool, IsTrue, nat_lt, if◌then◌else◌, List, [], ◌∷◌, Option, None, Some, IsSomeAnd, ⊤}
+use Rattle.std.specs.Prelude.{◌≡◌, ℕ, ◌+◌, ◌-◌, ◌^◌, ◌<◌, ◌&&◌, Bool, IsTrue, nat_lt, if◌then◌else◌, List, [], ◌∷◌, Option, None, Some, ⊤}
 use Rattle.std.specs.Ordering.{nat_cmp, on, then_cmp, eq_by_cmp}
 use Rattle.std.specs.declared.cmp.Ordering.{Ordering}
 use Rattle.std.specs.declared.cmp.Ordering.TheVariants.{Less}
@@ -9,7 +9,6 @@ use Rattle.std.specs.Cmp.Lexicographic.{slice_cmp}
 use Rattle.std.specs.List.{position, find}
 use Rattle.amounts.specs.Amounts.{Amounts, amount, total, merge, difference, restriction, map_keys}
 use Rattle.locations.specs.declared.relative.Location.{Location}
-use Rattle.asset_lists.specs.declared.units.AssetId.{AssetId}
 use Rattle.asset_lists.specs.declared.units.AssetId.TheVariants.{Concrete}
 use Rattle.asset_lists.specs.declared.units.Kind.{Kind}
 use Rattle.asset_lists.specs.declared.units.Fun.{Fun}
@@ -81,6 +80,18 @@ pub record IsOwner (held : Held) (unit : Unit) (who : List ℕ) : Type 0 where
 -- all that an account holds, as a bundle
 unfoldable pub account_goods : List ℕ → Held → Bundle
 account_goods who held = map_keys (λ (h : Holder). h.1) (restriction (is_account who) held)
+
+-- ---- accounts in order
+-- after an account, or any account where none is given
+abbrev pub IsAfter : Option (List ℕ) → List ℕ → Type 0
+IsAfter None who = ⊤
+IsAfter (Some a) who = account_cmp a who ≡ Less
+
+-- the first account after another that holds something
+pub record IsNext (after : Option (List ℕ)) (held : Held) (who : List ℕ) : Type 0 where
+  pub holds : 0 < holding_of who held
+  pub later : IsAfter after who
+  pub least : (w : List ℕ) → IsAfter after w → 0 < holding_of w held → account_cmp w who ≡ Less → ⊥
 
 -- ---- moves
 -- a list of assets as an account's

@@ -7,5 +7,6 @@ pub mod Sums
 pub mod LedgerRows
 pub mod RowState
 pub mod AccountRows
+pub mod AccountGoods
 pub mod LedgerFaults
 pub mod LedgerCode

@@ -50,10 +50,20 @@ impl AssetTable {
     }
 
     /// How many assets there are.
-    pub(crate) fn len(&self) -> usize
+    pub(crate) fn len(&self) -> u32
         ensures { result ≡ length self.now }
     {
-        self.assets.len()
+        self.assets.len() as u32
+    }
+
+    /// The asset of a number.
+    pub(crate) fn get(&self, number: u32) -> Option<(AssetId, Kind)>
+        ensures { result ≡ slice_get self.now number }
+    {
+        match self.assets.get_index(number as usize) {
+            Some(asset) => Some((AssetId::Concrete(asset.id.copy()), asset.kind)),
+            None => None,
+        }
     }
 
     /// The number of an asset.

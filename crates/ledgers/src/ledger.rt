@@ -1,5 +1,5 @@
 //! The ledger of a chain.
-ghost use Rattle.std.specs.Prelude.{◌≡◌, ◌-◌, ◌^◌, ◌<◌, ℕ, None, Some, map, min, length, slice_get, IfOk, IfSome, MatchOption, MatchResult};
+ghost use Rattle.std.specs.Prelude.{◌≡◌, ◌-◌, ◌^◌, ◌<◌, ℕ, None, Some, map, min, List, option_copied, length, slice_get, IfOk, IfSome, MatchOption, MatchResult};
 ghost use Rattle.std.specs.Ordering.{eq_by_cmp};
 ghost use Rattle.std.specs.List.{IsDistinct};
 ghost use Rattle.amounts.specs.Amounts.{amount, empty};
@@ -8,16 +8,17 @@ ghost use Rattle.asset_bundles.specs.Bundles.{bundle_of, held_assets};
 ghost use Rattle.asset_bundles.specs.Books.{Listed, listed_cmp};
 ghost use Rattle.asset_bundles.specs.Totals.{total_value};
 ghost use Rattle.ledgers.specs.Sums.{sum_value};
-ghost use Rattle.ledgers.specs.Ledgers.{listed_row, number_in, AreListed, sum_of, part_of, owners_of, IsOwner, shortage, overflow, barred, Withdrawn, Deposited, Transferred};
+ghost use Rattle.ledgers.specs.Ledgers.{listed_row, number_in, AreListed, sum_of, part_of, owners_of, IsOwner, holding_of, IsAfter, IsNext, account_goods, shortage, overflow, barred, Withdrawn, Deposited, Transferred};
 ghost use Rattle.ledgers.specs.LedgerFaults.{IsLedgerFault, IsDepositFault, IsTransferFault};
 
 use crate::asset_table::AssetTable;
 use crate::list_moves::{barred, give_all, make_all_room, overflow, shortage, sweep_all, take_all};
+use crate::next_account::next_holder;
 use crate::rows::Rows;
 use crate::sums::{Sum, zero_sums};
 use crate::{DepositFault, LedgerFault, TransferFault};
 use asset_bundles::{AssetBundle, Total};
-use asset_lists::{AssetId, Assets, Instance, Kind};
+use asset_lists::{Asset, AssetId, Assets, Instance, Kind};
 use locations::Location;
 use std::alloc::{AllocError, Global};
 use std::collections::BTreeMap;
@@ -53,7 +54,7 @@ impl Ledger {
         ensures { IfOk result (λ ledger. ledger ≡ record { listed = map listed_row list.items; held = empty }) }
     {
         let assets = AssetTable::open(alloc, list)?;
-        let sums = zero_sums(alloc, assets.len())?;
+        let sums = zero_sums(alloc, assets.len() as usize)?;
         let rows = Rows {
             assets,
             amounts: BTreeMap::new(alloc),
@@ -108,6 +109,29 @@ impl Ledger {
             (IsOwner self.now.held (id.now, Some instance.now)) }
     {
         self.rows.owner(id, *instance)
+    }
+
+    /// The first account by bytes that holds something, of those after the given one; None where there is
+    /// none. It takes time in proportion to the rows of all accounts.
+    pub fn next_account(&self, after: Option<&[u8; 32]>) -> Option<[u8; 32]>
+        ensures { MatchOption result
+            ((who : List ℕ) → IsAfter (option_copied after.entry) who → holding_of who self.now.held ≡ 0)
+            (IsNext (option_copied after.entry) self.now.held) }
+    {
+        next_holder(&self.rows.amounts, after)
+    }
+
+    /// What an account holds, in holding order: fungibles by id, then instances by id and instance. An `Err`
+    /// is want of memory.
+    pub fn held(&self, who: &[u8; 32]) -> Result<Vec<Asset>, AllocError>
+        ensures listed { IfOk result (λ assets. assets.items ≡ held_assets (account_goods who.now self.now.held)) }
+        ensures bundle { IfOk result (λ assets. bundle_of assets.items ≡ account_goods who.now self.now.held) }
+    {
+        let found = self.rows.goods(who)?;
+        let goods = AssetBundle::mint(*self.rows.sums.allocator(), found.as_slice())?;
+        let assets = goods.list();
+        goods.melt();
+        assets
     }
 
     /// Takes the listed assets out of an account: all of them, or none.

@@ -1,12 +1,14 @@
 //! What chains keep of assets: the ledger and the trap store.
 #![tactic(auto)]
 
+mod account_goods;
 mod asset_table;
 mod faults;
 mod laws;
 mod ledger;
 mod list_moves;
 mod listed_asset;
+mod next_account;
 mod pieces;
 mod row_moves;
 mod row_state;

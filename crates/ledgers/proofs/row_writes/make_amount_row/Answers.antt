@@ -1,4 +1,4 @@
-use Rattle.std.proofs.Common.{sym, ap, ◌∙◌, subst}
+use Rattle.std.proofs.Common.{sym, subst}
 use Rattle.ledgers.specs.LedgerRows.{amount_key_cmp, AreSmall}
 use Rattle.ledgers.proofs.RowLookups.{amount_keys}
 use Rattle.ledgers.proofs.RowWriting.{rows_stay, nothing_said, none_there, small_insert, small_zero}

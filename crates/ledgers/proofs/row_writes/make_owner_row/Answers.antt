@@ -1,4 +1,3 @@
-use Rattle.std.proofs.Common.{sym, ap, ◌∙◌}
 use Rattle.std.specs.Prelude.{None}
 use Rattle.ledgers.specs.LedgerRows.{owner_key_cmp}
 use Rattle.ledgers.proofs.RowLookups.{owner_keys}

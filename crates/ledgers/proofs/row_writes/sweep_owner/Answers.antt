@@ -1,4 +1,4 @@
-use Rattle.std.proofs.Common.{sym, ◌∙◌, subst}
+use Rattle.std.proofs.Common.{sym, ◌∙◌}
 use Rattle.std.specs.Prelude.{None}
 use Rattle.ledgers.specs.LedgerRows.{owner_key_cmp}
 use Rattle.ledgers.proofs.RowLookups.{owner_keys}

@@ -1,4 +1,3 @@
-use Rattle.std.specs.Prelude.{Some}
 use Rattle.ledgers.specs.LedgerRows.{owner_key_cmp}
 use Rattle.ledgers.proofs.RowWriting.{rows_stay}
 use Rattle.ledgers.proofs.row_writes.write_owner.Goals as goal

@@ -1,5 +1,4 @@
 use Rattle.std.proofs.Common.{◌≡◌, refl, true, false, ap, sym, ◌∙◌, subst}
-use Rattle.std.specs.Prelude.{None, Some}
 use Rattle.std.specs.List.{list_all}
 use Rattle.std.specs.Ordering.{is_eq}
 use Rattle.amounts.specs.Amounts.{difference, merge}
@@ -8,7 +7,7 @@ use Rattle.asset_lists.specs.Lists.{is_rising, has_zero}
 use Rattle.asset_bundles.specs.Books.{listed_of, lists}
 use Rattle.ledgers.specs.Ledgers.{Accounts, held_by, shortage, overflow, Withdrawn, Transferred}
 use Rattle.ledgers.specs.RowState.{rows_held, accounts_of}
-use Rattle.ledgers.specs.AccountRows.{HasAll, MayTakeAll, HasAllRoom}
+use Rattle.ledgers.specs.AccountRows.{HasAll, MayTakeAll}
 use Rattle.ledgers.proofs.AccountMoves.{has_all, minus_whole, plus_whole, room_stays}
 use Rattle.ledgers.proofs.Transferring.{has_held_by, self_fits, other_may, given_listed, other_overflow, two_accounts, one_account, given_back}
 use Rattle.ledgers.proofs.ledger.Ledger.transfer.Goals as goal

@@ -1,8 +1,5 @@
-use Rattle.std.proofs.Common.{◌≡◌, ℕ, ◌≤◌, true, refl, ap, sym, ◌∙◌, subst}
-use Rattle.std.specs.Prelude.{None}
-use Rattle.asset_lists.specs.Units.{Unit}
+use Rattle.std.proofs.Common.{◌≡◌, true, ap, sym, ◌∙◌, subst}
 use Rattle.asset_lists.specs.Lists.{is_rising}
-use Rattle.asset_lists.specs.Moves.{count_of}
 use Rattle.asset_lists.proofs.Sorting.{once_each}
 use Rattle.asset_bundles.specs.Bundles.{bundle_of}
 use Rattle.ledgers.specs.Ledgers.{Accounts, shortage, Withdrawn}

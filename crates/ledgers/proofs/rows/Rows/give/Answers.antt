@@ -1,8 +1,6 @@
-use Rattle.std.proofs.Common.{◌≡◌, ℕ, ◌+◌, ◌-◌, ◌^◌, ◌<◌, ◌≤◌, refl, sym, ap, ◌∙◌, subst, arith}
-use Rattle.asset_lists.specs.Units.{instance_in, amount_in}
-use Rattle.asset_bundles.specs.Books.{listed_of}
+use Rattle.std.proofs.Common.{◌+◌, ◌-◌, ◌^◌, ◌<◌, refl, sym, ap, ◌∙◌, subst, arith}
+use Rattle.asset_lists.specs.Units.{instance_in}
 use Rattle.ledgers.specs.Sums.{sum_value}
-use Rattle.ledgers.specs.LedgerRows.{amount_at}
 use Rattle.ledgers.proofs.RowChanges.{row_room, sum_room, given, wrote_as}
 use Rattle.ledgers.proofs.rows.Rows.give.Goals as goal
 

@@ -1,11 +1,8 @@
-use Rattle.std.proofs.Common.{◌≡◌, ℕ, ◌-◌, ◌≤◌, refl, sym, ap, ◌∙◌, subst, arith}
-use Rattle.std.specs.Prelude.{if◌then◌else◌, Option, None, Some}
-use Rattle.std.specs.Ordering.{eq_by_cmp}
-use Rattle.asset_lists.specs.Units.{instance_in, amount_in}
+use Rattle.std.proofs.Common.{◌≡◌, ℕ, ◌-◌, refl, sym, ap, ◌∙◌, arith}
+use Rattle.std.specs.Prelude.{Option, None, Some}
+use Rattle.asset_lists.specs.Units.{instance_in}
 use Rattle.asset_bundles.specs.Books.{listed_of}
 use Rattle.ledgers.specs.Sums.{sum_value}
-use Rattle.ledgers.specs.Ledgers.{number_in}
-use Rattle.ledgers.specs.LedgerRows.{AmountKey, amount_key_cmp, amount_at}
 use Rattle.ledgers.proofs.Numbers.{number_at}
 use Rattle.ledgers.proofs.RowChanges.{held_listed, row_at_least, sum_at_least, taken, wrote_as, amount_row_there, instance_row_there}
 use Rattle.ledgers.proofs.rows.Rows.take.Goals as goal
