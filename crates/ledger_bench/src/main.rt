@@ -1,0 +1,114 @@
+//! Deposits to be timed: one to each of so many accounts, then so many more to accounts in scattered order, with the asset's sum
+//! over all accounts asked for after each. The words are `ACCOUNTS DEPOSITS`; what is written is the sum at the end.
+#![tactic(auto)]
+
+ghost use Rattle.std.specs.Prelude.{◌≡◌, ◌<◌, [], ◌∷◌};
+ghost use Rattle.asset_lists.specs.declared.units.Kind.{Kind};
+ghost use Rattle.asset_lists.specs.declared.units.AssetId.TheVariants.{Concrete};
+
+use asset_bundles::{AssetBundle, Total};
+use asset_lists::{Asset, AssetId, Fun, Kind};
+use ledgers::Ledger;
+use locations::{Junctions, Location};
+use std::alloc::{AllocError, Global};
+use std::process::ExitCode;
+use std::{env, io};
+
+/// The chain's own asset.
+fn here() -> Location
+    ensures { result ≡ record { parents = 0; interior = [] } }
+{
+    Location {
+        parents: 0,
+        interior: Junctions::empty(),
+    }
+}
+
+/// The account of a number: its eight bytes, the low one first, and zeros.
+fn account(number: u64) -> [u8; 32] {
+    let mut who = [0; 32];
+    who[..8].copy_from_slice(&number.to_le_bytes());
+    who
+}
+
+/// Deposits 1, and tells what all accounts have.
+fn deposit(ledger: &mut Ledger, alloc: Global, who: &[u8; 32]) -> Result<Total, AllocError>
+    requires { ledger.old.listed ≡ (Concrete (record { parents = 0; interior = [] }), Kind.Fungible) ∷ [] }
+    ensures { ledger.new.listed ≡ ledger.old.listed }
+{
+    let coin = Asset {
+        id: AssetId::Concrete(here()),
+        fun: Fun::Fungible(1),
+    };
+    let goods = AssetBundle::mint(alloc, &[coin])?;
+    match ledger.deposit(who, goods) {
+        Ok(()) => {}
+        Err((goods, _)) => goods.melt(),
+    }
+    Ok(ledger.total(0))
+}
+
+/// Deposits to each of the first accounts.
+fn deposit_to_each(ledger: &mut Ledger, alloc: Global, accounts: u64) -> Result<(), AllocError>
+    requires { ledger.old.listed ≡ (Concrete (record { parents = 0; interior = [] }), Kind.Fungible) ∷ [] }
+    ensures { ledger.new.listed ≡ ledger.old.listed }
+{
+    for number in 0..accounts {
+        deposit(ledger, alloc, &account(number))?;
+    }
+    Ok(())
+}
+
+/// Deposits to accounts in scattered order, and tells what all accounts then have.
+fn deposit_to_some(
+    ledger: &mut Ledger,
+    alloc: Global,
+    accounts: u64,
+    deposits: u64,
+) -> Result<u128, AllocError>
+    requires some { 0 < accounts }
+    requires listed { ledger.old.listed ≡ (Concrete (record { parents = 0; interior = [] }), Kind.Fungible) ∷ [] }
+{
+    let mut scattered: u64 = 1;
+    let mut sum = 0;
+    for _ in 0..deposits {
+        scattered = scattered
+            .wrapping_mul(6_364_136_223_846_793_005)
+            .wrapping_add(1_442_695_040_888_963_407);
+        sum = deposit(ledger, alloc, &account((scattered >> 33) % accounts))?.low;
+    }
+    Ok(sum)
+}
+
+/// All deposits, and what all accounts then have.
+fn deposited(alloc: Global, accounts: u64, deposits: u64) -> Result<u128, AllocError>
+    requires { 0 < accounts }
+{
+    let list = Vec::from_array(alloc, [(here(), Kind::Fungible)])?;
+    let mut ledger = Ledger::open(alloc, list)?;
+    deposit_to_each(&mut ledger, alloc, accounts)?;
+    deposit_to_some(&mut ledger, alloc, accounts, deposits)
+}
+
+/// The two numbers.
+fn numbers(words: &[String]) -> Option<(u64, u64)> {
+    match words {
+        [_, accounts, deposits] => Some((accounts.parse().ok()?, deposits.parse().ok()?)),
+        _ => None,
+    }
+}
+
+fn main(rt: HostRuntime) -> io::Result<ExitCode> {
+    let alloc = rt.alloc();
+    let words: Vec<String> = env::args(&rt)?.collect(alloc)?;
+    match numbers(&words) {
+        Some((accounts, deposits)) if accounts > 0 => {
+            println!(rt; "{}", deposited(alloc, accounts, deposits)?)?;
+            Ok(ExitCode::SUCCESS)
+        }
+        _ => {
+            println!(rt; "usage: ledger_bench ACCOUNTS DEPOSITS")?;
+            Ok(ExitCode::from(2))
+        }
+    }
+}
