@@ -282,8 +282,8 @@ fn the_first_rate_that_is_covered_is_paid(rt: HostRuntime) -> Result<(), Fail> {
     let left = held(left, 1);
     assert!(rt; !refused);
     assert_eq!(rt; left, 5);
-    let both = minted(alloc, 0, 8)?;
-    let (refused, left) = buy(&mut shop, SECOND, both);
+    let payment = minted(alloc, 0, 8)?;
+    let (refused, left) = buy(&mut shop, SECOND, payment);
     let left = held(left, 0);
     assert!(rt; !refused);
     assert_eq!(rt; left, 0);
