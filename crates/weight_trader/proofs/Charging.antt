@@ -11,10 +11,10 @@ use Rattle.weight_trader.specs.Purchases.{Line, coin_of, is_covered, paying, IsT
 use Rattle.weight_trader.specs.Refunds.{refund_at, is_refunded, refund_of, without_refund, Refunded}
 use Rattle.weight_trader.proofs.Changes.{passes_none, found_at, passes_at, changed_at, found_nowhere, changed_nowhere}
 
-within : (a b : ℕ) → nat_le a b ≡ true → a ≤ b
+pub within : (a b : ℕ) → nat_le a b ≡ true → a ≤ b
 within a b h = grind (arith, h)
 
-beyond : (a b : ℕ) → nat_le a b ≡ false → b < a
+pub beyond : (a b : ℕ) → nat_le a b ≡ false → b < a
 beyond a b h = grind (arith, h)
 
 module _ (w : Weight) (payment : Bundle) where

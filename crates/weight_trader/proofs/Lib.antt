@@ -7,4 +7,5 @@ pub mod Lines
 pub mod Charging
 pub mod Listed
 pub mod Trading
+pub mod Booking
 pub mod Counting

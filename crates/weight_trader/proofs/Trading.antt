@@ -1,6 +1,6 @@
 -- Payments are kept, and refunds are paid.
 use Rattle.std.proofs.Common.{◌≡◌, ℕ, ◌+◌, ◌-◌, ◌^◌, ◌≤◌, Bool, true, false, cond, List, [], ◌∷◌, map, Option, Some, None, refl, sym, ap, ◌∙◌, subst, arith}
-use Rattle.std.specs.Prelude.{if◌then◌else◌, nat_eq, nat_le, min}
+use Rattle.std.specs.Prelude.{if◌then◌else◌, nat_eq, min}
 use Rattle.std.specs.List.{find}
 use Rattle.std.specs.Option.{option_map}
 use Rattle.std.specs.Ordering.{eq_by_cmp}
@@ -17,6 +17,7 @@ use Rattle.weight_trader.specs.Refunds.{refund_at, is_refunded, goods_of, withou
 use Rattle.weight_trader.specs.ListedLaws.{changed_all, rate_kept}
 use Rattle.weight_trader.specs.Laws.{Move, Purchase, Refund, lines_after, payment_of, unspent_by, unspent_of, saturated_by, saturated_of, paid_by, paid_of, given_of, lines_after_all, summed, AreWithinEnd, PaymentsAreKept, RefundsArePaid, RefundsAreCovered}
 use Rattle.weight_trader.proofs.Changes.{found_passes}
+use Rattle.weight_trader.proofs.Charging.{within}
 
 -- so much of a line's paid amount as is of the unit
 abbrev part : Unit → Line → ℕ → ℕ
@@ -92,16 +93,13 @@ split_payment payment k u a s held le =
       | false ↦ λ t x y z. omega (arith, x, y, z)
     ] refl left paid above
 
-covered : (a b : ℕ) → nat_le a b ≡ true → a ≤ b
-covered a b h = grind (arith, h)
-
 purchase_kept : (w : Weight) (payment : Bundle) (lines : List Line) (u : Unit) (o : Option Line) → AreWithinEnd lines → paying w payment lines ≡ o
     → amount payment u ≡ amount (unspent_by w payment o) u + amount (paid_by w o) u + amount (saturated_by w o) u
 purchase_kept w payment lines u None all e = let none = amount-empty unit_keys u in omega (arith, none)
 purchase_kept w payment lines u (Some l) all e =
     let h = found_passes (is_covered w payment) (λ (line : Line). line.paid ≤ 2 ^ 128 - 1) lines l all e in
     let most = h.1 in
-    split_payment payment (coin_of l.rate) u (price l.rate w) (excess w l) (covered _ _ h.0) (omega (arith, most))
+    split_payment payment (coin_of l.rate) u (price l.rate w) (excess w l) (within _ _ h.0) (omega (arith, most))
 
 move_kept : (m : Move) (lines : List Line) (u : Unit) → AreWithinEnd lines → amount (payment_of m lines) u ≡ amount (unspent_of m lines) u + amount (paid_of m lines) u + amount (saturated_of m lines) u
 move_kept (Purchase w payment) lines u all = purchase_kept w payment lines u (paying w payment lines) all refl

@@ -38,22 +38,22 @@ unfolding Booked
 same_rows asset zero book = refl
 same_rows asset (suc n) book = refl
 
-saturated_listed : (asset : Listed) (n : ℕ) (book : Book) (lines : List Line) → AreListed book lines → AreListed (with_saturated asset n book) lines
+-- after the excess is booked
+pub saturated_listed : (asset : Listed) (n : ℕ) (book : Book) (lines : List Line) → AreListed book lines → AreListed (with_saturated asset n book) lines
 saturated_listed asset n book [] listed = tt
 saturated_listed asset n book (l ∷ ls) listed =
     (subst (λ rows. IsTrue (lists rows (listed_of (coin_of l.rate)))) (sym (same_rows asset n book)) listed.0, saturated_listed asset n book ls listed.1)
 
-pub bought_listed : (w : Weight) (payment : Bundle) (lines : List Line) (asset : Listed) (n : ℕ) (book : Book) → AreListed book lines → AreListed (with_saturated asset n book) (Bought w payment lines)
-unfolding Bought
-bought_listed w payment lines asset n book listed =
-    saturated_listed asset n book (change_first (is_covered w payment) (with_purchase w) lines) (changed_all (is_listed book) (is_covered w payment) (with_purchase w) (purchase_listed w book) lines listed)
-
 -- after a purchase
+pub bought_listed : (w : Weight) (payment : Bundle) (lines : List Line) (book : Book) → AreListed book lines → AreListed book (Bought w payment lines)
+unfolding Bought
+bought_listed w payment lines book listed = changed_all (is_listed book) (is_covered w payment) (with_purchase w) (purchase_listed w book) lines listed
+
 pub purchased_listed : (w : Weight) (payment left : Bundle) (lines lines_after : List Line) (book book_after : Book) → AreListed book lines
     → IsPurchase w payment lines book left lines_after book_after → AreListed book_after lines_after
 purchased_listed w payment left lines lines_after book book_after listed bought =
     subst (λ b. AreListed b lines_after) (sym bought.book_is)
-    (subst (AreListed (with_saturated _ _ book)) (sym bought.lines_are) (bought_listed w payment lines _ _ book listed))
+    (saturated_listed _ _ book lines_after (subst (AreListed book) (sym bought.lines_are) (bought_listed w payment lines book listed)))
 
 -- after a refund
 pub refunded_listed : (w : Weight) (lines : List Line) (book : Book) → AreListed book lines → AreListed book (Refunded w lines)
