@@ -1,5 +1,5 @@
 -- What purchases book, over any list of moves.
-use Rattle.std.proofs.Common.{◌≡◌, ℕ, zero, suc, ◌+◌, ◌-◌, ◌^◌, ◌<◌, ◌≤◌, true, false, List, [], ◌∷◌, Option, Some, None, refl, ap, ◌∙◌, arith}
+use Rattle.std.proofs.Common.{◌≡◌, ℕ, zero, suc, ◌+◌, ◌-◌, ◌^◌, ◌<◌, ◌≤◌, true, false, List, [], ◌∷◌, Option, Some, None, refl, sym, ap, ◌∙◌, arith}
 use Rattle.std.specs.Prelude.{nat_le, min}
 use Rattle.std.specs.Ordering.{eq_by_cmp, is_eq, ordering_then}
 use Rattle.std.specs.declared.cmp.Ordering.{Ordering}
@@ -17,8 +17,8 @@ use Rattle.asset_bundles.specs.Laws.{burn_keys, amount-Standing}
 use Rattle.weight_trader.specs.declared.rate.Rate.{Rate}
 use Rattle.weight_trader.specs.Purchases.{Line, coin_of, AreListed, paying, excess, with_saturated}
 use Rattle.weight_trader.specs.ListedLaws.{bought_listed, saturated_listed, refunded_listed}
-use Rattle.weight_trader.specs.Laws.{Move, Purchase, Refund, lines_after, saturated_by, saturated_of, book_by, book_after, book_after_all, booked_of, summed, ExcessIsBooked, OthersAreKept, PaymentsAreBooked, RowsAreKept}
-use Rattle.weight_trader.proofs.Charging.{within, beyond}
+use Rattle.weight_trader.specs.Laws.{Move, Purchase, Refund, lines_after, unspent_by, saturated_by, saturated_of, book_by, book_after, book_after_all, booked_of, summed, ExcessIsBooked, OthersAreKept, PaymentsAreBooked, RowsAreKept, PurchasesAreMoves, RefusalsAreMoves}
+use Rattle.weight_trader.proofs.Charging.{within, beyond, paying_none, bought_none}
 use Rattle.weight_trader.proofs.Trading.{payments_kept}
 
 -- ---- the burns of a unit's asset
@@ -160,3 +160,19 @@ move_listed (Refund w) lines book listed = refunded_listed w lines book listed
 pub rows_kept : RowsAreKept
 rows_kept [] lines book listed = listed
 rows_kept (m ∷ ms) lines book listed = rows_kept ms (lines_after m lines) (book_after m lines book) (move_listed m lines book listed)
+
+-- ---- what calls do
+
+pub purchases_move : PurchasesAreMoves
+purchases_move w payment left lines lines_then book book_then bought = (
+  bought.left_is ∙ ap (unspent_by w payment) (sym bought.first),
+  bought.lines_are,
+  bought.book_is ∙ ap (λ (o : Option Line). book_by w o book) (sym bought.first),
+)
+
+pub refusals_move : RefusalsAreMoves
+refusals_move w payment lines book dear = (
+  ap (unspent_by w payment) (sym (paying_none w payment lines dear)),
+  sym (bought_none w payment lines dear),
+  ap (λ (o : Option Line). book_by w o book) (sym (paying_none w payment lines dear)),
+)

@@ -47,11 +47,11 @@ module _ {X : Type 0} (p : X → Bool) where
   pub passes_none : (xs : List X) → position p xs ≡ None → AllByRecursion (λ x. p x ≡ false) xs
   passes_none xs e = none_passes xs (no_place xs e)
 
-  find_none : (xs : List X) → AllByRecursion (λ x. p x ≡ false) xs → find p xs ≡ None
+  pub find_none : (xs : List X) → AllByRecursion (λ x. p x ≡ false) xs → find p xs ≡ None
   find_none [] all = refl
   find_none (x ∷ xs) all = ap (λ b. cond b (Some x) (find p xs)) all.0 ∙ find_none xs all.1
 
-  change_none : (f : X → X) (xs : List X) → AllByRecursion (λ x. p x ≡ false) xs → change_first p f xs ≡ xs
+  pub change_none : (f : X → X) (xs : List X) → AllByRecursion (λ x. p x ≡ false) xs → change_first p f xs ≡ xs
   change_none f [] all = refl
   change_none f (x ∷ xs) all = ap (λ b. if b then f x ∷ xs else x ∷ change_first p f xs) all.0 ∙ ap (λ ys. x ∷ ys) (change_none f xs all.1)
 

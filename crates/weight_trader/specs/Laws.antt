@@ -9,7 +9,7 @@ use Rattle.asset_bundles.specs.Bundles.{Bundle}
 use Rattle.asset_bundles.specs.Books.{Book, Listed, cause_index, listed_of}
 use Rattle.weight_trader.specs.declared.rate.Rate.{Rate}
 use Rattle.weight_trader.specs.Prices.{price}
-use Rattle.weight_trader.specs.Purchases.{Line, new_lines, coin_of, AreListed, paying, unspent_at, excess, Bought, with_saturated, paid_goods}
+use Rattle.weight_trader.specs.Purchases.{Line, new_lines, coin_of, AreListed, paying, IsTooExpensive, unspent_at, excess, Bought, with_saturated, IsPurchase, paid_goods}
 use Rattle.weight_trader.specs.Refunds.{refund_of, goods_of, Refunded}
 
 -- a purchase of weight with a payment, or a refund of weight
@@ -125,3 +125,13 @@ PaymentsAreBooked = (moves : List Move) (lines : List Line) (book : Book) (unit 
 -- a book that has a row for each rate's asset still has it after all moves
 abbrev pub RowsAreKept : Type 0
 RowsAreKept = (moves : List Move) (lines : List Line) (book : Book) → AreListed book lines → AreListed (book_after_all moves lines book) (lines_after_all moves lines)
+
+-- a call that buys is the move: what it hands back, the record and the book after it
+abbrev pub PurchasesAreMoves : Type 0
+PurchasesAreMoves = (w : Weight) (payment left : Bundle) (lines lines_then : List Line) (book book_then : Book) → IsPurchase w payment lines book left lines_then book_then
+    → (left ≡ unspent_of (Purchase w payment) lines) × (lines_then ≡ lines_after (Purchase w payment) lines) × (book_then ≡ book_after (Purchase w payment) lines book)
+
+-- and so is one that is refused
+abbrev pub RefusalsAreMoves : Type 0
+RefusalsAreMoves = (w : Weight) (payment : Bundle) (lines : List Line) (book : Book) → IsTooExpensive w payment lines
+    → (payment ≡ unspent_of (Purchase w payment) lines) × (lines ≡ lines_after (Purchase w payment) lines) × (book ≡ book_after (Purchase w payment) lines book)

@@ -1,5 +1,5 @@
 use Rattle.weight_trader.proofs.Trading.{payments_kept, refunds_paid, refunds_covered}
-use Rattle.weight_trader.proofs.Booking.{excess_booked, others_kept, payments_booked, rows_kept}
+use Rattle.weight_trader.proofs.Booking.{excess_booked, others_kept, payments_booked, rows_kept, purchases_move, refusals_move}
 use Rattle.weight_trader.proofs.laws.law_of_trading.Goals as goal
 
 pub returns-clause-payments : goal.returns-clause-payments
@@ -22,3 +22,9 @@ returns-clause-booked c = payments_booked
 
 pub returns-clause-rows : goal.returns-clause-rows
 returns-clause-rows c = rows_kept
+
+pub returns-clause-purchases : goal.returns-clause-purchases
+returns-clause-purchases c = purchases_move
+
+pub returns-clause-refusals : goal.returns-clause-refusals
+returns-clause-refusals c = refusals_move
