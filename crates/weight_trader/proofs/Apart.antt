@@ -12,10 +12,8 @@ use Rattle.asset_lists.specs.declared.units.Asset.{Asset}
 use Rattle.asset_lists.specs.Units.{Unit, unit_cmp}
 use Rattle.asset_lists.specs.Lists.{is_of, has_zero}
 use Rattle.asset_lists.specs.Moves.{count_of}
-use Rattle.message_parts.specs.declared.weight.Weight.{Weight}
 use Rattle.weight_trader.specs.declared.rate.Rate.{Rate}
-use Rattle.weight_trader.specs.Prices.{price}
-use Rattle.weight_trader.specs.Purchases.{Line, new_line, new_lines, coin_of, is_in, NameEachOnce, AreApart, with_purchase}
+use Rattle.weight_trader.specs.Purchases.{Line, new_line, new_lines, coin_of, is_in, NameEachOnce, AreApart}
 use Rattle.weight_trader.specs.Refunds.{Closed}
 use Rattle.weight_trader.specs.Closing.{coins, is_paid, paid_assets}
 use Rattle.std.proofs.lemmas.List.Sums.{sum_by-cons}
@@ -46,13 +44,6 @@ count_set asset (l ∷ ls) (suc k) line x at same = count_same asset l l (set ls
 
 pub apart_set : (lines : List Line) (k : ℕ) (line x : Line) → x ≡ get_or lines k x → line.rate ≡ x.rate → AreApart lines → AreApart (set lines k line)
 apart_set lines k line x at same apart asset = subst (λ n. n ≤ 1) (sym (count_set asset lines k line x at same)) (apart asset)
-
-if_rate : (b : Bool) (l m : Line) (r : Rate) → l.rate ≡ r → m.rate ≡ r → (if b then l else m).rate ≡ r
-if_rate true l m r h k = h
-if_rate false l m r h k = k
-
-pub rate_kept : (w : Weight) (l : Line) → (with_purchase w l).rate ≡ l.rate
-rate_kept w l = if_rate (nat_eq (price l.rate w) 0) l _ l.rate refl refl
 
 -- ---- the first record, and the closed one
 

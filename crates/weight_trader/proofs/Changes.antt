@@ -1,10 +1,19 @@
 -- The first of a list that passes a test, found and changed.
-use Rattle.std.proofs.Common.{◌≡◌, ℕ, zero, suc, ◌+◌, ◌<◌, ◌≤◌, Bool, true, false, cond, List, [], ◌∷◌, ◌++◌, length, get_or, set, drop, Some, None, refl, sym, ap, ◌∙◌, add-one, arith, drop-cons}
+use Rattle.std.proofs.Common.{◌≡◌, ℕ, zero, suc, ◌+◌, ◌<◌, ◌≤◌, Bool, true, false, cond, List, [], ◌∷◌, ◌++◌, length, get_or, set, drop, Some, None, refl, sym, ap, ◌∙◌, subst, add-one, arith, drop-cons}
 use Rattle.std.specs.Prelude.{if◌then◌else◌, not}
 use Rattle.std.specs.List.{find, position, position_or_len, AllByRecursion}
 use Rattle.std.proofs.lemmas.Grind.{common_steps}
 use Rattle.std.proofs.lemmas.List.Quantifiers.{position-Some}
 use Rattle.weight_trader.specs.Purchases.{change_first}
+
+-- what is found passes the test, and what all have it has
+pub found_passes : {X : Type 0} (p : X → Bool) (P : X → Type 0) (xs : List X) (x : X) → AllByRecursion P xs → find p xs ≡ Some x → (p x ≡ true) × P x
+found_passes p P [] x all e = absurd (cc)
+found_passes p P (y ∷ ys) x all e =
+    elim (p y) as (λ b. p y ≡ b → cond b (Some y) (find p ys) ≡ Some x → (p x ≡ true) × P x) [
+      | true ↦ λ t f. (let same : y ≡ x = cc in subst (λ z. (p z ≡ true) × P z) same (t, all.0))
+      | false ↦ λ t f. found_passes p P ys x all.1 f
+    ] refl e
 
 module _ {X : Type 0} (p : X → Bool) where
   earlier : (x : X) (xs : List X) (k : ℕ) (d : X) → ((j : ℕ) → j < suc k → p (get_or (x ∷ xs) j d) ≡ false) → (p x ≡ false) × ((j : ℕ) → j < k → p (get_or xs j d) ≡ false)
@@ -38,11 +47,11 @@ module _ {X : Type 0} (p : X → Bool) where
   pub passes_none : (xs : List X) → position p xs ≡ None → AllByRecursion (λ x. p x ≡ false) xs
   passes_none xs e = none_passes xs (no_place xs e)
 
-  find_none : (xs : List X) → AllByRecursion (λ x. p x ≡ false) xs → find p xs ≡ None
+  pub find_none : (xs : List X) → AllByRecursion (λ x. p x ≡ false) xs → find p xs ≡ None
   find_none [] all = refl
   find_none (x ∷ xs) all = ap (λ b. cond b (Some x) (find p xs)) all.0 ∙ find_none xs all.1
 
-  change_none : (f : X → X) (xs : List X) → AllByRecursion (λ x. p x ≡ false) xs → change_first p f xs ≡ xs
+  pub change_none : (f : X → X) (xs : List X) → AllByRecursion (λ x. p x ≡ false) xs → change_first p f xs ≡ xs
   change_none f [] all = refl
   change_none f (x ∷ xs) all = ap (λ b. if b then f x ∷ xs else x ∷ change_first p f xs) all.0 ∙ ap (λ ys. x ∷ ys) (change_none f xs all.1)
 

@@ -9,18 +9,32 @@ use Rattle.asset_bundles.specs.Bundles.{Bundle}
 use Rattle.weight_trader.specs.Prices.{price}
 use Rattle.weight_trader.specs.Purchases.{Line, coin_of, is_covered, paying, IsTooExpensive, with_purchase, Bought}
 use Rattle.weight_trader.specs.Refunds.{refund_at, is_refunded, refund_of, without_refund, Refunded}
-use Rattle.weight_trader.proofs.Changes.{passes_none, found_at, passes_at, changed_at, found_nowhere, changed_nowhere}
+use Rattle.weight_trader.proofs.Changes.{find_none, change_none, passes_none, found_at, passes_at, changed_at, found_nowhere, changed_nowhere}
 
-within : (a b : ℕ) → nat_le a b ≡ true → a ≤ b
+pub within : (a b : ℕ) → nat_le a b ≡ true → a ≤ b
 within a b h = grind (arith, h)
 
-beyond : (a b : ℕ) → nat_le a b ≡ false → b < a
+pub beyond : (a b : ℕ) → nat_le a b ≡ false → b < a
 beyond a b h = grind (arith, h)
+
+unreached : (a b : ℕ) → b < a → nat_le a b ≡ false
+unreached a b lt = grind (arith, lt)
 
 module _ (w : Weight) (payment : Bundle) where
   all_beyond : (lines : List Line) → AllByRecursion (λ line. is_covered w payment line ≡ false) lines → IsTooExpensive w payment lines
   all_beyond [] all = tt
   all_beyond (l ∷ ls) all = (beyond _ _ all.0, all_beyond ls all.1)
+
+  none_covered : (lines : List Line) → IsTooExpensive w payment lines → AllByRecursion (λ line. is_covered w payment line ≡ false) lines
+  none_covered [] all = tt
+  none_covered (l ∷ ls) all = (unreached _ _ all.0, none_covered ls all.1)
+
+  pub paying_none : (lines : List Line) → IsTooExpensive w payment lines → paying w payment lines ≡ None
+  paying_none lines all = find_none (is_covered w payment) lines (none_covered lines all)
+
+  pub bought_none : (lines : List Line) → IsTooExpensive w payment lines → Bought w payment lines ≡ lines
+  unfolding Bought
+  bought_none lines all = change_none (is_covered w payment) (with_purchase w) lines (none_covered lines all)
 
   pub too_expensive : (lines whole : List Line) → lines ≡ whole → position (is_covered w payment) lines ≡ None → IsTooExpensive w payment whole
   too_expensive lines whole same none = all_beyond whole (passes_none (is_covered w payment) whole (ap (position (is_covered w payment)) (sym same) ∙ none))

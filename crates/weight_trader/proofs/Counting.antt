@@ -1,8 +1,8 @@
 -- Instructions counted with a count that stands at its type's end.
-use Rattle.std.proofs.Common.{◌≡◌, ℕ, zero, suc, ◌+◌, ◌-◌, ◌^◌, ◌<◌, ◌≤◌, List, [], ◌∷◌, length, get_or, drop, Option, Some, None, ap, arith}
+use Rattle.std.proofs.Common.{◌≡◌, ℕ, zero, suc, ◌+◌, ◌-◌, ◌^◌, ◌<◌, ◌≤◌, List, [], ◌∷◌, length, get_or, drop, Option, Some, ap, arith}
 use Rattle.std.specs.Prelude.{min}
 use Rattle.std.proofs.lemmas.List.{drop_all}
-use Rattle.xcm_program.specs.declared.instruction.Instruction.{Instruction, out-Instruction}
+use Rattle.xcm_program.specs.declared.instruction.Instruction.{Instruction}
 use Rattle.xcm_program.specs.Measure.{inner_of, count_of}
 use Rattle.xcm_program.proofs.Layers.{count_inside, count-at}
 

@@ -5,5 +5,7 @@ pub mod Bundles
 pub mod Changes
 pub mod Lines
 pub mod Charging
+pub mod Listed
 pub mod Trading
+pub mod Booking
 pub mod Counting

@@ -1,7 +1,7 @@
 -- Payments are kept, and refunds are paid.
 use Rattle.std.proofs.Common.{◌≡◌, ℕ, ◌+◌, ◌-◌, ◌^◌, ◌≤◌, Bool, true, false, cond, List, [], ◌∷◌, map, Option, Some, None, refl, sym, ap, ◌∙◌, subst, arith}
-use Rattle.std.specs.Prelude.{if◌then◌else◌, nat_eq, nat_le, min}
-use Rattle.std.specs.List.{find, AllByRecursion}
+use Rattle.std.specs.Prelude.{if◌then◌else◌, nat_eq, min}
+use Rattle.std.specs.List.{find}
 use Rattle.std.specs.Option.{option_map}
 use Rattle.std.specs.Ordering.{eq_by_cmp}
 use Rattle.message_parts.specs.declared.weight.Weight.{Weight}
@@ -14,18 +14,10 @@ use Rattle.weight_trader.specs.declared.rate.Rate.{Rate}
 use Rattle.weight_trader.specs.Prices.{price}
 use Rattle.weight_trader.specs.Purchases.{Line, new_lines, coin_of, change_first, is_covered, paying, excess, weight_plus, with_purchase, Bought, paid_goods}
 use Rattle.weight_trader.specs.Refunds.{refund_at, is_refunded, goods_of, without_refund, Refunded}
+use Rattle.weight_trader.specs.ListedLaws.{changed_all, rate_kept}
 use Rattle.weight_trader.specs.Laws.{Move, Purchase, Refund, lines_after, payment_of, unspent_by, unspent_of, saturated_by, saturated_of, paid_by, paid_of, given_of, lines_after_all, summed, AreWithinEnd, PaymentsAreKept, RefundsArePaid, RefundsAreCovered}
-use Rattle.weight_trader.proofs.Apart.{rate_kept}
-
--- ---- what is found
-
-found_passes : {X : Type 0} (p : X → Bool) (P : X → Type 0) (xs : List X) (x : X) → AllByRecursion P xs → find p xs ≡ Some x → (p x ≡ true) × P x
-found_passes p P [] x all e = absurd (cc)
-found_passes p P (y ∷ ys) x all e =
-    elim (p y) as (λ b. p y ≡ b → cond b (Some y) (find p ys) ≡ Some x → (p x ≡ true) × P x) [
-      | true ↦ λ t f. (let same : y ≡ x = cc in subst (λ z. (p z ≡ true) × P z) same (t, all.0))
-      | false ↦ λ t f. found_passes p P ys x all.1 f
-    ] refl e
+use Rattle.weight_trader.proofs.Changes.{found_passes}
+use Rattle.weight_trader.proofs.Charging.{within}
 
 -- so much of a line's paid amount as is of the unit
 abbrev part : Unit → Line → ℕ → ℕ
@@ -75,14 +67,6 @@ module _ (p : Line → Bool) (f : Line → Line) (keeps : (l : Line) → (f l).r
 
 -- ---- the end
 
-changed_within : (p : Line → Bool) (f : Line → Line) → ((l : Line) → l.paid ≤ 2 ^ 128 - 1 → (f l).paid ≤ 2 ^ 128 - 1) → (lines : List Line) → AreWithinEnd lines → AreWithinEnd (change_first p f lines)
-changed_within p f keeps [] all = tt
-changed_within p f keeps (l ∷ ls) all =
-    elim (p l) as (λ b. AreWithinEnd (if b then f l ∷ ls else l ∷ change_first p f ls)) [
-      | true ↦ (keeps l all.0, all.1)
-      | false ↦ (all.0, changed_within p f keeps ls all.1)
-    ]
-
 purchase_within : (w : Weight) (l : Line) → l.paid ≤ 2 ^ 128 - 1 → (with_purchase w l).paid ≤ 2 ^ 128 - 1
 purchase_within w l le =
     elim (nat_eq (price l.rate w) 0) as (λ b. (if b then l else (record { rate = l.rate; bought = weight_plus l.bought w; paid = min (l.paid + price l.rate w) (2 ^ 128 - 1) })).paid ≤ 2 ^ 128 - 1) [
@@ -92,8 +76,8 @@ purchase_within w l le =
 
 moved_within : (m : Move) (lines : List Line) → AreWithinEnd lines → AreWithinEnd (lines_after m lines)
 unfolding Bought Refunded
-moved_within (Purchase w payment) lines all = changed_within (is_covered w payment) (with_purchase w) (purchase_within w) lines all
-moved_within (Refund w) lines all = changed_within (is_refunded w) (without_refund w) (λ l le. omega (arith, le)) lines all
+moved_within (Purchase w payment) lines all = changed_all (λ (line : Line). line.paid ≤ 2 ^ 128 - 1) (is_covered w payment) (with_purchase w) (purchase_within w) lines all
+moved_within (Refund w) lines all = changed_all (λ (line : Line). line.paid ≤ 2 ^ 128 - 1) (is_refunded w) (without_refund w) (λ l le. omega (arith, le)) lines all
 
 -- ---- payments
 
@@ -109,16 +93,13 @@ split_payment payment k u a s held le =
       | false ↦ λ t x y z. omega (arith, x, y, z)
     ] refl left paid above
 
-covered : (a b : ℕ) → nat_le a b ≡ true → a ≤ b
-covered a b h = grind (arith, h)
-
 purchase_kept : (w : Weight) (payment : Bundle) (lines : List Line) (u : Unit) (o : Option Line) → AreWithinEnd lines → paying w payment lines ≡ o
     → amount payment u ≡ amount (unspent_by w payment o) u + amount (paid_by w o) u + amount (saturated_by w o) u
 purchase_kept w payment lines u None all e = let none = amount-empty unit_keys u in omega (arith, none)
 purchase_kept w payment lines u (Some l) all e =
     let h = found_passes (is_covered w payment) (λ (line : Line). line.paid ≤ 2 ^ 128 - 1) lines l all e in
     let most = h.1 in
-    split_payment payment (coin_of l.rate) u (price l.rate w) (excess w l) (covered _ _ h.0) (omega (arith, most))
+    split_payment payment (coin_of l.rate) u (price l.rate w) (excess w l) (within _ _ h.0) (omega (arith, most))
 
 move_kept : (m : Move) (lines : List Line) (u : Unit) → AreWithinEnd lines → amount (payment_of m lines) u ≡ amount (unspent_of m lines) u + amount (paid_of m lines) u + amount (saturated_of m lines) u
 move_kept (Purchase w payment) lines u all = purchase_kept w payment lines u (paying w payment lines) all refl

@@ -3,4 +3,5 @@ pub mod Sums
 pub mod Purchases
 pub mod Refunds
 pub mod Closing
+pub mod ListedLaws
 pub mod Laws

@@ -2,7 +2,7 @@
 ghost use Rattle.std.specs.Prelude.{◌≡◌, ◌≤◌, min};
 ghost use Rattle.amounts.specs.Amounts.{amount};
 ghost use Rattle.weight_trader.specs.Prices.{price};
-ghost use Rattle.weight_trader.specs.Purchases.{new_line, coin_of, is_in, is_covered, with_purchase, excess, unspent_at};
+ghost use Rattle.weight_trader.specs.Purchases.{no_weight, new_line, coin_of, is_in, is_covered, with_purchase, excess, unspent_at};
 ghost use Rattle.weight_trader.specs.Refunds.{refund_at, is_refunded, without_refund};
 ghost use Rattle.weight_trader.specs.Closing.{coins, is_paid};
 
@@ -44,6 +44,18 @@ impl Purchases {
             rate: rate.copy(),
             bought: NO_WEIGHT,
             paid: 0,
+        }
+    }
+
+    /// So much paid at this rate.
+    #[cfg(test)]
+    pub(crate) fn with_paid(rate: &Rate, paid: u128) -> Purchases
+        ensures { result ≡ record { rate = rate.now; bought = no_weight; paid = paid } }
+    {
+        Purchases {
+            rate: rate.copy(),
+            bought: NO_WEIGHT,
+            paid,
         }
     }
 

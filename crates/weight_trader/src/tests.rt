@@ -1,10 +1,12 @@
 //! Each public call, with values worked out by hand.
-ghost use Rattle.std.specs.Prelude.{◌≡◌, ◌-◌, ◌^◌, min};
+ghost use Rattle.std.specs.Prelude.{◌≡◌, ◌+◌, ◌-◌, ◌^◌, min, IfOk};
 ghost use Rattle.xcm_program.specs.Measure.{count_of};
+ghost use Rattle.asset_bundles.specs.Books.{listed_of};
+ghost use Rattle.weight_trader.specs.Purchases.{AreListed, coin_of};
 
-use crate::{NotComputable, Rate, Trader, law_of_trading, price, weigh};
-use asset_bundles::AssetBundle;
-use asset_lists::{Asset, AssetId, Fun};
+use crate::{NotComputable, Rate, TooExpensive, Trader, law_of_trading, price, weigh};
+use asset_bundles::{AssetBundle, BurnBook, Cause, Total};
+use asset_lists::{Asset, AssetId, Fun, Kind};
 use locations::{Junctions, Location};
 use message_parts::{LongBytes, OriginKind, Weight};
 use std::alloc::{AllocError, Global};
@@ -128,14 +130,18 @@ fn programs_are_weighed(rt: HostRuntime) -> Result<(), Fail> {
     Ok(())
 }
 
-fn place(parents: u8) -> Location {
+fn place(parents: u8) -> Location
+    ensures { result.parents ≡ parents }
+{
     let interior = Junctions::from_few(&[]);
     Location { parents, interior }
 }
 
-fn rate(per_second: u64, per_mb: u64) -> Rate {
+fn rate(parents: u8, per_second: u64, per_mb: u64) -> Rate
+    ensures { result.asset.parents ≡ parents }
+{
     Rate {
-        asset: place(0),
+        asset: place(parents),
         per_second,
         per_mb,
     }
@@ -144,22 +150,50 @@ fn rate(per_second: u64, per_mb: u64) -> Rate {
 #[test]
 fn prices_are_rounded_down_in_each_dimension(rt: HostRuntime) -> Result<(), Fail> {
     let second = 1_000_000_000_000;
-    assert_eq!(rt; price(&rate(1, 0), weight(second + second / 2, 0)), 1);
-    assert_eq!(rt; price(&rate(1, 1), weight(second - 1, 1_048_575)), 0);
+    assert_eq!(rt; price(&rate(0, 1, 0), weight(second + second / 2, 0)), 1);
+    assert_eq!(rt; price(&rate(0, 1, 1), weight(second - 1, 1_048_575)), 0);
     assert_eq!(rt;
-        price(&rate(3, 5), weight(2 * second, 3 * 1_048_576 + 1)),
+        price(&rate(0, 3, 5), weight(2 * second, 3 * 1_048_576 + 1)),
         21
     );
     assert_eq!(rt;
-        price(&rate(1, 0).copy(), weight(u64::MAX, u64::MAX)),
+        price(&rate(0, 1, 0).copy(), weight(u64::MAX, u64::MAX)),
         18_446_744
     );
     Ok(())
 }
 
-/// A trader with one rate.
-fn one_rate(alloc: Global, rate: Rate) -> Result<Trader, AllocError> {
-    Trader::new(alloc, &[rate])
+/// A trader, and a book that has a row for each of its rates.
+#[derive(Drop)]
+struct Shop {
+    trader: Trader,
+    book: BurnBook,
+}
+
+/// So that a book has a row for the asset of the rate.
+fn row(rate: &Rate) -> (AssetId, Kind)
+    ensures { result ≡ listed_of (coin_of rate.now) }
+{
+    (AssetId::Concrete(rate.asset.copy()), Kind::Fungible)
+}
+
+/// A shop with two rates.
+fn opened(alloc: Global, first: Rate, second: Rate) -> Result<Shop, AllocError>
+    requires { second.asset.parents ≡ first.asset.parents + 1 }
+    ensures { IfOk result (λ shop. AreListed shop.book shop.trader) }
+{
+    let book = BurnBook::new(alloc, &[row(&first), row(&second)])?;
+    let trader = Trader::new(alloc, &[first, second])?;
+    Ok(Shop { trader, book })
+}
+
+/// A shop with one rate, at which so much is paid.
+fn opened_with(alloc: Global, rate: &Rate, paid: u128) -> Result<Shop, AllocError>
+    ensures { IfOk result (λ shop. AreListed shop.book shop.trader) }
+{
+    let book = BurnBook::new(alloc, &[row(rate)])?;
+    let trader = Trader::with_paid(alloc, rate, paid)?;
+    Ok(Shop { trader, book })
 }
 
 /// So much of an asset; nothing of it where it is 0.
@@ -180,67 +214,133 @@ fn held(goods: AssetBundle, parents: u8) -> u128 {
     amount
 }
 
+/// Buys once: whether it was too expensive, and what is left of the payment.
+fn buy(shop: &mut Shop, weight: Weight, payment: AssetBundle) -> (bool, AssetBundle)
+    requires { AreListed shop.old.book shop.old.trader }
+    ensures { AreListed shop.new.book shop.new.trader }
+{
+    match shop.trader.buy(weight, payment, &mut shop.book) {
+        Ok(left) => (false, left),
+        Err((payment, TooExpensive)) => (true, payment),
+    }
+}
+
+/// Buys the same so often with one payment. What is left of it.
+fn buy_often(shop: &mut Shop, weight: Weight, payment: AssetBundle, times: u32) -> AssetBundle
+    requires { AreListed shop.old.book shop.old.trader }
+    ensures { AreListed shop.new.book shop.new.trader }
+{
+    let mut left = payment;
+    for _ in 0..times {
+        left = buy(shop, weight, left).1;
+    }
+    left
+}
+
+/// So much of the asset that would have passed the end of what is paid.
+fn saturated(shop: &Shop, parents: u8) -> Total {
+    let id = AssetId::Concrete(place(parents));
+    shop.book.total(&id, Kind::Fungible, Cause::Saturated)
+}
+
+/// A second of computation.
+const SECOND: Weight = Weight {
+    ref_time: 1_000_000_000_000,
+    proof_size: 0,
+};
+
+const NONE: Total = Total { low: 0, high: 0 };
+
 #[test]
 fn a_refund_is_at_most_what_is_paid(rt: HostRuntime) -> Result<(), Fail> {
     let alloc = rt.alloc();
-    let mut trader = one_rate(alloc, rate(1, 0))?;
+    let mut shop = opened(alloc, rate(0, 1, 0), rate(1, 1, 0))?;
     let bought = weight(1_500_000_000_000, 0);
-    for _ in 0..2 {
-        let mut payment = minted(alloc, 0, 1)?;
-        let above = trader.charge(bought, &mut payment);
-        let left = held(payment, 0);
-        assert!(rt; matches!(above, Some((_, 0))));
-        assert_eq!(rt; left, 0);
-    }
+    let payment = minted(alloc, 0, 3)?;
+    let left = held(buy_often(&mut shop, bought, payment, 2), 0);
+    assert_eq!(rt; left, 1);
+    assert_eq!(rt; saturated(&shop, 0), NONE);
     let both = weight(3_000_000_000_000, 0);
-    assert_eq!(rt; trader.paid(&place(0)), 2);
-    assert_eq!(rt; trader.paid(&place(1)), 0);
-    assert_eq!(rt; trader.refund_of(both), Some((place(0), 2)));
-    let given = held(trader.refund(both)?, 0);
+    assert_eq!(rt; shop.trader.paid(&place(0)), 2);
+    assert_eq!(rt; shop.trader.paid(&place(1)), 0);
+    assert_eq!(rt; shop.trader.refund_of(both), Some((place(0), 2)));
+    let given = held(shop.trader.refund(both)?, 0);
     assert_eq!(rt; given, 2);
-    assert_eq!(rt; trader.refund_of(both), None);
-    let nothing = held(trader.refund(both)?, 0);
+    assert_eq!(rt; shop.trader.refund_of(both), None);
+    let nothing = held(shop.trader.refund(both)?, 0);
     assert_eq!(rt; nothing, 0);
     law_of_trading();
     Ok(())
 }
 
 #[test]
+fn the_first_rate_that_is_covered_is_paid(rt: HostRuntime) -> Result<(), Fail> {
+    let alloc = rt.alloc();
+    let mut shop = opened(alloc, rate(0, 8, 0), rate(1, 2, 0))?;
+    let payment = minted(alloc, 1, 7)?;
+    let (refused, left) = buy(&mut shop, SECOND, payment);
+    let left = held(left, 1);
+    assert!(rt; !refused);
+    assert_eq!(rt; left, 5);
+    let payment = minted(alloc, 0, 8)?;
+    let (refused, left) = buy(&mut shop, SECOND, payment);
+    let left = held(left, 0);
+    assert!(rt; !refused);
+    assert_eq!(rt; left, 0);
+    assert_eq!(rt; shop.trader.paid(&place(0)), 8);
+    assert_eq!(rt; shop.trader.paid(&place(1)), 2);
+    Ok(())
+}
+
+#[test]
 fn too_little_is_handed_back(rt: HostRuntime) -> Result<(), Fail> {
     let alloc = rt.alloc();
-    let mut trader = one_rate(alloc, rate(2, 0))?;
-    let second = weight(1_000_000_000_000, 0);
-    let mut little = minted(alloc, 0, 1)?;
-    let refused = trader.charge(second, &mut little).is_none();
-    let left = held(little, 0);
+    let mut shop = opened(alloc, rate(0, 2, 0), rate(1, 8, 0))?;
+    let little = minted(alloc, 0, 1)?;
+    let (refused, left) = buy(&mut shop, SECOND, little);
+    let left = held(left, 0);
     assert!(rt; refused);
     assert_eq!(rt; left, 1);
-    let mut other = minted(alloc, 1, 9)?;
-    let refused = trader.charge(second, &mut other).is_none();
-    let free = trader.charge(weight(1, 0), &mut other).is_some();
-    let left = held(other, 1);
+    let little = minted(alloc, 1, 7)?;
+    let (refused, left) = buy(&mut shop, SECOND, little);
+    let (free, left) = buy(&mut shop, weight(1, 0), left);
+    let left = held(left, 1);
     assert!(rt; refused);
-    assert!(rt; free);
-    assert_eq!(rt; left, 9);
-    assert_eq!(rt; trader.paid(&place(0)), 0);
+    assert!(rt; !free);
+    assert_eq!(rt; left, 7);
+    assert_eq!(rt; shop.trader.paid(&place(0)), 0);
+    assert_eq!(rt; shop.trader.paid(&place(1)), 0);
+    Ok(())
+}
+
+#[test]
+fn what_passes_the_end_is_booked(rt: HostRuntime) -> Result<(), Fail> {
+    let alloc = rt.alloc();
+    let mut shop = opened_with(alloc, &rate(0, 7, 0), u128::MAX - 2)?;
+    let payment = minted(alloc, 0, 20)?;
+    let left = buy_often(&mut shop, SECOND, payment, 1);
+    let first = saturated(&shop, 0);
+    let left = held(buy_often(&mut shop, SECOND, left, 1), 0);
+    assert_eq!(rt; left, 6);
+    assert_eq!(rt; shop.trader.paid(&place(0)), u128::MAX);
+    assert_eq!(rt; first, Total { low: 5, high: 0 });
+    assert_eq!(rt; saturated(&shop, 0), Total { low: 12, high: 0 });
+    assert_eq!(rt; saturated(&shop, 1), NONE);
     Ok(())
 }
 
 #[test]
 fn closing_hands_out_all_that_is_paid(rt: HostRuntime) -> Result<(), Fail> {
     let alloc = rt.alloc();
-    let mut trader = one_rate(alloc, rate(2, 0))?;
-    let second = weight(1_000_000_000_000, 0);
-    let mut payment = minted(alloc, 0, 7)?;
-    let above = trader.charge(second, &mut payment);
-    let left = held(payment, 0);
-    assert!(rt; above.is_some());
+    let mut shop = opened(alloc, rate(0, 2, 0), rate(1, 1, 0))?;
+    let payment = minted(alloc, 0, 7)?;
+    let left = held(buy_often(&mut shop, SECOND, payment, 1), 0);
     assert_eq!(rt; left, 5);
-    let all = held(trader.close()?, 0);
+    let all = held(shop.trader.close()?, 0);
     assert_eq!(rt; all, 2);
-    assert_eq!(rt; trader.paid(&place(0)), 0);
-    assert_eq!(rt; trader.refund_of(second), None);
-    let nothing = trader.close()?;
+    assert_eq!(rt; shop.trader.paid(&place(0)), 0);
+    assert_eq!(rt; shop.trader.refund_of(SECOND), None);
+    let nothing = shop.trader.close()?;
     let kinds = nothing.kinds();
     nothing.melt();
     assert_eq!(rt; kinds, 0);

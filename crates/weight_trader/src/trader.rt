@@ -1,16 +1,18 @@
 //! Weight that is bought with what a chain's rates name, and given back.
-ghost use Rattle.std.specs.Prelude.{◌≡◌, None, IsTrue, IfOk, OnOk, OnErr, MatchOption};
+ghost use Rattle.std.specs.Prelude.{◌≡◌, [], ◌∷◌, None, IsTrue, IfOk, OnOk, OnErr, MatchOption, MatchResult};
 ghost use Rattle.std.specs.List.{position};
 ghost use Rattle.amounts.specs.Amounts.{amount, single};
 ghost use Rattle.asset_lists.specs.declared.units.AssetId.TheVariants.{Concrete};
-ghost use Rattle.weight_trader.specs.Purchases.{new_lines, coin_of, NameEachOnce, AreApart, paid_goods, is_covered, IsTooExpensive, IsCharge};
+ghost use Rattle.asset_lists.specs.declared.units.Kind.{Kind};
+ghost use Rattle.asset_bundles.specs.Books.{lists};
+ghost use Rattle.weight_trader.specs.Purchases.{no_weight, new_lines, coin_of, NameEachOnce, AreApart, AreListed, paid_goods, is_covered, IsTooExpensive, IsCharge, with_saturated, IsPurchase};
 ghost use Rattle.weight_trader.specs.Refunds.{refund_at, is_refunded, refund_of, goods_of, Refunded, Closed};
 ghost use Rattle.weight_trader.specs.Closing.{paid_assets};
 
 use crate::Rate;
 use crate::purchases::Purchases;
-use asset_bundles::AssetBundle;
-use asset_lists::{Asset, AssetId};
+use asset_bundles::{AssetBundle, BurnBook, Cause};
+use asset_lists::{Asset, AssetId, Kind};
 use locations::Location;
 use message_parts::Weight;
 use std::alloc::{AllocError, Global};
@@ -108,6 +110,16 @@ fn clear_all(lines: &mut [Purchases])
     }
 }
 
+/// Books so much of an asset that would have passed 2^128-1, and nothing where it is 0.
+fn book_excess(book: &mut BurnBook, id: &AssetId, excess: u128)
+    requires { IsTrue (lists book.old.listed (id.now, Kind.Fungible)) }
+    ensures { book.new ≡ with_saturated (id.now, Kind.Fungible) excess book.old }
+{
+    if excess > 0 {
+        book.add(id, Kind::Fungible, Cause::Saturated, excess);
+    }
+}
+
 impl Trader {
     /// A trader with these rates, at which nothing is bought. No two rates name the same asset.
     pub fn new(alloc: Global, rates: &[Rate]) -> Result<Trader, AllocError>
@@ -118,13 +130,18 @@ impl Trader {
         Ok(Trader { lines })
     }
 
+    /// A trader with one rate, at which so much is paid.
+    #[cfg(test)]
+    pub(crate) fn with_paid(alloc: Global, rate: &Rate, paid: u128) -> Result<Trader, AllocError>
+        ensures { IfOk result (λ trader. trader ≡ record { rate = rate.now; bought = no_weight; paid = paid } ∷ []) }
+    {
+        let lines = vec![in alloc; Purchases::with_paid(rate, paid)]?;
+        Ok(Trader { lines })
+    }
+
     /// Takes the price of the weight at the first rate that the payment covers, and records it. The answer is the asset, and what would
     /// have passed 2^128-1 of what is paid in it; none where each price passes the payment.
-    pub(crate) fn charge(
-        &mut self,
-        weight: Weight,
-        payment: &mut AssetBundle,
-    ) -> Option<(AssetId, u128)>
+    fn charge(&mut self, weight: Weight, payment: &mut AssetBundle) -> Option<(AssetId, u128)>
         ensures { MatchOption result
             (IsTooExpensive weight payment.old self.old × (payment.new ≡ payment.old) × (self.new ≡ self.old))
             (λ above. IsCharge weight payment.old self.old payment.new self.new above.0 above.1) }
@@ -135,6 +152,27 @@ impl Trader {
         let line = &mut self.lines[place];
         let above = line.sell(weight, payment);
         Some((AssetId::Concrete(line.asset()), above))
+    }
+
+    /// Buys the weight at the first rate, in listed order, whose price the payment covers. What is left of the payment is handed back, and
+    /// what would have passed 2^128-1 of what is paid is booked as saturated. A price of 0 takes and records nothing. The book lists each
+    /// rate's asset. No memory is taken. An `Err` hands the payment back whole and changes nothing: each price passes what it has.
+    pub fn buy(
+        &mut self,
+        weight: Weight,
+        mut payment: AssetBundle,
+        book: &mut BurnBook,
+    ) -> Result<AssetBundle, (AssetBundle, TooExpensive)>
+        requires { AreListed book.old self.old }
+        ensures { MatchResult result
+            (λ left. IsPurchase weight payment self.old book.old left self.new book.new)
+            (λ refusal. (refusal.0 ≡ payment) × IsTooExpensive weight payment self.old × (self.new ≡ self.old) × (book.new ≡ book.old)) }
+    {
+        let Some((id, excess)) = self.charge(weight, &mut payment) else {
+            return Err((payment, TooExpensive));
+        };
+        book_excess(book, &id, excess);
+        Ok(payment)
     }
 
     /// What would be given back for the weight: the asset, and the amount in its smallest unit. None where each line gives nothing.
