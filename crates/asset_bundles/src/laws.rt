@@ -1,5 +1,5 @@
 //! The laws of bundles and of the book. Each function has an empty body, and its contract is a law.
-ghost use Rattle.std.specs.Prelude.{◌≡◌, ℕ, Bool, List, ◌+◌, ◌-◌, ◌^◌, ◌≤◌, min, IsSomeAnd};
+ghost use Rattle.std.specs.Prelude.{◌≡◌, Bool, List, ◌+◌, ◌-◌, ◌^◌, ◌≤◌, min, IsSomeAnd};
 ghost use Rattle.amounts.specs.Amounts.{amount, total, merge, difference, IsWithin};
 ghost use Rattle.locations.specs.declared.grammar.Junction.{Junction};
 ghost use Rattle.locations.specs.declared.relative.Location.{Location};

@@ -1,5 +1,4 @@
 ghost use Rattle.std.specs.Prelude.{◌≡◌, true, false, if◌then◌else◌};
-ghost use Rattle.xcm_program.specs.declared.instruction.Instruction.{out-Instruction};
 ghost use Rattle.barriers.specs.Barriers as barriers;
 ghost use Rattle.barriers.specs.Barriers.{admission, allows, holds_at, left_by};
 

@@ -1,6 +1,6 @@
 //! What the answer of a chain's barriers means: laws, as the contract of a function that does nothing.
 
-ghost use Rattle.std.specs.Prelude.{◌≡◌, ℕ, ◌⊎◌, ◌↔◌, ◌++◌, ◌∷◌, true, false, List, All, Any, IsTrue, IsFalse};
+ghost use Rattle.std.specs.Prelude.{◌≡◌, ℕ, ◌⊎◌, ◌↔◌, ◌++◌, ◌∷◌, true, List, All, Any, IsTrue, IsFalse};
 ghost use Rattle.locations.specs.declared.relative.Location.{Location};
 ghost use Rattle.message_parts.specs.declared.query.OpenQuery.{OpenQuery};
 ghost use Rattle.message_parts.specs.declared.weight.Weight.{Weight};

@@ -1,5 +1,5 @@
 //! The accounts that locations have on a chain.
-ghost use Rattle.std.specs.Prelude.{◌≡◌, ◌↔◌, IsTrue, length};
+ghost use Rattle.std.specs.Prelude.{◌≡◌, ◌↔◌, IsTrue};
 ghost use Rattle.trust_tables.specs.Accounts as accounts;
 ghost use Rattle.trust_tables.specs.Accounts.{IsSovereign, is_of_network, labelled};
 

@@ -1,5 +1,5 @@
 //! What chains' locations and accounts, and the tests of trust, mean: laws, as contracts of functions that do nothing.
-ghost use Rattle.std.specs.Prelude.{◌≡◌, ◌≢◌, ℕ, ◌↔◌, IsTrue, IsSomeAnd, List, slice_get, position, option_and_then, Some, None};
+ghost use Rattle.std.specs.Prelude.{◌≡◌, ◌≢◌, ◌↔◌, IsTrue, List, slice_get, position, option_and_then, Some, None};
 ghost use Rattle.locations.specs.declared.grammar.NetworkId.{NetworkId};
 ghost use Rattle.locations.specs.declared.relative.Location.{Location};
 ghost use Rattle.locations.specs.Chains.{path_of};

@@ -1,5 +1,5 @@
 // A run over pieces of its input.
-ghost use Rattle.std.specs.Prelude.{◌≡◌, ◌≢◌, ◌+◌, ◌<◌, ◌≤◌, ℕ, List, [], ◌++◌, length, Bool, Some, None, Ok, false, true, IsTrue};
+ghost use Rattle.std.specs.Prelude.{◌≡◌, ◌≢◌, ◌+◌, ◌<◌, ◌≤◌, ℕ, List, [], ◌++◌, length, Bool, Some, None, Ok, false, IsTrue};
 ghost use Rattle.xcm_io.specs.Causes.{Rose};
 ghost use Rattle.input_lines.specs.Lines.{lines_of, HasNoFeed};
 ghost use Rattle.xcm_cli.specs.Report.{lines_outcome, ends, max_input};

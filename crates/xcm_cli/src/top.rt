@@ -1,11 +1,11 @@
 // The run of the program.
-ghost use Rattle.std.specs.Prelude.{◌≡◌, ◌⊎◌, true, false, Ok, IfOk, IfSome};
+ghost use Rattle.std.specs.Prelude.{◌≡◌, ◌⊎◌, false, Ok, IfOk, IfSome};
 ghost use Rattle.std.specs.Io.KnownBytes.{Appends};
 ghost use Rattle.std.specs.declared.alloc.AllocError.{AllocError};
 ghost use Rattle.xcm_io.specs.Causes.{Rose};
 ghost use Rattle.xcm_cli.specs.Report.{report, fate, is_run, usage_outcome};
 ghost use Rattle.xcm_cli.specs.Session.{IsFault, Finishes};
-ghost use Rattle.xcm_cli.specs.Serving.{Serves, ServesWords};
+ghost use Rattle.xcm_cli.specs.Serving.{ServesWords};
 
 use crate::serving::serve;
 use crate::status::Status;

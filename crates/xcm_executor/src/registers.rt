@@ -1,4 +1,4 @@
-ghost use Rattle.std.specs.Prelude.{◌≡◌, OnErr, IfOk, MatchResult};
+ghost use Rattle.std.specs.Prelude.{◌≡◌, MatchResult};
 ghost use Rattle.xcm_executor.specs.PlainRun.{step};
 
 use crate::instruction::PlainInstruction;

@@ -1,4 +1,3 @@
-use Rattle.std.proofs.Common.{◌∙◌, sym}
 use Rattle.report_text.proofs.Serving.{unbuilt, few}
 use Rattle.report_text.proofs.step.write_execution.Goals as goal
 
