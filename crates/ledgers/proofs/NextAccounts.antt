@@ -11,7 +11,7 @@ use Rattle.asset_lists.specs.declared.units.AssetId.{AssetId}
 use Rattle.asset_lists.specs.declared.units.Instance.{Instance}
 use Rattle.asset_bundles.specs.Books.{Listed, listed_of}
 use Rattle.ledgers.specs.declared.sums.Sum.{Sum}
-use Rattle.ledgers.specs.Ledgers.{Holder, account_cmp, is_account, is_in, holding_of, number_in, IsAfter, IsNext}
+use Rattle.ledgers.specs.Ledgers.{account_cmp, is_account, is_in, holding_of, number_in, IsAfter, IsNext}
 use Rattle.ledgers.specs.LedgerRows.{AmountKey, amount_key_cmp, OwnerKey, amount_at, held_in, IsSound, IsBefore, IsNextRow}
 use Rattle.ledgers.proofs.RowLookups.{holder_keys, amount_keys, account_keys, same_as}
 use Rattle.ledgers.proofs.Numbers.{number_at, at_number}

@@ -1,10 +1,10 @@
-use Rattle.std.proofs.Common.{◌≡◌, ℕ, ◌<◌, Some, All, option_copied, sym, ap, ◌∙◌, subst, arith, true≢false}
+use Rattle.std.proofs.Common.{◌≡◌, ℕ, ◌<◌, Some, option_copied, sym, ap, ◌∙◌, subst, arith, true≢false}
 use Rattle.std.specs.Prelude.{unwrap_or}
 use Rattle.std.specs.BTreeMap.{get}
 use Rattle.std.proofs.lemmas.List.Elements.{All-head, All-rest, All-same}
 use Rattle.ledgers.specs.Ledgers.{IsAfter}
 use Rattle.ledgers.specs.LedgerRows.{AmountKey, amount_key_cmp, amount_at, IsBefore}
-use Rattle.ledgers.proofs.NextAccounts.{row_passed, not_before_itself, before_both, none_ahead}
+use Rattle.ledgers.proofs.NextAccounts.{row_passed, not_before_itself, before_both}
 use Rattle.ledgers.proofs.next_account.next_holder.Goals as goal
 use Rattle.ledgers.proofs.next_account.next_holder.Goals.{else-amount-gt0-via-then-amount-gt0+then-is_after+else-is_before, else-amount-gt0-via-then-amount-gt0+else-is_after, else-amount-gt0-via-else-amount-gt0}
 
