@@ -6,7 +6,7 @@ use Rattle.std.specs.Cmp.{eq_by_cmp_equiv}
 use Rattle.std.specs.Map.{keys_of, lookup}
 use Rattle.std.specs.List.Sorted.{IsStrictlySortedBy}
 use Rattle.std.proofs.lemmas.Bool.{and_parts, and_from, cases_Bool}
-use Rattle.std.proofs.lemmas.List.Sums.{sum_by-cons, sum_by-append}
+use Rattle.std.proofs.lemmas.List.Sums.{sum_by-append}
 use Rattle.amounts.specs.Rows.{sum_where, amount_if, amount_if-zero}
 use Rattle.amounts.specs.Amounts.{amount, restriction, merge, from_rows, amount-restriction, total-restriction}
 use Rattle.amounts.specs.Laws.{same_key, key_same, amount-map_keys, from_rows-append, merge-restriction}
@@ -15,7 +15,7 @@ use Rattle.asset_lists.specs.declared.units.Instance.{Instance}
 use Rattle.asset_lists.specs.declared.units.Kind.{Kind}
 use Rattle.asset_lists.specs.declared.units.Asset.{Asset}
 use Rattle.asset_lists.specs.declared.units.Fun.{Fun}
-use Rattle.asset_lists.specs.Units.{Unit, unit_of, amount_of, unit_cmp, is_zero}
+use Rattle.asset_lists.specs.Units.{Unit, unit_of, amount_of, unit_cmp}
 use Rattle.asset_lists.specs.Lists.{has_zero, is_of}
 use Rattle.asset_lists.specs.Moves.{count_of}
 use Rattle.asset_bundles.specs.Bundles.{Bundle, rows_of, bundle_of, unit_keys}

@@ -19,3 +19,4 @@ pub mod Transferring
 pub mod LedgerLaws
 pub mod AccountGoods
 pub mod NextAccounts
+pub mod NextRows

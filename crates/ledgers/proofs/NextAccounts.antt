@@ -1,5 +1,5 @@
 -- An account holds something where one of its rows says more than 0.
-use Rattle.std.proofs.Common.{◌≡◌, ℕ, zero, suc, ◌<◌, Bool, true, false, ◌&&◌, if◌then◌else◌, List, ◌∷◌, IfSome, refl, sym, ap, ◌∙◌, arith, true≢false}
+use Rattle.std.proofs.Common.{◌≡◌, ℕ, zero, suc, ◌<◌, Bool, true, false, ◌&&◌, if◌then◌else◌, List, ◌∷◌, length, IfSome, refl, sym, ap, ◌∙◌, arith, true≢false}
 use Rattle.std.specs.Prelude.{Option, None, Some, unwrap_or, slice_get, IsSome, MatchOption}
 use Rattle.std.specs.Ordering.{eq_by_cmp, is_eq}
 use Rattle.std.specs.declared.cmp.Ordering.TheVariants.{Less}
@@ -11,12 +11,12 @@ use Rattle.asset_lists.specs.declared.units.AssetId.{AssetId}
 use Rattle.asset_lists.specs.declared.units.Instance.{Instance}
 use Rattle.asset_bundles.specs.Books.{Listed, listed_of}
 use Rattle.ledgers.specs.declared.sums.Sum.{Sum}
-use Rattle.ledgers.specs.Ledgers.{Holder, account_cmp, is_account, is_in, holding_of, number_in, IsAfter, IsNext}
+use Rattle.ledgers.specs.Ledgers.{account_cmp, is_account, is_in, holding_of, number_in, IsAfter, IsNext}
 use Rattle.ledgers.specs.LedgerRows.{AmountKey, amount_key_cmp, OwnerKey, amount_at, held_in, IsSound, IsBefore, IsNextRow}
 use Rattle.ledgers.proofs.RowLookups.{holder_keys, amount_keys, account_keys, same_as}
 use Rattle.ledgers.proofs.Numbers.{number_at, at_number}
 use Rattle.ledgers.proofs.RowChanges.{held_listed, row_at_least}
-use Rattle.ledgers.proofs.Reading.{part_is}
+use Rattle.ledgers.proofs.Reading.{part_is, inside}
 use Rattle.ledgers.proofs.Totals.{total_none}
 
 module _ (listed : List Listed) (amounts : List (AmountKey × ℕ)) (owners : List (OwnerKey × Option (List ℕ))) (sums : List Sum) (sound : IsSound listed amounts owners sums) where
@@ -28,6 +28,12 @@ module _ (listed : List Listed) (amounts : List (AmountKey × ℕ)) (owners : Li
         let most = total_at_most (λ h. is_account who h && is_in asset h) (is_account who) (held_in listed amounts owners) (λ h passes. (and_parts (is_account who h) (is_in asset h) passes).0) in
         omega (arith, some, part, most))
   ] refl (sound.numbered n who some)
+
+  pub number_below : (k : AmountKey) → 0 < amount_at amounts k → k.0 < length listed
+  number_below k some = elim (slice_get listed k.0) as (λ o. slice_get listed k.0 ≡ o → IsSome o → k.0 < length listed) [
+    | None ↦ λ at there. absurd (true≢false (sym there))
+    | Some asset ↦ λ at there. inside listed k.0 asset at
+  ] refl (sound.numbered k.0 k.1 some)
 
   none_held_of : (who : List ℕ) → ((n : ℕ) → amount_at amounts (n, who) ≡ 0) → (id : AssetId) (x : Option Instance) → amount (held_in listed amounts owners) (who, (id, x)) ≡ 0
   none_held_of who none id x = elim (number_in listed (listed_of (id, x))) as (λ o. number_in listed (listed_of (id, x)) ≡ o → amount (held_in listed amounts owners) (who, (id, x)) ≡ 0) [
@@ -56,7 +62,7 @@ module _ (listed : List Listed) (amounts : List (AmountKey × ℕ)) (owners : Li
   next_read after (Some who) row = next_held after who row
 
 -- ---- rows passed one after the other
-nothing : (n : ℕ) → (0 < n → 0 < 0) → n ≡ 0
+pub nothing : (n : ℕ) → (0 < n → 0 < 0) → n ≡ 0
 nothing zero h = refl
 nothing (suc n) h = (let zeros = h (omega arith) in absurd (omega (arith, zeros)))
 

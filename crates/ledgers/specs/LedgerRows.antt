@@ -127,3 +127,9 @@ pub record IsNextRow (after : Option (List ℕ)) (rows : List (AmountKey × ℕ)
   pub has : 0 < amount_at rows (number, who)
   pub later : IsAfter after who
   pub least : (k : AmountKey) → IsAfter after k.1 → IsBefore k.1 (Some who) → amount_at rows k ≡ 0
+
+-- the first account after another of which the row of a number says more than 0
+pub record IsNextOf (rows : List (AmountKey × ℕ)) (n : ℕ) (after who : List ℕ) : Type 0 where
+  pub has : 0 < amount_at rows (n, who)
+  pub later : account_cmp after who ≡ Less
+  pub least : (w : List ℕ) → account_cmp after w ≡ Less → account_cmp w who ≡ Less → amount_at rows (n, w) ≡ 0

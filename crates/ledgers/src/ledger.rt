@@ -112,13 +112,13 @@ impl Ledger {
     }
 
     /// The first account by bytes that holds something, of those after the given one; None where there is
-    /// none. It takes time in proportion to the rows of all accounts.
+    /// none. Only the first of all takes time in proportion to the rows of all accounts.
     pub fn next_account(&self, after: Option<&[u8; 32]>) -> Option<[u8; 32]>
         ensures { MatchOption result
             ((who : List ℕ) → IsAfter (option_copied after.entry) who → holding_of who self.now.held ≡ 0)
             (IsNext (option_copied after.entry) self.now.held) }
     {
-        next_holder(&self.rows.amounts, after)
+        next_holder(&self.rows.amounts, self.rows.assets.len(), after)
     }
 
     /// What an account holds, in holding order: fungibles by id, then instances by id and instance. An `Err`

@@ -17,6 +17,8 @@ const A1: [u8; 32] = [1; 32];
 
 const A2: [u8; 32] = [2; 32];
 
+const A3: [u8; 32] = [3; 32];
+
 fn here() -> Location
     ensures { result ≡ record { parents = 0; interior = [] } }
 {
@@ -36,9 +38,25 @@ fn inside() -> Location
     }
 }
 
+fn above() -> Location
+    ensures { result ≡ record { parents = 1; interior = [] } }
+{
+    Location {
+        parents: 1,
+        interior: Junctions::empty(),
+    }
+}
+
 fn coins(amount: u128) -> Asset {
     Asset {
         id: AssetId::Concrete(here()),
+        fun: Fun::Fungible(amount),
+    }
+}
+
+fn parent_coins(amount: u128) -> Asset {
+    Asset {
+        id: AssetId::Concrete(above()),
         fun: Fun::Fungible(amount),
     }
 }
@@ -55,6 +73,19 @@ fn opened(alloc: Global) -> Result<Ledger, AllocError>
     ensures { IfOk result (λ ledger. length ledger.listed ≡ 2) }
 {
     let list = Vec::from_array(alloc, [(here(), Kind::Fungible), (inside(), Kind::Class)])?;
+    Ledger::open(alloc, list)
+}
+
+/// A ledger of a class and two fungible assets, not in holding order.
+fn opened_wide(alloc: Global) -> Result<Ledger, AllocError> {
+    let list = Vec::from_array(
+        alloc,
+        [
+            (inside(), Kind::Class),
+            (above(), Kind::Fungible),
+            (here(), Kind::Fungible),
+        ],
+    )?;
     Ledger::open(alloc, list)
 }
 
@@ -96,6 +127,29 @@ fn put(
         Err((goods, fault)) => {
             goods.melt();
             Some(fault)
+        }
+    }
+}
+
+/// How much of the coin is handed back with a refused deposit, and why it was refused.
+fn handed_back(
+    ledger: &mut Ledger,
+    who: &[u8; 32],
+    list: &Assets,
+    goods: AssetBundle,
+) -> Option<(u128, DepositFault)>
+    requires { goods ≡ bundle_of list.now }
+{
+    if !are_listed(ledger, list) {
+        goods.melt();
+        return None;
+    }
+    match ledger.deposit(who, goods) {
+        Ok(()) => None,
+        Err((goods, fault)) => {
+            let coin = goods.amount(&AssetId::Concrete(here()));
+            goods.melt();
+            Some((coin, fault))
         }
     }
 }
@@ -204,5 +258,64 @@ fn more_than_the_most_is_refused(rt: HostRuntime) -> Result<(), Fail> {
     assert_eq!(rt; put(&mut ledger, &A2, &most, minted(alloc, &most)?), None);
     assert_eq!(rt; put(&mut ledger, &A1, &five, minted(alloc, &five)?), None);
     assert_eq!(rt; ledger.transfer(&A1, &A2, &five), over);
+    Ok(())
+}
+
+#[test]
+fn a_deposit_above_the_most_is_handed_back(rt: HostRuntime) -> Result<(), Fail> {
+    let alloc = rt.alloc();
+    let mut ledger = opened(alloc)?;
+    let most = Assets::from_sorted(vec![in alloc; coins(u128::MAX)]?)?;
+    let one = Assets::from_sorted(vec![in alloc; coins(1)]?)?;
+    let coin = AssetId::Concrete(here());
+    let over = DepositFault::Overflow { have: u128::MAX };
+    assert_eq!(rt; put(&mut ledger, &A1, &most, minted(alloc, &most)?), None);
+    assert_eq!(rt;
+        handed_back(&mut ledger, &A1, &one, minted(alloc, &one)?),
+        Some((1, over))
+    );
+    assert_eq!(rt; ledger.amount(&A1, &coin), u128::MAX);
+    Ok(())
+}
+
+#[test]
+fn accounts_come_one_after_the_other(rt: HostRuntime) -> Result<(), Fail> {
+    let alloc = rt.alloc();
+    let mut ledger = opened(alloc)?;
+    let five = Assets::from_sorted(vec![in alloc; coins(5)]?)?;
+    let first = Assets::from_sorted(vec![in alloc; piece(1)]?)?;
+    assert_eq!(rt; ledger.next_account(None), None);
+    assert_eq!(rt; put(&mut ledger, &A3, &five, minted(alloc, &five)?), None);
+    assert_eq!(rt; put(&mut ledger, &A2, &first, minted(alloc, &first)?), None);
+    assert_eq!(rt; put(&mut ledger, &A1, &five, minted(alloc, &five)?), None);
+    assert_eq!(rt; ledger.next_account(None), Some(A1));
+    assert_eq!(rt; ledger.next_account(Some(&A1)), Some(A2));
+    assert_eq!(rt; ledger.next_account(Some(&A2)), Some(A3));
+    assert_eq!(rt; ledger.next_account(Some(&A3)), None);
+    assert_eq!(rt; got(&mut ledger, &A2, &first), Ok(1));
+    assert_eq!(rt; ledger.next_account(Some(&A1)), Some(A3));
+    Ok(())
+}
+
+#[test]
+fn what_is_held_is_listed_in_holding_order(rt: HostRuntime) -> Result<(), Fail> {
+    let alloc = rt.alloc();
+    let mut ledger = opened_wide(alloc)?;
+    let fourth = Assets::from_sorted(vec![in alloc; piece(4)]?)?;
+    let some = Assets::from_sorted(vec![in alloc; parent_coins(7), piece(1)]?)?;
+    let five = Assets::from_sorted(vec![in alloc; coins(5)]?)?;
+    assert_eq!(rt;
+        put(&mut ledger, &A1, &fourth, minted(alloc, &fourth)?),
+        None
+    );
+    assert_eq!(rt; put(&mut ledger, &A1, &some, minted(alloc, &some)?), None);
+    assert_eq!(rt; put(&mut ledger, &A1, &five, minted(alloc, &five)?), None);
+    let held = ledger.held(&A1)?;
+    assert_eq!(rt; held.len(), 4);
+    assert_eq!(rt; held[0], coins(5));
+    assert_eq!(rt; held[1], parent_coins(7));
+    assert_eq!(rt; held[2], piece(1));
+    assert_eq!(rt; held[3], piece(4));
+    assert_eq!(rt; ledger.held(&A2)?.len(), 0);
     Ok(())
 }

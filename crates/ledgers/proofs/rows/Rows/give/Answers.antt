@@ -1,4 +1,4 @@
-use Rattle.std.proofs.Common.{◌+◌, ◌-◌, ◌^◌, ◌<◌, refl, sym, ap, ◌∙◌, subst, arith}
+use Rattle.std.proofs.Common.{◌+◌, ◌^◌, ◌<◌, refl, sym, ap, ◌∙◌, subst, arith}
 use Rattle.asset_lists.specs.Units.{instance_in}
 use Rattle.ledgers.specs.Sums.{sum_value}
 use Rattle.ledgers.proofs.RowChanges.{row_room, sum_room, given, wrote_as}

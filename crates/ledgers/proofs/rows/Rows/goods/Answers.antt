@@ -1,4 +1,4 @@
-use Rattle.std.proofs.Common.{◌++◌, sym, subst}
+use Rattle.std.proofs.Common.{sym, subst}
 use Rattle.ledgers.specs.Ledgers.{account_goods}
 use Rattle.ledgers.specs.RowState.{rows_held}
 use Rattle.ledgers.specs.AccountGoods.{IsListOf, is_amount}
