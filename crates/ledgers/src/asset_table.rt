@@ -1,8 +1,7 @@
 //! The list of a chain's assets, in which each has a number.
-ghost use Rattle.std.specs.Prelude.{◌≡◌, map, length, IfOk, ◌<◌, ◌^◌, slice_get, option_copied};
+ghost use Rattle.std.specs.Prelude.{◌≡◌, map, length, IfOk, ◌<◌, ◌^◌, slice_get};
 ghost use Rattle.std.specs.Ordering.{eq_by_cmp};
 ghost use Rattle.std.specs.List.{IsDistinct};
-ghost use Rattle.std.specs.Option.{option_map};
 ghost use Rattle.asset_bundles.specs.Books.{listed_cmp};
 ghost use Rattle.ledgers.specs.Ledgers.{listed_row, number_in};
 

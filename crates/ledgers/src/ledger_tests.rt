@@ -1,7 +1,6 @@
 //! The ledger's public calls, with values worked out by hand.
 ghost use Rattle.std.specs.Prelude.{◌≡◌, [], ◌∷◌, length, IsTrue, IfOk};
 ghost use Rattle.asset_lists.specs.declared.units.Kind.{Kind};
-ghost use Rattle.asset_lists.specs.Units.{unit_of};
 ghost use Rattle.asset_bundles.specs.Bundles.{bundle_of};
 ghost use Rattle.ledgers.specs.Ledgers.{AreListed};
 

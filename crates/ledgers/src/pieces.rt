@@ -1,5 +1,5 @@
 //! A bundle cut into pieces.
-ghost use Rattle.std.specs.Prelude.{◌≡◌, ℕ, ◌+◌, ◌-◌, ◌^◌, ◌≤◌, length, min, IsFalse, IfOk};
+ghost use Rattle.std.specs.Prelude.{◌≡◌, ◌+◌, ◌-◌, ◌^◌, ◌≤◌, length, min, IsFalse, IfOk};
 ghost use Rattle.asset_lists.specs.Units.{Unit};
 ghost use Rattle.asset_lists.specs.Lists.{has_zero};
 ghost use Rattle.asset_lists.specs.Moves.{count_of};

@@ -2,15 +2,15 @@
 ghost use Rattle.std.specs.Prelude.{◌≡◌, ◌+◌, ◌-◌, ◌^◌, ◌<◌, ◌≤◌, None, Some, OnOk, length, slice_get};
 ghost use Rattle.std.specs.Map.{keys_of};
 ghost use Rattle.std.specs.List.Sorted.{IsStrictlySortedBy};
-ghost use Rattle.asset_lists.specs.Units.{unit_of, amount_of, instance_in};
-ghost use Rattle.asset_bundles.specs.Books.{kind_of, listed_of};
+ghost use Rattle.asset_lists.specs.Units.{amount_of, instance_in};
+ghost use Rattle.asset_bundles.specs.Books.{kind_of};
 ghost use Rattle.ledgers.specs.Sums.{sum_value};
 ghost use Rattle.ledgers.specs.LedgerRows.{OwnerKey, owner_key_cmp, owner_at, owned, OwnerIs, HasOwnerRow, HasInstanceRow, IsSumWritten};
 
 use crate::row_writes::{OwnerRows, make_owner_row, sweep_owner, write_owner};
 use crate::rows::Rows;
 use crate::sums::Sum;
-use asset_lists::{Asset, AssetId, Fun, Instance, Kind};
+use asset_lists::{Asset, Fun, Kind};
 use std::alloc::AllocError;
 
 /// The amount in the asset's smallest unit; 1 for an instance.

@@ -1,7 +1,7 @@
 //! The trap store.
-ghost use Rattle.std.specs.Prelude.{◌≡◌, ℕ, ◌+◌, ◌-◌, ◌^◌, ◌<◌, [], ◌↔◌, length, min, IsTrue, IfOk, OnErr, MatchOption, MatchResult};
+ghost use Rattle.std.specs.Prelude.{◌≡◌, ◌-◌, ◌^◌, ◌<◌, [], ◌↔◌, length, min, IsTrue, MatchOption, MatchResult};
 ghost use Rattle.amounts.specs.Amounts.{rows};
-ghost use Rattle.asset_bundles.specs.Bundles.{Bundle, bundle_of, held_assets};
+ghost use Rattle.asset_bundles.specs.Bundles.{bundle_of, held_assets};
 ghost use Rattle.asset_bundles.specs.Totals.{total_value};
 ghost use Rattle.ledgers.specs.Traps.{with_trapped, Fits, NoneBefore, IsOldest, IsClaimed, IsUnknown, trapped};
 
