@@ -23,12 +23,12 @@ STEP = 50_000
 
 
 def seconds(program, accounts, deposits):
-    """Runs the program once, and answers its seconds; the sum it writes is compared with the one that is wanted."""
+    """Runs the program once, and answers its seconds; each sum must have been right."""
     start = time.monotonic()
     out = subprocess.run([program, str(accounts), str(deposits)], check=True, capture_output=True, text=True).stdout
     spent = time.monotonic() - start
-    if out != f"{accounts + deposits}\n":
-        sys.exit(f"{accounts} accounts and {deposits} deposits: wrong sum {out!r}")
+    if out != f"{deposits}\n":
+        sys.exit(f"{accounts} accounts and {deposits} deposits: only {out.strip()} sums were right")
     return spent
 
 

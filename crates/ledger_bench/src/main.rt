@@ -1,5 +1,5 @@
 //! Deposits to be timed: one to each of so many accounts, then so many more to accounts in scattered order, with the asset's sum
-//! over all accounts asked for after each. The words are `ACCOUNTS DEPOSITS`; what is written is the sum at the end.
+//! over all accounts asked for after each. The words are `ACCOUNTS DEPOSITS`; what is written is how many of those sums are right.
 #![tactic(auto)]
 
 ghost use Rattle.std.specs.Prelude.{◌≡◌, ◌<◌, [], ◌∷◌};
@@ -59,29 +59,32 @@ fn deposit_to_each(ledger: &mut Ledger, alloc: Global, accounts: u64) -> Result<
     Ok(())
 }
 
-/// Deposits to accounts in scattered order, and tells what all accounts then have.
+/// Deposits to accounts in scattered order, and tells after how many of them all accounts have as much as was deposited.
 fn deposit_to_some(
     ledger: &mut Ledger,
     alloc: Global,
     accounts: u64,
     deposits: u64,
-) -> Result<u128, AllocError>
+) -> Result<u64, AllocError>
     requires some { 0 < accounts }
     requires listed { ledger.old.listed ≡ (Concrete (record { parents = 0; interior = [] }), Kind.Fungible) ∷ [] }
 {
     let mut scattered: u64 = 1;
-    let mut sum = 0;
-    for _ in 0..deposits {
+    let mut right: u64 = 0;
+    for done in 0..deposits {
         scattered = scattered
             .wrapping_mul(6_364_136_223_846_793_005)
             .wrapping_add(1_442_695_040_888_963_407);
-        sum = deposit(ledger, alloc, &account((scattered >> 33) % accounts))?.low;
+        let sum = deposit(ledger, alloc, &account((scattered >> 33) % accounts))?;
+        if sum.low == u128::from(accounts) + u128::from(done) + 1 {
+            right = right.saturating_add(1);
+        }
     }
-    Ok(sum)
+    Ok(right)
 }
 
-/// All deposits, and what all accounts then have.
-fn deposited(alloc: Global, accounts: u64, deposits: u64) -> Result<u128, AllocError>
+/// All deposits, and after how many of the later ones the sum was right.
+fn deposited(alloc: Global, accounts: u64, deposits: u64) -> Result<u64, AllocError>
     requires { 0 < accounts }
 {
     let list = Vec::from_array(alloc, [(here(), Kind::Fungible)])?;
