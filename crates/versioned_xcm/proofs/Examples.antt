@@ -1,5 +1,5 @@
 -- That the programs of the tests can be written.
-use Rattle.std.proofs.Common.{◌≡◌, ◌<◌, ◌≤◌, ◌+◌, ◌^◌, List, [], ◌∷◌, ◌++◌, length, get_or, refl, sym, ap, subst, arith}
+use Rattle.std.proofs.Common.{◌≡◌, ◌<◌, ◌≤◌, ◌^◌, List, [], ◌∷◌, ◌++◌, length, get_or, refl, sym, ap, subst, arith}
 use Rattle.std.specs.List.{AllByRecursion}
 use Rattle.asset_wire.specs.declared.version.Version.{Version}
 use Rattle.xcm_program.specs.declared.instruction.Instruction.{Instruction, ClearOrigin}
