@@ -13,10 +13,10 @@ use scale_codec::Cursor;
 use std::alloc::Global;
 use xcm_program::{Instruction, Program, Version, inner, with_program};
 
-/// The most levels of nested programs. Source: the XCM format's limit on decoding.
+/// The most levels of nested programs. This project's own rule.
 pub const MAX_DEPTH: u32 = 8;
 
-/// The most instructions of a program, those of nested programs counted. Source: the XCM format's limit on decoding.
+/// The most instructions of a program, those of nested programs counted. This project's own rule.
 pub const MAX_INSTRUCTIONS: u32 = 100;
 
 /// An instruction, and how many there may still be.
