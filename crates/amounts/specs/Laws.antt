@@ -1,10 +1,13 @@
--- What each operation on amounts has at a key, and what its totals are; and when two of them give one map.
-use Rattle.std.specs.Prelude.{◌≡◌, ℕ, ◌+◌, ◌-◌, ◌≤◌, Bool, true, false, IsTrue, if◌then◌else◌, not, min, List, [], ◌∷◌, ◌++◌, refl}
+-- For proofs alone: a reader may skip this file. What each operation on amounts has at a key, and what its totals are;
+-- when two of them give one map; and sums of which one or two parts are known. The laws of `laws.rt` say it.
+use Rattle.std.specs.Prelude.{◌≡◌, ℕ, zero, suc, ◌+◌, ◌-◌, ◌<◌, ◌≤◌, Bool, true, false, IsTrue, if◌then◌else◌, not, min, List, [], ◌∷◌, ◌++◌, Some, slice_get, sum_by, refl}
 use Rattle.std.specs.Ordering.{eq_by_cmp, is_eq}
 use Rattle.std.specs.declared.cmp.Ordering.{Ordering}
 use Rattle.std.specs.Cmp.{tied_itself}
 use Rattle.std.specs.FinMap.{is_sorted}
-use Rattle.std.proofs.Common.{sym, ap, ◌∙◌, subst, arith, T}
+use Rattle.std.proofs.Common.{sym, ap, ◌∙◌, subst, arith, inl, inr, T}
+use Rattle.std.proofs.lemmas.Bool.{cases_lt}
+use Rattle.std.proofs.lemmas.List.Sums.{sum_by-cons}
 use Rattle.amounts.specs.Rows.{IsKeyOrder, IsPositive, amount_if, sum_where, rows_at, amount_if-zero, eq_true, sum_where-append, sum_where-rows_at}
 use Rattle.amounts.specs.Amounts.{Amounts, empty, amount, rows, total, restriction, single, plus, minus, plus_all, minus_all, from_rows, merge, difference, lesser, map_keys, IsWithin, same_amounts, with_rows, amount-empty, total-empty, total_at_most, total-rows, amount-restriction, amount-total, amount-with_amount, total-with_amount}
 
@@ -235,3 +238,80 @@ module _ {J K : Type 0} {S : J → J → Ordering} {R : K → K → Ordering} (o
 
   pub amount-map_keys : (f : J → K) (m : Amounts S) (q : K) → amount (map_keys {S = S} {R = R} f m) q ≡ total (λ j. eq_by_cmp R q (f j)) m
   amount-map_keys f m q = amount-total o _ q ∙ total-map_keys (eq_by_cmp R q) f m
+
+-- ---- totals over what a map has
+one_alike : (a b : Bool) (n : ℕ) → (0 < n → a ≡ b) → amount_if a n ≡ amount_if b n
+one_alike a b zero same = amount_if-zero a ∙ sym (amount_if-zero b)
+one_alike a b (suc n) same = ap (λ c. amount_if c (suc n)) (same (omega arith))
+
+pub sum_where_false : {K : Type 0} (es : List (K × ℕ)) → sum_where (λ k. false) es ≡ 0
+sum_where_false [] = refl
+sum_where_false (e ∷ es) = let rest = sum_where_false es in omega (arith, rest)
+
+module _ {K : Type 0} {R : K → K → Ordering} (o : IsKeyOrder R) where
+  pub sum_where_alike_held : (p q : K → Bool) (es : List (K × ℕ)) → ((k : K) → 0 < sum_where (eq_by_cmp R k) es → p k ≡ q k) → sum_where p es ≡ sum_where q es
+  sum_where_alike_held p q [] same = refl
+  sum_where_alike_held p q (e ∷ es) same =
+      let counted : amount_if (eq_by_cmp R e.0 e.0) e.1 ≡ e.1 = ap (λ b. amount_if b e.1) (same_key o e.0) in
+      let here : amount_if (p e.0) e.1 ≡ amount_if (q e.0) e.1 = one_alike (p e.0) (q e.0) e.1 (λ some. same e.0 (omega (arith, some, counted))) in
+      let rest : sum_where p es ≡ sum_where q es = sum_where_alike_held p q es (λ k some. same k (omega (arith, some))) in
+      omega (arith, here, rest)
+
+  -- a sum of rows above 0 has a key that passes
+  pub some_row_held : (p : K → Bool) (es : List (K × ℕ)) → 0 < sum_where p es → (k : K) × (p k ≡ true) × (0 < sum_where (eq_by_cmp R k) es)
+  some_row_held p [] some = absurd (omega (arith, some))
+  some_row_held p (e ∷ es) some =
+      let counted : amount_if (eq_by_cmp R e.0 e.0) e.1 ≡ e.1 = ap (λ b. amount_if b e.1) (same_key o e.0) in
+      elim (cases_lt 0 (sum_where p es)) [
+        | inl later ↦ let rest = some_row_held p es later in (rest.0, rest.1, let more = rest.2 in omega (arith, more))
+        | inr none ↦ elim (p e.0) as (λ b. p e.0 ≡ b → (k : K) × (p k ≡ true) × (0 < sum_where (eq_by_cmp R k) (e ∷ es))) [
+          | true ↦ λ t.
+              let here : 0 < amount_if true e.1 + sum_where p es = subst (λ b. 0 < amount_if b e.1 + sum_where p es) t some in
+              (e.0, t, omega (arith, here, none, counted))
+          | false ↦ λ t.
+              let here : 0 < amount_if false e.1 + sum_where p es = subst (λ b. 0 < amount_if b e.1 + sum_where p es) t some in
+              absurd (omega (arith, here, none))
+        ] refl
+      ]
+
+  -- what is at a key is what the rows of the key sum up to
+  pub amount-rows : (m : Amounts R) (k : K) → amount m k ≡ sum_where (eq_by_cmp R k) (rows m)
+  amount-rows m k = amount-total o m k ∙ sym (total-rows (eq_by_cmp R k) m)
+
+  -- tests that answer alike at what the map has give the same total
+  pub total_alike_held : (p q : K → Bool) (m : Amounts R) → ((k : K) → 0 < amount m k → p k ≡ q k) → total p m ≡ total q m
+  total_alike_held p q m same =
+      let each : (k : K) → 0 < sum_where (eq_by_cmp R k) (rows m) → p k ≡ q k = λ k some. same k (subst (λ n. 0 < n) (sym (amount-rows m k)) some) in
+      sym (total-rows p m) ∙ sum_where_alike_held p q (rows m) each ∙ total-rows q m
+
+  -- a test that passes nothing that the map has
+  pub total_none : (p : K → Bool) (m : Amounts R) → ((k : K) → 0 < amount m k → p k ≡ false) → total p m ≡ 0
+  total_none p m none = total_alike_held p (λ k. false) m none ∙ sym (total-rows (λ k. false) m) ∙ sum_where_false (rows m)
+
+  -- a total above 0 has a key that passes
+  pub some_key : (p : K → Bool) (m : Amounts R) → 0 < total p m → (k : K) × (p k ≡ true) × (0 < amount m k)
+  some_key p m some =
+      let found = some_row_held p (rows m) (subst (λ n. 0 < n) (sym (total-rows p m)) some) in
+      (found.0, found.1, subst (λ n. 0 < n) (sym (amount-rows m found.0)) found.2)
+
+-- ---- sums of which parts are known
+module _ {X : Type 0} where
+  -- one element has at most the sum
+  pub one_at_most : (f : X → ℕ) (xs : List X) (i : ℕ) (x : X) → slice_get xs i ≡ Some x → f x ≤ sum_by f xs
+  one_at_most f [] i x at = absurd (cc)
+  one_at_most f (y ∷ ys) zero x at =
+      let same : y ≡ x = cc in let here : f y ≡ f x = ap f same in let all = sum_by-cons f y ys in omega (arith, here, all)
+  one_at_most f (y ∷ ys) (suc i) x at = let rest = one_at_most f ys i x at in let all = sum_by-cons f y ys in omega (arith, rest, all)
+
+  -- two elements at different places have together at most the sum
+  pub two_at_most : (f : X → ℕ) (xs : List X) (i j : ℕ) (x y : X) → slice_get xs i ≡ Some x → slice_get xs j ≡ Some y → (i ≡ j → ⊥) → f x + f y ≤ sum_by f xs
+  two_at_most f [] i j x y at_i at_j apart = absurd (cc)
+  two_at_most f (z ∷ zs) zero zero x y at_i at_j apart = absurd (apart refl)
+  two_at_most f (z ∷ zs) zero (suc j) x y at_i at_j apart =
+      let same : z ≡ x = cc in let here : f z ≡ f x = ap f same in let rest = one_at_most f zs j y at_j in let all = sum_by-cons f z zs in
+      omega (arith, here, rest, all)
+  two_at_most f (z ∷ zs) (suc i) zero x y at_i at_j apart =
+      let same : z ≡ y = cc in let here : f z ≡ f y = ap f same in let rest = one_at_most f zs i x at_i in let all = sum_by-cons f z zs in
+      omega (arith, here, rest, all)
+  two_at_most f (z ∷ zs) (suc i) (suc j) x y at_i at_j apart =
+      let rest = two_at_most f zs i j x y at_i at_j (λ e. apart (ap suc e)) in let all = sum_by-cons f z zs in omega (arith, rest, all)

@@ -1,5 +1,5 @@
 //! The laws of amounts. Each holds for keys of which only equal ones tie.
-ghost use Rattle.std.specs.Prelude.{◌≡◌, ℕ, Bool, not, ◌&&◌, ◌+◌, ◌-◌, ◌≤◌, if◌then◌else◌, min, IsTrue, List, ◌++◌, Option, unwrap_or};
+ghost use Rattle.std.specs.Prelude.{◌≡◌, ℕ, Bool, not, ◌&&◌, ◌+◌, ◌-◌, ◌<◌, ◌≤◌, if◌then◌else◌, min, IsTrue, List, ◌++◌, Option, unwrap_or};
 ghost use Rattle.std.specs.FinMap.{IsAntisymmetric};
 ghost use Rattle.std.specs.List.Sorted.{IsStrictlySortedBy};
 ghost use Rattle.std.specs.Map.{keys_of, lookup};
@@ -44,7 +44,8 @@ pub fn law_of_totals<K: Ord>()
     ensures sum_of_both { (p : K → Bool) (m n : Amounts K.cmp) → total p (merge m n) ≡ total p m + total p n }
     ensures rest { (p : K → Bool) (m n : Amounts K.cmp) → IsWithin n m → total p (difference m n) + total p n ≡ total p m }
     ensures chosen { (p q : K → Bool) (m : Amounts K.cmp) → total p (restriction q m) ≡ total (λ k. q k && p k) m }
-    ensures alike { (p q : K → Bool) (m : Amounts K.cmp) → ((k : K) → p k ≡ q k) → total p m ≡ total q m }
+    ensures alike { (p q : K → Bool) (m : Amounts K.cmp) → ((k : K) → 0 < amount m k → p k ≡ q k) → total p m ≡ total q m }
+    ensures passes { (p : K → Bool) (m : Amounts K.cmp) → 0 < total p m → (k : K) × IsTrue (p k) × (0 < amount m k) }
     ensures wider { (p q : K → Bool) (m : Amounts K.cmp) → ((k : K) → IsTrue (p k) → IsTrue (q k)) → total p m ≤ total q m }
     ensures covered { (p : K → Bool) (m : Amounts K.cmp) (k : K) → IsTrue (p k) → amount m k ≤ total p m }
     ensures split { (p q : K → Bool) (m : Amounts K.cmp)

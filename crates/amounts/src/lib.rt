@@ -10,6 +10,3 @@ pub use laws::{
     law_of_a_move, law_of_amounts, law_of_entries, law_of_equal_maps, law_of_keys, law_of_merging,
     law_of_moves, law_of_parts, law_of_rows, law_of_totals,
 };
-
-#[cfg(test)]
-mod tests;

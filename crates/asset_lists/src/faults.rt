@@ -1,4 +1,5 @@
 //! Why a list of assets is refused.
+use std::alloc::AllocError;
 use thiserror::Error;
 
 /// Why items are no list of assets, or a list can't take one in.
@@ -13,7 +14,7 @@ pub enum ListFault {
     /// The items don't rise strictly, or the unit is there already.
     #[error("assets out of order")]
     OutOfOrder,
-    /// There is no memory.
+    /// Out of memory.
     #[error("out of memory")]
     Memory,
 }
@@ -27,7 +28,29 @@ pub enum ReanchorFault {
     /// Two assets would be the same.
     #[error("two assets that the target names alike")]
     Same,
-    /// There is no memory.
+    /// Out of memory.
     #[error("out of memory")]
     Memory,
+}
+
+impl From<AllocError> for ListFault {
+    ghost use Rattle.std.specs.Prelude.{◌≡◌};
+    ghost use Rattle.asset_lists.specs.declared.faults.ListFault.TheVariants.{Memory};
+
+    ghost from_gives = { λ _ fault. fault ≡ Memory };
+
+    fn from(_: AllocError) -> ListFault {
+        ListFault::Memory
+    }
+}
+
+impl From<AllocError> for ReanchorFault {
+    ghost use Rattle.std.specs.Prelude.{◌≡◌};
+    ghost use Rattle.asset_lists.specs.declared.faults.ReanchorFault.TheVariants.{Memory};
+
+    ghost from_gives = { λ _ fault. fault ≡ Memory };
+
+    fn from(_: AllocError) -> ReanchorFault {
+        ReanchorFault::Memory
+    }
 }

@@ -17,15 +17,20 @@ pub enum Wild {
     All,
     /// All of this id and kind.
     AllOf {
+        /// What the assets are called.
         id: AssetId,
+        /// Amounts or instances.
         fun: WildFun,
     },
     /// The first of all, at most this many.
     AllCounted(u32),
     /// The first of this id and kind, at most this many.
     AllOfCounted {
+        /// What the assets are called.
         id: AssetId,
+        /// Amounts or instances.
         fun: WildFun,
+        /// How many at most.
         count: u32,
     },
 }

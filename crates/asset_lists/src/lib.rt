@@ -3,16 +3,15 @@
 
 mod faults;
 mod filters;
-mod law;
+mod laws;
 mod list;
 mod moves;
 mod units;
 
 pub use faults::{ListFault, ReanchorFault};
 pub use filters::{Filter, Wild, WildFun};
-pub use law::{law_of_lists, law_of_order};
+pub use laws::{
+    law_of_insertion, law_of_lists, law_of_order, law_of_reanchored_lists, law_of_rising,
+};
 pub use list::{Assets, MAX_ASSETS};
 pub use units::{Asset, AssetId, Fun, Instance, Kind};
-
-#[cfg(test)]
-mod tests;

@@ -1,5 +1,6 @@
 -- The one spelling of each part of an asset, in both versions, and which values have one. Source: the XCM format, versions 3 and 4,
--- in the SCALE codec: an enum is its index and then its fields in order. The versions spell asset ids alone in two ways.
+-- in the SCALE codec: an enum is its index and then its fields in order. That the versions spell asset ids alone in two ways is this
+-- project's own profile of them.
 use Rattle.std.specs.Prelude.{◌≡◌, ◌≢◌, ℕ, ◌<◌, ◌^◌, List, [], ◌∷◌, ◌++◌, length, IsFalse, ⊤}
 use Rattle.std.specs.List.{AllByRecursion}
 use Rattle.scale_codec.specs.Spelling.{compact, counted}
@@ -117,8 +118,8 @@ IsNamed V3 id = ⊤
 IsNamed V4 (Concrete place) = ⊤
 IsNamed V4 (Abstract bytes) = ⊥
 
-abbrev pub IsWritable : Version → Asset → Type 0
-IsWritable v a = IsNamed v a.id × IsFalse (is_zero a)
+abbrev pub IsWritableAsset : Version → Asset → Type 0
+IsWritableAsset v a = IsNamed v a.id × IsFalse (is_zero a)
 
 abbrev pub AreNamed : Version → List Asset → Type 0
 AreNamed v = AllByRecursion (λ a. IsNamed v a.id)

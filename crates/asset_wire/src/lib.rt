@@ -1,19 +1,22 @@
 //! Assets as bytes, both ways, in versions 3 and 4 of the XCM format.
 #![tactic(auto)]
 
-mod fault;
-mod law;
+mod laws;
 mod parts;
 mod reading;
-#[cfg(test)]
-mod tests;
 mod version;
 mod writing;
 
-pub use fault::WireFault;
-pub use law::{
+pub use laws::{
     law_of_no_prefix, law_of_one_spelling, law_of_readers, law_of_versions, law_of_writable,
 };
+pub use parts::{
+    blank_id, fill_asset_id, take_asset, take_asset_id, take_assets, take_filter, take_instance,
+};
 pub use reading::{read_asset, read_asset_id, read_assets, read_filter, read_instance};
+pub use scale_codec::WireFault;
 pub use version::Version;
-pub use writing::{write_asset, write_asset_id, write_assets, write_filter, write_instance};
+pub use writing::{
+    put_asset, put_asset_id, put_assets, put_filter, put_instance, write_asset, write_asset_id,
+    write_assets, write_filter, write_instance,
+};

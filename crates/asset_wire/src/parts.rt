@@ -1,33 +1,71 @@
 //! The readers behind the public ones. Where they leave the cursor after a refusal isn't said.
 
-ghost use Rattle.std.specs.Prelude.{◌≡◌, ◌≤◌};
-ghost use Rattle.scale_codec.specs.Reading.{repeated};
-ghost use Rattle.scale_codec.specs.Answers.{Got};
+ghost use Rattle.std.specs.Prelude.{◌≡◌, [], ◌≤◌};
+ghost use Rattle.scale_codec.specs.Reading.{made1, repeated};
+ghost use Rattle.scale_codec.specs.Answers.{Got, Filled, GotOrFails};
+ghost use Rattle.location_wire.specs.Reading.{location_at};
+ghost use Rattle.asset_lists.specs.declared.units.AssetId.TheVariants.{Concrete};
+ghost use Rattle.asset_wire.specs.Blanks.{IsBlank};
 ghost use Rattle.asset_wire.specs.Reading.{asset_id_at, instance_at, amount_at, fun_at, asset_at, assets_at, wild_fun_at, wild_at, filter_at};
-ghost use Rattle.asset_wire.specs.Answers.{GotOrFails};
 
 use crate::{Version, WireFault};
 use asset_lists::{Asset, AssetId, Assets, Filter, Fun, Instance, MAX_ASSETS, Wild, WildFun};
-use location_wire::read_location;
+use location_wire::fill_location;
+use locations::{Junctions, Location};
 use scale_codec::{Cursor, NoSpelling};
 use std::alloc::Global;
 
-#[tactic(auto, unfolding(crate::specs::Reading::asset_id_at))]
-pub fn asset_id_of(c: &mut Cursor<'_>, v: Version) -> Result<AssetId, NoSpelling>
-    ensures { Got result (asset_id_at v c.old) c.new }
+/// A place, into an id that has one with no junctions.
+fn fill_place(c: &mut Cursor<'_>, id: &mut AssetId) -> Result<(), NoSpelling>
+    requires { IsBlank id.old }
+    ensures { Filled result (made1 location_at Concrete c.old) id.new c.new }
 {
-    match v {
-        Version::V3 => match c.u8()? {
-            0 => Ok(AssetId::Concrete(read_location(c)?)),
-            1 => Ok(AssetId::Abstract(c.take_array()?)),
-            _ => Err(NoSpelling),
-        },
-        Version::V4 => Ok(AssetId::Concrete(read_location(c)?)),
+    match id {
+        AssetId::Concrete(place) => fill_location(c, place),
+        AssetId::Abstract(_) => Err(NoSpelling),
     }
 }
 
+/// The id as the version spells it, into a blank one.
+#[tactic(auto, unfolding(crate::specs::Reading::asset_id_at))]
+pub fn fill_asset_id(c: &mut Cursor<'_>, id: &mut AssetId, v: Version) -> Result<(), NoSpelling>
+    requires { IsBlank id.old }
+    ensures { Filled result (asset_id_at v c.old) id.new c.new }
+{
+    match v {
+        Version::V3 => match c.u8()? {
+            0 => fill_place(c, id),
+            1 => {
+                *id = AssetId::Abstract(c.take_array()?);
+                Ok(())
+            }
+            _ => Err(NoSpelling),
+        },
+        Version::V4 => fill_place(c, id),
+    }
+}
+
+/// An id to be filled.
+pub fn blank_id() -> AssetId
+    ensures { IsBlank result }
+{
+    AssetId::Concrete(Location {
+        parents: 0,
+        interior: Junctions::empty(),
+    })
+}
+
+/// The id as the version spells it.
+pub fn take_asset_id(c: &mut Cursor<'_>, v: Version) -> Result<AssetId, NoSpelling>
+    ensures { Got result (asset_id_at v c.old) c.new }
+{
+    let mut id = blank_id();
+    fill_asset_id(c, &mut id, v)?;
+    Ok(id)
+}
+
 #[tactic(auto, unfolding(crate::specs::Reading::instance_at))]
-pub fn instance_of(c: &mut Cursor<'_>) -> Result<Instance, NoSpelling>
+pub fn take_instance(c: &mut Cursor<'_>) -> Result<Instance, NoSpelling>
     ensures { Got result (instance_at c.old) c.new }
 {
     match c.u8()? {
@@ -42,7 +80,7 @@ pub fn instance_of(c: &mut Cursor<'_>) -> Result<Instance, NoSpelling>
 }
 
 /// An amount, which is not 0.
-fn amount_of(c: &mut Cursor<'_>) -> Result<u128, NoSpelling>
+fn take_amount(c: &mut Cursor<'_>) -> Result<u128, NoSpelling>
     ensures { Got result (amount_at c.old) c.new }
 {
     let amount = c.compact_u128()?;
@@ -53,27 +91,48 @@ fn amount_of(c: &mut Cursor<'_>) -> Result<u128, NoSpelling>
 }
 
 #[tactic(auto, unfolding(crate::specs::Reading::fun_at))]
-fn fun_of(c: &mut Cursor<'_>) -> Result<Fun, NoSpelling>
+fn take_fun(c: &mut Cursor<'_>) -> Result<Fun, NoSpelling>
     ensures { Got result (fun_at c.old) c.new }
 {
     match c.u8()? {
-        0 => Ok(Fun::Fungible(amount_of(c)?)),
-        1 => Ok(Fun::NonFungible(instance_of(c)?)),
+        0 => Ok(Fun::Fungible(take_amount(c)?)),
+        1 => Ok(Fun::NonFungible(take_instance(c)?)),
         _ => Err(NoSpelling),
     }
 }
 
+/// The asset as the version spells it, into one with a blank id.
 #[tactic(auto, unfolding(crate::specs::Reading::asset_at))]
-pub fn asset_of(c: &mut Cursor<'_>, v: Version) -> Result<Asset, NoSpelling>
-    ensures { Got result (asset_at v c.old) c.new }
+fn fill_asset(c: &mut Cursor<'_>, asset: &mut Asset, v: Version) -> Result<(), NoSpelling>
+    requires { IsBlank asset.old.id }
+    ensures { Filled result (asset_at v c.old) asset.new c.new }
 {
-    let id = asset_id_of(c, v)?;
-    let fun = fun_of(c)?;
-    Ok(Asset { id, fun })
+    fill_asset_id(c, &mut asset.id, v)?;
+    asset.fun = take_fun(c)?;
+    Ok(())
 }
 
-/// So many assets. Memory is taken as they are read, and not by their number.
-fn several_of(
+/// An asset to be filled.
+fn blank_asset() -> Asset
+    ensures { IsBlank result.id }
+{
+    Asset {
+        id: blank_id(),
+        fun: Fun::Fungible(0),
+    }
+}
+
+/// The asset as the version spells it.
+pub fn take_asset(c: &mut Cursor<'_>, v: Version) -> Result<Asset, NoSpelling>
+    ensures { Got result (asset_at v c.old) c.new }
+{
+    let mut asset = blank_asset();
+    fill_asset(c, &mut asset, v)?;
+    Ok(asset)
+}
+
+/// So many assets, each read where it is in the list. Memory is taken as they are read, and not by their number.
+fn take_several(
     alloc: Global,
     c: &mut Cursor<'_>,
     v: Version,
@@ -83,21 +142,22 @@ fn several_of(
 {
     let mut items = Vec::new(alloc);
     for _ in 0..count {
-        let asset = asset_of(c, v)?;
-        items.push(asset)?;
+        let last = items.len();
+        items.push(blank_asset())?;
+        fill_asset(c, &mut items[last], v)?;
     }
     Ok(items)
 }
 
 #[tactic(auto, unfolding(crate::specs::Reading::assets_at))]
-pub fn assets_of(alloc: Global, c: &mut Cursor<'_>, v: Version) -> Result<Assets, WireFault>
+pub fn take_assets(alloc: Global, c: &mut Cursor<'_>, v: Version) -> Result<Assets, WireFault>
     ensures { GotOrFails (λ list. list) result (assets_at v c.old) c.new }
 {
     let count = c.compact_u32()?;
     if count > MAX_ASSETS as u32 {
         return Err(WireFault::NoSpelling);
     }
-    let items = several_of(alloc, c, v, count)?;
+    let items = take_several(alloc, c, v, count)?;
     match Assets::from_sorted(items) {
         Ok(assets) => Ok(assets),
         Err(_) => Err(WireFault::NoSpelling),
@@ -105,7 +165,7 @@ pub fn assets_of(alloc: Global, c: &mut Cursor<'_>, v: Version) -> Result<Assets
 }
 
 #[tactic(auto, unfolding(crate::specs::Reading::wild_fun_at))]
-fn wild_fun_of(c: &mut Cursor<'_>) -> Result<WildFun, NoSpelling>
+fn take_wild_fun(c: &mut Cursor<'_>) -> Result<WildFun, NoSpelling>
     ensures { Got result (wild_fun_at c.old) c.new }
 {
     match c.u8()? {
@@ -116,20 +176,20 @@ fn wild_fun_of(c: &mut Cursor<'_>) -> Result<WildFun, NoSpelling>
 }
 
 #[tactic(auto, unfolding(crate::specs::Reading::wild_at))]
-fn wild_of(c: &mut Cursor<'_>, v: Version) -> Result<Wild, NoSpelling>
+fn take_wild(c: &mut Cursor<'_>, v: Version) -> Result<Wild, NoSpelling>
     ensures { Got result (wild_at v c.old) c.new }
 {
     match c.u8()? {
         0 => Ok(Wild::All),
         1 => {
-            let id = asset_id_of(c, v)?;
-            let fun = wild_fun_of(c)?;
+            let id = take_asset_id(c, v)?;
+            let fun = take_wild_fun(c)?;
             Ok(Wild::AllOf { id, fun })
         }
         2 => Ok(Wild::AllCounted(c.compact_u32()?)),
         3 => {
-            let id = asset_id_of(c, v)?;
-            let fun = wild_fun_of(c)?;
+            let id = take_asset_id(c, v)?;
+            let fun = take_wild_fun(c)?;
             let count = c.compact_u32()?;
             Ok(Wild::AllOfCounted { id, fun, count })
         }
@@ -138,12 +198,12 @@ fn wild_of(c: &mut Cursor<'_>, v: Version) -> Result<Wild, NoSpelling>
 }
 
 #[tactic(auto, unfolding(crate::specs::Reading::filter_at))]
-pub fn filter_of(alloc: Global, c: &mut Cursor<'_>, v: Version) -> Result<Filter, WireFault>
+pub fn take_filter(alloc: Global, c: &mut Cursor<'_>, v: Version) -> Result<Filter, WireFault>
     ensures { GotOrFails (λ filter. filter) result (filter_at v c.old) c.new }
 {
     match c.u8()? {
-        0 => Ok(Filter::Definite(assets_of(alloc, c, v)?)),
-        1 => Ok(Filter::Wild(wild_of(c, v)?)),
+        0 => Ok(Filter::Definite(take_assets(alloc, c, v)?)),
+        1 => Ok(Filter::Wild(take_wild(c, v)?)),
         _ => Err(WireFault::NoSpelling),
     }
 }

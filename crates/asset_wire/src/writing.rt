@@ -1,36 +1,36 @@
 //! Writes of assets and their parts: each appends the one spelling.
 
-ghost use Rattle.std.specs.Prelude.{◌≡◌, ◌++◌, OnOk, OnErr, IsFalse, nat_eq};
-ghost use Rattle.scale_codec.specs.Answers.{Appends};
+ghost use Rattle.std.specs.Prelude.{◌≡◌, ◌++◌, OnOk, OnErr, IsFalse, nat_eq, ⊤};
+ghost use Rattle.scale_codec.specs.Answers.{Appends, Puts, IsWritten};
 ghost use Rattle.asset_lists.specs.Units.{amount_in};
-ghost use Rattle.asset_wire.specs.Spelling.{asset_id, FitsId, instance, FitsInstance, fun, FitsFun, asset, FitsAsset, assets, FitsAssets, wild_fun, wild, FitsWild, filter, FitsFilter, IsNamed, IsWritable, AreNamed, IsWildNamed, IsFilterNamed};
+ghost use Rattle.asset_wire.specs.Spelling.{asset_id, FitsId, instance, FitsInstance, fun, FitsFun, asset, FitsAsset, assets, FitsAssets, wild_fun, wild, FitsWild, filter, FitsFilter, IsNamed, IsWritableAsset, AreNamed, IsWildNamed, IsFilterNamed};
 
 use crate::Version;
 use asset_lists::{Asset, AssetId, Assets, Filter, Fun, Instance, Wild, WildFun};
-use location_wire::write_location;
-use scale_codec::Out;
+use location_wire::put_location;
+use scale_codec::{Draft, Out};
 use std::alloc::AllocError;
 
-fn put_asset_id(o: &mut Out, id: &AssetId, v: Version) -> Result<(), AllocError>
+pub fn put_asset_id(o: &mut Draft, id: &AssetId, v: Version) -> Result<(), AllocError>
     requires { IsNamed v id.now }
-    ensures { OnOk result (Appends o.old o.new (asset_id v id.now) (FitsId v id.now)) }
+    ensures { Puts (asset_id v) (FitsId v) id.now result o.old o.new }
 {
     match (v, id) {
         (Version::V3, AssetId::Concrete(place)) => {
             o.put_u8(0)?;
-            write_location(o, place)
+            put_location(o, place)
         }
         (Version::V3, AssetId::Abstract(bytes)) => {
             o.put_u8(1)?;
             o.put_bytes(bytes)
         }
-        (Version::V4, AssetId::Concrete(place)) => write_location(o, place),
+        (Version::V4, AssetId::Concrete(place)) => put_location(o, place),
         (Version::V4, AssetId::Abstract(_)) => unreachable!(),
     }
 }
 
-fn put_instance(o: &mut Out, which: &Instance) -> Result<(), AllocError>
-    ensures { OnOk result (Appends o.old o.new (instance which.now) (FitsInstance which.now)) }
+pub fn put_instance(o: &mut Draft, which: &Instance) -> Result<(), AllocError>
+    ensures { Puts instance FitsInstance which.now result o.old o.new }
 {
     match which {
         Instance::Undefined => o.put_u8(0),
@@ -57,9 +57,9 @@ fn put_instance(o: &mut Out, which: &Instance) -> Result<(), AllocError>
     }
 }
 
-fn put_fun(o: &mut Out, a: &Fun) -> Result<(), AllocError>
+fn put_fun(o: &mut Draft, a: &Fun) -> Result<(), AllocError>
     requires { IsFalse (nat_eq (amount_in a.now) 0) }
-    ensures { OnOk result (Appends o.old o.new (fun a.now) (FitsFun a.now)) }
+    ensures { Puts fun FitsFun a.now result o.old o.new }
 {
     match a {
         Fun::Fungible(amount) => {
@@ -74,17 +74,17 @@ fn put_fun(o: &mut Out, a: &Fun) -> Result<(), AllocError>
 }
 
 #[tactic(auto, unfolding(crate::specs::Spelling::asset))]
-fn put_asset(o: &mut Out, a: &Asset, v: Version) -> Result<(), AllocError>
-    requires { IsWritable v a.now }
-    ensures { OnOk result (Appends o.old o.new (asset v a.now) (FitsAsset v a.now)) }
+pub fn put_asset(o: &mut Draft, a: &Asset, v: Version) -> Result<(), AllocError>
+    requires { IsWritableAsset v a.now }
+    ensures { Puts (asset v) (FitsAsset v) a.now result o.old o.new }
 {
     put_asset_id(o, &a.id, v)?;
     put_fun(o, &a.fun)
 }
 
-fn put_assets(o: &mut Out, list: &Assets, v: Version) -> Result<(), AllocError>
+pub fn put_assets(o: &mut Draft, list: &Assets, v: Version) -> Result<(), AllocError>
     requires { AreNamed v list.now }
-    ensures { OnOk result (Appends o.old o.new (assets v list.now) (FitsAssets v list.now)) }
+    ensures { Puts (assets v) (FitsAssets v) list.now result o.old o.new }
 {
     let items = list.items();
     o.put_compact(items.len() as u128)?;
@@ -94,8 +94,8 @@ fn put_assets(o: &mut Out, list: &Assets, v: Version) -> Result<(), AllocError>
     Ok(())
 }
 
-fn put_wild_fun(o: &mut Out, kind: WildFun) -> Result<(), AllocError>
-    ensures { OnOk result (o.new ≡ o.old ++ wild_fun kind) }
+fn put_wild_fun(o: &mut Draft, kind: WildFun) -> Result<(), AllocError>
+    ensures { Appends result o.old o.new (wild_fun kind) ⊤ }
 {
     match kind {
         WildFun::Fungible => o.put_u8(0),
@@ -103,9 +103,9 @@ fn put_wild_fun(o: &mut Out, kind: WildFun) -> Result<(), AllocError>
     }
 }
 
-fn put_wild(o: &mut Out, which: &Wild, v: Version) -> Result<(), AllocError>
+fn put_wild(o: &mut Draft, which: &Wild, v: Version) -> Result<(), AllocError>
     requires { IsWildNamed v which.now }
-    ensures { OnOk result (Appends o.old o.new (wild v which.now) (FitsWild v which.now)) }
+    ensures { Puts (wild v) (FitsWild v) which.now result o.old o.new }
 {
     match which {
         Wild::All => o.put_u8(0),
@@ -127,9 +127,9 @@ fn put_wild(o: &mut Out, which: &Wild, v: Version) -> Result<(), AllocError>
     }
 }
 
-fn put_filter(o: &mut Out, which: &Filter, v: Version) -> Result<(), AllocError>
+pub fn put_filter(o: &mut Draft, which: &Filter, v: Version) -> Result<(), AllocError>
     requires { IsFilterNamed v which.now }
-    ensures { OnOk result (Appends o.old o.new (filter v which.now) (FitsFilter v which.now)) }
+    ensures { Puts (filter v) (FitsFilter v) which.now result o.old o.new }
 {
     match which {
         Filter::Definite(list) => {
@@ -145,56 +145,51 @@ fn put_filter(o: &mut Out, which: &Filter, v: Version) -> Result<(), AllocError>
 
 /// Appends the one spelling of the instance. Where memory is refused, `o` is as before.
 pub fn write_instance(o: &mut Out, v: &Instance) -> Result<(), AllocError>
-    ensures ok { OnOk result (Appends o.old o.new (instance v.now) (FitsInstance v.now)) }
-    ensures err { OnErr result (o.new ≡ o.old) }
+    ensures { IsWritten instance FitsInstance v.now result o.old o.new }
 {
-    let mut text = Out::new(o.allocator());
-    put_instance(&mut text, v)?;
-    o.put_bytes(text.bytes())
+    let mut draft = o.draft();
+    let written = put_instance(&mut draft, v);
+    o.settle(draft, written)
 }
 
 /// Appends the one spelling of the asset id in the version, which must have one: version 4 can't say an id that is bytes. Where
 /// memory is refused, `o` is as before.
 pub fn write_asset_id(o: &mut Out, id: &AssetId, v: Version) -> Result<(), AllocError>
     requires { IsNamed v id.now }
-    ensures ok { OnOk result (Appends o.old o.new (asset_id v id.now) (FitsId v id.now)) }
-    ensures err { OnErr result (o.new ≡ o.old) }
+    ensures { IsWritten (asset_id v) (FitsId v) id.now result o.old o.new }
 {
-    let mut text = Out::new(o.allocator());
-    put_asset_id(&mut text, id, v)?;
-    o.put_bytes(text.bytes())
+    let mut draft = o.draft();
+    let written = put_asset_id(&mut draft, id, v);
+    o.settle(draft, written)
 }
 
 /// Appends the one spelling of the asset in the version, which must have one: the version can say its id, and it is no amount of 0.
 /// Where memory is refused, `o` is as before.
 pub fn write_asset(o: &mut Out, a: &Asset, v: Version) -> Result<(), AllocError>
-    requires { IsWritable v a.now }
-    ensures ok { OnOk result (Appends o.old o.new (asset v a.now) (FitsAsset v a.now)) }
-    ensures err { OnErr result (o.new ≡ o.old) }
+    requires { IsWritableAsset v a.now }
+    ensures { IsWritten (asset v) (FitsAsset v) a.now result o.old o.new }
 {
-    let mut text = Out::new(o.allocator());
-    put_asset(&mut text, a, v)?;
-    o.put_bytes(text.bytes())
+    let mut draft = o.draft();
+    let written = put_asset(&mut draft, a, v);
+    o.settle(draft, written)
 }
 
 /// Appends the one spelling of the list in the version, which can say its ids. Where memory is refused, `o` is as before.
 pub fn write_assets(o: &mut Out, list: &Assets, v: Version) -> Result<(), AllocError>
     requires { AreNamed v list.now }
-    ensures ok { OnOk result (Appends o.old o.new (assets v list.now) (FitsAssets v list.now)) }
-    ensures err { OnErr result (o.new ≡ o.old) }
+    ensures { IsWritten (assets v) (FitsAssets v) list.now result o.old o.new }
 {
-    let mut text = Out::new(o.allocator());
-    put_assets(&mut text, list, v)?;
-    o.put_bytes(text.bytes())
+    let mut draft = o.draft();
+    let written = put_assets(&mut draft, list, v);
+    o.settle(draft, written)
 }
 
 /// Appends the one spelling of the filter in the version, which can say its ids. Where memory is refused, `o` is as before.
 pub fn write_filter(o: &mut Out, which: &Filter, v: Version) -> Result<(), AllocError>
     requires { IsFilterNamed v which.now }
-    ensures ok { OnOk result (Appends o.old o.new (filter v which.now) (FitsFilter v which.now)) }
-    ensures err { OnErr result (o.new ≡ o.old) }
+    ensures { IsWritten (filter v) (FitsFilter v) which.now result o.old o.new }
 {
-    let mut text = Out::new(o.allocator());
-    put_filter(&mut text, which, v)?;
-    o.put_bytes(text.bytes())
+    let mut draft = o.draft();
+    let written = put_filter(&mut draft, which, v);
+    o.settle(draft, written)
 }

@@ -1,3 +1,4 @@
+//! The name of a chain, and its text.
 ghost use Rattle.std.specs.Prelude.{Some};
 ghost use Rattle.chain_ids.specs.Texts.{chain_text};
 

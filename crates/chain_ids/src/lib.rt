@@ -2,8 +2,7 @@
 #![tactic(auto)]
 
 mod chain;
+mod laws;
 
 pub use chain::ChainId;
-
-#[cfg(test)]
-mod tests;
+pub use laws::law_of_one_chain;

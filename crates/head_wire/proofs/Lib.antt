@@ -1,3 +1,1 @@
-pub mod HeadLaws
 pub mod WriteLaws
-pub mod Written

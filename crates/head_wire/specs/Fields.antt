@@ -2,7 +2,7 @@
 use Rattle.std.specs.Prelude.{ℕ, List, drop}
 use Rattle.asset_wire.specs.declared.version.Version.{Version}
 use Rattle.xcm_program.specs.declared.instruction.Instruction.TheOpen.{Instruction-F}
-use Rattle.xcm_program.specs.Spelling.{head}
+use Rattle.xcm_format.specs.Programs.{head}
 
 abbrev pub fields : {X : Type 0} → Version → Instruction-F X → List ℕ
 fields v l = drop 1 (head v l)

@@ -1,2 +1,4 @@
 pub mod Reading
 pub mod Fields
+pub mod Answers
+pub mod Laws

@@ -1,10 +1,11 @@
 //! Writes of instructions: each appends the one spelling.
 
-ghost use Rattle.std.specs.Prelude.{◌≡◌, OnOk, MatchResult};
-ghost use Rattle.scale_codec.specs.Answers.{Appends};
+ghost use Rattle.std.specs.Prelude.{◌≡◌};
+ghost use Rattle.scale_codec.specs.Answers.{Appends, Puts, IsWritten};
 ghost use Rattle.xcm_program.specs.declared.instruction.Instruction.{Instruction, out-Instruction};
-ghost use Rattle.xcm_program.specs.Spelling.{head, FitsHead};
-ghost use Rattle.xcm_program.specs.Conversions.{IsNamedHead, HasAmount};
+ghost use Rattle.xcm_format.specs.Programs.{head, FitsHead};
+ghost use Rattle.xcm_program.specs.Conversions.{HasAmount};
+ghost use Rattle.xcm_format.specs.Writable.{IsNamedHead};
 ghost use Rattle.head_wire.specs.Fields.{fields};
 
 mod group0;
@@ -22,15 +23,15 @@ use group2::put_group2;
 use group3::put_group3;
 use group4::put_group4;
 use group5::put_group5;
-use scale_codec::Out;
+use scale_codec::{Draft, Out};
 use std::alloc::AllocError;
 use xcm_program::Instruction;
 
 /// What stands behind the index, by the groups of the index.
-fn put_fields(o: &mut Out, i: &Instruction, v: Version) -> Result<(), AllocError>
+fn put_fields(o: &mut Draft, i: &Instruction, v: Version) -> Result<(), AllocError>
     requires named { IsNamedHead v Instruction (out-Instruction i.now) }
     requires amount { HasAmount Instruction (out-Instruction i.now) }
-    ensures { OnOk result (Appends o.old o.new (fields v (out-Instruction i.now)) (FitsHead v (out-Instruction i.now))) }
+    ensures { Appends result o.old o.new (fields v (out-Instruction i.now)) (FitsHead v (out-Instruction i.now)) }
 {
     match i.index() {
         0..=7 => put_group0(o, i, v),
@@ -43,16 +44,24 @@ fn put_fields(o: &mut Out, i: &Instruction, v: Version) -> Result<(), AllocError
     }
 }
 
+/// As `write_head`, into a draft.
+pub fn put_head(o: &mut Draft, i: &Instruction, v: Version) -> Result<(), AllocError>
+    requires named { IsNamedHead v Instruction (out-Instruction i.now) }
+    requires amount { HasAmount Instruction (out-Instruction i.now) }
+    ensures { Puts (λ i. head v (out-Instruction i)) (λ i. FitsHead v (out-Instruction i)) i.now result o.old o.new }
+{
+    o.put_u8(i.index())?;
+    put_fields(o, i, v)
+}
+
 /// Appends the one spelling of the instruction in the version, up to the program inside, which stands last. The version must have one:
 /// it can say each asset id outside that program, and no amount is 0. Where memory is refused, `o` is as before.
-#[tactic(auto, using(crate::proofs::WriteLaws::index_first))]
 pub fn write_head(o: &mut Out, i: &Instruction, v: Version) -> Result<(), AllocError>
     requires named { IsNamedHead v Instruction (out-Instruction i.now) }
     requires amount { HasAmount Instruction (out-Instruction i.now) }
-    ensures { MatchResult result (λ _. Appends o.old o.new (head v (out-Instruction i.now)) (FitsHead v (out-Instruction i.now))) (λ _. o.new ≡ o.old) }
+    ensures { IsWritten (λ i. head v (out-Instruction i)) (λ i. FitsHead v (out-Instruction i)) i.now result o.old o.new }
 {
-    let mut text = Out::new(o.allocator());
-    text.put_u8(i.index())?;
-    put_fields(&mut text, i, v)?;
-    o.put_bytes(text.bytes())
+    let mut draft = o.draft();
+    let written = put_head(&mut draft, i, v);
+    o.settle(draft, written)
 }

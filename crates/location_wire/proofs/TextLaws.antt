@@ -15,17 +15,17 @@ use Rattle.std.proofs.lemmas.Fmt.{decimal_by_steps_wide, decimal_is_IsNumeral_wi
 use Rattle.hex.specs.Hex.{encode_lower, encode_with, lower_digits, hex_digit_value, IsBytes, decode_of, decode_sized}
 use Rattle.hex.proofs.HexLemmas.{IsDigits-lower_digits, length-encode_with, decode_of-encode_lower, decode_of-ok, decode_sized-ok, decode_sized-twice}
 use Rattle.std.proofs.lemmas.Str.Pattern.{IsSplitOnceResult, split_after}
-use Rattle.scale_codec.specs.declared.cursor.NoSpelling.{NoSpelling}
+use Rattle.scale_codec.specs.declared.faults.NoSpelling.{NoSpelling}
 use Rattle.scale_codec.specs.Spelling.{fixed, size, long, compact, joined}
 use Rattle.scale_codec.specs.Answers.{Got}
-use Rattle.scale_codec.proofs.Steps.{same_some}
+use Rattle.scale_codec.specs.Laws.Steps.{same_some}
 use Rattle.locations.specs.declared.grammar.NetworkId.{NetworkId}
 use Rattle.locations.specs.declared.grammar.NetworkId.TheVariants.{ByGenesis, ByFork, Polkadot, Kusama, Westend, Rococo, Wococo, Ethereum, BitcoinCore, BitcoinCash}
 use Rattle.locations.specs.declared.grammar.Junction.{Junction}
 use Rattle.locations.specs.declared.grammar.Junction.TheVariants.{Parachain, AccountId32, AccountIndex64, AccountKey20, PalletInstance, GeneralIndex, GeneralKey, OnlyChild, Plurality, GlobalConsensus}
 use Rattle.location_wire.specs.Spelling.{junction, FitsJunction}
 use Rattle.location_wire.specs.Reading.{junction_at}
-use Rattle.location_wire.proofs.FieldLaws.{junction_reads}
+use Rattle.location_wire.specs.Laws.FieldLaws.{junction_reads}
 use Rattle.locations.specs.declared.relative.Location.{Location}
 use Rattle.location_wire.specs.Texts.{hex_text, network_name, named, shown, junction_text, step_text, location_text, lacks, IsJunction, IsLocation, IsTextOf}
 

@@ -2,3 +2,4 @@ pub mod Spelling
 pub mod Reading
 pub mod Texts
 pub mod TextFaults
+pub mod Laws

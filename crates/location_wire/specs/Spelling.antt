@@ -1,5 +1,7 @@
 -- The one spelling of each part of a location, and which values have one. Source: the XCM format, versions 3 and 4, which spell
--- locations alike, in the SCALE codec: an enum is its index and then its fields in order.
+-- locations alike, in the SCALE codec: an enum is its index and then its fields in order. This project's own profile of the two
+-- versions are the index numbers of NetworkId, BodyId and BodyPart, that any length byte of a GeneralKey has a spelling, and that no
+-- NetworkId has an index above 9.
 use Rattle.std.specs.Prelude.{◌≡◌, ℕ, ◌<◌, ◌≤◌, ◌^◌, List, [], ◌∷◌, ◌++◌, length, IfSome, ⊤}
 use Rattle.std.specs.List.{AllByRecursion}
 use Rattle.scale_codec.specs.Spelling.{byte, fixed, compact, optional, counted}

@@ -5,7 +5,7 @@ use Rattle.location_wire.specs.declared.text_reading.TextFault.{TextFault}
 use Rattle.location_wire.specs.declared.text_reading.TextFault.TheVariants.{BadText, Memory}
 use Rattle.location_wire.specs.Texts.{IsTextOf}
 
--- the text is that of no location; want of memory says nothing
+-- the text is that of no location; out of memory says nothing
 abbrev pub IsTextCause : List ℕ → TextFault → Type 0
 IsTextCause text BadText = (l : Location) → IsTextOf l text → ⊥
 IsTextCause text Memory = ⊤

@@ -25,7 +25,7 @@ network_name Rococo = Some (codes "Rococo")
 network_name Wococo = Some (codes "Wococo")
 network_name _ = None
 
--- of a junction that is written by its name: the name, and what stands in the parentheses
+-- of a junction that is written by its name: the name, and what the parentheses hold
 abbrev pub named : Junction → Option (List ℕ × List ℕ)
 named (Parachain id) = Some (codes "Parachain", decimal id)
 named (PalletInstance index) = Some (codes "PalletInstance", decimal index)

@@ -1,15 +1,15 @@
 //! The readers behind the public ones. Where they leave the cursor after a refusal isn't said.
 
-ghost use Rattle.std.specs.Prelude.{◌≡◌, ◌≤◌};
+ghost use Rattle.std.specs.Prelude.{◌≡◌, [], ◌≤◌};
 ghost use Rattle.scale_codec.specs.Reading.{optional_at, repeated};
-ghost use Rattle.scale_codec.specs.Answers.{Got};
+ghost use Rattle.scale_codec.specs.Answers.{Got, Filled};
 ghost use Rattle.location_wire.specs.Reading.{network_at, body_at, part_at, junction_at, junctions_at, location_at};
 
 use locations::{BodyId, BodyPart, Junction, Junctions, Location, NetworkId};
 use scale_codec::{Cursor, NoSpelling};
 
 #[tactic(auto, unfolding(crate::specs::Reading::network_at))]
-pub fn network_of(c: &mut Cursor<'_>) -> Result<NetworkId, NoSpelling>
+pub fn take_network(c: &mut Cursor<'_>) -> Result<NetworkId, NoSpelling>
     ensures { Got result (network_at c.old) c.new }
 {
     match c.u8()? {
@@ -38,18 +38,18 @@ pub fn network_of(c: &mut Cursor<'_>) -> Result<NetworkId, NoSpelling>
 }
 
 /// A network that may be left out.
-fn optional_network_of(c: &mut Cursor<'_>) -> Result<Option<NetworkId>, NoSpelling>
+fn take_optional_network(c: &mut Cursor<'_>) -> Result<Option<NetworkId>, NoSpelling>
     ensures { Got result (optional_at network_at c.old) c.new }
 {
     match c.u8()? {
         0 => Ok(None),
-        1 => Ok(Some(network_of(c)?)),
+        1 => Ok(Some(take_network(c)?)),
         _ => Err(NoSpelling),
     }
 }
 
 #[tactic(auto, unfolding(crate::specs::Reading::body_at))]
-fn body_of(c: &mut Cursor<'_>) -> Result<BodyId, NoSpelling>
+fn take_body(c: &mut Cursor<'_>) -> Result<BodyId, NoSpelling>
     ensures { Got result (body_at c.old) c.new }
 {
     match c.u8()? {
@@ -68,7 +68,7 @@ fn body_of(c: &mut Cursor<'_>) -> Result<BodyId, NoSpelling>
 }
 
 #[tactic(auto, unfolding(crate::specs::Reading::part_at))]
-fn part_of(c: &mut Cursor<'_>) -> Result<BodyPart, NoSpelling>
+fn take_part(c: &mut Cursor<'_>) -> Result<BodyPart, NoSpelling>
     ensures { Got result (part_at c.old) c.new }
 {
     match c.u8()? {
@@ -97,23 +97,24 @@ fn part_of(c: &mut Cursor<'_>) -> Result<BodyPart, NoSpelling>
 }
 
 #[tactic(auto, unfolding(crate::specs::Reading::junction_at))]
-pub fn junction_of(c: &mut Cursor<'_>) -> Result<Junction, NoSpelling>
+/// The junction at the front.
+pub fn take_junction(c: &mut Cursor<'_>) -> Result<Junction, NoSpelling>
     ensures { Got result (junction_at c.old) c.new }
 {
     match c.u8()? {
         0 => Ok(Junction::Parachain(c.compact_u32()?)),
         1 => {
-            let network = optional_network_of(c)?;
+            let network = take_optional_network(c)?;
             let id = c.take_array()?;
             Ok(Junction::AccountId32 { network, id })
         }
         2 => {
-            let network = optional_network_of(c)?;
+            let network = take_optional_network(c)?;
             let index = c.compact_u64()?;
             Ok(Junction::AccountIndex64 { network, index })
         }
         3 => {
-            let network = optional_network_of(c)?;
+            let network = take_optional_network(c)?;
             let key = c.take_array()?;
             Ok(Junction::AccountKey20 { network, key })
         }
@@ -126,44 +127,68 @@ pub fn junction_of(c: &mut Cursor<'_>) -> Result<Junction, NoSpelling>
         }
         7 => Ok(Junction::OnlyChild),
         8 => {
-            let id = body_of(c)?;
-            let part = part_of(c)?;
+            let id = take_body(c)?;
+            let part = take_part(c)?;
             Ok(Junction::Plurality { id, part })
         }
-        9 => Ok(Junction::GlobalConsensus(network_of(c)?)),
+        9 => Ok(Junction::GlobalConsensus(take_network(c)?)),
         _ => Err(NoSpelling),
     }
 }
 
-/// So many junctions, at most eight.
-fn several_of(c: &mut Cursor<'_>, count: u8) -> Result<Junctions, NoSpelling>
-    requires { count ≤ 8 }
-    ensures { Got result (repeated junction_at count c.old) c.new }
+/// So many junctions, at most eight, into an empty list.
+fn fill_several(c: &mut Cursor<'_>, count: u8, junctions: &mut Junctions) -> Result<(), NoSpelling>
+    requires few { count ≤ 8 }
+    requires empty { junctions.old ≡ [] }
+    ensures { Filled result (repeated junction_at count c.old) junctions.new c.new }
 {
-    let mut junctions = Junctions::empty();
     for _ in 0..count {
-        let junction = junction_of(c)?;
+        let junction = take_junction(c)?;
         junctions.push(junction).unwrap();
     }
-    Ok(junctions)
+    Ok(())
 }
 
+/// The junctions behind their number, into an empty list.
 #[tactic(auto, unfolding(crate::specs::Reading::junctions_at))]
-pub fn junctions_of(c: &mut Cursor<'_>) -> Result<Junctions, NoSpelling>
-    ensures { Got result (junctions_at c.old) c.new }
+pub fn fill_junctions(c: &mut Cursor<'_>, junctions: &mut Junctions) -> Result<(), NoSpelling>
+    requires { junctions.old ≡ [] }
+    ensures { Filled result (junctions_at c.old) junctions.new c.new }
 {
     let count = c.u8()?;
     if count > 8 {
         return Err(NoSpelling);
     }
-    several_of(c, count)
+    fill_several(c, count, junctions)
 }
 
+/// The location, into one with no junctions.
 #[tactic(auto, unfolding(crate::specs::Reading::location_at))]
-pub fn location_of(c: &mut Cursor<'_>) -> Result<Location, NoSpelling>
+pub fn fill_location(c: &mut Cursor<'_>, place: &mut Location) -> Result<(), NoSpelling>
+    requires { place.old.interior ≡ [] }
+    ensures { Filled result (location_at c.old) place.new c.new }
+{
+    place.parents = c.u8()?;
+    fill_junctions(c, &mut place.interior)
+}
+
+/// The junctions behind their number.
+pub fn take_junctions(c: &mut Cursor<'_>) -> Result<Junctions, NoSpelling>
+    ensures { Got result (junctions_at c.old) c.new }
+{
+    let mut junctions = Junctions::empty();
+    fill_junctions(c, &mut junctions)?;
+    Ok(junctions)
+}
+
+/// The location at the front.
+pub fn take_location(c: &mut Cursor<'_>) -> Result<Location, NoSpelling>
     ensures { Got result (location_at c.old) c.new }
 {
-    let parents = c.u8()?;
-    let interior = junctions_of(c)?;
-    Ok(Location { parents, interior })
+    let mut place = Location {
+        parents: 0,
+        interior: Junctions::empty(),
+    };
+    fill_location(c, &mut place)?;
+    Ok(place)
 }

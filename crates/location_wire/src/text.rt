@@ -6,7 +6,7 @@ ghost use Rattle.scale_codec.specs.Spelling.{joined};
 ghost use Rattle.location_wire.specs.Spelling.{junction};
 ghost use Rattle.location_wire.specs.Texts.{hex_text, junction_text, step_text, path_text, location_text};
 
-use crate::writing::put_junction;
+use crate::writing::write_junction;
 use locations::{Junction, Junctions, Location, NetworkId};
 use scale_codec::Out;
 use std::alloc::{AllocError, Global};
@@ -17,7 +17,7 @@ fn push_spelled(alloc: Global, text: &mut String, step: &Junction) -> Result<(),
     ensures { OnOk result (string_bytes text.new ≡ string_bytes text.old ++ hex_text (junction step.now)) }
 {
     let mut out = Out::new(alloc);
-    put_junction(&mut out, step)?;
+    write_junction(&mut out, step)?;
     let digits = hex::encode(alloc, out.bytes())?;
     write!(text, "0x{digits}")
 }

@@ -11,7 +11,7 @@ ghost use Rattle.location_wire.specs.Spelling.{junction};
 ghost use Rattle.location_wire.specs.Texts.{lacks, network_name, named, junction_text, IsJunction, IsLocation, IsTextOf};
 ghost use Rattle.location_wire.specs.TextFaults.{IsTextCause};
 
-use crate::parts::junction_of;
+use crate::parts::take_junction;
 use crate::text::location_text;
 use hex::{FromHex, FromHexError};
 use locations::{Junction, Junctions, Location, NetworkId};
@@ -48,7 +48,7 @@ fn parts_of(alloc: Global, text: &str) -> Result<Vec<&str>, AllocError>
     text.split('/').collect(alloc)
 }
 
-/// What stands before an opening parenthesis, and what between it and a closing one at the end.
+/// What is before an opening parenthesis, and between it and a closing one at the end.
 fn name_and_inside(part: &str) -> Option<(&str, &str)>
     ensures { (name inside : List ℕ) → IsTrue (lacks 40 name) → part.now ≡ name ++ codes "(" ++ inside ++ codes ")" → MatchOption result ⊥ (λ x. (x.0.now ≡ name) × (x.1.now ≡ inside)) }
 {
@@ -62,7 +62,7 @@ fn front_junction(bytes: &[u8]) -> Option<Junction>
     ensures found { (j : Junction) → IsJunction j → bytes.now ≡ junction j → result ≡ Some j }
     ensures fits { IfSome result IsJunction }
 {
-    junction_of(&mut Cursor::new(bytes)).ok()
+    take_junction(&mut Cursor::new(bytes)).ok()
 }
 
 /// The junction that hex digits spell.
@@ -101,7 +101,7 @@ fn global_of_text(inside: &str) -> Option<Junction>
     Some(Junction::GlobalConsensus(network))
 }
 
-/// What stands behind the `0x` at the front.
+/// What is behind the `0x` at the front.
 fn behind_0x(text: &str) -> Option<&str>
     ensures { MatchOption result ((rest : List ℕ) → text.now ≢ codes "0x" ++ rest) (λ x. text.now ≡ codes "0x" ++ x.now) }
 {
@@ -141,7 +141,7 @@ fn account_of_text(inside: &str) -> Option<Junction>
     Some(Junction::AccountId32 { network: None, id })
 }
 
-/// The junction of a name and what stands in its parentheses.
+/// The junction of a name and what its parentheses hold.
 fn named_junction(name: &str, inside: &str) -> Option<Junction>
     ensures found { (j : Junction) → IsJunction j → named j ≡ Some (name.now, inside.now) → result ≡ Some j }
     ensures fits { IfSome result IsJunction }

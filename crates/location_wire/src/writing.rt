@@ -1,16 +1,16 @@
 //! Writes of locations and their parts: each appends the one spelling.
 
-ghost use Rattle.std.specs.Prelude.{◌≡◌, ◌∷◌, ◌++◌, OnOk, OnErr, IfSome};
+ghost use Rattle.std.specs.Prelude.{◌≡◌, ◌∷◌, ◌++◌, OnOk, OnErr, IfSome, ⊤};
 ghost use Rattle.scale_codec.specs.Spelling.{compact, optional};
-ghost use Rattle.scale_codec.specs.Answers.{Appends};
+ghost use Rattle.scale_codec.specs.Answers.{Appends, Puts, IsWritten};
 ghost use Rattle.location_wire.specs.Spelling.{network, FitsNetwork, body, FitsBody, part, FitsPart, junction, FitsJunction, junctions, FitsJunctions, location, FitsLocation};
 
 use locations::{BodyId, BodyPart, Junction, Junctions, Location, NetworkId};
-use scale_codec::Out;
+use scale_codec::{Draft, Out};
 use std::alloc::AllocError;
 
-fn put_network(o: &mut Out, net: &NetworkId) -> Result<(), AllocError>
-    ensures { OnOk result (Appends o.old o.new (network net.now) (FitsNetwork net.now)) }
+pub fn put_network(o: &mut Draft, net: &NetworkId) -> Result<(), AllocError>
+    ensures { Puts network FitsNetwork net.now result o.old o.new }
 {
     match net {
         NetworkId::ByGenesis(hash) => {
@@ -39,8 +39,8 @@ fn put_network(o: &mut Out, net: &NetworkId) -> Result<(), AllocError>
     }
 }
 
-fn put_optional_network(o: &mut Out, net: &Option<NetworkId>) -> Result<(), AllocError>
-    ensures { OnOk result (Appends o.old o.new (optional network net.now) (IfSome net.now FitsNetwork)) }
+fn put_optional_network(o: &mut Draft, net: &Option<NetworkId>) -> Result<(), AllocError>
+    ensures { Puts (optional network) (λ n. IfSome n FitsNetwork) net.now result o.old o.new }
 {
     match net {
         None => o.put_u8(0),
@@ -51,8 +51,8 @@ fn put_optional_network(o: &mut Out, net: &Option<NetworkId>) -> Result<(), Allo
     }
 }
 
-fn put_body(o: &mut Out, id: &BodyId) -> Result<(), AllocError>
-    ensures { OnOk result (Appends o.old o.new (body id.now) (FitsBody id.now)) }
+fn put_body(o: &mut Draft, id: &BodyId) -> Result<(), AllocError>
+    ensures { Puts body FitsBody id.now result o.old o.new }
 {
     match id {
         BodyId::Unit => o.put_u8(0),
@@ -75,16 +75,16 @@ fn put_body(o: &mut Out, id: &BodyId) -> Result<(), AllocError>
 }
 
 /// The index of a part of a body, and its two numbers.
-fn put_share(o: &mut Out, index: u8, nom: u32, denom: u32) -> Result<(), AllocError>
-    ensures { OnOk result (o.new ≡ o.old ++ index ∷ compact nom ++ compact denom) }
+fn put_share(o: &mut Draft, index: u8, nom: u32, denom: u32) -> Result<(), AllocError>
+    ensures { Appends result o.old o.new (index ∷ compact nom ++ compact denom) ⊤ }
 {
     o.put_u8(index)?;
     o.put_compact(nom as u128)?;
     o.put_compact(denom as u128)
 }
 
-fn put_part(o: &mut Out, share: &BodyPart) -> Result<(), AllocError>
-    ensures { OnOk result (Appends o.old o.new (part share.now) (FitsPart share.now)) }
+fn put_part(o: &mut Draft, share: &BodyPart) -> Result<(), AllocError>
+    ensures { Puts part FitsPart share.now result o.old o.new }
 {
     match share {
         BodyPart::Voice => o.put_u8(0),
@@ -99,8 +99,8 @@ fn put_part(o: &mut Out, share: &BodyPart) -> Result<(), AllocError>
 }
 
 #[tactic(auto, unfolding(crate::specs::Spelling::junction))]
-pub(crate) fn put_junction(o: &mut Out, step: &Junction) -> Result<(), AllocError>
-    ensures { OnOk result (Appends o.old o.new (junction step.now) (FitsJunction step.now)) }
+pub fn put_junction(o: &mut Draft, step: &Junction) -> Result<(), AllocError>
+    ensures { Puts junction FitsJunction step.now result o.old o.new }
 {
     match step {
         Junction::Parachain(id) => {
@@ -148,8 +148,8 @@ pub(crate) fn put_junction(o: &mut Out, step: &Junction) -> Result<(), AllocErro
     }
 }
 
-fn put_junctions(o: &mut Out, interior: &Junctions) -> Result<(), AllocError>
-    ensures { OnOk result (Appends o.old o.new (junctions interior.now) (FitsJunctions interior.now)) }
+pub fn put_junctions(o: &mut Draft, interior: &Junctions) -> Result<(), AllocError>
+    ensures { Puts junctions FitsJunctions interior.now result o.old o.new }
 {
     let items = interior.items();
     o.put_u8(items.len() as u8)?;
@@ -159,8 +159,8 @@ fn put_junctions(o: &mut Out, interior: &Junctions) -> Result<(), AllocError>
     Ok(())
 }
 
-fn put_location(o: &mut Out, place: &Location) -> Result<(), AllocError>
-    ensures { OnOk result (Appends o.old o.new (location place.now) (FitsLocation place.now)) }
+pub fn put_location(o: &mut Draft, place: &Location) -> Result<(), AllocError>
+    ensures { Puts location FitsLocation place.now result o.old o.new }
 {
     o.put_u8(place.parents)?;
     put_junctions(o, &place.interior)
@@ -168,40 +168,36 @@ fn put_location(o: &mut Out, place: &Location) -> Result<(), AllocError>
 
 /// Appends the one spelling of the network. Where memory is refused, `o` is as before.
 pub fn write_network_id(o: &mut Out, v: &NetworkId) -> Result<(), AllocError>
-    ensures ok { OnOk result (Appends o.old o.new (network v.now) (FitsNetwork v.now)) }
-    ensures err { OnErr result (o.new ≡ o.old) }
+    ensures { IsWritten network FitsNetwork v.now result o.old o.new }
 {
-    let mut text = Out::new(o.allocator());
-    put_network(&mut text, v)?;
-    o.put_bytes(text.bytes())
+    let mut draft = o.draft();
+    let written = put_network(&mut draft, v);
+    o.settle(draft, written)
 }
 
 /// Appends the one spelling of the junction. Where memory is refused, `o` is as before.
 pub fn write_junction(o: &mut Out, v: &Junction) -> Result<(), AllocError>
-    ensures ok { OnOk result (Appends o.old o.new (junction v.now) (FitsJunction v.now)) }
-    ensures err { OnErr result (o.new ≡ o.old) }
+    ensures { IsWritten junction FitsJunction v.now result o.old o.new }
 {
-    let mut text = Out::new(o.allocator());
-    put_junction(&mut text, v)?;
-    o.put_bytes(text.bytes())
+    let mut draft = o.draft();
+    let written = put_junction(&mut draft, v);
+    o.settle(draft, written)
 }
 
 /// Appends the one spelling of the junctions, their number first. Where memory is refused, `o` is as before.
 pub fn write_junctions(o: &mut Out, v: &Junctions) -> Result<(), AllocError>
-    ensures ok { OnOk result (Appends o.old o.new (junctions v.now) (FitsJunctions v.now)) }
-    ensures err { OnErr result (o.new ≡ o.old) }
+    ensures { IsWritten junctions FitsJunctions v.now result o.old o.new }
 {
-    let mut text = Out::new(o.allocator());
-    put_junctions(&mut text, v)?;
-    o.put_bytes(text.bytes())
+    let mut draft = o.draft();
+    let written = put_junctions(&mut draft, v);
+    o.settle(draft, written)
 }
 
 /// Appends the one spelling of the location. Where memory is refused, `o` is as before.
 pub fn write_location(o: &mut Out, v: &Location) -> Result<(), AllocError>
-    ensures ok { OnOk result (Appends o.old o.new (location v.now) (FitsLocation v.now)) }
-    ensures err { OnErr result (o.new ≡ o.old) }
+    ensures { IsWritten location FitsLocation v.now result o.old o.new }
 {
-    let mut text = Out::new(o.allocator());
-    put_location(&mut text, v)?;
-    o.put_bytes(text.bytes())
+    let mut draft = o.draft();
+    let written = put_location(&mut draft, v);
+    o.settle(draft, written)
 }

@@ -2,10 +2,10 @@
 use Rattle.std.proofs.Common.{◌≡◌, refl, ℕ, ◌+◌, ◌<◌, ◌≤◌, min, List, [], ◌∷◌, length, get_or, drop, length-drop, Bool, true, false, ◌⊎◌, inl, inr, arith}
 use Rattle.std.proofs.lemmas.Bool.{cases_lt}
 use Rattle.std.proofs.lemmas.List.Sums.{common_prefix_len-drop_yes, common_prefix_len-drop_no}
-use Rattle.std.specs.List.{common_prefix_len}
 use Rattle.locations.specs.declared.grammar.Junction.{Junction}
 use Rattle.locations.specs.Chains.{same_junction}
 use Rattle.locations.specs.OrderLaws.{junction_decides}
+use Rattle.locations.specs.Laws.{together}
 
 -- equal junctions pass the test, and others fail it
 pub alike : (x y : Junction) → x ≡ y → same_junction x y ≡ true
@@ -17,9 +17,6 @@ unlike_by false _ = refl
 
 pub unlike : (x y : Junction) → (x ≡ y → ⊥) → same_junction x y ≡ false
 unlike x y differ = unlike_by (same_junction x y) (λ t. differ ((junction_decides x y).0 t))
-
-abbrev pub together : List Junction → List Junction → ℕ
-together = common_prefix_len same_junction
 
 -- one place more, where the junctions are equal
 pub goes_on : (xs ys : List Junction) (k : ℕ) (d : Junction) → k < min (length xs) (length ys) → get_or xs k d ≡ get_or ys k d

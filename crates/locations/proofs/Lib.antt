@@ -2,5 +2,3 @@ pub mod DerivedOrders
 pub mod CommonPrefix
 pub mod Inversion
 pub mod ThreeSteps
-pub mod Gets
-pub mod PathLaws

@@ -1,35 +1,17 @@
 -- Inversion, prefix and simplification together are the closed form of reanchoring.
-use Rattle.std.proofs.Common.{◌≡◌, refl, sym, ap, ◌∙◌, ℕ, ◌-◌, ◌<◌, ◌≤◌, Bool, true, false, cond, List, ◌++◌, length, take, drop, replicate, Ok, Err, arith, inl, inr, length-append, length-drop}
-use Rattle.std.proofs.lemmas.List.{length-replicate}
-use Rattle.std.proofs.lemmas.Bool.{cond-true, cond-false, lt-ltb, le-ltb, cases_lt}
+use Rattle.std.proofs.Common.{◌≡◌, refl, sym, ap, ◌∙◌, ℕ, ◌-◌, ◌<◌, ◌≤◌, Bool, true, false, cond, List, ◌++◌, length, take, drop, Ok, Err, arith, inl, inr}
+use Rattle.std.proofs.lemmas.Bool.{cases_lt}
 use Rattle.std.specs.declared.result.Result.{Result}
 use Rattle.std.specs.Bool.{nat_lt}
 use Rattle.std.specs.List.{common_prefix_len}
 use Rattle.locations.specs.declared.grammar.Junction.{Junction}
-use Rattle.locations.specs.declared.grammar.Junction.TheVariants.{OnlyChild}
 use Rattle.locations.specs.declared.relative.Location.{Location}
 use Rattle.locations.specs.declared.faults.LocationFault.{LocationFault}
 use Rattle.locations.specs.declared.faults.LocationFault.TheVariants.{Full, TooHigh}
 use Rattle.locations.specs.Chains.{last, same_junction}
 use Rattle.locations.specs.Steps.{last_known, inverted, shortened, simplified, cancelled, prepended_parents, prepended_interior, prepended}
 use Rattle.locations.specs.Reanchoring.{raised_parents, way_down, reanchored}
-
--- a choice by an order of numbers, where the order is known
-pub below : {X : Type 0} (a b : ℕ) (x y : X) → a < b → cond (nat_lt a b) x y ≡ x
-below a b x y h = cond-true (nat_lt a b) x y (lt-ltb a b h)
-
-pub not_below : {X : Type 0} (a b : ℕ) (x y : X) → b ≤ a → cond (nat_lt a b) x y ≡ y
-not_below a b x y h = cond-false (nat_lt a b) x y (le-ltb a b h)
-
--- as many as are asked for
-pub length-last_known : (n : ℕ) (context : List Junction) → length (last_known n context) ≡ n
-length-last_known n context =
-    omega (
-      arith,
-      length-append (replicate (n - length context) OnlyChild) (last n context),
-      length-replicate (n - length context) OnlyChild,
-      length-drop (length context - n) context,
-    )
+use Rattle.locations.specs.Laws.{below, not_below, length-last_known, place}
 
 -- the last step on what the second one answered
 abbrev pub then_simplified : List Junction → Result Location LocationFault → Result Location LocationFault
@@ -41,10 +23,7 @@ then_simplified_cond : (context : List Junction) (b : Bool) (x y : Result Locati
 then_simplified_cond context true x y = refl
 then_simplified_cond context false x y = refl
 
--- a location from its parts, and one behind both limits
-abbrev pub place : ℕ → List Junction → Location
-place parents interior = record { parents = parents; interior = interior }
-
+-- a location behind both limits
 abbrev pub limited : ℕ → List Junction → Result Location LocationFault
 limited parents interior =
     cond (nat_lt 8 (length interior)) (Err Full) (cond (nat_lt 255 parents) (Err TooHigh) (Ok (place parents interior)))

@@ -1,8 +1,8 @@
 -- A chain's context is the list of junctions from the root of all consensus systems to the chain.
 -- The path of a location at a chain is the same list for the place that the location names.
 -- Source: the XCM format's locations ("parents" and "interior"), and this project's own word "path".
-use Rattle.std.specs.Prelude.{◌≡◌, ◌≢◌, ℕ, ◌-◌, ◌<◌, ◌≤◌, Bool, List, ◌++◌, length, take, drop, Some, slice_get}
-use Rattle.std.specs.List.{All}
+use Rattle.std.specs.Prelude.{◌≡◌, ◌≢◌, ℕ, ◌-◌, ◌<◌, ◌≤◌, nat_lt, nat_le, Bool, false, ◌&&◌, not, List, ◌++◌, length, take, drop, Option, Some, None, slice_get}
+use Rattle.std.specs.List.{All, list_all}
 use Rattle.std.specs.Ordering.{eq_by_cmp}
 use Rattle.locations.specs.declared.grammar.Junction.{Junction}
 use Rattle.locations.specs.declared.grammar.Junction.TheVariants.{OnlyChild}
@@ -45,3 +45,21 @@ pub record IsNormal (context : List Junction) (l : Location) : Type 0 where
   pub inside : HasPath context l
   pub named : All (λ j. j ≢ OnlyChild) l.interior
   pub turned : TurnsAway context l
+
+-- the same as a test that computes
+abbrev pub same_first : Option Junction → Option Junction → Bool
+same_first (Some a) (Some b) = same_junction a b
+same_first (Some a) None = false
+same_first None b = false
+
+abbrev pub turns_back : List Junction → Location → Bool
+turns_back context l = nat_lt 0 l.parents && same_first (slice_get l.interior 0) (slice_get context (length context - l.parents))
+
+abbrev pub is_normal : List Junction → Location → Bool
+is_normal context l = nat_le l.parents (length context) && (list_all (λ j. not (same_junction j OnlyChild)) l.interior && not (turns_back context l))
+
+-- at most one level up and one junction down, as a chain of a network lies from another
+pub record IsNear (context : List Junction) (l : Location) : Type 0 where
+  pub placed : HasPath context l
+  pub few_parents : l.parents ≤ 1
+  pub few_junctions : length l.interior ≤ 1

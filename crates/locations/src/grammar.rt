@@ -7,7 +7,9 @@ pub enum NetworkId {
     ByGenesis([u8; 32]),
     /// The network that left another one at this block.
     ByFork {
+        /// The number of the first block of its own.
         block_number: u64,
+        /// The hash of that block.
         block_hash: [u8; 32],
     },
     /// The Polkadot main network.
@@ -22,6 +24,7 @@ pub enum NetworkId {
     Wococo,
     /// The Ethereum network of this chain id.
     Ethereum {
+        /// The chain id, as EIP-155 defines it.
         chain_id: u64,
     },
     /// The Bitcoin network of Bitcoin Core.
@@ -61,13 +64,31 @@ pub enum BodyPart {
     /// The body's own decision.
     Voice,
     /// This many members.
-    Members { count: u32 },
+    Members {
+        /// How many members.
+        count: u32,
+    },
     /// Just this part of it.
-    Fraction { nom: u32, denom: u32 },
+    Fraction {
+        /// The part's numerator.
+        nom: u32,
+        /// The part's denominator.
+        denom: u32,
+    },
     /// At least this part of it.
-    AtLeastProportion { nom: u32, denom: u32 },
+    AtLeastProportion {
+        /// The part's numerator.
+        nom: u32,
+        /// The part's denominator.
+        denom: u32,
+    },
     /// More than this part of it.
-    MoreThanProportion { nom: u32, denom: u32 },
+    MoreThanProportion {
+        /// The part's numerator.
+        nom: u32,
+        /// The part's denominator.
+        denom: u32,
+    },
 }
 
 /// One step of a location, from a chain or a place on it to a place inside.
@@ -77,17 +98,23 @@ pub enum Junction {
     Parachain(u32),
     /// An account of 32 bytes.
     AccountId32 {
+        /// The network of the account, if it is named.
         network: Option<NetworkId>,
+        /// The account's 32 bytes.
         id: [u8; 32],
     },
     /// An account by its number.
     AccountIndex64 {
+        /// The network of the account, if it is named.
         network: Option<NetworkId>,
+        /// The account's number.
         index: u64,
     },
     /// An account of 20 bytes.
     AccountKey20 {
+        /// The network of the account, if it is named.
         network: Option<NetworkId>,
+        /// The account's 20 bytes.
         key: [u8; 20],
     },
     /// A pallet of the chain, by its place in the runtime.
@@ -96,7 +123,9 @@ pub enum Junction {
     GeneralIndex(u128),
     /// A key of which the first `length` bytes count.
     GeneralKey {
+        /// How many bytes of the key count. Any byte is kept as it is.
         length: u8,
+        /// The key's bytes, those that count first.
         key: [u8; 32],
     },
     /// The one child that a place is taken to have where its name isn't known.
@@ -104,7 +133,9 @@ pub enum Junction {
     OnlyChild,
     /// A part of a body.
     Plurality {
+        /// Which body.
         id: BodyId,
+        /// How much of it.
         part: BodyPart,
     },
     /// A network, seen from the root of all.

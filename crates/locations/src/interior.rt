@@ -1,8 +1,12 @@
 //! The list of junctions of a location.
-ghost use Rattle.std.specs.Prelude.{◌≡◌, [], ◌∷◌, ◌++◌, ◌+◌, length, ◌<◌, ◌≤◌, ◌↔◌, IsTrue, IsOk, IfOk, OnOk, OnErr};
+ghost use Rattle.std.specs.Prelude.{◌≡◌, [], ◌∷◌, ◌++◌, ◌+◌, length, ◌<◌, ◌≤◌, ◌↔◌, IsTrue, IsOk, IfOk, OnOk, OnErr, refl};
 ghost use Rattle.std.specs.List.{common_prefix_len};
 ghost use Rattle.locations.specs.Chains;
 ghost use Rattle.locations.specs.Chains.{same_junction};
+ghost use Rattle.std.specs.Cmp.{partial_equiv_from_equiv, eq_by_cmp_equiv, po};
+ghost use Rattle.std.specs.Ordering.{eq_by_cmp, as_partial_cmp};
+ghost use Rattle.locations.specs.Order.{junctions_cmp};
+ghost use Rattle.locations.specs.OrderLaws.{junctions_total};
 
 use crate::{Full, Junction};
 use arrayvec::ArrayVec;
@@ -129,11 +133,6 @@ pub(crate) fn common_length(ours: &[Junction], theirs: &[Junction]) -> usize
 }
 
 impl PartialEq for Junctions {
-    ghost use Rattle.std.specs.Cmp.{partial_equiv_from_equiv, eq_by_cmp_equiv};
-    ghost use Rattle.std.specs.Ordering.{eq_by_cmp};
-    ghost use Rattle.locations.specs.Order.{junctions_cmp};
-    ghost use Rattle.locations.specs.OrderLaws.{junctions_total};
-
     ghost eq = { eq_by_cmp junctions_cmp };
 
     ghost laws = { partial_equiv_from_equiv (eq_by_cmp_equiv junctions_total) };
@@ -144,19 +143,10 @@ impl PartialEq for Junctions {
 }
 
 impl Eq for Junctions {
-    ghost use Rattle.std.specs.Cmp.{eq_by_cmp_equiv};
-    ghost use Rattle.locations.specs.OrderLaws.{junctions_total};
-
     ghost laws = { eq_by_cmp_equiv junctions_total };
 }
 
 impl PartialOrd for Junctions {
-    ghost use Rattle.std.specs.Prelude.{refl};
-    ghost use Rattle.std.specs.Cmp.{po};
-    ghost use Rattle.std.specs.Ordering.{as_partial_cmp};
-    ghost use Rattle.locations.specs.Order.{junctions_cmp};
-    ghost use Rattle.locations.specs.OrderLaws.{junctions_total};
-
     ghost partial_cmp = { as_partial_cmp junctions_cmp };
 
     ghost laws = { po junctions_total (λ _ _. refl) };
@@ -168,10 +158,6 @@ impl PartialOrd for Junctions {
 
 /// By the number of junctions, then junction by junction.
 impl Ord for Junctions {
-    ghost use Rattle.std.specs.Prelude.{refl};
-    ghost use Rattle.locations.specs.Order.{junctions_cmp};
-    ghost use Rattle.locations.specs.OrderLaws.{junctions_total};
-
     ghost cmp = { junctions_cmp };
 
     ghost total = { junctions_total };

@@ -5,16 +5,13 @@ mod chain_path;
 mod faults;
 mod grammar;
 mod interior;
-mod law;
+mod laws;
 mod reanchor;
 mod relative;
 
 pub use faults::{Full, LocationFault, PathFault};
 pub use grammar::{BodyId, BodyPart, Junction, NetworkId};
 pub use interior::{Junctions, MAX_JUNCTIONS};
-pub use law::{law_of_derived_order, law_of_order, law_of_paths};
+pub use laws::{law_of_derived_order, law_of_order, law_of_paths};
 pub use reanchor::invert_target;
 pub use relative::Location;
-
-#[cfg(test)]
-mod tests;

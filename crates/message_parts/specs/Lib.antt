@@ -1,3 +1,2 @@
-pub mod Spelling
 pub mod Texts
-pub mod Named
+pub mod Weights

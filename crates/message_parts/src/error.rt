@@ -1,3 +1,5 @@
+//! Why instructions fail.
+
 ghost use Rattle.std.specs.Prelude.{Some};
 ghost use Rattle.message_parts.specs.Texts.{error_text};
 

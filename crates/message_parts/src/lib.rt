@@ -7,11 +7,8 @@ mod origin;
 mod pallet;
 mod query;
 mod status;
-#[cfg(test)]
-mod tests;
 mod weight;
 
-pub use asset_wire::Version;
 pub use bounded::{BoundedVec, LongBytes};
 pub use error::XcmError;
 pub use origin::OriginKind;

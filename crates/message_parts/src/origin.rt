@@ -1,3 +1,5 @@
+//! With which right calls are dispatched.
+
 /// With which right a call is dispatched (XCM format: `OriginKind`).
 #[derive(Clone, Copy, Debug, PartialEq, Eq)]
 pub enum OriginKind {

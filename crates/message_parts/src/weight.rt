@@ -1,5 +1,8 @@
-ghost use Rattle.std.specs.Prelude.{Some};
+//! Weights, and limits of weights.
+
+ghost use Rattle.std.specs.Prelude.{◌≡◌, Some, IsTrue, ◌↔◌};
 ghost use Rattle.message_parts.specs.Texts.{weight_text};
+ghost use Rattle.message_parts.specs.Weights.{is_within, IsWithin};
 
 use std::fmt;
 
@@ -11,6 +14,16 @@ pub struct Weight {
     pub ref_time: u64,
     /// Size of the storage proof, in bytes.
     pub proof_size: u64,
+}
+
+impl Weight {
+    /// Whether no dimension is more than that of `most`.
+    pub fn is_within(self, most: Weight) -> bool
+        ensures exact { result ≡ is_within self most }
+        ensures words { IsTrue result ↔ IsWithin self most }
+    {
+        self.ref_time <= most.ref_time && self.proof_size <= most.proof_size
+    }
 }
 
 impl fmt::Display for Weight {

@@ -1,14 +1,13 @@
-//! The readers behind the public ones. Where they leave the cursor after a refusal isn't said.
+//! The readers behind the public ones, for the readers of instructions too. Where they leave the cursor after a refusal isn't said.
 
 ghost use Rattle.std.specs.Prelude.{◌≡◌, vec_len, IfOk};
 ghost use Rattle.scale_codec.specs.Reading.{optional_at, repeated};
-ghost use Rattle.scale_codec.specs.Answers.{Got};
+ghost use Rattle.scale_codec.specs.Answers.{Got, GotOrFails};
 ghost use Rattle.location_wire.specs.Reading.{location_at};
-ghost use Rattle.asset_wire.specs.Answers.{GotOrFails};
 ghost use Rattle.part_wire.specs.Reading.{weight_at, weight_limit_at, origin_kind_at, error_at, failure_at, bytes_at, maybe_error_at, pallet_info_at, pallet_infos_at, query_info_at, response_at};
 
-use asset_wire::{Version, WireFault, read_assets};
-use location_wire::read_location;
+use asset_wire::{Version, WireFault, take_assets};
+use location_wire::{fill_location, take_location};
 use locations::Location;
 use message_parts::{
     BoundedVec, MaybeError, OriginKind, PalletInfo, PalletInfos, QueryInfo, Response, Weight,
@@ -17,8 +16,9 @@ use message_parts::{
 use scale_codec::{Cursor, NoSpelling};
 use std::alloc::Global;
 
+/// As `read_weight`, with nothing said of the cursor after a refusal.
 #[tactic(auto, unfolding(crate::specs::Reading::weight_at))]
-pub fn weight_of(c: &mut Cursor<'_>) -> Result<Weight, NoSpelling>
+pub fn take_weight(c: &mut Cursor<'_>) -> Result<Weight, NoSpelling>
     ensures { Got result (weight_at c.old) c.new }
 {
     let ref_time = c.compact_u64()?;
@@ -29,19 +29,21 @@ pub fn weight_of(c: &mut Cursor<'_>) -> Result<Weight, NoSpelling>
     })
 }
 
+/// As `read_weight_limit`, with nothing said of the cursor after a refusal.
 #[tactic(auto, unfolding(crate::specs::Reading::weight_limit_at))]
-pub fn weight_limit_of(c: &mut Cursor<'_>) -> Result<WeightLimit, NoSpelling>
+pub fn take_weight_limit(c: &mut Cursor<'_>) -> Result<WeightLimit, NoSpelling>
     ensures { Got result (weight_limit_at c.old) c.new }
 {
     match c.u8()? {
         0 => Ok(WeightLimit::Unlimited),
-        1 => Ok(WeightLimit::Limited(weight_of(c)?)),
+        1 => Ok(WeightLimit::Limited(take_weight(c)?)),
         _ => Err(NoSpelling),
     }
 }
 
+/// As `read_origin_kind`, with nothing said of the cursor after a refusal.
 #[tactic(auto, unfolding(crate::specs::Reading::origin_kind_at))]
-pub fn origin_kind_of(c: &mut Cursor<'_>) -> Result<OriginKind, NoSpelling>
+pub fn take_origin_kind(c: &mut Cursor<'_>) -> Result<OriginKind, NoSpelling>
     ensures { Got result (origin_kind_at c.old) c.new }
 {
     match c.u8()? {
@@ -53,8 +55,9 @@ pub fn origin_kind_of(c: &mut Cursor<'_>) -> Result<OriginKind, NoSpelling>
     }
 }
 
+/// As `read_error`, with nothing said of the cursor after a refusal.
 #[tactic(auto, unfolding(crate::specs::Reading::error_at))]
-pub fn error_of(c: &mut Cursor<'_>) -> Result<XcmError, NoSpelling>
+pub fn take_error(c: &mut Cursor<'_>) -> Result<XcmError, NoSpelling>
     ensures { Got result (error_at c.old) c.new }
 {
     match c.u8()? {
@@ -97,38 +100,41 @@ pub fn error_of(c: &mut Cursor<'_>) -> Result<XcmError, NoSpelling>
     }
 }
 
+/// As `read_failure`, with nothing said of the cursor after a refusal.
 #[tactic(auto, unfolding(crate::specs::Reading::failure_at))]
-pub fn failure_of(c: &mut Cursor<'_>) -> Result<(u32, XcmError), NoSpelling>
+pub fn take_failure(c: &mut Cursor<'_>) -> Result<(u32, XcmError), NoSpelling>
     ensures { Got result (failure_at c.old) c.new }
 {
     let index = c.u32_le()?;
-    let error = error_of(c)?;
+    let error = take_error(c)?;
     Ok((index, error))
 }
 
-pub fn optional_failure_of(c: &mut Cursor<'_>) -> Result<Option<(u32, XcmError)>, NoSpelling>
+/// As `read_optional_failure`, with nothing said of the cursor after a refusal.
+pub fn take_optional_failure(c: &mut Cursor<'_>) -> Result<Option<(u32, XcmError)>, NoSpelling>
     ensures { Got result (optional_at failure_at c.old) c.new }
 {
     match c.u8()? {
         0 => Ok(None),
-        1 => Ok(Some(failure_of(c)?)),
+        1 => Ok(Some(take_failure(c)?)),
         _ => Err(NoSpelling),
     }
 }
 
-pub fn optional_location_of(c: &mut Cursor<'_>) -> Result<Option<Location>, NoSpelling>
+/// As `read_optional_location`, with nothing said of the cursor after a refusal.
+pub fn take_optional_location(c: &mut Cursor<'_>) -> Result<Option<Location>, NoSpelling>
     ensures { Got result (optional_at location_at c.old) c.new }
 {
     match c.u8()? {
         0 => Ok(None),
-        1 => Ok(Some(read_location(c)?)),
+        1 => Ok(Some(take_location(c)?)),
         _ => Err(NoSpelling),
     }
 }
 
 /// At most `MOST` bytes behind their number. Memory is taken when they are all there, and not by their number.
 #[tactic(auto, unfolding(crate::specs::Reading::bytes_at))]
-pub fn bytes_of<const MOST: usize>(
+pub fn take_bytes<const MOST: usize>(
     alloc: Global,
     c: &mut Cursor<'_>,
 ) -> Result<BoundedVec<u8, MOST>, WireFault>
@@ -142,25 +148,27 @@ pub fn bytes_of<const MOST: usize>(
     Ok(BoundedVec::from_vec(bytes))
 }
 
+/// As `read_maybe_error`, with nothing said of the cursor after a refusal.
 #[tactic(auto, unfolding(crate::specs::Reading::maybe_error_at))]
-pub fn maybe_error_of(alloc: Global, c: &mut Cursor<'_>) -> Result<MaybeError, WireFault>
+pub fn take_maybe_error(alloc: Global, c: &mut Cursor<'_>) -> Result<MaybeError, WireFault>
     ensures { GotOrFails (λ status. status) result (maybe_error_at c.old) c.new }
 {
     match c.u8()? {
         0 => Ok(MaybeError::Success),
-        1 => Ok(MaybeError::Error(bytes_of(alloc, c)?)),
-        2 => Ok(MaybeError::TruncatedError(bytes_of(alloc, c)?)),
+        1 => Ok(MaybeError::Error(take_bytes(alloc, c)?)),
+        2 => Ok(MaybeError::TruncatedError(take_bytes(alloc, c)?)),
         _ => Err(WireFault::NoSpelling),
     }
 }
 
+/// As `read_pallet_info`, with nothing said of the cursor after a refusal.
 #[tactic(auto, unfolding(crate::specs::Reading::pallet_info_at))]
-pub fn pallet_info_of(alloc: Global, c: &mut Cursor<'_>) -> Result<PalletInfo, WireFault>
+pub fn take_pallet_info(alloc: Global, c: &mut Cursor<'_>) -> Result<PalletInfo, WireFault>
     ensures { GotOrFails (λ pallet. pallet) result (pallet_info_at c.old) c.new }
 {
     let index = c.compact_u32()?;
-    let name = bytes_of(alloc, c)?;
-    let module_name = bytes_of(alloc, c)?;
+    let name = take_bytes(alloc, c)?;
+    let module_name = take_bytes(alloc, c)?;
     let major = c.compact_u32()?;
     let minor = c.compact_u32()?;
     let patch = c.compact_u32()?;
@@ -175,37 +183,38 @@ pub fn pallet_info_of(alloc: Global, c: &mut Cursor<'_>) -> Result<PalletInfo, W
 }
 
 /// So many pallets. Memory is taken as they are read, and not by their number.
-fn several_of(alloc: Global, c: &mut Cursor<'_>, count: u32) -> Result<Vec<PalletInfo>, WireFault>
+fn take_several(alloc: Global, c: &mut Cursor<'_>, count: u32) -> Result<Vec<PalletInfo>, WireFault>
     ensures read { GotOrFails (λ items. items.items) result (repeated pallet_info_at count c.old) c.new }
     ensures count { IfOk result (λ items. vec_len items ≡ count) }
 {
     let mut items = Vec::new(alloc);
     for _ in 0..count {
-        let pallet = pallet_info_of(alloc, c)?;
+        let pallet = take_pallet_info(alloc, c)?;
         items.push(pallet)?;
     }
     Ok(items)
 }
 
 #[tactic(auto, unfolding(crate::specs::Reading::pallet_infos_at))]
-fn pallet_infos_of(alloc: Global, c: &mut Cursor<'_>) -> Result<PalletInfos, WireFault>
+fn take_pallet_infos(alloc: Global, c: &mut Cursor<'_>) -> Result<PalletInfos, WireFault>
     ensures { GotOrFails (λ pallets. pallets) result (pallet_infos_at c.old) c.new }
 {
     let count = c.compact_u32()?;
     if count > 64 {
         return Err(WireFault::NoSpelling);
     }
-    let items = several_of(alloc, c, count)?;
+    let items = take_several(alloc, c, count)?;
     Ok(BoundedVec::from_vec(items))
 }
 
+/// As `read_query_info`, with nothing said of the cursor after a refusal.
 #[tactic(auto, unfolding(crate::specs::Reading::query_info_at))]
-pub fn query_info_of(c: &mut Cursor<'_>) -> Result<QueryInfo, NoSpelling>
+pub fn take_query_info(c: &mut Cursor<'_>) -> Result<QueryInfo, NoSpelling>
     ensures { Got result (query_info_at c.old) c.new }
 {
-    let destination = read_location(c)?;
+    let destination = take_location(c)?;
     let query_id = c.compact_u64()?;
-    let max_weight = weight_of(c)?;
+    let max_weight = take_weight(c)?;
     Ok(QueryInfo {
         destination,
         query_id,
@@ -213,17 +222,18 @@ pub fn query_info_of(c: &mut Cursor<'_>) -> Result<QueryInfo, NoSpelling>
     })
 }
 
+/// As `read_response`, with nothing said of the cursor after a refusal.
 #[tactic(auto, unfolding(crate::specs::Reading::response_at))]
-pub fn response_of(alloc: Global, c: &mut Cursor<'_>, v: Version) -> Result<Response, WireFault>
+pub fn take_response(alloc: Global, c: &mut Cursor<'_>, v: Version) -> Result<Response, WireFault>
     ensures { GotOrFails (λ answer. answer) result (response_at v c.old) c.new }
 {
     match c.u8()? {
         0 => Ok(Response::Null),
-        1 => Ok(Response::Assets(read_assets(alloc, c, v)?)),
-        2 => Ok(Response::ExecutionResult(optional_failure_of(c)?)),
+        1 => Ok(Response::Assets(take_assets(alloc, c, v)?)),
+        2 => Ok(Response::ExecutionResult(take_optional_failure(c)?)),
         3 => Ok(Response::Version(c.u32_le()?)),
-        4 => Ok(Response::PalletsInfo(pallet_infos_of(alloc, c)?)),
-        5 => Ok(Response::DispatchResult(maybe_error_of(alloc, c)?)),
+        4 => Ok(Response::PalletsInfo(take_pallet_infos(alloc, c)?)),
+        5 => Ok(Response::DispatchResult(take_maybe_error(alloc, c)?)),
         _ => Err(WireFault::NoSpelling),
     }
 }

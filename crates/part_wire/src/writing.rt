@@ -1,33 +1,36 @@
-//! Writes of the parts of instructions: each appends the one spelling.
+//! Writes of the parts of instructions: each appends the one spelling. The `put_` calls are for writers of instructions: they append to a
+//! draft, which is dropped where memory is refused.
 
-ghost use Rattle.std.specs.Prelude.{◌≡◌, ◌++◌, OnOk, OnErr, IfSome, ◌≤◌, length};
+ghost use Rattle.std.specs.Prelude.{IfSome, ◌≤◌, length, ⊤};
 ghost use Rattle.std.specs.List.{AllByRecursion};
 ghost use Rattle.scale_codec.specs.Spelling.{optional, counted, compact};
-ghost use Rattle.scale_codec.specs.Answers.{Appends};
+ghost use Rattle.scale_codec.specs.Answers.{Puts, IsWritten};
 ghost use Rattle.location_wire.specs.Spelling.{location, FitsLocation};
-ghost use Rattle.message_parts.specs.Spelling.{weight, FitsWeight, weight_limit, FitsLimit, origin_kind, xcm_error, FitsError, failure, FitsFailure, bytes, FitsBytes, maybe_error, FitsMaybeError, pallet_info, FitsPallet, query_info, FitsInfo, response, FitsResponse};
-ghost use Rattle.message_parts.specs.Named.{IsResponseNamed};
+ghost use Rattle.xcm_format.specs.Parts.{weight, FitsWeight, weight_limit, FitsLimit, origin_kind, xcm_error, FitsError, failure, FitsFailure, bytes, FitsBytes, maybe_error, FitsMaybeError, pallet_info, FitsPallet, query_info, FitsInfo, response, FitsResponse};
+ghost use Rattle.xcm_format.specs.Writable.{IsResponseNamed};
 
-use asset_wire::{Version, write_assets};
-use location_wire::write_location;
+use asset_wire::{Version, put_assets};
+use location_wire::put_location;
 use locations::Location;
 use message_parts::{
     BoundedVec, MaybeError, OriginKind, PalletInfo, PalletInfos, QueryInfo, Response, Weight,
     WeightLimit, XcmError,
 };
-use scale_codec::Out;
+use scale_codec::{Draft, Out};
 use std::alloc::AllocError;
 
-#[tactic(auto, unfolding(message_parts::specs::Spelling::weight))]
-fn put_weight(o: &mut Out, w: &Weight) -> Result<(), AllocError>
-    ensures { OnOk result (Appends o.old o.new (weight w.now) (FitsWeight w.now)) }
+/// As `write_weight`, into a draft.
+#[tactic(auto, unfolding(xcm_format::specs::Parts::weight))]
+pub fn put_weight(o: &mut Draft, w: &Weight) -> Result<(), AllocError>
+    ensures { Puts weight FitsWeight w.now result o.old o.new }
 {
-    o.put_compact(w.ref_time as u128)?;
-    o.put_compact(w.proof_size as u128)
+    o.put_compact(u128::from(w.ref_time))?;
+    o.put_compact(u128::from(w.proof_size))
 }
 
-fn put_weight_limit(o: &mut Out, limit: &WeightLimit) -> Result<(), AllocError>
-    ensures { OnOk result (Appends o.old o.new (weight_limit limit.now) (FitsLimit limit.now)) }
+/// As `write_weight_limit`, into a draft.
+pub fn put_weight_limit(o: &mut Draft, limit: &WeightLimit) -> Result<(), AllocError>
+    ensures { Puts weight_limit FitsLimit limit.now result o.old o.new }
 {
     match limit {
         WeightLimit::Unlimited => o.put_u8(0),
@@ -38,8 +41,21 @@ fn put_weight_limit(o: &mut Out, limit: &WeightLimit) -> Result<(), AllocError>
     }
 }
 
-fn put_error(o: &mut Out, error: &XcmError) -> Result<(), AllocError>
-    ensures { OnOk result (Appends o.old o.new (xcm_error error.now) (FitsError error.now)) }
+/// As `write_origin_kind`, into a draft.
+pub fn put_origin_kind(o: &mut Draft, kind: &OriginKind) -> Result<(), AllocError>
+    ensures { Puts origin_kind (λ _. ⊤) kind.now result o.old o.new }
+{
+    match kind {
+        OriginKind::Native => o.put_u8(0),
+        OriginKind::SovereignAccount => o.put_u8(1),
+        OriginKind::Superuser => o.put_u8(2),
+        OriginKind::Xcm => o.put_u8(3),
+    }
+}
+
+/// As `write_error`, into a draft.
+pub fn put_error(o: &mut Draft, error: &XcmError) -> Result<(), AllocError>
+    ensures { Puts xcm_error FitsError error.now result o.old o.new }
 {
     match error {
         XcmError::Overflow => o.put_u8(0),
@@ -83,16 +99,21 @@ fn put_error(o: &mut Out, error: &XcmError) -> Result<(), AllocError>
     }
 }
 
-fn put_failure(o: &mut Out, failed: &(u32, XcmError)) -> Result<(), AllocError>
-    ensures { OnOk result (Appends o.old o.new (failure failed.now) (FitsFailure failed.now)) }
+/// As `write_failure`, into a draft.
+pub fn put_failure(o: &mut Draft, failed: &(u32, XcmError)) -> Result<(), AllocError>
+    ensures { Puts failure FitsFailure failed.now result o.old o.new }
 {
     let (index, error) = failed;
     o.put_u32(*index)?;
     put_error(o, error)
 }
 
-fn put_optional_failure(o: &mut Out, failed: &Option<(u32, XcmError)>) -> Result<(), AllocError>
-    ensures { OnOk result (Appends o.old o.new (optional failure failed.now) (IfSome failed.now FitsFailure)) }
+/// As `write_optional_failure`, into a draft.
+pub fn put_optional_failure(
+    o: &mut Draft,
+    failed: &Option<(u32, XcmError)>,
+) -> Result<(), AllocError>
+    ensures { Puts (optional failure) (λ f. IfSome f FitsFailure) failed.now result o.old o.new }
 {
     match failed {
         None => o.put_u8(0),
@@ -103,28 +124,34 @@ fn put_optional_failure(o: &mut Out, failed: &Option<(u32, XcmError)>) -> Result
     }
 }
 
-fn put_optional_location(o: &mut Out, place: &Option<Location>) -> Result<(), AllocError>
-    ensures { OnOk result (Appends o.old o.new (optional location place.now) (IfSome place.now FitsLocation)) }
+/// As `write_optional_location`, into a draft.
+pub fn put_optional_location(o: &mut Draft, place: &Option<Location>) -> Result<(), AllocError>
+    ensures { Puts (optional location) (λ p. IfSome p FitsLocation) place.now result o.old o.new }
 {
     match place {
         None => o.put_u8(0),
         Some(place) => {
             o.put_u8(1)?;
-            write_location(o, place)
+            put_location(o, place)
         }
     }
 }
 
-fn put_bytes<const MOST: usize>(o: &mut Out, b: &BoundedVec<u8, MOST>) -> Result<(), AllocError>
-    ensures { OnOk result (Appends o.old o.new (bytes b.now) (FitsBytes MOST b.now)) }
+/// As `write_bytes`, into a draft.
+pub fn put_bytes<const MOST: usize>(
+    o: &mut Draft,
+    b: &BoundedVec<u8, MOST>,
+) -> Result<(), AllocError>
+    ensures { Puts bytes (FitsBytes MOST) b.now result o.old o.new }
 {
     let items = b.items();
     o.put_compact(items.len() as u128)?;
     o.put_bytes(items)
 }
 
-fn put_maybe_error(o: &mut Out, status: &MaybeError) -> Result<(), AllocError>
-    ensures { OnOk result (Appends o.old o.new (maybe_error status.now) (FitsMaybeError status.now)) }
+/// As `write_maybe_error`, into a draft.
+pub fn put_maybe_error(o: &mut Draft, status: &MaybeError) -> Result<(), AllocError>
+    ensures { Puts maybe_error FitsMaybeError status.now result o.old o.new }
 {
     match status {
         MaybeError::Success => o.put_u8(0),
@@ -139,20 +166,22 @@ fn put_maybe_error(o: &mut Out, status: &MaybeError) -> Result<(), AllocError>
     }
 }
 
-#[tactic(auto, unfolding(message_parts::specs::Spelling::pallet_info))]
-fn put_pallet_info(o: &mut Out, pallet: &PalletInfo) -> Result<(), AllocError>
-    ensures { OnOk result (Appends o.old o.new (pallet_info pallet.now) (FitsPallet pallet.now)) }
+/// As `write_pallet_info`, into a draft.
+#[tactic(auto, unfolding(xcm_format::specs::Parts::pallet_info))]
+pub fn put_pallet_info(o: &mut Draft, pallet: &PalletInfo) -> Result<(), AllocError>
+    ensures { Puts pallet_info FitsPallet pallet.now result o.old o.new }
 {
-    o.put_compact(pallet.index as u128)?;
+    o.put_compact(u128::from(pallet.index))?;
     put_bytes(o, &pallet.name)?;
     put_bytes(o, &pallet.module_name)?;
-    o.put_compact(pallet.major as u128)?;
-    o.put_compact(pallet.minor as u128)?;
-    o.put_compact(pallet.patch as u128)
+    o.put_compact(u128::from(pallet.major))?;
+    o.put_compact(u128::from(pallet.minor))?;
+    o.put_compact(u128::from(pallet.patch))
 }
 
-fn put_pallet_infos(o: &mut Out, pallets: &PalletInfos) -> Result<(), AllocError>
-    ensures { OnOk result (Appends o.old o.new (counted compact pallet_info pallets.now) ((length pallets.now ≤ 64) × AllByRecursion FitsPallet pallets.now)) }
+/// How many pallets, and these.
+fn put_pallet_infos(o: &mut Draft, pallets: &PalletInfos) -> Result<(), AllocError>
+    ensures { Puts (counted compact pallet_info) (λ list. (length list ≤ 64) × AllByRecursion FitsPallet list) pallets.now result o.old o.new }
 {
     let items = pallets.items();
     o.put_compact(items.len() as u128)?;
@@ -162,24 +191,26 @@ fn put_pallet_infos(o: &mut Out, pallets: &PalletInfos) -> Result<(), AllocError
     Ok(())
 }
 
-#[tactic(auto, unfolding(message_parts::specs::Spelling::query_info))]
-fn put_query_info(o: &mut Out, info: &QueryInfo) -> Result<(), AllocError>
-    ensures { OnOk result (Appends o.old o.new (query_info info.now) (FitsInfo info.now)) }
+/// As `write_query_info`, into a draft.
+#[tactic(auto, unfolding(xcm_format::specs::Parts::query_info))]
+pub fn put_query_info(o: &mut Draft, info: &QueryInfo) -> Result<(), AllocError>
+    ensures { Puts query_info FitsInfo info.now result o.old o.new }
 {
-    write_location(o, &info.destination)?;
-    o.put_compact(info.query_id as u128)?;
+    put_location(o, &info.destination)?;
+    o.put_compact(u128::from(info.query_id))?;
     put_weight(o, &info.max_weight)
 }
 
-fn put_response(o: &mut Out, answer: &Response, v: Version) -> Result<(), AllocError>
+/// As `write_response`, into a draft.
+pub fn put_response(o: &mut Draft, answer: &Response, v: Version) -> Result<(), AllocError>
     requires { IsResponseNamed v answer.now }
-    ensures { OnOk result (Appends o.old o.new (response v answer.now) (FitsResponse v answer.now)) }
+    ensures { Puts (response v) (FitsResponse v) answer.now result o.old o.new }
 {
     match answer {
         Response::Null => o.put_u8(0),
         Response::Assets(list) => {
             o.put_u8(1)?;
-            write_assets(o, list, v)
+            put_assets(o, list, v)
         }
         Response::ExecutionResult(failed) => {
             o.put_u8(2)?;
@@ -203,56 +234,48 @@ fn put_response(o: &mut Out, answer: &Response, v: Version) -> Result<(), AllocE
 /// Appends the one spelling of the weight: two compact numbers, picoseconds and bytes. Where memory is refused, `o` is as
 /// before.
 pub fn write_weight(o: &mut Out, w: &Weight) -> Result<(), AllocError>
-    ensures ok { OnOk result (Appends o.old o.new (weight w.now) (FitsWeight w.now)) }
-    ensures err { OnErr result (o.new ≡ o.old) }
+    ensures { IsWritten weight FitsWeight w.now result o.old o.new }
 {
-    let mut text = Out::new(o.allocator());
-    put_weight(&mut text, w)?;
-    o.put_bytes(text.bytes())
+    let mut draft = o.draft();
+    let written = put_weight(&mut draft, w);
+    o.settle(draft, written)
 }
 
 /// Appends the one spelling of the limit of a weight. Where memory is refused, `o` is as before.
 pub fn write_weight_limit(o: &mut Out, limit: &WeightLimit) -> Result<(), AllocError>
-    ensures ok { OnOk result (Appends o.old o.new (weight_limit limit.now) (FitsLimit limit.now)) }
-    ensures err { OnErr result (o.new ≡ o.old) }
+    ensures { IsWritten weight_limit FitsLimit limit.now result o.old o.new }
 {
-    let mut text = Out::new(o.allocator());
-    put_weight_limit(&mut text, limit)?;
-    o.put_bytes(text.bytes())
+    let mut draft = o.draft();
+    let written = put_weight_limit(&mut draft, limit);
+    o.settle(draft, written)
 }
 
 /// Appends the one spelling of the kind of origin. Where memory is refused, `o` is as before.
 pub fn write_origin_kind(o: &mut Out, kind: &OriginKind) -> Result<(), AllocError>
-    ensures ok { OnOk result (o.new ≡ o.old ++ origin_kind kind.now) }
-    ensures err { OnErr result (o.new ≡ o.old) }
+    ensures { IsWritten origin_kind (λ _. ⊤) kind.now result o.old o.new }
 {
-    match kind {
-        OriginKind::Native => o.put_u8(0),
-        OriginKind::SovereignAccount => o.put_u8(1),
-        OriginKind::Superuser => o.put_u8(2),
-        OriginKind::Xcm => o.put_u8(3),
-    }
+    let mut draft = o.draft();
+    let written = put_origin_kind(&mut draft, kind);
+    o.settle(draft, written)
 }
 
 /// Appends the one spelling of the error. Where memory is refused, `o` is as before.
 pub fn write_error(o: &mut Out, error: &XcmError) -> Result<(), AllocError>
-    ensures ok { OnOk result (Appends o.old o.new (xcm_error error.now) (FitsError error.now)) }
-    ensures err { OnErr result (o.new ≡ o.old) }
+    ensures { IsWritten xcm_error FitsError error.now result o.old o.new }
 {
-    let mut text = Out::new(o.allocator());
-    put_error(&mut text, error)?;
-    o.put_bytes(text.bytes())
+    let mut draft = o.draft();
+    let written = put_error(&mut draft, error);
+    o.settle(draft, written)
 }
 
 /// Appends the one spelling of where an execution failed, and why: the index of an instruction and its error. Where memory is
 /// refused, `o` is as before.
 pub fn write_failure(o: &mut Out, failed: &(u32, XcmError)) -> Result<(), AllocError>
-    ensures ok { OnOk result (Appends o.old o.new (failure failed.now) (FitsFailure failed.now)) }
-    ensures err { OnErr result (o.new ≡ o.old) }
+    ensures { IsWritten failure FitsFailure failed.now result o.old o.new }
 {
-    let mut text = Out::new(o.allocator());
-    put_failure(&mut text, failed)?;
-    o.put_bytes(text.bytes())
+    let mut draft = o.draft();
+    let written = put_failure(&mut draft, failed);
+    o.settle(draft, written)
 }
 
 /// Appends the one spelling of where an execution failed, and why, or that it didn't. Where memory is refused, `o` is as
@@ -261,22 +284,20 @@ pub fn write_optional_failure(
     o: &mut Out,
     failed: &Option<(u32, XcmError)>,
 ) -> Result<(), AllocError>
-    ensures ok { OnOk result (Appends o.old o.new (optional failure failed.now) (IfSome failed.now FitsFailure)) }
-    ensures err { OnErr result (o.new ≡ o.old) }
+    ensures { IsWritten (optional failure) (λ f. IfSome f FitsFailure) failed.now result o.old o.new }
 {
-    let mut text = Out::new(o.allocator());
-    put_optional_failure(&mut text, failed)?;
-    o.put_bytes(text.bytes())
+    let mut draft = o.draft();
+    let written = put_optional_failure(&mut draft, failed);
+    o.settle(draft, written)
 }
 
 /// Appends the one spelling of a location that may be left out. Where memory is refused, `o` is as before.
 pub fn write_optional_location(o: &mut Out, place: &Option<Location>) -> Result<(), AllocError>
-    ensures ok { OnOk result (Appends o.old o.new (optional location place.now) (IfSome place.now FitsLocation)) }
-    ensures err { OnErr result (o.new ≡ o.old) }
+    ensures { IsWritten (optional location) (λ p. IfSome p FitsLocation) place.now result o.old o.new }
 {
-    let mut text = Out::new(o.allocator());
-    put_optional_location(&mut text, place)?;
-    o.put_bytes(text.bytes())
+    let mut draft = o.draft();
+    let written = put_optional_location(&mut draft, place);
+    o.settle(draft, written)
 }
 
 /// Appends the one spelling of the bytes: their number, and the bytes as they are. Where memory is refused, `o` is as before.
@@ -284,52 +305,47 @@ pub fn write_bytes<const MOST: usize>(
     o: &mut Out,
     b: &BoundedVec<u8, MOST>,
 ) -> Result<(), AllocError>
-    ensures ok { OnOk result (Appends o.old o.new (bytes b.now) (FitsBytes MOST b.now)) }
-    ensures err { OnErr result (o.new ≡ o.old) }
+    ensures { IsWritten bytes (FitsBytes MOST) b.now result o.old o.new }
 {
-    let mut text = Out::new(o.allocator());
-    put_bytes(&mut text, b)?;
-    o.put_bytes(text.bytes())
+    let mut draft = o.draft();
+    let written = put_bytes(&mut draft, b);
+    o.settle(draft, written)
 }
 
 /// Appends the one spelling of how a call ended. Where memory is refused, `o` is as before.
 pub fn write_maybe_error(o: &mut Out, status: &MaybeError) -> Result<(), AllocError>
-    ensures ok { OnOk result (Appends o.old o.new (maybe_error status.now) (FitsMaybeError status.now)) }
-    ensures err { OnErr result (o.new ≡ o.old) }
+    ensures { IsWritten maybe_error FitsMaybeError status.now result o.old o.new }
 {
-    let mut text = Out::new(o.allocator());
-    put_maybe_error(&mut text, status)?;
-    o.put_bytes(text.bytes())
+    let mut draft = o.draft();
+    let written = put_maybe_error(&mut draft, status);
+    o.settle(draft, written)
 }
 
 /// Appends the one spelling of the pallet. Where memory is refused, `o` is as before.
 pub fn write_pallet_info(o: &mut Out, pallet: &PalletInfo) -> Result<(), AllocError>
-    ensures ok { OnOk result (Appends o.old o.new (pallet_info pallet.now) (FitsPallet pallet.now)) }
-    ensures err { OnErr result (o.new ≡ o.old) }
+    ensures { IsWritten pallet_info FitsPallet pallet.now result o.old o.new }
 {
-    let mut text = Out::new(o.allocator());
-    put_pallet_info(&mut text, pallet)?;
-    o.put_bytes(text.bytes())
+    let mut draft = o.draft();
+    let written = put_pallet_info(&mut draft, pallet);
+    o.settle(draft, written)
 }
 
 /// Appends the one spelling of where a response goes and what it answers. Where memory is refused, `o` is as before.
 pub fn write_query_info(o: &mut Out, info: &QueryInfo) -> Result<(), AllocError>
-    ensures ok { OnOk result (Appends o.old o.new (query_info info.now) (FitsInfo info.now)) }
-    ensures err { OnErr result (o.new ≡ o.old) }
+    ensures { IsWritten query_info FitsInfo info.now result o.old o.new }
 {
-    let mut text = Out::new(o.allocator());
-    put_query_info(&mut text, info)?;
-    o.put_bytes(text.bytes())
+    let mut draft = o.draft();
+    let written = put_query_info(&mut draft, info);
+    o.settle(draft, written)
 }
 
 /// Appends the one spelling of the response in the version, which can say the ids of its assets. Where memory is refused, `o`
 /// is as before.
 pub fn write_response(o: &mut Out, answer: &Response, v: Version) -> Result<(), AllocError>
     requires { IsResponseNamed v answer.now }
-    ensures ok { OnOk result (Appends o.old o.new (response v answer.now) (FitsResponse v answer.now)) }
-    ensures err { OnErr result (o.new ≡ o.old) }
+    ensures { IsWritten (response v) (FitsResponse v) answer.now result o.old o.new }
 {
-    let mut text = Out::new(o.allocator());
-    put_response(&mut text, answer, v)?;
-    o.put_bytes(text.bytes())
+    let mut draft = o.draft();
+    let written = put_response(&mut draft, answer, v);
+    o.settle(draft, written)
 }

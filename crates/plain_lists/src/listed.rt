@@ -1,3 +1,5 @@
+//! A `Vec` whose value is the list of its elements. This project's own rule.
+
 ghost use Rattle.std.specs.Prelude.{◌≡◌, ◌<◌, length, slice_set, slice_get, Some};
 
 use std::marker::Model;
@@ -70,46 +72,4 @@ impl<T: Eq> Eq for Listed<T> {
     ghost use Rattle.std.specs.Cmp.Lexicographic.{lists_equiv};
 
     ghost laws = { lists_equiv T.Eq.laws };
-}
-
-#[cfg(test)]
-mod tests {
-    use super::Listed;
-    use std::test::Fail;
-
-    #[test]
-    fn the_elements_come_back_in_order(rt: HostRuntime) -> Result<(), Fail> {
-        let seen = Listed::from_vec(vec![in rt.alloc(); 3u32, 1, 2]?);
-        assert_eq!(rt; seen.items(), [3, 1, 2].as_slice());
-        let back = seen.into_vec();
-        assert_eq!(rt; back.as_slice(), [3, 1, 2].as_slice());
-        Ok(())
-    }
-
-    #[test]
-    fn lists_are_equal_element_by_element(rt: HostRuntime) -> Result<(), Fail> {
-        let mut roomy = Vec::with_capacity(rt.alloc(), 8)?;
-        roomy.push(3u32)?;
-        let one = Listed::from_vec(roomy);
-        let same = Listed::from_vec(vec![in rt.alloc(); 3u32]?);
-        let longer = Listed::from_vec(vec![in rt.alloc(); 3u32, 3]?);
-        assert!(rt; one == same);
-        assert!(rt; one != longer);
-        Ok(())
-    }
-
-    #[test]
-    fn an_element_is_replaced(rt: HostRuntime) -> Result<(), Fail> {
-        let mut seen = Listed::from_vec(vec![in rt.alloc(); 3u32, 1, 2]?);
-        assert_eq!(rt; seen.replace(1, 7), 1);
-        assert_eq!(rt; seen.items(), [3, 7, 2].as_slice());
-        Ok(())
-    }
-
-    #[test]
-    fn no_elements(rt: HostRuntime) -> Result<(), Fail> {
-        let seen: Listed<u8> = Listed::from_vec(Vec::new(rt.alloc()));
-        assert!(rt; seen.items().is_empty());
-        Ok(())
-    }
 }

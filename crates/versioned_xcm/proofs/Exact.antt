@@ -4,17 +4,17 @@ use Rattle.std.specs.Prelude.{nat_lt}
 use Rattle.std.proofs.lemmas.Bool.{eqb-true, eqb-false}
 use Rattle.std.proofs.lemmas.Bool.Decides.{nat_tests}
 use Rattle.std.proofs.lemmas.List.{append-nil}
-use Rattle.scale_codec.proofs.Steps.{same_some}
+use Rattle.scale_codec.specs.Laws.Steps.{same_some}
 use Rattle.asset_wire.specs.declared.version.Version.{Version}
 use Rattle.asset_wire.specs.declared.version.Version.TheVariants.{V3, V4}
 use Rattle.xcm_program.specs.declared.instruction.Instruction.{Instruction}
-use Rattle.xcm_program.specs.Spelling.{program_spelling}
-use Rattle.xcm_program.specs.Messages.{version_byte, message, IsReadable, IsMessageIn, IsMessage}
+use Rattle.xcm_format.specs.Programs.{program_spelling}
+use Rattle.xcm_format.specs.Messages.{version_byte, message, IsReadable, IsMessageIn, IsMessage}
 use Rattle.xcm_program.specs.Conversions.{is_convertible}
 use Rattle.program_wire.specs.Reading.{readable_at}
-use Rattle.program_wire.proofs.ProgramLaws.{program_reads}
-use Rattle.versioned_xcm.specs.declared.fault.MessageFault.{MessageFault}
-use Rattle.versioned_xcm.specs.declared.fault.MessageFault.TheVariants.{TooLong, UnknownVersion, NotConvertible, Memory}
+use Rattle.program_wire.specs.Laws.ProgramLaws.{program_reads}
+use Rattle.versioned_xcm.specs.declared.faults.MessageFault.{MessageFault}
+use Rattle.versioned_xcm.specs.declared.faults.MessageFault.TheVariants.{TooLong, UnknownVersion, NotConvertible, Memory}
 use Rattle.versioned_xcm.specs.Message.{IsDecoded, IsKnown, HasUnknownVersion, IsCause}
 use Rattle.versioned_xcm.specs.Reading.{ended, program_in, versioned_at, message_of}
 

@@ -1,3 +1,3 @@
 pub mod Message
 pub mod Reading
-pub mod Examples
+pub mod Laws

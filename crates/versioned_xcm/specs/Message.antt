@@ -3,13 +3,13 @@
 use Rattle.std.specs.Prelude.{◌≡◌, ◌<◌, ◌≤◌, ◌⊎◌, ℕ, true, false, List, [], ◌∷◌, length, codes, ⊤}
 use Rattle.asset_wire.specs.declared.version.Version.{Version}
 use Rattle.xcm_program.specs.declared.instruction.Instruction.{Instruction, ClearOrigin}
-use Rattle.xcm_program.specs.Measure.{count_of, depth_of}
-use Rattle.xcm_program.specs.Messages.{message, IsMessage}
+use Rattle.xcm_program.specs.Measure.{deep_count, depth}
+use Rattle.xcm_format.specs.Messages.{message, IsMessage}
 use Rattle.xcm_program.specs.Conversions.{is_convertible}
-use Rattle.versioned_xcm.specs.declared.fault.MessageFault.{MessageFault}
-use Rattle.versioned_xcm.specs.declared.fault.MessageFault.TheVariants.{TooLong, UnknownVersion, NotAMessage, NotConvertible, Memory}
-use Rattle.versioned_xcm.specs.declared.fault.EncodeFault.{EncodeFault}
-use Rattle.versioned_xcm.specs.declared.fault.EncodeFault.TheVariants as refusals
+use Rattle.versioned_xcm.specs.declared.faults.MessageFault.{MessageFault}
+use Rattle.versioned_xcm.specs.declared.faults.MessageFault.TheVariants.{TooLong, UnknownVersion, NotAMessage, NotConvertible, Memory}
+use Rattle.versioned_xcm.specs.declared.faults.EncodeFault.{EncodeFault}
+use Rattle.versioned_xcm.specs.declared.faults.EncodeFault.TheVariants as refusals
 
 -- ---- decoding
 
@@ -41,12 +41,12 @@ IsCause bytes NotConvertible = (length bytes ≤ 65536) × IsAbstract bytes
 IsCause bytes Memory = ⊤
 
 -- what a report says of a refused message
-abbrev pub fault_text : MessageFault → List ℕ
-fault_text TooLong = codes "too long"
-fault_text UnknownVersion = codes "unknown version"
-fault_text NotAMessage = codes "not a message"
-fault_text NotConvertible = codes "not convertible"
-fault_text Memory = codes "no memory"
+abbrev pub message_fault_text : MessageFault → List ℕ
+message_fault_text TooLong = codes "too long"
+message_fault_text UnknownVersion = codes "unknown version"
+message_fault_text NotAMessage = codes "not a message"
+message_fault_text NotConvertible = codes "not convertible"
+message_fault_text Memory = codes "out of memory"
 
 -- ---- encoding
 
@@ -56,5 +56,5 @@ forwarded first rest = first ∷ ClearOrigin ∷ rest
 
 -- the program passes a limit
 abbrev pub IsEncodeCause : Version → List Instruction → EncodeFault → Type 0
-IsEncodeCause v program refusals.ExceedsLimits = (100 < count_of program) ⊎ ((8 < depth_of program) ⊎ (65536 < length (message v program)))
+IsEncodeCause v program refusals.ExceedsLimits = (100 < deep_count program) ⊎ ((8 < depth program) ⊎ (65536 < length (message v program)))
 IsEncodeCause v program refusals.Memory = ⊤

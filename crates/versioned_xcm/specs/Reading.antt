@@ -5,8 +5,8 @@ use Rattle.asset_wire.specs.declared.version.Version.TheVariants.{V3, V4}
 use Rattle.xcm_program.specs.declared.instruction.Instruction.{Instruction}
 use Rattle.xcm_program.specs.Conversions.{is_convertible}
 use Rattle.program_wire.specs.Reading.{readable_at}
-use Rattle.versioned_xcm.specs.declared.fault.MessageFault.{MessageFault}
-use Rattle.versioned_xcm.specs.declared.fault.MessageFault.TheVariants.{TooLong, UnknownVersion, NotAMessage, NotConvertible}
+use Rattle.versioned_xcm.specs.declared.faults.MessageFault.{MessageFault}
+use Rattle.versioned_xcm.specs.declared.faults.MessageFault.TheVariants.{TooLong, UnknownVersion, NotAMessage, NotConvertible}
 
 -- nothing stands behind, and both versions can say it
 abbrev pub ended : Option (List Instruction × List ℕ) → Result (List Instruction) MessageFault

@@ -5,16 +5,17 @@ ghost use Rattle.asset_wire.specs.declared.version.Version.{Version};
 ghost use Rattle.versioned_xcm.specs.Reading.{program_in, message_of};
 ghost use Rattle.versioned_xcm.specs.Message.{IsDecoded, IsCause};
 
-use crate::fault::MessageFault;
+use crate::faults::MessageFault;
 use program_wire::{WireFault, read_program};
 use scale_codec::Cursor;
 use std::alloc::Global;
-use xcm_program::{Program, Version, is_convertible};
+use xcm_format::Version;
+use xcm_program::{Program, is_convertible};
 
 /// The most bytes of a message.
 pub const MAX_BYTES: usize = 65_536;
 
-/// The program of a message (SCALE codec, XCM format). A refusal names the first cause that holds; want of memory may come
+/// The program of a message (SCALE codec, XCM format). A refusal names the first cause that holds; out of memory may come
 /// before any of them.
 pub fn decode_message(alloc: Global, bytes: &[u8]) -> Result<Program, MessageFault>
     ensures read { (result ≡ Err MessageFault.Memory) ⊎ (result ≡ message_of bytes.now) }

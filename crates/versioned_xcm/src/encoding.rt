@@ -1,20 +1,21 @@
 //! From programs to bytes.
 
-ghost use Rattle.std.specs.Prelude.{◌≡◌, ◌<◌, ◌≤◌, ◌+◌, ◌^◌, ◌⊎◌, length, OnOk, MatchResult, MatchBool};
-ghost use Rattle.scale_codec.specs.Answers.{Appends};
-ghost use Rattle.xcm_program.specs.Measure.{count_one, count_of, depth_inside, depth_of};
-ghost use Rattle.xcm_program.specs.Spelling.{FitsProgram};
-ghost use Rattle.xcm_program.specs.Messages.{version_byte, message, IsSmall, IsMessageIn};
-ghost use Rattle.xcm_program.specs.Conversions.{IsWritable};
+ghost use Rattle.std.specs.Prelude.{◌≡◌, ◌<◌, ◌≤◌, ◌^◌, ◌⊎◌, length, MatchResult, MatchBool};
+ghost use Rattle.scale_codec.specs.Answers.{Puts};
+ghost use Rattle.xcm_program.specs.Measure.{deep_count, depth};
+ghost use Rattle.xcm_format.specs.Programs.{FitsProgram};
+ghost use Rattle.xcm_format.specs.Messages.{version_byte, message, IsSmall, IsMessageIn};
+ghost use Rattle.xcm_format.specs.Writable.{IsWritable};
 ghost use Rattle.versioned_xcm.specs.Message.{forwarded, IsEncodeCause};
-ghost use Rattle.versioned_xcm.specs.declared.fault.EncodeFault.TheVariants.{ExceedsLimits};
+ghost use Rattle.versioned_xcm.specs.declared.faults.EncodeFault.TheVariants.{ExceedsLimits};
 
 use crate::decoding::MAX_BYTES;
-use crate::fault::EncodeFault;
-use program_wire::{MAX_DEPTH, MAX_INSTRUCTIONS, write_instruction, write_program};
-use scale_codec::Out;
+use crate::faults::EncodeFault;
+use program_wire::{MAX_DEPTH, MAX_INSTRUCTIONS, put_instruction, put_program};
+use scale_codec::{Draft, Out};
 use std::alloc::{AllocError, Global};
-use xcm_program::{Instruction, Program, Version, deep_count, depth, inner};
+use xcm_format::Version;
+use xcm_program::{Instruction, Program, deep_count, deep_count_one, depth, depth_one};
 
 fn version_byte(v: Version) -> u8
     ensures { result ≡ version_byte v }
@@ -26,13 +27,13 @@ fn version_byte(v: Version) -> u8
 }
 
 /// The version, and the program.
-#[tactic(auto, unfolding(xcm_program::specs::Messages::message))]
-fn put_message(o: &mut Out, program: &Program, v: Version) -> Result<(), AllocError>
+#[tactic(auto, unfolding(xcm_format::specs::Messages::message))]
+fn put_message(o: &mut Draft, program: &Program, v: Version) -> Result<(), AllocError>
     requires { IsWritable v program.now }
-    ensures { OnOk result (Appends o.old o.new (message v program.now) (FitsProgram v program.now)) }
+    ensures { Puts (message v) (FitsProgram v) program.now result o.old o.new }
 {
     o.put_u8(version_byte(v))?;
-    write_program(o, program, v)
+    put_program(o, program, v)
 }
 
 /// What was written, where it is no longer than a message may be.
@@ -58,39 +59,16 @@ pub fn encode_message(alloc: Global, program: &Program, v: Version) -> Result<Ve
         return Err(EncodeFault::ExceedsLimits);
     }
     let mut out = Out::new(alloc);
-    match put_message(&mut out, program, v) {
-        Ok(()) => finished(out),
-        Err(_) => Err(EncodeFault::Memory),
-    }
-}
-
-/// The instruction, with those of the program inside.
-fn deep_count_one(instruction: &Instruction) -> u32
-    requires { count_one instruction.now < 2 ^ 32 }
-    ensures { result ≡ count_one instruction.now }
-{
-    match inner(instruction) {
-        Some(nested) => 1 + deep_count(nested),
-        None => 1,
-    }
-}
-
-/// The depth of the program inside, 0 where there is none.
-fn depth_one(instruction: &Instruction) -> u32
-    requires { count_one instruction.now < 2 ^ 32 }
-    ensures exact { result ≡ depth_inside instruction.now }
-    ensures bound { result ≤ count_one instruction.now }
-{
-    match inner(instruction) {
-        Some(nested) => depth(nested),
-        None => 0,
-    }
+    let mut draft = out.draft();
+    let written = put_message(&mut draft, program, v);
+    out.settle(draft, written)?;
+    finished(out)
 }
 
 /// Whether the forwarded program has too many instructions or levels.
 fn forwards_too_much(first: &Instruction, rest: &Program) -> bool
-    requires { count_of (forwarded first.now rest.now) < 2 ^ 32 }
-    ensures { MatchBool result ((100 < count_of (forwarded first.now rest.now)) ⊎ (8 < depth_of (forwarded first.now rest.now))) (IsSmall (forwarded first.now rest.now)) }
+    requires { deep_count (forwarded first.now rest.now) < 2 ^ 32 }
+    ensures { MatchBool result ((100 < deep_count (forwarded first.now rest.now)) ⊎ (8 < depth (forwarded first.now rest.now))) (IsSmall (forwarded first.now rest.now)) }
 {
     if deep_count_one(first) + 1 + deep_count(rest) > MAX_INSTRUCTIONS {
         return true;
@@ -100,21 +78,21 @@ fn forwards_too_much(first: &Instruction, rest: &Program) -> bool
 
 /// The version, how many instructions, and these.
 fn put_forwarded(
-    o: &mut Out,
+    o: &mut Draft,
     first: &Instruction,
     rest: &Program,
     v: Version,
 ) -> Result<(), AllocError>
     requires { IsWritable v (forwarded first.now rest.now) }
-    ensures { OnOk result (Appends o.old o.new (message v (forwarded first.now rest.now)) (FitsProgram v (forwarded first.now rest.now))) }
+    ensures { Puts (message v) (FitsProgram v) (forwarded first.now rest.now) result o.old o.new }
 {
     let items = rest.items();
     o.put_u8(version_byte(v))?;
     o.put_compact(items.len() as u128 + 2)?;
-    write_instruction(o, first, v)?;
-    write_instruction(o, &Instruction::ClearOrigin, v)?;
+    put_instruction(o, first, v)?;
+    put_instruction(o, &Instruction::ClearOrigin, v)?;
     for i in items {
-        write_instruction(o, i, v)?;
+        put_instruction(o, i, v)?;
     }
     Ok(())
 }
@@ -134,8 +112,8 @@ pub fn encode_forwarded(
         return Err(EncodeFault::ExceedsLimits);
     }
     let mut out = Out::new(alloc);
-    match put_forwarded(&mut out, first, rest, v) {
-        Ok(()) => finished(out),
-        Err(_) => Err(EncodeFault::Memory),
-    }
+    let mut draft = out.draft();
+    let written = put_forwarded(&mut draft, first, rest, v);
+    out.settle(draft, written)?;
+    finished(out)
 }

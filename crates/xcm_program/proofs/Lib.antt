@@ -1,5 +1,2 @@
-pub mod Layers
-pub mod EveryLayer
-pub mod Whole
-pub mod Induction
 pub mod Converting
+pub mod Measures

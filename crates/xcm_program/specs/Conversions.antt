@@ -1,6 +1,7 @@
--- Which programs each version can say. Source: the XCM format: an asset id of version 4 is a location, one of version 3 may be 32 bytes.
-use Rattle.std.specs.Prelude.{◌<◌, ◌^◌, Bool, true, false, ◌&&◌, List, [], ◌∷◌, map, Option, Some, None, IsFalse, ⊤}
-use Rattle.std.specs.List.{AllByRecursion, list_all}
+-- Which programs both versions can say, and what no type keeps of one. Source: the XCM format: an asset id of version 4 is a location,
+-- one of version 3 may be 32 bytes; a fungible asset has an amount above 0.
+use Rattle.std.specs.Prelude.{Bool, true, false, ◌&&◌, List, [], ◌∷◌, map, Option, Some, None, IsFalse, ⊤}
+use Rattle.std.specs.List.{list_all}
 use Rattle.asset_lists.specs.declared.units.AssetId.{AssetId}
 use Rattle.asset_lists.specs.declared.units.AssetId.TheVariants.{Concrete, Abstract}
 use Rattle.asset_lists.specs.declared.units.Asset.{Asset}
@@ -9,14 +10,11 @@ use Rattle.asset_lists.specs.declared.filters.Wild.TheVariants.{AllOf, AllOfCoun
 use Rattle.asset_lists.specs.declared.filters.Filter.{Filter}
 use Rattle.asset_lists.specs.declared.filters.Filter.TheVariants as filters
 use Rattle.asset_lists.specs.Units.{is_zero}
-use Rattle.asset_wire.specs.declared.version.Version.{Version}
-use Rattle.asset_wire.specs.Spelling.{IsNamed, AreNamed, IsFilterNamed}
 use Rattle.message_parts.specs.declared.query.Response.{Response}
 use Rattle.message_parts.specs.declared.query.Response.TheVariants as responses
-use Rattle.message_parts.specs.Named.{IsResponseNamed}
 use Rattle.xcm_program.specs.declared.instruction.Instruction.{Instruction, fold-Instruction}
 use Rattle.xcm_program.specs.declared.instruction.Instruction.TheOpen.{Instruction-F}
-use Rattle.xcm_program.specs.Measure.{inner, count_of}
+use Rattle.xcm_program.specs.Measure.{inner}
 use Rattle.xcm_program.specs.Everywhere.{Everywhere}
 
 -- ---- no asset id is bytes
@@ -73,38 +71,14 @@ abbrev pub all_true_inside : Option (List Bool) → Bool
 all_true_inside None = true
 all_true_inside (Some bs) = all_true bs
 
-abbrev pub convertible_one : Instruction → Bool
-convertible_one = fold-Instruction Bool (λ l. names_places l && all_true_inside (inner l))
+abbrev pub is_convertible_one : Instruction → Bool
+is_convertible_one = fold-Instruction Bool (λ l. names_places l && all_true_inside (inner l))
 
 -- no id is bytes, at any depth
 abbrev pub is_convertible : List Instruction → Bool
-is_convertible program = all_true (map convertible_one program)
+is_convertible program = all_true (map is_convertible_one program)
 
--- ---- what no type keeps of a program that has a spelling in a version
-
--- the version can say each id
-abbrev pub IsNamedHead : Version → (X : Type 0) → Instruction-F X → Type 0
-IsNamedHead v X (Instruction-F.WithdrawAsset list) = AreNamed v list
-IsNamedHead v X (Instruction-F.ReserveAssetDeposited list) = AreNamed v list
-IsNamedHead v X (Instruction-F.ReceiveTeleportedAsset list) = AreNamed v list
-IsNamedHead v X (Instruction-F.QueryResponse _ answer _ _) = IsResponseNamed v answer
-IsNamedHead v X (Instruction-F.TransferAsset list _) = AreNamed v list
-IsNamedHead v X (Instruction-F.TransferReserveAsset list _ _) = AreNamed v list
-IsNamedHead v X (Instruction-F.DepositAsset taken _) = IsFilterNamed v taken
-IsNamedHead v X (Instruction-F.DepositReserveAsset taken _ _) = IsFilterNamed v taken
-IsNamedHead v X (Instruction-F.ExchangeAsset taken list _) = IsFilterNamed v taken × AreNamed v list
-IsNamedHead v X (Instruction-F.InitiateReserveWithdraw taken _ _) = IsFilterNamed v taken
-IsNamedHead v X (Instruction-F.InitiateTeleport taken _ _) = IsFilterNamed v taken
-IsNamedHead v X (Instruction-F.ReportHolding _ taken) = IsFilterNamed v taken
-IsNamedHead v X (Instruction-F.BuyExecution fees _) = IsNamed v fees.id
-IsNamedHead v X (Instruction-F.ClaimAsset list _) = AreNamed v list
-IsNamedHead v X (Instruction-F.BurnAsset list) = AreNamed v list
-IsNamedHead v X (Instruction-F.ExpectAsset list) = AreNamed v list
-IsNamedHead v X (Instruction-F.LockAsset goods _) = IsNamed v goods.id
-IsNamedHead v X (Instruction-F.UnlockAsset goods _) = IsNamed v goods.id
-IsNamedHead v X (Instruction-F.NoteUnlockable goods _) = IsNamed v goods.id
-IsNamedHead v X (Instruction-F.RequestUnlock goods _) = IsNamed v goods.id
-IsNamedHead v X _ = ⊤
+-- ---- what no type keeps of a program that can be written
 
 -- no amount is 0
 abbrev pub HasAmount : (X : Type 0) → Instruction-F X → Type 0
@@ -115,15 +89,6 @@ HasAmount X (Instruction-F.NoteUnlockable goods _) = IsFalse (is_zero goods)
 HasAmount X (Instruction-F.RequestUnlock goods _) = IsFalse (is_zero goods)
 HasAmount X _ = ⊤
 
--- the version can say each id, and no amount is 0, at any depth
-abbrev pub IsNamedOne : Version → Instruction → Type 0
-IsNamedOne v = Everywhere (IsNamedHead v)
-
+-- no amount is 0, at any depth
 abbrev pub HasAmounts : Instruction → Type 0
 HasAmounts = Everywhere HasAmount
-
--- what a caller owes who writes a program: the types keep the other bounds
-pub record IsWritable (v : Version) (program : List Instruction) : Type 0 where
-  pub few : count_of program < 2 ^ 32
-  pub named : AllByRecursion (IsNamedOne v) program
-  pub amounts : AllByRecursion HasAmounts program

@@ -1,7 +1,7 @@
 pub mod Measure
 pub mod Everywhere
-pub mod Spelling
-pub mod Messages
 pub mod Conversions
 pub mod Weights
+pub mod Indices
 pub mod Texts
+pub mod Laws

@@ -50,19 +50,19 @@ greatest_inside (Some ns) = 1 + greatest ns
 -- ---- instructions, levels, sent messages
 
 -- an instruction, with those of the program inside
-abbrev pub count_one : Instruction → ℕ
-count_one = fold-Instruction ℕ (λ l. 1 + sum_inside (inner l))
+abbrev pub deep_count_one : Instruction → ℕ
+deep_count_one = fold-Instruction ℕ (λ l. 1 + sum_inside (inner l))
 
 -- the deep count
-abbrev pub count_of : List Instruction → ℕ
-count_of program = total (map count_one program)
+abbrev pub deep_count : List Instruction → ℕ
+deep_count program = total (map deep_count_one program)
 
 -- the depth of the program inside
-abbrev pub depth_inside : Instruction → ℕ
-depth_inside = fold-Instruction ℕ (λ l. greatest_inside (inner l))
+abbrev pub depth_one : Instruction → ℕ
+depth_one = fold-Instruction ℕ (λ l. greatest_inside (inner l))
 
-abbrev pub depth_of : List Instruction → ℕ
-depth_of program = 1 + greatest (map depth_inside program)
+abbrev pub depth : List Instruction → ℕ
+depth program = 1 + greatest (map depth_one program)
 
 -- 1 for the instructions that send a message where they succeed
 abbrev pub sending : {X : Type 0} → Instruction-F X → ℕ
@@ -80,5 +80,5 @@ abbrev pub sends_one : Instruction → ℕ
 sends_one = fold-Instruction ℕ (λ l. sending l + sum_inside (inner l))
 
 -- the deep count of sending instructions
-abbrev pub sends_of : List Instruction → ℕ
-sends_of program = total (map sends_one program)
+abbrev pub sends : List Instruction → ℕ
+sends program = total (map sends_one program)

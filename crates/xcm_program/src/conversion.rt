@@ -1,6 +1,8 @@
+//! Which programs both versions can say.
+
 ghost use Rattle.std.specs.Prelude.{◌≡◌};
 ghost use Rattle.xcm_program.specs.declared.instruction.Instruction.{out-Instruction};
-ghost use Rattle.xcm_program.specs.Conversions.{is_place, are_places, filter_is_places, response_is_places, names_places, convertible_one, is_convertible};
+ghost use Rattle.xcm_program.specs.Conversions.{is_place, are_places, filter_is_places, response_is_places, names_places, is_convertible_one, is_convertible};
 
 use crate::instruction::{Instruction, Program};
 use crate::nested::inner;
@@ -69,8 +71,8 @@ fn names_places(instruction: &Instruction) -> bool
 
 /// Whether no asset id of the instruction is bytes, at any depth.
 #[cycle(convertible)]
-fn converts(instruction: &Instruction) -> bool
-    ensures { result ≡ convertible_one instruction.now }
+fn is_convertible_one(instruction: &Instruction) -> bool
+    ensures { result ≡ is_convertible_one instruction.now }
 {
     if !names_places(instruction) {
         return false;
@@ -87,7 +89,7 @@ pub fn is_convertible(program: &Program) -> bool
     ensures { result ≡ is_convertible program.now }
 {
     for instruction in program.items() {
-        if !converts(instruction) {
+        if !is_convertible_one(instruction) {
             return false;
         }
     }

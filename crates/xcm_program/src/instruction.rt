@@ -1,6 +1,8 @@
+//! Instructions and programs.
+
 ghost use Rattle.std.specs.Prelude.{◌≡◌};
 ghost use Rattle.xcm_program.specs.declared.instruction.Instruction.{out-Instruction};
-ghost use Rattle.xcm_program.specs.Spelling.{index};
+ghost use Rattle.xcm_program.specs.Indices.{index};
 ghost use Rattle.xcm_program.specs.Texts.{instruction_name};
 
 use asset_lists::{Asset, Assets, Filter};
@@ -124,9 +126,9 @@ pub enum Instruction {
         /// Whether as much as can be had is wanted.
         maximal: bool,
     },
-    /// Gives up derivatives of the holding register and tells their reserve.
+    /// Removes derivatives from the holding register, and has their reserve withdraw the assets.
     InitiateReserveWithdraw {
-        /// What is given up.
+        /// What is removed.
         assets: Filter,
         /// The reserve.
         reserve: Location,

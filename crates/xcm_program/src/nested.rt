@@ -1,7 +1,10 @@
+//! The programs inside instructions.
+
 ghost use Rattle.std.specs.Prelude.{◌≡◌};
 ghost use Rattle.std.specs.Option.{option_copied};
 ghost use Rattle.xcm_program.specs.declared.instruction.Instruction.{out-Instruction};
 ghost use Rattle.xcm_program.specs.Measure.{inner_of, with_inner};
+ghost use Rattle.xcm_program.specs.Weights.{kept};
 
 use crate::instruction::{Instruction, Program};
 
@@ -21,46 +24,28 @@ pub fn inner(instruction: &Instruction) -> Option<&Program>
     }
 }
 
-/// The instruction with another program inside, where it has one.
-pub fn with_program(instruction: Instruction, xcm: Program) -> Instruction
-    ensures { out-Instruction result ≡ with_inner (out-Instruction instruction) xcm }
+/// The program inside that may run behind this one on the same chain: the handler or the appendix that the instruction sets.
+pub fn kept(instruction: &Instruction) -> Option<&Program>
+    ensures { option_copied result ≡ kept (out-Instruction instruction.now) }
 {
     match instruction {
-        Instruction::TransferReserveAsset {
-            assets,
-            dest,
-            xcm: _old,
-        } => Instruction::TransferReserveAsset { assets, dest, xcm },
-        Instruction::DepositReserveAsset {
-            assets,
-            dest,
-            xcm: _old,
-        } => Instruction::DepositReserveAsset { assets, dest, xcm },
-        Instruction::InitiateReserveWithdraw {
-            assets,
-            reserve,
-            xcm: _old,
-        } => Instruction::InitiateReserveWithdraw {
-            assets,
-            reserve,
-            xcm,
-        },
-        Instruction::InitiateTeleport {
-            assets,
-            dest,
-            xcm: _old,
-        } => Instruction::InitiateTeleport { assets, dest, xcm },
-        Instruction::SetErrorHandler { xcm: _old } => Instruction::SetErrorHandler { xcm },
-        Instruction::SetAppendix { xcm: _old } => Instruction::SetAppendix { xcm },
-        Instruction::ExportMessage {
-            network,
-            destination,
-            xcm: _old,
-        } => Instruction::ExportMessage {
-            network,
-            destination,
-            xcm,
-        },
-        other => other,
+        Instruction::SetErrorHandler { xcm } | Instruction::SetAppendix { xcm } => Some(xcm),
+        _ => None,
+    }
+}
+
+/// Puts another program inside the instruction where it has one, and drops the one before.
+pub fn set_program(instruction: &mut Instruction, program: Program)
+    ensures { out-Instruction instruction.new ≡ with_inner (out-Instruction instruction.old) program }
+{
+    match instruction {
+        Instruction::TransferReserveAsset { xcm, .. } => *xcm = program,
+        Instruction::DepositReserveAsset { xcm, .. } => *xcm = program,
+        Instruction::InitiateReserveWithdraw { xcm, .. } => *xcm = program,
+        Instruction::InitiateTeleport { xcm, .. } => *xcm = program,
+        Instruction::SetErrorHandler { xcm } => *xcm = program,
+        Instruction::SetAppendix { xcm } => *xcm = program,
+        Instruction::ExportMessage { xcm, .. } => *xcm = program,
+        _ => {}
     }
 }

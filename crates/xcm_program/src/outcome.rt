@@ -1,3 +1,5 @@
+//! How executions end.
+
 ghost use Rattle.std.specs.Prelude.{Some};
 ghost use Rattle.xcm_program.specs.Texts.{outcome_error_text};
 

@@ -1,64 +1,42 @@
 //! Instructions 0 to 7.
 
-ghost use Rattle.std.specs.Prelude.{◌≡◌, ◌<◌};
-ghost use Rattle.asset_wire.specs.Answers.{GotOrFails};
-ghost use Rattle.xcm_program.specs.declared.instruction.Instruction.{out-Instruction};
+ghost use Rattle.std.specs.Prelude.{◌<◌};
 ghost use Rattle.head_wire.specs.Reading.{group0_at};
+ghost use Rattle.head_wire.specs.Answers.{FilledHead};
 
-use crate::reading::inside::nothing_inside;
-use asset_wire::{Version, WireFault, read_assets};
-use location_wire::read_location;
-use part_wire::{read_bytes, read_optional_location, read_origin_kind, read_response, read_weight};
+use crate::reading::channels::fill_hrmp_new_channel_open_request;
+use crate::reading::holding::{
+    fill_receive_teleported_asset, fill_reserve_asset_deposited, fill_withdraw_asset,
+};
+use crate::reading::programs::fill_transact;
+use crate::reading::queries::fill_query_response;
+use crate::reading::transfers::{fill_transfer_asset, fill_transfer_reserve_asset};
+use asset_wire::{Version, WireFault};
 use scale_codec::Cursor;
 use std::alloc::Global;
 use xcm_program::Instruction;
 
-/// The fields behind the index, and an empty program inside.
+/// The fields behind the number, and an empty program inside, into the place for the instruction.
 #[tactic(auto, unfolding(crate::specs::Reading::group0_at))]
-pub fn group0_of(
+pub fn fill_group0(
     alloc: Global,
     c: &mut Cursor<'_>,
     v: Version,
     index: u8,
-) -> Result<Instruction, WireFault>
+    slot: &mut Instruction,
+) -> Result<(), WireFault>
     requires { index < 8 }
-    ensures { GotOrFails (λ i. out-Instruction i) result (group0_at v index c.old) c.new }
+    ensures { FilledHead result (group0_at v index c.old) slot.new c.new }
 {
     match index {
-        0 => Ok(Instruction::WithdrawAsset {
-            assets: read_assets(alloc, c, v)?,
-        }),
-        1 => Ok(Instruction::ReserveAssetDeposited {
-            assets: read_assets(alloc, c, v)?,
-        }),
-        2 => Ok(Instruction::ReceiveTeleportedAsset {
-            assets: read_assets(alloc, c, v)?,
-        }),
-        3 => Ok(Instruction::QueryResponse {
-            query_id: c.compact_u64()?,
-            response: read_response(alloc, c, v)?,
-            max_weight: read_weight(c)?,
-            querier: read_optional_location(c)?,
-        }),
-        4 => Ok(Instruction::TransferAsset {
-            assets: read_assets(alloc, c, v)?,
-            beneficiary: read_location(c)?,
-        }),
-        5 => Ok(Instruction::TransferReserveAsset {
-            assets: read_assets(alloc, c, v)?,
-            dest: read_location(c)?,
-            xcm: nothing_inside(alloc),
-        }),
-        6 => Ok(Instruction::Transact {
-            origin_kind: read_origin_kind(c)?,
-            require_weight_at_most: read_weight(c)?,
-            call: read_bytes(alloc, c)?,
-        }),
-        7 => Ok(Instruction::HrmpNewChannelOpenRequest {
-            sender: c.compact_u32()?,
-            max_message_size: c.compact_u32()?,
-            max_capacity: c.compact_u32()?,
-        }),
+        0 => fill_withdraw_asset(alloc, c, v, slot),
+        1 => fill_reserve_asset_deposited(alloc, c, v, slot),
+        2 => fill_receive_teleported_asset(alloc, c, v, slot),
+        3 => fill_query_response(alloc, c, v, slot),
+        4 => fill_transfer_asset(alloc, c, v, slot),
+        5 => fill_transfer_reserve_asset(alloc, c, v, slot),
+        6 => fill_transact(alloc, c, slot),
+        7 => fill_hrmp_new_channel_open_request(c, slot),
         _ => unreachable!(),
     }
 }

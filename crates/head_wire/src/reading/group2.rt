@@ -1,57 +1,46 @@
 //! Instructions 16 to 23.
 
-ghost use Rattle.std.specs.Prelude.{◌≡◌, ◌≤◌, ◌<◌};
-ghost use Rattle.asset_wire.specs.Answers.{GotOrFails};
-ghost use Rattle.xcm_program.specs.declared.instruction.Instruction.{out-Instruction};
+ghost use Rattle.std.specs.Prelude.{◌≤◌, ◌<◌};
 ghost use Rattle.head_wire.specs.Reading.{group2_at};
+ghost use Rattle.head_wire.specs.Answers.{FilledHead};
 
-use crate::reading::inside::nothing_inside;
-use asset_wire::{Version, WireFault, read_asset, read_filter};
-use location_wire::read_location;
-use part_wire::{read_query_info, read_weight_limit};
+use crate::reading::holding::fill_buy_execution;
+use crate::reading::programs::{fill_set_appendix, fill_set_error_handler};
+use crate::reading::queries::fill_report_holding;
+use crate::reading::transfers::{fill_initiate_reserve_withdraw, fill_initiate_teleport};
+use asset_wire::{Version, WireFault};
 use scale_codec::Cursor;
 use std::alloc::Global;
 use xcm_program::Instruction;
 
-/// The fields behind the index, and an empty program inside.
+/// The fields behind the number, and an empty program inside, into the place for the instruction.
 #[tactic(auto, unfolding(crate::specs::Reading::group2_at))]
-pub fn group2_of(
+pub fn fill_group2(
     alloc: Global,
     c: &mut Cursor<'_>,
     v: Version,
     index: u8,
-) -> Result<Instruction, WireFault>
+    slot: &mut Instruction,
+) -> Result<(), WireFault>
     requires low { 16 ≤ index }
     requires high { index < 24 }
-    ensures { GotOrFails (λ i. out-Instruction i) result (group2_at v index c.old) c.new }
+    ensures { FilledHead result (group2_at v index c.old) slot.new c.new }
 {
     match index {
-        16 => Ok(Instruction::InitiateReserveWithdraw {
-            assets: read_filter(alloc, c, v)?,
-            reserve: read_location(c)?,
-            xcm: nothing_inside(alloc),
-        }),
-        17 => Ok(Instruction::InitiateTeleport {
-            assets: read_filter(alloc, c, v)?,
-            dest: read_location(c)?,
-            xcm: nothing_inside(alloc),
-        }),
-        18 => Ok(Instruction::ReportHolding {
-            info: read_query_info(c)?,
-            assets: read_filter(alloc, c, v)?,
-        }),
-        19 => Ok(Instruction::BuyExecution {
-            fees: read_asset(c, v)?,
-            limit: read_weight_limit(c)?,
-        }),
-        20 => Ok(Instruction::RefundSurplus),
-        21 => Ok(Instruction::SetErrorHandler {
-            xcm: nothing_inside(alloc),
-        }),
-        22 => Ok(Instruction::SetAppendix {
-            xcm: nothing_inside(alloc),
-        }),
-        23 => Ok(Instruction::ClearError),
+        16 => fill_initiate_reserve_withdraw(alloc, c, v, slot),
+        17 => fill_initiate_teleport(alloc, c, v, slot),
+        18 => fill_report_holding(alloc, c, v, slot),
+        19 => fill_buy_execution(c, v, slot),
+        20 => {
+            *slot = Instruction::RefundSurplus;
+            Ok(())
+        }
+        21 => fill_set_error_handler(alloc, c, slot),
+        22 => fill_set_appendix(alloc, c, slot),
+        23 => {
+            *slot = Instruction::ClearError;
+            Ok(())
+        }
         _ => unreachable!(),
     }
 }

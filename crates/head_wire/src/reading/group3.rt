@@ -1,54 +1,44 @@
 //! Instructions 24 to 31.
 
-ghost use Rattle.std.specs.Prelude.{◌≡◌, ◌≤◌, ◌<◌};
-ghost use Rattle.asset_wire.specs.Answers.{GotOrFails};
-ghost use Rattle.xcm_program.specs.declared.instruction.Instruction.{out-Instruction};
+ghost use Rattle.std.specs.Prelude.{◌≤◌, ◌<◌};
 ghost use Rattle.head_wire.specs.Reading.{group3_at};
+ghost use Rattle.head_wire.specs.Answers.{FilledHead};
 
-use asset_wire::{Version, WireFault, read_assets};
-use location_wire::read_location;
-use part_wire::{read_optional_failure, read_optional_location, read_weight};
+use crate::reading::expectations::{fill_expect_asset, fill_expect_error};
+use crate::reading::holding::{fill_burn_asset, fill_claim_asset};
+use crate::reading::origin::fill_expect_origin;
+use crate::reading::programs::fill_trap;
+use crate::reading::queries::fill_subscribe_version;
+use asset_wire::{Version, WireFault};
 use scale_codec::Cursor;
 use std::alloc::Global;
 use xcm_program::Instruction;
 
-/// The fields behind the index, and an empty program inside.
+/// The fields behind the number, and an empty program inside, into the place for the instruction.
 #[tactic(auto, unfolding(crate::specs::Reading::group3_at))]
-pub fn group3_of(
+pub fn fill_group3(
     alloc: Global,
     c: &mut Cursor<'_>,
     v: Version,
     index: u8,
-) -> Result<Instruction, WireFault>
+    slot: &mut Instruction,
+) -> Result<(), WireFault>
     requires low { 24 ≤ index }
     requires high { index < 32 }
-    ensures { GotOrFails (λ i. out-Instruction i) result (group3_at v index c.old) c.new }
+    ensures { FilledHead result (group3_at v index c.old) slot.new c.new }
 {
     match index {
-        24 => Ok(Instruction::ClaimAsset {
-            assets: read_assets(alloc, c, v)?,
-            ticket: read_location(c)?,
-        }),
-        25 => Ok(Instruction::Trap {
-            code: c.compact_u64()?,
-        }),
-        26 => Ok(Instruction::SubscribeVersion {
-            query_id: c.compact_u64()?,
-            max_response_weight: read_weight(c)?,
-        }),
-        27 => Ok(Instruction::UnsubscribeVersion),
-        28 => Ok(Instruction::BurnAsset {
-            assets: read_assets(alloc, c, v)?,
-        }),
-        29 => Ok(Instruction::ExpectAsset {
-            assets: read_assets(alloc, c, v)?,
-        }),
-        30 => Ok(Instruction::ExpectOrigin {
-            origin: read_optional_location(c)?,
-        }),
-        31 => Ok(Instruction::ExpectError {
-            error: read_optional_failure(c)?,
-        }),
+        24 => fill_claim_asset(alloc, c, v, slot),
+        25 => fill_trap(c, slot),
+        26 => fill_subscribe_version(c, slot),
+        27 => {
+            *slot = Instruction::UnsubscribeVersion;
+            Ok(())
+        }
+        28 => fill_burn_asset(alloc, c, v, slot),
+        29 => fill_expect_asset(alloc, c, v, slot),
+        30 => fill_expect_origin(c, slot),
+        31 => fill_expect_error(c, slot),
         _ => unreachable!(),
     }
 }

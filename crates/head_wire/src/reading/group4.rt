@@ -1,61 +1,43 @@
 //! Instructions 32 to 39.
 
-ghost use Rattle.std.specs.Prelude.{◌≡◌, ◌≤◌, ◌<◌};
-ghost use Rattle.asset_wire.specs.Answers.{GotOrFails};
-ghost use Rattle.xcm_program.specs.declared.instruction.Instruction.{out-Instruction};
+ghost use Rattle.std.specs.Prelude.{◌≤◌, ◌<◌};
 ghost use Rattle.head_wire.specs.Reading.{group4_at};
+ghost use Rattle.head_wire.specs.Answers.{FilledHead};
 
-use crate::reading::inside::nothing_inside;
-use asset_wire::{Version, WireFault, read_asset};
-use location_wire::{read_junction, read_junctions, read_location, read_network_id};
-use part_wire::{read_bytes, read_maybe_error, read_query_info};
+use crate::reading::expectations::{fill_expect_pallet, fill_expect_transact_status};
+use crate::reading::locks::fill_lock_asset;
+use crate::reading::origin::{fill_export_message, fill_universal_origin};
+use crate::reading::queries::{fill_query_pallet, fill_report_transact_status};
+use asset_wire::{Version, WireFault};
 use scale_codec::Cursor;
 use std::alloc::Global;
 use xcm_program::Instruction;
 
-/// The fields behind the index, and an empty program inside.
+/// The fields behind the number, and an empty program inside, into the place for the instruction.
 #[tactic(auto, unfolding(crate::specs::Reading::group4_at))]
-pub fn group4_of(
+pub fn fill_group4(
     alloc: Global,
     c: &mut Cursor<'_>,
     v: Version,
     index: u8,
-) -> Result<Instruction, WireFault>
+    slot: &mut Instruction,
+) -> Result<(), WireFault>
     requires low { 32 ≤ index }
     requires high { index < 40 }
-    ensures { GotOrFails (λ i. out-Instruction i) result (group4_at v index c.old) c.new }
+    ensures { FilledHead result (group4_at v index c.old) slot.new c.new }
 {
     match index {
-        32 => Ok(Instruction::ExpectTransactStatus {
-            status: read_maybe_error(alloc, c)?,
-        }),
-        33 => Ok(Instruction::QueryPallet {
-            module_name: read_bytes(alloc, c)?,
-            info: read_query_info(c)?,
-        }),
-        34 => Ok(Instruction::ExpectPallet {
-            index: c.compact_u32()?,
-            name: read_bytes(alloc, c)?,
-            module_name: read_bytes(alloc, c)?,
-            crate_major: c.compact_u32()?,
-            min_crate_minor: c.compact_u32()?,
-        }),
-        35 => Ok(Instruction::ReportTransactStatus {
-            info: read_query_info(c)?,
-        }),
-        36 => Ok(Instruction::ClearTransactStatus),
-        37 => Ok(Instruction::UniversalOrigin {
-            junction: read_junction(c)?,
-        }),
-        38 => Ok(Instruction::ExportMessage {
-            network: read_network_id(c)?,
-            destination: read_junctions(c)?,
-            xcm: nothing_inside(alloc),
-        }),
-        39 => Ok(Instruction::LockAsset {
-            asset: read_asset(c, v)?,
-            unlocker: read_location(c)?,
-        }),
+        32 => fill_expect_transact_status(alloc, c, slot),
+        33 => fill_query_pallet(alloc, c, slot),
+        34 => fill_expect_pallet(alloc, c, slot),
+        35 => fill_report_transact_status(c, slot),
+        36 => {
+            *slot = Instruction::ClearTransactStatus;
+            Ok(())
+        }
+        37 => fill_universal_origin(c, slot),
+        38 => fill_export_message(alloc, c, slot),
+        39 => fill_lock_asset(c, v, slot),
         _ => unreachable!(),
     }
 }

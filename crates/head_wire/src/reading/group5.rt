@@ -1,57 +1,42 @@
 //! Instructions 40 to 47.
 
-ghost use Rattle.std.specs.Prelude.{◌≡◌, ◌≤◌, ◌<◌};
-ghost use Rattle.asset_wire.specs.Answers.{GotOrFails};
-ghost use Rattle.xcm_program.specs.declared.instruction.Instruction.{out-Instruction};
+ghost use Rattle.std.specs.Prelude.{◌≤◌, ◌<◌};
 ghost use Rattle.head_wire.specs.Reading.{group5_at};
+ghost use Rattle.head_wire.specs.Answers.{FilledHead};
 
-use crate::reading::inside::topic_of;
-use asset_wire::{Version, WireFault, read_asset};
-use location_wire::read_location;
-use part_wire::{read_optional_location, read_weight_limit};
+use crate::reading::locks::{fill_note_unlockable, fill_request_unlock, fill_unlock_asset};
+use crate::reading::origin::{fill_alias_origin, fill_unpaid_execution};
+use crate::reading::programs::{fill_set_fees_mode, fill_set_topic};
+use asset_wire::{Version, WireFault};
 use scale_codec::Cursor;
 use std::alloc::Global;
 use xcm_program::Instruction;
 
-/// The fields behind the index, and an empty program inside.
+/// The fields behind the number, and an empty program inside, into the place for the instruction.
 #[tactic(auto, unfolding(crate::specs::Reading::group5_at))]
-pub fn group5_of(
+pub fn fill_group5(
     alloc: Global,
     c: &mut Cursor<'_>,
     v: Version,
     index: u8,
-) -> Result<Instruction, WireFault>
+    slot: &mut Instruction,
+) -> Result<(), WireFault>
     requires low { 40 ≤ index }
     requires high { index < 48 }
-    ensures { GotOrFails (λ i. out-Instruction i) result (group5_at v index c.old) c.new }
+    ensures { FilledHead result (group5_at v index c.old) slot.new c.new }
 {
     match index {
-        40 => Ok(Instruction::UnlockAsset {
-            asset: read_asset(c, v)?,
-            target: read_location(c)?,
-        }),
-        41 => Ok(Instruction::NoteUnlockable {
-            asset: read_asset(c, v)?,
-            owner: read_location(c)?,
-        }),
-        42 => Ok(Instruction::RequestUnlock {
-            asset: read_asset(c, v)?,
-            locker: read_location(c)?,
-        }),
-        43 => Ok(Instruction::SetFeesMode {
-            jit_withdraw: c.flag()?,
-        }),
-        44 => Ok(Instruction::SetTopic {
-            topic: topic_of(c)?,
-        }),
-        45 => Ok(Instruction::ClearTopic),
-        46 => Ok(Instruction::AliasOrigin {
-            target: read_location(c)?,
-        }),
-        47 => Ok(Instruction::UnpaidExecution {
-            limit: read_weight_limit(c)?,
-            check_origin: read_optional_location(c)?,
-        }),
+        40 => fill_unlock_asset(c, v, slot),
+        41 => fill_note_unlockable(c, v, slot),
+        42 => fill_request_unlock(c, v, slot),
+        43 => fill_set_fees_mode(c, slot),
+        44 => fill_set_topic(c, slot),
+        45 => {
+            *slot = Instruction::ClearTopic;
+            Ok(())
+        }
+        46 => fill_alias_origin(c, slot),
+        47 => fill_unpaid_execution(c, slot),
         _ => unreachable!(),
     }
 }

@@ -1,10 +1,8 @@
-//! The parts of instructions that no other crate reads.
+//! What stands in a place until it is read.
 
 ghost use Rattle.std.specs.Prelude.{◌≡◌, []};
-ghost use Rattle.scale_codec.specs.Reading.{take_at};
-ghost use Rattle.scale_codec.specs.Answers.{Got};
 
-use scale_codec::{Cursor, NoSpelling};
+use locations::{Junctions, Location};
 use std::alloc::Global;
 use xcm_program::Program;
 
@@ -15,11 +13,12 @@ pub fn nothing_inside(alloc: Global) -> Program
     Program::from_vec(Vec::new(alloc))
 }
 
-/// A topic: the next 32 bytes.
-pub fn topic_of(c: &mut Cursor<'_>) -> Result<[u8; 32], NoSpelling>
-    ensures { Got result (take_at 32 c.old) c.new }
+/// A location to be filled.
+pub fn empty_place() -> Location
+    ensures { result.interior ≡ [] }
 {
-    let mut topic = [0; 32];
-    topic.copy_from_slice(c.take(32)?);
-    Ok(topic)
+    Location {
+        parents: 0,
+        interior: Junctions::empty(),
+    }
 }

@@ -1,5 +1,5 @@
-use Rattle.amounts.specs.Amounts.{total_alike, total_at_most, amount-total, total-restriction, total-with_amount, total_split}
-use Rattle.amounts.specs.Laws.{amount_at_most, total-difference, total-merge, total-minus, total-plus, total-single}
+use Rattle.amounts.specs.Amounts.{total_at_most, amount-total, total-restriction, total-with_amount, total_split}
+use Rattle.amounts.specs.Laws.{amount_at_most, total-difference, total-merge, total-minus, total-plus, total-single, total_alike_held, some_key}
 use Rattle.amounts.proofs.laws.law_of_totals.Goals as goal
 
 pub returns-clause-at_a_key : goal.returns-clause-at_a_key
@@ -30,7 +30,10 @@ pub returns-clause-split : goal.returns-clause-split
 returns-clause-split g c = total_split (record { total = g.met.K.Ord.total; exact = c.requires })
 
 pub returns-clause-alike : goal.returns-clause-alike
-returns-clause-alike g c = total_alike
+returns-clause-alike g c = total_alike_held (record { total = g.met.K.Ord.total; exact = c.requires })
+
+pub returns-clause-passes : goal.returns-clause-passes
+returns-clause-passes g c = some_key (record { total = g.met.K.Ord.total; exact = c.requires })
 
 pub returns-clause-wider : goal.returns-clause-wider
 returns-clause-wider g c = total_at_most

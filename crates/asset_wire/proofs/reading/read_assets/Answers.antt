@@ -1,11 +1,8 @@
-use Rattle.std.proofs.Common.{Ok, Err, ◌∙◌}
+use Rattle.std.proofs.Common.{rules}
+use Rattle.scale_codec.specs.Laws.ReadLaws.{is_read_or_fails}
 use Rattle.asset_wire.specs.Spelling.{assets}
-use Rattle.asset_wire.proofs.FieldLaws.{assets_reads}
-use Rattle.asset_wire.proofs.Refusals.{is_read_or_fails}
+use Rattle.asset_wire.specs.Laws.FieldLaws.{assets_reads}
 use Rattle.asset_wire.proofs.reading.read_assets.Goals as goal
 
-pub returns-in-Ok-clause-spelling : goal.returns-in-Ok-clause-spelling
-returns-in-Ok-clause-spelling c = is_read_or_fails (assets c.args.v) _ _ (assets_reads c.args.v) (Ok c.in-Ok.assets) _ _ c.in-Ok.ensures
-
-pub returns-in-Err-clause-spelling : goal.returns-in-Err-clause-spelling
-returns-in-Err-clause-spelling c = is_read_or_fails (assets c.args.v) _ _ (assets_reads c.args.v) (Err c.in-Err.fault) _ _ (c.in-Err.ensures, c.new.ensures ∙ c.rest-start.ensures)
+pub returns-clause-spelling : goal.returns-clause-spelling
+returns-clause-spelling c = is_read_or_fails (assets c.args.v) _ _ (assets_reads c.args.v) c.settle.result _ _ (search rules)

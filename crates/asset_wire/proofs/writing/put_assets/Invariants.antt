@@ -6,7 +6,8 @@ use Rattle.asset_wire.proofs.writing.put_assets.Given as goal
 
 abbrev pub invariant-loop-a : goal.invariant-loop-a
 invariant-loop-a l = record {
-  text : l.o ++ joined (map (asset l.v) (drop l.a-index l.items)) ≡ l.fn.o ++ assets l.v l.items;
+  kept : l.o.kept ≡ l.fn.o.kept;
+  text : l.o.text ++ joined (map (asset l.v) (drop l.a-index l.items)) ≡ l.fn.o.text ++ assets l.v l.items;
   fits : AllByRecursion (FitsAsset l.v) (drop l.a-index l.items) → AllByRecursion (FitsAsset l.v) l.items;
   named : AreNamed l.v (drop l.a-index l.items);
 }

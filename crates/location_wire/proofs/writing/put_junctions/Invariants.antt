@@ -6,6 +6,7 @@ use Rattle.location_wire.proofs.writing.put_junctions.Given as goal
 
 abbrev pub invariant-loop-j : goal.invariant-loop-j
 invariant-loop-j l = record {
-  text : l.o ++ joined (map junction (drop l.j-index l.items)) ≡ l.fn.o ++ junctions l.items;
+  kept : l.o.kept ≡ l.fn.o.kept;
+  text : l.o.text ++ joined (map junction (drop l.j-index l.items)) ≡ l.fn.o.text ++ junctions l.items;
   fits : AllByRecursion FitsJunction (drop l.j-index l.items) → AllByRecursion FitsJunction l.items;
 }

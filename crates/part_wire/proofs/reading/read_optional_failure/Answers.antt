@@ -1,12 +1,9 @@
-use Rattle.std.proofs.Common.{Ok, Err, ◌∙◌}
+use Rattle.std.proofs.Common.{rules}
 use Rattle.scale_codec.specs.Spelling.{optional}
-use Rattle.scale_codec.proofs.ReadLaws.{is_read}
-use Rattle.message_parts.specs.Spelling.{failure}
-use Rattle.part_wire.proofs.FieldLaws.{optional_failure_reads}
+use Rattle.scale_codec.specs.Laws.ReadLaws.{is_read}
+use Rattle.xcm_format.specs.Parts.{failure}
+use Rattle.part_wire.specs.Laws.FieldLaws.{optional_failure_reads}
 use Rattle.part_wire.proofs.reading.read_optional_failure.Goals as goal
 
-pub returns-in-Ok-clause-spelling : goal.returns-in-Ok-clause-spelling
-returns-in-Ok-clause-spelling c = is_read (optional failure) _ _ optional_failure_reads (Ok c.in-Ok.failed) _ _ c.in-Ok.ensures
-
-pub returns-in-Err-clause-spelling : goal.returns-in-Err-clause-spelling
-returns-in-Err-clause-spelling c = is_read (optional failure) _ _ optional_failure_reads (Err c.in-Err.fault) _ _ (c.in-Err.ensures, c.new.ensures ∙ c.rest-start.ensures)
+pub returns-clause-spelling : goal.returns-clause-spelling
+returns-clause-spelling c = is_read (optional failure) _ _ optional_failure_reads c.settle.result _ _ (search rules)

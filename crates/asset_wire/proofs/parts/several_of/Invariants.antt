@@ -1,8 +1,0 @@
-use Rattle.std.proofs.Common.{◌≡◌, ◌-◌}
-use Rattle.scale_codec.specs.Reading.{repeated}
-use Rattle.scale_codec.proofs.Loops.{with_front}
-use Rattle.asset_wire.specs.Reading.{asset_at}
-use Rattle.asset_wire.proofs.parts.several_of.Given as goal
-
-abbrev pub invariant-loop : goal.invariant-loop
-invariant-loop l = with_front l.items.items (repeated (asset_at l.v) (l.count - l.counter) l.c) ≡ repeated (asset_at l.v) l.count l.initial.c

@@ -1,0 +1,28 @@
+//! Places and bytes that several tables speak of.
+ghost use Rattle.std.specs.Prelude.{◌≤◌, length};
+
+use locations::{Junction, Junctions, Location};
+use std::alloc::{AllocError, Global};
+
+/// The place behind these junctions, so many levels up.
+pub(crate) fn place(parents: u8, items: &[Junction]) -> Location
+    requires { length items.now ≤ 8 }
+{
+    let interior = Junctions::from_few(items);
+    Location { parents, interior }
+}
+
+/// The bytes of the front, and behind them a byte so many times.
+pub(crate) fn filled(
+    alloc: Global,
+    front: &[u8],
+    count: usize,
+    byte: u8,
+) -> Result<Vec<u8>, AllocError> {
+    let mut bytes = Vec::new(alloc);
+    bytes.extend_from_slice(front)?;
+    for _ in 0..count {
+        bytes.push(byte)?;
+    }
+    Ok(bytes)
+}

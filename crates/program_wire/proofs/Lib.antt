@@ -1,3 +1,0 @@
-pub mod ProgramLaws
-pub mod WriteLaws
-pub mod Writable

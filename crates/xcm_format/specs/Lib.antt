@@ -1,0 +1,5 @@
+pub mod Parts
+pub mod Programs
+pub mod Messages
+pub mod Writable
+pub mod Laws
