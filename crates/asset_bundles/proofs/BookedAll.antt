@@ -6,7 +6,7 @@ use Rattle.std.proofs.lemmas.Bool.{and_from, and_parts}
 use Rattle.std.proofs.lemmas.List.{take_more}
 use Rattle.amounts.specs.Rows.{rows_at, sum_where, amount_if, IsPositive}
 use Rattle.amounts.specs.Amounts.{amount, empty, from_rows, merge, single, map_keys, same_amounts, amount-empty}
-use Rattle.amounts.specs.Laws.{amount-from_rows, amount-single, merge-empty, merge_assoc, from_rows-append, same_key}
+use Rattle.amounts.specs.Laws.{amount-from_rows, amount-single, from_rows-append, same_key}
 use Rattle.asset_lists.specs.declared.units.Asset.{Asset}
 use Rattle.asset_lists.specs.declared.units.Kind.{Kind}
 use Rattle.asset_lists.specs.Units.{Unit, unit_of, amount_of, unit_cmp, instance_in}
@@ -14,18 +14,9 @@ use Rattle.asset_bundles.specs.declared.book.Cause.{Cause}
 use Rattle.asset_bundles.specs.Bundles.{Bundle, unit_keys, rows_of, bundle_of, IsHolding}
 use Rattle.asset_bundles.specs.BundleLaws.{amount-bundle_of, map_keys-bundle_of}
 use Rattle.asset_bundles.specs.Joins.{Excess}
-use Rattle.asset_bundles.specs.Books.{Listed, Burn, burn_cmp, Burns, Book, kind_of, Booked, Standing, Covers, burned_for, given_up, excess_cause, listed_of, lists}
-use Rattle.asset_bundles.specs.Laws.{burn_keys, amount-Standing, standing_again}
-use Rattle.asset_bundles.specs.declared.book.BookRow.{BookRow}
-use Rattle.asset_bundles.specs.BookRows.{book_of, Stands}
-use Rattle.asset_bundles.proofs.Burning.{amount-book}
-
-standing_same : (rs : List BookRow) → Stands rs → Standing (book_of rs).burns ≡ (book_of rs).burns
-standing_same rs stands = same_amounts burn_keys _ _ (λ q.
-    let least = amount-Standing (book_of rs).burns q in
-    let at = amount-book q.0 q.1 rs in
-    let le = stands q.0 q.1 in
-    omega (arith, least, at, le))
+use Rattle.asset_bundles.specs.Books.{Burn, burn_cmp, Burns, Book, Booked, AreListed, burned_for, given_up, excess_cause}
+use Rattle.asset_lists.specs.Listed.{Listed, kind_of, listed_of, lists}
+use Rattle.asset_bundles.specs.Laws.{burn_keys, booked_again, booked_nothing}
 
 no_rows : from_rows {R = burn_cmp} [] ≡ empty
 no_rows = same_amounts burn_keys _ _ (λ q. amount-from_rows burn_keys [] q ∙ sym (amount-empty burn_keys q))
@@ -33,21 +24,16 @@ no_rows = same_amounts burn_keys _ _ (λ q. amount-from_rows burn_keys [] q ∙ 
 abbrev pub burn_of : Cause → Unit → Burn
 burn_of cause unit = (listed_of unit, cause)
 
-pub booked_none : (rs : List BookRow) → Stands rs → book_of rs ≡ Booked (book_of rs) (from_rows [])
-unfolding Booked
-booked_none rs stands i = record { listed = (book_of rs).listed; burns = (sym (ap (λ m. Standing (merge (book_of rs).burns m)) no_rows ∙ ap Standing (merge-empty burn_keys (book_of rs).burns) ∙ standing_same rs stands)) i }
+pub booked_none : (book : Book) → book ≡ Booked book (from_rows [])
+booked_none book = sym (ap (Booked book) no_rows ∙ booked_nothing book)
 
 one_row : (k : Burn) (n : ℕ) → from_rows {R = burn_cmp} ((k, n) ∷ []) ≡ single k n
 one_row k n = same_amounts burn_keys _ _ (λ q. let all = amount-from_rows burn_keys ((k, n) ∷ []) q in let one = amount-single burn_keys k n q in omega (arith, all, one))
 
 booked_push : (book : Book) (es : List (Burn × ℕ)) (k : Burn) (n : ℕ) → Booked (Booked book (from_rows es)) (single k n) ≡ Booked book (from_rows (es ++ (k, n) ∷ []))
-unfolding Booked
-booked_push book es k n i = record {
-  listed = book.listed;
-  burns = (standing_again (merge book.burns (from_rows es)) (single k n)
-      ∙ ap Standing (merge_assoc burn_keys book.burns (from_rows es) (single k n) ∙ ap (λ m. merge book.burns (merge (from_rows es) m)) (sym (one_row k n))
-      ∙ ap (merge book.burns) (sym (from_rows-append burn_keys es ((k, n) ∷ []))))) i;
-}
+booked_push book es k n =
+    booked_again book (from_rows es) (single k n)
+    ∙ ap (Booked book) (ap (λ m. merge (from_rows es) m) (sym (one_row k n)) ∙ sym (from_rows-append burn_keys es ((k, n) ∷ [])))
 
 rows-push : (burn : Unit → Burn) (xs : List Asset) (a : Asset) → rows_at burn (rows_of (xs ++ a ∷ [])) ≡ rows_at burn (rows_of xs) ++ (burn (unit_of a), amount_of a) ∷ []
 rows-push burn [] a = refl
@@ -85,18 +71,18 @@ unfolding Booked
 listed_item xs i a first before more kind all inside is kind_is so_far =
     ap (λ k. lists before.listed (a.id, k)) kind_is ∙ ap (λ b. lists b.listed (listed_of (unit_of a))) so_far ∙ listed_at (λ x. lists first.listed (listed_of (unit_of x))) xs i a all inside is
 
-covers_up_to : (listed : List Listed) (most : Unit → ℕ) (xs : List Asset) → IsPositive (rows_of xs) → ((u : Unit) → sum_where (eq_by_cmp unit_cmp u) (rows_of xs) ≤ most u)
+listed_up_to : (listed : List Listed) (most : Unit → ℕ) (xs : List Asset) → IsPositive (rows_of xs) → ((u : Unit) → sum_where (eq_by_cmp unit_cmp u) (rows_of xs) ≤ most u)
     → ((u : Unit) → 0 < most u → lists listed (listed_of u) ≡ true) → list_all (λ a. lists listed (listed_of (unit_of a))) xs ≡ true
-covers_up_to listed most [] positive within covered = refl
-covers_up_to listed most (a ∷ xs) positive within covered =
+listed_up_to listed most [] positive within covered = refl
+listed_up_to listed most (a ∷ xs) positive within covered =
     let all = within (unit_of a) in
     let some = positive.0 in
     let here : amount_if (eq_by_cmp unit_cmp (unit_of a) (unit_of a)) (amount_of a) ≡ amount_of a = ap (λ b. amount_if b (amount_of a)) (same_key unit_keys (unit_of a)) in
     and_from _ _ (covered (unit_of a) (omega (arith, all, here, some)))
-    (covers_up_to listed most xs positive.1 (λ u. let more = within u in omega (arith, more)) covered)
+    (listed_up_to listed most xs positive.1 (λ u. let more = within u in omega (arith, more)) covered)
 
-pub all_covered : (book : Book) (xs : List Asset) → IsHolding xs → Covers book (bundle_of xs) → list_all (λ a. lists book.listed (listed_of (unit_of a))) xs ≡ true
-all_covered book xs h covered = covers_up_to book.listed (λ u. amount (bundle_of xs) u) xs h.positive (λ u. let e = amount-bundle_of xs u in omega (arith, e)) covered
+pub all_listed : (book : Book) (xs : List Asset) → IsHolding xs → AreListed book.listed (bundle_of xs) → list_all (λ a. lists book.listed (listed_of (unit_of a))) xs ≡ true
+all_listed book xs h covered = listed_up_to book.listed (λ u. amount (bundle_of xs) u) xs h.positive (λ u. let e = amount-bundle_of xs u in omega (arith, e)) covered
 
 pub burned_rows : (cause : Cause) (xs : List Asset) → IsHolding xs → from_rows (rows_at (burn_of cause) (rows_of xs)) ≡ burned_for cause (bundle_of xs)
 unfolding burned_for

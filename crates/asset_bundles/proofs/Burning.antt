@@ -1,5 +1,5 @@
 -- Rows of the book, as the map that they are.
-use Rattle.std.proofs.Common.{◌≡◌, ℕ, zero, suc, ◌+◌, ◌-◌, ◌^◌, ◌<◌, ◌≤◌, min, Bool, true, false, ◌&&◌, ◌||◌, List, [], ◌∷◌, ◌++◌, length, get_or, take, drop, refl, sym, ap, ◌∙◌, subst, arith, add-one, drop-cons}
+use Rattle.std.proofs.Common.{◌≡◌, ℕ, zero, suc, ◌+◌, ◌-◌, ◌<◌, ◌≤◌, min, Bool, true, false, ◌&&◌, ◌||◌, List, [], ◌∷◌, ◌++◌, length, get_or, take, drop, refl, sym, ap, ◌∙◌, subst, arith, add-one, drop-cons}
 use Rattle.std.specs.Prelude.{if◌then◌else◌, unwrap_or, Option, Some, not, slice_set}
 use Rattle.std.specs.List.{prefix_len}
 use Rattle.std.specs.Ordering.{eq_by_cmp, is_eq, ordering_then, nat_cmp}
@@ -10,15 +10,16 @@ use Rattle.std.proofs.lemmas.List.{take_more}
 use Rattle.std.proofs.lemmas.List.Sums.{prefix_len-drop_yes, prefix_len-drop_no}
 use Rattle.std.specs.Cmp.{eq_by_cmp_equiv}
 use Rattle.amounts.specs.Rows.{amount_if}
-use Rattle.amounts.specs.Amounts.{amount, empty, merge, single, same_amounts, amount-empty}
-use Rattle.amounts.specs.Laws.{amount-merge, amount-single, key_same}
+use Rattle.amounts.specs.Amounts.{amount, empty, single, same_amounts, amount-empty}
+use Rattle.amounts.specs.Laws.{amount-single, key_same}
 use Rattle.amounts.specs.Entries.{amount-from_entries}
 use Rattle.asset_bundles.specs.declared.book.Cause.{Cause}
 use Rattle.asset_bundles.specs.declared.book.BookRow.{BookRow}
 use Rattle.asset_bundles.specs.Totals.{total_value}
-use Rattle.asset_bundles.specs.Books.{Listed, listed_cmp, cause_index, burn_cmp, Booked, Standing, lists}
-use Rattle.asset_bundles.specs.Laws.{burn_keys, listed_keys, amount-Standing}
-use Rattle.asset_bundles.specs.BookRows.{row_key, total_for, entries_in, keys_in, book_of, total_at, Stands, is_other_row, is_cause, IsBurned, CasesOf, IsBooked}
+use Rattle.asset_bundles.specs.Books.{cause_index, burn_cmp, most_burned, Booked}
+use Rattle.asset_lists.specs.Listed.{Listed, listed_cmp, lists}
+use Rattle.asset_bundles.specs.Laws.{burn_keys, listed_keys, same_books, listed-Booked, amount-Booked}
+use Rattle.asset_bundles.specs.BookRows.{row_key, total_for, entries_in, keys_in, book_of, total_at, AreInRange, is_other_row, is_cause, IsBurned, CasesOf, IsBooked}
 
 -- ---- what the book has at a key
 at_entry : Cause → Ordering → Cause → ℕ → Option ℕ → Option ℕ
@@ -59,7 +60,7 @@ amount-book k c rs = amount-from_entries burn_keys (entries_in rs) (k, c) ∙ lo
 
 -- ---- a new book
 
-pub new_stands : (rs : List BookRow) → ((k : Listed) (c : Cause) → total_at k c rs ≡ 0) → Stands rs
+pub new_stands : (rs : List BookRow) → ((k : Listed) (c : Cause) → total_at k c rs ≡ 0) → AreInRange rs
 new_stands rs new k c = let none = new k c in omega (arith, none)
 
 pub new_empty : (rs : List BookRow) → ((k : Listed) (c : Cause) → total_at k c rs ≡ 0) → (book_of rs).burns ≡ empty
@@ -126,12 +127,12 @@ turned : (j k : Listed) → eq_by_cmp listed_cmp j k ≡ eq_by_cmp listed_cmp k 
 turned j k = (eq_by_cmp_equiv listed_keys.total).symm j k
 
 booked_row : (k j : Listed) (cause c : Cause) (n : ℕ) (r s : BookRow) (rs : List BookRow) → row_key r ≡ k → IsBurned cause n r s
-    → total_at j c (s ∷ rs) ≡ (if eq_by_cmp listed_cmp j k && is_cause c cause then min (total_at j c (r ∷ rs) + n) (2 ^ 160 - 1) else total_at j c (r ∷ rs))
+    → total_at j c (s ∷ rs) ≡ (if eq_by_cmp listed_cmp j k && is_cause c cause then min (total_at j c (r ∷ rs) + n) most_burned else total_at j c (r ∷ rs))
 booked_row k j cause c n r s rs same burned =
     ap (λ x. if eq_by_cmp listed_cmp j x then total_value (total_for c s) else total_at j c rs) burned.key
     ∙ ap (λ v. if eq_by_cmp listed_cmp j (row_key r) then v else total_at j c rs) (burned.totals c)
-    ∙ in_row (eq_by_cmp listed_cmp j (row_key r)) (is_cause c cause) (total_value (total_for c r)) (total_at j c rs) n (2 ^ 160 - 1)
-    ∙ ap (λ x. if eq_by_cmp listed_cmp j x && is_cause c cause then min (total_at j c (r ∷ rs) + n) (2 ^ 160 - 1) else total_at j c (r ∷ rs)) same
+    ∙ in_row (eq_by_cmp listed_cmp j (row_key r)) (is_cause c cause) (total_value (total_for c r)) (total_at j c rs) n most_burned
+    ∙ ap (λ x. if eq_by_cmp listed_cmp j x && is_cause c cause then min (total_at j c (r ∷ rs) + n) most_burned else total_at j c (r ∷ rs)) same
 
 other_row : (k j : Listed) (i : Bool) (n v end : ℕ) (r : BookRow) (t s : ℕ) → eq_by_cmp listed_cmp k (row_key r) ≡ false
     → t ≡ (if eq_by_cmp listed_cmp j k && i then min (s + n) end else s)
@@ -145,15 +146,15 @@ other_row k j i n v end r t s other rest =
     ] refl
 
 pub booked_at : (k : Listed) (cause : Cause) (n : ℕ) (old new : List BookRow) → IsBooked k cause n old new → lists (keys_in old) k ≡ true → (j : Listed) (c : Cause)
-    → total_at j c new ≡ (if eq_by_cmp listed_cmp j k && is_cause c cause then min (total_at j c old + n) (2 ^ 160 - 1) else total_at j c old)
+    → total_at j c new ≡ (if eq_by_cmp listed_cmp j k && is_cause c cause then min (total_at j c old + n) most_burned else total_at j c old)
 booked_at k cause n [] new booked listed j c = absurd (cc)
 booked_at k cause n (r ∷ rs) [] booked listed j c = absurd booked
 booked_at k cause n (r ∷ rs) (s ∷ ss) booked listed j c =
     elim (eq_by_cmp listed_cmp k (row_key r)) as (λ b. eq_by_cmp listed_cmp k (row_key r) ≡ b → (b || lists (keys_in rs) k) ≡ true
     → CasesOf b (IsBurned cause n r s × (ss ≡ rs)) ((s ≡ r) × IsBooked k cause n rs ss)
-    → total_at j c (s ∷ ss) ≡ (if eq_by_cmp listed_cmp j k && is_cause c cause then min (total_at j c (r ∷ rs) + n) (2 ^ 160 - 1) else total_at j c (r ∷ rs))) [
+    → total_at j c (s ∷ ss) ≡ (if eq_by_cmp listed_cmp j k && is_cause c cause then min (total_at j c (r ∷ rs) + n) most_burned else total_at j c (r ∷ rs))) [
       | true ↦ λ e l h. ap (λ xs. total_at j c (s ∷ xs)) h.1 ∙ booked_row k j cause c n r s rs (sym (key_same listed_keys k (row_key r) e)) h.0
-      | false ↦ λ e l h. ap (λ x. total_at j c (x ∷ ss)) h.0 ∙ other_row k j (is_cause c cause) n (total_value (total_for c r)) (2 ^ 160 - 1) r (total_at j c ss) (total_at j c rs) e (booked_at k cause n rs ss h.1 l j c)
+      | false ↦ λ e l h. ap (λ x. total_at j c (x ∷ ss)) h.0 ∙ other_row k j (is_cause c cause) n (total_value (total_for c r)) most_burned r (total_at j c ss) (total_at j c rs) e (booked_at k cause n rs ss h.1 l j c)
     ] refl listed booked
 
 booked_keys : (k : Listed) (cause : Cause) (n : ℕ) (old new : List BookRow) → IsBooked k cause n old new → keys_in new ≡ keys_in old
@@ -165,33 +166,37 @@ booked_keys k cause n (r ∷ rs) (s ∷ ss) booked =
       | false ↦ λ h i. row_key (h.0 i) ∷ booked_keys k cause n rs ss h.1 i
     ] booked
 
-at_end : (b : Bool) (t n end : ℕ) → t ≤ end → (if b then min (t + n) end else t) ≡ min (t + amount_if b n) end
-at_end true t n end le = refl
+at_end : (b : Bool) (t n end : ℕ) → t ≤ end → (if b then min (t + n) end else t) ≡ t + min (amount_if b n) (end - t)
+at_end true t n end le = omega (arith, le)
 at_end false t n end le = omega (arith, le)
 
 end_kept : (b : Bool) (t n end : ℕ) → t ≤ end → (if b then min (t + n) end else t) ≤ end
 end_kept true t n end le = omega arith
 end_kept false t n end le = le
 
-pub booked_stands : (k : Listed) (cause : Cause) (n : ℕ) (old new : List BookRow) → IsBooked k cause n old new → lists (keys_in old) k ≡ true → Stands old → Stands new
+pub booked_stands : (k : Listed) (cause : Cause) (n : ℕ) (old new : List BookRow) → IsBooked k cause n old new → lists (keys_in old) k ≡ true → AreInRange old → AreInRange new
 booked_stands k cause n old new booked listed stands j c =
-    subst (λ t. t ≤ 2 ^ 160 - 1) (sym (booked_at k cause n old new booked listed j c)) (end_kept (eq_by_cmp listed_cmp j k && is_cause c cause) (total_at j c old) n (2 ^ 160 - 1) (stands j c))
+    subst (λ t. t ≤ most_burned) (sym (booked_at k cause n old new booked listed j c)) (end_kept (eq_by_cmp listed_cmp j k && is_cause c cause) (total_at j c old) n most_burned (stands j c))
 
-booked_burns : (k : Listed) (cause : Cause) (n : ℕ) (old new : List BookRow) → IsBooked k cause n old new → lists (keys_in old) k ≡ true → Stands old
-    → (book_of new).burns ≡ Standing (merge (book_of old).burns (single (k, cause) n))
-booked_burns k cause n old new booked listed stands = same_amounts burn_keys _ _ (λ q.
+booked_burns : (k : Listed) (cause : Cause) (n : ℕ) (old new : List BookRow) → IsBooked k cause n old new → lists (keys_in old) k ≡ true → AreInRange old
+    → (q : _) → amount (book_of new).burns q ≡ amount (Booked (book_of old) (single (k, cause) n)).burns q
+booked_burns k cause n old new booked listed range q =
     amount-book q.0 q.1 new ∙ booked_at k cause n old new booked listed q.0 q.1
-    ∙ at_end (eq_by_cmp listed_cmp q.0 k && is_cause q.1 cause) (total_at q.0 q.1 old) n (2 ^ 160 - 1) (stands q.0 q.1)
-    ∙ ap (λ b. min (total_at q.0 q.1 old + amount_if b n) (2 ^ 160 - 1)) (sym (tie_both (listed_cmp q.0 k) (nat_cmp (cause_index q.1) (cause_index cause))))
-    ∙ ap (λ t. min (t + amount_if (eq_by_cmp burn_cmp q (k, cause)) n) (2 ^ 160 - 1)) (sym (amount-book q.0 q.1 old))
-    ∙ ap (λ t. min (amount (book_of old).burns q + t) (2 ^ 160 - 1)) (sym (amount-single burn_keys (k, cause) n q))
-    ∙ ap (λ t. min t (2 ^ 160 - 1)) (sym (amount-merge burn_keys (book_of old).burns (single (k, cause) n) q))
-    ∙ sym (amount-Standing (merge (book_of old).burns (single (k, cause) n)) q))
+    ∙ at_end (eq_by_cmp listed_cmp q.0 k && is_cause q.1 cause) (total_at q.0 q.1 old) n most_burned (range q.0 q.1)
+    ∙ ap (λ b. total_at q.0 q.1 old + min (amount_if b n) (most_burned - total_at q.0 q.1 old)) (sym (tie_both (listed_cmp q.0 k) (nat_cmp (cause_index q.1) (cause_index cause))))
+    ∙ ap (λ t. t + min (amount_if (eq_by_cmp burn_cmp q (k, cause)) n) (most_burned - t)) (sym (amount-book q.0 q.1 old))
+    ∙ ap (λ t. amount (book_of old).burns q + min t (most_burned - amount (book_of old).burns q)) (sym (amount-single burn_keys (k, cause) n q))
+    ∙ sym (amount-Booked (book_of old) (single (k, cause) n) q)
 
-pub booked_is : (k : Listed) (cause : Cause) (n : ℕ) (old new : List BookRow) → IsBooked k cause n old new → lists (keys_in old) k ≡ true → Stands old
+listed_rows : (rs : List BookRow) → (book_of rs).listed ≡ keys_in rs
+unfolding book_of
+listed_rows rs = refl
+
+pub booked_is : (k : Listed) (cause : Cause) (n : ℕ) (old new : List BookRow) → IsBooked k cause n old new → lists (keys_in old) k ≡ true → AreInRange old
     → book_of new ≡ Booked (book_of old) (single (k, cause) n)
-unfolding Booked book_of
-booked_is k cause n old new booked listed stands i = record { listed = booked_keys k cause n old new booked i; burns = booked_burns k cause n old new booked listed stands i }
+booked_is k cause n old new booked listed range =
+    same_books _ _ (listed_rows new ∙ booked_keys k cause n old new booked ∙ sym (listed_rows old) ∙ sym (listed-Booked (book_of old) (single (k, cause) n)))
+    (booked_burns k cause n old new booked listed range)
 
 -- ---- the place of a row
 pub row_more : (k : Listed) (rs : List BookRow) (i : ℕ) (r : BookRow) → i < length rs → r ≡ get_or rs i r → is_other_row k r ≡ true

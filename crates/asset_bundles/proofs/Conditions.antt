@@ -1,12 +1,9 @@
--- When bundles may be joined, and when a shipment may land.
-use Rattle.std.proofs.Common.{◌≡◌, ℕ, zero, suc, ◌+◌, ◌-◌, ◌<◌, ◌≤◌, Bool, true, false, List, [], ◌∷◌, Option, Some, None, refl, sym, ap, ◌∙◌, subst, arith}
+-- When a shipment may land.
+use Rattle.std.proofs.Common.{◌≡◌, ◌+◌, ◌<◌, ◌≤◌, true, false, List, [], ◌∷◌, Option, Some, None, refl, sym, ap, ◌∙◌, subst, arith}
 use Rattle.std.specs.Prelude.{IsSomeAnd, unwrap_or}
 use Rattle.std.specs.Option.{option_map}
-use Rattle.std.specs.List.{list_all}
 use Rattle.std.specs.Ordering.{eq_by_cmp}
-use Rattle.std.proofs.lemmas.Bool.{and_parts}
 use Rattle.amounts.specs.Rows.{amount_if, sum_where}
-use Rattle.amounts.specs.Amounts.{amount}
 use Rattle.amounts.specs.Laws.{same_key, key_same}
 use Rattle.locations.specs.declared.grammar.Junction.{Junction}
 use Rattle.locations.specs.declared.relative.Location.{Location}
@@ -14,43 +11,12 @@ use Rattle.asset_lists.specs.declared.units.AssetId.{AssetId}
 use Rattle.asset_lists.specs.declared.units.Asset.{Asset}
 use Rattle.asset_lists.specs.Units.{Unit, unit_of, amount_of, unit_cmp}
 use Rattle.asset_lists.specs.Lists.{is_of}
-use Rattle.asset_lists.specs.Moves.{moved_id, both, all_moved, count_of, IsMoved}
-use Rattle.asset_bundles.specs.Bundles.{Bundle, unit_keys, rows_of, bundle_of, IsHolding}
+use Rattle.asset_lists.specs.Moves.{moved_id, both, all_moved, occurrences, IsMoved}
+use Rattle.asset_bundles.specs.Bundles.{unit_keys, rows_of, bundle_of, IsHolding}
 use Rattle.asset_bundles.specs.BundleLaws.{amount-bundle_of}
-use Rattle.asset_bundles.specs.Books.{Book, Listed, Covers, listed_of, lists}
-use Rattle.asset_bundles.specs.Joins.{most_of, Excess}
 use Rattle.asset_bundles.specs.Landing.{renamed, Renamed, StayApart, renamed_asset, renamed_assets}
-use Rattle.asset_bundles.specs.Laws.{amount-Excess}
 use Rattle.asset_bundles.proofs.Minting.{bundle_of-IsPermutation}
 use Rattle.asset_bundles.proofs.Naming.{renamed_is, count_first, named}
-
--- ---- rows of the book
-covered_at : (listed : List Listed) (xs : List Asset) → list_all (λ a. lists listed (listed_of (unit_of a))) xs ≡ true → (u : Unit)
-    → 0 < sum_where (eq_by_cmp unit_cmp u) (rows_of xs) → lists listed (listed_of u) ≡ true
-covered_at listed [] all u some = absurd (omega (arith, some))
-covered_at listed (a ∷ xs) all u some =
-    let parts = and_parts (lists listed (listed_of (unit_of a))) (list_all (λ b. lists listed (listed_of (unit_of b))) xs) all in
-    elim (eq_by_cmp unit_cmp u (unit_of a)) as (λ b. eq_by_cmp unit_cmp u (unit_of a) ≡ b → 0 < amount_if b (amount_of a) + sum_where (eq_by_cmp unit_cmp u) (rows_of xs) → lists listed (listed_of u) ≡ true) [
-      | true ↦ λ t _. ap (λ v. lists listed (listed_of v)) (key_same unit_keys u (unit_of a) t) ∙ parts.0
-      | false ↦ λ t more. covered_at listed xs parts.1 u (omega (arith, more))
-    ] refl some
-
-pub covers_listed : (book : Book) (xs : List Asset) → list_all (λ a. lists book.listed (listed_of (unit_of a))) xs ≡ true → Covers book (bundle_of xs)
-covers_listed book xs all u some = covered_at book.listed xs all u (subst (λ n. 0 < n) (amount-bundle_of xs u) some)
-
--- the book of a list of rows, and the bundle of a list of assets
-pub covers_tested : (book : Book) (rows : List Listed) (xs : List Asset) (goods : Bundle) (test : Bool) → book.listed ≡ rows → goods ≡ bundle_of xs
-    → test ≡ list_all (λ a. lists rows (listed_of (unit_of a))) xs → test ≡ true → Covers book goods
-covers_tested book rows xs goods test opens is tested passes =
-    subst (Covers book) (sym is) (covers_listed book xs (ap (λ ls. list_all (λ a. lists ls (listed_of (unit_of a))) xs) opens ∙ sym tested ∙ passes))
-
-of_either : (P : Type 0) (m n k : ℕ) → (0 < m → P) → (0 < n → P) → 0 < (m + n) - k → P
-of_either P zero n k first second some = second (omega (arith, some))
-of_either P (suc m) n k first second some = first (omega arith)
-
-pub covers_excess : (book : Book) (m n : Bundle) → Covers book m → Covers book n → Covers book (Excess m n)
-covers_excess book m n first second u some =
-    of_either (lists book.listed (listed_of u) ≡ true) (amount m u) (amount n u) (most_of u.1) (first u) (second u) (subst (λ k. 0 < k) (amount-Excess m n u) some)
 
 -- ---- a list as the target names it
 module _ (target : Location) (context : List Junction) where
@@ -79,22 +45,22 @@ module _ (target : Location) (context : List Junction) where
       sym (renamed_is target context xs h) ∙ sym (bundle_of-IsPermutation (renamed_assets target context xs) new (moved_renamed xs new moved).same_units)
 
   -- ---- its units stay apart
-  count_here : (u : Unit) (a : Asset) (xs : List Asset) → renamed target context (unit_of a) ≡ u → count_of u (renamed_assets target context (a ∷ xs)) ≡ 1 + count_of u (renamed_assets target context xs)
+  count_here : (u : Unit) (a : Asset) (xs : List Asset) → renamed target context (unit_of a) ≡ u → occurrences u (renamed_assets target context (a ∷ xs)) ≡ 1 + occurrences u (renamed_assets target context xs)
   count_here u a xs is =
       let here : is_of u (renamed_asset target context a) ≡ true = subst (λ v. eq_by_cmp unit_cmp (renamed target context (unit_of a)) v ≡ true) is (same_key unit_keys (renamed target context (unit_of a))) in
       named target context u a xs here
 
-  counted_renamed : (u : Unit) (xs : List Asset) → 0 < sum_where (eq_by_cmp unit_cmp u) (rows_of xs) → 1 ≤ count_of (renamed target context u) (renamed_assets target context xs)
+  counted_renamed : (u : Unit) (xs : List Asset) → 0 < sum_where (eq_by_cmp unit_cmp u) (rows_of xs) → 1 ≤ occurrences (renamed target context u) (renamed_assets target context xs)
   counted_renamed u [] some = absurd (omega (arith, some))
   counted_renamed u (a ∷ xs) some =
       elim (eq_by_cmp unit_cmp u (unit_of a)) as (λ b. eq_by_cmp unit_cmp u (unit_of a) ≡ b → 0 < amount_if b (amount_of a) + sum_where (eq_by_cmp unit_cmp u) (rows_of xs)
-      → 1 ≤ count_of (renamed target context u) (renamed_assets target context (a ∷ xs))) [
+      → 1 ≤ occurrences (renamed target context u) (renamed_assets target context (a ∷ xs))) [
         | true ↦ λ t _. (let first = count_here (renamed target context u) a xs (ap (renamed target context) (sym (key_same unit_keys u (unit_of a) t))) in omega (arith, first))
         | false ↦ λ t more. (let rest = counted_renamed u xs (omega (arith, more)) in let first = count_first target context (renamed target context u) a xs in omega (arith, rest, first))
       ] refl some
 
   -- the first one's new unit isn't that of a later one
-  first_alone : (a : Asset) (xs : List Asset) (v : Unit) → ((w : Unit) → count_of w (renamed_assets target context (a ∷ xs)) ≤ 1) → 0 < sum_where (eq_by_cmp unit_cmp v) (rows_of xs)
+  first_alone : (a : Asset) (xs : List Asset) (v : Unit) → ((w : Unit) → occurrences w (renamed_assets target context (a ∷ xs)) ≤ 1) → 0 < sum_where (eq_by_cmp unit_cmp v) (rows_of xs)
       → renamed target context (unit_of a) ≡ renamed target context v → ⊥
   first_alone a xs v once some same =
       let later = counted_renamed v xs some in
@@ -102,11 +68,11 @@ module _ (target : Location) (context : List Junction) where
       let most = once (renamed target context v) in
       omega (arith, later, first, most)
 
-  kept_apart : (xs : List Asset) → ((w : Unit) → count_of w (renamed_assets target context xs) ≤ 1) → (u v : Unit)
+  kept_apart : (xs : List Asset) → ((w : Unit) → occurrences w (renamed_assets target context xs) ≤ 1) → (u v : Unit)
       → 0 < sum_where (eq_by_cmp unit_cmp u) (rows_of xs) → 0 < sum_where (eq_by_cmp unit_cmp v) (rows_of xs) → renamed target context u ≡ renamed target context v → u ≡ v
   kept_apart [] once u v u_held v_held same = absurd (omega (arith, u_held))
   kept_apart (a ∷ xs) once u v u_held v_held same =
-      let later : (w : Unit) → count_of w (renamed_assets target context xs) ≤ 1 = λ w. (let most = once w in let first = count_first target context w a xs in omega (arith, most, first)) in
+      let later : (w : Unit) → occurrences w (renamed_assets target context xs) ≤ 1 = λ w. (let most = once w in let first = count_first target context w a xs in omega (arith, most, first)) in
       elim (eq_by_cmp unit_cmp u (unit_of a)) as (λ b. eq_by_cmp unit_cmp u (unit_of a) ≡ b → 0 < amount_if b (amount_of a) + sum_where (eq_by_cmp unit_cmp u) (rows_of xs) → u ≡ v) [
         | true ↦ λ t _. elim (eq_by_cmp unit_cmp v (unit_of a)) as (λ d. eq_by_cmp unit_cmp v (unit_of a) ≡ d → 0 < amount_if d (amount_of a) + sum_where (eq_by_cmp unit_cmp v) (rows_of xs) → u ≡ v) [
           | true ↦ λ s _. key_same unit_keys u (unit_of a) t ∙ sym (key_same unit_keys v (unit_of a) s)

@@ -8,3 +8,4 @@ pub mod BookedAll
 pub mod Sums
 pub mod Naming
 pub mod Conditions
+pub mod Pieces

@@ -10,8 +10,8 @@ use Rattle.amounts.specs.Rows.{sum_where, amount_if}
 use Rattle.asset_lists.specs.declared.units.Asset.{Asset}
 use Rattle.asset_lists.specs.Units.{Unit, unit_of, amount_of, unit_cmp, asset_cmp, is_zero}
 use Rattle.asset_lists.specs.Lists.{has_zero, is_rising}
-use Rattle.asset_lists.specs.Moves.{count_of}
-use Rattle.asset_lists.proofs.Sorting.{twice_in}
+use Rattle.asset_lists.specs.Moves.{occurrences}
+use Rattle.asset_lists.specs.Laws.{twice_in}
 use Rattle.asset_bundles.specs.Bundles.{rows_of, bundle_of, IsHolding}
 use Rattle.asset_bundles.specs.BundleLaws.{same_bundles, amount-bundle_of}
 use Rattle.asset_bundles.proofs.Listing.{rising_keys, positive_rows}
@@ -30,14 +30,14 @@ bundle_of-IsPermutation xs ys moves = same_bundles _ _ (λ u.
     ∙ sum_by-IsPermutation (counted_in (eq_by_cmp unit_cmp u)) xs ys moves
     ∙ sym (sum_of_rows (eq_by_cmp unit_cmp u) xs) ∙ sym (amount-bundle_of xs u))
 
-rises : (xs ys : List Asset) → IsPermutation xs ys → IsSorted asset_cmp ys → ((u : Unit) → count_of u xs ≤ 1) → is_rising ys ≡ true
+rises : (xs ys : List Asset) → IsPermutation xs ys → IsSorted asset_cmp ys → ((u : Unit) → occurrences u xs ≤ 1) → is_rising ys ≡ true
 rises xs ys moves sorted once =
     elim (cases_Bool (is_rising ys)) [
       | inl up ↦ up
       | inr falls ↦ (let twice = twice_in xs ys moves sorted falls in let at_most = once twice.0 in let more = twice.1 in absurd (omega (arith, at_most, more)))
     ]
 
-pub sorted_holding : (xs ys : List Asset) → IsPermutation xs ys → IsSorted asset_cmp ys → ((u : Unit) → count_of u xs ≤ 1) → has_zero xs ≡ false → IsHolding ys
+pub sorted_holding : (xs ys : List Asset) → IsPermutation xs ys → IsSorted asset_cmp ys → ((u : Unit) → occurrences u xs ≤ 1) → has_zero xs ≡ false → IsHolding ys
 sorted_holding xs ys moves sorted once no_zero = record {
   rising = rising_keys ys (rises xs ys moves sorted once);
   positive = positive_rows ys (sym (list_any-IsPermutation is_zero xs ys moves) ∙ no_zero);

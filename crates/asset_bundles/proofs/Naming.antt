@@ -17,7 +17,7 @@ use Rattle.locations.specs.declared.relative.Location.{Location}
 use Rattle.asset_lists.specs.declared.units.Asset.{Asset}
 use Rattle.asset_lists.specs.Units.{Unit, unit_of, amount_of, unit_cmp, asset_cmp}
 use Rattle.asset_lists.specs.Lists.{is_of}
-use Rattle.asset_lists.specs.Moves.{count_of}
+use Rattle.asset_lists.specs.Moves.{occurrences}
 use Rattle.asset_bundles.specs.Bundles.{unit_keys, rows_of, bundle_of, IsHolding}
 use Rattle.asset_bundles.specs.BundleLaws.{amount-bundle_of, map_keys-bundle_of}
 use Rattle.asset_bundles.specs.Landing.{renamed, Renamed, StayApart, renamed_asset, renamed_assets}
@@ -87,16 +87,16 @@ module _ (target : Location) (context : List Junction) where
   later_held u a xs some = omega (arith, some)
 
   pub count_first : (u : Unit) (a : Asset) (xs : List Asset)
-      → count_of u (renamed_assets target context (a ∷ xs)) ≡ cond {A = ℕ} (is_of u (renamed_asset target context a)) 1 0 + count_of u (renamed_assets target context xs)
+      → occurrences u (renamed_assets target context (a ∷ xs)) ≡ cond {A = ℕ} (is_of u (renamed_asset target context a)) 1 0 + occurrences u (renamed_assets target context xs)
   count_first u a xs = sum_by-cons (λ b. cond {A = ℕ} (is_of u b) 1 0) (renamed_asset target context a) (renamed_assets target context xs)
 
-  pub named : (u : Unit) (a : Asset) (xs : List Asset) → is_of u (renamed_asset target context a) ≡ true → count_of u (renamed_assets target context (a ∷ xs)) ≡ 1 + count_of u (renamed_assets target context xs)
-  named u a xs is = count_first u a xs ∙ ap (λ b. cond {A = ℕ} b 1 0 + count_of u (renamed_assets target context xs)) is
+  pub named : (u : Unit) (a : Asset) (xs : List Asset) → is_of u (renamed_asset target context a) ≡ true → occurrences u (renamed_assets target context (a ∷ xs)) ≡ 1 + occurrences u (renamed_assets target context xs)
+  named u a xs is = count_first u a xs ∙ ap (λ b. cond {A = ℕ} b 1 0 + occurrences u (renamed_assets target context xs)) is
 
-  not_named : (u : Unit) (a : Asset) (xs : List Asset) → is_of u (renamed_asset target context a) ≡ false → count_of u (renamed_assets target context (a ∷ xs)) ≡ 0 + count_of u (renamed_assets target context xs)
-  not_named u a xs is = count_first u a xs ∙ ap (λ b. cond {A = ℕ} b 1 0 + count_of u (renamed_assets target context xs)) is
+  not_named : (u : Unit) (a : Asset) (xs : List Asset) → is_of u (renamed_asset target context a) ≡ false → occurrences u (renamed_assets target context (a ∷ xs)) ≡ 0 + occurrences u (renamed_assets target context xs)
+  not_named u a xs is = count_first u a xs ∙ ap (λ b. cond {A = ℕ} b 1 0 + occurrences u (renamed_assets target context xs)) is
 
-  none_named : (u : Unit) (xs : List Asset) → IsPositive (rows_of xs) → ((v : Unit) → 0 < held_in v xs → renamed target context v ≡ u → ⊥) → count_of u (renamed_assets target context xs) ≡ 0
+  none_named : (u : Unit) (xs : List Asset) → IsPositive (rows_of xs) → ((v : Unit) → 0 < held_in v xs → renamed target context v ≡ u → ⊥) → occurrences u (renamed_assets target context xs) ≡ 0
   none_named u [] positive none = refl
   none_named u (a ∷ xs) positive none =
       let rest = none_named u xs positive.1 (λ v some. none v (later_held v a xs some)) in
@@ -107,7 +107,7 @@ module _ (target : Location) (context : List Junction) where
 
   named_once : (xs : List Asset) → IsStrictlySortedBy unit_cmp (keys_of (rows_of xs)) → IsPositive (rows_of xs)
       → ((u v : Unit) → 0 < held_in u xs → 0 < held_in v xs → renamed target context u ≡ renamed target context v → u ≡ v)
-      → (u : Unit) → count_of u (renamed_assets target context xs) ≤ 1
+      → (u : Unit) → occurrences u (renamed_assets target context xs) ≤ 1
   unfolding IsStrictlySortedBy
   named_once [] rising positive apart u = omega arith
   named_once (a ∷ xs) rising positive apart u =
@@ -128,7 +128,7 @@ module _ (target : Location) (context : List Junction) where
   positive_renamed [] positive = tt
   positive_renamed (a ∷ xs) positive = (positive.0, positive_renamed xs positive.1)
 
-  pub renamed_once : (xs : List Asset) → IsHolding xs → StayApart target context (bundle_of xs) → (u : Unit) → count_of u (renamed_assets target context xs) ≤ 1
+  pub renamed_once : (xs : List Asset) → IsHolding xs → StayApart target context (bundle_of xs) → (u : Unit) → occurrences u (renamed_assets target context xs) ≤ 1
   unfolding held_in
   renamed_once xs h apart = named_once xs h.rising h.positive (λ u v u_held v_held same.
       apart u v (subst (λ n. 0 < n) (sym (amount-bundle_of xs u)) u_held) (subst (λ n. 0 < n) (sym (amount-bundle_of xs v)) v_held) same)

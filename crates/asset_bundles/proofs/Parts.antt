@@ -19,6 +19,7 @@ use Rattle.asset_lists.specs.Units.{Unit, unit_of, amount_of, unit_cmp, instance
 use Rattle.asset_bundles.specs.Bundles.{Bundle, unit_keys, rows_of, bundle_of, IsHolding}
 use Rattle.asset_bundles.specs.BundleLaws.{same_bundles, amount-bundle_of, rows-holding, found-holding}
 use Rattle.asset_bundles.specs.Filters.{is_all_of, first_kinds, Taken, Left}
+use Rattle.asset_bundles.specs.Joins.{IsListOf}
 use Rattle.asset_bundles.specs.Changed.{rows_with, with_amounts, amount-with_amounts}
 use Rattle.asset_bundles.specs.Portions.{fun_with, asset_with, kept, changed, FitsInstances, left_of, wanted, count_of_filter, at_most, chosen, IsListed}
 use Rattle.asset_bundles.proofs.Listing.{holding_of_list}
@@ -204,38 +205,30 @@ positive_take zero xs positive = tt
 positive_take (suc n) [] positive = tt
 positive_take (suc n) (a ∷ xs) positive = (positive.0, positive_take n xs positive.1)
 
+pub first_holding : (n : ℕ) (xs : List Asset) → IsHolding xs → IsHolding (take n xs)
+first_holding n xs h = record { rising = rising_take n xs h.rising; positive = positive_take n xs h.positive }
+
 at_most_holding : (n : Option ℕ) (xs : List Asset) → IsHolding xs → IsHolding (at_most n xs)
 at_most_holding None xs h = h
-at_most_holding (Some n) xs h = record { rising = rising_take n xs h.rising; positive = positive_take n xs h.positive }
+at_most_holding (Some n) xs h = first_holding n xs h
 
 pub chosen_holding : (filter : Filter) (xs : List Asset) → IsHolding xs → IsHolding (chosen filter xs)
 chosen_holding filter xs h = at_most_holding (count_of_filter filter) (changed (wanted filter) xs) (changed_holding (wanted filter) (fits_wanted filter) xs h)
 
 -- ---- a list that is taken in two
-pub record IsTaken (filter : Filter) (xs taken left : List Asset) : Type 0 where
-  pub taken_holding : IsHolding taken
-  pub left_holds : IsHolding left
-  pub taken_is : bundle_of taken ≡ Taken filter (bundle_of xs)
-  pub left_is : bundle_of left ≡ Left filter (bundle_of xs)
-
-pub is_taken : (filter : Filter) (xs taken left : List Asset) → IsListed filter → IsHolding xs → taken ≡ chosen filter xs → left ≡ changed (left_of taken) xs → IsTaken filter xs taken left
-unfolding Left
-is_taken filter xs taken left listed h first rest =
-    let t : IsHolding taken = subst IsHolding (sym first) (chosen_holding filter xs h) in
-    let same : bundle_of taken ≡ Taken filter (bundle_of xs) = ap bundle_of first ∙ chosen_taken filter xs listed h in
-    record {
-      taken_holding = t;
-      left_holds = subst IsHolding (sym rest) (left_holding taken xs h);
-      taken_is = same;
-      left_is = ap bundle_of rest ∙ left_difference taken xs t h ∙ ap (difference (bundle_of xs)) same;
-    }
-
-pub record IsCut (xs taken left : List Asset) : Type 0 where
-  pub left_holds : IsHolding left
-  pub left_is : bundle_of left ≡ difference (bundle_of xs) (bundle_of taken)
-
-pub is_cut : (xs taken left : List Asset) → IsHolding taken → IsHolding xs → left ≡ changed (left_of taken) xs → IsCut xs taken left
-is_cut xs taken left t h rest = record {
-  left_holds = subst IsHolding (sym rest) (left_holding taken xs h);
-  left_is = ap bundle_of rest ∙ left_difference taken xs t h;
+pub taken_list : (filter : Filter) (xs taken : List Asset) → IsListed filter → IsHolding xs → taken ≡ chosen filter xs → IsListOf (Taken filter (bundle_of xs)) taken
+taken_list filter xs taken listed h first = record {
+  holding = subst IsHolding (sym first) (chosen_holding filter xs h);
+  bundle = ap bundle_of first ∙ chosen_taken filter xs listed h;
 }
+
+pub rest_list : (xs taken left : List Asset) → IsHolding taken → IsHolding xs → left ≡ changed (left_of taken) xs → IsListOf (difference (bundle_of xs) (bundle_of taken)) left
+rest_list xs taken left t h rest = record {
+  holding = subst IsHolding (sym rest) (left_holding taken xs h);
+  bundle = ap bundle_of rest ∙ left_difference taken xs t h;
+}
+
+pub left_list : (filter : Filter) (xs taken left : List Asset) → IsListOf (Taken filter (bundle_of xs)) taken → IsHolding xs → left ≡ changed (left_of taken) xs → IsListOf (Left filter (bundle_of xs)) left
+unfolding Left
+left_list filter xs taken left part h rest =
+    subst (λ b. IsListOf (difference (bundle_of xs) b) left) part.bundle (rest_list xs taken left part.holding h rest)

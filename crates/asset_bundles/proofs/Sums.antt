@@ -10,7 +10,7 @@ use Rattle.std.specs.Ordering.{eq_by_cmp, is_lt}
 use Rattle.std.proofs.lemmas.Bool.{and_parts, and_from, leb-true, le-leb}
 use Rattle.std.proofs.lemmas.List.Sums.{sum_by-cons, sum_by-append}
 use Rattle.amounts.specs.Rows.{amount_if, sum_where, sum_where-append, IsPositive}
-use Rattle.amounts.specs.Amounts.{amount}
+use Rattle.amounts.specs.Amounts.{amount, merge}
 use Rattle.amounts.specs.Laws.{key_same}
 use Rattle.asset_lists.specs.declared.units.AssetId.{AssetId}
 use Rattle.asset_lists.specs.declared.units.Instance.{Instance}
@@ -18,12 +18,12 @@ use Rattle.asset_lists.specs.declared.units.Fun.{Fun}
 use Rattle.asset_lists.specs.declared.units.Asset.{Asset}
 use Rattle.asset_lists.specs.Units.{Unit, unit_of, amount_of, unit_cmp, instance_in, amount_in, asset_cmp}
 use Rattle.asset_lists.specs.Lists.{has_zero, is_rising, is_of}
-use Rattle.asset_lists.specs.Moves.{count_of}
-use Rattle.asset_lists.proofs.Sorting.{once_each}
-use Rattle.asset_bundles.specs.Bundles.{Bundle, unit_keys, rows_of, bundle_of, found, IsHolding}
-use Rattle.asset_bundles.specs.BundleLaws.{same_bundles, amount-bundle_of, found-holding}
+use Rattle.asset_lists.specs.Moves.{occurrences}
+use Rattle.asset_lists.specs.Laws.{once_each}
+use Rattle.asset_bundles.specs.Bundles.{Bundle, unit_keys, rows_of, bundle_of, held_assets, found, IsHolding}
+use Rattle.asset_bundles.specs.BundleLaws.{same_bundles, amount-bundle_of, held_assets-holding, found-holding}
 use Rattle.asset_bundles.specs.Changed.{amount-with_amounts}
-use Rattle.asset_bundles.specs.Joins.{most_of, Joined, Excess, IsJoin}
+use Rattle.asset_bundles.specs.Joins.{most_of, Joined, Excess, IsWithinMost, IsListOf}
 use Rattle.asset_bundles.specs.Laws.{amount-Joined, amount-Excess}
 use Rattle.asset_bundles.specs.Portions.{kept, changed, FitsInstances, grown_by, above_by, new_to, is_within_most, AreWithinMost}
 use Rattle.asset_bundles.proofs.Giving.{eq_turned}
@@ -182,7 +182,7 @@ one_if : (b : Bool) (n : ℕ) → 0 < n → cond {A = ℕ} b 1 0 ≤ amount_if b
 one_if true n positive = omega (arith, positive)
 one_if false n positive = omega arith
 
-counted_at_most : (u : Unit) (xs : List Asset) → IsPositive (rows_of xs) → count_of u xs ≤ sum_where (eq_by_cmp unit_cmp u) (rows_of xs)
+counted_at_most : (u : Unit) (xs : List Asset) → IsPositive (rows_of xs) → occurrences u xs ≤ sum_where (eq_by_cmp unit_cmp u) (rows_of xs)
 counted_at_most u [] positive = omega arith
 counted_at_most u (a ∷ xs) positive =
     let first = sum_by-cons (λ b. cond {A = ℕ} (is_of u b) 1 0) a xs in
@@ -191,13 +191,13 @@ counted_at_most u (a ∷ xs) positive =
     let rest = counted_at_most u xs positive.1 in
     omega (arith, first, one, same, rest)
 
-pub counted_held : (xs : List Asset) → IsHolding xs → (u : Unit) → (count_of u xs ≤ amount (bundle_of xs) u) × (count_of u xs ≤ 1)
+pub counted_held : (xs : List Asset) → IsHolding xs → (u : Unit) → (occurrences u xs ≤ amount (bundle_of xs) u) × (occurrences u xs ≤ 1)
 counted_held xs h u =
     let most = counted_at_most u xs h.positive in
     let is = amount-bundle_of xs u in
     (omega (arith, most, is), once_each xs (is_rising_of xs h.rising) u)
 
-count-append : (u : Unit) (xs ys : List Asset) → count_of u (xs ++ ys) ≡ count_of u xs + count_of u ys
+count-append : (u : Unit) (xs ys : List Asset) → occurrences u (xs ++ ys) ≡ occurrences u xs + occurrences u ys
 count-append u xs ys = sum_by-append (λ b. cond {A = ℕ} (is_of u b) 1 0) xs ys
 
 apart_here : (u : Unit) (xs ys : List Asset) (m n a b : ℕ) → found u xs ≡ m → a ≤ some (grown_by ys) u m → b ≤ some (new_to xs) u n → a ≤ 1 → b ≤ 1 → a + b ≤ 1
@@ -205,14 +205,14 @@ unfolding some
 apart_here u xs ys zero n a b here first second once again = omega (arith, first, again)
 apart_here u xs ys (suc m) n a b here first second once again = let none = not_new u xs n (omega (arith, here)) in omega (arith, none, second, once)
 
-pub joined_once : (xs ys : List Asset) → IsHolding xs → IsHolding ys → (u : Unit) → count_of u (changed (grown_by ys) xs ++ changed (new_to xs) ys) ≤ 1
+pub joined_once : (xs ys : List Asset) → IsHolding xs → IsHolding ys → (u : Unit) → occurrences u (changed (grown_by ys) xs ++ changed (new_to xs) ys) ≤ 1
 joined_once xs ys h k u =
     let front = counted_held (changed (grown_by ys) xs) (changed_holding (grown_by ys) (fits_grown ys) xs h) u in
     let back = counted_held (changed (new_to xs) ys) (changed_holding (new_to xs) (fits_new xs) ys k) u in
     subst (λ n. n ≤ 1) (sym (count-append u (changed (grown_by ys) xs) (changed (new_to xs) ys)))
     (apart_here u xs ys (amount (bundle_of xs) u) (amount (bundle_of ys) u) _ _ (found-holding xs u h)
-    (subst (λ n. count_of u (changed (grown_by ys) xs) ≤ n) (amount_changed (grown_by ys) (fits_grown ys) xs h u) front.0)
-    (subst (λ n. count_of u (changed (new_to xs) ys) ≤ n) (amount_changed (new_to xs) (fits_new xs) ys k u) back.0) front.1 back.1)
+    (subst (λ n. occurrences u (changed (grown_by ys) xs) ≤ n) (amount_changed (grown_by ys) (fits_grown ys) xs h u) front.0)
+    (subst (λ n. occurrences u (changed (new_to xs) ys) ≤ n) (amount_changed (new_to xs) (fits_new xs) ys k u) back.0) front.1 back.1)
 
 pub positive_append : (xs ys : List Asset) → IsPositive (rows_of xs) → IsPositive (rows_of ys) → IsPositive (rows_of (xs ++ ys))
 positive_append [] ys first second = second
@@ -222,20 +222,42 @@ pub no_zero_of : (xs : List Asset) → IsPositive (rows_of xs) → has_zero xs �
 no_zero_of [] positive = refl
 no_zero_of (a ∷ xs) positive = λ i. some_there (amount_of a) positive.0 i || no_zero_of xs positive.1 i
 
--- ---- both lists joined, sorted, and what is given up
-pub is_join : (xs ys all stands above : List Asset) → IsHolding xs → IsHolding ys → AreWithinMost ys
-    → all ≡ changed (grown_by ys) xs ++ changed (new_to xs) ys → IsPermutation all stands → IsSorted asset_cmp stands → above ≡ changed (above_by ys) xs
-    → IsJoin (bundle_of xs) (bundle_of ys) stands above
-is_join xs ys all stands above h k most both moves sorted rest =
-    let within = found_most ys most in
-    let moved : IsPermutation (changed (grown_by ys) xs ++ changed (new_to xs) ys) stands = subst (λ zs. IsPermutation zs stands) both moves in
+pub take_whole : (n : ℕ) (xs : List Asset) → length xs ≤ n → take n xs ≡ xs
+take_whole zero [] all = refl
+take_whole zero (a ∷ xs) all = absurd (omega (arith, all))
+take_whole (suc n) [] all = refl
+take_whole (suc n) (a ∷ xs) all = ap (λ ys. a ∷ ys) (take_whole n xs (omega (arith, all)))
+
+-- ---- both lists joined and sorted, and what is given up
+pub is_together : (xs ys all kept : List Asset) → IsHolding xs → IsHolding ys → AreWithinMost ys
+    → all ≡ changed (grown_by ys) xs ++ changed (new_to xs) ys → IsPermutation all kept → IsSorted asset_cmp kept → IsListOf (Joined (bundle_of xs) (bundle_of ys)) kept
+is_together xs ys all kept h k most both moves sorted =
+    let moved : IsPermutation (changed (grown_by ys) xs ++ changed (new_to xs) ys) kept = subst (λ zs. IsPermutation zs kept) both moves in
     record {
-      stands_holding = sorted_holding _ _ moved sorted (joined_once xs ys h k)
+      holding = sorted_holding _ _ moved sorted (joined_once xs ys h k)
           (no_zero_of _ (positive_append _ _ (changed_holding (grown_by ys) (fits_grown ys) xs h).positive (changed_holding (new_to xs) (fits_new xs) ys k).positive));
-      stands_is = bundle_of-IsPermutation _ _ moved ∙ joined_is xs ys h k within;
-      above_holding = subst IsHolding (sym rest) (changed_holding (above_by ys) (fits_above ys) xs h);
-      above_is = ap bundle_of rest ∙ excess_is xs ys h k within;
+      bundle = bundle_of-IsPermutation _ _ moved ∙ joined_is xs ys h k (found_most ys most);
     }
 
-pub join_at : (m n o p : Bundle) (stands above : List Asset) → IsJoin m n stands above → m ≡ o → n ≡ p → IsJoin o p stands above
-join_at m n o p stands above join first second = subst (λ b. IsJoin o b stands above) second (subst (λ b. IsJoin b n stands above) first join)
+pub is_above : (xs ys above : List Asset) → IsHolding xs → IsHolding ys → AreWithinMost ys → above ≡ changed (above_by ys) xs → IsListOf (Excess (bundle_of xs) (bundle_of ys)) above
+is_above xs ys above h k most is = record {
+  holding = subst IsHolding (sym is) (changed_holding (above_by ys) (fits_above ys) xs h);
+  bundle = ap bundle_of is ∙ excess_is xs ys h k (found_most ys most);
+}
+
+pub joined_at : (m n o p : Bundle) (xs : List Asset) → IsListOf (Joined m n) xs → m ≡ o → n ≡ p → IsListOf (Joined o p) xs
+joined_at m n o p xs list first second = subst (λ b. IsListOf (Joined o b) xs) second (subst (λ b. IsListOf (Joined b n) xs) first list)
+
+pub excess_at : (m n o p : Bundle) (xs : List Asset) → IsListOf (Excess m n) xs → m ≡ o → n ≡ p → IsListOf (Excess o p) xs
+excess_at m n o p xs list first second = subst (λ b. IsListOf (Excess o b) xs) second (subst (λ b. IsListOf (Excess b n) xs) first list)
+
+pub list_held : (b : Bundle) (xs : List Asset) → IsListOf b xs → xs ≡ held_assets b
+list_held b xs list = sym (held_assets-holding xs list.holding) ∙ ap held_assets list.bundle
+
+-- amounts that are within the most on the list are so in the bundle
+pub within_most_of : (b : Bundle) (xs : List Asset) → IsHolding xs → AreWithinMost xs → bundle_of xs ≡ b → IsWithinMost b
+within_most_of b xs h most is u = subst (λ n. n ≤ most_of u.1) (found-holding xs u h ∙ ap (λ c. amount c u) is) (found_most xs most u)
+
+-- what is left and what was taken, put together again
+pub whole_again : (b m n : Bundle) (left taken : List Asset) → IsListOf m left → IsListOf n taken → merge m n ≡ b → merge (bundle_of left) (bundle_of taken) ≡ b
+whole_again b m n left taken l t whole = (λ i. merge (l.bundle i) (t.bundle i)) ∙ whole

@@ -5,7 +5,8 @@ use Rattle.std.specs.Coded.{Coded, code_by, coded_ℕ, coded×, coded_list}
 use Rattle.asset_lists.specs.contracts.units.AssetId.{the_row as asset_id}
 use Rattle.asset_lists.specs.contracts.units.Kind.{the_row as kind}
 use Rattle.asset_bundles.specs.contracts.book.Cause.{the_row as cause}
-use Rattle.asset_bundles.specs.Books.{Listed, Burns, Book}
+use Rattle.asset_bundles.specs.Books.{Burns, Book}
+use Rattle.asset_lists.specs.Listed.{Listed}
 
 abbrev pub listed_code : Coded Listed
 listed_code = coded× asset_id.coded kind.coded

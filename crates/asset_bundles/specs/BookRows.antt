@@ -1,11 +1,12 @@
 -- The rows that the code keeps, as the book that they are.
-use Rattle.std.specs.Prelude.{◌≡◌, ℕ, ◌+◌, ◌-◌, ◌^◌, ◌≤◌, min, Bool, true, false, not, if◌then◌else◌, List, [], ◌∷◌}
+use Rattle.std.specs.Prelude.{◌≡◌, ℕ, ◌+◌, ◌≤◌, min, Bool, true, false, not, if◌then◌else◌, List, [], ◌∷◌}
 use Rattle.std.specs.Ordering.{eq_by_cmp, nat_cmp}
 use Rattle.amounts.specs.Entries.{from_entries}
 use Rattle.asset_bundles.specs.declared.book.Cause.{Cause}
-use Rattle.asset_bundles.specs.declared.book.Total.{Total}
+use Rattle.asset_bundles.specs.declared.totals.Total.{Total}
 use Rattle.asset_bundles.specs.declared.book.BookRow.{BookRow}
-use Rattle.asset_bundles.specs.Books.{Listed, listed_cmp, cause_index, Burn, Book}
+use Rattle.asset_bundles.specs.Books.{cause_index, Burn, Book, most_burned}
+use Rattle.asset_lists.specs.Listed.{Listed, listed_cmp}
 use Rattle.asset_bundles.specs.Totals.{total_value}
 
 abbrev pub row_key : BookRow → Listed
@@ -36,9 +37,9 @@ abbrev pub total_at : Listed → Cause → List BookRow → ℕ
 total_at k cause [] = 0
 total_at k cause (r ∷ rs) = if eq_by_cmp listed_cmp k (row_key r) then total_value (total_for cause r) else total_at k cause rs
 
--- no total has passed its end
-abbrev pub Stands : List BookRow → Type 0
-Stands rs = (k : Listed) (cause : Cause) → total_at k cause rs ≤ 2 ^ 160 - 1
+-- no total is above the most that it holds
+abbrev pub AreInRange : List BookRow → Type 0
+AreInRange rs = (k : Listed) (cause : Cause) → total_at k cause rs ≤ most_burned
 
 abbrev pub is_other_row : Listed → BookRow → Bool
 is_other_row k r = not (eq_by_cmp listed_cmp k (row_key r))
@@ -49,7 +50,7 @@ is_cause c d = eq_by_cmp nat_cmp (cause_index c) (cause_index d)
 -- a row with so much more for one cause
 pub record IsBurned (cause : Cause) (n : ℕ) (old new : BookRow) : Type 0 where
   pub key : row_key new ≡ row_key old
-  pub totals : (c : Cause) → total_value (total_for c new) ≡ (if is_cause c cause then min (total_value (total_for c old) + n) (2 ^ 160 - 1) else total_value (total_for c old))
+  pub totals : (c : Cause) → total_value (total_for c new) ≡ (if is_cause c cause then min (total_value (total_for c old) + n) most_burned else total_value (total_for c old))
 
 abbrev pub CasesOf : Bool → Type 0 → Type 0 → Type 0
 CasesOf true P Q = P

@@ -1,4 +1,4 @@
--- A bundle and the list of its assets tell the same.
+-- Proofs that a reader skips: a bundle and the list of its assets tell the same.
 use Rattle.std.specs.Prelude.{◌≡◌, suc, Bool, List, [], ◌∷◌, length, refl}
 use Rattle.std.specs.Ordering.{eq_by_cmp}
 use Rattle.std.specs.declared.cmp.Ordering.{Ordering}
@@ -10,7 +10,7 @@ use Rattle.amounts.specs.Laws.{amount-from_rows, total-from_rows, rows-from_rows
 use Rattle.asset_lists.specs.declared.units.Fun.{Fun}
 use Rattle.asset_lists.specs.declared.units.Asset.{Asset}
 use Rattle.asset_lists.specs.Units.{Unit, unit_cmp, instance_in, amount_in}
-use Rattle.asset_bundles.specs.Bundles.{Bundle, unit_keys, rows_of, bundle_of, fun_of, assets_at, held_assets, IsHolding, found}
+use Rattle.asset_bundles.specs.Bundles.{Bundle, unit_keys, rows_of, bundle_of, fun_of, assets_at, held_assets, IsHolding, IsGoods, found}
 
 pub same_bundles : (m n : Bundle) → ((u : Unit) → amount m u ≡ amount n u) → m ≡ n
 same_bundles = same_amounts unit_keys
@@ -39,6 +39,9 @@ rows-holding xs h = rows-from_rows unit_keys (rows_of xs) (is_sorted_of_keys uni
 pub held_assets-holding : (xs : List Asset) → IsHolding xs → held_assets (bundle_of xs) ≡ xs
 unfolding held_assets
 held_assets-holding xs h = ap assets_at (rows-holding xs h) ∙ assets_back xs
+
+pub goods-holding : (xs : List Asset) → IsHolding xs → IsGoods (bundle_of xs)
+goods-holding xs h = ap bundle_of (held_assets-holding xs h)
 
 -- what is held of a unit is found at its one place
 pub found-holding : (xs : List Asset) (u : Unit) → IsHolding xs → found u xs ≡ amount (bundle_of xs) u

@@ -1,7 +1,7 @@
 -- What a bundle holds: a finite map from units to amounts above 0. A unit is an asset id, and for one of a
 -- class the instance, whose amount is 1. This is the project's own vocabulary, in the terms of the holding
 -- register of xcm-executor's documentation.
-use Rattle.std.specs.Prelude.{ℕ, Bool, true, false, ◌&&◌, List, [], ◌∷◌, Option, Some, None, unwrap_or}
+use Rattle.std.specs.Prelude.{◌≡◌, ℕ, Bool, true, false, ◌&&◌, List, [], ◌∷◌, Option, Some, None, unwrap_or}
 use Rattle.std.specs.Ordering.{eq_by_cmp}
 use Rattle.std.specs.FinMap.{find}
 use Rattle.std.specs.List.Sorted.{IsStrictlySortedBy}
@@ -47,6 +47,10 @@ held_assets b = assets_at (rows b)
 pub record IsHolding (xs : List Asset) : Type 0 where
   pub rising : IsStrictlySortedBy unit_cmp (keys_of (rows_of xs))
   pub positive : IsPositive (rows_of xs)
+
+-- a bundle that is the one of the list of its assets: no instance counts twice
+abbrev pub IsGoods : Bundle → Type 0
+IsGoods b = bundle_of (held_assets b) ≡ b
 
 -- what the first asset of a unit has, or 0
 abbrev pub found : Unit → List Asset → ℕ

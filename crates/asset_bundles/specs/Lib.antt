@@ -9,6 +9,7 @@ pub mod Laws
 pub mod Portions
 pub mod Taking
 pub mod Totals
+pub mod TotalLaws
 pub mod BookCode
 pub mod BookRows
 pub mod Losing

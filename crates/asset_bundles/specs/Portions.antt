@@ -86,7 +86,7 @@ spent unit n (a ∷ xs) = if eq_by_cmp unit_cmp unit (unit_of a) then kept a (am
 abbrev pub is_other : Unit → Asset → Bool
 is_other unit a = not (eq_by_cmp unit_cmp unit (unit_of a))
 
--- what stands of each unit with what there is more of it
+-- what is kept of each unit with what there is more of it
 abbrev pub grown_by : List Asset → Unit → ℕ → ℕ
 grown_by more unit n = within_most unit (n + found unit more)
 

@@ -1,6 +1,12 @@
--- What a total of the book is as a number.
+-- What a total of the book is as a number, and the order of totals. This is the project's own.
 use Rattle.std.specs.Prelude.{ℕ, ◌+◌, ◌*◌, ◌^◌}
-use Rattle.asset_bundles.specs.declared.book.Total.{Total}
+use Rattle.std.specs.Ordering.{nat_cmp, on}
+use Rattle.std.specs.declared.cmp.Ordering.{Ordering}
+use Rattle.asset_bundles.specs.declared.totals.Total.{Total}
 
 abbrev pub total_value : Total → ℕ
 total_value t = t.high * 2 ^ 128 + t.low
+
+-- totals as the numbers that they are
+abbrev pub total_cmp : Total → Total → Ordering
+total_cmp = on total_value nat_cmp

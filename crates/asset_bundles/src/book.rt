@@ -1,4 +1,5 @@
 //! The book of burns.
+use crate::Total;
 use asset_lists::{AssetId, Kind};
 use std::marker::Model;
 
@@ -13,16 +14,6 @@ pub enum Cause {
     Merged,
     /// What would have passed 2^128-1 of an amount.
     Saturated,
-}
-
-/// A sum of burns, in the asset's smallest unit or in instances: `high * 2^128 + low`. It stands at
-/// 2^160-1 once it would pass it.
-#[derive(Clone, Copy, Debug, PartialEq, Eq)]
-pub struct Total {
-    /// The sum below 2^128.
-    pub low: u128,
-    /// How often 2^128 is in it.
-    pub high: u32,
 }
 
 /// A listed asset, and what was burned of it for each cause.
@@ -50,9 +41,9 @@ impl Model for BurnBook {
 
     ghost coded = { book_code };
 
-    ghost use Rattle.asset_bundles.specs.BookRows.{book_of, Stands};
+    ghost use Rattle.asset_bundles.specs.BookRows.{book_of, AreInRange};
 
     ghost view = { λ b. book_of b.rows.items };
 
-    ghost invariant = { λ b. Stands b.rows.items };
+    ghost invariant = { λ b. AreInRange b.rows.items };
 }

@@ -1,11 +1,12 @@
 //! Burns written into the book, and read.
-ghost use Rattle.std.specs.Prelude.{◌≡◌, ◌+◌, ◌-◌, ◌^◌, ◌≤◌, min, length, IsTrue, IfOk};
+ghost use Rattle.std.specs.Prelude.{◌≡◌, ◌≤◌, length, IsTrue, IfOk};
 ghost use Rattle.std.specs.List.{prefix_len};
 ghost use Rattle.std.specs.Ordering.{eq_by_cmp, nat_cmp};
 ghost use Rattle.amounts.specs.Amounts.{amount, single, empty};
 ghost use Rattle.asset_bundles.specs.Totals.{total_value};
 ghost use Rattle.asset_bundles.specs.declared.book.Cause.{Cause};
-ghost use Rattle.asset_bundles.specs.Books.{Booked, Listed, listed_cmp, kind_number, lists};
+ghost use Rattle.asset_bundles.specs.Books.{Booked};
+ghost use Rattle.asset_lists.specs.Listed.{Listed, listed_cmp, kind_number, lists};
 ghost use Rattle.asset_bundles.specs.BookRows.{row_key, keys_in, total_for, total_at, is_other_row, IsBurned, IsBooked};
 
 use crate::book::BookRow;
@@ -14,31 +15,7 @@ use asset_lists::{AssetId, Kind};
 use std::alloc::{AllocError, Global};
 
 /// Nothing burned.
-const NONE: Total = Total { low: 0, high: 0 };
-
-impl Total {
-    /// So much more; it stands at 2^160-1 where it would pass it.
-    pub fn plus(self, amount: u128) -> Total
-        ensures { total_value result ≡ min (total_value self + amount) (2 ^ 160 - 1) }
-    {
-        if amount <= u128::MAX - self.low {
-            return Total {
-                low: self.low + amount,
-                high: self.high,
-            };
-        }
-        if self.high == u32::MAX {
-            return Total {
-                low: u128::MAX,
-                high: u32::MAX,
-            };
-        }
-        Total {
-            low: amount - (u128::MAX - self.low) - 1,
-            high: self.high + 1,
-        }
-    }
-}
+const NONE: Total = Total { high: 0, low: 0 };
 
 impl BookRow {
     /// The row of an asset of which nothing was burned.
@@ -60,7 +37,7 @@ impl BookRow {
     fn is_of(&self, id: &AssetId, kind: Kind) -> bool
         ensures { result ≡ eq_by_cmp listed_cmp (id.now, kind) (row_key self.now) }
     {
-        *id == self.id && is_same_kind(kind, self.kind)
+        *id == self.id && kind == self.kind
     }
 
     /// What was burned for a cause.
@@ -85,18 +62,6 @@ impl BookRow {
             Cause::Merged => self.merged = self.merged.plus(amount),
             Cause::Saturated => self.saturated = self.saturated.plus(amount),
         }
-    }
-}
-
-/// Whether both are amounts, or both classes.
-pub(crate) fn is_same_kind(kind: Kind, other: Kind) -> bool
-    ensures { result ≡ eq_by_cmp nat_cmp (kind_number kind) (kind_number other) }
-{
-    match (kind, other) {
-        (Kind::Fungible, Kind::Fungible) => true,
-        (Kind::Fungible, Kind::Class) => false,
-        (Kind::Class, Kind::Fungible) => false,
-        (Kind::Class, Kind::Class) => true,
     }
 }
 

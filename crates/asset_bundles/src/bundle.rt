@@ -1,16 +1,17 @@
 //! Bundles of assets.
-ghost use Rattle.std.specs.Prelude.{◌≡◌, ◌≤◌, ◌↔◌, None, length, IsTrue, IsFalse, IfOk, OnOk, OnErr, MatchResult};
-ghost use Rattle.amounts.specs.Amounts.{empty, amount, total, rows, minus, difference, IsWithin};
+ghost use Rattle.std.specs.Prelude.{◌≡◌, ◌≤◌, ◌↔◌, None, length, IsTrue, IsFalse, IfOk, IfErr, OnOk, OnErr};
+ghost use Rattle.amounts.specs.Amounts.{empty, amount, total, rows, minus, merge, difference, IsWithin};
 ghost use Rattle.asset_lists.specs.Units.{Unit, unit_of, amount_of};
 ghost use Rattle.asset_lists.specs.Lists.{has_zero};
-ghost use Rattle.asset_lists.specs.Moves.{count_of};
+ghost use Rattle.asset_lists.specs.Moves.{occurrences};
 ghost use Rattle.asset_bundles.specs.Bundles.{bundle_of, held_assets, is_asset};
 ghost use Rattle.asset_bundles.specs.Filters.{Taken, Left};
+ghost use Rattle.asset_bundles.specs.Joins.{IsWithinMost};
 ghost use Rattle.asset_bundles.specs.Taking.{IsTakeFault};
 
 use crate::TakeFault;
-use crate::items::{copied, held, holds, total};
-use crate::portions::{chosen, cut, without};
+use crate::items::{amounts_fit, copied, held, holds, total};
+use crate::portions::{chosen, cut, parted};
 use crate::spending::give_up;
 use asset_lists::{Asset, AssetId, Assets, Filter, Fun, Kind};
 use std::alloc::{AllocError, Global};
@@ -50,7 +51,7 @@ impl AssetBundle {
 
     /// Makes units: the bundle of just these assets, in any order.
     pub fn mint(alloc: Global, items: &[Asset]) -> Result<AssetBundle, AllocError>
-        requires once { (unit : Unit) → count_of unit items.now ≤ 1 }
+        requires once { (unit : Unit) → occurrences unit items.now ≤ 1 }
         requires no_zero { IsFalse (has_zero items.now) }
         ensures { IfOk result (λ goods. goods ≡ bundle_of items.now) }
     {
@@ -126,32 +127,34 @@ impl AssetBundle {
     pub fn take(&mut self, filter: &Filter) -> Result<AssetBundle, AllocError>
         ensures taken { IfOk result (λ goods. goods ≡ Taken filter.now self.old) }
         ensures left { OnOk result (self.new ≡ Left filter.now self.old) }
+        ensures whole { IfOk result (λ goods. merge self.new goods ≡ self.old) }
+        ensures fits_back { IfOk result (λ goods. IsWithinMost (merge self.new goods)) }
         ensures err { OnErr result (self.new ≡ self.old) }
     {
+        amounts_fit(self.items.as_slice());
         let alloc = *self.items.allocator();
-        let taken = chosen(alloc, self.items.as_slice(), filter)?;
-        let left = without(alloc, self.items.as_slice(), taken.as_slice())?;
+        let (taken, left) = parted(alloc, self.items.as_slice(), filter)?;
         self.items = left;
         Ok(AssetBundle { items: taken })
     }
 
     /// Takes just the listed assets, or nothing where one of them isn't held in full.
     pub fn try_take(&mut self, list: &Assets) -> Result<AssetBundle, TakeFault>
-        ensures { MatchResult result
-            (λ goods. IsWithin (bundle_of list.now) self.old × (goods ≡ bundle_of list.now)
-            × (self.new ≡ difference self.old (bundle_of list.now)))
-            (λ fault. IsTakeFault self.old list.now fault × (self.new ≡ self.old)) }
+        ensures held { OnOk result (IsWithin (bundle_of list.now) self.old) }
+        ensures taken { IfOk result (λ goods. goods ≡ bundle_of list.now) }
+        ensures left { OnOk result (self.new ≡ difference self.old (bundle_of list.now)) }
+        ensures whole { IfOk result (λ goods. merge self.new goods ≡ self.old) }
+        ensures fits_back { IfOk result (λ goods. IsWithinMost (merge self.new goods)) }
+        ensures fault { IfErr result (λ fault. IsTakeFault self.old list.now fault) }
+        ensures err { OnErr result (self.new ≡ self.old) }
     {
         if !self.contains(list) {
             return Err(TakeFault::NotHeld);
         }
+        amounts_fit(self.items.as_slice());
         let alloc = *self.items.allocator();
-        match cut(alloc, self.items.as_slice(), list.items()) {
-            Ok((taken, left)) => {
-                self.items = left;
-                Ok(AssetBundle { items: taken })
-            }
-            Err(_) => Err(TakeFault::Memory),
-        }
+        let (taken, left) = cut(alloc, self.items.as_slice(), list.items())?;
+        self.items = left;
+        Ok(AssetBundle { items: taken })
     }
 }

@@ -5,21 +5,11 @@ ghost use Rattle.amounts.specs.Amounts.{from_rows};
 ghost use Rattle.amounts.specs.Rows.{rows_at};
 ghost use Rattle.asset_lists.specs.Units.{unit_of, instance_in};
 ghost use Rattle.asset_bundles.specs.Bundles.{rows_of};
-ghost use Rattle.asset_bundles.specs.Books.{Booked, Covers, burned_for, excess_cause, kind_of, listed_of, lists};
+ghost use Rattle.asset_bundles.specs.Books.{Booked, AreListed, burned_for, excess_cause};
+ghost use Rattle.asset_lists.specs.Listed.{kind_of, listed_of, lists};
 
-use crate::items::amount_of;
 use crate::{AssetBundle, BurnBook, Cause};
-use asset_lists::{Asset, Fun, Kind};
-
-/// Whether it is an amount or an instance of a class.
-pub(crate) fn kind_of(item: &Asset) -> Kind
-    ensures { result ≡ kind_of (instance_in item.now.fun) }
-{
-    match item.fun {
-        Fun::Fungible(_) => Kind::Fungible,
-        Fun::NonFungible(_) => Kind::Class,
-    }
-}
+use asset_lists::{Asset, Fun};
 
 /// Books all these assets for one cause.
 fn book_all(book: &mut BurnBook, items: &[Asset], cause: Cause)
@@ -28,7 +18,7 @@ fn book_all(book: &mut BurnBook, items: &[Asset], cause: Cause)
 {
     let _ = &book.rows;
     for item in items {
-        book.add(&item.id, kind_of(item), cause, amount_of(item));
+        book.add(&item.id, item.kind(), cause, item.amount());
     }
 }
 
@@ -49,14 +39,14 @@ pub(crate) fn book_excess(book: &mut BurnBook, items: &[Asset])
 {
     let _ = &book.rows;
     for item in items {
-        book.add(&item.id, kind_of(item), excess_cause(item), amount_of(item));
+        book.add(&item.id, item.kind(), excess_cause(item), item.amount());
     }
 }
 
 impl AssetBundle {
     /// Burns all of it, and books it for this cause. The book lists each asset of it.
     pub fn burn(self, book: &mut BurnBook, cause: Cause)
-        requires { Covers book.old self }
+        requires { AreListed book.old.listed self }
         ensures { book.new ≡ Booked book.old (burned_for cause self) }
     {
         let AssetBundle { items } = self;

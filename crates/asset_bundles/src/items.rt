@@ -7,17 +7,17 @@ ghost use Rattle.amounts.specs.Amounts.{total};
 ghost use Rattle.asset_lists.specs.declared.units.Kind.{Kind};
 ghost use Rattle.asset_lists.specs.Units.{unit_of, amount_of, unit_cmp, assets_cmp};
 ghost use Rattle.asset_bundles.specs.Bundles.{rows_of, found, is_asset, bundle_of, IsHolding};
+ghost use Rattle.asset_bundles.specs.Portions.{AreWithinMost};
 
 use asset_lists::{Asset, AssetId, Fun, Kind};
 use std::alloc::{AllocError, Global};
 
-/// The amount in the asset's smallest unit; 1 for an instance.
-pub(crate) fn amount_of(asset: &Asset) -> u128
-    ensures { result ≡ amount_of asset.now }
+/// For the prover alone: no amount is above the most of its type. Nothing is done.
+pub(crate) fn amounts_fit(items: &[Asset])
+    ensures { AreWithinMost items.now }
 {
-    match asset.fun {
-        Fun::Fungible(amount) => amount,
-        Fun::NonFungible(_) => 1,
+    for item in items {
+        let _amount = item.amount();
     }
 }
 
@@ -34,7 +34,7 @@ pub(crate) fn held(items: &[Asset], asset: &Asset) -> u128
 {
     for item in items {
         if is_same_unit(asset, item) {
-            return amount_of(item);
+            return item.amount();
         }
     }
     0
@@ -45,7 +45,7 @@ pub(crate) fn holds(items: &[Asset], list: &[Asset]) -> bool
     ensures { result ≡ list_all (λ a. nat_le (amount_of a) (found (unit_of a) items.now)) list.now }
 {
     list.iter()
-        .all(|asset| amount_of(asset) <= held(items, asset))
+        .all(|asset| asset.amount() <= held(items, asset))
 }
 
 /// Whether it is an instance of the class.

@@ -1,13 +1,14 @@
 //! Bundles that are joined.
-ghost use Rattle.std.specs.Prelude.{◌≡◌, ◌++◌, IsTrue, IfOk, OnOk, MatchResult};
+ghost use Rattle.std.specs.Prelude.{◌≡◌, ◌++◌, IfOk, IfErr, OnOk, OnErr};
+ghost use Rattle.amounts.specs.Amounts.{merge};
 ghost use Rattle.asset_lists.specs.Units.{unit_of, amount_of};
-ghost use Rattle.asset_bundles.specs.Bundles.{bundle_of, IsHolding};
-ghost use Rattle.asset_bundles.specs.Joins.{most_of, Joined, Excess, IsJoin};
-ghost use Rattle.asset_bundles.specs.Books.{Booked, Covers, given_up};
-ghost use Rattle.asset_bundles.specs.Portions.{changed, grown_by, above_by, new_to, is_within_most, AreWithinMost};
+ghost use Rattle.asset_bundles.specs.Bundles.{bundle_of, held_assets, IsHolding};
+ghost use Rattle.asset_bundles.specs.Joins.{most_of, Joined, Excess, IsWithinMost, IsListOf};
+ghost use Rattle.asset_bundles.specs.Books.{Booked, AreListed, given_up};
+ghost use Rattle.asset_bundles.specs.Portions.{changed, grown_by, above_by, new_to, AreWithinMost};
 
 use crate::burns::book_excess;
-use crate::items::{amount_of, held};
+use crate::items::{amounts_fit, held};
 use crate::portions::push_amount;
 use crate::{AssetBundle, BurnBook};
 use asset_lists::{Asset, Fun};
@@ -23,11 +24,11 @@ fn most_of(item: &Asset) -> u128
     }
 }
 
-/// What stands of an asset with what there is more of it.
+/// What is kept of an asset with what there is more of it.
 fn grown_amount(item: &Asset, more: &[Asset]) -> u128
     ensures { result ≡ grown_by more.now (unit_of item.now) (amount_of item.now) }
 {
-    let sum = amount_of(item).saturating_add(held(more, item));
+    let sum = item.amount().saturating_add(held(more, item));
     sum.min(most_of(item))
 }
 
@@ -36,19 +37,18 @@ fn amount_above(item: &Asset, more: &[Asset]) -> u128
     ensures { result ≡ above_by more.now (unit_of item.now) (amount_of item.now) }
 {
     let room = most_of(item).saturating_sub(held(more, item));
-    amount_of(item).saturating_sub(room)
+    item.amount().saturating_sub(room)
 }
 
 /// What there is of an asset that isn't among the items, and else nothing.
 fn new_amount(item: &Asset, items: &[Asset]) -> u128
-    ensures amount { result ≡ new_to items.now (unit_of item.now) (amount_of item.now) }
-    ensures within { IsTrue (is_within_most item.now) }
+    ensures { result ≡ new_to items.now (unit_of item.now) (amount_of item.now) }
 {
-    let amount = amount_of(item);
+    let amount = item.amount();
     if held(items, item) == 0 { amount } else { 0 }
 }
 
-/// The items, each with what there is more of it, as far as that stands.
+/// The items, each with what there is more of it, as far as that is kept.
 fn grown(alloc: Global, items: &[Asset], more: &[Asset]) -> Result<Vec<Asset>, AllocError>
     ensures { IfOk result (λ grown. grown.items ≡ changed (grown_by more.now) items.now) }
 {
@@ -61,8 +61,7 @@ fn grown(alloc: Global, items: &[Asset], more: &[Asset]) -> Result<Vec<Asset>, A
 
 /// Puts what isn't among the items at the end.
 fn push_new(list: &mut Vec<Asset>, items: &[Asset], more: &[Asset]) -> Result<(), AllocError>
-    ensures list { OnOk result (list.new.items ≡ list.old.items ++ changed (new_to items.now) more.now) }
-    ensures within { OnOk result (AreWithinMost more.now) }
+    ensures { OnOk result (list.new.items ≡ list.old.items ++ changed (new_to items.now) more.now) }
 {
     for item in more {
         push_amount(list, item, new_amount(item, items))?;
@@ -70,28 +69,34 @@ fn push_new(list: &mut Vec<Asset>, items: &[Asset], more: &[Asset]) -> Result<()
     Ok(())
 }
 
-/// What is given up of the items where there is more of them.
-fn excess(alloc: Global, items: &[Asset], more: &[Asset]) -> Result<Vec<Asset>, AllocError>
-    ensures { IfOk result (λ excess. excess.items ≡ changed (above_by more.now) items.now) }
-{
-    let mut excess = Vec::new(alloc);
-    for item in items {
-        push_amount(&mut excess, item, amount_above(item, more))?;
-    }
-    Ok(excess)
-}
-
-/// Both lists as one, in no order, as far as each sum stands.
-fn all_of(alloc: Global, items: &[Asset], more: &[Asset]) -> Result<Vec<Asset>, AllocError>
-    ensures list { IfOk result (λ all. all.items ≡ changed (grown_by more.now) items.now ++ changed (new_to items.now) more.now) }
-    ensures within { OnOk result (AreWithinMost more.now) }
+/// Both lists as one in holding order, as far as each sum is kept.
+fn together(alloc: Global, items: &[Asset], more: &[Asset]) -> Result<Vec<Asset>, AllocError>
+    requires items { IsHolding items.now }
+    requires more { IsHolding more.now }
+    requires within { AreWithinMost more.now }
+    ensures { IfOk result (λ all. IsListOf (Joined (bundle_of items.now) (bundle_of more.now)) all.items) }
 {
     let mut all = grown(alloc, items, more)?;
     push_new(&mut all, items, more)?;
+    all.sort_unstable();
     Ok(all)
 }
 
-/// What stands of both lists in holding order, and what is given up.
+/// What is given up of the items where there is more of them.
+fn above(alloc: Global, items: &[Asset], more: &[Asset]) -> Result<Vec<Asset>, AllocError>
+    requires items { IsHolding items.now }
+    requires more { IsHolding more.now }
+    requires within { AreWithinMost more.now }
+    ensures { IfOk result (λ above. IsListOf (Excess (bundle_of items.now) (bundle_of more.now)) above.items) }
+{
+    let mut above = Vec::new(alloc);
+    for item in items {
+        push_amount(&mut above, item, amount_above(item, more))?;
+    }
+    Ok(above)
+}
+
+/// What is kept of both lists, and what is given up, each in holding order.
 fn joined(
     alloc: Global,
     items: &[Asset],
@@ -99,33 +104,68 @@ fn joined(
 ) -> Result<(Vec<Asset>, Vec<Asset>), AllocError>
     requires items { IsHolding items.now }
     requires more { IsHolding more.now }
-    ensures { IfOk result (λ parts. IsJoin (bundle_of items.now) (bundle_of more.now) parts.0.items parts.1.items) }
+    requires within { AreWithinMost more.now }
+    ensures kept { IfOk result (λ parts. IsListOf (Joined (bundle_of items.now) (bundle_of more.now)) parts.0.items) }
+    ensures above { IfOk result (λ parts. IsListOf (Excess (bundle_of items.now) (bundle_of more.now)) parts.1.items) }
 {
-    let mut stands = all_of(alloc, items, more)?;
-    stands.sort_unstable();
-    let above = excess(alloc, items, more)?;
-    Ok((stands, above))
+    let kept = together(alloc, items, more)?;
+    let above = above(alloc, items, more)?;
+    Ok((kept, above))
 }
 
 impl AssetBundle {
-    /// Joins the other bundle into this one. A sum past 2^128-1 stands at that, and the rest is booked as
-    /// `Saturated`; an instance that both hold is kept once, and booked as `Merged`. The book lists each
-    /// asset that is given up. An `Err` is want of memory: it hands the other bundle back.
-    pub fn join(&mut self, other: AssetBundle, book: &mut BurnBook) -> Result<(), AssetBundle>
-        requires { Covers book.old (Excess self.old other) }
-        ensures { MatchResult result
-            (λ _. (self.new ≡ Joined self.old other) × (book.new ≡ Booked book.old (given_up self.old other)))
-            (λ back. (back ≡ other) × (self.new ≡ self.old) × (book.new ≡ book.old)) }
+    /// What a join with the other bundle would give up, in holding order.
+    pub fn excess(&self, other: &AssetBundle) -> Result<Vec<Asset>, AllocError>
+        ensures listed { IfOk result (λ assets. assets.items ≡ held_assets (Excess self.now other.now)) }
+        ensures bundle { IfOk result (λ assets. bundle_of assets.items ≡ Excess self.now other.now) }
     {
+        amounts_fit(other.items.as_slice());
+        let alloc = *self.items.allocator();
+        let assets = above(alloc, self.items.as_slice(), other.items.as_slice())?;
+        Ok(assets)
+    }
+
+    /// Joins the other bundle into this one. A sum past 2^128-1 saturates, and the rest is booked as
+    /// `Saturated`; an instance that both hold is kept once, and booked as `Merged`. The book lists each
+    /// asset that is given up. An `Err` is out of memory: it hands the other bundle back.
+    pub fn join(&mut self, other: AssetBundle, book: &mut BurnBook) -> Result<(), AssetBundle>
+        requires { AreListed book.old.listed (Excess self.old other) }
+        ensures joined { OnOk result (self.new ≡ Joined self.old other) }
+        ensures booked { OnOk result (book.new ≡ Booked book.old (given_up self.old other)) }
+        ensures handed_back { IfErr result (λ back. back ≡ other) }
+        ensures unchanged { OnErr result (self.new ≡ self.old) }
+        ensures book_unchanged { OnErr result (book.new ≡ book.old) }
+    {
+        amounts_fit(other.items.as_slice());
         let alloc = *self.items.allocator();
         match joined(alloc, self.items.as_slice(), other.items.as_slice()) {
-            Ok((stands, above)) => {
+            Ok((kept, above)) => {
                 book_excess(book, above.as_slice());
-                self.items = stands;
+                self.items = kept;
                 other.melt();
                 Ok(())
             }
             Err(_) => Err(other),
+        }
+    }
+
+    /// Puts goods back that were taken from this bundle, or any that fit beside what it holds: nothing is
+    /// given up, so no book is needed. An `Err` is out of memory: it hands the goods back.
+    pub fn put_back(&mut self, goods: AssetBundle) -> Result<(), AssetBundle>
+        requires { IsWithinMost (merge self.old goods) }
+        ensures whole { OnOk result (self.new ≡ merge self.old goods) }
+        ensures handed_back { IfErr result (λ back. back ≡ goods) }
+        ensures unchanged { OnErr result (self.new ≡ self.old) }
+    {
+        amounts_fit(goods.items.as_slice());
+        let alloc = *self.items.allocator();
+        match together(alloc, self.items.as_slice(), goods.items.as_slice()) {
+            Ok(all) => {
+                self.items = all;
+                goods.melt();
+                Ok(())
+            }
+            Err(_) => Err(goods),
         }
     }
 }

@@ -10,9 +10,8 @@ use locations::{Junctions, Location};
 fn rename(item: &mut Asset, target: &Location, context: &Junctions)
     ensures { item.new ≡ renamed_asset target.now context.now item.old }
 {
-    match item.id.reanchored(target, context) {
-        Some(id) => item.id = id,
-        None => {}
+    if let Some(id) = item.id.reanchored(target, context) {
+        item.id = id;
     }
 }
 

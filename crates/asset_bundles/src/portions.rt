@@ -1,10 +1,13 @@
 //! Parts of a list in holding order.
 ghost use Rattle.std.specs.Prelude.{◌≡◌, ◌++◌, [], IfOk, OnOk};
 ghost use Rattle.asset_lists.specs.Units.{unit_of, amount_of};
-ghost use Rattle.asset_bundles.specs.Filters.{is_fun, is_all_of};
+ghost use Rattle.amounts.specs.Amounts.{difference};
+ghost use Rattle.asset_bundles.specs.Bundles.{bundle_of, IsHolding};
+ghost use Rattle.asset_bundles.specs.Joins.{IsListOf};
+ghost use Rattle.asset_bundles.specs.Filters.{is_fun, is_all_of, Taken, Left};
 ghost use Rattle.asset_bundles.specs.Portions.{asset_with, kept, changed, left_of, common_with, wanted_wild, count_wild, at_most, chosen, IsListed};
 
-use crate::items::{amount_of, copied, held};
+use crate::items::{copied, held};
 use asset_lists::{Asset, AssetId, Filter, Fun, Wild, WildFun};
 use std::alloc::{AllocError, Global};
 
@@ -48,7 +51,7 @@ pub(crate) fn without(
 {
     let mut left = Vec::new(alloc);
     for item in items {
-        let amount = amount_of(item).saturating_sub(held(taken, item));
+        let amount = item.amount().saturating_sub(held(taken, item));
         push_amount(&mut left, item, amount)?;
     }
     Ok(left)
@@ -60,7 +63,7 @@ fn common(alloc: Global, items: &[Asset], asked: &[Asset]) -> Result<Vec<Asset>,
 {
     let mut both = Vec::new(alloc);
     for item in items {
-        let amount = amount_of(item).min(held(asked, item));
+        let amount = item.amount().min(held(asked, item));
         push_amount(&mut both, item, amount)?;
     }
     Ok(both)
@@ -95,7 +98,7 @@ fn wanted(item: &Asset, wild: &Wild) -> u128
         Wild::AllCounted(_) => true,
         Wild::AllOfCounted { id, fun, count: _ } => is_all_of(item, id, *fun),
     };
-    if all { amount_of(item) } else { 0 }
+    if all { item.amount() } else { 0 }
 }
 
 /// How many kinds a wildcard takes at most.
@@ -160,13 +163,31 @@ pub(crate) fn chosen(
     }
 }
 
+/// What a filter takes of a list in holding order, and what it leaves.
+pub(crate) fn parted(
+    alloc: Global,
+    items: &[Asset],
+    filter: &Filter,
+) -> Result<(Vec<Asset>, Vec<Asset>), AllocError>
+    requires { IsHolding items.now }
+    ensures taken { IfOk result (λ parts. IsListOf (Taken filter.now (bundle_of items.now)) parts.0.items) }
+    ensures left { IfOk result (λ parts. IsListOf (Left filter.now (bundle_of items.now)) parts.1.items) }
+{
+    let taken = chosen(alloc, items, filter)?;
+    let left = without(alloc, items, taken.as_slice())?;
+    Ok((taken, left))
+}
+
 /// These assets, and what is left where they are taken.
 pub(crate) fn cut(
     alloc: Global,
     items: &[Asset],
     asked: &[Asset],
 ) -> Result<(Vec<Asset>, Vec<Asset>), AllocError>
-    ensures { IfOk result (λ parts. (parts.0.items ≡ asked.now) × (parts.1.items ≡ changed (left_of asked.now) items.now)) }
+    requires items { IsHolding items.now }
+    requires asked { IsHolding asked.now }
+    ensures taken { IfOk result (λ parts. IsListOf (bundle_of asked.now) parts.0.items) }
+    ensures left { IfOk result (λ parts. IsListOf (difference (bundle_of items.now) (bundle_of asked.now)) parts.1.items) }
 {
     let taken = copied(alloc, asked)?;
     let left = without(alloc, items, asked)?;

@@ -2,7 +2,7 @@
 ghost use Rattle.std.specs.Prelude.{◌≡◌, IfOk};
 ghost use Rattle.amounts.specs.Amounts.{total};
 ghost use Rattle.asset_bundles.specs.Bundles.{bundle_of, held_assets, is_asset};
-ghost use Rattle.asset_bundles.specs.Books.{Covers};
+ghost use Rattle.asset_bundles.specs.Books.{AreListed};
 ghost use Rattle.asset_bundles.specs.Losing.{book_after_loss};
 
 use crate::{AssetBundle, BurnBook, Cause, Shipment, Way};
@@ -48,7 +48,7 @@ impl Shipment {
 
     /// Ends a shipment that came nowhere: a teleport is booked as lost, and nothing else.
     pub fn lose(self, book: &mut BurnBook)
-        requires { Covers book.old self.units }
+        requires { AreListed book.old.listed self.units }
         ensures { book.new ≡ book_after_loss self.way self.units book.old }
     {
         let Shipment { way, units } = self;

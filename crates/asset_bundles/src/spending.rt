@@ -4,7 +4,7 @@ ghost use Rattle.std.specs.List.{prefix_len};
 ghost use Rattle.asset_lists.specs.Units.{unit_of, amount_of};
 ghost use Rattle.asset_bundles.specs.Portions.{spent, is_other};
 
-use crate::items::{amount_of, is_same_unit};
+use crate::items::is_same_unit;
 use crate::portions::with_amount;
 use asset_lists::Asset;
 
@@ -30,7 +30,7 @@ pub(crate) fn give_up(items: &mut Vec<Asset>, asset: &Asset)
         return;
     }
     let item = &items[place];
-    let left = amount_of(item).saturating_sub(amount_of(asset));
+    let left = item.amount().saturating_sub(asset.amount());
     if left == 0 {
         items.remove(place);
         return;

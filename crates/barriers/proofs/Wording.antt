@@ -20,7 +20,8 @@ use Rattle.xcm_program.specs.declared.instruction.Instruction.{Instruction, out-
 use Rattle.xcm_program.specs.declared.instruction.Instruction.TheOpen.{Instruction-F}
 use Rattle.barriers.specs.declared.barrier.Barrier.{Barrier}
 use Rattle.barriers.specs.declared.barrier.Barrier.TheVariants.{Credit, Paid, Explicit, Unpaid, Responses}
-use Rattle.barriers.specs.Barriers.{is_within, fits, is_listed, brings_few, clears_origin, buys, purchase_index, is_paid, with_limit, limited, with_limit_at, asks_unpaid, is_query, responds, is_response, allows, left_by, decided, admission}
+use Rattle.message_parts.specs.Weights.{is_within}
+use Rattle.barriers.specs.Barriers.{fits, is_listed, brings_few, clears_origin, buys, purchase_index, is_paid, with_limit, limited, with_limit_at, asks_unpaid, is_query, responds, is_response, allows, left_by, decided, admission}
 use Rattle.barriers.specs.Meaning.{IsWithin, Fits, HoldsAt, BringsFew, ClearsOrigin, Buys, PaysAt, AsksUnpaid, IsQuery, Responds, Allows, IsLimited, SetsLimit, Leaves}
 
 -- ---- tests in words

@@ -9,6 +9,7 @@ use Rattle.std.specs.Ordering.{eq_by_cmp}
 use Rattle.locations.specs.declared.relative.Location.{Location}
 use Rattle.locations.specs.Order.{location_cmp}
 use Rattle.message_parts.specs.declared.query.OpenQuery.{OpenQuery}
+use Rattle.message_parts.specs.Weights.{is_within}
 use Rattle.message_parts.specs.declared.weight.Weight.{Weight}
 use Rattle.message_parts.specs.declared.weight.WeightLimit.{WeightLimit}
 use Rattle.message_parts.specs.declared.weight.WeightLimit.TheVariants.{Unlimited, Limited}
@@ -16,10 +17,6 @@ use Rattle.xcm_program.specs.declared.instruction.Instruction.{Instruction, out-
 use Rattle.xcm_program.specs.declared.instruction.Instruction.TheOpen.{Instruction-F}
 use Rattle.barriers.specs.declared.barrier.Barrier.{Barrier}
 use Rattle.barriers.specs.declared.barrier.Barrier.TheVariants.{Credit, Paid, Explicit, Unpaid, Responses}
-
--- a weight is within another in both dimensions
-abbrev pub is_within : Weight → Weight → Bool
-is_within weight most = nat_le weight.ref_time most.ref_time && nat_le weight.proof_size most.proof_size
 
 abbrev pub fits : Weight → WeightLimit → Bool
 fits weight Unlimited = true

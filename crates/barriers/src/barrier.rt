@@ -1,11 +1,12 @@
-ghost use Rattle.std.specs.Prelude.{◌≡◌, true, false, if◌then◌else◌};
+ghost use Rattle.std.specs.Prelude.{◌≡◌, true, false, if◌then◌else◌, IfOk};
 ghost use Rattle.barriers.specs.Barriers as barriers;
 ghost use Rattle.barriers.specs.Barriers.{admission, allows, holds_at, left_by};
 
-use crate::paid::{fits, is_within, purchase, set_limit};
+use crate::paid::{fits, purchase, set_limit};
 use locations::Location;
 use message_parts::{OpenQuery, Weight};
 use plain_lists::Listed;
+use std::alloc::{AllocError, Global};
 use xcm_program::{Instruction, Program};
 
 /// Origins of which a barrier speaks, as seen from the chain. Contracts see them as their list.
@@ -25,6 +26,32 @@ pub enum Barrier {
     Unpaid(Origins),
     /// Allows a single response to an open query, from the location that may answer it. Its querier plays no part.
     Responses,
+}
+
+/// A list of the same origins.
+fn copied(alloc: Global, origins: &[Location]) -> Result<Origins, AllocError>
+    ensures { IfOk result (λ copies. copies ≡ origins.now) }
+{
+    let mut copies = Vec::with_capacity(alloc, origins.len())?;
+    for origin in origins {
+        copies.push(origin.copy())?;
+    }
+    Ok(Listed::from_vec(copies))
+}
+
+impl Barrier {
+    /// The same barrier. An `Err` is out of memory.
+    pub fn copy(&self, alloc: Global) -> Result<Barrier, AllocError>
+        ensures { IfOk result (λ barrier. barrier ≡ self.now) }
+    {
+        match self {
+            Barrier::Credit => Ok(Barrier::Credit),
+            Barrier::Paid => Ok(Barrier::Paid),
+            Barrier::Explicit(origins) => Ok(Barrier::Explicit(copied(alloc, origins.items())?)),
+            Barrier::Unpaid(origins) => Ok(Barrier::Unpaid(copied(alloc, origins.items())?)),
+            Barrier::Responses => Ok(Barrier::Responses),
+        }
+    }
 }
 
 /// Whether a chain's barriers let a program in, by the first of them that allows. Where that is the paid one, the limit of the
@@ -61,7 +88,7 @@ fn admits(
     ensures left { program.new ≡ (if result then left_by weight program.old barrier.now else program.old) }
 {
     match barrier {
-        Barrier::Credit => is_within(weight, credit),
+        Barrier::Credit => weight.is_within(credit),
         Barrier::Paid => pays(program, weight),
         Barrier::Explicit(origins) => {
             is_listed(origins.items(), origin) && asks_unpaid(program.items(), weight)

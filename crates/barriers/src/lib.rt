@@ -2,13 +2,10 @@
 #![tactic(auto)]
 
 mod barrier;
-mod law;
+mod laws;
 mod paid;
 
 pub use barrier::{Barrier, Origins, allow};
-pub use law::law_of_barriers;
+pub use laws::law_of_barriers;
 pub use message_parts::{OpenQuery, Weight};
 pub use xcm_program::Program;
-
-#[cfg(test)]
-mod tests;

@@ -13,20 +13,13 @@ const MOST_ASSETS: usize = 2;
 /// The last index at which a program may buy its weight.
 const LAST_INDEX: usize = 4;
 
-/// Whether a weight is within another, in both dimensions.
-pub(crate) fn is_within(weight: Weight, most: Weight) -> bool
-    ensures { result ≡ barriers.is_within weight most }
-{
-    weight.ref_time <= most.ref_time && weight.proof_size <= most.proof_size
-}
-
 /// Whether a limit leaves room for a weight.
 pub(crate) fn fits(weight: Weight, limit: WeightLimit) -> bool
     ensures { result ≡ barriers.fits weight limit }
 {
     match limit {
         WeightLimit::Unlimited => true,
-        WeightLimit::Limited(most) => is_within(weight, most),
+        WeightLimit::Limited(most) => weight.is_within(most),
     }
 }
 

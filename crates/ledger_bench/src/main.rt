@@ -1,8 +1,9 @@
-//! Deposits to be timed: one to each of so many accounts, then so many more to accounts in scattered order, with the asset's sum
-//! over all accounts asked for after each. The words are `ACCOUNTS DEPOSITS`; what is written is how many of those sums are right.
+//! Deposits to be timed: 1 to each of so many accounts, which rise by bytes, then so many more to the first of them, with the
+//! asset's sum over all accounts asked for after each. The words are `ACCOUNTS DEPOSITS`; what is written is how many of the
+//! later sums are right: after the k-th of them all accounts have ACCOUNTS + k.
 #![tactic(auto)]
 
-ghost use Rattle.std.specs.Prelude.{◌≡◌, ◌<◌, [], ◌∷◌};
+ghost use Rattle.std.specs.Prelude.{◌≡◌, [], ◌∷◌};
 ghost use Rattle.asset_lists.specs.declared.units.Kind.{Kind};
 ghost use Rattle.asset_lists.specs.declared.units.AssetId.TheVariants.{Concrete};
 
@@ -24,10 +25,10 @@ fn here() -> Location
     }
 }
 
-/// The account of a number: its eight bytes, the low one first, and zeros.
+/// The account of a number: its eight bytes, the high one first, and zeros. So accounts rise by bytes with their numbers.
 fn account(number: u64) -> [u8; 32] {
     let mut who = [0; 32];
-    who[..8].copy_from_slice(&number.to_le_bytes());
+    who[..8].copy_from_slice(&number.to_be_bytes());
     who
 }
 
@@ -59,24 +60,20 @@ fn deposit_to_each(ledger: &mut Ledger, alloc: Global, accounts: u64) -> Result<
     Ok(())
 }
 
-/// Deposits to accounts in scattered order, and tells after how many of them all accounts have as much as was deposited.
-fn deposit_to_some(
+/// Deposits to the first account, and tells after how many of the deposits all accounts have as much as was deposited.
+fn deposit_to_first(
     ledger: &mut Ledger,
     alloc: Global,
     accounts: u64,
     deposits: u64,
 ) -> Result<u64, AllocError>
-    requires some { 0 < accounts }
-    requires listed { ledger.old.listed ≡ (Concrete (record { parents = 0; interior = [] }), Kind.Fungible) ∷ [] }
+    requires { ledger.old.listed ≡ (Concrete (record { parents = 0; interior = [] }), Kind.Fungible) ∷ [] }
 {
-    let mut scattered: u64 = 1;
+    let first = account(0);
     let mut right: u64 = 0;
     for done in 0..deposits {
-        scattered = scattered
-            .wrapping_mul(6_364_136_223_846_793_005)
-            .wrapping_add(1_442_695_040_888_963_407);
-        let sum = deposit(ledger, alloc, &account((scattered >> 33) % accounts))?;
-        if sum.low == u128::from(accounts) + u128::from(done) + 1 {
+        let sum = deposit(ledger, alloc, &first)?;
+        if sum.high == 0 && sum.low == u128::from(accounts) + u128::from(done) + 1 {
             right = right.saturating_add(1);
         }
     }
@@ -84,13 +81,11 @@ fn deposit_to_some(
 }
 
 /// All deposits, and after how many of the later ones the sum was right.
-fn deposited(alloc: Global, accounts: u64, deposits: u64) -> Result<u64, AllocError>
-    requires { 0 < accounts }
-{
+fn deposited(alloc: Global, accounts: u64, deposits: u64) -> Result<u64, AllocError> {
     let list = Vec::from_array(alloc, [(here(), Kind::Fungible)])?;
     let mut ledger = Ledger::open(alloc, list)?;
     deposit_to_each(&mut ledger, alloc, accounts)?;
-    deposit_to_some(&mut ledger, alloc, accounts, deposits)
+    deposit_to_first(&mut ledger, alloc, accounts, deposits)
 }
 
 /// The two numbers.

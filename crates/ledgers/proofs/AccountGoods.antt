@@ -17,14 +17,15 @@ use Rattle.asset_lists.specs.declared.units.Asset.{Asset}
 use Rattle.asset_lists.specs.declared.units.Fun.{Fun}
 use Rattle.asset_lists.specs.Units.{Unit, unit_of, amount_of, unit_cmp}
 use Rattle.asset_lists.specs.Lists.{has_zero, is_of}
-use Rattle.asset_lists.specs.Moves.{count_of}
+use Rattle.asset_lists.specs.Moves.{occurrences}
 use Rattle.asset_bundles.specs.Bundles.{Bundle, rows_of, bundle_of, unit_keys}
 use Rattle.asset_bundles.specs.BundleLaws.{same_bundles, amount-bundle_of}
-use Rattle.asset_bundles.specs.Books.{Listed}
+use Rattle.asset_lists.specs.Listed.{Listed}
 use Rattle.ledgers.specs.Ledgers.{Holder, account_cmp, holder_cmp, Held, is_account, account_goods, number_in}
-use Rattle.ledgers.specs.LedgerRows.{AmountKey, OwnerKey, owner_key_cmp, amount_at, owner_at, owned, held_in, IsOnce}
-use Rattle.ledgers.specs.AccountGoods.{IsListOf, is_amount, fungible_of, fungible_at, instance_of, instance_at}
-use Rattle.ledgers.proofs.RowLookups.{holder_keys, account_keys, owner_keys, not_true, none_behind, same_owner_row}
+use Rattle.ledgers.specs.LedgerRows.{AmountKey, OwnerKey, owner_key_cmp, amount_in_row, owner_at, owned, held_in, IsOnce}
+use Rattle.ledgers.specs.AccountGoods.{IsUnsortedListOf, is_amount, fungible_of, fungible_held_at, instance_of, instance_held_at}
+use Rattle.ledgers.specs.Laws.{holder_keys, account_keys}
+use Rattle.ledgers.proofs.RowLookups.{owner_keys, not_true, none_behind, same_owner_row}
 use Rattle.ledgers.proofs.RowAmounts.{held-fungible, held-no_fungible, held-instance, held-no_instance}
 use Rattle.ledgers.proofs.Numbers.{number_at, no_number}
 use Rattle.ledgers.proofs.Totals.{total_one}
@@ -54,7 +55,7 @@ one_within true false n e h = absurd (true≢false (sym e))
 one_within false c n e h = omega arith
 
 -- where nothing is 0, a unit stands no oftener than its amounts add up to
-count_within : (u : Unit) (xs : List Asset) → has_zero xs ≡ false → count_of u xs ≤ sum_at u xs
+count_within : (u : Unit) (xs : List Asset) → has_zero xs ≡ false → occurrences u xs ≤ sum_at u xs
 unfolding sum_at
 count_within u [] none = omega arith
 count_within u (a ∷ xs) none =
@@ -64,10 +65,10 @@ count_within u (a ∷ xs) none =
     let count = counted_first u a xs in
     omega (arith, rest, here, count)
 
-none_counted : (u : Unit) (xs : List Asset) → has_zero xs ≡ false → sum_at u xs ≡ 0 → count_of u xs ≡ 0
+none_counted : (u : Unit) (xs : List Asset) → has_zero xs ≡ false → sum_at u xs ≡ 0 → occurrences u xs ≡ 0
 none_counted u xs none sum = (let within = count_within u xs none in omega (arith, within, sum))
 
-listed_sum : (goods : Bundle) (xs : List Asset) (u : Unit) → IsListOf goods xs → sum_at u xs ≡ amount goods u
+listed_sum : (goods : Bundle) (xs : List Asset) (u : Unit) → IsUnsortedListOf goods xs → sum_at u xs ≡ amount goods u
 unfolding sum_at
 listed_sum goods xs u is = sym (amount-bundle_of xs u) ∙ ap (λ b. amount b u) is.whole
 
@@ -125,12 +126,12 @@ other_units u v n other = ap (λ b. amount_if b n) (not_true _ (λ t. other (key
 same_units : (u v : Unit) (n : ℕ) → u ≡ v → amount_if (eq_by_cmp unit_cmp u v) n ≡ n
 same_units u v n e = ap (λ b. amount_if b n) (subst (λ w. eq_by_cmp unit_cmp u w ≡ true) e (same_key unit_keys u))
 
-count_offered : (u : Unit) (o : Option Asset) (rest : List Asset) → ((a : Asset) → o ≡ Some a → u ≡ unit_of a → count_of u rest ≡ 0) → count_of u rest ≤ 1 → count_of u (offered o rest) ≤ 1
+count_offered : (u : Unit) (o : Option Asset) (rest : List Asset) → ((a : Asset) → o ≡ Some a → u ≡ unit_of a → occurrences u rest ≡ 0) → occurrences u rest ≤ 1 → occurrences u (offered o rest) ≤ 1
 unfolding offered
 count_offered u None rest none few = few
 count_offered u (Some a) rest none few = by (cases_Bool (is_of u a))
   where
-    by : (is_of u a ≡ true) ⊎ (is_of u a ≡ false) → count_of u (a ∷ rest) ≤ 1
+    by : (is_of u a ≡ true) ⊎ (is_of u a ≡ false) → occurrences u (a ∷ rest) ≤ 1
     by (inl t) =
         let count = counted_first u a rest in
         let zeros = none a refl (sym (key_same unit_keys (unit_of a) u t)) in
@@ -153,7 +154,7 @@ moved_on k j = omega arith
 -- ---- fungible assets, by their numbers from k on
 pub fungibles_from : List Listed → List (AmountKey × ℕ) → List ℕ → ℕ → List Asset
 fungibles_from [] amounts who k = []
-fungibles_from (asset ∷ listed) amounts who k = offered (fungible_at (Some asset) (amount_at amounts (k, who))) (fungibles_from listed amounts who (suc k))
+fungibles_from (asset ∷ listed) amounts who k = offered (fungible_held_at (Some asset) (amount_in_row amounts (k, who))) (fungibles_from listed amounts who (suc k))
 
 module _ (amounts : List (AmountKey × ℕ)) (who : List ℕ) where
   fungible_above : (id : AssetId) (kind : Kind) (n : ℕ) → IsAbove (fungible_of id kind n)
@@ -177,9 +178,9 @@ module _ (amounts : List (AmountKey × ℕ)) (who : List ℕ) where
   unfolding fungibles_from sum_at
   fungibles_none u [] k none = refl
   fungibles_none u (asset ∷ listed) k none =
-      let here = newly_other u asset.0 asset.1 (amount_at amounts (k, who)) (λ kinds units. none 0 asset.0 (ap (λ x. Some (asset.0, x)) kinds) units) in
+      let here = newly_other u asset.0 asset.1 (amount_in_row amounts (k, who)) (λ kinds units. none 0 asset.0 (ap (λ x. Some (asset.0, x)) kinds) units) in
       let rest = fungibles_none u listed (suc k) (λ j id at. none (suc j) id at) in
-      sum_offered u (fungible_at (Some asset) (amount_at amounts (k, who))) (fungibles_from listed amounts who (suc k)) ∙ omega (arith, here, rest)
+      sum_offered u (fungible_held_at (Some asset) (amount_in_row amounts (k, who))) (fungibles_from listed amounts who (suc k)) ∙ omega (arith, here, rest)
 
   IsOnce-rest : (asset : Listed) (listed : List Listed) → IsOnce (asset ∷ listed) → IsOnce listed
   IsOnce-rest asset listed once = record { place = λ i j x at there. (let places = once.place (suc i) (suc j) x at there in omega (arith, places)) }
@@ -193,26 +194,26 @@ module _ (amounts : List (AmountKey × ℕ)) (who : List ℕ) where
 
   -- the unit of the asset at a place
   fungibles_at : (id : AssetId) (listed : List Listed) (k j : ℕ) → IsOnce listed → slice_get listed j ≡ Some (id, Kind.Fungible)
-      → sum_at (id, None) (fungibles_from listed amounts who k) ≡ amount_at amounts (k + j, who)
+      → sum_at (id, None) (fungibles_from listed amounts who k) ≡ amount_in_row amounts (k + j, who)
   unfolding fungibles_from sum_at
   fungibles_at id [] k j once at = absurd (cc)
   fungibles_at id (asset ∷ listed) k zero once at =
       let is : asset ≡ (id, Kind.Fungible) = here_is asset at in
-      let first : newly (id, None) (fungible_at (Some asset) (amount_at amounts (k, who))) ≡ amount_at amounts (k, who) =
-      ap (λ (x : Listed). newly (id, None) (fungible_at (Some x) (amount_at amounts (k, who)))) is ∙ newly_if (id, None) (amount_at amounts (k, who)) (record { id = id; fun = Fun.Fungible (amount_at amounts (k, who)) }) (λ _. refl) ∙ same_units (id, None) (id, None) _ refl in
+      let first : newly (id, None) (fungible_held_at (Some asset) (amount_in_row amounts (k, who))) ≡ amount_in_row amounts (k, who) =
+      ap (λ (x : Listed). newly (id, None) (fungible_held_at (Some x) (amount_in_row amounts (k, who)))) is ∙ newly_if (id, None) (amount_in_row amounts (k, who)) (record { id = id; fun = Fun.Fungible (amount_in_row amounts (k, who)) }) (λ _. refl) ∙ same_units (id, None) (id, None) _ refl in
       let rest = fungibles_none (id, None) listed (suc k) (rest_lacks id listed (subst (λ x. IsOnce (x ∷ listed)) is once) (id, None) refl) in
-      sum_offered (id, None) (fungible_at (Some asset) (amount_at amounts (k, who))) (fungibles_from listed amounts who (suc k)) ∙ omega (arith, first, rest)
-      ∙ ap (λ n. amount_at amounts (n, who)) (plus_zero k)
+      sum_offered (id, None) (fungible_held_at (Some asset) (amount_in_row amounts (k, who))) (fungibles_from listed amounts who (suc k)) ∙ omega (arith, first, rest)
+      ∙ ap (λ n. amount_in_row amounts (n, who)) (plus_zero k)
     where
       here_is : (x : Listed) → Some x ≡ Some (id, Kind.Fungible) → x ≡ (id, Kind.Fungible)
       here_is x e = cc
   fungibles_at id (asset ∷ listed) k (suc j) once at =
-      let first = newly_other (id, None) asset.0 asset.1 (amount_at amounts (k, who)) (λ kinds units.
+      let first = newly_other (id, None) asset.0 asset.1 (amount_in_row amounts (k, who)) (λ kinds units.
       let ids : id ≡ asset.0 = ap (λ (v : Unit). v.0) units in
       let places = once.place 0 (suc j) (id, Kind.Fungible) (λ i. Some (sym ids i, kinds i)) at in absurd (omega (arith, places))) in
       let rest = fungibles_at id listed (suc k) j (IsOnce-rest asset listed once) at in
-      sum_offered (id, None) (fungible_at (Some asset) (amount_at amounts (k, who))) (fungibles_from listed amounts who (suc k)) ∙ omega (arith, first, rest)
-      ∙ ap (λ n. amount_at amounts (n, who)) (moved_on k j)
+      sum_offered (id, None) (fungible_held_at (Some asset) (amount_in_row amounts (k, who))) (fungibles_from listed amounts who (suc k)) ∙ omega (arith, first, rest)
+      ∙ ap (λ n. amount_in_row amounts (n, who)) (moved_on k j)
 
   fungible_unit : (id : AssetId) (n : ℕ) (a : Asset) → fungible_of id Kind.Fungible n ≡ Some a → unit_of a ≡ (id, None)
   fungible_unit id n a = by (nat_lt 0 n)
@@ -224,18 +225,18 @@ module _ (amounts : List (AmountKey × ℕ)) (who : List ℕ) where
       by true e = ap unit_of (sym (same (record { id = id; fun = Fun.Fungible n }) a e))
       by false e = absurd (cc)
 
-  fungibles_once : (u : Unit) (listed : List Listed) (k : ℕ) → IsOnce listed → count_of u (fungibles_from listed amounts who k) ≤ 1
+  fungibles_once : (u : Unit) (listed : List Listed) (k : ℕ) → IsOnce listed → occurrences u (fungibles_from listed amounts who k) ≤ 1
   unfolding fungibles_from offered
   fungibles_once u [] k once = omega arith
   fungibles_once u ((id, Kind.Fungible) ∷ listed) k once =
-      count_offered u (fungible_of id Kind.Fungible (amount_at amounts (k, who))) (fungibles_from listed amounts who (suc k))
-      (λ a made is. none_counted u (fungibles_from listed amounts who (suc k)) (fungibles_no_zero listed (suc k)) (fungibles_none u listed (suc k) (rest_lacks id listed once u (is ∙ fungible_unit id (amount_at amounts (k, who)) a made))))
+      count_offered u (fungible_of id Kind.Fungible (amount_in_row amounts (k, who))) (fungibles_from listed amounts who (suc k))
+      (λ a made is. none_counted u (fungibles_from listed amounts who (suc k)) (fungibles_no_zero listed (suc k)) (fungibles_none u listed (suc k) (rest_lacks id listed once u (is ∙ fungible_unit id (amount_in_row amounts (k, who)) a made))))
       (fungibles_once u listed (suc k) (IsOnce-rest (id, Kind.Fungible) listed once))
   fungibles_once u ((id, Kind.Class) ∷ listed) k once = fungibles_once u listed (suc k) (IsOnce-rest (id, Kind.Class) listed once)
 
 -- from the asset at a place on
 pub fungibles_next : (listed : List Listed) (amounts : List (AmountKey × ℕ)) (who : List ℕ) (j k : ℕ) → j < length listed
-    → fungibles_from (drop j listed) amounts who k ≡ offered (fungible_at (slice_get listed j) (amount_at amounts (k, who))) (fungibles_from (drop (suc j) listed) amounts who (suc k))
+    → fungibles_from (drop j listed) amounts who k ≡ offered (fungible_held_at (slice_get listed j) (amount_in_row amounts (k, who))) (fungibles_from (drop (suc j) listed) amounts who (suc k))
 unfolding fungibles_from
 fungibles_next [] amounts who j k inside = absurd (omega (arith, inside))
 fungibles_next (asset ∷ listed) amounts who zero k inside = refl
@@ -244,7 +245,7 @@ fungibles_next (asset ∷ listed) amounts who (suc j) k inside = fungibles_next 
 -- ---- instances, row by row
 pub instances_from : List Listed → List ℕ → List (OwnerKey × Option (List ℕ)) → List Asset
 instances_from listed who [] = []
-instances_from listed who (row ∷ rows) = offered (instance_at (slice_get listed row.0.0) row.0.1 (owned who row.1)) (instances_from listed who rows)
+instances_from listed who (row ∷ rows) = offered (instance_held_at (slice_get listed row.0.0) row.0.1 (owned who row.1)) (instances_from listed who rows)
 
 module _ (listed : List Listed) (who : List ℕ) where
   owned_most : (o : Option (List ℕ)) → owned who o ≤ 1
@@ -254,7 +255,7 @@ module _ (listed : List Listed) (who : List ℕ) where
     | inr f ↦ (let none : owned who (Some w) ≡ 0 = ap (λ b. if b then 1 else 0) f in omega (arith, none))
   ]
 
-  instance_above : (o : Option Listed) (i : Instance) (n : ℕ) → IsAbove (instance_at o i n)
+  instance_above : (o : Option Listed) (i : Instance) (n : ℕ) → IsAbove (instance_held_at o i n)
   unfolding IsAbove
   instance_above None i n = tt
   instance_above (Some (id, Kind.Fungible)) i n = tt
@@ -271,7 +272,7 @@ module _ (listed : List Listed) (who : List ℕ) where
   newly_class : (u : Unit) (id : AssetId) (i : Instance) (o : Option (List ℕ)) → newly u (instance_of id Kind.Class i (owned who o)) ≡ amount_if (eq_by_cmp unit_cmp u (id, Some i)) (owned who o)
   newly_class u id i o = newly_if u (owned who o) (record { id = id; fun = Fun.NonFungible i }) (λ some. one_of (owned who o) (owned_most o) some)
 
-  no_instance : (u : Unit) (o : Option Listed) (i : Instance) (owner : Option (List ℕ)) → ((id : AssetId) → o ≡ Some (id, Kind.Class) → u ≡ (id, Some i) → ⊥) → newly u (instance_at o i (owned who owner)) ≡ 0
+  no_instance : (u : Unit) (o : Option Listed) (i : Instance) (owner : Option (List ℕ)) → ((id : AssetId) → o ≡ Some (id, Kind.Class) → u ≡ (id, Some i) → ⊥) → newly u (instance_held_at o i (owned who owner)) ≡ 0
   unfolding newly
   no_instance u None i owner none = refl
   no_instance u (Some (id, Kind.Fungible)) i owner none = refl
@@ -284,7 +285,7 @@ module _ (listed : List Listed) (who : List ℕ) where
   instances_none u none (row ∷ rows) =
       let here = no_instance u (slice_get listed row.0.0) row.0.1 row.1 (λ id at. none row.0.0 id row.0.1 at) in
       let rest = instances_none u none rows in
-      sum_offered u (instance_at (slice_get listed row.0.0) row.0.1 (owned who row.1)) (instances_from listed who rows) ∙ omega (arith, here, rest)
+      sum_offered u (instance_held_at (slice_get listed row.0.0) row.0.1 (owned who row.1)) (instances_from listed who rows) ∙ omega (arith, here, rest)
 
   module _ (once : IsOnce listed) (n : ℕ) (id : AssetId) (i : Instance) (at : slice_get listed n ≡ Some (id, Kind.Class)) where
     -- the unit of an instance: what the row says
@@ -293,13 +294,13 @@ module _ (listed : List Listed) (who : List ℕ) where
     instances_at [] sorted = refl
     instances_at (row ∷ rows) sorted =
         let further = instances_at rows sorted.1 in
-        sum_offered (id, Some i) (instance_at (slice_get listed row.0.0) row.0.1 (owned who row.1)) (instances_from listed who rows)
+        sum_offered (id, Some i) (instance_held_at (slice_get listed row.0.0) row.0.1 (owned who row.1)) (instances_from listed who rows)
         ∙ elim (cases_Bool (eq_by_cmp owner_key_cmp (n, i) row.0)) [
           | inl t ↦ (
               let keys : ◌≡◌ {A = OwnerKey} (n, i) row.0 = key_same owner_keys (n, i) row.0 t in
               let here : slice_get listed row.0.0 ≡ Some (id, Kind.Class) = subst (λ m. slice_get listed m ≡ Some (id, Kind.Class)) (ap (λ (k : OwnerKey). k.0) keys) at in
-              let first : newly (id, Some i) (instance_at (slice_get listed row.0.0) row.0.1 (owned who row.1)) ≡ owned who row.1 =
-              ap (λ o. newly (id, Some i) (instance_at o row.0.1 (owned who row.1))) here ∙ newly_class (id, Some i) id row.0.1 row.1
+              let first : newly (id, Some i) (instance_held_at (slice_get listed row.0.0) row.0.1 (owned who row.1)) ≡ owned who row.1 =
+              ap (λ o. newly (id, Some i) (instance_held_at o row.0.1 (owned who row.1))) here ∙ newly_class (id, Some i) id row.0.1 row.1
               ∙ same_units (id, Some i) (id, Some row.0.1) _ (λ j. (id, Some ((keys j).1))) in
               let behind : owned who (owner_at rows (n, i)) ≡ 0 = ap (λ o. owned who (unwrap_or o None)) (none_behind listed once who id i n at row.0 rows sorted.0 t) in
               let found : owned who (owner_at (row ∷ rows) (n, i)) ≡ owned who row.1 = ap (λ b. owned who (unwrap_or (if b then Some row.1 else lookup (eq_by_cmp owner_key_cmp (n, i)) rows) None)) t in
@@ -322,7 +323,7 @@ module _ (listed : List Listed) (once : IsOnce listed) (amounts : List (AmountKe
         fungibles_none amounts who (id, None) listed 0 (λ j other at units. no_number listed (id, Kind.Fungible) e j (at ∙ ap (λ (v : Unit). Some (v.0, Kind.Fungible)) (sym units)))
         ∙ sym (held-no_fungible listed once amounts owners who id (no_number listed (id, Kind.Fungible) e))
     | Some n ↦ λ e. (let at = number_at listed (id, Kind.Fungible) n e in
-        fungibles_at amounts who id listed 0 n once at ∙ ap (λ m. amount_at amounts (m, who)) (zero_plus n) ∙ sym (held-fungible listed once amounts owners n who id at))
+        fungibles_at amounts who id listed 0 n once at ∙ ap (λ m. amount_in_row amounts (m, who)) (zero_plus n) ∙ sym (held-fungible listed once amounts owners n who id at))
   ] refl
 
   instance_sum : (id : AssetId) (i : Instance) → sum_at (id, Some i) (instances_from listed who owners) ≡ amount (held_in listed amounts owners) (who, (id, Some i))
@@ -334,7 +335,7 @@ module _ (listed : List Listed) (once : IsOnce listed) (amounts : List (AmountKe
         instances_at listed who once n id i at owners sorted ∙ sym (held-instance listed once amounts owners sorted n who id i at))
   ] refl
 
-  pub fungibles_listed : IsListOf (restriction is_amount (account_goods who (held_in listed amounts owners))) (fungibles_from listed amounts who 0)
+  pub fungibles_listed : IsUnsortedListOf (restriction is_amount (account_goods who (held_in listed amounts owners))) (fungibles_from listed amounts who 0)
   unfolding sum_at
   fungibles_listed = record {
     once = λ u. fungibles_once amounts who u listed 0 once;
@@ -346,7 +347,7 @@ module _ (listed : List Listed) (once : IsOnce listed) (amounts : List (AmountKe
       by id None = fungible_sum id ∙ sym (amount-account_goods who (held_in listed amounts owners) (id, None))
       by id (Some i) = fungibles_none amounts who (id, Some i) listed 0 (λ j other at units. (let parts : Some i ≡ None = ap (λ (v : Unit). v.1) units in absurd (cc)))
 
-  pub instances_listed : IsListOf (restriction (λ u. not (is_amount u)) (account_goods who (held_in listed amounts owners))) (instances_from listed who owners)
+  pub instances_listed : IsUnsortedListOf (restriction (λ u. not (is_amount u)) (account_goods who (held_in listed amounts owners))) (instances_from listed who owners)
   unfolding sum_at
   instances_listed = record {
     once = λ u. few u.0 u.1;
@@ -367,7 +368,7 @@ module _ (listed : List Listed) (once : IsOnce listed) (amounts : List (AmountKe
         | Some n ↦ λ e. (let is = instances_at listed who once n id i (number_at listed (id, Kind.Class) n e) owners sorted in let few = owned_most listed who (owner_at owners (n, i)) in omega (arith, is, few))
       ] refl
 
-      few : (id : AssetId) (x : Option Instance) → count_of (id, x) (instances_from listed who owners) ≤ 1
+      few : (id : AssetId) (x : Option Instance) → occurrences (id, x) (instances_from listed who owners) ≤ 1
       few id None = (let none = none_counted (id, None) (instances_from listed who owners) (instances_no_zero listed who owners) (no_amount id) in omega (arith, none))
       few id (Some i) = (let within = count_within (id, Some i) (instances_from listed who owners) (instances_no_zero listed who owners) in let most = one_at_most id i in omega (arith, within, most))
 
@@ -380,8 +381,8 @@ no_zero-append : (xs ys : List Asset) → has_zero xs ≡ false → has_zero ys 
 no_zero-append [] ys none more = more
 no_zero-append (a ∷ xs) ys none more = (let parts = none_zero a xs none in ap (λ b. b || has_zero (xs ++ ys)) (above_zero (amount_of a) parts.0) ∙ no_zero-append xs ys parts.1 more)
 
-module _ (test : Unit → Bool) (goods : Bundle) (xs ys : List Asset) (passed : IsListOf (restriction test goods) xs) (others : IsListOf (restriction (λ u. not (test u)) goods) ys) where
-  pub both_listed : IsListOf goods (xs ++ ys)
+module _ (test : Unit → Bool) (goods : Bundle) (xs ys : List Asset) (passed : IsUnsortedListOf (restriction test goods) xs) (others : IsUnsortedListOf (restriction (λ u. not (test u)) goods) ys) where
+  pub both_listed : IsUnsortedListOf goods (xs ++ ys)
   unfolding bundle_of
   both_listed = record {
     once = λ u. by u (cases_Bool (test u));
@@ -389,7 +390,7 @@ module _ (test : Unit → Bool) (goods : Bundle) (xs ys : List Asset) (passed : 
     whole = ap (λ rs. from_rows rs) (rows-append xs ys) ∙ from_rows-append unit_keys (rows_of xs) (rows_of ys) ∙ (λ i. merge (passed.whole i) (others.whole i)) ∙ merge-restriction unit_keys test goods;
   }
     where
-      by : (u : Unit) → (test u ≡ true) ⊎ (test u ≡ false) → count_of u (xs ++ ys) ≤ 1
+      by : (u : Unit) → (test u ≡ true) ⊎ (test u ≡ false) → occurrences u (xs ++ ys) ≤ 1
       by u (inl t) =
           let count = sum_by-append (λ b. cond {A = ℕ} (is_of u b) 1 0) xs ys in
           let few = passed.once u in
@@ -411,7 +412,7 @@ unfolding offered
 listed_none xs rest all next o is cut so = ap (λ ys. xs ++ ys) (ap (λ p. offered p next) (sym is) ∙ sym cut) ∙ so
 
 pub instances_next : (listed : List Listed) (who : List ℕ) (row : OwnerKey × Option (List ℕ)) (rows : List (OwnerKey × Option (List ℕ)))
-    → instances_from listed who (row ∷ rows) ≡ offered (instance_at (slice_get listed row.0.0) row.0.1 (owned who row.1)) (instances_from listed who rows)
+    → instances_from listed who (row ∷ rows) ≡ offered (instance_held_at (slice_get listed row.0.0) row.0.1 (owned who row.1)) (instances_from listed who rows)
 unfolding instances_from
 instances_next listed who row rows = refl
 

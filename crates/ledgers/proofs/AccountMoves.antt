@@ -13,18 +13,19 @@ use Rattle.asset_lists.specs.declared.units.Fun.{Fun}
 use Rattle.asset_lists.specs.declared.units.Asset.{Asset}
 use Rattle.asset_lists.specs.Units.{Unit, unit_of, amount_of, unit_cmp, instance_in, is_zero}
 use Rattle.asset_lists.specs.Lists.{has_zero, is_rising, stands_before, is_of}
-use Rattle.asset_lists.specs.Moves.{count_of}
-use Rattle.asset_lists.proofs.Sorting.{once_each}
+use Rattle.asset_lists.specs.Moves.{occurrences}
+use Rattle.asset_lists.specs.Laws.{once_each}
 use Rattle.asset_bundles.specs.Bundles.{rows_of, bundle_of, unit_keys}
 use Rattle.asset_bundles.specs.BundleLaws.{total-bundle_of}
 use Rattle.asset_lists.specs.declared.units.Instance.{Instance}
-use Rattle.asset_bundles.specs.Books.{Listed, listed_cmp, listed_of, lists}
+use Rattle.asset_lists.specs.Listed.{Listed, listed_cmp, listed_of, lists}
 use Rattle.ledgers.specs.declared.rows.Rows.{Rows}
 use Rattle.ledgers.specs.Ledgers.{Holder, holder_cmp, Held, held_by, shortage, number_in}
 use Rattle.ledgers.specs.LedgerRows.{HasInstanceRow}
 use Rattle.ledgers.specs.RowState.{may_take, HasRoom, KeepsRows}
 use Rattle.ledgers.specs.AccountRows.{account_rows, HasAll, MayTakeAll}
-use Rattle.ledgers.proofs.RowLookups.{holder_keys, apart}
+use Rattle.ledgers.specs.Laws.{holder_keys}
+use Rattle.ledgers.proofs.RowLookups.{apart}
 
 -- ---- a list at one place
 pub at_place : (xs : List Asset) (i : ℕ) (a : Asset) → i < length xs → a ≡ get_or xs i a → drop i xs ≡ a ∷ drop (i + 1) xs
@@ -96,21 +97,21 @@ unfolding plus_all
 plus_none held = refl
 
 -- ---- units that stand once
-pub counted_first : (u : Unit) (a : Asset) (xs : List Asset) → count_of u (a ∷ xs) ≡ cond {A = ℕ} (is_of u a) 1 0 + count_of u xs
+pub counted_first : (u : Unit) (a : Asset) (xs : List Asset) → occurrences u (a ∷ xs) ≡ cond {A = ℕ} (is_of u a) 1 0 + occurrences u xs
 counted_first u a xs = sum_by-cons (λ b. cond {A = ℕ} (is_of u b) 1 0) a xs
 
 one_at_least : (b : Bool) (n m : ℕ) → n ≡ cond {A = ℕ} b 1 0 + m → n ≤ 1 → b ≡ true → m ≡ 0
 one_at_least true n m e le t = omega (arith, e, le)
 one_at_least false n m e le t = absurd (true≢false (sym t))
 
-pub once_first : (a : Asset) (rest : List Asset) → is_rising (a ∷ rest) ≡ true → count_of (unit_of a) rest ≡ 0
+pub once_first : (a : Asset) (rest : List Asset) → is_rising (a ∷ rest) ≡ true → occurrences (unit_of a) rest ≡ 0
 once_first a rest rising = one_at_least (is_of (unit_of a) a) _ _ (counted_first (unit_of a) a rest) (once_each (a ∷ rest) rising (unit_of a)) (same_key unit_keys (unit_of a))
 
 none_first : (b : Bool) (n m : ℕ) → n ≡ cond {A = ℕ} b 1 0 + m → n ≡ 0 → (b ≡ false) × (m ≡ 0)
 none_first true n m e z = absurd (omega (arith, e, z))
 none_first false n m e z = (refl, omega (arith, e, z))
 
-other_unit : (u : Unit) (b : Asset) (rest : List Asset) → count_of u (b ∷ rest) ≡ 0 → (unit_of b ≡ u → ⊥) × (count_of u rest ≡ 0)
+other_unit : (u : Unit) (b : Asset) (rest : List Asset) → occurrences u (b ∷ rest) ≡ 0 → (unit_of b ≡ u → ⊥) × (occurrences u rest ≡ 0)
 other_unit u b rest none =
     let parts = none_first (is_of u b) _ _ (counted_first u b rest) none in
     (λ same. true≢false (sym (subst (λ v. eq_by_cmp unit_cmp (unit_of b) v ≡ true) same (same_key unit_keys (unit_of b))) ∙ parts.0), parts.1)
@@ -126,7 +127,7 @@ may_by : (held : Held) (who : List ℕ) (u : Unit) (x : ℕ) (fun : Fun) (v : Un
 may_by held who u x (Fun.Fungible n) v other may = (let same = same_elsewhere held who who u v x other in omega (arith, same, may))
 may_by held who u x (Fun.NonFungible i) v other may = λ w. same_elsewhere held who w u v x other ∙ may w
 
-pub may_later : (held : Held) (who : List ℕ) (u : Unit) (x : ℕ) (rest : List Asset) → count_of u rest ≡ 0 → MayTakeAll held who rest → MayTakeAll (plus held (who, u) x) who rest
+pub may_later : (held : Held) (who : List ℕ) (u : Unit) (x : ℕ) (rest : List Asset) → occurrences u rest ≡ 0 → MayTakeAll held who rest → MayTakeAll (plus held (who, u) x) who rest
 may_later held who u x [] none may = may
 may_later held who u x (b ∷ rest) none may =
     let other = other_unit u b rest none in
@@ -136,20 +137,20 @@ pub rising_rest : (a : Asset) (rest : List Asset) → is_rising (a ∷ rest) ≡
 rising_rest a rest rising = (and_parts (stands_before a rest) (is_rising rest) rising).1
 
 -- ---- an account's rows as a map
-pub held_by_rows : (who : List ℕ) (xs : List Asset) → from_rows (account_rows who xs) ≡ held_by who xs
+pub held_by_rows : (who : List ℕ) (xs : List Asset) → from_rows (account_rows who xs) ≡ held_by who (bundle_of xs)
 unfolding held_by
 held_by_rows who xs = same_amounts holder_keys _ _ (λ q.
     amount-from_rows holder_keys (account_rows who xs) q ∙ sum_where-rows_at (eq_by_cmp holder_cmp q) (λ (u : Unit). (who, u)) (rows_of xs)
     ∙ sym (total-bundle_of (λ u. eq_by_cmp holder_cmp q (who, u)) xs) ∙ sym (amount-map_keys {S = unit_cmp} holder_keys (λ (u : Unit). (who, u)) (bundle_of xs) q))
 
-pub minus_whole : (held : Held) (who : List ℕ) (xs : List Asset) → minus_all held (account_rows who xs) ≡ difference held (held_by who xs)
+pub minus_whole : (held : Held) (who : List ℕ) (xs : List Asset) → minus_all held (account_rows who xs) ≡ difference held (held_by who (bundle_of xs))
 minus_whole held who xs = minus_all-from_rows holder_keys held (account_rows who xs) ∙ ap (difference held) (held_by_rows who xs)
 
-pub plus_whole : (held : Held) (who : List ℕ) (xs : List Asset) → plus_all held (account_rows who xs) ≡ merge held (held_by who xs)
+pub plus_whole : (held : Held) (who : List ℕ) (xs : List Asset) → plus_all held (account_rows who xs) ≡ merge held (held_by who (bundle_of xs))
 plus_whole held who xs = plus_all-from_rows holder_keys held (account_rows who xs) ∙ ap (merge held) (held_by_rows who xs)
 
 -- ---- no shortage
-absent_sum : (who w : List ℕ) (u : Unit) (xs : List Asset) → count_of u xs ≡ 0 → sum_where (eq_by_cmp holder_cmp (w, u)) (account_rows who xs) ≡ 0
+absent_sum : (who w : List ℕ) (u : Unit) (xs : List Asset) → occurrences u xs ≡ 0 → sum_where (eq_by_cmp holder_cmp (w, u)) (account_rows who xs) ≡ 0
 absent_sum who w u [] none = refl
 absent_sum who w u (b ∷ xs) none =
     let other = other_unit u b xs none in

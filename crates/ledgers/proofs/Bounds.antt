@@ -8,10 +8,10 @@ use Rattle.asset_lists.specs.declared.units.Instance.{Instance}
 use Rattle.asset_lists.specs.declared.units.Kind.{Kind}
 use Rattle.asset_lists.specs.Units.{asset_id_cmp}
 use Rattle.std.specs.Ordering.{eq_by_cmp}
-use Rattle.asset_bundles.specs.Books.{Listed}
-use Rattle.ledgers.specs.Ledgers.{Holder, is_account, is_in, part_of}
+use Rattle.asset_lists.specs.Listed.{Listed}
+use Rattle.ledgers.specs.Ledgers.{Holder, is_account, is_holding_of, account_sum_of}
 use Rattle.ledgers.specs.LedgerRows.{AmountKey, OwnerKey, fungible_row, amount_row, amount_rows, instance_row, owner_row, owner_rows, held_in, AreSmall}
-use Rattle.ledgers.proofs.RowLookups.{holder_keys}
+use Rattle.ledgers.specs.Laws.{holder_keys}
 use Rattle.ledgers.proofs.Soundness.{total-at_most}
 
 one_at_most : (b : Bool) (n : ℕ) → amount_if b n ≤ n
@@ -61,7 +61,7 @@ sum_bound listed amounts owners p small few few_owners =
     omega (arith, all, front, back, few, few_owners)
 
 -- instances are no more than the rows of owners
-not_of_class : (w : List ℕ) (who : List ℕ) (id other : AssetId) → (is_account w (who, (other, None)) && is_in (id, Kind.Class) (who, (other, None))) ≡ false
+not_of_class : (w : List ℕ) (who : List ℕ) (id other : AssetId) → (is_account w (who, (other, None)) && is_holding_of (id, Kind.Class) (who, (other, None))) ≡ false
 not_of_class w who id other = both_false (is_account w (who, (other, None))) (eq_by_cmp asset_id_cmp id other)
   where
     both_false : (a b : Bool) → (a && (b && false)) ≡ false
@@ -73,25 +73,25 @@ nothing_more : (n : ℕ) → 0 + n ≡ n
 nothing_more n = omega arith
 
 class_fungible : (w : List ℕ) (cls : AssetId) (id : AssetId) (kind : Kind) (who : List ℕ) (v : ℕ) (rest : List (Holder × ℕ))
-    → sum_where (λ h. is_account w h && is_in (cls, Kind.Class) h) (fungible_row id kind who v rest) ≡ sum_where (λ h. is_account w h && is_in (cls, Kind.Class) h) rest
-class_fungible w cls id Kind.Fungible who v rest = ap (λ b. amount_if b v + sum_where (λ h. is_account w h && is_in (cls, Kind.Class) h) rest) (not_of_class w who cls id) ∙ nothing_more _
+    → sum_where (λ h. is_account w h && is_holding_of (cls, Kind.Class) h) (fungible_row id kind who v rest) ≡ sum_where (λ h. is_account w h && is_holding_of (cls, Kind.Class) h) rest
+class_fungible w cls id Kind.Fungible who v rest = ap (λ b. amount_if b v + sum_where (λ h. is_account w h && is_holding_of (cls, Kind.Class) h) rest) (not_of_class w who cls id) ∙ nothing_more _
 class_fungible w cls id Kind.Class who v rest = refl
 
 class_amount : (w : List ℕ) (cls : AssetId) (o : Option Listed) (who : List ℕ) (v : ℕ) (rest : List (Holder × ℕ))
-    → sum_where (λ h. is_account w h && is_in (cls, Kind.Class) h) (amount_row o who v rest) ≡ sum_where (λ h. is_account w h && is_in (cls, Kind.Class) h) rest
+    → sum_where (λ h. is_account w h && is_holding_of (cls, Kind.Class) h) (amount_row o who v rest) ≡ sum_where (λ h. is_account w h && is_holding_of (cls, Kind.Class) h) rest
 class_amount w cls None who v rest = refl
 class_amount w cls (Some asset) who v rest = class_fungible w cls asset.0 asset.1 who v rest
 
 class_amounts : (w : List ℕ) (cls : AssetId) (listed : List Listed) (rows : List (AmountKey × ℕ)) (rest : List (Holder × ℕ))
-    → sum_where (λ h. is_account w h && is_in (cls, Kind.Class) h) (amount_rows listed rows rest) ≡ sum_where (λ h. is_account w h && is_in (cls, Kind.Class) h) rest
+    → sum_where (λ h. is_account w h && is_holding_of (cls, Kind.Class) h) (amount_rows listed rows rest) ≡ sum_where (λ h. is_account w h && is_holding_of (cls, Kind.Class) h) rest
 class_amounts w cls listed [] rest = refl
 class_amounts w cls listed (row ∷ rows) rest = class_amount w cls (slice_get listed row.0.0) row.0.1 row.1 (amount_rows listed rows rest) ∙ class_amounts w cls listed rows rest
 
 pub count_bound : (listed : List Listed) (amounts : List (AmountKey × ℕ)) (owners : List (OwnerKey × Option (List ℕ))) (w : List ℕ) (cls : AssetId) → length owners < 2 ^ 63
-    → part_of w (cls, Kind.Class) (held_in listed amounts owners) < 2 ^ 63
+    → account_sum_of w (cls, Kind.Class) (held_in listed amounts owners) < 2 ^ 63
 unfolding held_in
 count_bound listed amounts owners w cls few =
-    let all = total-at_most holder_keys (λ h. is_account w h && is_in (cls, Kind.Class) h) (amount_rows listed amounts (owner_rows listed owners)) in
+    let all = total-at_most holder_keys (λ h. is_account w h && is_holding_of (cls, Kind.Class) h) (amount_rows listed amounts (owner_rows listed owners)) in
     let front = class_amounts w cls listed amounts (owner_rows listed owners) in
-    let back = owners_most (λ h. is_account w h && is_in (cls, Kind.Class) h) listed owners in
+    let back = owners_most (λ h. is_account w h && is_holding_of (cls, Kind.Class) h) listed owners in
     omega (arith, all, front, back, few)

@@ -9,8 +9,8 @@ use Rattle.amounts.specs.Amounts.{rows, rows_sorted, rows_positive}
 use Rattle.asset_lists.specs.declared.units.Instance.{Instance}
 use Rattle.asset_lists.specs.Units.{Unit, unit_of, unit_cmp, instance_in, amount_in}
 use Rattle.asset_lists.specs.Lists.{has_zero, is_rising}
-use Rattle.asset_lists.specs.Moves.{count_of}
-use Rattle.asset_lists.proofs.Sorting.{once_each}
+use Rattle.asset_lists.specs.Moves.{occurrences}
+use Rattle.asset_lists.specs.Laws.{once_each}
 use Rattle.asset_bundles.specs.Bundles.{Bundle, fun_of, assets_at, held_assets}
 
 instance_back : (o : Option Instance) (n : ℕ) → instance_in (fun_of o n) ≡ o
@@ -46,7 +46,7 @@ pub held_rises : (b : Bundle) → is_rising (held_assets b) ≡ true
 unfolding held_assets
 held_rises b = rises (rows b) (keys_rising unit_cmp (rows b) (rows_sorted b))
 
-pub held_once : (b : Bundle) (u : Unit) → count_of u (held_assets b) ≤ 1
+pub held_once : (b : Bundle) (u : Unit) → occurrences u (held_assets b) ≤ 1
 unfolding held_assets
 held_once b = once_each (assets_at (rows b)) (rises (rows b) (keys_rising unit_cmp (rows b) (rows_sorted b)))
 

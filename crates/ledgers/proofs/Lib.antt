@@ -1,7 +1,4 @@
-pub mod Cutting
 pub mod Holding
-pub mod Claiming
-pub mod Conserving
 pub mod RowLookups
 pub mod RowAmounts
 pub mod Numbers

@@ -17,8 +17,9 @@ use Rattle.amounts.specs.Rows.{eq_true}
 use Rattle.amounts.specs.Keys.{number_keys}
 use Rattle.amounts.specs.Laws.{same_key, key_same}
 use Rattle.ledgers.specs.Ledgers.{account_cmp}
-use Rattle.ledgers.specs.LedgerRows.{AmountKey, amount_key_cmp, amount_at, IsBefore, IsNextOf}
-use Rattle.ledgers.proofs.RowLookups.{amount_keys, account_keys}
+use Rattle.ledgers.specs.LedgerRows.{AmountKey, amount_key_cmp, amount_in_row, IsBefore, IsNextOf}
+use Rattle.ledgers.specs.Laws.{account_keys}
+use Rattle.ledgers.proofs.RowLookups.{amount_keys}
 use Rattle.ledgers.proofs.NextAccounts.{nothing, row_passed, not_before_itself, before_both}
 
 -- ---- keys by number, then by account
@@ -42,17 +43,17 @@ less_is Equal h = absurd (cc)
 less_is Greater h = absurd (cc)
 
 -- a row that is found is one of those that come later
-later_row : (k q : AmountKey) (rest : List (AmountKey × ℕ)) → AllByRecursion (λ p. amount_key_cmp k p ≡ Less) (keys_of rest) → 0 < amount_at rest q → amount_key_cmp k q ≡ Less
+later_row : (k q : AmountKey) (rest : List (AmountKey × ℕ)) → AllByRecursion (λ p. amount_key_cmp k p ≡ Less) (keys_of rest) → 0 < amount_in_row rest q → amount_key_cmp k q ≡ Less
 later_row k q [] later some = absurd (omega (arith, some))
 later_row k q (e ∷ rest) later some = by (later_row k q rest later.1) (eq_by_cmp amount_key_cmp q e.0) refl some
   where
-    by : (0 < amount_at rest q → amount_key_cmp k q ≡ Less) → (b : Bool) → eq_by_cmp amount_key_cmp q e.0 ≡ b → 0 < unwrap_or (if b then Some e.1 else lookup (eq_by_cmp amount_key_cmp q) rest) 0 → amount_key_cmp k q ≡ Less
+    by : (0 < amount_in_row rest q → amount_key_cmp k q ≡ Less) → (b : Bool) → eq_by_cmp amount_key_cmp q e.0 ≡ b → 0 < unwrap_or (if b then Some e.1 else lookup (eq_by_cmp amount_key_cmp q) rest) 0 → amount_key_cmp k q ≡ Less
     by further true t there = subst (λ p. amount_key_cmp k p ≡ Less) (sym (key_same amount_keys q e.0 t)) later.0
     by further false f there = further there
 
 -- ---- the rows that are left, of those from a number and an account on
 pub record IsAhead (rows : BTreeMap AmountKey ℕ) (n : ℕ) (after : List ℕ) (rest : List (AmountKey × ℕ)) : Type 0 where
-  pub ahead : (w : List ℕ) → account_cmp after w ≡ Less → 0 < amount_at rows.entries (n, w) → 0 < amount_at rest (n, w)
+  pub ahead : (w : List ℕ) → account_cmp after w ≡ Less → 0 < amount_in_row rows.entries (n, w) → 0 < amount_in_row rest (n, w)
   pub each : AllByRecursion (IsEntryInRange amount_key_cmp (Included (n, after)) Unbounded rows) rest
   pub sorted : IsStrictlySortedBy amount_key_cmp (keys_of rest)
 
@@ -72,7 +73,7 @@ module _ (rows : BTreeMap AmountKey ℕ) (n : ℕ) (after : List ℕ) where
       → AllByRecursion (IsEntryInRange amount_key_cmp (Included (n, after)) Unbounded rows) rest → IsStrictlySortedBy amount_key_cmp (keys_of rows.entries) → IsAhead rows n after rest
   unfolding in_range
   all_ahead rest is each sorted = record {
-    ahead = λ w less some. subst (λ v. 0 < v) (sym (ap (λ es. amount_at es (n, w)) is
+    ahead = λ w less some. subst (λ v. 0 < v) (sym (ap (λ es. amount_in_row es (n, w)) is
         ∙ ap (λ o. unwrap_or o 0) (lookup-filter-keys (eq_by_cmp amount_key_cmp (n, w)) in_range true (λ k t. ap in_range (sym (key_same amount_keys (n, w) k t)) ∙ within w less) rows.entries))) some;
     each = each;
     sorted = subst (λ es. IsStrictlySortedBy amount_key_cmp (keys_of es)) (sym is) (subst (IsStrictlySortedBy amount_key_cmp) (sym (keys-filter in_range rows.entries)) (IsStrictlySortedBy-filter amount_key_cmp in_range (keys_of rows.entries) sorted));
@@ -89,13 +90,13 @@ module _ (rows : BTreeMap AmountKey ℕ) (n : ℕ) (after : List ℕ) where
     sorted = h.sorted.1;
   }
 
-  pub none_left : IsAhead rows n after [] → (w : List ℕ) → account_cmp after w ≡ Less → amount_at rows.entries (n, w) ≡ 0
-  none_left h w less = nothing (amount_at rows.entries (n, w)) (h.ahead w less)
+  pub none_left : IsAhead rows n after [] → (w : List ℕ) → account_cmp after w ≡ Less → amount_in_row rows.entries (n, w) ≡ 0
+  none_left h w less = nothing (amount_in_row rows.entries (n, w)) (h.ahead w less)
 
   -- where the next row is of another number, no row of this one is left
-  pub number_left : (e : AmountKey × ℕ) (rest : List (AmountKey × ℕ)) → IsAhead rows n after (e ∷ rest) → (e.0.0 ≡ n → ⊥) → (w : List ℕ) → account_cmp after w ≡ Less → amount_at rows.entries (n, w) ≡ 0
+  pub number_left : (e : AmountKey × ℕ) (rest : List (AmountKey × ℕ)) → IsAhead rows n after (e ∷ rest) → (e.0.0 ≡ n → ⊥) → (w : List ℕ) → account_cmp after w ≡ Less → amount_in_row rows.entries (n, w) ≡ 0
   unfolding IsStrictlySortedBy
-  number_left e rest h other w less = nothing (amount_at rows.entries (n, w)) (λ some.
+  number_left e rest h other w less = nothing (amount_in_row rows.entries (n, w)) (λ some.
       let there = row_passed e rest (n, w) (λ is positive. other (sym (ap (λ (q : AmountKey). q.0) is))) (h.ahead w less some) in
       let later = later_row e.0 (n, w) rest h.sorted.0 there in
       let above = numbers_le n e.0.0 after e.0.1 h.each.0.0.0 in
@@ -105,9 +106,9 @@ module _ (rows : BTreeMap AmountKey ℕ) (n : ℕ) (after : List ℕ) where
   pub row_found : (e : AmountKey × ℕ) (rest : List (AmountKey × ℕ)) → IsAhead rows n after (e ∷ rest) → e.0.0 ≡ n → account_cmp after e.0.1 ≡ Less → 0 < e.1 → IsNextOf rows.entries n after e.0.1
   unfolding IsStrictlySortedBy
   row_found e rest h is less positive = record {
-    has = subst (λ k. 0 < amount_at rows.entries k) here (subst (λ v. 0 < v) (sym (ap (λ o. unwrap_or o 0) h.each.0.1)) positive);
+    has = subst (λ k. 0 < amount_in_row rows.entries k) here (subst (λ v. 0 < v) (sym (ap (λ o. unwrap_or o 0) h.each.0.1)) positive);
     later = less;
-    least = λ w after_it before. nothing (amount_at rows.entries (n, w)) (λ some.
+    least = λ w after_it before. nothing (amount_in_row rows.entries (n, w)) (λ some.
         let there = row_passed e rest (n, w) (λ same _. not_before_itself w e.0.1 (ap (λ (q : AmountKey). q.1) same) before) (h.ahead w after_it some) in
         let later = later_row e.0 (n, w) rest h.sorted.0 there in
         let behind : account_cmp e.0.1 w ≡ Less = sym (of_accounts n e.0.1 w) ∙ ap (λ k. amount_key_cmp k (n, w)) (sym here) ∙ later in
@@ -119,7 +120,7 @@ module _ (rows : BTreeMap AmountKey ℕ) (n : ℕ) (after : List ℕ) where
 
 -- ---- one number after the other: what lies between the account to come after and the one that was met is of later numbers
 abbrev pub IsLater : List (AmountKey × ℕ) → ℕ → List ℕ → Option (List ℕ) → Type 0
-IsLater rows n after next = (k : AmountKey) → account_cmp after k.1 ≡ Less → IsBefore k.1 next → 0 < amount_at rows k → n ≤ k.0
+IsLater rows n after next = (k : AmountKey) → account_cmp after k.1 ≡ Less → IsBefore k.1 next → 0 < amount_in_row rows k → n ≤ k.0
 
 beyond : (n m : ℕ) → n ≤ m → (n ≡ m → ⊥) → n + 1 ≤ m
 beyond zero zero le other = absurd (other refl)
@@ -131,10 +132,10 @@ no_amount : (n : ℕ) → n ≡ 0 → 0 < n → ⊥
 no_amount n none some = absurd (omega (arith, none, some))
 
 module _ (rows : List (AmountKey × ℕ)) (n : ℕ) (after : List ℕ) (next : Option (List ℕ)) (later : IsLater rows n after next) where
-  here_at : (k : AmountKey) → n ≡ k.0 → 0 < amount_at rows k → 0 < amount_at rows (n, k.1)
-  here_at k is some = subst (λ m. 0 < amount_at rows (m, k.1)) (sym is) some
+  here_at : (k : AmountKey) → n ≡ k.0 → 0 < amount_in_row rows k → 0 < amount_in_row rows (n, k.1)
+  here_at k is some = subst (λ m. 0 < amount_in_row rows (m, k.1)) (sym is) some
 
-  pub later_nobody : ((w : List ℕ) → account_cmp after w ≡ Less → amount_at rows (n, w) ≡ 0) → IsLater rows (n + 1) after next
+  pub later_nobody : ((w : List ℕ) → account_cmp after w ≡ Less → amount_in_row rows (n, w) ≡ 0) → IsLater rows (n + 1) after next
   later_nobody none k less before some = beyond n k.0 (later k less before some) (λ is. no_amount _ (none k.1 less) (here_at k is some))
 
   pub later_closer : (who : List ℕ) → IsNextOf rows n after who → IsBefore who next → IsLater rows (n + 1) after (Some who)
@@ -150,6 +151,6 @@ module _ (rows : List (AmountKey × ℕ)) (n : ℕ) (after : List ℕ) (next : O
       by Greater e is = farther (before_both who k.1 next (account_keys.total.antisymm who k.1 ∙ ap ordering_reverse e) before)
 
 -- all numbers passed
-pub none_later : (rows : List (AmountKey × ℕ)) (n : ℕ) (after : List ℕ) (next : Option (List ℕ)) → ((k : AmountKey) → 0 < amount_at rows k → k.0 < n) → IsLater rows n after next
-    → (k : AmountKey) → account_cmp after k.1 ≡ Less → IsBefore k.1 next → 0 < amount_at rows k → 0 < 0
+pub none_later : (rows : List (AmountKey × ℕ)) (n : ℕ) (after : List ℕ) (next : Option (List ℕ)) → ((k : AmountKey) → 0 < amount_in_row rows k → k.0 < n) → IsLater rows n after next
+    → (k : AmountKey) → account_cmp after k.1 ≡ Less → IsBefore k.1 next → 0 < amount_in_row rows k → 0 < 0
 none_later rows n after next below later k less before some = (let over = later k less before some in let under = below k some in omega (arith, over, under))

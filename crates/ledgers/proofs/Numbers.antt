@@ -1,12 +1,12 @@
 -- The numbers of listed assets: places in a list in which nothing stands twice.
 use Rattle.std.proofs.Common.{◌≡◌, ℕ, zero, suc, ◌+◌, ◌<◌, Bool, true, false, not, cond, List, [], ◌∷◌, length, get_or, refl, sym, ap, ◌∙◌, subst, arith}
-use Rattle.std.specs.Prelude.{None, Some, slice_get, nat_lt}
+use Rattle.std.specs.Prelude.{Option, None, Some, MatchOption, slice_get, nat_lt}
 use Rattle.std.specs.Ordering.{eq_by_cmp}
 use Rattle.std.specs.List.{position_or_len}
 use Rattle.std.proofs.lemmas.List.Quantifiers.{position-Some}
 use Rattle.std.proofs.lemmas.Option.{slice_get-get_or}
 use Rattle.amounts.specs.Laws.{same_key, key_same}
-use Rattle.asset_bundles.specs.Books.{Listed, listed_cmp}
+use Rattle.asset_lists.specs.Listed.{Listed, listed_cmp}
 use Rattle.asset_bundles.specs.Laws.{listed_keys}
 use Rattle.ledgers.specs.Ledgers.{number_in}
 use Rattle.ledgers.specs.LedgerRows.{IsOnce}
@@ -39,3 +39,14 @@ at_number listed once k n at =
       | None ↦ λ e. absurd (no_number listed k e n at)
       | Some m ↦ λ e. ap Some (once.place m n k (number_at listed k m e) at)
     ] refl
+
+-- ---- what a test leaves
+-- none, where it isn't some
+pub none_if : {A : Type 0} (o : Option A) → ((x : A) → o ≡ Some x → ⊥) → o ≡ None
+none_if None h = refl
+none_if (Some x) h = absurd (h x refl)
+
+-- what is known at none
+pub at_none : {A : Type 0} {P : Type 0} (Q : A → Type 0) (o : Option A) → ((x : A) → o ≡ Some x → ⊥) → MatchOption o P Q → P
+at_none Q None h p = p
+at_none Q (Some x) h p = absurd (h x refl)

@@ -4,27 +4,27 @@ use Rattle.std.specs.Prelude.{Option, None, Some, slice_get, nat_lt}
 use Rattle.std.specs.Ordering.{eq_by_cmp}
 use Rattle.std.specs.List.{IsDistinct, AllByRecursion, list_all}
 use Rattle.std.specs.List.Sorted.{IsStrictlySortedBy}
-use Rattle.std.proofs.lemmas.Bool.{and_from, and_parts}
+use Rattle.std.proofs.lemmas.Bool.{and_from}
 use Rattle.std.proofs.lemmas.Map.Keys.{any_passes_from_place}
 use Rattle.amounts.specs.Rows.{IsPositive, sum_where, amount_if}
 use Rattle.amounts.specs.Amounts.{amount, total, empty, rows, rows_positive, total-empty, total-rows, amount-total}
 use Rattle.amounts.specs.Entries.{from_entries}
-use Rattle.amounts.specs.Laws.{same_key, key_same, amount_at_most}
+use Rattle.amounts.specs.Laws.{same_key, amount_at_most}
 use Rattle.asset_lists.specs.declared.units.Kind.{Kind}
 use Rattle.asset_lists.specs.declared.units.Fun.{Fun}
 use Rattle.asset_lists.specs.declared.units.Asset.{Asset}
-use Rattle.asset_lists.specs.Units.{Unit, unit_of, amount_of, unit_cmp}
-use Rattle.asset_bundles.specs.Bundles.{Bundle, unit_keys, rows_of, bundle_of, assets_at, held_assets}
-use Rattle.asset_bundles.specs.BundleLaws.{amount-bundle_of}
-use Rattle.asset_bundles.specs.Books.{Listed, listed_cmp, listed_of, lists}
+use Rattle.asset_lists.specs.Units.{Unit, unit_of, unit_cmp}
+use Rattle.asset_bundles.specs.Bundles.{Bundle, unit_keys, assets_at, held_assets}
+use Rattle.asset_lists.specs.Listed.{Listed, listed_cmp, listed_of, lists}
 use Rattle.asset_bundles.specs.Laws.{listed_keys}
 use Rattle.ledgers.specs.declared.sums.Sum.{Sum}
 use Rattle.ledgers.specs.Sums.{sum_value}
-use Rattle.ledgers.specs.Ledgers.{Holder, Held, is_account, is_in, owners_of, AreListed, number_in, is_barred, is_barred_fun, barred}
+use Rattle.asset_bundles.specs.Books.{AreListed}
+use Rattle.ledgers.specs.Ledgers.{Holder, Held, is_account, is_holding_of, owners_of, number_in, is_barred, is_barred_fun, barred}
 use Rattle.ledgers.specs.LedgerRows.{owner_key_cmp, held_in, IsSound}
 use Rattle.ledgers.specs.RowState.{may_take}
 use Rattle.ledgers.specs.AccountRows.{MayTakeAll}
-use Rattle.ledgers.proofs.RowLookups.{holder_keys}
+use Rattle.ledgers.specs.Laws.{holder_keys}
 use Rattle.ledgers.proofs.Numbers.{number_at}
 use Rattle.ledgers.proofs.Holding.{unit_back}
 
@@ -55,10 +55,10 @@ opened listed sums distinct many zeros = record {
   once = record { place = once_place listed distinct };
   small = tt;
   sorted = no_rows;
-  counted = λ n who id at. sym (ap (total (λ h. is_account who h && is_in (id, Kind.Class) h)) (nothing_held listed) ∙ total-empty holder_keys (λ h. is_account who h && is_in (id, Kind.Class) h));
+  counted = λ n who id at. sym (ap (total (λ h. is_account who h && is_holding_of (id, Kind.Class) h)) (nothing_held listed) ∙ total-empty holder_keys (λ h. is_account who h && is_holding_of (id, Kind.Class) h));
   numbered = λ n who some. absurd (omega (arith, some));
   as_many = many;
-  summed = λ n asset s at is. zeros n s is ∙ sym (ap (total (is_in asset)) (nothing_held listed) ∙ total-empty holder_keys (is_in asset));
+  summed = λ n asset s at is. zeros n s is ∙ sym (ap (total (is_holding_of asset)) (nothing_held listed) ∙ total-empty holder_keys (is_holding_of asset));
 }
 
 -- ---- what a bundle holds is listed
@@ -101,19 +101,6 @@ may_all held who (a ∷ xs) none =
     let parts = not_found (is_barred held who a) a (barred held who xs) none in
     (may_fun a.fun held who (unit_of a) parts.0, may_all held who xs parts.1)
 
--- ---- listed assets make a bundle of listed units
+-- ---- what has a number is listed
 pub listed_by_number : (listed : List Listed) (k : Listed) (n : ℕ) → number_in listed k ≡ Some n → lists listed k ≡ true
 listed_by_number listed k n is = any_passes_from_place (eq_by_cmp listed_cmp k) listed n k (number_at listed k n is) (same_key listed_keys k)
-
-listed_unit : (listed : List Listed) (u v : Unit) (b : Bool) (n m : ℕ) → eq_by_cmp unit_cmp u v ≡ b → lists listed (listed_of v) ≡ true → 0 < amount_if b n + m → (0 < m → lists listed (listed_of u) ≡ true) → lists listed (listed_of u) ≡ true
-listed_unit listed u v true n m e is some rest = ap (λ w. lists listed (listed_of w)) (key_same unit_keys u v e) ∙ is
-listed_unit listed u v false n m e is some rest = rest (omega (arith, some))
-
-listed_among : (listed : List Listed) (xs : List Asset) (u : Unit) → list_all (λ a. lists listed (listed_of (unit_of a))) xs ≡ true → 0 < sum_where (eq_by_cmp unit_cmp u) (rows_of xs) → lists listed (listed_of u) ≡ true
-listed_among listed [] u all some = absurd (omega (arith, some))
-listed_among listed (a ∷ xs) u all some =
-    let parts = and_parts (lists listed (listed_of (unit_of a))) (list_all (λ b. lists listed (listed_of (unit_of b))) xs) all in
-    listed_unit listed u (unit_of a) (eq_by_cmp unit_cmp u (unit_of a)) (amount_of a) _ refl parts.0 some (λ more. listed_among listed xs u parts.1 more)
-
-pub are_listed : (listed : List Listed) (xs : List Asset) → list_all (λ a. lists listed (listed_of (unit_of a))) xs ≡ true → AreListed listed (bundle_of xs)
-are_listed listed xs all u some = listed_among listed xs u all (subst (λ n. 0 < n) (amount-bundle_of xs u) some)

@@ -1,6 +1,6 @@
 -- What the rows say of sums, parts and owners.
 use Rattle.std.proofs.Common.{◌≡◌, ℕ, zero, suc, get_or, [], ◌∷◌, ◌<◌, true, false, ◌&&◌, if◌then◌else◌, List, length, refl, sym, ap, ◌∙◌, subst, arith, true≢false}
-use Rattle.std.specs.Prelude.{Option, None, Some, slice_get, MatchOption}
+use Rattle.std.specs.Prelude.{Option, None, Some, slice_get, is_some, IsTrue, IsFalse, MatchOption}
 use Rattle.std.specs.Ordering.{eq_by_cmp}
 use Rattle.std.proofs.lemmas.Bool.{and_parts, and_from}
 use Rattle.std.proofs.lemmas.Option.{slice_get-get_or}
@@ -11,12 +11,16 @@ use Rattle.asset_lists.specs.declared.units.Instance.{Instance}
 use Rattle.asset_lists.specs.declared.units.Kind.{Kind}
 use Rattle.asset_lists.specs.Units.{Unit, unit_cmp}
 use Rattle.asset_bundles.specs.Bundles.{unit_keys}
-use Rattle.asset_bundles.specs.Books.{Listed, listed_of}
+use Rattle.asset_lists.specs.Listed.{Listed, listed_of}
 use Rattle.ledgers.specs.declared.sums.Sum.{Sum}
+use Rattle.ledgers.specs.declared.faults.DepositFault.{DepositFault}
 use Rattle.ledgers.specs.Sums.{sum_value}
-use Rattle.ledgers.specs.Ledgers.{Holder, account_cmp, holder_cmp, Held, is_account, is_in, sum_of, part_of, owners_of, IsOwner, number_in}
-use Rattle.ledgers.specs.LedgerRows.{AmountKey, OwnerKey, amount_at, owner_at, owned, held_in, IsSound}
-use Rattle.ledgers.proofs.RowLookups.{holder_keys, account_keys, not_true}
+use Rattle.ledgers.specs.Ledgers.{Holder, account_cmp, holder_cmp, Held, is_account, is_holding_of, sum_of, account_sum_of, owners_of, IsOwner, number_in, is_barred}
+use Rattle.ledgers.specs.LedgerFaults.{IsBarred}
+use Rattle.asset_lists.specs.declared.units.Asset.{Asset}
+use Rattle.ledgers.specs.LedgerRows.{AmountKey, OwnerKey, amount_in_row, owner_at, owned, held_in, IsSound}
+use Rattle.ledgers.specs.Laws.{holder_keys, account_keys}
+use Rattle.ledgers.proofs.RowLookups.{not_true}
 use Rattle.ledgers.proofs.RowAmounts.{held-fungible, held-instance}
 use Rattle.ledgers.proofs.Numbers.{number_at}
 use Rattle.ledgers.proofs.Soundness.{asset_is, is_its_asset}
@@ -28,12 +32,12 @@ no_instance id other None e = λ i. (ap (λ (k : Listed). k.0) e i, None)
 no_instance id other (Some j) e = (let kinds : Kind.Fungible ≡ Kind.Class = ap (λ (k : Listed). k.1) e in absurd (cc))
 
 -- what an account has of a fungible asset is the amount of its one unit
-pub fungible_part : (held : Held) (who : List ℕ) (id : AssetId) → part_of who (id, Kind.Fungible) held ≡ amount held (who, (id, None))
+pub fungible_part : (held : Held) (who : List ℕ) (id : AssetId) → account_sum_of who (id, Kind.Fungible) held ≡ amount held (who, (id, None))
 fungible_part held who id =
-    total_one holder_keys (λ h. is_account who h && is_in (id, Kind.Fungible) h) held (who, (id, None))
+    total_one holder_keys (λ h. is_account who h && is_holding_of (id, Kind.Fungible) h) held (who, (id, None))
     (and_from _ _ (same_key account_keys who) (is_its_asset (id, Kind.Fungible) (id, None) refl))
     (λ q passes other.
-    let parts = and_parts (is_account who q) (is_in (id, Kind.Fungible) q) passes in
+    let parts = and_parts (is_account who q) (is_holding_of (id, Kind.Fungible) q) passes in
     let accounts : who ≡ q.0 = key_same account_keys who q.0 parts.0 in
     let units = no_instance id q.1.0 q.1.1 (asset_is (id, Kind.Fungible) q.1 parts.1) in
     absurd (true≢false (sym (subst (λ k. eq_by_cmp holder_cmp k (who, (id, None)) ≡ true) (λ i. (accounts i, units i)) (same_key holder_keys (who, (id, None)))) ∙ other)))
@@ -44,20 +48,20 @@ inside (y ∷ xs) zero x h = omega arith
 inside (y ∷ xs) (suc i) x h = let rest = inside xs i x h in omega (arith, rest)
 
 module _ (listed : List Listed) (amounts : List (AmountKey × ℕ)) (owners : List (OwnerKey × Option (List ℕ))) (sums : List Sum) (sound : IsSound listed amounts owners sums) where
-  pub part_is : (n : ℕ) (who : List ℕ) (id : AssetId) (kind : Kind) → number_in listed (id, kind) ≡ Some n → amount_at amounts (n, who) ≡ part_of who (id, kind) (held_in listed amounts owners)
+  pub part_is : (n : ℕ) (who : List ℕ) (id : AssetId) (kind : Kind) → number_in listed (id, kind) ≡ Some n → amount_in_row amounts (n, who) ≡ account_sum_of who (id, kind) (held_in listed amounts owners)
   part_is n who id Kind.Fungible is = sym (held-fungible listed sound.once amounts owners n who id (number_at listed (id, Kind.Fungible) n is)) ∙ sym (fungible_part (held_in listed amounts owners) who id)
   part_is n who id Kind.Class is = sound.counted n who id (number_at listed (id, Kind.Class) n is)
 
   -- an asset that isn't listed is held by nobody
-  nothing_held : (asset : Listed) → number_in listed asset ≡ None → (h : Holder) → is_in asset h ≡ true → amount (held_in listed amounts owners) h ≡ 0
+  nothing_held : (asset : Listed) → number_in listed asset ≡ None → (h : Holder) → is_holding_of asset h ≡ true → amount (held_in listed amounts owners) h ≡ 0
   nothing_held asset none h passes =
       held_listed listed amounts owners sums sound h.0 h.1.0 h.1.1 (ap (number_in listed) (sym (asset_is asset h.1 passes)) ∙ none)
 
-  pub part_none : (who : List ℕ) (asset : Listed) → number_in listed asset ≡ None → part_of who asset (held_in listed amounts owners) ≡ 0
-  part_none who asset none = total_none holder_keys (λ h. is_account who h && is_in asset h) (held_in listed amounts owners) (λ h passes. nothing_held asset none h (and_parts (is_account who h) (is_in asset h) passes).1)
+  pub part_none : (who : List ℕ) (asset : Listed) → number_in listed asset ≡ None → account_sum_of who asset (held_in listed amounts owners) ≡ 0
+  part_none who asset none = total_none holder_keys (λ h. is_account who h && is_holding_of asset h) (held_in listed amounts owners) (λ h passes. nothing_held asset none h (and_parts (is_account who h) (is_holding_of asset h) passes).1)
 
   pub sum_none : (asset : Listed) → number_in listed asset ≡ None → sum_of asset (held_in listed amounts owners) ≡ 0
-  sum_none asset none = total_none holder_keys (is_in asset) (held_in listed amounts owners) (nothing_held asset none)
+  sum_none asset none = total_none holder_keys (is_holding_of asset) (held_in listed amounts owners) (nothing_held asset none)
 
   pub sum_is : (n : ℕ) (asset : Listed) (s : Sum) → number_in listed asset ≡ Some n → s ≡ get_or sums n s → sum_value s ≡ sum_of asset (held_in listed amounts owners)
   sum_is n asset s is at =
@@ -101,3 +105,9 @@ module _ (listed : List Listed) (amounts : List (AmountKey × ℕ)) (owners : Li
       → MatchOption o (owners_of (id, Some i) (held_in listed amounts owners) ≡ 0) (IsOwner (held_in listed amounts owners) (id, Some i))
   owner_read n id i None is e = owner_none n id i is (sym e)
   owner_read n id i (Some who) is e = owner_is n id i who is (sym e)
+
+-- an answer that says why tells whether
+pub barred_or_not : (held : Held) (who : List ℕ) (a : Asset) (o : Option DepositFault)
+    → MatchOption o (IsFalse (is_barred held who a)) (λ fault. IsTrue (is_barred held who a) × IsBarred held who a fault) → is_some o ≡ is_barred held who a
+barred_or_not held who a None h = sym h
+barred_or_not held who a (Some fault) h = sym h.0

@@ -9,14 +9,15 @@ use Rattle.amounts.specs.Entries.{amount-from_entries}
 use Rattle.asset_lists.specs.declared.units.AssetId.{AssetId}
 use Rattle.asset_lists.specs.declared.units.Instance.{Instance}
 use Rattle.asset_lists.specs.declared.units.Kind.{Kind}
-use Rattle.asset_bundles.specs.Books.{Listed}
+use Rattle.asset_lists.specs.Listed.{Listed}
 use Rattle.ledgers.specs.Ledgers.{Holder, holder_cmp}
-use Rattle.ledgers.specs.LedgerRows.{owned, IsOnce, AmountKey, OwnerKey, owner_key_cmp, amount_at, owner_at, amount_rows, owner_rows, held_in}
-use Rattle.ledgers.proofs.RowLookups.{holder_keys, shown, lookup-amounts, lookup-past_amounts, lookup-past_owners, lookup-owners}
+use Rattle.ledgers.specs.LedgerRows.{owned, IsOnce, AmountKey, OwnerKey, owner_key_cmp, amount_in_row, owner_at, amount_rows, owner_rows, held_in}
+use Rattle.ledgers.specs.Laws.{holder_keys}
+use Rattle.ledgers.proofs.RowLookups.{shown, lookup-amounts, lookup-past_amounts, lookup-past_owners, lookup-owners}
 
 module _ (listed : List Listed) (once : IsOnce listed) (amounts : List (AmountKey × ℕ)) (owners : List (OwnerKey × Option (List ℕ))) where
   pub held-fungible : (n : ℕ) (who : List ℕ) (id : AssetId) → slice_get listed n ≡ Some (id, Kind.Fungible)
-      → amount (held_in listed amounts owners) (who, (id, None)) ≡ amount_at amounts (n, who)
+      → amount (held_in listed amounts owners) (who, (id, None)) ≡ amount_in_row amounts (n, who)
   unfolding held_in
   held-fungible n who id at =
       let past : lookup (eq_by_cmp holder_cmp (who, (id, None))) (owner_rows listed owners) ≡ None = lookup-past_owners listed (who, (id, None)) (λ m w other i e h. (let units : None ≡ Some i = ap (λ (k : Holder). k.1.1) h in absurd (cc))) owners in

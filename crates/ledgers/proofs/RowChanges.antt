@@ -12,13 +12,14 @@ use Rattle.asset_lists.specs.declared.units.Instance.{Instance}
 use Rattle.asset_lists.specs.declared.units.Kind.{Kind}
 use Rattle.asset_lists.specs.declared.units.Fun.{Fun}
 use Rattle.asset_lists.specs.Units.{Unit, instance_in, amount_in}
-use Rattle.asset_bundles.specs.Books.{Listed, listed_of}
+use Rattle.asset_lists.specs.Listed.{Listed, listed_of}
 use Rattle.ledgers.specs.declared.sums.Sum.{Sum}
 use Rattle.ledgers.specs.Sums.{sum_value}
-use Rattle.ledgers.specs.Ledgers.{account_cmp, is_account, is_in, sum_of, part_of, number_in}
-use Rattle.ledgers.specs.LedgerRows.{AmountKey, amount_key_cmp, OwnerKey, owner_key_cmp, amount_at, owner_at, owned, OwnerIs, held_in, AreSmall, IsSumWritten, IsSound, HasAmountRow, HasOwnerRow, HasInstanceRow}
+use Rattle.ledgers.specs.Ledgers.{account_cmp, is_account, is_holding_of, sum_of, account_sum_of, number_in}
+use Rattle.ledgers.specs.LedgerRows.{AmountKey, amount_key_cmp, OwnerKey, owner_key_cmp, amount_in_row, owner_at, owned, OwnerIs, held_in, AreSmall, IsSumWritten, IsSound, HasAmountRow, HasOwnerRow, HasInstanceRow}
 use Rattle.ledgers.specs.RowState.{may_take}
-use Rattle.ledgers.proofs.RowLookups.{holder_keys, amount_keys, account_keys, apart}
+use Rattle.ledgers.specs.Laws.{holder_keys, account_keys}
+use Rattle.ledgers.proofs.RowLookups.{amount_keys, apart}
 use Rattle.ledgers.proofs.RowAmounts.{held-fungible, held-no_fungible, held-instance, held-no_instance}
 use Rattle.ledgers.proofs.RowMoves.{same_rows, held-with_amount, held-with_owner}
 use Rattle.ledgers.proofs.Numbers.{number_at, no_number}
@@ -36,18 +37,18 @@ is_owner false h = absurd (omega (arith, h))
 -- ---- what one account has of an asset, and the rows
 module _ (listed : List Listed) (amounts : List (AmountKey × ℕ)) (owners : List (OwnerKey × Option (List ℕ))) (sums : List Sum) (sound : IsSound listed amounts owners sums) where
   -- a row has what is held of its unit, at least
-  pub row_at_least : (n : ℕ) (who : List ℕ) (id : AssetId) (x : Option Instance) → slice_get listed n ≡ Some (listed_of (id, x)) → amount (held_in listed amounts owners) (who, (id, x)) ≤ amount_at amounts (n, who)
+  pub row_at_least : (n : ℕ) (who : List ℕ) (id : AssetId) (x : Option Instance) → slice_get listed n ≡ Some (listed_of (id, x)) → amount (held_in listed amounts owners) (who, (id, x)) ≤ amount_in_row amounts (n, who)
   row_at_least n who id None at = (let same = held-fungible listed sound.once amounts owners n who id at in omega (arith, same))
   row_at_least n who id (Some i) at =
-      let passes = and_from (is_account who (who, (id, Some i))) (is_in (id, Kind.Class) (who, (id, Some i))) (same_key account_keys who) (is_its_asset (id, Kind.Class) (id, Some i) refl) in
-      let most = amount_at_most holder_keys (λ h. is_account who h && is_in (id, Kind.Class) h) (held_in listed amounts owners) (who, (id, Some i)) passes in
+      let passes = and_from (is_account who (who, (id, Some i))) (is_holding_of (id, Kind.Class) (who, (id, Some i))) (same_key account_keys who) (is_its_asset (id, Kind.Class) (id, Some i) refl) in
+      let most = amount_at_most holder_keys (λ h. is_account who h && is_holding_of (id, Kind.Class) h) (held_in listed amounts owners) (who, (id, Some i)) passes in
       let count = sound.counted n who id at in
       omega (arith, most, count)
 
   -- and so has the running sum
   pub sum_at_least : (n : ℕ) (who : List ℕ) (unit : Unit) (s : Sum) → slice_get listed n ≡ Some (listed_of unit) → slice_get sums n ≡ Some s → amount (held_in listed amounts owners) (who, unit) ≤ sum_value s
   sum_at_least n who unit s at is =
-      let most = amount_at_most holder_keys (is_in (listed_of unit)) (held_in listed amounts owners) (who, unit) (is_its_asset (listed_of unit) unit refl) in
+      let most = amount_at_most holder_keys (is_holding_of (listed_of unit)) (held_in listed amounts owners) (who, unit) (is_its_asset (listed_of unit) unit refl) in
       let sum = sound.summed n (listed_of unit) s at is in
       omega (arith, most, sum)
 
@@ -57,7 +58,7 @@ module _ (listed : List Listed) (amounts : List (AmountKey × ℕ)) (owners : Li
   held_listed who id (Some i) none = held-no_instance listed sound.once amounts owners who id i (no_number listed (id, Kind.Class) none)
 
   -- what the rows say of one account and unit
-  pub held_fungible : (n : ℕ) (who : List ℕ) (id : AssetId) → number_in listed (id, Kind.Fungible) ≡ Some n → amount_at amounts (n, who) ≡ amount (held_in listed amounts owners) (who, (id, None))
+  pub held_fungible : (n : ℕ) (who : List ℕ) (id : AssetId) → number_in listed (id, Kind.Fungible) ≡ Some n → amount_in_row amounts (n, who) ≡ amount (held_in listed amounts owners) (who, (id, None))
   held_fungible n who id is = sym (held-fungible listed sound.once amounts owners n who id (number_at listed (id, Kind.Fungible) n is))
 
   pub held_instance : (n : ℕ) (who : List ℕ) (id : AssetId) (i : Instance) → number_in listed (id, Kind.Class) ≡ Some n → owned who (owner_at owners (n, i)) ≡ amount (held_in listed amounts owners) (who, (id, Some i))
@@ -65,7 +66,7 @@ module _ (listed : List Listed) (amounts : List (AmountKey × ℕ)) (owners : Li
 
   -- ---- rows that read alike
   pub alike_sound : (more_amounts : List (AmountKey × ℕ)) (more_owners : List (OwnerKey × Option (List ℕ)))
-      → ((q : AmountKey) → amount_at more_amounts q ≡ amount_at amounts q) → ((q : OwnerKey) → owner_at more_owners q ≡ owner_at owners q)
+      → ((q : AmountKey) → amount_in_row more_amounts q ≡ amount_in_row amounts q) → ((q : OwnerKey) → owner_at more_owners q ≡ owner_at owners q)
       → AreSmall more_amounts → IsStrictlySortedBy owner_key_cmp (keys_of more_owners)
       → (held_in listed more_amounts more_owners ≡ held_in listed amounts owners) × IsSound listed more_amounts more_owners sums
   alike_sound more_amounts more_owners same_amount same_owner small sorted =
@@ -75,7 +76,7 @@ module _ (listed : List Listed) (amounts : List (AmountKey × ℕ)) (owners : Li
           once = sound.once;
           small = small;
           sorted = sorted;
-          counted = λ n who id at. same_amount (n, who) ∙ sound.counted n who id at ∙ sym (ap (part_of who (id, Kind.Class)) held);
+          counted = λ n who id at. same_amount (n, who) ∙ sound.counted n who id at ∙ sym (ap (account_sum_of who (id, Kind.Class)) held);
           numbered = λ n who some. sound.numbered n who (subst (λ v. 0 < v) (same_amount (n, who)) some);
           as_many = sound.as_many;
           summed = λ n asset s at is. sound.summed n asset s at is ∙ sym (ap (sum_of asset) held);
@@ -86,19 +87,19 @@ module _ (listed : List Listed) (amounts : List (AmountKey × ℕ)) (owners : Li
   module _ (more_amounts : List (AmountKey × ℕ)) (more_owners : List (OwnerKey × Option (List ℕ))) (sorted : IsStrictlySortedBy owner_key_cmp (keys_of more_owners))
       (n : ℕ) (who : List ℕ) (id : AssetId) where
     taken_held : (fun : Fun) → slice_get listed n ≡ Some (listed_of (id, instance_in fun)) → amount_in fun ≤ amount (held_in listed amounts owners) (who, (id, instance_in fun))
-        → ((q : AmountKey) → amount_at more_amounts q ≡ (if eq_by_cmp amount_key_cmp (n, who) q then amount_at amounts (n, who) - amount_in fun else amount_at amounts q))
+        → ((q : AmountKey) → amount_in_row more_amounts q ≡ (if eq_by_cmp amount_key_cmp (n, who) q then amount_in_row amounts (n, who) - amount_in fun else amount_in_row amounts q))
         → OwnerIs (instance_in fun) n None owners more_owners
         → held_in listed more_amounts more_owners ≡ minus (held_in listed amounts owners) (who, (id, instance_in fun)) (amount_in fun)
     unfolding minus
     taken_held (Fun.Fungible a) at enough wrote owner =
-        held-with_amount listed sound.once amounts more_amounts owners more_owners sound.sorted sorted n who id (amount_at amounts (n, who) - a) at wrote owner
+        held-with_amount listed sound.once amounts more_amounts owners more_owners sound.sorted sorted n who id (amount_in_row amounts (n, who) - a) at wrote owner
         ∙ ap (λ v. with_amount (held_in listed amounts owners) (who, (id, None)) (v - a)) (sym (held-fungible listed sound.once amounts owners n who id at))
     taken_held (Fun.NonFungible i) at enough wrote owner =
         held-with_owner listed sound.once amounts more_amounts owners more_owners sound.sorted sorted n who id i (amount (held_in listed amounts owners) (who, (id, Some i)) - 1) None at
         (λ m w other. wrote (m, w) ∙ elsewhere m w other) owner (means (owner_at owners (n, i)) (held-instance listed sound.once amounts owners sound.sorted n who id i at))
       where
-        elsewhere : (m : ℕ) (w : List ℕ) → (n ≡ m → ⊥) → (if eq_by_cmp amount_key_cmp (n, who) (m, w) then amount_at amounts (n, who) - 1 else amount_at amounts (m, w)) ≡ amount_at amounts (m, w)
-        elsewhere m w other = ap (λ b. if b then amount_at amounts (n, who) - 1 else amount_at amounts (m, w)) (apart amount_keys (n, who) (m, w) (λ e. other (ap (λ (k : AmountKey). k.0) e)))
+        elsewhere : (m : ℕ) (w : List ℕ) → (n ≡ m → ⊥) → (if eq_by_cmp amount_key_cmp (n, who) (m, w) then amount_in_row amounts (n, who) - 1 else amount_in_row amounts (m, w)) ≡ amount_in_row amounts (m, w)
+        elsewhere m w other = ap (λ b. if b then amount_in_row amounts (n, who) - 1 else amount_in_row amounts (m, w)) (apart amount_keys (n, who) (m, w) (λ e. other (ap (λ (k : AmountKey). k.0) e)))
 
         left : (h : ℕ) (b : Bool) → h ≡ (if b then 1 else 0) → h - 1 ≡ 0
         left h true e = omega (arith, e)
@@ -117,7 +118,7 @@ module _ (listed : List Listed) (amounts : List (AmountKey × ℕ)) (owners : Li
     taken_row next had row a e le most = omega (arith, e, le, most)
 
     pub taken : (fun : Fun) → number_in listed (listed_of (id, instance_in fun)) ≡ Some n → amount_in fun ≤ amount (held_in listed amounts owners) (who, (id, instance_in fun))
-        → ((q : AmountKey) → amount_at more_amounts q ≡ (if eq_by_cmp amount_key_cmp (n, who) q then amount_at amounts (n, who) - amount_in fun else amount_at amounts q))
+        → ((q : AmountKey) → amount_in_row more_amounts q ≡ (if eq_by_cmp amount_key_cmp (n, who) q then amount_in_row amounts (n, who) - amount_in fun else amount_in_row amounts q))
         → OwnerIs (instance_in fun) n None owners more_owners → AreSmall more_amounts
         → (more_sums : List Sum) → (s : Sum) × (t : Sum) × IsSumWritten n sums more_sums s t × (sum_value t ≡ sum_value s - amount_in fun)
         → (held_in listed more_amounts more_owners ≡ minus (held_in listed amounts owners) (who, (id, instance_in fun)) (amount_in fun)) × IsSound listed more_amounts more_owners more_sums
@@ -127,7 +128,7 @@ module _ (listed : List Listed) (amounts : List (AmountKey × ℕ)) (owners : Li
         let held = taken_held fun at enough wrote owner in
         let row = row_at_least n who id (instance_in fun) at in
         let most = sum_at_least n who (id, instance_in fun) s at sum.was in
-        let write : IsWrite listed amounts more_amounts owners more_owners sums n who (id, instance_in fun) (amount (held_in listed amounts owners) (who, (id, instance_in fun)) - amount_in fun) (amount_at amounts (n, who) - amount_in fun) s t =
+        let write : IsWrite listed amounts more_amounts owners more_owners sums n who (id, instance_in fun) (amount (held_in listed amounts owners) (who, (id, instance_in fun)) - amount_in fun) (amount_in_row amounts (n, who) - amount_in fun) s t =
         record {
           at = at;
           held = held;
@@ -153,19 +154,19 @@ module _ (listed : List Listed) (amounts : List (AmountKey × ℕ)) (owners : Li
             absurd (omega (arith, has, nobody))
 
     given_held : (fun : Fun) → slice_get listed n ≡ Some (listed_of (id, instance_in fun)) → may_take fun who (id, instance_in fun) (held_in listed amounts owners)
-        → ((q : AmountKey) → amount_at more_amounts q ≡ (if eq_by_cmp amount_key_cmp (n, who) q then amount_at amounts (n, who) + amount_in fun else amount_at amounts q))
+        → ((q : AmountKey) → amount_in_row more_amounts q ≡ (if eq_by_cmp amount_key_cmp (n, who) q then amount_in_row amounts (n, who) + amount_in fun else amount_in_row amounts q))
         → OwnerIs (instance_in fun) n (Some who) owners more_owners
         → held_in listed more_amounts more_owners ≡ plus (held_in listed amounts owners) (who, (id, instance_in fun)) (amount_in fun)
     unfolding plus
     given_held (Fun.Fungible a) at may wrote owner =
-        held-with_amount listed sound.once amounts more_amounts owners more_owners sound.sorted sorted n who id (amount_at amounts (n, who) + a) at wrote owner
+        held-with_amount listed sound.once amounts more_amounts owners more_owners sound.sorted sorted n who id (amount_in_row amounts (n, who) + a) at wrote owner
         ∙ ap (λ v. with_amount (held_in listed amounts owners) (who, (id, None)) (v + a)) (sym (held-fungible listed sound.once amounts owners n who id at))
     given_held (Fun.NonFungible i) at may wrote owner =
         held-with_owner listed sound.once amounts more_amounts owners more_owners sound.sorted sorted n who id i (amount (held_in listed amounts owners) (who, (id, Some i)) + 1) (Some who) at
         (λ m w other. wrote (m, w) ∙ elsewhere m w other) owner means
       where
-        elsewhere : (m : ℕ) (w : List ℕ) → (n ≡ m → ⊥) → (if eq_by_cmp amount_key_cmp (n, who) (m, w) then amount_at amounts (n, who) + 1 else amount_at amounts (m, w)) ≡ amount_at amounts (m, w)
-        elsewhere m w other = ap (λ b. if b then amount_at amounts (n, who) + 1 else amount_at amounts (m, w)) (apart amount_keys (n, who) (m, w) (λ e. other (ap (λ (k : AmountKey). k.0) e)))
+        elsewhere : (m : ℕ) (w : List ℕ) → (n ≡ m → ⊥) → (if eq_by_cmp amount_key_cmp (n, who) (m, w) then amount_in_row amounts (n, who) + 1 else amount_in_row amounts (m, w)) ≡ amount_in_row amounts (m, w)
+        elsewhere m w other = ap (λ b. if b then amount_in_row amounts (n, who) + 1 else amount_in_row amounts (m, w)) (apart amount_keys (n, who) (m, w) (λ e. other (ap (λ (k : AmountKey). k.0) e)))
 
         one : (h : ℕ) → h ≡ 0 → h + 1 ≡ 1
         one h e = omega (arith, e)
@@ -175,7 +176,7 @@ module _ (listed : List Listed) (amounts : List (AmountKey × ℕ)) (owners : Li
 
     -- the row of the account and the running sum have room for it
     pub row_room : (fun : Fun) → number_in listed (listed_of (id, instance_in fun)) ≡ Some n → may_take fun who (id, instance_in fun) (held_in listed amounts owners) → length owners < 2 ^ 63
-        → amount_at amounts (n, who) + amount_in fun < 2 ^ 128
+        → amount_in_row amounts (n, who) + amount_in fun < 2 ^ 128
     row_room (Fun.Fungible a) is may few =
         let same = held-fungible listed sound.once amounts owners n who id (number_at listed (id, Kind.Fungible) n is) in
         omega (arith, same, may)
@@ -187,14 +188,14 @@ module _ (listed : List Listed) (amounts : List (AmountKey × ℕ)) (owners : Li
     pub sum_room : (unit : Unit) (a : ℕ) → a < 2 ^ 128 → number_in listed (listed_of unit) ≡ Some n → length amounts < 2 ^ 63 → length owners < 2 ^ 63 → (s : Sum) → slice_get sums n ≡ Some s → sum_value s + a < 2 ^ 192
     sum_room unit a fits is few few_owners s was =
         let sum = sound.summed n (listed_of unit) s (number_at listed (listed_of unit) n is) was in
-        let most = sum_bound listed amounts owners (is_in (listed_of unit)) sound.small few few_owners in
+        let most = sum_bound listed amounts owners (is_holding_of (listed_of unit)) sound.small few few_owners in
         omega (arith, sum, most, fits)
 
     given_row : (next had row a : ℕ) → next ≡ row + a → next + had ≡ row + (had + a)
     given_row next had row a e = omega (arith, e)
 
     pub given : (fun : Fun) → number_in listed (listed_of (id, instance_in fun)) ≡ Some n → may_take fun who (id, instance_in fun) (held_in listed amounts owners)
-        → ((q : AmountKey) → amount_at more_amounts q ≡ (if eq_by_cmp amount_key_cmp (n, who) q then amount_at amounts (n, who) + amount_in fun else amount_at amounts q))
+        → ((q : AmountKey) → amount_in_row more_amounts q ≡ (if eq_by_cmp amount_key_cmp (n, who) q then amount_in_row amounts (n, who) + amount_in fun else amount_in_row amounts q))
         → OwnerIs (instance_in fun) n (Some who) owners more_owners → AreSmall more_amounts
         → (more_sums : List Sum) → (s : Sum) × (t : Sum) × IsSumWritten n sums more_sums s t × (sum_value t ≡ sum_value s + amount_in fun)
         → (held_in listed more_amounts more_owners ≡ plus (held_in listed amounts owners) (who, (id, instance_in fun)) (amount_in fun)) × IsSound listed more_amounts more_owners more_sums
@@ -202,7 +203,7 @@ module _ (listed : List Listed) (amounts : List (AmountKey × ℕ)) (owners : Li
     given fun is may wrote owner small more_sums (s, t, sum, raised) =
         let at = number_at listed (listed_of (id, instance_in fun)) n is in
         let held = given_held fun at may wrote owner in
-        let write : IsWrite listed amounts more_amounts owners more_owners sums n who (id, instance_in fun) (amount (held_in listed amounts owners) (who, (id, instance_in fun)) + amount_in fun) (amount_at amounts (n, who) + amount_in fun) s t =
+        let write : IsWrite listed amounts more_amounts owners more_owners sums n who (id, instance_in fun) (amount (held_in listed amounts owners) (who, (id, instance_in fun)) + amount_in fun) (amount_in_row amounts (n, who) + amount_in fun) s t =
         record {
           at = at;
           held = held;
@@ -217,10 +218,10 @@ module _ (listed : List Listed) (amounts : List (AmountKey × ℕ)) (owners : Li
 
 -- ---- in the words of the code
 module _ (listed : List Listed) (amounts : List (AmountKey × ℕ)) (owners : List (OwnerKey × Option (List ℕ))) (sums : List Sum) (sound : IsSound listed amounts owners sums) (n : ℕ) (who : List ℕ) (id : AssetId) (fun : Fun) where
-  pub held_of_amount : (a : ℕ) → Some n ≡ number_in listed (listed_of (id, instance_in fun)) → fun ≡ Fun.Fungible a → amount_at amounts (n, who) ≡ amount (held_in listed amounts owners) (who, (id, instance_in fun))
+  pub held_of_amount : (a : ℕ) → Some n ≡ number_in listed (listed_of (id, instance_in fun)) → fun ≡ Fun.Fungible a → amount_in_row amounts (n, who) ≡ amount (held_in listed amounts owners) (who, (id, instance_in fun))
   held_of_amount a is e =
-      let at : (f : Fun) → f ≡ Fun.Fungible a → Some n ≡ number_in listed (listed_of (id, instance_in f)) → amount_at amounts (n, who) ≡ amount (held_in listed amounts owners) (who, (id, instance_in f)) =
-      λ f h. subst (λ g. Some n ≡ number_in listed (listed_of (id, instance_in g)) → amount_at amounts (n, who) ≡ amount (held_in listed amounts owners) (who, (id, instance_in g))) (sym h)
+      let at : (f : Fun) → f ≡ Fun.Fungible a → Some n ≡ number_in listed (listed_of (id, instance_in f)) → amount_in_row amounts (n, who) ≡ amount (held_in listed amounts owners) (who, (id, instance_in f)) =
+      λ f h. subst (λ g. Some n ≡ number_in listed (listed_of (id, instance_in g)) → amount_in_row amounts (n, who) ≡ amount (held_in listed amounts owners) (who, (id, instance_in g))) (sym h)
       (λ num. held_fungible listed amounts owners sums sound n who id (sym num)) in
       at fun e is
 
@@ -232,12 +233,12 @@ module _ (listed : List Listed) (amounts : List (AmountKey × ℕ)) (owners : Li
       at fun e is
 
 -- the same write, by another name of what is written
-pub wrote_as : (rows more : List (AmountKey × ℕ)) (k : AmountKey) (v w : ℕ) → v ≡ w → ((q : AmountKey) → amount_at more q ≡ (if eq_by_cmp amount_key_cmp k q then v else amount_at rows q))
-    → (q : AmountKey) → amount_at more q ≡ (if eq_by_cmp amount_key_cmp k q then w else amount_at rows q)
-wrote_as rows more k v w e h q = subst (λ x. amount_at more q ≡ (if eq_by_cmp amount_key_cmp k q then x else amount_at rows q)) e (h q)
+pub wrote_as : (rows more : List (AmountKey × ℕ)) (k : AmountKey) (v w : ℕ) → v ≡ w → ((q : AmountKey) → amount_in_row more q ≡ (if eq_by_cmp amount_key_cmp k q then v else amount_in_row rows q))
+    → (q : AmountKey) → amount_in_row more q ≡ (if eq_by_cmp amount_key_cmp k q then w else amount_in_row rows q)
+wrote_as rows more k v w e h q = subst (λ x. amount_in_row more q ≡ (if eq_by_cmp amount_key_cmp k q then x else amount_in_row rows q)) e (h q)
 
 -- ---- rows that say something are there
-pub amount_row_there : (rows : List (AmountKey × ℕ)) (k : AmountKey) → 0 < amount_at rows k → HasAmountRow rows k
+pub amount_row_there : (rows : List (AmountKey × ℕ)) (k : AmountKey) → 0 < amount_in_row rows k → HasAmountRow rows k
 amount_row_there rows k h = there (lookup (eq_by_cmp amount_key_cmp k) rows) h
   where
     there : (o : Option ℕ) → 0 < unwrap_or o 0 → IsSome o

@@ -8,7 +8,7 @@ use Rattle.std.specs.Map.{lookup, keys_of}
 use Rattle.std.specs.List.{AllByRecursion}
 use Rattle.std.specs.List.Sorted.{IsStrictlySortedBy}
 use Rattle.amounts.specs.Rows.{IsKeyOrder}
-use Rattle.amounts.specs.Keys.{number_keys, list_keys, pair_keys}
+use Rattle.amounts.specs.Keys.{number_keys, pair_keys}
 use Rattle.amounts.specs.Laws.{same_key, key_same}
 use Rattle.asset_lists.specs.declared.units.AssetId.{AssetId}
 use Rattle.asset_lists.specs.declared.units.Instance.{Instance}
@@ -16,17 +16,11 @@ use Rattle.asset_lists.specs.declared.units.Kind.{Kind}
 use Rattle.asset_lists.specs.DerivedOrder.{derived_instance_cmp}
 use Rattle.asset_lists.specs.Units.{instance_cmp}
 use Rattle.asset_lists.specs.UnitLaws.{instance_total, instance_exact}
-use Rattle.asset_lists.proofs.Laws.{instances_same}
-use Rattle.asset_bundles.specs.Bundles.{unit_keys}
-use Rattle.asset_bundles.specs.Books.{Listed}
+use Rattle.asset_lists.specs.Laws.{instances_same}
+use Rattle.asset_lists.specs.Listed.{Listed}
 use Rattle.ledgers.specs.Ledgers.{Holder, account_cmp, holder_cmp}
+use Rattle.ledgers.specs.Laws.{account_keys, holder_keys}
 use Rattle.ledgers.specs.LedgerRows.{IsOnce, owned, AmountKey, amount_key_cmp, OwnerKey, owner_key_cmp, fungible_row, amount_row, amount_rows, instance_row, owner_row, owner_rows}
-
-pub account_keys : IsKeyOrder account_cmp
-account_keys = list_keys number_keys
-
-pub holder_keys : IsKeyOrder holder_cmp
-holder_keys = pair_keys account_keys unit_keys
 
 pub amount_keys : IsKeyOrder amount_key_cmp
 amount_keys = pair_keys number_keys account_keys

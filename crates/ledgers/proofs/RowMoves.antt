@@ -9,10 +9,11 @@ use Rattle.amounts.specs.Laws.{key_same}
 use Rattle.asset_lists.specs.declared.units.AssetId.{AssetId}
 use Rattle.asset_lists.specs.declared.units.Instance.{Instance}
 use Rattle.asset_lists.specs.declared.units.Kind.{Kind}
-use Rattle.asset_bundles.specs.Books.{Listed}
+use Rattle.asset_lists.specs.Listed.{Listed}
 use Rattle.ledgers.specs.Ledgers.{Holder, account_cmp, holder_cmp, number_in}
-use Rattle.ledgers.specs.LedgerRows.{owned, IsOnce, AmountKey, amount_key_cmp, OwnerKey, owner_key_cmp, amount_at, owner_at, held_in}
-use Rattle.ledgers.proofs.RowLookups.{holder_keys, amount_keys, owner_keys, account_keys, apart, both_ways, same_as, same_instances, same_ids, same_kinds}
+use Rattle.ledgers.specs.LedgerRows.{owned, IsOnce, AmountKey, amount_key_cmp, OwnerKey, owner_key_cmp, amount_in_row, owner_at, held_in}
+use Rattle.ledgers.specs.Laws.{holder_keys, account_keys}
+use Rattle.ledgers.proofs.RowLookups.{amount_keys, owner_keys, apart, both_ways, same_as, same_instances, same_ids, same_kinds}
 use Rattle.ledgers.proofs.RowAmounts.{held-fungible, held-no_fungible, held-instance, held-no_instance}
 use Rattle.ledgers.proofs.Numbers.{number_at, no_number}
 
@@ -24,7 +25,7 @@ module _ (listed : List Listed) (once : IsOnce listed)
     (amounts more_amounts : List (AmountKey × ℕ)) (owners more_owners : List (OwnerKey × Option (List ℕ)))
     (sorted : IsStrictlySortedBy owner_key_cmp (keys_of owners)) (more_sorted : IsStrictlySortedBy owner_key_cmp (keys_of more_owners)) where
   -- what stays at a unit whose rows stay
-  pub same_fungible : (w : List ℕ) (id : AssetId) → ((m : ℕ) → slice_get listed m ≡ Some (id, Kind.Fungible) → amount_at more_amounts (m, w) ≡ amount_at amounts (m, w))
+  pub same_fungible : (w : List ℕ) (id : AssetId) → ((m : ℕ) → slice_get listed m ≡ Some (id, Kind.Fungible) → amount_in_row more_amounts (m, w) ≡ amount_in_row amounts (m, w))
       → amount (held_in listed more_amounts more_owners) (w, (id, None)) ≡ amount (held_in listed amounts owners) (w, (id, None))
   same_fungible w id same =
       elim (number_in listed (id, Kind.Fungible)) as (λ o. number_in listed (id, Kind.Fungible) ≡ o → amount (held_in listed more_amounts more_owners) (w, (id, None)) ≡ amount (held_in listed amounts owners) (w, (id, None))) [
@@ -50,7 +51,7 @@ module _ (listed : List Listed) (once : IsOnce listed)
       ] refl
 
   -- rows that read alike hold the same
-  pub same_rows : ((q : AmountKey) → amount_at more_amounts q ≡ amount_at amounts q) → ((q : OwnerKey) → owner_at more_owners q ≡ owner_at owners q)
+  pub same_rows : ((q : AmountKey) → amount_in_row more_amounts q ≡ amount_in_row amounts q) → ((q : OwnerKey) → owner_at more_owners q ≡ owner_at owners q)
       → held_in listed more_amounts more_owners ≡ held_in listed amounts owners
   same_rows same_amount same_owner = same_amounts holder_keys _ _ (λ h. by h.0 h.1.0 h.1.1)
     where
@@ -60,7 +61,7 @@ module _ (listed : List Listed) (once : IsOnce listed)
 
   -- ---- the amount of a fungible asset
   module _ (n : ℕ) (who : List ℕ) (id : AssetId) (v : ℕ) (at : slice_get listed n ≡ Some (id, Kind.Fungible))
-      (wrote : (q : AmountKey) → amount_at more_amounts q ≡ (if eq_by_cmp amount_key_cmp (n, who) q then v else amount_at amounts q))
+      (wrote : (q : AmountKey) → amount_in_row more_amounts q ≡ (if eq_by_cmp amount_key_cmp (n, who) q then v else amount_in_row amounts q))
       (kept : (q : OwnerKey) → owner_at more_owners q ≡ owner_at owners q) where
     fungible_here : (w : List ℕ) (other : AssetId) (m : ℕ) → slice_get listed m ≡ Some (other, Kind.Fungible)
         → amount (held_in listed more_amounts more_owners) (w, (other, None)) ≡ (if eq_by_cmp holder_cmp (w, (other, None)) (who, (id, None)) then v else amount (held_in listed amounts owners) (w, (other, None)))
@@ -84,24 +85,24 @@ module _ (listed : List Listed) (once : IsOnce listed)
         let test = apart holder_keys (w, (other, None)) (who, (id, None)) (λ h. none n (at ∙ ap (λ x. Some (x, Kind.Fungible)) (sym (ap (λ (k : Holder). k.1.0) h)))) in
         held-no_fungible listed once more_amounts more_owners w other none ∙ sym (held-no_fungible listed once amounts owners w other none) ∙ sym (if_false _ v _ test)
 
-    fungible_at : (w : List ℕ) (other : AssetId) (x : Option Instance)
+    fungible_held_at : (w : List ℕ) (other : AssetId) (x : Option Instance)
         → amount (held_in listed more_amounts more_owners) (w, (other, x)) ≡ (if eq_by_cmp holder_cmp (w, (other, x)) (who, (id, None)) then v else amount (held_in listed amounts owners) (w, (other, x)))
-    fungible_at w other None =
+    fungible_held_at w other None =
         elim (number_in listed (other, Kind.Fungible)) as (λ o. number_in listed (other, Kind.Fungible) ≡ o
         → amount (held_in listed more_amounts more_owners) (w, (other, None)) ≡ (if eq_by_cmp holder_cmp (w, (other, None)) (who, (id, None)) then v else amount (held_in listed amounts owners) (w, (other, None)))) [
           | None ↦ λ e. fungible_nowhere w other (no_number listed (other, Kind.Fungible) e)
           | Some m ↦ λ e. fungible_here w other m (number_at listed (other, Kind.Fungible) m e)
         ] refl
-    fungible_at w other (Some i) =
+    fungible_held_at w other (Some i) =
         let test = apart holder_keys (w, (other, Some i)) (who, (id, None)) (λ h. (let units : Some i ≡ None = ap (λ (k : Holder). k.1.1) h in absurd (cc))) in
         same_instance w other i (λ m there. kept (m, i)) ∙ sym (if_false _ v _ test)
 
     pub held-with_amount : held_in listed more_amounts more_owners ≡ with_amount (held_in listed amounts owners) (who, (id, None)) v
-    held-with_amount = same_amounts holder_keys _ _ (λ h. fungible_at h.0 h.1.0 h.1.1 ∙ sym (amount-with_amount holder_keys (held_in listed amounts owners) (who, (id, None)) v h))
+    held-with_amount = same_amounts holder_keys _ _ (λ h. fungible_held_at h.0 h.1.0 h.1.1 ∙ sym (amount-with_amount holder_keys (held_in listed amounts owners) (who, (id, None)) v h))
 
   -- ---- the owner of an instance
   module _ (n : ℕ) (who : List ℕ) (id : AssetId) (i : Instance) (v : ℕ) (owner : Option (List ℕ)) (at : slice_get listed n ≡ Some (id, Kind.Class))
-      (kept : (m : ℕ) (w : List ℕ) → (n ≡ m → ⊥) → amount_at more_amounts (m, w) ≡ amount_at amounts (m, w))
+      (kept : (m : ℕ) (w : List ℕ) → (n ≡ m → ⊥) → amount_in_row more_amounts (m, w) ≡ amount_in_row amounts (m, w))
       (wrote : (q : OwnerKey) → owner_at more_owners q ≡ (if eq_by_cmp owner_key_cmp (n, i) q then owner else owner_at owners q))
       (means : (w : List ℕ) → owned w owner ≡ (if eq_by_cmp account_cmp w who then v else owned w (owner_at owners (n, i)))) where
     instance_here : (w : List ℕ) (other : AssetId) (j : Instance) (m : ℕ) → slice_get listed m ≡ Some (other, Kind.Class)
@@ -132,13 +133,13 @@ module _ (listed : List Listed) (once : IsOnce listed)
         let test = apart holder_keys (w, (other, Some j)) (who, (id, Some i)) (λ h. none n (at ∙ ap (λ x. Some (x, Kind.Class)) (sym (ap (λ (k : Holder). k.1.0) h)))) in
         held-no_instance listed once more_amounts more_owners w other j none ∙ sym (held-no_instance listed once amounts owners w other j none) ∙ sym (if_false _ v _ test)
 
-    instance_at : (w : List ℕ) (other : AssetId) (x : Option Instance)
+    instance_held_at : (w : List ℕ) (other : AssetId) (x : Option Instance)
         → amount (held_in listed more_amounts more_owners) (w, (other, x)) ≡ (if eq_by_cmp holder_cmp (w, (other, x)) (who, (id, Some i)) then v else amount (held_in listed amounts owners) (w, (other, x)))
-    instance_at w other None =
+    instance_held_at w other None =
         let test = apart holder_keys (w, (other, None)) (who, (id, Some i)) (λ h. (let units : None ≡ Some i = ap (λ (k : Holder). k.1.1) h in absurd (cc))) in
         same_fungible w other (λ m there. kept m w (λ places. (let kinds = same_kinds (other, Kind.Fungible) (id, Kind.Class) (sym there ∙ subst (λ k. slice_get listed k ≡ Some (id, Kind.Class)) places at) in absurd (cc))))
         ∙ sym (if_false _ v _ test)
-    instance_at w other (Some j) =
+    instance_held_at w other (Some j) =
         elim (number_in listed (other, Kind.Class)) as (λ o. number_in listed (other, Kind.Class) ≡ o
         → amount (held_in listed more_amounts more_owners) (w, (other, Some j)) ≡ (if eq_by_cmp holder_cmp (w, (other, Some j)) (who, (id, Some i)) then v else amount (held_in listed amounts owners) (w, (other, Some j)))) [
           | None ↦ λ e. instance_nowhere w other j (no_number listed (other, Kind.Class) e)
@@ -146,4 +147,4 @@ module _ (listed : List Listed) (once : IsOnce listed)
         ] refl
 
     pub held-with_owner : held_in listed more_amounts more_owners ≡ with_amount (held_in listed amounts owners) (who, (id, Some i)) v
-    held-with_owner = same_amounts holder_keys _ _ (λ h. instance_at h.0 h.1.0 h.1.1 ∙ sym (amount-with_amount holder_keys (held_in listed amounts owners) (who, (id, Some i)) v h))
+    held-with_owner = same_amounts holder_keys _ _ (λ h. instance_held_at h.0 h.1.0 h.1.1 ∙ sym (amount-with_amount holder_keys (held_in listed amounts owners) (who, (id, Some i)) v h))

@@ -16,12 +16,13 @@ use Rattle.asset_lists.specs.declared.units.Kind.{Kind}
 use Rattle.asset_lists.specs.Units.{Unit, asset_id_cmp}
 use Rattle.asset_lists.specs.UnitLaws.{asset_id_total, asset_id_exact}
 use Rattle.asset_bundles.specs.Bundles.{is_asset, is_kind}
-use Rattle.asset_bundles.specs.Books.{Listed, kind_of, listed_of}
+use Rattle.asset_lists.specs.Listed.{Listed, kind_of, listed_of}
 use Rattle.ledgers.specs.declared.sums.Sum.{Sum}
 use Rattle.ledgers.specs.Sums.{sum_value}
-use Rattle.ledgers.specs.Ledgers.{Holder, account_cmp, is_account, is_in, sum_of, part_of}
-use Rattle.ledgers.specs.LedgerRows.{AmountKey, amount_key_cmp, OwnerKey, owner_key_cmp, amount_at, held_in, IsOnce, AreSmall, IsSound}
-use Rattle.ledgers.proofs.RowLookups.{holder_keys, amount_keys, account_keys, apart, both_ways, same_as}
+use Rattle.ledgers.specs.Ledgers.{Holder, account_cmp, is_account, is_holding_of, sum_of, account_sum_of}
+use Rattle.ledgers.specs.LedgerRows.{AmountKey, amount_key_cmp, OwnerKey, owner_key_cmp, amount_in_row, held_in, IsOnce, AreSmall, IsSound}
+use Rattle.ledgers.specs.Laws.{holder_keys, account_keys}
+use Rattle.ledgers.proofs.RowLookups.{amount_keys, apart, both_ways, same_as}
 
 id_keys : IsKeyOrder Rattle.asset_lists.specs.Units.asset_id_cmp
 id_keys = record { total = asset_id_total; exact = asset_id_exact }
@@ -64,7 +65,7 @@ module _ (listed : List Listed) (once : IsOnce listed) (n : ℕ) (who : List ℕ
       here_is : (k : Listed) → Some k ≡ Some (listed_of unit) → k ≡ listed_of unit
       here_is k e = cc
 
-  same_holding : (m : ℕ) (w : List ℕ) (asset : Listed) → slice_get listed m ≡ Some asset → (is_account w (who, unit) && is_in asset (who, unit)) ≡ eq_by_cmp amount_key_cmp (n, who) (m, w)
+  same_holding : (m : ℕ) (w : List ℕ) (asset : Listed) → slice_get listed m ≡ Some asset → (is_account w (who, unit) && is_holding_of asset (who, unit)) ≡ eq_by_cmp amount_key_cmp (n, who) (m, w)
   same_holding m w asset there = both_ways _ _
       (λ t.
       let parts = and_parts (eq_by_cmp account_cmp w who) (is_asset asset.0 asset.1 unit) t in
@@ -104,8 +105,8 @@ if_raised false total more v had s next e h f g = absurd (true≢false (sym h))
 pub record IsWrite (listed : List Listed) (amounts more_amounts : List (AmountKey × ℕ)) (owners more_owners : List (OwnerKey × Option (List ℕ))) (sums : List Sum) (n : ℕ) (who : List ℕ) (unit : Unit) (v : ℕ) (next : ℕ) (s t : Sum) : Type 0 where
   pub at : slice_get listed n ≡ Some (listed_of unit)
   pub held : held_in listed more_amounts more_owners ≡ with_amount (held_in listed amounts owners) (who, unit) v
-  pub wrote : (q : AmountKey) → amount_at more_amounts q ≡ (if eq_by_cmp amount_key_cmp (n, who) q then next else amount_at amounts q)
-  pub row : next + amount (held_in listed amounts owners) (who, unit) ≡ amount_at amounts (n, who) + v
+  pub wrote : (q : AmountKey) → amount_in_row more_amounts q ≡ (if eq_by_cmp amount_key_cmp (n, who) q then next else amount_in_row amounts q)
+  pub row : next + amount (held_in listed amounts owners) (who, unit) ≡ amount_in_row amounts (n, who) + v
   pub small : AreSmall more_amounts
   pub sorted : IsStrictlySortedBy owner_key_cmp (keys_of more_owners)
   pub sum_was : slice_get sums n ≡ Some s
@@ -130,36 +131,36 @@ still_sound listed amounts more_amounts owners more_owners sums n who unit v nex
     totals : (p : Holder → Bool) → total p (held_in listed more_amounts more_owners) + amount_if (p (who, unit)) (amount (held_in listed amounts owners) (who, unit)) ≡ total p (held_in listed amounts owners) + amount_if (p (who, unit)) v
     totals p = ap (λ h. total p h + amount_if (p (who, unit)) (amount (held_in listed amounts owners) (who, unit))) write.held ∙ total-with_amount holder_keys p (held_in listed amounts owners) (who, unit) v
 
-    counted : (m : ℕ) (w : List ℕ) (id : AssetId) → slice_get listed m ≡ Some (id, Kind.Class) → amount_at more_amounts (m, w) ≡ part_of w (id, Kind.Class) (held_in listed more_amounts more_owners)
+    counted : (m : ℕ) (w : List ℕ) (id : AssetId) → slice_get listed m ≡ Some (id, Kind.Class) → amount_in_row more_amounts (m, w) ≡ account_sum_of w (id, Kind.Class) (held_in listed more_amounts more_owners)
     counted m w id there =
         let same = same_holding listed sound.once n who unit write.at m w (id, Kind.Class) there in
-        let whole = totals (λ h. is_account w h && is_in (id, Kind.Class) h) in
+        let whole = totals (λ h. is_account w h && is_holding_of (id, Kind.Class) h) in
         write.wrote (m, w)
         ∙ if_here (eq_by_cmp amount_key_cmp (n, who) (m, w)) refl (sym same) (sound.counted m w id there) whole
       where
-        if_here : (b : Bool) → eq_by_cmp amount_key_cmp (n, who) (m, w) ≡ b → eq_by_cmp amount_key_cmp (n, who) (m, w) ≡ (is_account w (who, unit) && is_in (id, Kind.Class) (who, unit))
-            → amount_at amounts (m, w) ≡ part_of w (id, Kind.Class) (held_in listed amounts owners)
-            → part_of w (id, Kind.Class) (held_in listed more_amounts more_owners) + amount_if (is_account w (who, unit) && is_in (id, Kind.Class) (who, unit)) (amount (held_in listed amounts owners) (who, unit))
-            ≡ part_of w (id, Kind.Class) (held_in listed amounts owners) + amount_if (is_account w (who, unit) && is_in (id, Kind.Class) (who, unit)) v
-            → (if b then next else amount_at amounts (m, w)) ≡ part_of w (id, Kind.Class) (held_in listed more_amounts more_owners)
+        if_here : (b : Bool) → eq_by_cmp amount_key_cmp (n, who) (m, w) ≡ b → eq_by_cmp amount_key_cmp (n, who) (m, w) ≡ (is_account w (who, unit) && is_holding_of (id, Kind.Class) (who, unit))
+            → amount_in_row amounts (m, w) ≡ account_sum_of w (id, Kind.Class) (held_in listed amounts owners)
+            → account_sum_of w (id, Kind.Class) (held_in listed more_amounts more_owners) + amount_if (is_account w (who, unit) && is_holding_of (id, Kind.Class) (who, unit)) (amount (held_in listed amounts owners) (who, unit))
+            ≡ account_sum_of w (id, Kind.Class) (held_in listed amounts owners) + amount_if (is_account w (who, unit) && is_holding_of (id, Kind.Class) (who, unit)) v
+            → (if b then next else amount_in_row amounts (m, w)) ≡ account_sum_of w (id, Kind.Class) (held_in listed more_amounts more_owners)
         if_here true e same count whole =
-            let passes : (is_account w (who, unit) && is_in (id, Kind.Class) (who, unit)) ≡ true = sym same ∙ e in
+            let passes : (is_account w (who, unit) && is_holding_of (id, Kind.Class) (who, unit)) ≡ true = sym same ∙ e in
             let keys = key_same amount_keys (n, who) (m, w) e in
-            let row : next + amount (held_in listed amounts owners) (who, unit) ≡ part_of w (id, Kind.Class) (held_in listed amounts owners) + v = write.row ∙ ap (λ k. amount_at amounts k + v) keys ∙ ap (λ k. k + v) count in
+            let row : next + amount (held_in listed amounts owners) (who, unit) ≡ account_sum_of w (id, Kind.Class) (held_in listed amounts owners) + v = write.row ∙ ap (λ k. amount_in_row amounts k + v) keys ∙ ap (λ k. k + v) count in
             if_raised _ _ _ v _ _ next whole passes refl row
         if_here false e same count whole = count ∙ sym (if_summed _ _ _ v _ whole (sym same ∙ e))
 
-    numbered : (m : ℕ) (w : List ℕ) → 0 < amount_at more_amounts (m, w) → IsSome (slice_get listed m)
+    numbered : (m : ℕ) (w : List ℕ) → 0 < amount_in_row more_amounts (m, w) → IsSome (slice_get listed m)
     numbered m w some = by (eq_by_cmp amount_key_cmp (n, who) (m, w)) refl
       where
         by : (b : Bool) → eq_by_cmp amount_key_cmp (n, who) (m, w) ≡ b → IsSome (slice_get listed m)
         by true e = subst (λ k. IsSome (slice_get listed k)) (ap (λ (k : AmountKey). k.0) (key_same amount_keys (n, who) (m, w) e)) (subst IsSome (sym write.at) refl)
-        by false e = sound.numbered m w (subst (λ v. 0 < v) (write.wrote (m, w) ∙ ap (λ b. if b then next else amount_at amounts (m, w)) e) some)
+        by false e = sound.numbered m w (subst (λ v. 0 < v) (write.wrote (m, w) ∙ ap (λ b. if b then next else amount_in_row amounts (m, w)) e) some)
 
     summed : (m : ℕ) (asset : Listed) (x : Sum) → slice_get listed m ≡ Some asset → slice_get (set sums n t) m ≡ Some x → sum_value x ≡ sum_of asset (held_in listed more_amounts more_owners)
     summed m asset x there is =
         let same = same_place listed sound.once n who unit write.at m asset there in
         elim (slice_get-set sums n m t x is) [
-          | inl here ↦ ap sum_value (sym here.1) ∙ if_raised _ _ _ v _ (sum_value s) (sum_value t) (totals (is_in asset)) (same ∙ same_as number_keys n m here.0) (sound.summed m asset s there (ap (slice_get sums) (sym here.0) ∙ write.sum_was)) write.sum
-          | inr other ↦ sound.summed m asset x there other.1 ∙ sym (if_summed _ _ _ v _ (totals (is_in asset)) (same ∙ apart number_keys n m other.0))
+          | inl here ↦ ap sum_value (sym here.1) ∙ if_raised _ _ _ v _ (sum_value s) (sum_value t) (totals (is_holding_of asset)) (same ∙ same_as number_keys n m here.0) (sound.summed m asset s there (ap (slice_get sums) (sym here.0) ∙ write.sum_was)) write.sum
+          | inr other ↦ sound.summed m asset x there other.1 ∙ sym (if_summed _ _ _ v _ (totals (is_holding_of asset)) (same ∙ apart number_keys n m other.0))
         ]

@@ -5,20 +5,20 @@ use Rattle.std.proofs.Common.{ap}
 use Rattle.locations.specs.declared.relative.Location.{Location}
 use Rattle.asset_lists.specs.declared.units.AssetId.{AssetId}
 use Rattle.asset_lists.specs.declared.units.AssetId.TheVariants.{Concrete, Abstract}
-use Rattle.asset_bundles.specs.Books.{Listed}
+use Rattle.asset_lists.specs.Listed.{Listed}
 use Rattle.asset_bundles.specs.Laws.{listed_keys}
 use Rattle.amounts.specs.Laws.{key_same}
 use Rattle.ledgers.specs.declared.listed_asset.ListedAsset.{ListedAsset}
 use Rattle.ledgers.specs.AssetTable.{key_of, row_cmp}
 use Rattle.ledgers.specs.AssetHash.{location_input}
 
-place_in : AssetId → Location → Location
-place_in (Concrete place) other = place
-place_in (Abstract bytes) other = other
+concrete_place : AssetId → Location → Location
+concrete_place (Concrete place) other = place
+concrete_place (Abstract bytes) other = other
 
 pub same_places : (x y : ListedAsset) → eq_by_cmp row_cmp x y ≡ true → x.id ≡ y.id
-unfolding place_in
-same_places x y h = ap (λ (k : Listed). place_in k.0 x.id) (key_same listed_keys (key_of x) (key_of y) h)
+unfolding concrete_place
+same_places x y h = ap (λ (k : Listed). concrete_place k.0 x.id) (key_same listed_keys (key_of x) (key_of y) h)
 
 pub hashed_alike : (x y : ListedAsset) → eq_by_cmp row_cmp x y ≡ true → location_input x.id ≡ location_input y.id
 hashed_alike x y h = ap location_input (same_places x y h)

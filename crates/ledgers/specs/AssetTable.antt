@@ -5,7 +5,7 @@ use Rattle.std.specs.declared.cmp.Ordering.{Ordering}
 use Rattle.std.specs.Cmp.{IsTotalOrder, on_total}
 use Rattle.std.specs.Coded.{Coded, coded_list}
 use Rattle.asset_lists.specs.declared.units.AssetId.TheVariants.{Concrete}
-use Rattle.asset_bundles.specs.Books.{Listed, listed_cmp}
+use Rattle.asset_lists.specs.Listed.{Listed, listed_cmp}
 use Rattle.asset_bundles.specs.BookCode.{listed_code}
 use Rattle.asset_bundles.specs.Laws.{listed_keys}
 use Rattle.ledgers.specs.declared.listed_asset.ListedAsset.{ListedAsset}
@@ -19,8 +19,8 @@ row_cmp = on key_of listed_cmp
 pub rows_total : IsTotalOrder row_cmp
 rows_total = on_total key_of listed_keys.total
 
-abbrev pub keys_in : List ListedAsset → List Listed
-keys_in assets = map key_of assets
+abbrev pub table_keys : List ListedAsset → List Listed
+table_keys assets = map key_of assets
 
 abbrev pub table_code : Coded (List Listed)
 table_code = coded_list listed_code

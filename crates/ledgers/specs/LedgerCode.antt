@@ -4,7 +4,7 @@ use Rattle.std.specs.FinMap as map
 use Rattle.std.specs.Coded.{Coded, code_by, coded_ℕ, coded×, coded_list, coded_option}
 use Rattle.asset_lists.specs.contracts.units.AssetId.{the_row as asset_id}
 use Rattle.asset_lists.specs.contracts.units.Instance.{the_row as instance}
-use Rattle.asset_bundles.specs.Books.{Listed}
+use Rattle.asset_lists.specs.Listed.{Listed}
 use Rattle.asset_bundles.specs.BookCode.{listed_code}
 use Rattle.ledgers.specs.Ledgers.{Held, Accounts}
 

@@ -13,10 +13,10 @@ use Rattle.asset_lists.specs.DerivedOrder.{derived_instance_cmp}
 use Rattle.asset_lists.specs.declared.units.AssetId.{AssetId}
 use Rattle.asset_lists.specs.declared.units.Instance.{Instance}
 use Rattle.asset_lists.specs.declared.units.Kind.{Kind}
-use Rattle.asset_bundles.specs.Books.{Listed}
+use Rattle.asset_lists.specs.Listed.{Listed}
 use Rattle.ledgers.specs.declared.sums.Sum.{Sum}
 use Rattle.ledgers.specs.Sums.{sum_value}
-use Rattle.ledgers.specs.Ledgers.{Holder, account_cmp, Held, sum_of, part_of, IsAfter}
+use Rattle.ledgers.specs.Ledgers.{Holder, account_cmp, Held, sum_of, account_sum_of, IsAfter}
 
 -- an asset's number and an account
 abbrev pub AmountKey : Type 0
@@ -33,8 +33,8 @@ abbrev pub owner_key_cmp : OwnerKey → OwnerKey → Ordering
 owner_key_cmp = then_cmp (on (λ (k : OwnerKey). k.0) nat_cmp) (on (λ (k : OwnerKey). k.1) derived_instance_cmp)
 
 -- the amount in the row of a key, 0 where there is no row
-abbrev pub amount_at : List (AmountKey × ℕ) → AmountKey → ℕ
-amount_at rows k = unwrap_or (lookup (eq_by_cmp amount_key_cmp k) rows) 0
+abbrev pub amount_in_row : List (AmountKey × ℕ) → AmountKey → ℕ
+amount_in_row rows k = unwrap_or (lookup (eq_by_cmp amount_key_cmp k) rows) 0
 
 -- the owner in the row of a key
 abbrev pub owner_at : List (OwnerKey × Option (List ℕ)) → OwnerKey → Option (List ℕ)
@@ -82,7 +82,7 @@ unfoldable pub held_in : List Listed → List (AmountKey × ℕ) → List (Owner
 held_in listed amounts owners = from_entries (amount_rows listed amounts (owner_rows listed owners))
 
 -- ---- what of the rows is always so
--- no asset stands at two places of the list
+-- no asset is listed twice
 pub record IsOnce (listed : List Listed) : Type 0 where
   pub place : (i j : ℕ) (k : Listed) → slice_get listed i ≡ Some k → slice_get listed j ≡ Some k → i ≡ j
 
@@ -110,8 +110,8 @@ pub record IsSound (listed : List Listed) (amounts : List (AmountKey × ℕ)) (o
   pub once : IsOnce listed
   pub small : AreSmall amounts
   pub sorted : IsStrictlySortedBy owner_key_cmp (keys_of owners)
-  pub counted : (n : ℕ) (who : List ℕ) (id : AssetId) → slice_get listed n ≡ Some (id, Kind.Class) → amount_at amounts (n, who) ≡ part_of who (id, Kind.Class) (held_in listed amounts owners)
-  pub numbered : (n : ℕ) (who : List ℕ) → 0 < amount_at amounts (n, who) → IsSome (slice_get listed n)
+  pub counted : (n : ℕ) (who : List ℕ) (id : AssetId) → slice_get listed n ≡ Some (id, Kind.Class) → amount_in_row amounts (n, who) ≡ account_sum_of who (id, Kind.Class) (held_in listed amounts owners)
+  pub numbered : (n : ℕ) (who : List ℕ) → 0 < amount_in_row amounts (n, who) → IsSome (slice_get listed n)
   pub as_many : length sums ≡ length listed
   pub summed : (n : ℕ) (asset : Listed) (s : Sum) → slice_get listed n ≡ Some asset → slice_get sums n ≡ Some s → sum_value s ≡ sum_of asset (held_in listed amounts owners)
 
@@ -124,12 +124,12 @@ IsBefore who (Some b) = account_cmp who b ≡ Less
 -- the first account after another of which a row says more than 0
 pub record IsNextRow (after : Option (List ℕ)) (rows : List (AmountKey × ℕ)) (who : List ℕ) : Type 0 where
   pub number : ℕ
-  pub has : 0 < amount_at rows (number, who)
+  pub has : 0 < amount_in_row rows (number, who)
   pub later : IsAfter after who
-  pub least : (k : AmountKey) → IsAfter after k.1 → IsBefore k.1 (Some who) → amount_at rows k ≡ 0
+  pub least : (k : AmountKey) → IsAfter after k.1 → IsBefore k.1 (Some who) → amount_in_row rows k ≡ 0
 
 -- the first account after another of which the row of a number says more than 0
 pub record IsNextOf (rows : List (AmountKey × ℕ)) (n : ℕ) (after who : List ℕ) : Type 0 where
-  pub has : 0 < amount_at rows (n, who)
+  pub has : 0 < amount_in_row rows (n, who)
   pub later : account_cmp after who ≡ Less
-  pub least : (w : List ℕ) → account_cmp after w ≡ Less → account_cmp w who ≡ Less → amount_at rows (n, w) ≡ 0
+  pub least : (w : List ℕ) → account_cmp after w ≡ Less → account_cmp w who ≡ Less → amount_in_row rows (n, w) ≡ 0

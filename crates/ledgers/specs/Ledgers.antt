@@ -1,7 +1,7 @@
 -- The ledger of a chain: which assets the chain lists, and what each account holds of them.
 -- Source: the accounts behind xcm-executor's asset transactors. That an amount ends at 2^128-1, that an
 -- instance has one owner, and the order of refusals are this project's own rules.
-use Rattle.std.specs.Prelude.{◌≡◌, ℕ, ◌+◌, ◌-◌, ◌^◌, ◌<◌, ◌&&◌, Bool, IsTrue, nat_lt, if◌then◌else◌, List, [], ◌∷◌, Option, None, Some, ⊤}
+use Rattle.std.specs.Prelude.{◌≡◌, ℕ, ◌+◌, ◌-◌, ◌^◌, ◌<◌, ◌&&◌, Bool, nat_lt, if◌then◌else◌, List, [], ◌∷◌, Option, None, Some, ⊤}
 use Rattle.std.specs.Ordering.{nat_cmp, on, then_cmp, eq_by_cmp}
 use Rattle.std.specs.declared.cmp.Ordering.{Ordering}
 use Rattle.std.specs.declared.cmp.Ordering.TheVariants.{Less}
@@ -15,7 +15,7 @@ use Rattle.asset_lists.specs.declared.units.Fun.{Fun}
 use Rattle.asset_lists.specs.declared.units.Asset.{Asset}
 use Rattle.asset_lists.specs.Units.{Unit, unit_of, amount_of, unit_cmp}
 use Rattle.asset_bundles.specs.Bundles.{Bundle, bundle_of, is_asset}
-use Rattle.asset_bundles.specs.Books.{Listed, listed_cmp, listed_of, lists}
+use Rattle.asset_lists.specs.Listed.{Listed, listed_cmp}
 
 -- an account, by its bytes, and a unit that it may hold
 abbrev pub Holder : Type 0
@@ -38,31 +38,27 @@ pub record Accounts : Type 0 where
   pub held : Held
 
 -- ---- what is listed
-abbrev pub listed_row : Location × Kind → Listed
-listed_row row = (Concrete row.0, row.1)
+abbrev pub listed_pair : Location × Kind → Listed
+listed_pair row = (Concrete row.0, row.1)
 
 -- the place of an asset in the list
 abbrev pub number_in : List Listed → Listed → Option ℕ
 number_in listed asset = position (eq_by_cmp listed_cmp asset) listed
 
--- each unit of the bundle is of a listed asset
-abbrev pub AreListed : List Listed → Bundle → Type 0
-AreListed listed goods = (unit : Unit) → 0 < amount goods unit → IsTrue (lists listed (listed_of unit))
-
 -- ---- sums
 abbrev pub is_account : List ℕ → Holder → Bool
 is_account who h = eq_by_cmp account_cmp who h.0
 
-abbrev pub is_in : Listed → Holder → Bool
-is_in asset h = is_asset asset.0 asset.1 h.1
+abbrev pub is_holding_of : Listed → Holder → Bool
+is_holding_of asset h = is_asset asset.0 asset.1 h.1
 
 -- what all accounts hold of an asset: the amount of a fungible one, the number of instances of a class
 abbrev pub sum_of : Listed → Held → ℕ
-sum_of asset held = total (is_in asset) held
+sum_of asset held = total (is_holding_of asset) held
 
 -- the same of one account
-abbrev pub part_of : List ℕ → Listed → Held → ℕ
-part_of who asset held = total (λ h. is_account who h && is_in asset h) held
+abbrev pub account_sum_of : List ℕ → Listed → Held → ℕ
+account_sum_of who asset held = total (λ h. is_account who h && is_holding_of asset h) held
 
 -- all that an account holds, all units added up: 0 where it holds nothing
 abbrev pub holding_of : List ℕ → Held → ℕ
@@ -87,6 +83,10 @@ abbrev pub IsAfter : Option (List ℕ) → List ℕ → Type 0
 IsAfter None who = ⊤
 IsAfter (Some a) who = account_cmp a who ≡ Less
 
+-- no account after another holds something
+abbrev pub NoneNext : Option (List ℕ) → Held → Type 0
+NoneNext after held = (who : List ℕ) → IsAfter after who → holding_of who held ≡ 0
+
 -- the first account after another that holds something
 pub record IsNext (after : Option (List ℕ)) (held : Held) (who : List ℕ) : Type 0 where
   pub holds : 0 < holding_of who held
@@ -94,20 +94,25 @@ pub record IsNext (after : Option (List ℕ)) (held : Held) (who : List ℕ) : T
   pub least : (w : List ℕ) → IsAfter after w → 0 < holding_of w held → account_cmp w who ≡ Less → ⊥
 
 -- ---- moves
--- a list of assets as an account's
-unfoldable pub held_by : List ℕ → List Asset → Held
-held_by who assets = map_keys (λ (unit : Unit). (who, unit)) (bundle_of assets)
+-- goods as what an account holds
+unfoldable pub held_by : List ℕ → Bundle → Held
+held_by who goods = map_keys (λ (unit : Unit). (who, unit)) goods
 
--- the ledger after the account gave these, or got them
+-- another account, or a unit that isn't among the goods
+abbrev pub IsOther : List ℕ → Bundle → Holder → Type 0
+IsOther who goods holder = who ≡ holder.0 → amount goods holder.1 ≡ 0
+
+-- the ledger after the account gave these
 abbrev pub Withdrawn : List ℕ → List Asset → Accounts → Accounts
-Withdrawn who assets ledger = record { listed = ledger.listed; held = difference ledger.held (held_by who assets) }
+Withdrawn who assets ledger = record { listed = ledger.listed; held = difference ledger.held (held_by who (bundle_of assets)) }
 
-abbrev pub Deposited : List ℕ → List Asset → Accounts → Accounts
-Deposited who assets ledger = record { listed = ledger.listed; held = merge ledger.held (held_by who assets) }
+-- the ledger after the account got these goods
+abbrev pub Deposited : List ℕ → Bundle → Accounts → Accounts
+Deposited who goods ledger = record { listed = ledger.listed; held = merge ledger.held (held_by who goods) }
 
 -- the withdrawal from one account and then the deposit to the other
 abbrev pub Transferred : List ℕ → List ℕ → List Asset → Accounts → Accounts
-Transferred from to assets ledger = Deposited to assets (Withdrawn from assets ledger)
+Transferred from to assets ledger = Deposited to (bundle_of assets) (Withdrawn from assets ledger)
 
 -- ---- refusals
 -- what the account has of the first listed asset of which it has less than is asked

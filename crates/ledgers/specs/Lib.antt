@@ -1,5 +1,5 @@
-pub mod Traps
 pub mod Ledgers
+pub mod Laws
 pub mod AssetHash
 pub mod AssetTable
 pub mod AssetKeys

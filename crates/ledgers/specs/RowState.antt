@@ -4,7 +4,7 @@ use Rattle.amounts.specs.Amounts.{amount}
 use Rattle.asset_lists.specs.declared.units.Fun.{Fun}
 use Rattle.asset_lists.specs.declared.units.Asset.{Asset}
 use Rattle.asset_lists.specs.Units.{Unit, unit_of, instance_in}
-use Rattle.asset_bundles.specs.Books.{listed_of}
+use Rattle.asset_lists.specs.Listed.{listed_of}
 use Rattle.ledgers.specs.declared.rows.Rows.{Rows}
 use Rattle.ledgers.specs.Ledgers.{Held, Accounts, number_in}
 use Rattle.ledgers.specs.LedgerRows.{AmountKey, OwnerKey, held_in, IsSound, HasAmountRow, HasOwnerRow, HasInstanceRow}
@@ -12,8 +12,8 @@ use Rattle.ledgers.specs.LedgerRows.{AmountKey, OwnerKey, held_in, IsSound, HasA
 abbrev pub rows_held : Rows → Held
 rows_held r = held_in r.assets r.amounts.entries r.owners.entries
 
-abbrev pub accounts_of : Rows → Accounts
-accounts_of r = record { listed = r.assets; held = rows_held r }
+abbrev pub accounts_in : Rows → Accounts
+accounts_in r = record { listed = r.assets; held = rows_held r }
 
 abbrev pub AreSound : Rows → Type 0
 AreSound r = IsSound r.assets r.amounts.entries r.owners.entries r.sums.items

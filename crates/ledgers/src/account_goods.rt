@@ -9,14 +9,14 @@ impl Rows {
     ghost use Rattle.std.specs.Prelude.{◌≡◌, IfOk, not, slice_get};
     ghost use Rattle.amounts.specs.Amounts.{restriction};
     ghost use Rattle.ledgers.specs.Ledgers.{account_goods};
-    ghost use Rattle.ledgers.specs.LedgerRows.{amount_at, owned};
+    ghost use Rattle.ledgers.specs.LedgerRows.{amount_in_row, owned};
     ghost use Rattle.ledgers.specs.RowState.{rows_held, AreSound};
-    ghost use Rattle.ledgers.specs.AccountGoods.{IsListOf, is_amount, fungible_at, instance_at};
+    ghost use Rattle.ledgers.specs.AccountGoods.{IsUnsortedListOf, is_amount, fungible_held_at, instance_held_at};
 
     /// What an account holds, in no order.
     pub(crate) fn goods(&self, who: &[u8; 32]) -> Result<Vec<Asset>, AllocError>
         requires { AreSound self.now }
-        ensures { IfOk result (λ goods. IsListOf (account_goods who.now (rows_held self.now)) goods.items) }
+        ensures { IfOk result (λ goods. IsUnsortedListOf (account_goods who.now (rows_held self.now)) goods.items) }
     {
         let mut goods = self.fungibles(who)?;
         let mut instances = self.instances(who)?;
@@ -27,13 +27,12 @@ impl Rows {
     /// The fungible assets that an account holds.
     fn fungibles(&self, who: &[u8; 32]) -> Result<Vec<Asset>, AllocError>
         requires { AreSound self.now }
-        ensures { IfOk result (λ goods. IsListOf (restriction is_amount (account_goods who.now (rows_held self.now))) goods.items) }
+        ensures { IfOk result (λ goods. IsUnsortedListOf (restriction is_amount (account_goods who.now (rows_held self.now))) goods.items) }
     {
         let mut goods = Vec::new(*self.sums.allocator());
         for number in 0..self.assets.len() {
-            match self.fungible(who, number) {
-                Some(asset) => goods.push(asset)?,
-                None => {}
+            if let Some(asset) = self.fungible(who, number) {
+                goods.push(asset)?;
             }
         }
         Ok(goods)
@@ -42,13 +41,12 @@ impl Rows {
     /// The instances that an account has. It takes time in proportion to the instances of all accounts.
     fn instances(&self, who: &[u8; 32]) -> Result<Vec<Asset>, AllocError>
         requires { AreSound self.now }
-        ensures { IfOk result (λ goods. IsListOf (restriction (λ unit. not (is_amount unit)) (account_goods who.now (rows_held self.now))) goods.items) }
+        ensures { IfOk result (λ goods. IsUnsortedListOf (restriction (λ unit. not (is_amount unit)) (account_goods who.now (rows_held self.now))) goods.items) }
     {
         let mut goods = Vec::new(*self.sums.allocator());
         for (key, owner) in self.owners.iter() {
-            match self.instance(who, key, owner) {
-                Some(asset) => goods.push(asset)?,
-                None => {}
+            if let Some(asset) = self.instance(who, key, owner) {
+                goods.push(asset)?;
             }
         }
         Ok(goods)
@@ -56,7 +54,7 @@ impl Rows {
 
     /// What an account has of the asset of a number; None where it has nothing, or it is a class.
     fn fungible(&self, who: &[u8; 32], number: u32) -> Option<Asset>
-        ensures { result ≡ fungible_at (slice_get self.now.assets number) (amount_at self.now.amounts.entries (number, who.now)) }
+        ensures { result ≡ fungible_held_at (slice_get self.now.assets number) (amount_in_row self.now.amounts.entries (number, who.now)) }
     {
         let (id, kind) = self.assets.get(number)?;
         let amount = amount_in(&self.amounts, number, who);
@@ -79,7 +77,7 @@ impl Rows {
         key: &(u32, Instance),
         owner: &Option<[u8; 32]>,
     ) -> Option<Asset>
-        ensures { result ≡ instance_at (slice_get self.now.assets key.now.0) key.now.1 (owned who.now owner.now) }
+        ensures { result ≡ instance_held_at (slice_get self.now.assets key.now.0) key.now.1 (owned who.now owner.now) }
     {
         let (id, kind) = self.assets.get(key.0)?;
         match kind {

@@ -2,8 +2,8 @@
 ghost use Rattle.std.specs.Prelude.{◌≡◌, map, length, IfOk, ◌<◌, ◌^◌, slice_get};
 ghost use Rattle.std.specs.Ordering.{eq_by_cmp};
 ghost use Rattle.std.specs.List.{IsDistinct};
-ghost use Rattle.asset_bundles.specs.Books.{listed_cmp};
-ghost use Rattle.ledgers.specs.Ledgers.{listed_row, number_in};
+ghost use Rattle.asset_lists.specs.Listed.{listed_cmp};
+ghost use Rattle.ledgers.specs.Ledgers.{listed_pair, number_in};
 
 use crate::listed_asset::ListedAsset;
 use asset_lists::{AssetId, Kind};
@@ -20,14 +20,14 @@ pub(crate) struct AssetTable {
 
 impl Model for AssetTable {
     ghost use Rattle.std.specs.Prelude.{List, length, ◌<◌, ◌^◌};
-    ghost use Rattle.asset_bundles.specs.Books.{Listed};
-    ghost use Rattle.ledgers.specs.AssetTable.{keys_in, table_code};
+    ghost use Rattle.asset_lists.specs.Listed.{Listed};
+    ghost use Rattle.ledgers.specs.AssetTable.{table_keys, table_code};
 
     ghost Value = { List Listed };
 
     ghost coded = { table_code };
 
-    ghost view = { λ t. keys_in t.assets.keys };
+    ghost view = { λ t. table_keys t.assets.keys };
 
     ghost invariant = { λ t. length t.assets.keys < 2 ^ 32 };
 }
@@ -35,12 +35,10 @@ impl Model for AssetTable {
 impl AssetTable {
     /// The table of these assets, of which none is there twice.
     pub(crate) fn open(alloc: Global, list: Vec<(Location, Kind)>) -> Result<AssetTable, AllocError>
-        requires { IsDistinct (eq_by_cmp listed_cmp) (map listed_row list.items) }
-        ensures { IfOk result (λ table. table ≡ map listed_row list.items) }
+        requires distinct { IsDistinct (eq_by_cmp listed_cmp) (map listed_pair list.items) }
+        requires few { length list.items < 2 ^ 32 }
+        ensures opened { IfOk result (λ table. table ≡ map listed_pair list.items) }
     {
-        if list.len() > u32::MAX as usize {
-            return Err(AllocError);
-        }
         let mut assets = IndexSet::with_capacity(alloc, list.len())?;
         for (id, kind) in list {
             assets.insert(ListedAsset { id, kind })?;

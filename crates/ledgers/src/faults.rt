@@ -1,4 +1,5 @@
 //! Why a ledger refuses a move.
+use std::alloc::AllocError;
 use thiserror::Error;
 
 /// Why assets aren't withdrawn. Amounts are in the asset's smallest unit.
@@ -10,7 +11,7 @@ pub enum LedgerFault {
         /// What it has.
         have: u128,
     },
-    /// There is no memory.
+    /// Out of memory.
     #[error("out of memory")]
     Memory,
 }
@@ -30,7 +31,7 @@ pub enum TransferFault {
         /// What the receiver has once the giver has given.
         have: u128,
     },
-    /// There is no memory.
+    /// Out of memory.
     #[error("out of memory")]
     Memory,
 }
@@ -50,7 +51,40 @@ pub enum DepositFault {
         /// The account that has it.
         owner: [u8; 32],
     },
-    /// There is no memory.
+    /// Out of memory.
     #[error("out of memory")]
     Memory,
+}
+
+impl From<AllocError> for LedgerFault {
+    ghost use Rattle.std.specs.Prelude.{◌≡◌};
+    ghost use Rattle.ledgers.specs.declared.faults.LedgerFault.TheVariants.{Memory};
+
+    ghost from_gives = { λ _ fault. fault ≡ Memory };
+
+    fn from(_: AllocError) -> LedgerFault {
+        LedgerFault::Memory
+    }
+}
+
+impl From<AllocError> for TransferFault {
+    ghost use Rattle.std.specs.Prelude.{◌≡◌};
+    ghost use Rattle.ledgers.specs.declared.faults.TransferFault.TheVariants.{Memory};
+
+    ghost from_gives = { λ _ fault. fault ≡ Memory };
+
+    fn from(_: AllocError) -> TransferFault {
+        TransferFault::Memory
+    }
+}
+
+impl From<AllocError> for DepositFault {
+    ghost use Rattle.std.specs.Prelude.{◌≡◌};
+    ghost use Rattle.ledgers.specs.declared.faults.DepositFault.TheVariants.{Memory};
+
+    ghost from_gives = { λ _ fault. fault ≡ Memory };
+
+    fn from(_: AllocError) -> DepositFault {
+        DepositFault::Memory
+    }
 }

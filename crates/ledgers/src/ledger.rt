@@ -1,14 +1,16 @@
 //! The ledger of a chain.
-ghost use Rattle.std.specs.Prelude.{◌≡◌, ◌-◌, ◌^◌, ◌<◌, ℕ, None, Some, map, min, List, option_copied, length, slice_get, IfOk, IfSome, MatchOption, MatchResult};
+ghost use Rattle.std.specs.Prelude.{◌≡◌, ◌-◌, ◌^◌, ◌<◌, None, Some, map, min, option_copied, length, slice_get, IfOk, IfErr, IfSome, OnOk, OnErr, MatchOption};
 ghost use Rattle.std.specs.Ordering.{eq_by_cmp};
 ghost use Rattle.std.specs.List.{IsDistinct};
 ghost use Rattle.amounts.specs.Amounts.{amount, empty};
 ghost use Rattle.asset_lists.specs.declared.units.Kind.{Kind};
 ghost use Rattle.asset_bundles.specs.Bundles.{bundle_of, held_assets};
-ghost use Rattle.asset_bundles.specs.Books.{listed_cmp};
+ghost use Rattle.asset_lists.specs.Units.{unit_of};
+ghost use Rattle.asset_lists.specs.Listed.{listed_cmp};
 ghost use Rattle.asset_bundles.specs.Totals.{total_value};
-ghost use Rattle.ledgers.specs.Ledgers.{listed_row, number_in, AreListed, sum_of, part_of, owners_of, IsOwner, holding_of, IsAfter, IsNext, account_goods, shortage, overflow, barred, Withdrawn, Deposited, Transferred};
-ghost use Rattle.ledgers.specs.LedgerFaults.{IsLedgerFault, IsDepositFault, IsTransferFault};
+ghost use Rattle.asset_bundles.specs.Books.{AreListed};
+ghost use Rattle.ledgers.specs.Ledgers.{listed_pair, number_in, sum_of, account_sum_of, owners_of, IsOwner, NoneNext, IsNext, account_goods, shortage, overflow, is_barred, barred, Withdrawn, Deposited, Transferred};
+ghost use Rattle.ledgers.specs.LedgerFaults.{IsFirstBarred, IsLedgerFault, IsDepositFault, IsTransferable, IsTransferBar, IsTransferFault};
 
 use crate::asset_table::AssetTable;
 use crate::list_moves::{barred, give_all, make_all_room, overflow, shortage, sweep_all, take_all};
@@ -38,19 +40,20 @@ impl Model for Ledger {
 
     ghost coded = { accounts_code };
 
-    ghost use Rattle.ledgers.specs.RowState.{accounts_of, AreSound};
+    ghost use Rattle.ledgers.specs.RowState.{accounts_in, AreSound};
 
-    ghost view = { λ l. accounts_of l.rows };
+    ghost view = { λ l. accounts_in l.rows };
 
     ghost invariant = { λ l. AreSound l.rows };
 }
 
 impl Ledger {
     /// A ledger of a chain's assets in listed order, where no account holds anything. No asset may be
-    /// listed twice.
+    /// listed twice, and there are fewer than 2^32. An `Err` is out of memory.
     pub fn open(alloc: Global, list: Vec<(Location, Kind)>) -> Result<Ledger, AllocError>
-        requires { IsDistinct (eq_by_cmp listed_cmp) (map listed_row list.items) }
-        ensures { IfOk result (λ ledger. ledger ≡ record { listed = map listed_row list.items; held = empty }) }
+        requires distinct { IsDistinct (eq_by_cmp listed_cmp) (map listed_pair list.items) }
+        requires few { length list.items < 2 ^ 32 }
+        ensures opened { IfOk result (λ ledger. ledger ≡ record { listed = map listed_pair list.items; held = empty }) }
     {
         let assets = AssetTable::open(alloc, list)?;
         let sums = zero_sums(alloc, assets.len() as usize)?;
@@ -65,45 +68,59 @@ impl Ledger {
 
     /// The place of an asset in the list; None where it isn't listed.
     pub fn number_of(&self, id: &AssetId, kind: Kind) -> Option<u32>
-        ensures { result ≡ number_in self.now.listed (id.now, kind) }
+        ensures number { result ≡ number_in self.now.listed (id.now, kind) }
     {
         self.rows.assets.number_of(id, kind)
     }
 
     /// The sum over all accounts of the listed asset of this number; for a class it is the number of
-    /// instances. It stands at 2^160-1 where it would pass it.
+    /// instances. It saturates at 2^160-1 where it would pass it.
     pub fn total(&self, number: u32) -> Total
-        requires { number < length self.now.listed }
-        ensures { IfSome (slice_get self.now.listed number) (λ asset. total_value result ≡ min (sum_of asset self.now.held) (2 ^ 160 - 1)) }
+        requires listed { number < length self.now.listed }
+        ensures sum { IfSome (slice_get self.now.listed number) (λ asset. total_value result ≡ min (sum_of asset self.now.held) (2 ^ 160 - 1)) }
     {
         self.rows.sums[number as usize].total()
     }
 
     /// The sum of an asset over all accounts, or the number of instances of a class; 0 where it isn't
-    /// listed. It stands at 2^160-1 where it would pass it.
+    /// listed. It saturates at 2^160-1 where it would pass it.
     pub fn sum(&self, id: &AssetId, kind: Kind) -> Total
-        ensures { total_value result ≡ min (sum_of (id.now, kind) self.now.held) (2 ^ 160 - 1) }
+        ensures sum { total_value result ≡ min (sum_of (id.now, kind) self.now.held) (2 ^ 160 - 1) }
     {
         self.rows.sum(id, kind).total()
     }
 
     /// The amount of a fungible asset that an account has, 0 where it has none.
     pub fn amount(&self, who: &[u8; 32], id: &AssetId) -> u128
-        ensures { result ≡ amount self.now.held (who.now, (id.now, None)) }
+        ensures amount { result ≡ amount self.now.held (who.now, (id.now, None)) }
     {
         self.rows.part(who, id, Kind::Fungible)
     }
 
+    /// What an account has of an asset's unit: the amount of a fungible one, and 1 of an instance that it has.
+    pub fn held_of(&self, who: &[u8; 32], asset: &Asset) -> u128
+        ensures amount { result ≡ amount self.now.held (who.now, unit_of asset.now) }
+    {
+        self.rows.held(who, asset)
+    }
+
+    /// Whether an account can't take an asset in: an amount would pass 2^128-1, or the instance has an owner.
+    pub fn is_barred(&self, who: &[u8; 32], asset: &Asset) -> bool
+        ensures barred { result ≡ is_barred self.now.held who.now asset.now }
+    {
+        self.rows.barred(who, asset).is_some()
+    }
+
     /// How many instances of a class an account owns.
     pub fn count(&self, who: &[u8; 32], id: &AssetId) -> u128
-        ensures { result ≡ part_of who.now (id.now, Kind.Class) self.now.held }
+        ensures count { result ≡ account_sum_of who.now (id.now, Kind.Class) self.now.held }
     {
         self.rows.part(who, id, Kind::Class)
     }
 
     /// The account that has an instance; None where no account has it.
     pub fn owner(&self, id: &AssetId, instance: &Instance) -> Option<[u8; 32]>
-        ensures { MatchOption result
+        ensures owner { MatchOption result
             (owners_of (id.now, Some instance.now) self.now.held ≡ 0)
             (IsOwner self.now.held (id.now, Some instance.now)) }
     {
@@ -113,15 +130,15 @@ impl Ledger {
     /// The first account by bytes that holds something, of those after the given one; None where there is
     /// none. Only the first of all takes time in proportion to the rows of all accounts.
     pub fn next_account(&self, after: Option<&[u8; 32]>) -> Option<[u8; 32]>
-        ensures { MatchOption result
-            ((who : List ℕ) → IsAfter (option_copied after.entry) who → holding_of who self.now.held ≡ 0)
+        ensures next { MatchOption result
+            (NoneNext (option_copied after.entry) self.now.held)
             (IsNext (option_copied after.entry) self.now.held) }
     {
         next_holder(&self.rows.amounts, self.rows.assets.len(), after)
     }
 
     /// What an account holds, in holding order: fungibles by id, then instances by id and instance. An `Err`
-    /// is want of memory.
+    /// is out of memory.
     pub fn held(&self, who: &[u8; 32]) -> Result<Vec<Asset>, AllocError>
         ensures listed { IfOk result (λ assets. assets.items ≡ held_assets (account_goods who.now self.now.held)) }
         ensures bundle { IfOk result (λ assets. bundle_of assets.items ≡ account_goods who.now self.now.held) }
@@ -133,27 +150,48 @@ impl Ledger {
         assets
     }
 
+    /// What the account has of the first of these assets of which it has less than is listed; None where it has
+    /// enough of each. It is what `withdraw` refuses by.
+    pub fn shortage(&self, who: &[u8; 32], list: &[Asset]) -> Option<u128>
+        ensures shortage { result ≡ shortage self.now.held who.now list.now }
+    {
+        shortage(&self.rows, who, list)
+    }
+
+    /// What the account has of the first of these assets of which it would then have more than 2^128-1; None where
+    /// each can be added. It is what `transfer` refuses by, once the giver has given.
+    pub fn overflow(&self, who: &[u8; 32], list: &[Asset]) -> Option<u128>
+        ensures overflow { result ≡ overflow self.now.held who.now list.now }
+    {
+        overflow(&self.rows, who, list)
+    }
+
+    /// Why the account can't take in the first of these assets that it can't take in; None where it can take in each.
+    /// It is what `deposit` refuses by.
+    pub fn barred(&self, who: &[u8; 32], list: &[Asset]) -> Option<DepositFault>
+        ensures barred { MatchOption result
+            (barred self.now.held who.now list.now ≡ None)
+            (IsFirstBarred self.now.held who.now list.now) }
+    {
+        barred(&self.rows, who, list)
+    }
+
     /// Takes the listed assets out of an account: all of them, or none.
     pub fn withdraw(&mut self, who: &[u8; 32], list: &Assets) -> Result<AssetBundle, LedgerFault>
-        ensures { MatchResult result
-            (λ goods. (shortage self.old.held who.now list.now ≡ None) × (goods ≡ bundle_of list.now)
-            × (self.new ≡ Withdrawn who.now list.now self.old))
-            (λ fault. IsLedgerFault self.old.held who.now list.now fault × (self.new ≡ self.old)) }
+        ensures enough { OnOk result (shortage self.old.held who.now list.now ≡ None) }
+        ensures goods { IfOk result (λ goods. goods ≡ bundle_of list.now) }
+        ensures withdrawn { OnOk result (self.new ≡ Withdrawn who.now list.now self.old) }
+        ensures fault { IfErr result (IsLedgerFault self.old.held who.now list.now) }
+        ensures kept { OnErr result (self.new ≡ self.old) }
     {
         let assets = list.items();
-        match shortage(&self.rows, who, assets) {
-            Some(have) => return Err(LedgerFault::NotEnough { have }),
-            None => {}
+        if let Some(have) = shortage(&self.rows, who, assets) {
+            return Err(LedgerFault::NotEnough { have });
         }
-        let alloc = *self.rows.sums.allocator();
-        match AssetBundle::mint(alloc, assets) {
-            Ok(goods) => {
-                take_all(&mut self.rows, who, assets);
-                sweep_all(&mut self.rows, who, assets);
-                Ok(goods)
-            }
-            Err(_) => Err(LedgerFault::Memory),
-        }
+        let goods = AssetBundle::mint(*self.rows.sums.allocator(), assets)?;
+        take_all(&mut self.rows, who, assets);
+        sweep_all(&mut self.rows, who, assets);
+        Ok(goods)
     }
 
     /// Puts a bundle into an account: all of it, or nothing, and then the bundle is handed back. Each asset
@@ -163,28 +201,49 @@ impl Ledger {
         who: &[u8; 32],
         goods: AssetBundle,
     ) -> Result<(), (AssetBundle, DepositFault)>
-        requires { AreListed self.old.listed goods }
-        ensures { MatchResult result
-            (λ _. (barred self.old.held who.now (held_assets goods) ≡ None)
-            × (self.new ≡ Deposited who.now (held_assets goods) self.old))
-            (λ refusal. (refusal.0 ≡ goods) × IsDepositFault self.old.held who.now (held_assets goods) refusal.1
-            × (self.new ≡ self.old)) }
+        requires listed { AreListed self.old.listed goods }
+        ensures free { OnOk result (barred self.old.held who.now (held_assets goods) ≡ None) }
+        ensures deposited { OnOk result (self.new ≡ Deposited who.now goods self.old) }
+        ensures back { IfErr result (λ refusal. refusal.0 ≡ goods) }
+        ensures fault { IfErr result (λ refusal. IsDepositFault self.old.held who.now (held_assets goods) refusal.1) }
+        ensures kept { OnErr result (self.new ≡ self.old) }
     {
-        let assets = match goods.list() {
-            Ok(assets) => assets,
-            Err(_) => return Err((goods, DepositFault::Memory)),
+        let Ok(assets) = goods.list() else {
+            return Err((goods, DepositFault::Memory));
         };
-        match barred(&self.rows, who, assets.as_slice()) {
-            Some(fault) => return Err((goods, fault)),
-            None => {}
+        if let Some(fault) = barred(&self.rows, who, assets.as_slice()) {
+            return Err((goods, fault));
         }
-        match make_all_room(&mut self.rows, who, assets.as_slice()) {
-            Ok(()) => {}
-            Err(_) => return Err((goods, DepositFault::Memory)),
-        }
+        let Ok(()) = make_all_room(&mut self.rows, who, assets.as_slice()) else {
+            return Err((goods, DepositFault::Memory));
+        };
         give_all(&mut self.rows, who, assets.as_slice());
         goods.melt();
         Ok(())
+    }
+
+    /// Why `transfer` would be refused, before it is made; None where only memory can refuse it. It takes no memory.
+    pub fn transfer_fault(
+        &self,
+        from: &[u8; 32],
+        to: &[u8; 32],
+        list: &Assets,
+    ) -> Option<TransferFault>
+        ensures fault { MatchOption result
+            (IsTransferable self.now from.now to.now list.now)
+            (IsTransferBar self.now from.now to.now list.now) }
+    {
+        let assets = list.items();
+        if let Some(have) = shortage(&self.rows, from, assets) {
+            return Some(TransferFault::NotEnough { have });
+        }
+        if from.cmp(to).is_eq() {
+            return None;
+        }
+        let Some(have) = overflow(&self.rows, to, assets) else {
+            return None;
+        };
+        Some(TransferFault::Overflow { have })
     }
 
     /// Moves the listed assets from one account to another: all of them, or none. It is the withdrawal and
@@ -195,28 +254,20 @@ impl Ledger {
         to: &[u8; 32],
         list: &Assets,
     ) -> Result<(), TransferFault>
-        ensures { MatchResult result
-            (λ _. (shortage self.old.held from.now list.now ≡ None)
-            × (overflow (Withdrawn from.now list.now self.old).held to.now list.now ≡ None)
-            × (self.new ≡ Transferred from.now to.now list.now self.old))
-            (λ fault. IsTransferFault self.old from.now to.now list.now fault × (self.new ≡ self.old)) }
+        ensures enough { OnOk result (shortage self.old.held from.now list.now ≡ None) }
+        ensures fits { OnOk result (barred (Withdrawn from.now list.now self.old).held to.now list.now ≡ None) }
+        ensures transferred { OnOk result (self.new ≡ Transferred from.now to.now list.now self.old) }
+        ensures fault { IfErr result (IsTransferFault self.old from.now to.now list.now) }
+        ensures kept { OnErr result (self.new ≡ self.old) }
     {
         let assets = list.items();
-        match shortage(&self.rows, from, assets) {
-            Some(have) => return Err(TransferFault::NotEnough { have }),
-            None => {}
+        if let Some(fault) = self.transfer_fault(from, to, list) {
+            return Err(fault);
         }
         if from.cmp(to).is_eq() {
             return Ok(());
         }
-        match overflow(&self.rows, to, assets) {
-            Some(have) => return Err(TransferFault::Overflow { have }),
-            None => {}
-        }
-        match make_all_room(&mut self.rows, to, assets) {
-            Ok(()) => {}
-            Err(_) => return Err(TransferFault::Memory),
-        }
+        make_all_room(&mut self.rows, to, assets)?;
         take_all(&mut self.rows, from, assets);
         give_all(&mut self.rows, to, assets);
         sweep_all(&mut self.rows, from, assets);

@@ -1,12 +1,12 @@
 //! Lists of assets moved into an account or out of it.
-ghost use Rattle.std.specs.Prelude.{◌≡◌, None, OnOk, IsTrue, IsFalse, IsSomeAnd, MatchOption};
+ghost use Rattle.std.specs.Prelude.{◌≡◌, None, OnOk, IsTrue, IsFalse, MatchOption};
 ghost use Rattle.std.specs.List.{list_all};
 ghost use Rattle.amounts.specs.Amounts.{plus_all, minus_all};
 ghost use Rattle.asset_lists.specs.Units.{unit_of};
 ghost use Rattle.asset_lists.specs.Lists.{has_zero, is_rising};
-ghost use Rattle.asset_bundles.specs.Books.{listed_of, lists};
+ghost use Rattle.asset_lists.specs.Listed.{listed_of, lists};
 ghost use Rattle.ledgers.specs.Ledgers.{shortage, overflow, barred};
-ghost use Rattle.ledgers.specs.LedgerFaults.{IsBarred};
+ghost use Rattle.ledgers.specs.LedgerFaults.{IsFirstBarred};
 ghost use Rattle.ledgers.specs.RowState.{rows_held, AreSound, KeepsRows};
 ghost use Rattle.ledgers.specs.AccountRows.{account_rows, HasAll, MayTakeAll, HasAllRoom};
 
@@ -49,12 +49,11 @@ pub(crate) fn barred(rows: &Rows, who: &[u8; 32], list: &[Asset]) -> Option<Depo
     requires { AreSound rows.now }
     ensures { MatchOption result
         (barred (rows_held rows.now) who.now list.now ≡ None)
-        (λ fault. IsSomeAnd (barred (rows_held rows.now) who.now list.now) (λ a. IsBarred (rows_held rows.now) who.now a fault)) }
+        (IsFirstBarred (rows_held rows.now) who.now list.now) }
 {
     for asset in list {
-        match rows.barred(who, asset) {
-            Some(fault) => return Some(fault),
-            None => {}
+        if let Some(fault) = rows.barred(who, asset) {
+            return Some(fault);
         }
     }
     None

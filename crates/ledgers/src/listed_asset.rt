@@ -1,7 +1,7 @@
 //! What a chain lists.
 ghost use Rattle.std.specs.Prelude.{◌≡◌, fold};
 ghost use Rattle.std.specs.Ordering.{eq_by_cmp, nat_cmp};
-ghost use Rattle.asset_bundles.specs.Books.{kind_number};
+ghost use Rattle.asset_lists.specs.Listed.{kind_number};
 ghost use Rattle.ledgers.specs.AssetHash.{junction_input, location_input};
 
 use asset_lists::Kind;

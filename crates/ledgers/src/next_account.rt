@@ -2,7 +2,7 @@
 ghost use Rattle.std.specs.Prelude.{◌≡◌, ◌↔◌, ℕ, ◌<◌, List, None, Some, IsTrue, MatchOption, option_copied};
 ghost use Rattle.std.specs.declared.cmp.Ordering.TheVariants.{Less};
 ghost use Rattle.ledgers.specs.Ledgers.{account_cmp, IsAfter};
-ghost use Rattle.ledgers.specs.LedgerRows.{AmountKey, amount_at, IsBefore, IsNextRow, IsNextOf};
+ghost use Rattle.ledgers.specs.LedgerRows.{AmountKey, amount_in_row, IsBefore, IsNextRow, IsNextOf};
 
 use crate::row_writes::AmountRows;
 
@@ -12,9 +12,9 @@ pub(crate) fn next_holder(
     numbers: u32,
     after: Option<&[u8; 32]>,
 ) -> Option<[u8; 32]>
-    requires { (k : AmountKey) → 0 < amount_at rows.now.entries k → k.0 < numbers }
+    requires { (k : AmountKey) → 0 < amount_in_row rows.now.entries k → k.0 < numbers }
     ensures { MatchOption result
-        ((k : AmountKey) → IsAfter (option_copied after.entry) k.1 → amount_at rows.now.entries k ≡ 0)
+        ((k : AmountKey) → IsAfter (option_copied after.entry) k.1 → amount_in_row rows.now.entries k ≡ 0)
         (IsNextRow (option_copied after.entry) rows.now.entries) }
 {
     match after {
@@ -26,7 +26,7 @@ pub(crate) fn next_holder(
 /// The least account of which a row says more than 0. It takes time in proportion to the rows.
 fn first_holder(rows: &AmountRows) -> Option<[u8; 32]>
     ensures { MatchOption result
-        ((k : AmountKey) → IsAfter None k.1 → amount_at rows.now.entries k ≡ 0)
+        ((k : AmountKey) → IsAfter None k.1 → amount_in_row rows.now.entries k ≡ 0)
         (IsNextRow None rows.now.entries) }
 {
     let mut next = None;
@@ -40,20 +40,17 @@ fn first_holder(rows: &AmountRows) -> Option<[u8; 32]>
 
 /// The least account after another of which a row says more than 0, number by number.
 fn holder_after(rows: &AmountRows, numbers: u32, after: &[u8; 32]) -> Option<[u8; 32]>
-    requires { (k : AmountKey) → 0 < amount_at rows.now.entries k → k.0 < numbers }
+    requires { (k : AmountKey) → 0 < amount_in_row rows.now.entries k → k.0 < numbers }
     ensures { MatchOption result
-        ((k : AmountKey) → IsAfter (Some after.now) k.1 → amount_at rows.now.entries k ≡ 0)
+        ((k : AmountKey) → IsAfter (Some after.now) k.1 → amount_in_row rows.now.entries k ≡ 0)
         (IsNextRow (Some after.now) rows.now.entries) }
 {
     let mut next = None;
     for number in 0..numbers {
-        match holder_of(rows, number, after) {
-            Some(who) => {
-                if is_before(&who, &next) {
-                    next = Some(who);
-                }
+        if let Some(who) = holder_of(rows, number, after) {
+            if is_before(&who, &next) {
+                next = Some(who);
             }
-            None => {}
         }
     }
     next
@@ -62,7 +59,7 @@ fn holder_after(rows: &AmountRows, numbers: u32, after: &[u8; 32]) -> Option<[u8
 /// The least account after another of which the row of a number says more than 0.
 fn holder_of(rows: &AmountRows, number: u32, after: &[u8; 32]) -> Option<[u8; 32]>
     ensures { MatchOption result
-        ((w : List ℕ) → account_cmp after.now w ≡ Less → amount_at rows.now.entries (number, w) ≡ 0)
+        ((w : List ℕ) → account_cmp after.now w ≡ Less → amount_in_row rows.now.entries (number, w) ≡ 0)
         (IsNextOf rows.now.entries number after.now) }
 {
     for (key, amount) in rows.range((number, *after)..) {

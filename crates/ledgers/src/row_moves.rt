@@ -3,7 +3,7 @@ ghost use Rattle.std.specs.Prelude.{◌≡◌, ◌+◌, ◌-◌, ◌^◌, ◌<�
 ghost use Rattle.std.specs.Map.{keys_of};
 ghost use Rattle.std.specs.List.Sorted.{IsStrictlySortedBy};
 ghost use Rattle.asset_lists.specs.Units.{amount_of, instance_in};
-ghost use Rattle.asset_bundles.specs.Books.{kind_of};
+ghost use Rattle.asset_lists.specs.Listed.{kind_of};
 ghost use Rattle.ledgers.specs.Sums.{sum_value};
 ghost use Rattle.ledgers.specs.LedgerRows.{OwnerKey, owner_key_cmp, owner_at, owned, OwnerIs, HasOwnerRow, HasInstanceRow, IsSumWritten};
 

@@ -13,9 +13,9 @@ impl Rows {
     ghost use Rattle.std.specs.Prelude.{◌≡◌, ◌<◌, ◌≤◌, Some, OnOk, IsSome, IsTrue, IsFalse, MatchOption};
     ghost use Rattle.amounts.specs.Amounts.{amount, plus, minus};
     ghost use Rattle.asset_lists.specs.Units.{unit_of, amount_of as amount_of_asset};
-    ghost use Rattle.asset_bundles.specs.Books.{listed_of};
+    ghost use Rattle.asset_lists.specs.Listed.{listed_of};
     ghost use Rattle.ledgers.specs.Sums.{sum_value};
-    ghost use Rattle.ledgers.specs.Ledgers.{number_in, part_of, sum_of, owners_of, IsOwner, is_barred};
+    ghost use Rattle.ledgers.specs.Ledgers.{number_in, account_sum_of, sum_of, owners_of, IsOwner, is_barred};
     ghost use Rattle.ledgers.specs.LedgerFaults.{IsBarred};
     ghost use Rattle.ledgers.specs.RowState.{rows_held, AreSound, HasRoom, KeepsRows, MayTake};
 
@@ -46,7 +46,7 @@ impl Rows {
     /// What an account has of a fungible asset, or how many instances of a class, by the asset's row.
     pub(crate) fn part(&self, who: &[u8; 32], id: &AssetId, kind: Kind) -> u128
         requires { AreSound self.now }
-        ensures { result ≡ part_of who.now (id.now, kind) (rows_held self.now) }
+        ensures { result ≡ account_sum_of who.now (id.now, kind) (rows_held self.now) }
     {
         match self.assets.number_of(id, kind) {
             Some(number) => amount_in(&self.amounts, number, who),

@@ -3,7 +3,7 @@ ghost use Rattle.std.specs.Prelude.{◌≡◌, OnOk, if◌then◌else◌};
 ghost use Rattle.std.specs.Ordering.{eq_by_cmp};
 ghost use Rattle.std.specs.Map.{keys_of};
 ghost use Rattle.std.specs.List.Sorted.{IsStrictlySortedBy};
-ghost use Rattle.ledgers.specs.LedgerRows.{AmountKey, amount_key_cmp, OwnerKey, owner_key_cmp, amount_at, owner_at, AreSmall, HasAmountRow, HasOwnerRow};
+ghost use Rattle.ledgers.specs.LedgerRows.{AmountKey, amount_key_cmp, OwnerKey, owner_key_cmp, amount_in_row, owner_at, AreSmall, HasAmountRow, HasOwnerRow};
 
 use asset_lists::Instance;
 use std::alloc::AllocError;
@@ -17,7 +17,7 @@ pub(crate) type OwnerRows = BTreeMap<(u32, Instance), Option<[u8; 32]>>;
 
 /// The amount in a row, 0 where there is none.
 pub(crate) fn amount_in(rows: &AmountRows, number: u32, who: &[u8; 32]) -> u128
-    ensures { result ≡ amount_at rows.now.entries (number, who.now) }
+    ensures { result ≡ amount_in_row rows.now.entries (number, who.now) }
 {
     rows.get(&(number, *who)).copied().unwrap_or(0)
 }
@@ -28,7 +28,7 @@ pub(crate) fn make_amount_row(
     number: u32,
     who: &[u8; 32],
 ) -> Result<(), AllocError>
-    ensures same { (q : AmountKey) → amount_at rows.new.entries q ≡ amount_at rows.old.entries q }
+    ensures same { (q : AmountKey) → amount_in_row rows.new.entries q ≡ amount_in_row rows.old.entries q }
     ensures stay { (q : AmountKey) → HasAmountRow rows.old.entries q → HasAmountRow rows.new.entries q }
     ensures made { OnOk result (HasAmountRow rows.new.entries (number, who.now)) }
     ensures small { AreSmall rows.old.entries → AreSmall rows.new.entries }
@@ -44,7 +44,7 @@ pub(crate) fn make_amount_row(
 /// Writes an amount into a row that is there.
 pub(crate) fn write_amount(rows: &mut AmountRows, number: u32, who: &[u8; 32], amount: u128)
     requires { HasAmountRow rows.old.entries (number, who.now) }
-    ensures wrote { (q : AmountKey) → amount_at rows.new.entries q ≡ (if eq_by_cmp amount_key_cmp (number, who.now) q then amount else amount_at rows.old.entries q) }
+    ensures wrote { (q : AmountKey) → amount_in_row rows.new.entries q ≡ (if eq_by_cmp amount_key_cmp (number, who.now) q then amount else amount_in_row rows.old.entries q) }
     ensures stay { (q : AmountKey) → HasAmountRow rows.old.entries q → HasAmountRow rows.new.entries q }
     ensures small { AreSmall rows.old.entries → AreSmall rows.new.entries }
 {
@@ -56,7 +56,7 @@ pub(crate) fn write_amount(rows: &mut AmountRows, number: u32, who: &[u8; 32], a
 
 /// Takes a row that says 0 out.
 pub(crate) fn sweep_amount(rows: &mut AmountRows, number: u32, who: &[u8; 32])
-    ensures same { (q : AmountKey) → amount_at rows.new.entries q ≡ amount_at rows.old.entries q }
+    ensures same { (q : AmountKey) → amount_in_row rows.new.entries q ≡ amount_in_row rows.old.entries q }
     ensures small { AreSmall rows.old.entries → AreSmall rows.new.entries }
 {
     if amount_in(rows, number, who) > 0 {

@@ -56,7 +56,7 @@ impl Sum {
         }
     }
 
-    /// The sum as a total, which stands at 2^160-1 where it would pass it.
+    /// The sum as a total, which saturates at 2^160-1 where it would pass it.
     pub(crate) fn total(self) -> Total
         ensures { total_value result ≡ min (sum_value self) (2 ^ 160 - 1) }
     {

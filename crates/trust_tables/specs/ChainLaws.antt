@@ -1,14 +1,16 @@
--- The location of a chain names that chain alone, and has the account that is the chain's.
-use Rattle.std.specs.Prelude.{◌≡◌, ◌≢◌, ℕ, ◌<◌, ◌^◌, Bool, true, false, if◌then◌else◌, ◌==◌, List, [], ◌∷◌, get_or, Option, Some, None, is_none, unwrap_or, refl}
-use Rattle.std.proofs.Common.{sym, ap, ◌∙◌, subst, inl, inr, arith, eq-eqb, T, take, drop}
+-- For proofs alone: a reader may skip this file. The location of a chain names that chain alone, and has the account
+-- that is the chain's. The laws of `laws.rt` say it.
+use Rattle.std.specs.Prelude.{◌≡◌, ◌≢◌, ℕ, ◌<◌, ◌≤◌, ◌^◌, Bool, true, false, if◌then◌else◌, ◌==◌, List, [], ◌∷◌, length, get_or, Option, Some, None, is_none, unwrap_or, refl}
+use Rattle.std.proofs.Common.{sym, ap, ◌∙◌, subst, inl, inr, arith, eq-eqb, T, take, drop, rules}
+use Rattle.std.specs.List.{All}
 use Rattle.std.proofs.lemmas.Nat.{from_le_bytes-to_le_bytes_4}
 use Rattle.std.specs.Int.{from_le_bytes, w32}
 use Rattle.locations.specs.declared.grammar.NetworkId.{NetworkId}
 use Rattle.locations.specs.declared.grammar.NetworkId.TheVariants.{Polkadot}
 use Rattle.locations.specs.declared.grammar.Junction.{Junction}
-use Rattle.locations.specs.declared.grammar.Junction.TheVariants.{Parachain, GlobalConsensus}
+use Rattle.locations.specs.declared.grammar.Junction.TheVariants.{Parachain, GlobalConsensus, OnlyChild}
 use Rattle.locations.specs.declared.relative.Location.{Location}
-use Rattle.locations.specs.Chains.{path_of}
+use Rattle.locations.specs.Chains.{path_of, IsNear}
 use Rattle.chain_ids.specs.declared.chain.ChainId.{ChainId}
 use Rattle.chain_ids.specs.declared.chain.ChainId.TheVariants.{Relay, Para}
 use Rattle.trust_tables.specs.declared.chains.Site.{Site}
@@ -34,6 +36,22 @@ path_of-location_of network Relay Relay l is = absurd (subst (λ (o : Option Loc
 path_of-location_of network Relay (Para number) l is = ap (path_of (GlobalConsensus network ∷ [])) (sym (some_same _ l is))
 path_of-location_of network (Para own) Relay l is = ap (path_of (GlobalConsensus network ∷ Parachain own ∷ [])) (sym (some_same _ l is))
 path_of-location_of network (Para own) (Para number) l is = ap (path_of (GlobalConsensus network ∷ Parachain own ∷ [])) (sym (own_branch (own == number) _ l is).1)
+
+-- a chain lies at most one level up and one junction down from another
+pub near_location : (network : NetworkId) (from to : ChainId) (l : Location) → location_of from to ≡ Some l
+    → IsNear (path_of_site (record { network = network; chain = from })) l
+near_location network Relay Relay l is = absurd (subst (λ (o : Option Location). T (is_none o)) is tt)
+near_location network Relay (Para number) l is = subst (IsNear (GlobalConsensus network ∷ [])) (some_same _ l is) (record { placed = omega arith; few_parents = omega arith; few_junctions = omega arith })
+near_location network (Para own) Relay l is = subst (IsNear (GlobalConsensus network ∷ Parachain own ∷ [])) (some_same _ l is) (record { placed = omega arith; few_parents = omega arith; few_junctions = omega arith })
+near_location network (Para own) (Para number) l is = subst (IsNear (GlobalConsensus network ∷ Parachain own ∷ [])) (own_branch (own == number) _ l is).1 (record { placed = omega arith; few_parents = omega arith; few_junctions = omega arith })
+
+-- the path of a chain is short, and names each of its junctions
+pub short_path : (site : Site) → length (path_of_site site) ≤ 2
+short_path site = elim site.chain as (λ c. length (GlobalConsensus site.network ∷ below_relay c) ≤ 2) [ Relay ↦ omega arith | Para number ↦ omega arith ]
+
+pub no_only_child : (network : NetworkId) (chain : ChainId) → All (λ j. j ≢ OnlyChild) (path_of_site (record { network = network; chain = chain }))
+no_only_child network Relay = search rules
+no_only_child network (Para number) = search rules
 
 -- ---- accounts
 account_by : (site : Site) (here chain : ChainId) (l : Location) → site.chain ≡ here → location_of here chain ≡ Some l → account_of l site ≡ Some (sovereign_account here chain)

@@ -1,16 +1,28 @@
 //! The assets that a chain lists, each with the part that the chain plays for it.
+ghost use Rattle.std.specs.Prelude.{◌≡◌, IfOk};
+
 use crate::ChainId;
 use asset_lists::Kind;
 use locations::Location;
 use plain_lists::Listed;
+use std::alloc::{AllocError, Global};
 
 /// The part that a chain plays for an asset that it lists.
 #[derive(Debug, Drop)]
 pub enum AssetRole {
-    /// The asset is at home here. It may be teleported to and from these chains.
-    Native { partners: Listed<ChainId> },
+    /// The asset is at home here.
+    Native {
+        /// The chains to and from which it may be teleported.
+        partners: Listed<ChainId>,
+        /// How much of the asset may stand at its other homes, in its smallest unit; none where the chain keeps no
+        /// such record. It is a record, not an account of anybody.
+        checking: Option<u128>,
+    },
     /// The asset stands for one that is kept in this chain's sovereign account at the reserve.
-    Derivative { reserve: ChainId },
+    Derivative {
+        /// The chain at which the asset is at home.
+        reserve: ChainId,
+    },
 }
 
 /// An asset that a chain lists: its id as seen from the chain, whether it has amounts or instances, and its role.
@@ -22,4 +34,45 @@ pub struct AssetRow {
     pub kind: Kind,
     /// Where it is at home, and whom the chain trusts with it.
     pub role: AssetRole,
+}
+
+impl AssetRole {
+    /// The same role.
+    pub fn copy(&self, alloc: Global) -> Result<AssetRole, AllocError>
+        ensures { IfOk result (λ role. role ≡ self.now) }
+    {
+        match self {
+            AssetRole::Native { partners, checking } => {
+                let partners = copied(alloc, partners.items())?;
+                Ok(AssetRole::Native {
+                    partners,
+                    checking: *checking,
+                })
+            }
+            AssetRole::Derivative { reserve } => Ok(AssetRole::Derivative { reserve: *reserve }),
+        }
+    }
+}
+
+impl AssetRow {
+    /// The same row.
+    pub fn copy(&self, alloc: Global) -> Result<AssetRow, AllocError>
+        ensures { IfOk result (λ row. row ≡ self.now) }
+    {
+        let role = self.role.copy(alloc)?;
+        Ok(AssetRow {
+            id: self.id.copy(),
+            kind: self.kind,
+            role,
+        })
+    }
+}
+
+/// A list of the same chains.
+fn copied(alloc: Global, chains: &[ChainId]) -> Result<Listed<ChainId>, AllocError>
+    ensures { IfOk result (λ list. list ≡ chains.now) }
+{
+    let mut items = Vec::with_capacity(alloc, chains.len())?;
+    items.extend_from_slice(chains)?;
+    Ok(Listed::from_vec(items))
 }

@@ -3,10 +3,10 @@ ghost use Rattle.std.specs.Prelude.{◌≡◌, position};
 ghost use Rattle.std.specs.List.{list_any};
 ghost use Rattle.std.specs.Option.{option_copied};
 ghost use Rattle.trust_tables.specs.Trust as trust;
-ghost use Rattle.trust_tables.specs.Trust.{is_row_of, kind_of, is_reserve_role, is_partner_role};
+ghost use Rattle.trust_tables.specs.Trust.{is_row_of, is_reserve_role, is_partner_role};
 
 use crate::{AssetRole, AssetRow, ChainId, Site, location_of};
-use asset_lists::{Asset, AssetId, Fun, Kind};
+use asset_lists::{Asset, AssetId};
 use locations::Location;
 
 /// The place of the first row whose id is the asset's and whose kind fits. It takes no memory.
@@ -50,21 +50,12 @@ fn lists(row: &AssetRow, a: &Asset) -> bool
     ensures { result ≡ is_row_of a.now row.now }
 {
     match &a.id {
-        AssetId::Concrete(id) => *id == row.id && kind(&a.fun) == row.kind,
+        AssetId::Concrete(id) => *id == row.id && a.kind() == row.kind,
         AssetId::Abstract(_) => false,
     }
 }
 
-/// An amount is of a fungible asset, and an instance of a class.
-fn kind(fun: &Fun) -> Kind
-    ensures { result ≡ kind_of fun.now }
-{
-    match fun {
-        Fun::Fungible(_) => Kind::Fungible,
-        Fun::NonFungible(_) => Kind::Class,
-    }
-}
-
+/// Whether the role is that of a derivative whose reserve lies at the location.
 fn has_reserve(role: &AssetRole, here: ChainId, l: &Location) -> bool
     ensures { result ≡ is_reserve_role here l.now role.now }
 {
@@ -74,11 +65,12 @@ fn has_reserve(role: &AssetRole, here: ChainId, l: &Location) -> bool
     }
 }
 
+/// Whether the role is that of a native asset with a partner that lies at the location.
 fn has_partner(role: &AssetRole, here: ChainId, l: &Location) -> bool
     ensures { result ≡ is_partner_role here l.now role.now }
 {
     match role {
-        AssetRole::Native { partners } => any_lies_at(partners.items(), here, l),
+        AssetRole::Native { partners, .. } => any_lies_at(partners.items(), here, l),
         AssetRole::Derivative { .. } => false,
     }
 }

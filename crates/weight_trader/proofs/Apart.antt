@@ -11,7 +11,7 @@ use Rattle.asset_lists.specs.declared.units.AssetId.TheVariants.{Concrete, Abstr
 use Rattle.asset_lists.specs.declared.units.Asset.{Asset}
 use Rattle.asset_lists.specs.Units.{Unit, unit_cmp}
 use Rattle.asset_lists.specs.Lists.{is_of, has_zero}
-use Rattle.asset_lists.specs.Moves.{count_of}
+use Rattle.asset_lists.specs.Moves.{occurrences}
 use Rattle.weight_trader.specs.declared.rate.Rate.{Rate}
 use Rattle.weight_trader.specs.Purchases.{Line, new_line, new_lines, coin_of, is_in, NameEachOnce, AreApart}
 use Rattle.weight_trader.specs.Refunds.{Closed}
@@ -81,35 +81,35 @@ coin_or_none (Abstract bytes, None) = inr (λ rate. refl)
 coin_or_none (id, Some instance) = inr (λ rate. refl)
 
 count_step : (p i : Bool) (u : Unit) (l : Line) (ls : List Line) (whole rest : ℕ) → whole ≡ cond i (1 + rest) rest
-    → count_of u (coins l.rate l.paid ∷ paid_assets ls) ≡ cond i (1 + count_of u (paid_assets ls)) (count_of u (paid_assets ls)) → count_of u (paid_assets ls) ≤ rest
-    → count_of u (if p then coins l.rate l.paid ∷ paid_assets ls else paid_assets ls) ≤ whole
+    → occurrences u (coins l.rate l.paid ∷ paid_assets ls) ≡ cond i (1 + occurrences u (paid_assets ls)) (occurrences u (paid_assets ls)) → occurrences u (paid_assets ls) ≤ rest
+    → occurrences u (if p then coins l.rate l.paid ∷ paid_assets ls else paid_assets ls) ≤ whole
 count_step true true u l ls whole rest w paid le = omega (arith, w, paid, le)
 count_step true false u l ls whole rest w paid le = omega (arith, w, paid, le)
 count_step false true u l ls whole rest w paid le = omega (arith, w, le)
 count_step false false u l ls whole rest w paid le = omega (arith, w, le)
 
-count_coins : (u : Unit) (asset : Location) → u ≡ (Concrete asset, None) → (lines : List Line) → count_of u (paid_assets lines) ≤ count_by (λ (line : Line). is_in asset line.rate) lines
+count_coins : (u : Unit) (asset : Location) → u ≡ (Concrete asset, None) → (lines : List Line) → occurrences u (paid_assets lines) ≤ count_by (λ (line : Line). is_in asset line.rate) lines
 count_coins u asset is [] = omega arith
 count_coins u asset is (l ∷ ls) =
     let rest = count_coins u asset is ls in
     let here : is_of u (coins l.rate l.paid) ≡ is_in asset l.rate = ap (λ v. eq_by_cmp unit_cmp (coin_of l.rate) v) is ∙ coin_tie l.rate.asset asset in
     let whole = count-cons (λ (line : Line). is_in asset line.rate) l ls in
-    let paid = count-cons (is_of u) (coins l.rate l.paid) (paid_assets ls) ∙ ap (λ b. cond b (1 + count_of u (paid_assets ls)) (count_of u (paid_assets ls))) here in
+    let paid = count-cons (is_of u) (coins l.rate l.paid) (paid_assets ls) ∙ ap (λ b. cond b (1 + occurrences u (paid_assets ls)) (occurrences u (paid_assets ls))) here in
     count_step (is_paid l) (is_in asset l.rate) u l ls _ _ whole paid rest
 
-count_none : (u : Unit) → ((rate : Rate) → eq_by_cmp unit_cmp (coin_of rate) u ≡ false) → (lines : List Line) → count_of u (paid_assets lines) ≡ 0
+count_none : (u : Unit) → ((rate : Rate) → eq_by_cmp unit_cmp (coin_of rate) u ≡ false) → (lines : List Line) → occurrences u (paid_assets lines) ≡ 0
 count_none u none [] = refl
 count_none u none (l ∷ ls) =
     let rest = count_none u none ls in
-    let paid = count-cons (is_of u) (coins l.rate l.paid) (paid_assets ls) ∙ ap (λ b. cond b (1 + count_of u (paid_assets ls)) (count_of u (paid_assets ls))) (none l.rate) in
-    elim (is_paid l) as (λ b. count_of u (if b then coins l.rate l.paid ∷ paid_assets ls else paid_assets ls) ≡ 0) [
+    let paid = count-cons (is_of u) (coins l.rate l.paid) (paid_assets ls) ∙ ap (λ b. cond b (1 + occurrences u (paid_assets ls)) (occurrences u (paid_assets ls))) (none l.rate) in
+    elim (is_paid l) as (λ b. occurrences u (if b then coins l.rate l.paid ∷ paid_assets ls else paid_assets ls) ≡ 0) [
       | true ↦ paid ∙ rest
       | false ↦ rest
     ]
 
-pub once_paid : (lines : List Line) (assets : List Asset) → assets ≡ paid_assets lines → AreApart lines → (u : Unit) → count_of u assets ≤ 1
+pub once_paid : (lines : List Line) (assets : List Asset) → assets ≡ paid_assets lines → AreApart lines → (u : Unit) → occurrences u assets ≤ 1
 once_paid lines assets is apart u =
-    let e = ap (count_of u) is in
+    let e = ap (occurrences u) is in
     elim (coin_or_none u) [
       | inl coin ↦ (let most = count_coins u coin.0 coin.1 lines in let one = apart coin.0 in omega (arith, e, most, one))
       | inr none ↦ (let zero_of = count_none u none lines in omega (arith, e, zero_of))

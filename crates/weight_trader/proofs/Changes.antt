@@ -1,10 +1,6 @@
--- The first of a list that passes a test, found and changed.
-use Rattle.std.proofs.Common.{◌≡◌, ℕ, zero, suc, ◌+◌, ◌<◌, ◌≤◌, Bool, true, false, cond, List, [], ◌∷◌, ◌++◌, length, get_or, set, drop, Some, None, refl, sym, ap, ◌∙◌, subst, add-one, arith, drop-cons}
-use Rattle.std.specs.Prelude.{if◌then◌else◌, not}
-use Rattle.std.specs.List.{find, position, position_or_len, AllByRecursion}
-use Rattle.std.proofs.lemmas.Grind.{common_steps}
-use Rattle.std.proofs.lemmas.List.Quantifiers.{position-Some}
-use Rattle.weight_trader.specs.Purchases.{change_first}
+-- What is found in a list, and a list made of the parts that its elements give.
+use Rattle.std.proofs.Common.{◌≡◌, ℕ, suc, ◌+◌, ◌<◌, Bool, true, false, cond, List, [], ◌∷◌, ◌++◌, length, get_or, drop, Some, refl, sym, ap, ◌∙◌, subst, add-one, drop-cons}
+use Rattle.std.specs.List.{find, AllByRecursion}
 
 -- what is found passes the test, and what all have it has
 pub found_passes : {X : Type 0} (p : X → Bool) (P : X → Type 0) (xs : List X) (x : X) → AllByRecursion P xs → find p xs ≡ Some x → (p x ≡ true) × P x
@@ -14,61 +10,6 @@ found_passes p P (y ∷ ys) x all e =
       | true ↦ λ t f. (let same : y ≡ x = cc in subst (λ z. (p z ≡ true) × P z) same (t, all.0))
       | false ↦ λ t f. found_passes p P ys x all.1 f
     ] refl e
-
-module _ {X : Type 0} (p : X → Bool) where
-  earlier : (x : X) (xs : List X) (k : ℕ) (d : X) → ((j : ℕ) → j < suc k → p (get_or (x ∷ xs) j d) ≡ false) → (p x ≡ false) × ((j : ℕ) → j < k → p (get_or xs j d) ≡ false)
-  earlier x xs k d none = (none 0 (omega arith), λ j lt. none (suc j) (omega (arith, lt)))
-
-  find_first : (xs : List X) (k : ℕ) (d : X) → k < length xs → p (get_or xs k d) ≡ true → ((j : ℕ) → j < k → p (get_or xs j d) ≡ false) → find p xs ≡ Some (get_or xs k d)
-  find_first [] k d lt here none = absurd (omega (arith, lt))
-  find_first (x ∷ xs) zero d lt here none = ap (λ b. cond b (Some x) (find p xs)) here
-  find_first (x ∷ xs) (suc k) d lt here none =
-      let e = earlier x xs k d none in
-      ap (λ b. cond b (Some x) (find p xs)) e.0 ∙ find_first xs k d (omega (arith, lt)) here e.1
-
-  change_at : (f : X → X) (xs : List X) (k : ℕ) (d : X) → k < length xs → p (get_or xs k d) ≡ true → ((j : ℕ) → j < k → p (get_or xs j d) ≡ false) → change_first p f xs ≡ set xs k (f (get_or xs k d))
-  change_at f [] k d lt here none = absurd (omega (arith, lt))
-  change_at f (x ∷ xs) zero d lt here none = ap (λ b. if b then f x ∷ xs else x ∷ change_first p f xs) here
-  change_at f (x ∷ xs) (suc k) d lt here none =
-      let e = earlier x xs k d none in
-      ap (λ b. if b then f x ∷ xs else x ∷ change_first p f xs) e.0 ∙ ap (λ ys. x ∷ ys) (change_at f xs k d (omega (arith, lt)) here e.1)
-
-  none_passes : (xs : List X) → length xs ≤ position_or_len p xs → AllByRecursion (λ x. p x ≡ false) xs
-  none_passes [] h = tt
-  none_passes (x ∷ xs) h =
-      elim (p x) as (λ b. b ≡ p x → length (x ∷ xs) ≤ cond (not b) (1 + position_or_len p xs) 0 → AllByRecursion (λ x. p x ≡ false) (x ∷ xs)) [
-        | true ↦ λ e g. absurd (omega (arith, g))
-        | false ↦ λ e g. (sym e, none_passes xs (omega (arith, g)))
-      ] refl h
-
-  no_place : (xs : List X) → position p xs ≡ None → length xs ≤ position_or_len p xs
-  no_place xs e = grind (arith, common_steps)
-
-  pub passes_none : (xs : List X) → position p xs ≡ None → AllByRecursion (λ x. p x ≡ false) xs
-  passes_none xs e = none_passes xs (no_place xs e)
-
-  pub find_none : (xs : List X) → AllByRecursion (λ x. p x ≡ false) xs → find p xs ≡ None
-  find_none [] all = refl
-  find_none (x ∷ xs) all = ap (λ b. cond b (Some x) (find p xs)) all.0 ∙ find_none xs all.1
-
-  pub change_none : (f : X → X) (xs : List X) → AllByRecursion (λ x. p x ≡ false) xs → change_first p f xs ≡ xs
-  change_none f [] all = refl
-  change_none f (x ∷ xs) all = ap (λ b. if b then f x ∷ xs else x ∷ change_first p f xs) all.0 ∙ ap (λ ys. x ∷ ys) (change_none f xs all.1)
-
-  pub found_at : (xs : List X) (k : ℕ) (x : X) → position p xs ≡ Some k → x ≡ get_or xs k x → find p xs ≡ Some x
-  found_at xs k x e at = let first = position-Some p xs k x e in find_first xs k x first.0 first.1 first.2 ∙ ap Some (sym at)
-
-  pub passes_at : (xs : List X) (k : ℕ) (x : X) → position p xs ≡ Some k → x ≡ get_or xs k x → (k < length xs) × (p x ≡ true)
-  passes_at xs k x e at = let first = position-Some p xs k x e in (first.0, ap p at ∙ first.1)
-
-  pub changed_at : (f : X → X) (xs : List X) (k : ℕ) (x : X) → position p xs ≡ Some k → x ≡ get_or xs k x → set xs k (f x) ≡ change_first p f xs
-  changed_at f xs k x e at = let first = position-Some p xs k x e in ap (λ y. set xs k (f y)) at ∙ sym (change_at f xs k x first.0 first.1 first.2)
-
-  pub found_nowhere : (xs : List X) → position p xs ≡ None → find p xs ≡ None
-  found_nowhere xs e = find_none xs (passes_none xs e)
-
-  pub changed_nowhere : (f : X → X) (xs : List X) → position p xs ≡ None → change_first p f xs ≡ xs
-  changed_nowhere f xs e = change_none f xs (passes_none xs e)
 
 -- a list made of the parts that its elements give, as far as the loop has come
 module _ {X Y : Type 0} (F : List X → List Y) (g : X → List Y) (cons : (x : X) (xs : List X) → F (x ∷ xs) ≡ g x ++ F xs) where

@@ -1,15 +1,16 @@
 -- What purchases and refunds do at the line that they find.
-use Rattle.std.proofs.Common.{◌≡◌, ℕ, ◌<◌, ◌≤◌, true, false, List, [], ◌∷◌, get_or, set, Some, None, sym, ap, ◌∙◌, arith}
+use Rattle.std.proofs.Common.{◌≡◌, ℕ, zero, suc, ◌<◌, ◌≤◌, true, false, List, [], ◌∷◌, get_or, set, Some, None, refl, sym, ap, ◌∙◌, arith}
 use Rattle.std.specs.Prelude.{nat_le}
 use Rattle.std.specs.Option.{option_map}
 use Rattle.std.specs.List.{position, find, AllByRecursion}
 use Rattle.message_parts.specs.declared.weight.Weight.{Weight}
 use Rattle.amounts.specs.Amounts.{amount}
 use Rattle.asset_bundles.specs.Bundles.{Bundle}
+use Rattle.locations.specs.declared.relative.Location.{Location}
 use Rattle.weight_trader.specs.Prices.{price}
-use Rattle.weight_trader.specs.Purchases.{Line, coin_of, is_covered, paying, IsTooExpensive, with_purchase, Bought}
+use Rattle.weight_trader.specs.Purchases.{Line, coin_of, is_covered, paying, IsTooExpensive, with_purchase, some_amount, Bought}
 use Rattle.weight_trader.specs.Refunds.{refund_at, is_refunded, refund_of, without_refund, Refunded}
-use Rattle.weight_trader.proofs.Changes.{find_none, change_none, passes_none, found_at, passes_at, changed_at, found_nowhere, changed_nowhere}
+use Rattle.plain_lists.specs.Firsts.{find_none, change_none, passes_none, found_at, passes_at, changed_at, found_nowhere, changed_nowhere}
 
 pub within : (a b : ℕ) → nat_le a b ≡ true → a ≤ b
 within a b h = grind (arith, h)
@@ -65,3 +66,10 @@ module _ (w : Weight) where
   pub refunded_at : (lines whole : List Line) (k : ℕ) (x line : Line) → lines ≡ whole → position (is_refunded w) lines ≡ Some k → x ≡ get_or lines k x → line ≡ without_refund w x → set lines k line ≡ Refunded w whole
   unfolding Refunded
   refunded_at lines whole k x line same first at is = ap (λ l. set lines k l) is ∙ changed_at (is_refunded w) (without_refund w) lines k x first at ∙ ap (Refunded w) same
+
+pub amount_none : (asset : Location) (n : ℕ) → n ≡ 0 → None ≡ some_amount asset n
+amount_none asset n none = ap (some_amount asset) (sym none)
+
+pub amount_some : (asset : Location) (n : ℕ) → 0 < n → Some (asset, n) ≡ some_amount asset n
+amount_some asset zero some = absurd (omega (arith, some))
+amount_some asset (suc n) some = refl

@@ -8,4 +8,3 @@ pub mod Charging
 pub mod Listed
 pub mod Trading
 pub mod Booking
-pub mod Counting

@@ -6,16 +6,18 @@ use Rattle.std.specs.Option.{option_map}
 use Rattle.std.specs.Ordering.{eq_by_cmp}
 use Rattle.message_parts.specs.declared.weight.Weight.{Weight}
 use Rattle.amounts.specs.Rows.{amount_if, amount_if-zero, sum_where}
-use Rattle.amounts.specs.Amounts.{amount, single, minus, amount-empty}
-use Rattle.amounts.specs.Laws.{key_same, amount-minus, amount-single, amount-from_rows}
+use Rattle.amounts.specs.Amounts.{amount, single, minus, merge, amount-empty}
+use Rattle.amounts.specs.Laws.{key_same, amount-minus, amount-merge, amount-single, amount-from_rows}
 use Rattle.asset_lists.specs.Units.{Unit, unit_cmp}
 use Rattle.asset_bundles.specs.Bundles.{Bundle, unit_keys}
+use Rattle.asset_bundles.specs.BundleLaws.{same_bundles}
 use Rattle.weight_trader.specs.declared.rate.Rate.{Rate}
 use Rattle.weight_trader.specs.Prices.{price}
-use Rattle.weight_trader.specs.Purchases.{Line, new_lines, coin_of, change_first, is_covered, paying, excess, weight_plus, with_purchase, Bought, paid_goods}
-use Rattle.weight_trader.specs.Refunds.{refund_at, is_refunded, goods_of, without_refund, Refunded}
+use Rattle.plain_lists.specs.Firsts.{change_first}
+use Rattle.weight_trader.specs.Purchases.{Line, new_lines, coin_of, is_covered, AreWithinEnd, paying, excess, weight_plus, with_purchase, Bought, paid_goods}
+use Rattle.weight_trader.specs.Refunds.{refund_at, is_refunded, goods_of, without_refund, Refunded, Closed}
 use Rattle.weight_trader.specs.ListedLaws.{changed_all, rate_kept}
-use Rattle.weight_trader.specs.Laws.{Move, Purchase, Refund, lines_after, payment_of, unspent_by, unspent_of, saturated_by, saturated_of, paid_by, paid_of, given_of, lines_after_all, summed, AreWithinEnd, PaymentsAreKept, RefundsArePaid, RefundsAreCovered}
+use Rattle.weight_trader.specs.Laws.{Move, Purchase, Refund, Closing, lines_after, payment_of, unspent_by, unspent_of, saturated_by, saturated_of, paid_by, paid_of, given_of, lines_after_all, summed, EndsAreKept, MovesAreKept, PaymentsAreKept, RefundsArePaid, RefundsAreCovered}
 use Rattle.weight_trader.proofs.Changes.{found_passes}
 use Rattle.weight_trader.proofs.Charging.{within}
 
@@ -74,9 +76,14 @@ purchase_within w l le =
       | false ↦ omega arith
     ]
 
+closed_within : (lines : List Line) → AreWithinEnd (Closed lines)
+closed_within [] = tt
+closed_within (l ∷ ls) = (omega arith, closed_within ls)
+
 moved_within : (m : Move) (lines : List Line) → AreWithinEnd lines → AreWithinEnd (lines_after m lines)
 unfolding Bought Refunded
 moved_within (Purchase w payment) lines all = changed_all (λ (line : Line). line.paid ≤ 2 ^ 128 - 1) (is_covered w payment) (with_purchase w) (purchase_within w) lines all
+moved_within Closing lines all = closed_within lines
 moved_within (Refund w) lines all = changed_all (λ (line : Line). line.paid ≤ 2 ^ 128 - 1) (is_refunded w) (without_refund w) (λ l le. omega (arith, le)) lines all
 
 -- ---- payments
@@ -104,6 +111,7 @@ purchase_kept w payment lines u (Some l) all e =
 move_kept : (m : Move) (lines : List Line) (u : Unit) → AreWithinEnd lines → amount (payment_of m lines) u ≡ amount (unspent_of m lines) u + amount (paid_of m lines) u + amount (saturated_of m lines) u
 move_kept (Purchase w payment) lines u all = purchase_kept w payment lines u (paying w payment lines) all refl
 move_kept (Refund w) lines u all = let none = amount-empty unit_keys u in omega (arith, none)
+move_kept Closing lines u all = let none = amount-empty unit_keys u in omega (arith, none)
 
 pub payments_kept : PaymentsAreKept
 payments_kept [] lines u all = omega arith
@@ -151,6 +159,14 @@ refunded_sum w lines u (Some l) e =
     let one = amount-single unit_keys (coin_of l.rate) (refund_at w l) u in
     omega (arith, sum, parts, one)
 
+closed_unpaid : (lines : List Line) (u : Unit) → paid_sum u (Closed lines) ≡ 0
+unfolding paid_sum
+closed_unpaid [] u = refl
+closed_unpaid (l ∷ ls) u =
+    let rest = closed_unpaid ls u in
+    let none = amount_if-zero (eq_by_cmp unit_cmp u (coin_of l.rate)) in
+    omega (arith, rest, none)
+
 move_paid : (m : Move) (lines : List Line) (u : Unit) → AreWithinEnd lines → amount (given_of m lines) u + paid_sum u (lines_after m lines) ≡ paid_sum u lines + amount (paid_of m lines) u
 unfolding Bought Refunded
 move_paid (Purchase w payment) lines u all =
@@ -161,6 +177,11 @@ move_paid (Refund w) lines u all =
     let none = amount-empty unit_keys u in
     let sum = refunded_sum w lines u (find (is_refunded w) lines) refl in
     omega (arith, none, sum)
+move_paid Closing lines u all =
+    let none = amount-empty unit_keys u in
+    let given = amount-paid lines u in
+    let rest = closed_unpaid lines u in
+    omega (arith, none, given, rest)
 
 moves_paid : (moves : List Move) (lines : List Line) (u : Unit) → AreWithinEnd lines
     → summed given_of u moves lines + paid_sum u (lines_after_all moves lines) ≡ paid_sum u lines + summed paid_of u moves lines
@@ -177,7 +198,7 @@ refunds_paid moves lines u all =
     let after = amount-paid (lines_after_all moves lines) u in
     omega (arith, sum, before, after)
 
-new_within : (rates : List Rate) → AreWithinEnd (new_lines rates)
+pub new_within : (rates : List Rate) → AreWithinEnd (new_lines rates)
 new_within [] = tt
 new_within (r ∷ rs) = (omega arith, new_within rs)
 
@@ -194,3 +215,23 @@ refunds_covered moves rates u =
     let sum = moves_paid moves (new_lines rates) u (new_within rates) in
     let none = new_unpaid rates u in
     omega (arith, sum, none)
+
+pub ends_kept : EndsAreKept
+ends_kept [] lines all = all
+ends_kept (m ∷ ms) lines all = ends_kept ms (lines_after m lines) (moved_within m lines all)
+
+pub moves_kept : MovesAreKept
+moves_kept m lines all = (
+  same_bundles _ _ (λ u.
+      let kept = move_kept m lines u all in
+      let inner = amount-merge unit_keys (paid_of m lines) (saturated_of m lines) u in
+      let both = amount-merge unit_keys (unspent_of m lines) (merge (paid_of m lines) (saturated_of m lines)) u in
+      omega (arith, kept, inner, both)),
+  same_bundles _ _ (λ u.
+      let sum = move_paid m lines u all in
+      let before = amount-paid lines u in
+      let after = amount-paid (lines_after m lines) u in
+      let left = amount-merge unit_keys (given_of m lines) (paid_goods (lines_after m lines)) u in
+      let right = amount-merge unit_keys (paid_goods lines) (paid_of m lines) u in
+      omega (arith, sum, before, after, left, right)),
+)

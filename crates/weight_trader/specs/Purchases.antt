@@ -1,6 +1,6 @@
 -- A trader's record, and what a purchase of weight does to it. Source: xcm-executor's documentation of traders (buying weight). More
--- rates than one, and the ends at which numbers stand, are this project's own rule.
-use Rattle.std.specs.Prelude.{◌≡◌, ℕ, zero, suc, ◌+◌, ◌-◌, ◌^◌, ◌<◌, ◌≤◌, min, Bool, IsTrue, nat_eq, nat_le, if◌then◌else◌, List, [], ◌∷◌, map, Option, Some, None}
+-- rates than one, and the ends at which numbers saturate, are this project's own rule.
+use Rattle.std.specs.Prelude.{◌≡◌, ℕ, zero, suc, ◌+◌, ◌-◌, ◌^◌, ◌<◌, ◌≤◌, min, Bool, IsTrue, nat_eq, nat_le, if◌then◌else◌, List, map, Option, Some, None}
 use Rattle.std.specs.List.{find, count_by, AllByRecursion}
 use Rattle.std.specs.Ordering.{eq_by_cmp}
 use Rattle.locations.specs.declared.relative.Location.{Location}
@@ -11,7 +11,9 @@ use Rattle.asset_lists.specs.declared.units.AssetId.{AssetId}
 use Rattle.asset_lists.specs.Units.{Unit}
 use Rattle.asset_bundles.specs.declared.book.Cause.{Cause}
 use Rattle.asset_bundles.specs.Bundles.{Bundle}
-use Rattle.asset_bundles.specs.Books.{Book, Booked, Listed, listed_of, lists}
+use Rattle.asset_bundles.specs.Books.{Book, Booked}
+use Rattle.asset_lists.specs.Listed.{Listed, listed_of, lists}
+use Rattle.plain_lists.specs.Firsts.{change_first}
 use Rattle.weight_trader.specs.declared.rate.Rate.{Rate}
 use Rattle.weight_trader.specs.Prices.{price}
 
@@ -53,16 +55,15 @@ AreApart lines = (asset : Location) → count_by (λ (line : Line). is_in asset 
 unfoldable pub paid_goods : List Line → Bundle
 paid_goods lines = from_rows (map (λ (line : Line). (coin_of line.rate, line.paid)) lines)
 
--- the book has a row for each rate's asset
-abbrev pub AreListed : Book → List Line → Type 0
-AreListed book lines = AllByRecursion (λ (line : Line). IsTrue (lists book.listed (listed_of (coin_of line.rate)))) lines
+-- the asset of each rate is listed
+abbrev pub AreRatesListed : List Listed → List Line → Type 0
+AreRatesListed listed lines = AllByRecursion (λ (line : Line). IsTrue (lists listed (listed_of (coin_of line.rate)))) lines
+
+-- no amount that is paid is above the most of an amount
+abbrev pub AreWithinEnd : List Line → Type 0
+AreWithinEnd lines = AllByRecursion (λ (line : Line). line.paid ≤ 2 ^ 128 - 1) lines
 
 -- ---- a purchase
-
--- the first that passes the test is changed
-abbrev pub change_first : {X : Type 0} → (X → Bool) → (X → X) → List X → List X
-change_first test change [] = []
-change_first test change (x ∷ xs) = if test x then change x ∷ xs else x ∷ change_first test change xs
 
 -- the payment has the price in the rate's asset
 abbrev pub is_covered : Weight → Bundle → Line → Bool
@@ -76,11 +77,11 @@ paying w payment lines = find (is_covered w payment) lines
 abbrev pub IsTooExpensive : Weight → Bundle → List Line → Type 0
 IsTooExpensive w payment lines = AllByRecursion (λ (line : Line). amount payment (coin_of line.rate) < price line.rate w) lines
 
--- more weight; a dimension stands at 2^64-1 where it would pass it
+-- more weight; each dimension saturates at 2^64-1
 abbrev pub weight_plus : Weight → Weight → Weight
 weight_plus v w = record { ref_time = min (v.ref_time + w.ref_time) (2 ^ 64 - 1); proof_size = min (v.proof_size + w.proof_size) (2 ^ 64 - 1) }
 
--- a line after weight is bought at it: nothing is recorded where the price is 0, and what is paid stands at 2^128-1 where it would pass it
+-- a line after weight is bought at it: nothing is recorded where the price is 0, and what is paid saturates at 2^128-1
 abbrev pub with_purchase : Weight → Line → Line
 with_purchase w line =
     if nat_eq (price line.rate w) 0
@@ -90,6 +91,19 @@ with_purchase w line =
 -- what would pass that
 abbrev pub excess : Weight → Line → ℕ
 excess w line = line.paid + price line.rate w - (2 ^ 128 - 1)
+
+-- an amount of an asset, if it isn't 0
+abbrev pub some_amount : Location → ℕ → Option (Location × ℕ)
+some_amount asset zero = None
+some_amount asset (suc n) = Some (asset, suc n)
+
+abbrev pub excess_at : Weight → Option Line → Option (Location × ℕ)
+excess_at w None = None
+excess_at w (Some line) = some_amount line.rate.asset (excess w line)
+
+-- what a purchase would book as saturated: the asset, and the amount in its smallest unit; none where that is 0
+abbrev pub excess_of : Weight → Bundle → List Line → Option (Location × ℕ)
+excess_of w payment lines = excess_at w (paying w payment lines)
 
 -- the record after a purchase
 unfoldable pub Bought : Weight → Bundle → List Line → List Line

@@ -9,7 +9,8 @@ use Rattle.amounts.specs.Amounts.{empty, single}
 use Rattle.asset_lists.specs.declared.units.AssetId.{AssetId}
 use Rattle.asset_bundles.specs.Bundles.{Bundle}
 use Rattle.weight_trader.specs.Prices.{price}
-use Rattle.weight_trader.specs.Purchases.{Line, new_line, change_first}
+use Rattle.plain_lists.specs.Firsts.{change_first}
+use Rattle.weight_trader.specs.Purchases.{Line, new_line}
 
 -- what can be given back of a weight: in each dimension at most what is bought
 abbrev pub least_weight : Weight → Weight → Weight

@@ -10,7 +10,4 @@ mod weighing;
 pub use laws::law_of_trading;
 pub use rate::{Rate, price};
 pub use trader::{TooExpensive, Trader};
-pub use weighing::{NotComputable, weigh};
-
-#[cfg(test)]
-mod tests;
+pub use weighing::{NotComputable, weigh, weigh_rest};

@@ -2,7 +2,7 @@
 ghost use Rattle.std.specs.Prelude.{◌≡◌, ◌≤◌, min};
 ghost use Rattle.amounts.specs.Amounts.{amount};
 ghost use Rattle.weight_trader.specs.Prices.{price};
-ghost use Rattle.weight_trader.specs.Purchases.{no_weight, new_line, coin_of, is_in, is_covered, with_purchase, excess, unspent_at};
+ghost use Rattle.weight_trader.specs.Purchases.{new_line, coin_of, is_in, is_covered, with_purchase, excess, unspent_at};
 ghost use Rattle.weight_trader.specs.Refunds.{refund_at, is_refunded, without_refund};
 ghost use Rattle.weight_trader.specs.Closing.{coins, is_paid};
 
@@ -44,18 +44,6 @@ impl Purchases {
             rate: rate.copy(),
             bought: NO_WEIGHT,
             paid: 0,
-        }
-    }
-
-    /// So much paid at this rate.
-    #[cfg(test)]
-    pub(crate) fn with_paid(rate: &Rate, paid: u128) -> Purchases
-        ensures { result ≡ record { rate = rate.now; bought = no_weight; paid = paid } }
-    {
-        Purchases {
-            rate: rate.copy(),
-            bought: NO_WEIGHT,
-            paid,
         }
     }
 
@@ -105,6 +93,14 @@ impl Purchases {
         price(&self.rate, weight) <= payment.amount(&id)
     }
 
+    /// What would pass 2^128-1 of what is paid, were the weight bought.
+    pub(crate) fn excess(&self, weight: Weight) -> u128
+        ensures { result ≡ excess weight self.now }
+    {
+        let room = u128::MAX - self.paid;
+        price(&self.rate, weight).saturating_sub(room)
+    }
+
     /// Takes the price of the weight, which the payment has, and records it. The answer is what would have passed 2^128-1 of what is
     /// paid.
     pub(crate) fn sell(&mut self, weight: Weight, payment: &mut AssetBundle) -> u128
@@ -113,16 +109,16 @@ impl Purchases {
         ensures payment { payment.new ≡ unspent_at weight payment.old self.old }
         ensures excess { result ≡ excess weight self.old }
     {
-        let room = u128::MAX - self.paid;
+        let above = self.excess(weight);
         let cost = price(&self.rate, weight);
         if cost == 0 {
-            return 0;
+            return above;
         }
         payment.spend(&self.coins(cost));
         self.bought.ref_time = self.bought.ref_time.saturating_add(weight.ref_time);
         self.bought.proof_size = self.bought.proof_size.saturating_add(weight.proof_size);
         self.paid = self.paid.saturating_add(cost);
-        cost.saturating_sub(room)
+        above
     }
 
     /// The part of the weight that is bought.

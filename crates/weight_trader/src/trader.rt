@@ -1,11 +1,11 @@
 //! Weight that is bought with what a chain's rates name, and given back.
-ghost use Rattle.std.specs.Prelude.{◌≡◌, [], ◌∷◌, None, IsTrue, IfOk, OnOk, OnErr, MatchOption, MatchResult};
+ghost use Rattle.std.specs.Prelude.{◌≡◌, None, IsTrue, IfOk, IfErr, OnOk, OnErr, MatchOption};
 ghost use Rattle.std.specs.List.{position};
 ghost use Rattle.amounts.specs.Amounts.{amount, single};
 ghost use Rattle.asset_lists.specs.declared.units.AssetId.TheVariants.{Concrete};
 ghost use Rattle.asset_lists.specs.declared.units.Kind.{Kind};
-ghost use Rattle.asset_bundles.specs.Books.{lists};
-ghost use Rattle.weight_trader.specs.Purchases.{no_weight, new_lines, coin_of, NameEachOnce, AreApart, AreListed, paid_goods, is_covered, IsTooExpensive, IsCharge, with_saturated, IsPurchase};
+ghost use Rattle.asset_lists.specs.Listed.{lists};
+ghost use Rattle.weight_trader.specs.Purchases.{new_lines, coin_of, NameEachOnce, AreApart, AreRatesListed, paid_goods, is_covered, some_amount, excess_of, AreWithinEnd, IsTooExpensive, IsCharge, with_saturated, IsPurchase};
 ghost use Rattle.weight_trader.specs.Refunds.{refund_at, is_refunded, refund_of, goods_of, Refunded, Closed};
 ghost use Rattle.weight_trader.specs.Closing.{paid_assets};
 
@@ -48,6 +48,17 @@ fn first_covered(lines: &[Purchases], weight: Weight, payment: &AssetBundle) -> 
     lines
         .iter()
         .position(|line| line.is_covered(weight, payment))
+}
+
+/// So much of the asset, if it isn't 0.
+#[tactic(auto, using(crate::proofs::Charging::amount_none, crate::proofs::Charging::amount_some))]
+fn some_amount(asset: Location, amount: u128) -> Option<(Location, u128)>
+    ensures { result ≡ some_amount asset amount }
+{
+    if amount == 0 {
+        return None;
+    }
+    Some((asset, amount))
 }
 
 /// Where the first line is that gives something back for the weight.
@@ -124,18 +135,10 @@ impl Trader {
     /// A trader with these rates, at which nothing is bought. No two rates name the same asset.
     pub fn new(alloc: Global, rates: &[Rate]) -> Result<Trader, AllocError>
         requires { NameEachOnce rates.now }
-        ensures { IfOk result (λ trader. trader ≡ new_lines rates.now) }
+        ensures lines { IfOk result (λ trader. trader ≡ new_lines rates.now) }
+        ensures ends { IfOk result (λ trader. AreWithinEnd trader) }
     {
         let lines = new_lines(alloc, rates)?;
-        Ok(Trader { lines })
-    }
-
-    /// A trader with one rate, at which so much is paid.
-    #[cfg(test)]
-    pub(crate) fn with_paid(alloc: Global, rate: &Rate, paid: u128) -> Result<Trader, AllocError>
-        ensures { IfOk result (λ trader. trader ≡ record { rate = rate.now; bought = no_weight; paid = paid } ∷ []) }
-    {
-        let lines = vec![in alloc; Purchases::with_paid(rate, paid)]?;
         Ok(Trader { lines })
     }
 
@@ -163,16 +166,29 @@ impl Trader {
         mut payment: AssetBundle,
         book: &mut BurnBook,
     ) -> Result<AssetBundle, (AssetBundle, TooExpensive)>
-        requires { AreListed book.old self.old }
-        ensures { MatchResult result
-            (λ left. IsPurchase weight payment self.old book.old left self.new book.new)
-            (λ refusal. (refusal.0 ≡ payment) × IsTooExpensive weight payment self.old × (self.new ≡ self.old) × (book.new ≡ book.old)) }
+        requires { AreRatesListed book.old.listed self.old }
+        ensures bought { IfOk result (λ left. IsPurchase weight payment self.old book.old left self.new book.new) }
+        ensures too_expensive { OnErr result (IsTooExpensive weight payment self.old) }
+        ensures handed_back { IfErr result (λ refusal. refusal.0 ≡ payment) }
+        ensures unchanged { OnErr result (self.new ≡ self.old) }
+        ensures book_unchanged { OnErr result (book.new ≡ book.old) }
     {
         let Some((id, excess)) = self.charge(weight, &mut payment) else {
             return Err((payment, TooExpensive));
         };
         book_excess(book, &id, excess);
         Ok(payment)
+    }
+
+    /// What `buy` would book as saturated: the asset, and the amount in its smallest unit. None where it would book nothing.
+    pub fn excess_of(&self, weight: Weight, payment: &AssetBundle) -> Option<(Location, u128)>
+        ensures { result ≡ excess_of weight payment.now self.now }
+    {
+        let Some(place) = first_covered(self.lines.as_slice(), weight, payment) else {
+            return None;
+        };
+        let line = &self.lines[place];
+        some_amount(line.asset(), line.excess(weight))
     }
 
     /// What would be given back for the weight: the asset, and the amount in its smallest unit. None where each line gives nothing.
@@ -183,7 +199,7 @@ impl Trader {
         Some((line.asset(), line.refund_amount(weight)))
     }
 
-    /// Gives back what `refund_of` says, and nothing where it says none. An `Err` is want of memory and changes nothing.
+    /// Gives back what `refund_of` says, and nothing where it says none. An `Err` is out of memory and changes nothing.
     pub fn refund(&mut self, weight: Weight) -> Result<AssetBundle, AllocError>
         ensures goods { IfOk result (λ goods. goods ≡ goods_of (refund_of weight self.old)) }
         ensures lines { OnOk result (self.new ≡ Refunded weight self.old) }
@@ -198,7 +214,7 @@ impl Trader {
         Ok(goods)
     }
 
-    /// Hands out all that is still paid, and forgets what was bought. An `Err` is want of memory and changes nothing.
+    /// Hands out all that is still paid, and forgets what was bought. An `Err` is out of memory and changes nothing.
     pub fn close(&mut self) -> Result<AssetBundle, AllocError>
         ensures goods { IfOk result (λ goods. goods ≡ paid_goods self.old) }
         ensures lines { OnOk result (self.new ≡ Closed self.old) }

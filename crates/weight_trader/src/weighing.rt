@@ -1,14 +1,12 @@
 //! What programs weigh.
 ghost use Rattle.std.specs.Prelude.{◌≡◌, ◌<◌, ◌+◌, ◌^◌, Some, None, MatchResult};
-ghost use Rattle.std.specs.Option.{option_copied};
-ghost use Rattle.xcm_program.specs.declared.instruction.Instruction.{out-Instruction};
-ghost use Rattle.xcm_program.specs.Measure.{count_of};
-ghost use Rattle.xcm_program.specs.Weights.{kept, required, weight_of};
-ghost use Rattle.weight_trader.specs.Sums.{IsSum};
+ghost use Rattle.xcm_program.specs.Measure.{deep_count};
+ghost use Rattle.xcm_program.specs.Weights.{weight_of, ref_time_of, proof_size_of};
+ghost use Rattle.weight_trader.specs.Sums.{IsSum, weight_sum};
 
 use message_parts::Weight;
 use thiserror::Error;
-use xcm_program::{Instruction, Program, WeightRule};
+use xcm_program::{Instruction, Program, WeightRule, kept, required};
 
 /// The program has no weight: a dimension passes 2^64-1, or more instructions are counted than the rule allows.
 #[derive(Clone, Copy, Debug, PartialEq, Eq, Error)]
@@ -53,41 +51,15 @@ impl Sums {
     }
 }
 
-/// The handler or the appendix that an instruction sets.
-fn kept(instruction: &Instruction) -> Option<&Program>
-    ensures { option_copied result ≡ kept (out-Instruction instruction.now) }
-{
-    match instruction {
-        Instruction::SetErrorHandler { xcm } | Instruction::SetAppendix { xcm } => Some(xcm),
-        _ => None,
-    }
-}
-
-/// The most that the call of an instruction may weigh, beside the instruction itself.
-fn required(instruction: &Instruction) -> Weight
-    ensures { result ≡ required (out-Instruction instruction.now) }
-{
-    match instruction {
-        Instruction::Transact {
-            require_weight_at_most,
-            ..
-        } => *require_weight_at_most,
-        _ => Weight {
-            ref_time: 0,
-            proof_size: 0,
-        },
-    }
-}
-
-/// The sums over a program in which each instruction weighs one unit.
-fn sum_up(program: &Program, unit: Weight) -> Sums
-    requires { count_of program.now < 2 ^ 32 }
+/// The sums over instructions of which each weighs one unit.
+fn sum_up(program: &[Instruction], unit: Weight) -> Sums
+    requires { deep_count program.now < 2 ^ 32 }
     ensures { IsSum unit program.now result.instructions result.ref_time result.proof_size }
 {
     let mut sums = NOTHING;
-    for instruction in program.items() {
+    for instruction in program {
         let inside = match kept(instruction) {
-            Some(xcm) => sum_up(xcm, unit),
+            Some(xcm) => sum_up(xcm.items(), unit),
             None => NOTHING,
         };
         sums = sums.plus(unit, required(instruction), inside);
@@ -97,12 +69,12 @@ fn sum_up(program: &Program, unit: Weight) -> Sums
 
 /// What the program weighs by this rule. It must hold fewer than 2^32 instructions, nested ones counted.
 pub fn weigh(program: &Program, rule: &WeightRule) -> Result<Weight, NotComputable>
-    requires { count_of program.now < 2 ^ 32 }
+    requires { deep_count program.now < 2 ^ 32 }
     ensures { MatchResult result
         (λ weight. weight_of rule.now program.now ≡ Some weight)
         (λ _. weight_of rule.now program.now ≡ None) }
 {
-    let sums = sum_up(program, rule.unit);
+    let sums = sum_up(program.items(), rule.unit);
     if sums.instructions > rule.max_instructions {
         return Err(NotComputable);
     }
@@ -116,4 +88,19 @@ pub fn weigh(program: &Program, rule: &WeightRule) -> Result<Weight, NotComputab
         ref_time,
         proof_size,
     })
+}
+
+/// What the instructions that are left of a program weigh by this rule, in time linear in all of them. There must be fewer than 2^32,
+/// nested ones counted, and their weight must be below 2^64 in each dimension.
+pub fn weigh_rest(rest: &[Instruction], rule: &WeightRule) -> Weight
+    requires few { deep_count rest.now < 2 ^ 32 }
+    requires short { ref_time_of rule.now rest.now < 2 ^ 64 }
+    requires small { proof_size_of rule.now rest.now < 2 ^ 64 }
+    ensures { result ≡ weight_sum rule.now rest.now }
+{
+    let sums = sum_up(rest, rule.unit);
+    Weight {
+        ref_time: sums.ref_time as u64,
+        proof_size: sums.proof_size as u64,
+    }
 }

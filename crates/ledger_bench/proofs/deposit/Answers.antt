@@ -4,9 +4,9 @@ use Rattle.asset_lists.specs.declared.units.AssetId.TheVariants.{Concrete}
 use Rattle.asset_lists.specs.declared.units.Fun.TheVariants.{Fungible}
 use Rattle.locations.specs.declared.relative.Location.{Location}
 use Rattle.asset_bundles.specs.Bundles.{bundle_of}
-use Rattle.asset_bundles.specs.Books.{Listed}
-use Rattle.ledgers.specs.Ledgers.{AreListed}
-use Rattle.ledgers.proofs.Opening.{are_listed}
+use Rattle.asset_lists.specs.Listed.{Listed}
+use Rattle.asset_bundles.specs.Books.{AreListed}
+use Rattle.asset_bundles.specs.Laws.{listed_list}
 use Rattle.ledger_bench.proofs.deposit.Goals as goal
 
 here : Location
@@ -17,8 +17,9 @@ listed = (Concrete here, Kind.Fungible) ∷ []
 
 pub deposit-requires : goal.deposit-requires
 unfolding here listed
-deposit-requires c =
-    subst (λ assets. AreListed assets c.in_ok-goods.goods) (sym c.requires)
-    (subst (AreListed listed) (sym c.in_ok-goods.ensures)
-    (subst (λ place. AreListed listed (bundle_of ((record { id = Concrete place; fun = Fungible 1 }) ∷ []))) (sym c.here.ensures)
-    (are_listed listed ((record { id = Concrete here; fun = Fungible 1 }) ∷ []) refl)))
+deposit-requires c = record {
+  listed = subst (λ assets. AreListed assets c.in_ok-goods.goods) (sym c.requires)
+      (subst (AreListed listed) (sym c.in_ok-goods.ensures)
+      (subst (λ place. AreListed listed (bundle_of ((record { id = Concrete place; fun = Fungible 1 }) ∷ []))) (sym c.here.ensures)
+      (listed_list listed ((record { id = Concrete here; fun = Fungible 1 }) ∷ []) refl)));
+}

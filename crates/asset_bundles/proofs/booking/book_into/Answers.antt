@@ -1,6 +1,6 @@
 use Rattle.std.proofs.Common.{◌≡◌, ◌<◌, length, ap, ◌∙◌, arith}
 use Rattle.std.specs.List.{prefix_len}
-use Rattle.asset_bundles.specs.Books.{Listed}
+use Rattle.asset_lists.specs.Listed.{Listed}
 use Rattle.asset_bundles.specs.BookRows.{is_other_row}
 use Rattle.asset_bundles.proofs.Burning.{booked_nowhere, booked_set}
 use Rattle.asset_bundles.proofs.booking.book_into.Goals as goal

@@ -1,6 +1,6 @@
 use Rattle.std.proofs.Common.{◌≡◌, take}
 use Rattle.asset_bundles.specs.declared.book.Cause.{Cause}
-use Rattle.asset_bundles.specs.Books.{Listed}
+use Rattle.asset_lists.specs.Listed.{Listed}
 use Rattle.asset_bundles.specs.BookRows.{keys_in, total_at}
 use Rattle.asset_bundles.proofs.booking.new_rows.Given as goal
 

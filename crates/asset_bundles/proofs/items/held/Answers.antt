@@ -4,7 +4,7 @@ use Rattle.asset_bundles.proofs.items.held.Goals as goal
 
 pub returns-then-is_same_unit : goal.returns-then-is_same_unit
 returns-then-is_same_unit c =
-    c.amount_of.ensures ∙ found_here _ _ c.loop-item.item-index _ c.loop-item-test.true c.item-item.is (sym c.is_same_unit.ensures ∙ c.if-is_same_unit.true) c.loop-item.invariant
+    c.amount.ensures ∙ found_here _ _ c.loop-item.item-index _ c.loop-item-test.true c.item-item.is (sym c.is_same_unit.ensures ∙ c.if-is_same_unit.true) c.loop-item.invariant
 
 pub loop-item-preserved : goal.loop-item-preserved
 loop-item-preserved c =

@@ -1,9 +1,6 @@
 use Rattle.std.proofs.Common.{◌≡◌, ◌++◌, take}
-use Rattle.asset_bundles.specs.Portions.{changed, new_to, AreWithinMost}
+use Rattle.asset_bundles.specs.Portions.{changed, new_to}
 use Rattle.asset_bundles.proofs.joining.push_new.Given as goal
 
 abbrev pub invariant-loop-item : goal.invariant-loop-item
-invariant-loop-item l = record {
-  list : l.list.items ≡ l.fn.list.items ++ changed (new_to l.items) (take l.item-index l.more);
-  within : AreWithinMost (take l.item-index l.more);
-}
+invariant-loop-item l = l.list.items ≡ l.fn.list.items ++ changed (new_to l.items) (take l.item-index l.more)

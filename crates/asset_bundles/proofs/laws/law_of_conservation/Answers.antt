@@ -1,7 +1,16 @@
 use Rattle.amounts.specs.Laws.{total-difference}
 use Rattle.asset_bundles.specs.Bundles.{unit_keys}
-use Rattle.asset_bundles.specs.Laws.{joined_conserves, burned_conserves, taken_conserves, landed_conserves}
+use Rattle.asset_bundles.specs.Laws.{joined_conserves, joined_total, given_up_total, burned_conserves, added_conserves, taken_conserves, landed_conserves}
 use Rattle.asset_bundles.proofs.laws.law_of_conservation.Goals as goal
 
 pub returns : goal.returns
-returns c = record { joined = joined_conserves; burned = burned_conserves; cut = total-difference unit_keys; taken = taken_conserves; landed = landed_conserves }
+returns c = record {
+  joined = joined_conserves;
+  joined_units = joined_total;
+  given_up = given_up_total;
+  burned = burned_conserves;
+  added = added_conserves;
+  cut = total-difference unit_keys;
+  taken = taken_conserves;
+  landed = landed_conserves;
+}

@@ -21,7 +21,7 @@ returns-then-left-eq0 c =
     let inside : c.place_of-place.result < length xs = omega (arith, c.len.ensures, c.if-place-len.false) in
     let at : c.index-item.result.now ≡ get_or xs c.place_of-place.result c.index-item.result.now = search rules in
     c.remove.ensures.items ∙ spent_removed u (amount_of c.args.asset.now) xs c.place_of-place.result c.index-item.result.now place inside at
-    (omega (arith, c.saturating_sub-left.ensures, c.amount_of.ensures, c.amount_of-2.ensures, c.if-left-eq0.true))
+    (omega (arith, c.saturating_sub-left.ensures, c.amount.ensures, c.amount-2.ensures, c.if-left-eq0.true))
 
 pub returns : goal.returns
 returns c =
@@ -32,6 +32,6 @@ returns c =
     let place : c.place_of-place.result ≡ prefix_len (is_other u) xs = c.place_of-place.ensures.place ∙ ap (prefix_len (is_other u)) c.as_slice.ensures.value in
     let inside : c.place_of-place.result < length xs = omega (arith, c.len.ensures, c.if-place-len.false) in
     let at : b ≡ get_or xs c.place_of-place.result b = search rules in
-    let left : c.saturating_sub-left.result ≡ amount_of b - n = omega (arith, c.saturating_sub-left.ensures, c.amount_of.ensures, c.amount_of-2.ensures) in
+    let left : c.saturating_sub-left.result ≡ amount_of b - n = omega (arith, c.saturating_sub-left.ensures, c.amount.ensures, c.amount-2.ensures) in
     let some : 0 < amount_of b - n = omega (arith, left, c.if-left-eq0.false) in
     ap (slice_set xs c.place_of-place.result) (c.with_amount-rest.ensures ∙ ap (asset_with b) left) ∙ spent_set u n xs c.place_of-place.result b place inside at some

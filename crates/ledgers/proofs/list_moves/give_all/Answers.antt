@@ -4,7 +4,7 @@ use Rattle.std.proofs.lemmas.Bool.{and_parts}
 use Rattle.amounts.specs.Amounts.{plus_all}
 use Rattle.asset_lists.specs.Units.{unit_of, amount_of}
 use Rattle.asset_lists.specs.Lists.{is_rising}
-use Rattle.asset_bundles.specs.Books.{listed_of, lists}
+use Rattle.asset_lists.specs.Listed.{listed_of, lists}
 use Rattle.ledgers.specs.RowState.{rows_held}
 use Rattle.ledgers.specs.AccountRows.{account_rows, MayTakeAll}
 use Rattle.ledgers.proofs.AccountMoves.{at_place, past_end, may_later, once_first, rising_rest, plus_first, plus_none, rows_then, room_stays, number_there, slice_here}

@@ -3,7 +3,7 @@ use Rattle.std.specs.List.{list_all}
 use Rattle.amounts.specs.Amounts.{plus_all}
 use Rattle.asset_lists.specs.Units.{unit_of}
 use Rattle.asset_lists.specs.Lists.{is_rising}
-use Rattle.asset_bundles.specs.Books.{listed_of, lists}
+use Rattle.asset_lists.specs.Listed.{listed_of, lists}
 use Rattle.ledgers.specs.RowState.{rows_held, AreSound, KeepsRows}
 use Rattle.ledgers.specs.AccountRows.{account_rows, MayTakeAll}
 use Rattle.ledgers.proofs.list_moves.give_all.Given as goal

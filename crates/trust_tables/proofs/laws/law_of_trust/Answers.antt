@@ -1,4 +1,4 @@
-use Rattle.trust_tables.specs.TrustLaws.{is_row_of_says, row_at-position, is_reserve_says, is_partner_says}
+use Rattle.trust_tables.specs.TrustLaws.{is_row_of_says, row_at-position, is_reserve_says, is_partner_says, row_found}
 use Rattle.trust_tables.proofs.laws.law_of_trust.Goals as goal
 
 pub returns-clause-row : goal.returns-clause-row
@@ -12,3 +12,6 @@ returns-clause-reserve c = is_reserve_says
 
 pub returns-clause-partner : goal.returns-clause-partner
 returns-clause-partner c = is_partner_says
+
+pub returns-clause-found : goal.returns-clause-found
+returns-clause-found c = row_found

@@ -1,5 +1,6 @@
-use Rattle.std.proofs.Common.{Some, None, arith, sym, subst}
+use Rattle.std.proofs.Common.{Some, None, arith, ap, sym, subst}
 use Rattle.weight_trader.specs.declared.weighing.Sums.{Sums}
+use Rattle.xcm_program.specs.Measure.{deep_count}
 use Rattle.weight_trader.proofs.Kept.{IsSumInside, Inside, inside_some, inside_none, count-kept, sum_fits, sum_more}
 use Rattle.weight_trader.proofs.weighing.+sum_up.Goals as goal
 use Rattle.weight_trader.proofs.weighing.+sum_up.Goals.{in-Some, in-None}
@@ -8,7 +9,8 @@ pub sum_up-inside-requires : goal.sum_up-inside-requires
 sum_up-inside-requires t c =
     let n = count-kept _ _ _ (Some c.in-Some.xcm.now) c.loop-instruction-test.true c.instruction-item.is (rw c.in-Some.is at c.kept.ensures) in
     let e = c.loop-instruction.invariant.few in
-    (omega (arith, n, e), omega (arith, n, e))
+    let s = ap deep_count c.items.ensures in
+    (omega (arith, n, e, s), omega (arith, n, e, s))
 
 pub plus-sums-requires : goal.plus-sums-requires
 plus-sums-requires t c =
@@ -17,7 +19,7 @@ plus-sums-requires t c =
       | in-Some w ↦ (
         Some w.in-Some.xcm.now,
         rw w.in-Some.is at c.kept.ensures,
-        subst (λ (s : Sums). IsSumInside c.args.unit (Some w.in-Some.xcm.now) s.instructions s.ref_time s.proof_size) (sym w.inside-is) (inside_some _ _ _ _ _ w.sum_up-inside.ensures),
+        subst (λ (s : Sums). IsSumInside c.args.unit (Some w.in-Some.xcm.now) s.instructions s.ref_time s.proof_size) (sym w.inside-is) (inside_some _ _ _ _ _ _ w.items.ensures w.sum_up-inside.ensures),
       )
       | in-None w ↦ (
         None,
@@ -35,7 +37,7 @@ loop-instruction-preserved t c =
       | in-Some w ↦ (
         Some w.in-Some.xcm.now,
         rw w.in-Some.is at c.kept.ensures,
-        subst (λ (s : Sums). IsSumInside c.args.unit (Some w.in-Some.xcm.now) s.instructions s.ref_time s.proof_size) (sym w.inside-is) (inside_some _ _ _ _ _ w.sum_up-inside.ensures),
+        subst (λ (s : Sums). IsSumInside c.args.unit (Some w.in-Some.xcm.now) s.instructions s.ref_time s.proof_size) (sym w.inside-is) (inside_some _ _ _ _ _ _ w.items.ensures w.sum_up-inside.ensures),
       )
       | in-None w ↦ (
         None,

@@ -1,6 +1,7 @@
 use Rattle.std.proofs.Common.{◌≡◌, true, ap, sym, subst, ◌∙◌}
 use Rattle.amounts.specs.Amounts.{single}
-use Rattle.asset_bundles.specs.Books.{Listed, Booked, lists}
+use Rattle.asset_bundles.specs.Books.{Booked}
+use Rattle.asset_lists.specs.Listed.{Listed, lists}
 use Rattle.asset_bundles.specs.BookRows.{book_of, keys_in}
 use Rattle.asset_bundles.proofs.Burning.{booked_stands, booked_is}
 use Rattle.asset_bundles.proofs.book.BurnBook.add.Goals as goal

@@ -4,14 +4,15 @@ use Rattle.amounts.specs.Rows.{rows_at}
 use Rattle.amounts.specs.Amounts.{from_rows}
 use Rattle.asset_lists.specs.Units.{Unit, unit_of}
 use Rattle.asset_bundles.specs.Bundles.{rows_of}
-use Rattle.asset_bundles.specs.Books.{Booked, Covers, burned_for, listed_of, lists}
-use Rattle.asset_bundles.proofs.BookedAll.{all_covered, burned_rows}
+use Rattle.asset_bundles.specs.Books.{Booked, AreListed, burned_for}
+use Rattle.asset_lists.specs.Listed.{listed_of, lists}
+use Rattle.asset_bundles.proofs.BookedAll.{all_listed, burned_rows}
 use Rattle.asset_bundles.proofs.bundle.AssetBundle.burn.Goals as goal
 
 pub book_all-requires : goal.book_all-requires
 book_all-requires c =
     subst (λ xs. list_all (λ a. lists c.args.book.now.listed (listed_of (unit_of a))) xs ≡ true) (sym c.as_slice.ensures.value)
-    (all_covered c.args.book.now c.self.inside.items.items c.self.invariant (subst (Covers c.args.book.now) (sym c.self.view_is) c.requires))
+    (all_listed c.args.book.now c.self.inside.items.items c.self.invariant (subst (AreListed c.args.book.now.listed) (sym c.self.view_is) c.requires))
 
 pub returns : goal.returns
 returns c =

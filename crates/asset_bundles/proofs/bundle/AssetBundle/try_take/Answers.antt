@@ -1,27 +1,26 @@
-use Rattle.std.proofs.Common.{◌≡◌, sym, ap, subst, ◌∙◌}
-use Rattle.amounts.specs.Amounts.{difference}
-use Rattle.asset_bundles.specs.Bundles.{bundle_of, IsHolding}
-use Rattle.asset_bundles.specs.Portions.{changed, left_of}
+use Rattle.std.proofs.Common.{ap, sym, subst, ◌∙◌}
+use Rattle.amounts.specs.Amounts.{merge, difference}
+use Rattle.amounts.specs.Laws.{merge-difference}
+use Rattle.asset_bundles.specs.Bundles.{unit_keys, bundle_of, IsHolding}
+use Rattle.asset_bundles.specs.Joins.{IsWithinMost}
+use Rattle.asset_bundles.specs.Portions.{AreWithinMost}
 use Rattle.asset_bundles.proofs.Listing.{holding_of_list}
-use Rattle.asset_bundles.proofs.Parts.{is_cut}
+use Rattle.asset_bundles.proofs.Sums.{within_most_of, whole_again}
 use Rattle.asset_bundles.proofs.bundle.AssetBundle.try_take.Goals as goal
 
-pub invariant_of-result : goal.invariant_of-result
-invariant_of-result c = subst IsHolding (sym (c.in-Ok.ensures.0 ∙ c.items.ensures.value)) (holding_of_list c.args.list.now c.items.ensures.list)
+pub cut-requires-clause-asked : goal.cut-requires-clause-asked
+cut-requires-clause-asked c = subst IsHolding (sym c.items.ensures.value) (holding_of_list c.args.list.now c.items.ensures.list)
 
-pub invariant_of-self : goal.invariant_of-self
-invariant_of-self c =
-    let xs = c.self.inside.items.items in
-    let rest : c.in-Ok.left.items ≡ changed (left_of c.args.list.now) xs =
-    c.in-Ok.ensures.1 ∙ ap (λ ys. changed (left_of c.items.result.now) ys) c.as_slice.ensures.value ∙ ap (λ ys. changed (left_of ys) xs) c.items.ensures.value in
-    (is_cut xs c.args.list.now _ (holding_of_list c.args.list.now c.items.ensures.list) c.self.invariant rest).left_holds
+pub returns-clause-whole : goal.returns-clause-whole
+returns-clause-whole c =
+    whole_again _ _ _ _ _ c.in_ok-taken.ensures.left c.in_ok-taken.ensures.taken
+    ((λ i. merge (difference ((ap bundle_of c.as_slice-2.ensures.value ∙ c.self.view_is) i) (bundle_of (c.items.ensures.value i))) (bundle_of (c.items.ensures.value i)))
+    ∙ merge-difference unit_keys c.args.self.now (bundle_of c.args.list.now) (c.contains.ensures.0 c.if-not-contains.false))
 
-pub returns-in-Ok : goal.returns-in-Ok
-returns-in-Ok c =
-    let xs = c.self.inside.items.items in
-    let rest : c.in-Ok.left.items ≡ changed (left_of c.args.list.now) xs =
-    c.in-Ok.ensures.1 ∙ ap (λ ys. changed (left_of c.items.result.now) ys) c.as_slice.ensures.value ∙ ap (λ ys. changed (left_of ys) xs) c.items.ensures.value in (
-      c.contains.ensures.0 c.if-not-contains.false,
-      ap bundle_of (c.in-Ok.ensures.0 ∙ c.items.ensures.value),
-      (is_cut xs c.args.list.now _ (holding_of_list c.args.list.now c.items.ensures.list) c.self.invariant rest).left_is ∙ ap (λ b. difference b (bundle_of c.args.list.now)) c.self.view_is,
-    )
+pub returns-clause-fits_back : goal.returns-clause-fits_back
+returns-clause-fits_back c =
+    subst IsWithinMost
+    (sym (whole_again _ _ _ _ _ c.in_ok-taken.ensures.left c.in_ok-taken.ensures.taken
+    ((λ i. merge (difference ((ap bundle_of c.as_slice-2.ensures.value ∙ c.self.view_is) i) (bundle_of (c.items.ensures.value i))) (bundle_of (c.items.ensures.value i)))
+    ∙ merge-difference unit_keys c.args.self.now (bundle_of c.args.list.now) (c.contains.ensures.0 c.if-not-contains.false))))
+    (within_most_of c.args.self.now c.self.inside.items.items c.self.invariant (subst AreWithinMost c.as_slice.ensures.value c.amounts_fit.ensures) c.self.view_is)

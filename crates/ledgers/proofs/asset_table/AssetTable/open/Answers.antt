@@ -1,13 +1,13 @@
 use Rattle.std.proofs.Common.{map, ◌++◌, sym, ap, ◌∙◌}
 use Rattle.ledgers.specs.declared.listed_asset.ListedAsset.{ListedAsset}
-use Rattle.ledgers.specs.AssetTable.{keys_in}
-use Rattle.ledgers.specs.Ledgers.{listed_row}
+use Rattle.ledgers.specs.AssetTable.{table_keys}
+use Rattle.ledgers.specs.Ledgers.{listed_pair}
 use Rattle.ledgers.proofs.Tables.{one_more_asset}
 use Rattle.ledgers.proofs.asset_table.AssetTable.open.Goals as goal
 
 pub loop-id-preserved : goal.loop-id-preserved
 loop-id-preserved c =
     let asset : ListedAsset = record { id = c.in-Some.id; kind = c.in-Some.kind } in
-    ap (λ xs. keys_in xs ++ map listed_row c.next.new.self.rest.items) c.in_ok-insert.ensures.keys
-    ∙ one_more_asset (map listed_row c.args.list.items) c.requires c.loop-id.assets.keys asset (map listed_row c.next.new.self.rest.items)
-    (ap (λ xs. keys_in c.loop-id.assets.keys ++ map listed_row xs) (sym c.in-Some.ensures.steps.0) ∙ c.loop-id.invariant)
+    ap (λ xs. table_keys xs ++ map listed_pair c.next.new.self.rest.items) c.in_ok-insert.ensures.keys
+    ∙ one_more_asset (map listed_pair c.args.list.items) c.requires.distinct c.loop-id.assets.keys asset (map listed_pair c.next.new.self.rest.items)
+    (ap (λ xs. table_keys c.loop-id.assets.keys ++ map listed_pair xs) (sym c.in-Some.ensures.steps.0) ∙ c.loop-id.invariant)

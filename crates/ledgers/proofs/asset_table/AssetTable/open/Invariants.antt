@@ -1,7 +1,7 @@
 use Rattle.std.proofs.Common.{◌≡◌, ◌++◌, map}
-use Rattle.ledgers.specs.AssetTable.{keys_in}
-use Rattle.ledgers.specs.Ledgers.{listed_row}
+use Rattle.ledgers.specs.AssetTable.{table_keys}
+use Rattle.ledgers.specs.Ledgers.{listed_pair}
 use Rattle.ledgers.proofs.asset_table.AssetTable.open.Given as goal
 
 abbrev pub invariant-loop-id : goal.invariant-loop-id
-invariant-loop-id l = keys_in l.assets.keys ++ map listed_row l.id-iterator.rest.items ≡ map listed_row l.fn.list.items
+invariant-loop-id l = table_keys l.assets.keys ++ map listed_pair l.id-iterator.rest.items ≡ map listed_pair l.fn.list.items

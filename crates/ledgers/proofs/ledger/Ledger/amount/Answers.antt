@@ -7,6 +7,7 @@ use Rattle.ledgers.proofs.Reading.{fungible_part}
 use Rattle.ledgers.proofs.ledger.Ledger.amount.Goals as goal
 
 pub returns : goal.returns
-returns c =
-    c.part.ensures ∙ fungible_part (rows_held c.self.inside.rows) c.args.who.now c.args.id.now
-    ∙ ap (λ (l : Accounts). amount l.held (c.args.who.now, (c.args.id.now, None))) c.self.view_is
+returns c = record {
+  amount = c.part.ensures ∙ fungible_part (rows_held c.self.inside.rows) c.args.who.now c.args.id.now
+      ∙ ap (λ (l : Accounts). amount l.held (c.args.who.now, (c.args.id.now, None))) c.self.view_is;
+}

@@ -2,11 +2,13 @@ use Rattle.std.proofs.Common.{◌≡◌, true, ap, sym, ◌∙◌, subst}
 use Rattle.std.specs.List.{list_all}
 use Rattle.asset_lists.specs.Units.{unit_of}
 use Rattle.asset_lists.specs.Lists.{is_rising}
-use Rattle.asset_bundles.specs.Bundles.{held_assets}
-use Rattle.asset_bundles.specs.Books.{listed_of, lists}
+use Rattle.asset_bundles.specs.Bundles.{bundle_of, held_assets}
+use Rattle.asset_lists.specs.Listed.{listed_of, lists}
 use Rattle.ledgers.specs.Ledgers.{Accounts, barred, Deposited}
-use Rattle.ledgers.specs.RowState.{rows_held, accounts_of}
+use Rattle.ledgers.specs.LedgerFaults.{IsFirstBarred}
+use Rattle.ledgers.specs.RowState.{rows_held, accounts_in}
 use Rattle.ledgers.specs.AccountRows.{MayTakeAll, HasAllRoom}
+use Rattle.ledgers.proofs.Numbers.{at_none}
 use Rattle.ledgers.proofs.Holding.{held_rises}
 use Rattle.ledgers.proofs.AccountMoves.{plus_whole}
 use Rattle.ledgers.proofs.Opening.{goods_listed, may_all}
@@ -16,7 +18,7 @@ pub give_all-requires-clause-listed : goal.give_all-requires-clause-listed
 give_all-requires-clause-listed c =
     let assets = c.as_slice-3.ensures.value ∙ c.in-Ok.ensures.listed in
     let listed = c.make_all_room.ensures.stay.assets ∙ ap (λ (l : Accounts). l.listed) c.self.view_is in
-    let all = goods_listed c.args.self.now.listed c.args.goods c.requires in
+    let all = goods_listed c.args.self.now.listed c.args.goods c.requires.listed in
     subst (λ xs. list_all (λ a. lists c.make_all_room.new.rows.assets (listed_of (unit_of a))) xs ≡ true) (sym assets)
     (subst (λ l. list_all (λ a. lists l (listed_of (unit_of a))) (held_assets c.args.goods) ≡ true) (sym listed) all)
 
@@ -28,7 +30,7 @@ pub give_all-requires-clause-may : goal.give_all-requires-clause-may
 give_all-requires-clause-may c =
     subst (λ h. MayTakeAll h c.args.who.now c.as_slice-3.result.now) (sym c.make_all_room.ensures.held)
     (subst (MayTakeAll (rows_held c.self.inside.rows) c.args.who.now) (c.as_slice.ensures.value ∙ sym c.as_slice-3.ensures.value)
-    (may_all (rows_held c.self.inside.rows) c.args.who.now c.as_slice.result.now c.in-None.ensures))
+    (may_all (rows_held c.self.inside.rows) c.args.who.now c.as_slice.result.now (at_none (IsFirstBarred (rows_held c.self.inside.rows) c.args.who.now c.as_slice.result.now) c.barred.result c.in_default-barred.not-Some c.barred.ensures)))
 
 pub give_all-requires-clause-once : goal.give_all-requires-clause-once
 give_all-requires-clause-once c =
@@ -41,11 +43,15 @@ returns c =
     let who = c.args.who.now in
     let given = c.as_slice-3.result.now in
     let first = c.as_slice.ensures.value ∙ c.in-Ok.ensures.listed in
-    let same = c.as_slice-3.ensures.value ∙ c.in-Ok.ensures.listed in
+    let whole = ap bundle_of c.as_slice-3.ensures.value ∙ c.in-Ok.ensures.bundle in
     let was = c.self.view_is in
     let listed = c.give_all.ensures.assets ∙ c.make_all_room.ensures.stay.assets in
-    let held = c.give_all.ensures.held ∙ plus_whole (rows_held c.make_all_room.new.rows) who given ∙ ap (λ h. (Deposited who given (record { listed = rows.assets; held = h })).held) c.make_all_room.ensures.held in
-    let moved : accounts_of c.give_all.new.rows ≡ Deposited who given (accounts_of rows) = λ i. record { listed = listed i; held = held i } in (
-      ap (λ (l : Accounts). barred l.held who (held_assets c.args.goods)) (sym was) ∙ ap (barred (rows_held rows) who) (sym first) ∙ c.in-None.ensures,
-      moved ∙ ap (λ xs. Deposited who xs (accounts_of rows)) same ∙ ap (Deposited who (held_assets c.args.goods)) was,
-    )
+    let held = c.give_all.ensures.held ∙ plus_whole (rows_held c.make_all_room.new.rows) who given ∙ ap (λ h. (Deposited who (bundle_of given) (record { listed = rows.assets; held = h })).held) c.make_all_room.ensures.held in
+    let moved : accounts_in c.give_all.new.rows ≡ Deposited who (bundle_of given) (accounts_in rows) = λ i. record { listed = listed i; held = held i } in
+    record {
+      free = ap (λ (l : Accounts). barred l.held who (held_assets c.args.goods)) (sym was) ∙ ap (barred (rows_held rows) who) (sym first) ∙ at_none (IsFirstBarred (rows_held c.self.inside.rows) c.args.who.now c.as_slice.result.now) c.barred.result c.in_default-barred.not-Some c.barred.ensures;
+      deposited = moved ∙ ap (λ goods. Deposited who goods (accounts_in rows)) whole ∙ ap (Deposited who c.args.goods) was;
+      back = tt;
+      fault = tt;
+      kept = tt;
+    }

@@ -1,7 +1,7 @@
 use Rattle.std.proofs.Common.{◌≡◌, ℕ, ◌-◌, refl, sym, ap, ◌∙◌, arith}
 use Rattle.std.specs.Prelude.{Option, None, Some}
 use Rattle.asset_lists.specs.Units.{instance_in}
-use Rattle.asset_bundles.specs.Books.{listed_of}
+use Rattle.asset_lists.specs.Listed.{listed_of}
 use Rattle.ledgers.specs.Sums.{sum_value}
 use Rattle.ledgers.proofs.Numbers.{number_at}
 use Rattle.ledgers.proofs.RowChanges.{held_listed, row_at_least, sum_at_least, taken, wrote_as, amount_row_there, instance_row_there}

@@ -1,0 +1,19 @@
+//! Calls of the crates of assets, accounts, fees and barriers, with expected values worked out by hand.
+#![tactic(auto)]
+
+#[cfg(test)]
+mod barrier_rows;
+#[cfg(test)]
+mod bundle_rows;
+#[cfg(test)]
+mod ledger_rows;
+#[cfg(test)]
+mod list_rows;
+#[cfg(test)]
+mod path_rows;
+#[cfg(test)]
+mod trading_rows;
+#[cfg(test)]
+mod trap_rows;
+#[cfg(test)]
+mod trust_rows;

@@ -1,0 +1,7 @@
+mod Holding
+mod Mapped
+mod SumRows
+mod Cutting
+mod Claiming
+mod Conserving
+mod Settling

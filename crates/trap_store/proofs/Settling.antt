@@ -1,0 +1,62 @@
+-- The running sums after traps came or went, written back into their place.
+use Rattle.std.proofs.Common.{◌≡◌, ℕ, zero, suc, ◌+◌, ◌-◌, ◌^◌, ◌<◌, List, [], ◌∷◌, ◌++◌, map, length, take, get_or, refl, sym, ap, ◌∙◌, arith}
+use Rattle.std.specs.Prelude.{min, remove}
+use Rattle.amounts.specs.Amounts.{rows}
+use Rattle.asset_lists.specs.declared.units.Asset.{Asset}
+use Rattle.locations.specs.declared.relative.Location.{Location}
+use Rattle.asset_lists.specs.Listed.{Listed}
+use Rattle.asset_bundles.specs.Bundles.{Bundle, rows_of, bundle_of, is_asset, IsHolding}
+use Rattle.asset_bundles.specs.BundleLaws.{rows-holding, kinds-holding}
+use Rattle.asset_bundles.specs.Books.{most_burned, AreListed}
+use Rattle.trap_store.specs.declared.trap.Trap.{Trap}
+use Rattle.trap_store.specs.Traps.{Store, trapped, with_trapped, traps_of, pieces_of, piece_count}
+use Rattle.trap_store.specs.Sums.{SumRow, sum_at, keys_in, raised, settled}
+use Rattle.trap_store.proofs.SumRows.{sums_raised, sums_settled}
+use Rattle.trap_store.proofs.Conserving.{one_less, trapped_kept}
+
+front_of : {X : Type 0} (n : ℕ) (xs ys : List X) → length xs ≡ n → take n (xs ++ ys) ≡ xs
+front_of zero [] ys h = refl
+front_of zero (x ∷ xs) ys h = absurd (omega (arith, h))
+front_of (suc n) [] ys h = absurd (omega (arith, h))
+front_of (suc n) (x ∷ xs) ys h = ap (λ zs. x ∷ zs) (front_of n xs ys (omega (arith, h)))
+
+length_changed : (f : SumRow → SumRow) (rows : List SumRow) → length (map f rows) ≡ length rows
+length_changed f [] = refl
+length_changed f (r ∷ rows) = ap (λ n. suc n) (length_changed f rows)
+
+written : (f : SumRow → SumRow) (n : ℕ) (rows now rest : List SumRow) → length rows ≡ n → now ≡ map f rows → take n (now ++ rest) ≡ map f rows
+written f n rows now rest len changed =
+    let same : length now ≡ n = ap length changed ∙ length_changed f rows ∙ len in
+    front_of n now rest same ∙ changed
+
+pub settled_sums : (rows now rest : List SumRow) (n : ℕ) (before after : List Trap) (place : ℕ) (t : Trap) → length rows ≡ n → now ≡ map (settled t.goods after) rows
+    → place < length before → t ≡ get_or before place t → after ≡ remove before place → ((k : Listed) → sum_at k rows ≡ min (trapped k.0 k.1 before) most_burned)
+    → (k : Listed) → sum_at k (take n (now ++ rest)) ≡ min (trapped k.0 k.1 after) most_burned
+settled_sums rows now rest n before after place t len changed h at left sums k =
+    ap (sum_at k) (written (settled t.goods after) n rows now rest len changed)
+    ∙ sums_settled rows t.goods before after sums (λ j. one_less (is_asset j.0 j.1) before after place t h at left) k
+
+pub raised_sums : (rows now rest : List SumRow) (n : ℕ) (store : Store) (origin : Location) (goods : Bundle) (after : List Trap) → length rows ≡ n → now ≡ map (raised goods) rows
+    → AreListed (keys_in rows) goods → after ≡ (with_trapped store origin goods).traps → ((k : Listed) → sum_at k rows ≡ min (trapped k.0 k.1 store.traps) most_burned)
+    → (k : Listed) → sum_at k (take n (now ++ rest)) ≡ min (trapped k.0 k.1 after) most_burned
+raised_sums rows now rest n store origin goods after len changed listed more sums k =
+    ap (sum_at k) (written (raised goods) n rows now rest len changed)
+    ∙ sums_raised rows goods store.traps after listed sums (λ j. ap (trapped j.0 j.1) more ∙ trapped_kept (is_asset j.0 j.1) store origin goods) k
+
+-- ---- what a bundle's list makes is what the bundle makes
+pub list_pieces : (number : ℕ) (origin : Location) (goods : Bundle) (xs : List Asset) → IsHolding xs → bundle_of xs ≡ goods
+    → traps_of (piece_count (length xs)) number origin (rows_of xs) ≡ pieces_of number origin goods
+list_pieces number origin goods xs h same =
+    ap (λ n. traps_of (piece_count n) number origin (rows_of xs)) (kinds-holding xs h)
+    ∙ ap (λ rs. traps_of (piece_count (length (rows (bundle_of xs)))) number origin rs) (sym (rows-holding xs h))
+    ∙ ap (pieces_of number origin) same
+
+pub list_count : (goods : Bundle) (xs : List Asset) → IsHolding xs → bundle_of xs ≡ goods → length xs ≡ length (rows goods)
+list_count goods xs h same = kinds-holding xs h ∙ ap (λ b. length (rows b)) same
+
+pub is_trapped : (store : Store) (origin : Location) (goods : Bundle) (more traps : List Trap) (next count : ℕ) → traps ≡ store.traps ++ more → more ≡ pieces_of store.next origin goods
+    → next ≡ min (store.next + piece_count count) (2 ^ 64 - 1) → count ≡ length (rows goods) → record { traps = traps; next = next } ≡ with_trapped store origin goods
+is_trapped store origin goods more traps next count joined pieces number kinds =
+    let all : traps ≡ (with_trapped store origin goods).traps = joined ∙ ap (λ ts. store.traps ++ ts) pieces in
+    let after : next ≡ (with_trapped store origin goods).next = number ∙ ap (λ n. min (store.next + piece_count n) (2 ^ 64 - 1)) kinds in
+    λ i. record { traps = all i; next = after i }

@@ -1,0 +1,4 @@
+pub mod Traps
+pub mod Sums
+pub mod Oldest
+pub mod StoreCode

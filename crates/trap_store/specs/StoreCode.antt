@@ -1,0 +1,9 @@
+-- How a trap store is kept apart from others of its kind; a reader may skip this.
+use Rattle.std.specs.Prelude.{ℕ, List, refl}
+use Rattle.std.specs.Coded.{Coded, code_by, coded_ℕ, coded_list, coded×}
+use Rattle.trap_store.specs.contracts.trap.Trap.{the_row as trap}
+use Rattle.trap_store.specs.declared.trap.Trap.{Trap}
+use Rattle.trap_store.specs.Traps.{Store}
+
+abbrev pub store_code : Coded Store
+store_code = code_by (List Trap × ℕ) (coded× (coded_list trap.coded) coded_ℕ) (λ s. (s.traps, s.next)) (λ p. record { traps = p.0; next = p.1 }) (λ _. refl)

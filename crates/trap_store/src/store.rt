@@ -1,0 +1,152 @@
+//! The trap store.
+ghost use Rattle.std.specs.Prelude.{◌≡◌, ◌-◌, ◌^◌, ◌<◌, [], ◌↔◌, length, min, IsTrue, MatchOption, MatchResult};
+ghost use Rattle.amounts.specs.Amounts.{rows};
+ghost use Rattle.asset_bundles.specs.Bundles.{bundle_of};
+ghost use Rattle.asset_bundles.specs.Books.{most_burned};
+ghost use Rattle.asset_bundles.specs.Totals.{total_value};
+ghost use Rattle.trap_store.specs.Traps.{piece_count, with_trapped, Fits, NoneFits, IsClaimed, trapped};
+ghost use Rattle.trap_store.specs.Oldest.{NoneBefore, IsOldest};
+
+use crate::Trap;
+use crate::pieces::in_pieces;
+use crate::sums::{AssetSum, make_rows, raise_all, settle_all, sum_of};
+use asset_bundles::{AssetBundle, Total, Units};
+use asset_lists::{AssetId, Assets, Kind, MAX_ASSETS};
+use locations::Location;
+use std::alloc::{AllocError, Global};
+use std::marker::Model;
+use thiserror::Error;
+
+/// No trap has that origin and that list.
+#[derive(Clone, Copy, Debug, PartialEq, Eq, Error)]
+#[error("no trap has that origin and that list")]
+pub struct Unknown;
+
+/// What was trapped on a chain, oldest first.
+#[derive(Drop)]
+pub struct TrapStore {
+    traps: Vec<Trap>,
+    next: u64,
+    sums: Vec<AssetSum>,
+}
+
+impl Model for TrapStore {
+    ghost use Rattle.std.specs.Prelude.{◌≡◌, min};
+    ghost use Rattle.asset_lists.specs.Listed.{Listed};
+    ghost use Rattle.asset_bundles.specs.Books.{most_burned};
+    ghost use Rattle.trap_store.specs.Traps.{Store, trapped};
+    ghost use Rattle.trap_store.specs.StoreCode.{store_code};
+    ghost use Rattle.trap_store.specs.Sums.{sum_at};
+
+    ghost Value = { Store };
+
+    ghost coded = { store_code };
+
+    ghost view = { λ s. record { traps = s.traps.items; next = s.next } };
+
+    ghost invariant = { λ s. (k : Listed) → sum_at k s.sums.items ≡ min (trapped k.0 k.1 s.traps.items) most_burned };
+}
+
+impl TrapStore {
+    /// A store with nothing, whose first trap gets the number 1. It takes no memory.
+    pub fn new(alloc: Global) -> TrapStore
+        ensures { result ≡ record { traps = []; next = 1 } }
+    {
+        TrapStore {
+            traps: Vec::new(alloc),
+            next: 1,
+            sums: Vec::new(alloc),
+        }
+    }
+
+    /// All traps, oldest first.
+    pub fn traps(&self) -> &[Trap]
+        ensures { result.now ≡ self.now.traps }
+    {
+        self.traps.as_slice()
+    }
+
+    /// How many traps a bundle makes: pieces of at most 20 assets.
+    pub fn pieces(goods: &AssetBundle) -> usize
+        ensures { result ≡ piece_count (length (rows goods.now)) }
+    {
+        goods.kinds().div_ceil(MAX_ASSETS)
+    }
+
+    /// Traps a bundle that isn't empty, in pieces of at most 20 assets in holding order, and answers the number of the first. An
+    /// `Err` is out of memory: it hands the bundle back, and all is as before.
+    pub fn trap(&mut self, goods: AssetBundle, origin: &Location) -> Result<u64, AssetBundle>
+        requires some { 0 < length (rows goods) }
+        ensures { MatchResult result
+            (λ number. (number ≡ self.old.next) × (self.new ≡ with_trapped self.old origin.now goods))
+            (λ back. (back ≡ goods) × (self.new ≡ self.old)) }
+    {
+        let units = goods.set_down();
+        match self.take_in(&units, origin) {
+            Ok(number) => Ok(number),
+            Err(_) => Err(AssetBundle::take_up(units)),
+        }
+    }
+
+    /// The traps of these units are put behind the others.
+    fn take_in(&mut self, goods: &Units, origin: &Location) -> Result<u64, AllocError>
+        ensures { MatchResult result
+            (λ number. (number ≡ self.old.next) × (self.new ≡ with_trapped self.old origin.now goods.now))
+            (λ _. self.new ≡ self.old) }
+    {
+        let number = self.next;
+        let assets = goods.list()?;
+        let alloc = *self.traps.allocator();
+        let (mut traps, next) = in_pieces(alloc, assets.as_slice(), number, origin)?;
+        make_rows(&mut self.sums, assets.as_slice())?;
+        self.traps.append(&mut traps)?;
+        raise_all(self.sums.as_mut_slice(), goods);
+        self.next = next;
+        Ok(number)
+    }
+
+    /// Takes the oldest trap that has that origin and just that list. It takes no memory.
+    pub fn claim(&mut self, list: &Assets, origin: &Location) -> Result<AssetBundle, Unknown>
+        ensures { MatchResult result
+            (λ goods. (goods ≡ bundle_of list.now) × IsClaimed list.now origin.now self.old self.new)
+            (λ _. NoneFits list.now origin.now self.old.traps × (self.new ≡ self.old)) }
+    {
+        match oldest(self.traps.as_slice(), list, origin) {
+            Some(place) => {
+                let trap = self.traps.remove(place);
+                settle_all(self.sums.as_mut_slice(), &trap.goods, self.traps.as_slice());
+                Ok(AssetBundle::take_up(trap.goods))
+            }
+            None => Err(Unknown),
+        }
+    }
+
+    /// The amount of a fungible asset in all traps, in its smallest unit, or the number of instances of a class. It saturates at
+    /// 2^160-1, and takes no time in proportion to the traps.
+    pub fn total(&self, id: &AssetId, kind: Kind) -> Total
+        ensures { total_value result ≡ min (trapped id.now kind self.now.traps) most_burned }
+    {
+        sum_of(self.sums.as_slice(), id, kind)
+    }
+}
+
+/// Whether the trap has that origin and just that list.
+fn fits(trap: &Trap, list: &Assets, origin: &Location) -> bool
+    ensures { IsTrue result ↔ Fits list.now origin.now trap.now }
+{
+    trap.origin == *origin && trap.goods.is_list(list)
+}
+
+/// Where the oldest trap with that origin and that list is.
+fn oldest(traps: &[Trap], list: &Assets, origin: &Location) -> Option<usize>
+    ensures { MatchOption result
+        (NoneBefore list.now origin.now (length traps.now) traps.now)
+        (IsOldest list.now origin.now traps.now) }
+{
+    for (i, trap) in traps.iter().enumerate() {
+        if fits(trap, list, origin) {
+            return Some(i);
+        }
+    }
+    None
+}
