@@ -1,0 +1,266 @@
+-- The first world of a network in which no cause is found: it is backed, and no instance stands at two homes.
+use Rattle.std.specs.Prelude.{◌≡◌, ◌≢◌, ℕ, zero, suc, ◌+◌, ◌<◌, ◌≤◌, nat_lt, nat_eq, Bool, true, false, ◌&&◌, ◌||◌, if◌then◌else◌, List, [], ◌∷◌, map, Option, Some, None, find, slice_get, sum_by, refl}
+use Rattle.std.specs.List.{list_any}
+use Rattle.std.specs.Option.{option_cmp, option_or}
+use Rattle.std.specs.Ordering.{eq_by_cmp}
+use Rattle.std.proofs.Common.{sym, ap, ◌∙◌, subst, arith, true≢false, ltb-false, eq-eqb, inl, inr}
+use Rattle.std.proofs.lemmas.Bool.{and_parts, and_from, lt-ltb, cases_lt}
+use Rattle.std.proofs.lemmas.List.Sums.{sum_by-cons}
+use Rattle.amounts.specs.Rows.{IsKeyOrder, amount_if, sum_where}
+use Rattle.amounts.specs.Amounts.{amount, total, rows, empty, total-rows, total-empty}
+use Rattle.amounts.specs.Laws.{key_same, same_key}
+use Rattle.asset_lists.specs.declared.units.Instance.{Instance}
+use Rattle.asset_lists.specs.Units.{Unit, instance_cmp}
+use Rattle.asset_lists.specs.UnitLaws.{instance_total, instance_exact}
+use Rattle.asset_bundles.specs.Bundles.{Bundle, unit_keys}
+use Rattle.asset_bundles.specs.Laws.{burn_keys}
+use Rattle.ledgers.specs.Ledgers.{Holder}
+use Rattle.chain_ids.specs.declared.chain.ChainId.{ChainId}
+use Rattle.trust_tables.specs.declared.rows.AssetRow.{AssetRow}
+use Rattle.trust_tables.specs.declared.rows.AssetRole.TheVariants.{Native, Derivative}
+use Rattle.chain_ids.specs.Chains.{same_chain}
+use Rattle.coherence.specs.UniversalAssets.{UniversalAsset, Choice, every, just, is_asset_at, is_unit_at}
+use Rattle.asset_lists.specs.Listed.{listed_of}
+use Rattle.coherence.specs.Networks.{Table, context_of, IsIn, path_of_row, asset_of_row, is_native_role, is_home, IsNetwork, Agrees}
+use Rattle.coherence.specs.Causes.{ChainEntry, Cause, Incoherent, first_some, when, amount_at, amount_for, any_instance, is_class_instance, shares_instance, instance_twice, is_short, entry_at, not_backed, table_cause, first_cause}
+use Rattle.coherence.specs.Causes as causes
+use Rattle.coherence.specs.CauseLaws.{or_none, first_none, any_in, agrees_of_no_cause}
+use Rattle.conservation.specs.Parts.{Cargo, Channel, Part, World, chain_of, Count, Whole, Only, choice_of, in_bundle, debt, stock, account_amount, held_for, burned, deposited, withdrawn, in_channels, in_channels_to, flight, deposits, withdrawals, alive, population, Backed}
+use Rattle.chain_ids.specs.Laws.{same_chain_itself, same_chain_told}
+use Rattle.conservation.specs.Cargoes.{HomeRow, row_of_home}
+use Rattle.conservation.specs.Receiving.{finds}
+use Rattle.conservation.specs.Steps as steps
+
+-- ---- a chain at genesis
+abbrev pub empty_channels : List ChainId → List Channel
+empty_channels [] = []
+empty_channels (to ∷ rest) = record { to = to; queue = [] } ∷ empty_channels rest
+
+abbrev pub opened : (ChainEntry → List ChainId) → ChainEntry → Part
+opened links e = record { table = e.table; held = e.held; traps = []; fees = empty; parked = []; holding = empty; burns = empty; outgoing = empty_channels (links e) }
+
+abbrev pub first_world : (ChainEntry → List ChainId) → List ChainEntry → World
+first_world links [] = []
+first_world links (e ∷ es) = opened links e ∷ first_world links es
+
+-- an instance comes once within a chain
+abbrev pub HasInstancesOnce : ChainEntry → Type 0
+HasInstancesOnce e = (a : UniversalAsset) (instance : Instance) → amount_at a (just (Some instance)) e ≤ 1
+
+module _ (links : ChainEntry → List ChainId) where
+  none_queued : (f : Cargo → ℕ) (to : List ChainId) → in_channels f (empty_channels to) ≡ 0
+  unfolding in_channels
+  none_queued f [] = refl
+  none_queued f (x ∷ xs) =
+      let here = sum_by-cons (λ (c : Channel). sum_by f c.queue) (record { to = x; queue = [] }) (empty_channels xs) in
+      let rest = none_queued f xs in
+      omega (arith, here, rest)
+
+  none_or_nothing : (b : Bool) → ◌≡◌ {A = ℕ} (if b then 0 else 0) 0
+  none_or_nothing true = refl
+  none_or_nothing false = refl
+
+  none_queued_to : (chain : ChainId) (f : Cargo → ℕ) (to : List ChainId) → in_channels_to chain f (empty_channels to) ≡ 0
+  unfolding in_channels_to
+  none_queued_to chain f [] = refl
+  none_queued_to chain f (x ∷ xs) =
+      let here = sum_by-cons (λ (c : Channel). if same_chain c.to chain then sum_by f c.queue else 0) (record { to = x; queue = [] }) (empty_channels xs) in
+      let none : ◌≡◌ {A = ℕ} (if same_chain x chain then 0 else 0) 0 = none_or_nothing (same_chain x chain) in
+      let rest = none_queued_to chain f xs in
+      omega (arith, here, none, rest)
+
+  stock-opened : (a : UniversalAsset) (choice : Choice) (e : ChainEntry) → stock a choice (opened links e) ≡ amount_at a choice e
+  unfolding stock
+  stock-opened a choice e =
+      let none : in_bundle e.table a choice empty ≡ 0 = total-empty unit_keys (is_unit_at (context_of e.table) a choice) in
+      omega (arith, none)
+
+  burned-opened : (a : UniversalAsset) (e : ChainEntry) → burned a (opened links e) ≡ 0
+  unfolding burned
+  burned-opened a e = total-empty burn_keys _
+
+  debt-opened : (a : UniversalAsset) (count : Count) (e : ChainEntry) → debt a count (opened links e) ≡ amount_at a (choice_of count) e
+  debt-opened a Whole e = let s = stock-opened a every e in let b = burned-opened a e in omega (arith, s, b)
+  debt-opened a (Only instance) e = stock-opened a (just (Some instance)) e
+
+  held_for-opened : (chain : ChainId) (a : UniversalAsset) (count : Count) (e : ChainEntry) → held_for chain a count (opened links e) ≡ amount_for chain a (choice_of count) e
+  unfolding account_amount
+  held_for-opened chain a count e = refl
+
+  -- ---- instances
+  option_told : (a b : Option Instance) → eq_by_cmp (option_cmp instance_cmp) a b ≡ true → a ≡ b
+  option_told None None e = refl
+  option_told None (Some j) e = absurd (cc)
+  option_told (Some i) None e = absurd (cc)
+  option_told (Some i) (Some j) e = ap Some (key_same (record { total = instance_total; exact = instance_exact }) i j e)
+
+  some_row : (p : Holder → Bool) (es : List (Holder × ℕ)) → 0 < sum_where p es → (row : Holder × ℕ) × IsIn es row × (p row.0 ≡ true)
+  some_row p [] some = absurd (omega (arith, some))
+  some_row p (e ∷ es) some =
+      elim (p e.0) as (λ b. p e.0 ≡ b → (row : Holder × ℕ) × IsIn (e ∷ es) row × (p row.0 ≡ true)) [
+        | true ↦ λ t. (e, (0, refl), t)
+        | false ↦ λ t.
+            let rest : 0 < amount_if false e.1 + sum_where p es = subst (λ b. 0 < amount_if b e.1 + sum_where p es) t some in
+            let found = some_row p es (omega (arith, rest)) in
+            (found.0, (suc found.1.0, found.1.1), found.2)
+      ] refl
+
+  -- an instance that is there passes each test that it passes
+  instance_there : (a : UniversalAsset) (e : ChainEntry) (instance : Instance) (test : Option Instance → Bool) → 0 < amount_at a (just (Some instance)) e → test (Some instance) ≡ true → any_instance a e test ≡ true
+  instance_there a e instance test some passes =
+      let p : Holder → Bool = λ (h : Holder). is_unit_at (context_of e.table) a (just (Some instance)) h.1 in
+      let found = some_row (λ (h : Holder). is_unit_at (context_of e.table) a (just (Some instance)) h.1) (rows e.held) (subst (λ k. 0 < k) (sym (total-rows (λ (h : Holder). is_unit_at (context_of e.table) a (just (Some instance)) h.1) e.held)) some) in
+      let parts = and_parts (is_asset_at (context_of e.table) a (listed_of found.0.0.1)) (just (Some instance) found.0.0.1.1) found.2 in
+      let same : Some instance ≡ found.0.0.1.1 = option_told (Some instance) found.0.0.1.1 parts.1 in
+      any_in (λ (row : Holder × ℕ). is_unit_at (context_of e.table) a every row.0.1 && test row.0.1.1) (rows e.held) found.0 found.1.0 found.1.1
+      (and_from (is_unit_at (context_of e.table) a every found.0.0.1) (test found.0.0.1.1)
+      (and_from (is_asset_at (context_of e.table) a (listed_of found.0.0.1)) true parts.0 refl)
+      (sym (ap test same) ∙ passes))
+
+  -- ---- no instance at two homes
+  or_false : (a b : Bool) → (a || b) ≡ false → (a ≡ false) × (b ≡ false)
+  or_false true b e = absurd (true≢false e)
+  or_false false b e = (refl, e)
+
+  when_none : {B : Type 0} (b : Bool) (x : B) → when b x ≡ None → b ≡ false
+  when_none true x e = absurd (cc)
+  when_none false x e = refl
+
+  alive-opened : (a : UniversalAsset) (choice : Choice) (e : ChainEntry) → alive a choice (opened links e) ≡ (if is_home a e.table then amount_at a choice e else 0)
+  unfolding alive
+  alive-opened a choice e =
+      let s = stock-opened a choice e in
+      let none : flight a choice (opened links e) ≡ 0 = none_queued _ (links e) in
+      let both : stock a choice (opened links e) + flight a choice (opened links e) ≡ amount_at a choice e = omega (arith, s, none) in
+      ap (λ k. if is_home a e.table then k else 0) both
+
+  population-cons : (a : UniversalAsset) (choice : Choice) (e : ChainEntry) (es : List ChainEntry) → population a choice (first_world links (e ∷ es)) ≡ (if is_home a e.table then amount_at a choice e else 0) + population a choice (first_world links es)
+  unfolding population
+  population-cons a choice e es = sum_by-cons (alive a choice) (opened links e) (first_world links es) ∙ ap (λ k. k + sum_by (alive a choice) (first_world links es)) (alive-opened a choice e)
+
+  no_later : (a : UniversalAsset) (e : ChainEntry) (instance : Instance) (later : List ChainEntry) → 0 < amount_at a (just (Some instance)) e
+      → first_some (λ (d : ChainEntry). when {B = Incoherent} (shares_instance a e d) (Cause.InstanceTwice, causes.chain_of e, causes.chain_of d)) later ≡ None → population a (just (Some instance)) (first_world links later) ≡ 0
+  unfolding population
+  no_later a e instance [] some none = refl
+  no_later a e instance (d ∷ later) some none =
+      let parts = or_none (when {B = Incoherent} (shares_instance a e d) (Cause.InstanceTwice, causes.chain_of e, causes.chain_of d)) (first_some (λ (d : ChainEntry). when {B = Incoherent} (shares_instance a e d) (Cause.InstanceTwice, causes.chain_of e, causes.chain_of d)) later) none in
+      let shared : shares_instance a e d ≡ false = when_none (shares_instance a e d) _ parts.0 in
+      let rest : population a (just (Some instance)) (first_world links later) ≡ 0 = no_later a e instance later some parts.1 in
+      let here : (if is_home a d.table then amount_at a (just (Some instance)) d else 0) ≡ 0 =
+      elim (is_home a d.table) as (λ b. is_home a d.table ≡ b → (if b then amount_at a (just (Some instance)) d else 0) ≡ 0) [
+        | true ↦ λ home. elim (cases_lt 0 (amount_at a (just (Some instance)) d)) [
+          | inl more ↦
+              let test : Option Instance → Bool = λ x. is_class_instance x && nat_lt 0 (amount_at a (just x) d) in
+              let any : any_instance a e (λ x. is_class_instance x && nat_lt 0 (amount_at a (just x) d)) ≡ true = instance_there a e instance (λ x. is_class_instance x && nat_lt 0 (amount_at a (just x) d)) some (lt-ltb 0 (amount_at a (just (Some instance)) d) more) in
+              absurd (true≢false (sym (and_from (is_home a d.table) (any_instance a e (λ x. is_class_instance x && nat_lt 0 (amount_at a (just x) d))) home any) ∙ shared))
+          | inr none ↦ omega (arith, none)
+        ]
+        | false ↦ λ home. refl
+      ] refl in
+      population-cons a (just (Some instance)) d later ∙ omega (arith, here, rest)
+
+  pub first_population : (n : List ChainEntry) (a : UniversalAsset) (instance : Instance) → ((k : ℕ) (e : ChainEntry) → slice_get n k ≡ Some e → HasInstancesOnce e) → instance_twice n ≡ None
+      → population a (just (Some instance)) (first_world links n) ≤ 1
+  unfolding population
+  first_population [] a instance once none = omega arith
+  first_population (e ∷ later) a instance once none =
+      let parts = or_none _ (instance_twice later) none in
+      let rest : population a (just (Some instance)) (first_world links later) ≤ 1 = first_population later a instance (λ k d at. once (suc k) d at) parts.1 in
+      let cons = population-cons a (just (Some instance)) e later in
+      let few = once 0 e refl a instance in
+      elim (is_home a e.table) as (λ b. is_home a e.table ≡ b → population a (just (Some instance)) (first_world links (e ∷ later)) ≤ 1) [
+        | true ↦ λ home. elim (cases_lt 0 (amount_at a (just (Some instance)) e)) [
+          | inl some ↦
+              let row = row_of_home e.table a home in
+              let each = first_none _ e.table.rows row.listed.0 row.row parts.0 row.listed.1 in
+              let asset : ◌≡◌ {A = UniversalAsset} (asset_of_row e.table row.row) a = λ i. (row.path i, row.kind i) in
+              let seen : first_some (λ (d : ChainEntry). when {B = Incoherent} (shares_instance a e d) (Cause.InstanceTwice, causes.chain_of e, causes.chain_of d)) later ≡ None =
+              subst (λ x. first_some (λ (d : ChainEntry). when {B = Incoherent} (shares_instance x e d) (Cause.InstanceTwice, causes.chain_of e, causes.chain_of d)) later ≡ None) asset
+              (sym (ap (λ r. if is_native_role r then first_some (λ (d : ChainEntry). when {B = Incoherent} (shares_instance (asset_of_row e.table row.row) e d) (Cause.InstanceTwice, causes.chain_of e, causes.chain_of d)) later else None) row.native) ∙ each) in
+              let zero_later = no_later a e instance later some seen in
+              let here : (if is_home a e.table then amount_at a (just (Some instance)) e else 0) ≡ amount_at a (just (Some instance)) e = ap (λ b. if b then amount_at a (just (Some instance)) e else 0) home in
+              omega (arith, cons, zero_later, here, few)
+          | inr none ↦
+              let here : (if is_home a e.table then amount_at a (just (Some instance)) e else 0) ≡ amount_at a (just (Some instance)) e = ap (λ b. if b then amount_at a (just (Some instance)) e else 0) home in
+              omega (arith, cons, rest, here, none)
+        ]
+        | false ↦ λ home.
+            let here : (if is_home a e.table then amount_at a (just (Some instance)) e else 0) ≡ 0 = ap (λ b. if b then amount_at a (just (Some instance)) e else 0) home in
+            omega (arith, cons, rest, here)
+      ] refl
+
+  -- ---- the tables, and that the reserve keeps enough
+  tables_same : (n : List ChainEntry) → steps.tables_of (first_world links n) ≡ causes.tables_of n
+  tables_same [] = refl
+  tables_same (e ∷ es) = ap (λ ts. e.table ∷ ts) (tables_same es)
+
+  entry_of : (n : List ChainEntry) (k : ℕ) (p : Part) → slice_get (first_world links n) k ≡ Some p → (e : ChainEntry) × (slice_get n k ≡ Some e) × (opened links e ≡ p)
+  entry_of [] k p at = absurd (cc)
+  entry_of (e ∷ es) zero p at = (e, refl, cc)
+  entry_of (e ∷ es) (suc k) p at = entry_of es k p at
+
+  entry_table : (n : List ChainEntry) (k : ℕ) (e : ChainEntry) → slice_get n k ≡ Some e → slice_get (causes.tables_of n) k ≡ Some e.table
+  entry_table [] k e at = absurd (cc)
+  entry_table (x ∷ xs) zero e at = let same : x ≡ e = cc in ap (λ (y : ChainEntry). Some y.table) same
+  entry_table (x ∷ xs) (suc k) e at = entry_table xs k e at
+
+  entry_same : (x y : ChainEntry) → Some x ≡ Some y → x ≡ y
+  entry_same x y e = cc
+
+  enough : (a : UniversalAsset) (e d : ChainEntry) (count : Count) → HasInstancesOnce e → is_short a e (Some d) ≡ false → amount_at a (choice_of count) e ≤ amount_for (causes.chain_of e) a (choice_of count) d
+  enough a e d Whole once short = ltb-false (amount_for (causes.chain_of e) a every d) (amount_at a every e) (or_false (nat_lt (amount_for (causes.chain_of e) a every d) (amount_at a every e)) (any_instance a e (λ x. nat_eq (amount_for (causes.chain_of e) a (just x) d) 0)) short).0
+  enough a e d (Only instance) once short =
+      let few = once a instance in
+      elim (cases_lt 0 (amount_at a (just (Some instance)) e)) [
+        | inl some ↦ elim (cases_lt 0 (amount_for (causes.chain_of e) a (just (Some instance)) d)) [
+          | inl kept ↦ omega (arith, few, kept)
+          | inr none ↦
+              let nothing : amount_for (causes.chain_of e) a (just (Some instance)) d ≡ 0 = omega (arith, none) in
+              let any = instance_there a e instance (λ x. nat_eq (amount_for (causes.chain_of e) a (just x) d) 0) some (eq-eqb (amount_for (causes.chain_of e) a (just (Some instance)) d) 0 nothing) in
+              absurd (true≢false (sym any ∙ (or_false (nat_lt (amount_for (causes.chain_of e) a every d) (amount_at a every e)) (any_instance a e (λ x. nat_eq (amount_for (causes.chain_of e) a (just x) d) 0)) short).1))
+        ]
+        | inr none ↦ omega (arith, none)
+      ]
+
+  pub first_backed : (n : List ChainEntry) → IsNetwork (causes.tables_of n) → ((k : ℕ) (e : ChainEntry) → slice_get n k ≡ Some e → HasInstancesOnce e)
+      → first_some (λ (e : ChainEntry). first_some (λ (x : AssetRow). not_backed n e x x.role) e.table.rows) n ≡ None → Backed (first_world links n)
+  first_backed n network once none i j c r row count at_i at_j inside role =
+      let from = entry_of n i c at_i in
+      let to = entry_of n j r at_j in
+      let e = from.0 in
+      let d = to.0 in
+      let inside_e : IsIn e.table.rows row = subst (λ (p : Part). IsIn p.table.rows row) (sym from.2) inside in
+      let role_d : row.role ≡ Derivative (causes.chain_of d) = role ∙ ap (λ (p : Part). Derivative (chain_of p)) (sym to.2) in
+      let each = first_none (λ (x : ChainEntry). first_some (λ (y : AssetRow). not_backed n x y y.role) x.table.rows) n i e none from.1 in
+      let this = first_none (λ (y : AssetRow). not_backed n e y y.role) e.table.rows inside_e.0 row each inside_e.1 in
+      let found = finds (λ (x : ChainEntry). same_chain (causes.chain_of x) (causes.chain_of d)) n j d to.1 (same_chain_itself (causes.chain_of d)) in
+      let chains : causes.chain_of found.0 ≡ causes.chain_of d = same_chain_told (causes.chain_of found.0) (causes.chain_of d) found.3 in
+      let place : found.2.0 ≡ j = network.apart found.2.0 j found.0.table d.table (entry_table n found.2.0 found.0 found.2.1) (entry_table n j d to.1) chains in
+      let entry : found.0 ≡ d = entry_same found.0 d (sym found.2.1 ∙ ap (slice_get n) place ∙ to.1) in
+      let at : entry_at n (causes.chain_of d) ≡ Some d = found.1 ∙ ap Some entry in
+      let tested : when {B = Incoherent} (is_short (asset_of_row e.table row) e (entry_at n (causes.chain_of d))) (Cause.NotBacked, causes.chain_of e, causes.chain_of d) ≡ None = sym (ap (not_backed n e row) role_d) ∙ this in
+      let short : is_short (asset_of_row e.table row) e (Some d) ≡ false = sym (ap (is_short (asset_of_row e.table row) e) at) ∙ when_none (is_short (asset_of_row e.table row) e (entry_at n (causes.chain_of d))) _ tested in
+      let le = enough (asset_of_row e.table row) e d count (once i e from.1) short in
+      let debts = debt-opened (asset_of_row e.table row) count e in
+      let keeps = held_for-opened (causes.chain_of e) (asset_of_row e.table row) count d in
+      let no_withdrawals : withdrawals (causes.chain_of d) (asset_of_row e.table row) count (opened links e) ≡ 0 = none_queued_to (causes.chain_of d) (withdrawn e.table (asset_of_row e.table row) (choice_of count)) (links e) in
+      let no_deposits : deposits (causes.chain_of e) (asset_of_row e.table row) count (opened links d) ≡ 0 = none_queued_to (causes.chain_of e) (deposited d.table (asset_of_row e.table row) (choice_of count)) (links d) in
+      let claim : steps.Covered e.table (causes.chain_of d) row count (opened links e) (opened links d) = omega (arith, le, debts, keeps, no_withdrawals, no_deposits) in
+      subst (λ (q : Part). steps.Covered c.table (chain_of q) row count c q) to.2 (subst (λ (p : Part). steps.Covered p.table (causes.chain_of d) row count p (opened links d)) from.2 claim)
+
+  -- a network in which no cause is found begins backed, with its chains agreeing
+  pub record IsSoundFirst (n : List ChainEntry) : Type 0 where
+    pub agrees : Agrees (steps.tables_of (first_world links n))
+    pub backed : Backed (first_world links n)
+    pub once : (a : UniversalAsset) (instance : Instance) → population a (just (Some instance)) (first_world links n) ≤ 1
+
+  pub sound_first : (n : List ChainEntry) → IsNetwork (causes.tables_of n) → ((k : ℕ) (e : ChainEntry) → slice_get n k ≡ Some e → HasInstancesOnce e) → first_cause n ≡ None → IsSoundFirst n
+  sound_first n network once none =
+      let one = or_none (table_cause (causes.tables_of n)) _ none in
+      let two = or_none (instance_twice n) _ one.1 in
+      let three = or_none (first_some (λ (e : ChainEntry). first_some (λ (x : AssetRow). not_backed n e x x.role) e.table.rows) n) _ two.1 in
+      record {
+        agrees = subst Agrees (sym (tables_same n)) (agrees_of_no_cause (causes.tables_of n) network one.0);
+        backed = first_backed n network once three.0;
+        once = λ a instance. first_population n a instance once two.0;
+      }

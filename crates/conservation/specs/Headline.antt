@@ -1,0 +1,41 @@
+-- Where no cause is found, every world that safe changes lead to is conserved and backed.
+use Rattle.std.specs.Prelude.{◌≡◌, ℕ, ◌+◌, ◌<◌, ◌≤◌, ◌^◌, List, Some, None, slice_get}
+use Rattle.std.proofs.Common.{sym, subst, arith}
+use Rattle.asset_lists.specs.declared.units.Instance.{Instance}
+use Rattle.chain_ids.specs.declared.chain.ChainId.{ChainId}
+use Rattle.trust_tables.specs.declared.rows.AssetRow.{AssetRow}
+use Rattle.coherence.specs.UniversalAssets.{UniversalAsset, every, just}
+use Rattle.coherence.specs.Networks.{IsIn, asset_of_row, IsNetwork, Agrees}
+use Rattle.coherence.specs.Causes.{ChainEntry, first_cause}
+use Rattle.coherence.specs.Causes as causes
+use Rattle.conservation.specs.Parts.{Part, World, stock, burned, supply, population, Conserved, Backed}
+use Rattle.conservation.specs.Steps.{tables_of}
+use Rattle.conservation.specs.Bounds.{instances_at_most}
+use Rattle.conservation.specs.Genesis.{HasInstancesOnce, IsSoundFirst, first_world, sound_first}
+use Rattle.conservation.specs.Histories.{History, safe_history, never_passes}
+
+-- what a network is sure of for ever
+pub record IsKept (genesis w : World) : Type 0 where
+  pub agrees : Agrees (tables_of w)
+  pub conserved : Conserved genesis w
+  pub backed : Backed w
+  pub small : (k : ℕ) (p : Part) (row : AssetRow) → slice_get w k ≡ Some p → IsIn p.table.rows row → stock (asset_of_row p.table row) every p + burned (asset_of_row p.table row) p < 2 ^ 127
+  pub once : (k : ℕ) (p : Part) (row : AssetRow) (instance : Instance) → slice_get w k ≡ Some p → IsIn p.table.rows row → stock (asset_of_row p.table row) (just (Some instance)) p ≤ 1
+
+pub headline : (links : ChainEntry → List ChainId) (n : List ChainEntry) → IsNetwork (causes.tables_of n) → ((k : ℕ) (e : ChainEntry) → slice_get n k ≡ Some e → HasInstancesOnce e)
+    → ((a : UniversalAsset) → supply a (first_world links n) < 2 ^ 127) → first_cause n ≡ None → (w : World) → History (first_world links n) w → IsKept (first_world links n) w
+headline links n network once small none w history =
+    let first = sound_first links n network once none in
+    let safe = safe_history (first_world links n) w first.agrees history in
+    let agrees : Agrees (tables_of w) = subst Agrees (sym safe.tables) first.agrees in
+    record {
+      agrees = agrees;
+      conserved = safe.supplied;
+      backed = safe.backed first.backed;
+      small = never_passes (first_world links n) w first.agrees first.backed small history;
+      once = λ k p row instance at inside.
+          let le = instances_at_most w agrees (safe.backed first.backed) k p row instance at inside in
+          let less = safe.rare (asset_of_row p.table row) (just (Some instance)) in
+          let few = first.once (asset_of_row p.table row) instance in
+          omega (arith, le, less, few);
+    }

@@ -1,0 +1,44 @@
+-- Any number of safe changes, one after another.
+use Rattle.std.specs.Prelude.{◌≡◌, ℕ, ◌+◌, ◌<◌, ◌≤◌, ◌^◌, List, Some, slice_get, slice_set, refl}
+use Rattle.std.proofs.Common.{sym, ap, ◌∙◌, subst, arith}
+use Rattle.trust_tables.specs.declared.rows.AssetRow.{AssetRow}
+use Rattle.coherence.specs.UniversalAssets.{UniversalAsset, Choice, every}
+use Rattle.coherence.specs.Networks.{Table, IsIn, asset_of_row, Agrees}
+use Rattle.conservation.specs.Parts.{Part, World, stock, burned, supply, population, Backed}
+use Rattle.conservation.specs.Steps.{tables_of, IsSafe, IsExchange, SafeStep, safe_step, safe_exchange}
+use Rattle.conservation.specs.Bounds.{row_at_most}
+
+pub data History (w : World) : World → Type 0 where
+  Start : History w w
+  One : (v : World) (i : ℕ) (p q : Part) → History w v → slice_get v i ≡ Some p → IsSafe p q → History w (slice_set v i q)
+  Two : (v : World) (i j : ℕ) (p p' q q' : Part) → History w v → slice_get v i ≡ Some p → slice_get v j ≡ Some q → (i ≡ j → ⊥) → IsExchange p p' q q' → History w (slice_set (slice_set v i p') j q')
+
+pub safe_same : (w : World) → SafeStep w w
+safe_same w = record { tables = refl; supplied = λ a. refl; rare = λ a choice. omega arith; backed = λ b. b }
+
+pub safe_then : (w v u : World) → SafeStep w v → SafeStep v u → SafeStep w u
+safe_then w v u x y = record {
+  tables = y.tables ∙ x.tables;
+  supplied = λ a. y.supplied a ∙ x.supplied a;
+  rare = λ a choice. let one = x.rare a choice in let two = y.rare a choice in omega (arith, one, two);
+  backed = λ b. y.backed (x.backed b);
+}
+
+pub safe_history : (w v : World) → Agrees (tables_of w) → History w v → SafeStep w v
+safe_history w v agrees Start = safe_same w
+safe_history w u agrees (One v i p q before at safe) =
+    let so_far = safe_history w v agrees before in
+    safe_then w v (slice_set v i q) so_far (safe_step v (subst Agrees (sym so_far.tables) agrees) i p q at safe)
+safe_history w u agrees (Two v i j p p' q q' before at_i at_j apart e) =
+    let so_far = safe_history w v agrees before in
+    safe_then w v (slice_set (slice_set v i p') j q') so_far (safe_exchange v (subst Agrees (sym so_far.tables) agrees) i j p p' q q' at_i at_j apart e)
+
+-- below 2^127 at genesis, below 2^127 at each chain for ever, burned ones included
+pub never_passes : (w v : World) → Agrees (tables_of w) → Backed w → ((a : UniversalAsset) → supply a w < 2 ^ 127) → History w v
+    → (k : ℕ) (p : Part) (row : AssetRow) → slice_get v k ≡ Some p → IsIn p.table.rows row → stock (asset_of_row p.table row) every p + burned (asset_of_row p.table row) p < 2 ^ 127
+never_passes w v agrees b small history k p row at inside =
+    let safe = safe_history w v agrees history in
+    let le = row_at_most v (subst Agrees (sym safe.tables) agrees) (safe.backed b) k p row at inside in
+    let same = safe.supplied (asset_of_row p.table row) in
+    let few = small (asset_of_row p.table row) in
+    omega (arith, le, same, few)

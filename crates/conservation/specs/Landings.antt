@@ -1,0 +1,58 @@
+-- A delivery's first instruction as a move: the list of a teleport or of a deposit comes to the receiver's holding.
+use Rattle.std.specs.Prelude.{◌≡◌, ◌≢◌, ℕ, ◌+◌, ◌≤◌, Bool, true, false, ◌&&◌, List, Some, refl}
+use Rattle.std.proofs.Common.{sym, ap, ◌∙◌, subst, arith}
+use Rattle.amounts.specs.Amounts.{total, merge, total_alike}
+use Rattle.amounts.specs.Laws.{total-merge}
+use Rattle.asset_lists.specs.declared.units.Asset.{Asset}
+use Rattle.asset_bundles.specs.Bundles.{bundle_of}
+use Rattle.asset_bundles.specs.Books.{given_up}
+use Rattle.asset_lists.specs.Listed.{listed_of}
+use Rattle.asset_lists.specs.Listed.{listed_of}
+use Rattle.asset_bundles.specs.Joins.{Joined, Excess}
+use Rattle.asset_bundles.specs.Laws.{burn_keys}
+use Rattle.coherence.specs.UniversalAssets.{UniversalAsset, Choice, every, is_asset_at, is_unit_at, is_burn_at}
+use Rattle.coherence.specs.Networks.{context_of}
+use Rattle.conservation.specs.Parts.{Cargo, Nothing, Deposit, Withdrawal, Teleport, Part, chain_of, Count, choice_of, stock, account_amount, held_for, burned, teleported, deposited, withdrawn}
+use Rattle.conservation.specs.Channels.{front, popped}
+use Rattle.conservation.specs.Moves.{IsReceived, for_chain}
+use Rattle.asset_bundles.specs.Laws.{given_up_total, joined_total}
+
+abbrev pub WithoutFront : Part → Part → Part
+WithoutFront q p = record p { outgoing = popped (chain_of q) p.outgoing }
+
+abbrev pub WithList : List Asset → Part → Part
+WithList new q = record q { holding = Joined q.holding (bundle_of new); burns = merge q.burns (given_up q.holding (bundle_of new)) }
+
+every_or : (b : Bool) → (b && true) ≡ b
+every_or true = refl
+every_or false = refl
+
+-- the list is of the cargo
+abbrev pub IsListFor : Cargo → List Asset → Part → Part → Type 0
+IsListFor cargo new p q = (a : UniversalAsset) (choice : Choice) → total (is_unit_at (context_of q.table) a choice) (bundle_of new) ≡ teleported p.table a choice cargo + deposited p.table a choice cargo
+
+pub list_received : (cargo : Cargo) (new : List Asset) (p q : Part) → front (chain_of q) p.outgoing ≡ Some cargo → IsListFor cargo new p q → IsReceived cargo p (WithoutFront q p) q (WithList new q)
+unfolding stock burned account_amount
+list_received cargo new p q first same = record {
+  table = refl;
+  first = first;
+  outgoing = refl;
+  burns_now = λ a. refl;
+  stock_same = λ a choice. refl;
+  held_same = λ chain a count. refl;
+  there = refl;
+  there_outgoing = refl;
+  kept = λ a.
+      let got = joined_total (is_unit_at (context_of q.table) a every) q.holding (bundle_of new) in
+      let rest : total (is_unit_at (context_of q.table) a every) (Excess q.holding (bundle_of new)) ≡ total (λ u. is_asset_at (context_of q.table) a (listed_of u)) (Excess q.holding (bundle_of new)) =
+      total_alike (is_unit_at (context_of q.table) a every) (λ u. is_asset_at (context_of q.table) a (listed_of u)) (Excess q.holding (bundle_of new)) (λ u. every_or (is_asset_at (context_of q.table) a (listed_of u))) in
+      let books = given_up_total (is_asset_at (context_of q.table) a) q.holding (bundle_of new) in
+      let all = total-merge burn_keys (is_burn_at (context_of q.table) a) q.burns (given_up q.holding (bundle_of new)) in
+      let list = same a every in
+      omega (arith, got, rest, books, all, list);
+  more = λ a choice.
+      let got = joined_total (is_unit_at (context_of q.table) a choice) q.holding (bundle_of new) in
+      let list = same a choice in
+      omega (arith, got, list);
+  covered = λ chain a count number foreign. omega arith;
+}

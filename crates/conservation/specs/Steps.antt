@@ -1,0 +1,271 @@
+-- The changes of one chain, and of two chains at once, that keep every asset conserved and every derivative backed.
+use Rattle.std.specs.Prelude.{◌≡◌, ◌≢◌, ℕ, zero, suc, ◌+◌, ◌<◌, ◌≤◌, Bool, true, false, if◌then◌else◌, List, [], ◌∷◌, map, Option, Some, None, slice_get, slice_set, sum_by, option_map, refl}
+use Rattle.std.proofs.Common.{sym, ap, ◌∙◌, subst, arith, ⊎_elim, inl, inr}
+use Rattle.std.proofs.lemmas.Bool.{cases_eq}
+use Rattle.std.proofs.lemmas.Option.{slice_get_within, get_or_from_slice_get, slice_get-map}
+use Rattle.std.proofs.lemmas.List.Sums.{sum_by-set}
+use Rattle.chain_ids.specs.declared.chain.ChainId.{ChainId}
+use Rattle.trust_tables.specs.declared.rows.AssetRow.{AssetRow}
+use Rattle.trust_tables.specs.declared.rows.AssetRole.TheVariants.{Native, Derivative}
+use Rattle.trust_tables.specs.Accounts.{IsChain, sovereign_account}
+use Rattle.coherence.specs.UniversalAssets.{UniversalAsset, Choice, every}
+use Rattle.coherence.specs.Networks.{Table, IsIn, asset_of_row, AreTwins, HasReserve, IsNetwork, Agrees, is_home}
+use Rattle.conservation.specs.Parts.{Part, World, chain_of, Count, debt, held_for, burned, flight, deposits, withdrawals, own, home, supply, alive, population, owed, Backed}
+
+-- the tables, which no step changes
+abbrev pub tables_of : World → List Table
+tables_of w = map (λ (p : Part). p.table) w
+
+-- ---- what a chain may do to what it owes and keeps, but for its dealings with one chain
+pub record KeepsBut (but : ChainId → Type 0) (p q : Part) : Type 0 where
+  pub table : q.table ≡ p.table
+  -- what it owes to a reserve doesn't rise
+  pub owing : (row : AssetRow) (chain : ChainId) (count : Count) → IsIn p.table.rows row → row.role ≡ Derivative chain → (but chain → ⊥)
+      → debt (asset_of_row p.table row) count q + withdrawals chain (asset_of_row p.table row) count q ≤ debt (asset_of_row p.table row) count p + withdrawals chain (asset_of_row p.table row) count p
+  -- what it keeps for a chain falls by no more than the deposits under way to it
+  pub covering : (chain : ChainId) (a : UniversalAsset) (count : Count) → IsChain chain → chain ≢ chain_of p → (but chain → ⊥)
+      → deposits chain a count q + held_for chain a count p ≤ deposits chain a count p + held_for chain a count q
+
+abbrev pub none_but : ChainId → Type 0
+none_but chain = ⊥
+
+abbrev pub Keeps : Part → Part → Type 0
+Keeps p q = KeepsBut none_but p q
+
+-- one chain's change that is safe
+pub record IsSafe (p q : Part) : Type 0 where
+  pub keeps : Keeps p q
+  pub owned : (a : UniversalAsset) → home a q ≡ home a p
+  pub rare : (a : UniversalAsset) (choice : Choice) → alive a choice q ≤ alive a choice p
+
+-- the first chain's debt to the second rises by no more than what the second keeps for it
+abbrev pub Pays : (p p' q q' : Part) → Type 0
+Pays p p' q q' = (row : AssetRow) (count : Count) → IsIn p.table.rows row → row.role ≡ Derivative (chain_of q)
+    → owed (asset_of_row p.table row) count p' q' + held_for (chain_of p) (asset_of_row p.table row) count q ≤ owed (asset_of_row p.table row) count p q + held_for (chain_of p) (asset_of_row p.table row) count q'
+
+-- a change of two chains that is safe
+pub record IsExchange (p p' q q' : Part) : Type 0 where
+  pub first : KeepsBut (λ chain. chain ≡ chain_of q) p p'
+  pub second : KeepsBut (λ chain. chain ≡ chain_of p) q q'
+  pub there : Pays p p' q q'
+  pub back : Pays q q' p p'
+  pub owned : (a : UniversalAsset) → home a p' + home a q' ≡ home a p + home a q
+  pub rare : (a : UniversalAsset) (choice : Choice) → alive a choice p' + alive a choice q' ≤ alive a choice p + alive a choice q
+
+-- ---- places of a list after a write
+pub get_set_same : (w : World) (c : ℕ) (p q : Part) → slice_get w c ≡ Some p → slice_get (slice_set w c q) c ≡ Some q
+get_set_same [] c p q h = absurd (cc h)
+get_set_same (x ∷ xs) zero p q h = refl
+get_set_same (x ∷ xs) (suc c) p q h = get_set_same xs c p q h
+
+pub get_set_other : (w : World) (c d : ℕ) (q : Part) → (d ≡ c → ⊥) → slice_get (slice_set w c q) d ≡ slice_get w d
+get_set_other [] c d q n = refl
+get_set_other (x ∷ xs) zero zero q n = absurd (n refl)
+get_set_other (x ∷ xs) zero (suc d) q n = refl
+get_set_other (x ∷ xs) (suc c) zero q n = refl
+get_set_other (x ∷ xs) (suc c) (suc d) q n = get_set_other xs c d q (λ e. n (ap suc e))
+
+some_table : (x y : Table) → Some x ≡ Some y → x ≡ y
+some_table x y e = cc
+
+some_same : {A : Type 0} (x y : A) → Some x ≡ Some y → x ≡ y
+some_same x y e = cc
+
+pub tables_set : (w : World) (c : ℕ) (p q : Part) → slice_get w c ≡ Some p → q.table ≡ p.table → tables_of (slice_set w c q) ≡ tables_of w
+tables_set [] c p q h same = refl
+tables_set (x ∷ xs) zero p q h same = let there : x ≡ p = some_same x p h in ap (λ t. t ∷ tables_of xs) (same ∙ ap (λ (y : Part). y.table) (sym there))
+tables_set (x ∷ xs) (suc c) p q h same = ap (λ ts. x.table ∷ ts) (tables_set xs c p q h same)
+
+pub table_at : (w : World) (c : ℕ) (p : Part) → slice_get w c ≡ Some p → slice_get (tables_of w) c ≡ Some p.table
+table_at w c p h = slice_get-map (λ (p : Part). p.table) w c ∙ ap (option_map (λ (p : Part). p.table)) h
+
+pub supply-set : (a : UniversalAsset) (w : World) (c : ℕ) (p q : Part) → slice_get w c ≡ Some p → supply a (slice_set w c q) + home a p ≡ supply a w + home a q
+unfolding supply
+supply-set a w c p q h =
+    let s = sum_by-set (home a) w c q p (slice_get_within w c p h) in
+    ap (λ x. sum_by (home a) (slice_set w c q) + home a x) (sym (get_or_from_slice_get w c p p h)) ∙ s
+
+pub population-set : (a : UniversalAsset) (choice : Choice) (w : World) (c : ℕ) (p q : Part) → slice_get w c ≡ Some p → population a choice (slice_set w c q) + alive a choice p ≡ population a choice w + alive a choice q
+unfolding population
+population-set a choice w c p q h =
+    let s = sum_by-set (alive a choice) w c q p (slice_get_within w c p h) in
+    ap (λ x. sum_by (alive a choice) (slice_set w c q) + alive a choice x) (sym (get_or_from_slice_get w c p p h)) ∙ s
+
+-- ---- the worlds
+pub record SafeStep (w v : World) : Type 0 where
+  pub tables : tables_of v ≡ tables_of w
+  pub supplied : (a : UniversalAsset) → supply a v ≡ supply a w
+  pub rare : (a : UniversalAsset) (choice : Choice) → population a choice v ≤ population a choice w
+  pub backed : Backed w → Backed v
+
+-- ---- a covered row
+abbrev pub Covered : Table → ChainId → AssetRow → Count → Part → Part → Type 0
+Covered t chain row count c r =
+    debt (asset_of_row t row) count c + withdrawals chain (asset_of_row t row) count c + deposits t.site.chain (asset_of_row t row) count r ≤ held_for t.site.chain (asset_of_row t row) count r
+
+to_new : (x y z u : Part) (row : AssetRow) (count : Count) → x.table ≡ y.table → z.table ≡ u.table → Covered y.table (chain_of u) row count x z → Covered x.table (chain_of z) row count x z
+to_new x y z u row count xt zt h =
+    subst (λ (t : Table). Covered t (chain_of z) row count x z) (sym xt) (subst (λ (t : Table). Covered y.table t.site.chain row count x z) (sym zt) h)
+
+-- a chain of the new world, and what it was
+pub record Was (w : World) (k : ℕ) (x : Part) (but : ChainId → Type 0) : Type 0 where
+  pub old : Part
+  pub at : slice_get w k ≡ Some old
+  pub keeps : KeepsBut but old x
+
+pub keeps_itself : (but : ChainId → Type 0) (p : Part) → KeepsBut but p p
+keeps_itself but p = record { table = refl; owing = λ row chain count inside role other. omega arith; covering = λ chain a count number foreign other. omega arith }
+
+native_or_derivative : (row : AssetRow) (partners : List ChainId) (checking : Option ℕ) (chain : ChainId) → row.role ≡ Native partners checking → row.role ≡ Derivative chain → ⊥
+native_or_derivative row partners checking chain n d = absurd (cc)
+
+module _ (w : World) (agrees : Agrees (tables_of w)) where
+  in_tables : (k : ℕ) (p : Part) → slice_get w k ≡ Some p → IsIn (tables_of w) p.table
+  in_tables k p h = (k, table_at w k p h)
+
+  pub number_of : (k : ℕ) (p : Part) → slice_get w k ≡ Some p → IsChain (chain_of p)
+  number_of k p h = agrees.network.chains p.table (in_tables k p h)
+
+  pub place_of_one : (k l : ℕ) (p q : Part) → slice_get w k ≡ Some p → slice_get w l ≡ Some q → chain_of p ≡ chain_of q → k ≡ l
+  place_of_one k l p q hk hl same = agrees.network.apart k l p.table q.table (table_at w k p hk) (table_at w l q hl) same
+
+  -- no chain is its own reserve
+  pub reserve_is_other : (k : ℕ) (p : Part) (row : AssetRow) (chain : ChainId) → slice_get w k ≡ Some p → IsIn p.table.rows row → row.role ≡ Derivative chain → chain ≢ chain_of p
+  reserve_is_other k p row chain h inside role self =
+      let r : HasReserve (tables_of w) p.table row chain = agrees.reserves p.table row chain (in_tables k p h) inside role in
+      let place : r.listed.0 ≡ k = agrees.network.apart r.listed.0 k r.table p.table r.listed.1 (table_at w k p h) (r.at_chain ∙ self) in
+      let table : r.table ≡ p.table = some_table r.table p.table (sym r.listed.1 ∙ ap (slice_get (tables_of w)) place ∙ table_at w k p h) in
+      let twins : AreTwins p.table p.table row r.row = subst (λ (t : Table). AreTwins p.table t row r.row) table r.twins in
+      let rows : r.row ≡ row = agrees.paths_apart p.table r.row row (in_tables k p h) twins.there inside twins.path in
+      native_or_derivative row r.partners r.checking chain (sym (ap (λ (x : AssetRow). x.role) rows) ∙ r.native) role
+
+  -- a pair of chains, neither of which deals with the other
+  pair_covered : Backed w → (k l : ℕ) (x z : Part) (but_k but_l : ChainId → Type 0) (was : Was w k x but_k) (had : Was w l z but_l) (row : AssetRow) (count : Count)
+      → IsIn x.table.rows row → row.role ≡ Derivative (chain_of z) → (but_k (chain_of had.old) → ⊥) → (but_l (chain_of was.old) → ⊥) → Covered x.table (chain_of z) row count x z
+  pair_covered b k l x z but_k but_l was had row count inside role fine_k fine_l =
+      let y = was.old in
+      let u = had.old in
+      let inside_y : IsIn y.table.rows row = subst (λ (t : Table). IsIn t.rows row) was.keeps.table inside in
+      let role_u : row.role ≡ Derivative (chain_of u) = role ∙ ap (λ (t : Table). Derivative t.site.chain) had.keeps.table in
+      let before : Covered y.table (chain_of u) row count y u = b k l y u row count was.at had.at inside_y role_u in
+      let less = was.keeps.owing row (chain_of u) count inside_y role_u fine_k in
+      let more = had.keeps.covering (chain_of y) (asset_of_row y.table row) count (number_of k y was.at) (λ same. reserve_is_other k y row (chain_of u) was.at inside_y role_u (sym same)) fine_l in
+      to_new x y z u row count was.keeps.table had.keeps.table (omega (arith, before, less, more))
+
+  -- a pair of chains that deal with each other
+  paid_covered : Backed w → (k l : ℕ) (x y z u : Part) (row : AssetRow) (count : Count) → slice_get w k ≡ Some y → slice_get w l ≡ Some u → x.table ≡ y.table → z.table ≡ u.table → Pays y x u z
+      → IsIn x.table.rows row → row.role ≡ Derivative (chain_of z) → Covered x.table (chain_of z) row count x z
+  paid_covered b k l x y z u row count at_k at_l xt zt pays inside role =
+      let inside_y : IsIn y.table.rows row = subst (λ (t : Table). IsIn t.rows row) xt inside in
+      let role_u : row.role ≡ Derivative (chain_of u) = role ∙ ap (λ (t : Table). Derivative t.site.chain) zt in
+      let before : Covered y.table (chain_of u) row count y u = b k l y u row count at_k at_l inside_y role_u in
+      let paid = pays row count inside_y role_u in
+      let chains : chain_of x ≡ chain_of y = ap (λ (t : Table). t.site.chain) xt in
+      let others : chain_of z ≡ chain_of u = ap (λ (t : Table). t.site.chain) zt in
+      let now : debt (asset_of_row y.table row) count x + withdrawals (chain_of u) (asset_of_row y.table row) count x + deposits (chain_of y) (asset_of_row y.table row) count z + held_for (chain_of y) (asset_of_row y.table row) count u
+      ≤ debt (asset_of_row y.table row) count y + withdrawals (chain_of u) (asset_of_row y.table row) count y + deposits (chain_of y) (asset_of_row y.table row) count u + held_for (chain_of y) (asset_of_row y.table row) count z =
+      subst (λ (c : ChainId). debt (asset_of_row y.table row) count x + withdrawals (chain_of u) (asset_of_row y.table row) count x + deposits c (asset_of_row y.table row) count z + held_for (chain_of y) (asset_of_row y.table row) count u
+      ≤ debt (asset_of_row y.table row) count y + withdrawals (chain_of u) (asset_of_row y.table row) count y + deposits (chain_of y) (asset_of_row y.table row) count u + held_for (chain_of y) (asset_of_row y.table row) count z) chains
+      (subst (λ (c : ChainId). debt (asset_of_row y.table row) count x + withdrawals c (asset_of_row y.table row) count x + deposits (chain_of x) (asset_of_row y.table row) count z + held_for (chain_of y) (asset_of_row y.table row) count u
+      ≤ debt (asset_of_row y.table row) count y + withdrawals (chain_of u) (asset_of_row y.table row) count y + deposits (chain_of y) (asset_of_row y.table row) count u + held_for (chain_of y) (asset_of_row y.table row) count z) others paid) in
+      to_new x y z u row count xt zt (omega (arith, before, now))
+
+  -- ONE CHAIN
+  was_here : (i k : ℕ) (p q x : Part) → slice_get w i ≡ Some p → Keeps p q → slice_get (slice_set w i q) k ≡ Some x → Was w k x none_but
+  was_here i k p q x at kept now = ⊎_elim
+      (λ (same : k ≡ i).
+      let there : q ≡ x = some_same q x (sym (get_set_same w i p q at) ∙ ap (slice_get (slice_set w i q)) (sym same) ∙ now) in
+      let r : Was w k x none_but = record { old = p; at = ap (slice_get w) same ∙ at; keeps = subst (KeepsBut none_but p) there kept } in r)
+      (λ n. let r : Was w k x none_but = record { old = x; at = sym (get_set_other w i k q n) ∙ now; keeps = keeps_itself none_but x } in r)
+      (cases_eq k i)
+
+  pub safe_step : (i : ℕ) (p q : Part) → slice_get w i ≡ Some p → IsSafe p q → SafeStep w (slice_set w i q)
+  safe_step i p q at safe = record {
+    tables = tables_set w i p q at safe.keeps.table;
+    supplied = λ a. let s = supply-set a w i p q at in let h = safe.owned a in omega (arith, s, h);
+    rare = λ a choice. let s = population-set a choice w i p q at in let h = safe.rare a choice in omega (arith, s, h);
+    backed = λ b k l x z row count at_k at_l inside role.
+        pair_covered b k l x z none_but none_but (was_here i k p q x at safe.keeps at_k) (was_here i l p q z at safe.keeps at_l) row count inside role (λ e. e) (λ e. e);
+  }
+
+-- where a chain stands after two writes
+pub data Spot (w : World) (i j : ℕ) (p q : Part) (k : ℕ) (x : Part) : Type 0 where
+  AtFirst : k ≡ i → p ≡ x → Spot w i j p q k x
+  AtSecond : k ≡ j → q ≡ x → Spot w i j p q k x
+  Elsewhere : (k ≡ i → ⊥) → (k ≡ j → ⊥) → slice_get w k ≡ Some x → Spot w i j p q k x
+
+spot_of : (w : World) (i j : ℕ) (p p' q q' : Part) → slice_get w i ≡ Some p → slice_get w j ≡ Some q → (i ≡ j → ⊥) → (k : ℕ) (x : Part) → slice_get (slice_set (slice_set w i p') j q') k ≡ Some x → Spot w i j p' q' k x
+spot_of w i j p p' q q' at_i at_j apart k x now =
+    let mid : slice_get (slice_set w i p') j ≡ Some q = get_set_other w i j p' (λ e. apart (sym e)) ∙ at_j in
+    ⊎_elim
+    (λ (kj : k ≡ j). let r : Spot w i j p' q' k x = AtSecond kj (some_same q' x (sym (get_set_same (slice_set w i p') j q q' mid) ∙ ap (slice_get (slice_set (slice_set w i p') j q')) (sym kj) ∙ now)) in r)
+    (λ nj. let mid_k : slice_get (slice_set w i p') k ≡ Some x = sym (get_set_other (slice_set w i p') j k q' nj) ∙ now in
+    ⊎_elim
+    (λ (ki : k ≡ i). let r : Spot w i j p' q' k x = AtFirst ki (some_same p' x (sym (get_set_same w i p p' at_i) ∙ ap (slice_get (slice_set w i p')) (sym ki) ∙ mid_k)) in r)
+    (λ ni. let r : Spot w i j p' q' k x = Elsewhere ni nj (sym (get_set_other w i k p' ni) ∙ mid_k) in r)
+    (cases_eq k i))
+    (cases_eq k j)
+
+module _ (w : World) (agrees : Agrees (tables_of w)) (i j : ℕ) (p p' q q' : Part) (at_i : slice_get w i ≡ Some p) (at_j : slice_get w j ≡ Some q) (apart : i ≡ j → ⊥) (e : IsExchange p p' q q') (b : Backed w) where
+  self_reserve : (k : ℕ) (y x z : Part) (row : AssetRow) → slice_get w k ≡ Some y → x.table ≡ y.table → z.table ≡ y.table → IsIn x.table.rows row → row.role ≡ Derivative (chain_of z) → ⊥
+  self_reserve k y x z row at xt zt inside role =
+      reserve_is_other w agrees k y row (chain_of z) at (subst (λ (t : Table). IsIn t.rows row) xt inside) role (ap (λ (t : Table). t.site.chain) zt)
+
+  first_was : (k : ℕ) (x : Part) → k ≡ i → p' ≡ x → Was w k x (λ chain. chain ≡ chain_of q)
+  first_was k x ki px = record { old = p; at = ap (slice_get w) ki ∙ at_i; keeps = subst (KeepsBut (λ chain. chain ≡ chain_of q) p) px e.first }
+
+  second_was : (k : ℕ) (x : Part) → k ≡ j → q' ≡ x → Was w k x (λ chain. chain ≡ chain_of p)
+  second_was k x kj qx = record { old = q; at = ap (slice_get w) kj ∙ at_j; keeps = subst (KeepsBut (λ chain. chain ≡ chain_of p) q) qx e.second }
+
+  other_was : (k : ℕ) (x : Part) → slice_get w k ≡ Some x → Was w k x none_but
+  other_was k x at = record { old = x; at = at; keeps = keeps_itself none_but x }
+
+  first_table : (x : Part) → p' ≡ x → x.table ≡ p.table
+  first_table x px = ap (λ (y : Part). y.table) (sym px) ∙ e.first.table
+
+  second_table : (x : Part) → q' ≡ x → x.table ≡ q.table
+  second_table x qx = ap (λ (y : Part). y.table) (sym qx) ∙ e.second.table
+
+  spots_covered : (k l : ℕ) (x z : Part) → Spot w i j p' q' k x → Spot w i j p' q' l z → (row : AssetRow) (count : Count) → IsIn x.table.rows row → row.role ≡ Derivative (chain_of z) → Covered x.table (chain_of z) row count x z
+  unfolding other_was
+  spots_covered k l x z (AtFirst ki px) (AtFirst li pz) row count inside role = absurd (self_reserve i p x z row at_i (first_table x px) (first_table z pz) inside role)
+  spots_covered k l x z (AtFirst ki px) (AtSecond lj qz) row count inside role =
+      paid_covered w agrees b i j x p z q row count at_i at_j (first_table x px) (second_table z qz) (subst (λ y. Pays p y q z) px (subst (Pays p p' q) qz e.there)) inside role
+  spots_covered k l x z (AtFirst ki px) (Elsewhere ni nj at) row count inside role =
+      pair_covered w agrees b k l x z (λ chain. chain ≡ chain_of q) none_but (first_was k x ki px) (other_was l z at) row count inside role
+      (λ same. nj (place_of_one w agrees l j z q at at_j same)) (λ h. h)
+  spots_covered k l x z (AtSecond kj qx) (AtFirst li pz) row count inside role =
+      paid_covered w agrees b j i x q z p row count at_j at_i (second_table x qx) (first_table z pz) (subst (λ y. Pays q y p z) qx (subst (Pays q q' p) pz e.back)) inside role
+  spots_covered k l x z (AtSecond kj qx) (AtSecond lj qz) row count inside role = absurd (self_reserve j q x z row at_j (second_table x qx) (second_table z qz) inside role)
+  spots_covered k l x z (AtSecond kj qx) (Elsewhere ni nj at) row count inside role =
+      pair_covered w agrees b k l x z (λ chain. chain ≡ chain_of p) none_but (second_was k x kj qx) (other_was l z at) row count inside role
+      (λ same. ni (place_of_one w agrees l i z p at at_i same)) (λ h. h)
+  spots_covered k l x z (Elsewhere ni nj at) (AtFirst li pz) row count inside role =
+      pair_covered w agrees b k l x z none_but (λ chain. chain ≡ chain_of q) (other_was k x at) (first_was l z li pz) row count inside role
+      (λ h. h) (λ same. nj (place_of_one w agrees k j x q at at_j same))
+  spots_covered k l x z (Elsewhere ni nj at) (AtSecond lj qz) row count inside role =
+      pair_covered w agrees b k l x z none_but (λ chain. chain ≡ chain_of p) (other_was k x at) (second_was l z lj qz) row count inside role
+      (λ h. h) (λ same. ni (place_of_one w agrees k i x p at at_i same))
+  spots_covered k l x z (Elsewhere ni nj at) (Elsewhere mi mj has) row count inside role =
+      pair_covered w agrees b k l x z none_but none_but (other_was k x at) (other_was l z has) row count inside role (λ h. h) (λ h. h)
+
+-- TWO CHAINS
+pub safe_exchange : (w : World) → Agrees (tables_of w) → (i j : ℕ) (p p' q q' : Part) → slice_get w i ≡ Some p → slice_get w j ≡ Some q → (i ≡ j → ⊥) → IsExchange p p' q q'
+    → SafeStep w (slice_set (slice_set w i p') j q')
+safe_exchange w agrees i j p p' q q' at_i at_j apart e =
+    let mid : slice_get (slice_set w i p') j ≡ Some q = get_set_other w i j p' (λ h. apart (sym h)) ∙ at_j in
+    record {
+      tables = tables_set (slice_set w i p') j q q' mid e.second.table ∙ tables_set w i p p' at_i e.first.table;
+      supplied = λ a.
+          let one = supply-set a w i p p' at_i in
+          let two = supply-set a (slice_set w i p') j q q' mid in
+          let both = e.owned a in
+          omega (arith, one, two, both);
+      rare = λ a choice.
+          let one = population-set a choice w i p p' at_i in
+          let two = population-set a choice (slice_set w i p') j q q' mid in
+          let both = e.rare a choice in
+          omega (arith, one, two, both);
+      backed = λ b k l x z row count at_k at_l inside role.
+          spots_covered w agrees i j p p' q q' at_i at_j apart e b k l x z (spot_of w i j p p' q q' at_i at_j apart k x at_k) (spot_of w i j p p' q q' at_i at_j apart l z at_l) row count inside role;
+    }
