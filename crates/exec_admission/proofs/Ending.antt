@@ -1,0 +1,115 @@
+-- How an execution begins and ends.
+use Rattle.std.proofs.Common.{◌≡◌, ℕ, ◌<◌, Bool, true, false, Result, Err, refl, ap, ◌∙◌, arith}
+use Rattle.std.specs.Prelude.{nat_eq, if◌then◌else◌, length}
+use Rattle.std.proofs.lemmas.Bool.Decides.{nat_tests}
+use Rattle.amounts.specs.Amounts.{empty, rows}
+use Rattle.locations.specs.declared.relative.Location.{Location}
+use Rattle.trap_store.specs.Traps.{with_trapped}
+use Rattle.weight_trader.specs.Refunds.{Closed}
+use Rattle.xcm_program.specs.declared.outcome.Outcome.{Outcome}
+use Rattle.exec_base.specs.declared.event.Event.{Event}
+use Rattle.exec_base.specs.declared.event.Part.TheVariants as parts
+use Rattle.exec_base.specs.declared.registers.Registers.{Registers}
+use Rattle.exec_base.specs.Part.{ChainPart}
+use Rattle.exec_base.specs.Host.{told, settled, trapped}
+use Rattle.exec_run.specs.Machine.{Machine, control_of}
+use Rattle.exec_run.specs.Accounts.{Balances, IsBalanced, ref_time, proof_size}
+use Rattle.exec_run.specs.Outcome.{owner_of, end_event, refunded_last, finished}
+use Rattle.exec_run.specs.RunLaws.{begin_balanced}
+use Rattle.exec_rules.specs.Instructions.{xcm}
+use Rattle.exec_admission.specs.declared.rules.ChainRules.{ChainRules}
+use Rattle.exec_admission.specs.declared.admission.Admitted.{Admitted}
+use Rattle.exec_admission.specs.Admission.{IsWeighed}
+use Rattle.exec_admission.specs.Execution.{started, first_machine, first_stage, executed_by}
+
+started_balanced : (rules : ChainRules) (origin : Location) (a : Admitted) → IsWeighed rules.weight a → Balances a.weight a.program (control_of (started rules origin))
+started_balanced rules origin a w =
+    let t = ap ref_time w.is in
+    let z = ap proof_size w.is in
+    record {
+      in_time = record { handler = refl; appendix = refl; within = omega (arith, t); refunded = omega arith };
+      in_size = record { handler = refl; appendix = refl; within = omega (arith, z); refunded = omega arith };
+      counted = omega (arith, w.counted);
+      few = omega (arith, w.few);
+      short = w.short;
+      small = w.small;
+    }
+
+pub first_balanced : (rules : ChainRules) (origin : Location) (a : Admitted) (p : ChainPart) → IsWeighed rules.weight a → IsBalanced a.weight (first_stage rules origin a p)
+first_balanced rules origin a p w = begin_balanced a.weight parts.Program a.program (first_machine rules origin p) (started_balanced rules origin a w)
+
+pub refused_changes_nothing : (rules : ChainRules) (origin : Location) (answer : Result Admitted Outcome) (outcome : Outcome) (p : ChainPart) → answer ≡ Err outcome
+    → executed_by rules origin answer p ≡ ((outcome, false), p)
+refused_changes_nothing rules origin answer outcome p e = ap (λ (r : Result Admitted Outcome). executed_by rules origin r p) e
+
+-- ---- the end
+
+trapped_fees : (r : Registers) (p : ChainPart) → (trapped p r.holding (owner_of r)).fees ≡ p.fees
+unfolding trapped
+trapped_fees r p = refl
+
+trapped_lines_kept : (r : Registers) (p : ChainPart) → (trapped p r.holding (owner_of r)).lines ≡ p.lines
+unfolding trapped
+trapped_lines_kept r p = refl
+
+trapped_traps : (r : Registers) (p : ChainPart) → (trapped p r.holding (owner_of r)).traps ≡ with_trapped p.traps (owner_of r) r.holding
+unfolding trapped
+trapped_traps r p = refl
+
+same_either : {A : Type 0} (f : ChainPart → A) (b : Bool) (p q : ChainPart) → f q ≡ f p → f (if b then p else q) ≡ f p
+same_either f true p q h = refl
+same_either f false p q h = h
+
+settled_fees : (p : ChainPart) → (settled p).fees ≡ empty
+unfolding settled
+settled_fees p = refl
+
+settled_lines : (p : ChainPart) → (settled p).lines ≡ Closed p.lines
+unfolding settled
+settled_lines p = refl
+
+settled_traps : (p : ChainPart) → (settled p).traps ≡ p.traps
+unfolding settled
+settled_traps p = refl
+
+told_lines : (p : ChainPart) (e : Event) → (told p e).lines ≡ p.lines
+unfolding told
+told_lines p e = refl
+
+told_traps : (p : ChainPart) (e : Event) → (told p e).traps ≡ p.traps
+unfolding told
+told_traps p e = refl
+
+pub ends_settled : (m : Machine) → ((finished xcm m).fees ≡ empty) × ((finished xcm m).lines ≡ Closed (refunded_last xcm m).part.lines)
+ends_settled m =
+    let last = refunded_last xcm m in
+    let p = settled (told last.part (end_event last.regs)) in (
+      same_either (λ (p : ChainPart). p.fees) (nat_eq (length (rows last.regs.holding)) 0) p _ (trapped_fees last.regs p) ∙ settled_fees (told last.part (end_event last.regs)),
+      same_either (λ (p : ChainPart). p.lines) (nat_eq (length (rows last.regs.holding)) 0) p _ (trapped_lines_kept last.regs p)
+          ∙ settled_lines (told last.part (end_event last.regs)) ∙ ap Closed (told_lines last.part (end_event last.regs)),
+    )
+
+not_none : (n : ℕ) → 0 < n → nat_eq n 0 ≡ false
+not_none n some = grind (arith, nat_tests, some)
+
+some_is_trapped : (n : ℕ) (p q : ChainPart) → 0 < n → (if nat_eq n 0 then p else q) ≡ q
+some_is_trapped n p q some = ap (λ (b : Bool). if b then p else q) (not_none n some)
+
+none_is_trapped : (n : ℕ) (p q : ChainPart) → n ≡ 0 → (if nat_eq n 0 then p else q) ≡ p
+none_is_trapped n p q none = ap (λ (k : ℕ). if nat_eq k 0 then p else q) none
+
+pub ends_trapped : (m : Machine) → 0 < length (rows (refunded_last xcm m).regs.holding)
+    → (finished xcm m).traps ≡ with_trapped (refunded_last xcm m).part.traps (owner_of (refunded_last xcm m).regs) (refunded_last xcm m).regs.holding
+ends_trapped m some =
+    let last = refunded_last xcm m in
+    let told_part = told last.part (end_event last.regs) in
+    ap (λ (p : ChainPart). p.traps) (some_is_trapped (length (rows last.regs.holding)) (settled told_part) (trapped (settled told_part) last.regs.holding (owner_of last.regs)) some)
+    ∙ trapped_traps last.regs (settled told_part)
+    ∙ ap (λ s. with_trapped s (owner_of last.regs) last.regs.holding) (settled_traps told_part ∙ told_traps last.part (end_event last.regs))
+
+pub ends_untrapped : (m : Machine) → length (rows (refunded_last xcm m).regs.holding) ≡ 0 → (finished xcm m).traps ≡ (refunded_last xcm m).part.traps
+ends_untrapped m none =
+    let last = refunded_last xcm m in
+    let told_part = told last.part (end_event last.regs) in
+    ap (λ (p : ChainPart). p.traps) (none_is_trapped (length (rows last.regs.holding)) (settled told_part) (trapped (settled told_part) last.regs.holding (owner_of last.regs)) none)
+    ∙ settled_traps told_part ∙ told_traps last.part (end_event last.regs)

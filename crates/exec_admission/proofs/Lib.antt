@@ -1,0 +1,4 @@
+mod Weighed
+mod Ending
+mod Ready
+mod Resting

@@ -1,0 +1,5 @@
+pub mod Part
+pub mod Arrivals
+pub mod Answers
+pub mod Sending
+pub mod Host

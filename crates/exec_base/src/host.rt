@@ -1,0 +1,188 @@
+//! A chain, as a program of instructions sees it.
+
+use crate::{Event, HostFault};
+use asset_bundles::{AssetBundle, Way};
+use asset_lists::{Asset, Assets};
+use locations::Location;
+use message_parts::{OpenQuery, PalletInfo, QueryInfo, Response, Weight};
+use std::alloc::AllocError;
+use trust_tables::Site;
+use xcm_program::Program;
+
+/// A chain, as a program of instructions sees it. Each call answers as its rule says, all or nothing, or memory is refused and the part is as it was.
+pub trait Host {
+    ghost use Rattle.std.specs.Prelude.{◌≡◌, ◌<◌, length, is_some, [], ◌∷◌, IsTrue, IsSome};
+    ghost use Rattle.std.specs.Option.{option_copied};
+    ghost use Rattle.amounts.specs.Amounts.{empty, rows};
+    ghost use Rattle.asset_bundles.specs.Bundles.{bundle_of};
+    ghost use Rattle.asset_bundles.specs.Books.{AreListed};
+    ghost use Rattle.asset_bundles.specs.Joins.{Joined, Excess};
+    ghost use Rattle.trust_tables.specs.Trust.{listing};
+    ghost use Rattle.weight_trader.specs.Refunds.{refund_of};
+    ghost use Rattle.exec_base.specs.Part.{ChainPart};
+    ghost use Rattle.exec_base.specs.Answers.{Answers, TakesIn, Keeps, Gives, JoinedInto};
+    ghost use Rattle.exec_base.specs.Sending.{channel_to, number_to, IsForwardable};
+    ghost use Rattle.exec_base.specs.Host.{withdraw_refusal, withdrawn, deposit_refusal, deposited, transfer_refusal, transferred, receive_refusal, received, transfer_out_refusal, transferred_out, deposit_out_refusal, deposited_out, ship_refusal, shipped, respond_refusal, responded, report_program, IsFeeOrNothing, is_open, answered, buy_refusal, unspent, bought, refund_goods, refunded, joined, burnt, claim_refusal, claimed, trapped, parked, settled, fee_to, fee_held, fee_taken, fee_kept, fee_drawn, told};
+
+    /// The chain's part of the world.
+    ghost part: { Self → ChainPart };
+
+    /// Where the chain stands.
+    fn site(&self) -> &Site
+        ensures { result.now ≡ (part self.now).site };
+
+    /// The chain's pallets, in listed order.
+    fn pallets(&self) -> &[PalletInfo]
+        ensures { result.now ≡ (part self.now).pallets };
+
+    /// The chain's open queries.
+    fn open(&self) -> &[OpenQuery]
+        ensures { result.now ≡ (part self.now).queries };
+
+    /// Takes assets out of an account.
+    fn withdraw(&mut self, a: &Assets, who: &Location) -> Result<AssetBundle, HostFault>
+        ensures step { Answers (withdraw_refusal (part self.old) a.now who.now) (bundle_of a.now) (withdrawn (part self.old) a.now who.now) (part self.old) result (part self.new) };
+
+    /// Puts goods into an account.
+    fn deposit(
+        &mut self,
+        goods: AssetBundle,
+        who: &Location,
+    ) -> Result<(), (AssetBundle, HostFault)>
+        ensures step { TakesIn (deposit_refusal (part self.old) goods who.now) goods tt (deposited (part self.old) goods who.now) (part self.old) result (part self.new) };
+
+    /// Moves assets between accounts.
+    fn transfer(&mut self, a: &Assets, from: &Location, to: &Location) -> Result<(), HostFault>
+        ensures step { Answers (transfer_refusal (part self.old) a.now from.now to.now) tt (transferred (part self.old) a.now from.now to.now) (part self.old) result (part self.new) };
+
+    /// Makes assets that another chain deposited or teleported here.
+    fn receive(
+        &mut self,
+        a: &Assets,
+        from: &Location,
+        teleport: bool,
+    ) -> Result<AssetBundle, HostFault>
+        ensures step { Answers (receive_refusal (part self.old) a.now from.now teleport) (bundle_of a.now) (received (part self.old) a.now teleport) (part self.old) result (part self.new) };
+
+    /// Moves assets to the account of another chain, and tells it.
+    fn transfer_out(
+        &mut self,
+        a: &Assets,
+        from: &Location,
+        dest: &Location,
+        xcm: &Program,
+    ) -> Result<u64, HostFault>
+        requires forwardable { IsForwardable xcm.now }
+        ensures step { Answers (transfer_out_refusal (part self.old) a.now from.now dest.now xcm.now) (number_to (part self.old) dest.now) (transferred_out (part self.old) a.now from.now dest.now xcm.now) (part self.old) result (part self.new) };
+
+    /// Puts goods into the account of another chain, and tells it.
+    fn deposit_out(
+        &mut self,
+        goods: AssetBundle,
+        dest: &Location,
+        xcm: &Program,
+    ) -> Result<u64, (AssetBundle, HostFault)>
+        requires forwardable { IsForwardable xcm.now }
+        ensures step { TakesIn (deposit_out_refusal (part self.old) goods dest.now xcm.now) goods (number_to (part self.old) dest.now) (deposited_out (part self.old) goods dest.now xcm.now) (part self.old) result (part self.new) };
+
+    /// Ships goods to another chain.
+    fn ship_out(
+        &mut self,
+        goods: AssetBundle,
+        way: Way,
+        dest: &Location,
+        xcm: &Program,
+    ) -> Result<u64, (AssetBundle, HostFault)>
+        requires forwardable { IsForwardable xcm.now }
+        ensures step { TakesIn (ship_refusal (part self.old) goods way dest.now xcm.now) goods (number_to (part self.old) dest.now) (shipped (part self.old) goods way dest.now xcm.now) (part self.old) result (part self.new) };
+
+    /// Answers a query of another chain.
+    fn respond(
+        &mut self,
+        to: &QueryInfo,
+        response: Response,
+        querier: Option<&Location>,
+    ) -> Result<u64, HostFault>
+        requires forwardable { IsForwardable (report_program to.now response (option_copied querier)) }
+        ensures step { Answers (respond_refusal (part self.old) to.now response (option_copied querier.entry)) (number_to (part self.old) to.now.destination) (responded (part self.old) to.now response (option_copied querier.entry)) (part self.old) result (part self.new) };
+
+    /// Whether a channel leads to just that location.
+    fn routes(&self, dest: &Location) -> bool
+        ensures { result ≡ is_some (channel_to (part self.now) dest.now) };
+
+    /// Closes the query, where it is open from that location.
+    fn answer(&mut self, from: &Location, query: u64) -> Result<bool, AllocError>
+        ensures step { Gives (is_open (part self.old) from.now query) (answered (part self.old) from.now query) (part self.old) result (part self.new) };
+
+    /// Buys weight, and hands back what is unspent.
+    fn buy(
+        &mut self,
+        w: Weight,
+        payment: AssetBundle,
+    ) -> Result<AssetBundle, (AssetBundle, HostFault)>
+        ensures step { TakesIn (buy_refusal (part self.old) w payment) payment (unspent (part self.old) w payment) (bought (part self.old) w payment) (part self.old) result (part self.new) };
+
+    /// What would be given back for the weight.
+    fn refund_of(&self, w: Weight) -> Option<(Location, u128)>
+        ensures { result ≡ refund_of w (part self.now).lines };
+
+    /// Gives back what was paid for the weight.
+    fn refund(&mut self, w: Weight) -> Result<AssetBundle, AllocError>
+        ensures step { Gives (refund_goods (part self.old) w) (refunded (part self.old) w) (part self.old) result (part self.new) };
+
+    /// Joins goods into a bundle, and books what it can't hold.
+    fn join(&mut self, into: &mut AssetBundle, goods: AssetBundle) -> Result<(), AssetBundle>
+        requires listed { AreListed (listing (part self.old).rows) (Excess into.old goods) }
+        ensures step { Keeps goods (joined (part self.old) into.old goods) (part self.old) result (part self.new) }
+        ensures into { JoinedInto goods into.old result into.new };
+
+    /// Burns goods.
+    fn burn(&mut self, goods: AssetBundle) -> Result<(), AssetBundle>
+        requires listed { AreListed (listing (part self.old).rows) goods }
+        ensures step { Keeps goods (burnt (part self.old) goods) (part self.old) result (part self.new) };
+
+    /// Takes a trap that has this origin and this list.
+    fn claim(&mut self, a: &Assets, origin: &Location) -> Result<AssetBundle, HostFault>
+        ensures step { Answers (claim_refusal (part self.old) a.now origin.now) (bundle_of a.now) (claimed (part self.old) a.now origin.now) (part self.old) result (part self.new) };
+
+    /// Traps goods, which aren't empty.
+    fn trap(&mut self, goods: AssetBundle, origin: &Location) -> Result<(), AssetBundle>
+        requires some { 0 < length (rows goods) }
+        ensures step { Keeps goods (trapped (part self.old) goods origin.now) (part self.old) result (part self.new) };
+
+    /// Puts paid fees into the fee account.
+    fn settle(&mut self) -> Result<(), AllocError>
+        ensures step { Gives tt (settled (part self.old)) (part self.old) result (part self.new) };
+
+    /// Keeps a bundle, without memory.
+    fn park(&mut self, goods: AssetBundle)
+        requires few { length (part self.old).parked < 4 }
+        ensures step { part self.new ≡ parked (part self.old) goods };
+
+    /// The fee of the channel that leads there, if there is one and it has one.
+    fn fee_of(&self, dest: &Location) -> Option<Asset>
+        ensures { result ≡ fee_to (part self.now) dest.now };
+
+    /// Puts a fee of one of the chain's channels, or nothing, into the empty slot.
+    fn hold_fee(&mut self, goods: AssetBundle)
+        requires slot { (part self.old).fee_slot ≡ empty }
+        requires fee { IsFeeOrNothing (part self.old) goods }
+        ensures step { part self.new ≡ fee_held (part self.old) goods };
+
+    /// Empties the slot.
+    fn take_fee(&mut self) -> AssetBundle
+        ensures goods { result ≡ (part self.old).fee_slot }
+        ensures step { part self.new ≡ fee_taken (part self.old) };
+
+    /// Adds the slot to the fees.
+    fn keep_fee(&mut self)
+        ensures step { part self.new ≡ fee_kept (part self.old) };
+
+    /// Takes a fee out of an account; it ends no cargo.
+    fn draw_fee(&mut self, a: &Assets, who: &Location) -> Result<AssetBundle, HostFault>
+        ensures step { Answers (withdraw_refusal (part self.old) a.now who.now) (bundle_of a.now) (fee_drawn (part self.old) a.now who.now) (part self.old) result (part self.new) };
+
+    /// Tells an event, and behind it what is kept back.
+    fn event(&mut self, e: Event) -> Result<(), AllocError>
+        ensures step { Gives tt (told (part self.old) e) (part self.old) result (part self.new) };
+}

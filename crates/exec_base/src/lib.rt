@@ -1,0 +1,12 @@
+//! What the instructions ask of a chain, and the registers that they work on.
+#![tactic(auto)]
+
+mod event;
+mod faults;
+mod host;
+mod registers;
+
+pub use event::{Event, Part};
+pub use faults::HostFault;
+pub use host::Host;
+pub use registers::Registers;

@@ -1,0 +1,5 @@
+mod Steering
+mod Origins
+mod Steady
+mod SteadyDone
+mod Sound

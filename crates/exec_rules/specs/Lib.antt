@@ -1,0 +1,11 @@
+pub mod Holdings
+pub mod Fees
+pub mod Reports
+pub mod Origins
+pub mod Programs
+pub mod Expectations
+pub mod Instructions
+pub mod Stopping
+pub mod AnswerLaws
+pub mod HoldingLaws
+pub mod Readiness

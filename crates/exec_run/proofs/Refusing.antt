@@ -1,0 +1,90 @@
+-- What a refused instruction leaves.
+use Rattle.std.proofs.Common.{◌≡◌, ℕ, List, [], ◌∷◌, Option, Some, refl, sym, subst}
+use Rattle.message_parts.specs.declared.error.XcmError.{XcmError}
+use Rattle.xcm_program.specs.declared.instruction.Instruction.{Instruction}
+use Rattle.exec_base.specs.declared.event.Part.{Part}
+use Rattle.exec_base.specs.declared.event.Event.{Event}
+use Rattle.exec_base.specs.Host.{told}
+use Rattle.exec_run.specs.Machine.{Machine, Rules}
+use Rattle.exec_run.specs.Run.{At, failed, to_appendix, to_handler, traced, by_answer, next, machine_of, without_appendix}
+use Rattle.exec_run.specs.Keeping.{LeavesAll}
+use Rattle.exec_run.specs.KeepingLaws.{begin_machine}
+use Rattle.exec_base.specs.declared.event.Part.TheVariants.{Appendix}
+
+-- what is told changes the lines alone
+pub told_leaves : (m : Machine) (e : Event) → LeavesAll m (record m { part = told m.part e })
+unfolding told
+told_leaves m e = record {
+  holding = refl;
+  origin = refl;
+  accounts = refl;
+  traps = refl;
+  queues = refl;
+  burns = refl;
+  checking = refl;
+  trader = refl;
+  fees = refl;
+  slot = refl;
+  parked = refl;
+  queries = refl;
+  cargo = refl;
+}
+
+appendix_leaves : (m n : Machine) → LeavesAll m n → LeavesAll m (machine_of (to_appendix n))
+appendix_leaves m n l = subst (LeavesAll m) (sym (begin_machine Appendix n.regs.appendix (record n { regs = without_appendix n.regs }))) (record {
+  holding = l.holding;
+  origin = l.origin;
+  accounts = l.accounts;
+  traps = l.traps;
+  queues = l.queues;
+  burns = l.burns;
+  checking = l.checking;
+  trader = l.trader;
+  fees = l.fees;
+  slot = l.slot;
+  parked = l.parked;
+  queries = l.queries;
+  cargo = l.cargo;
+})
+
+handler_leaves : (m n : Machine) (handler : List Instruction) → LeavesAll m n → LeavesAll m (machine_of (to_handler handler n))
+handler_leaves m n [] l = appendix_leaves m n l
+handler_leaves m n (x ∷ behind) l = record {
+  holding = l.holding;
+  origin = l.origin;
+  accounts = l.accounts;
+  traps = l.traps;
+  queues = l.queues;
+  burns = l.burns;
+  checking = l.checking;
+  trader = l.trader;
+  fees = l.fees;
+  slot = l.slot;
+  parked = l.parked;
+  queries = l.queries;
+  cargo = l.cargo;
+}
+
+failed_leaves : (m n : Machine) (place : ℕ) (e : XcmError) (behind : List Instruction) → LeavesAll m n → LeavesAll m (record n { regs = failed place e behind m.regs })
+failed_leaves m n place e behind l = record {
+  holding = refl;
+  origin = refl;
+  accounts = l.accounts;
+  traps = l.traps;
+  queues = l.queues;
+  burns = l.burns;
+  checking = l.checking;
+  trader = l.trader;
+  fees = l.fees;
+  slot = l.slot;
+  parked = l.parked;
+  queries = l.queries;
+  cargo = l.cargo;
+}
+
+pub refused_leaves : (rules : Rules) (part : Part) (place : ℕ) (x : Instruction) (behind : List Instruction) (m : Machine) (e : XcmError) → rules.refusal_of x m ≡ Some e
+    → LeavesAll m (machine_of (next rules (At part place x behind m)))
+refused_leaves rules part place x behind m e refused =
+    let t = traced part place x (Some e) m in
+    subst (λ (o : Option XcmError). LeavesAll m (machine_of (by_answer rules part place x behind m o))) (sym refused)
+    (handler_leaves m (record t { regs = failed place e behind m.regs }) m.regs.handler (failed_leaves m t place e behind (told_leaves m _)))

@@ -1,0 +1,53 @@
+-- What every run keeps: a relation between machines that each of its steps keeps; and what a refused instruction leaves.
+use Rattle.std.specs.Prelude.{◌≡◌, ℕ, List, [], ◌∷◌, None}
+use Rattle.message_parts.specs.declared.error.XcmError.{XcmError}
+use Rattle.std.specs.List.{AllByRecursion}
+use Rattle.xcm_program.specs.declared.instruction.Instruction.{Instruction, out-Instruction}
+use Rattle.xcm_program.specs.Everywhere.{AllInside}
+use Rattle.xcm_program.specs.Weights.{kept}
+use Rattle.exec_base.specs.declared.event.Event.{Event}
+use Rattle.exec_base.specs.Host.{told}
+use Rattle.exec_run.specs.Machine.{Machine, Rules, Control, control_of}
+use Rattle.exec_run.specs.Run.{Stage, At, Ended, failed, without_handler, without_appendix, handler_dropped}
+use Rattle.exec_run.specs.Accounts.{IsAffordable}
+
+-- a refused instruction changes the trace and the registers by which the run is steered; all else is as it was
+pub record LeavesAll (m n : Machine) : Type 0 where
+  pub holding : n.regs.holding ≡ m.regs.holding
+  pub origin : n.regs.origin ≡ m.regs.origin
+  pub accounts : n.part.held ≡ m.part.held
+  pub traps : n.part.traps ≡ m.part.traps
+  pub queues : n.part.channels ≡ m.part.channels
+  pub burns : n.part.burns ≡ m.part.burns
+  pub checking : n.part.checking ≡ m.part.checking
+  pub trader : n.part.lines ≡ m.part.lines
+  pub fees : n.part.fees ≡ m.part.fees
+  pub slot : n.part.fee_slot ≡ m.part.fee_slot
+  pub parked : n.part.parked ≡ m.part.parked
+  pub queries : n.part.queries ≡ m.part.queries
+  pub cargo : n.part.cargo ≡ m.part.cargo
+
+-- a fact of every instruction that may still run
+pub record AllAhead (Q : Instruction → Type 0) (ahead : List Instruction) (c : Control) : Type 0 where
+  pub ahead_hold : AllByRecursion Q ahead
+  pub handler_holds : AllByRecursion Q c.handler
+  pub appendix_holds : AllByRecursion Q c.appendix
+
+abbrev pub IsAheadOf : (Instruction → Type 0) → Stage → Type 0
+IsAheadOf Q (At part place x behind m) = AllAhead Q (x ∷ behind) (control_of m.regs)
+IsAheadOf Q (Ended m) = AllAhead Q [] (control_of m.regs)
+
+-- it goes over to what an instruction keeps
+abbrev pub GoesInside : (Instruction → Type 0) → Type 0
+GoesInside Q = (x : Instruction) → Q x → AllInside Q (kept (out-Instruction x))
+
+-- a relation that each step of a run keeps, where its instructions are of one kind
+pub record IsKeptByRuns (rules : Rules) (Q : Instruction → Type 0) (R : Machine → Machine → Type 0) : Type 0 where
+  pub same : (m : Machine) → R m m
+  pub chained : (a b c : Machine) → R a b → R b c → R a c
+  pub done : (x : Instruction) (m : Machine) → Q x → IsAffordable x m.regs → rules.refusal_of x m ≡ None → R m (rules.done x m)
+  pub told : (e : Event) (m : Machine) → R m (record m { part = told m.part e })
+  pub failed_at : (place : ℕ) (e : XcmError) (behind : List Instruction) (m : Machine) → R m (record m { regs = failed place e behind m.regs })
+  pub handler_taken : (m : Machine) → R m (record m { regs = without_handler m.regs })
+  pub handler_given_up : (m : Machine) → R m (record m { regs = handler_dropped m.regs })
+  pub appendix_taken : (m : Machine) → R m (record m { regs = without_appendix m.regs })

@@ -1,0 +1,4 @@
+pub mod PartOf
+pub mod Opening
+pub mod Lines
+pub mod Sending

@@ -1,0 +1,186 @@
+//! Assets that move into accounts and out of them, and what would be sent.
+ghost use Rattle.std.specs.Prelude.{◌≡◌, List, Some, None, is_some, option_copied};
+ghost use Rattle.asset_lists.specs.declared.units.Asset.{Asset};
+ghost use Rattle.asset_bundles.specs.Bundles.{bundle_of};
+ghost use Rattle.xcm_program.specs.declared.instruction.Instruction.{Instruction};
+ghost use Rattle.exec_base.specs.Answers.{Answers, TakesIn};
+ghost use Rattle.exec_base.specs.Sending.{listed_refusal};
+ghost use Rattle.exec_base.specs.Host as host;
+ghost use Rattle.ledgers.specs.Ledgers.{Withdrawn};
+ghost use Rattle.exec_base.specs.Part.{accounts_of};
+ghost use Rattle.exec_base.specs.Host.{first_fault, give_fault, take_fault, given, withdraw_refusal, deposit_refusal, deposited, transferred, deposit_out_refusal, ship_refusal, is_teleport, querier_seen, seen_from};
+ghost use Rattle.fake_host.specs.PartOf.{part_of};
+ghost use Rattle.fake_host.specs.Sending.{IsSendFault};
+
+use crate::FakeHost;
+use crate::naming::is_named;
+use asset_bundles::{AssetBundle, Way};
+use asset_lists::{Asset, Assets};
+use exec_base::HostFault;
+use locations::Location;
+use message_parts::XcmError;
+use trust_tables::account_of;
+
+/// Whether goods go as a teleport.
+fn is_teleport(way: Way) -> bool
+    ensures { result ≡ is_teleport way }
+{
+    match way {
+        Way::Withdrawal => false,
+        Way::Teleport => true,
+    }
+}
+
+impl FakeHost {
+    /// Takes the listed assets out of the location's account.
+    #[tactic(auto, unfolding(exec_base::specs::Host::withdraw_refusal))]
+    pub(crate) fn take_out(
+        &mut self,
+        list: &Assets,
+        who: &Location,
+    ) -> Result<AssetBundle, HostFault>
+        ensures { Answers (withdraw_refusal (part_of self.old) list.now who.now) (bundle_of list.now) (given (part_of self.old) list.now who.now) (part_of self.old) result (part_of self.new) }
+    {
+        let account = account_of(who, &self.site);
+        if let Some(error) = self.give_refusal(&account, list.items()) {
+            return Err(HostFault::Xcm(error));
+        }
+        let Some(account) = account else {
+            return Ok(AssetBundle::empty(*self.events.allocator()));
+        };
+        match self.ledger.withdraw(&account, list) {
+            Ok(goods) => Ok(goods),
+            Err(_) => Err(HostFault::Memory),
+        }
+    }
+
+    /// Puts goods into the location's account.
+    #[tactic(auto, unfolding(exec_base::specs::Host::deposit_refusal, exec_base::specs::Host::deposited))]
+    pub(crate) fn put_in(
+        &mut self,
+        goods: AssetBundle,
+        who: &Location,
+    ) -> Result<(), (AssetBundle, HostFault)>
+        ensures { TakesIn (deposit_refusal (part_of self.old) goods who.now) goods tt (deposited (part_of self.old) goods who.now) (part_of self.old) result (part_of self.new) }
+    {
+        let Ok(assets) = goods.list() else {
+            return Err((goods, HostFault::Memory));
+        };
+        let account = account_of(who, &self.site);
+        if let Some(error) = self.take_refusal(&account, assets.as_slice()) {
+            return Err((goods, HostFault::Xcm(error)));
+        }
+        let Some(account) = account else {
+            goods.melt();
+            return Ok(());
+        };
+        match self.ledger.deposit(&account, goods) {
+            Ok(()) => Ok(()),
+            Err((goods, _)) => Err((goods, HostFault::Memory)),
+        }
+    }
+
+    /// Why the listed assets aren't moved from one location's account to another's.
+    pub(crate) fn transfer_refusal(
+        &self,
+        list: &Assets,
+        from: &Location,
+        to: &Location,
+    ) -> Option<XcmError>
+        ensures { result ≡ host.transfer_refusal (part_of self.now) list.now from.now to.now }
+    {
+        let giver = account_of(from, &self.site);
+        if let Some(error) = self.give_refusal(&giver, list.items()) {
+            return Some(error);
+        }
+        let Some(giver) = giver else {
+            return None;
+        };
+        let Some(taker) = account_of(to, &self.site) else {
+            return self.take_refusal(&None, list.items());
+        };
+        self.taker_refusal(list, &giver, &taker)
+    }
+
+    /// Why an account can't take in what another one gives, which has it.
+    fn taker_refusal(&self, list: &Assets, giver: &[u8; 32], taker: &[u8; 32]) -> Option<XcmError>
+        requires { first_fault (give_fault (part_of self.now) (Some giver.now)) list.now ≡ None }
+        ensures { result ≡ first_fault (take_fault (record (part_of self.now) { held = (Withdrawn giver.now list.now (accounts_of (part_of self.now))).held }) (Some taker.now)) list.now }
+    {
+        match self.ledger.transfer_fault(giver, taker, list) {
+            None => None,
+            Some(_) => Some(XcmError::FailedToTransactAsset),
+        }
+    }
+
+    /// Moves the listed assets from one location's account to another's.
+    pub(crate) fn move_over(
+        &mut self,
+        list: &Assets,
+        from: &Location,
+        to: &Location,
+    ) -> Result<(), HostFault>
+        ensures { Answers (host.transfer_refusal (part_of self.old) list.now from.now to.now) tt (transferred (part_of self.old) list.now from.now to.now) (part_of self.old) result (part_of self.new) }
+    {
+        if let Some(error) = self.transfer_refusal(list, from, to) {
+            return Err(HostFault::Xcm(error));
+        }
+        let Some(giver) = account_of(from, &self.site) else {
+            return Ok(());
+        };
+        let Some(taker) = account_of(to, &self.site) else {
+            return Ok(());
+        };
+        match self.ledger.transfer(&giver, &taker, list) {
+            Ok(()) => Ok(()),
+            Err(_) => Err(HostFault::Memory),
+        }
+    }
+
+    /// Whether the destination can name the querier, if there is one.
+    pub(crate) fn is_seen(&self, dest: &Location, querier: Option<&Location>) -> bool
+        ensures { result ≡ is_some (querier_seen (part_of self.now) dest.now (option_copied querier.entry)) }
+    {
+        match querier {
+            None => true,
+            Some(querier) => querier.reanchored(dest, &self.site.path()).is_ok(),
+        }
+    }
+
+    /// Why a program around these assets isn't sent: no channel leads anywhere.
+    pub(crate) fn sending_fault(&self, list: &[Asset], dest: &Location) -> HostFault
+        ensures { (program : List Asset → List Instruction) → IsSendFault (listed_refusal (part_of self.now) dest.now program (seen_from (part_of self.now) dest.now list.now)) result }
+    {
+        match is_named(*self.events.allocator(), list, dest, &self.site.path()) {
+            Ok(true) => HostFault::Xcm(XcmError::Unroutable),
+            Ok(false) => HostFault::Xcm(XcmError::ReanchorFailed),
+            Err(_) => HostFault::Memory,
+        }
+    }
+
+    /// Why goods aren't put into the account of another chain, which is told of them.
+    pub(crate) fn deposit_out_fault(&self, goods: &AssetBundle, dest: &Location) -> HostFault
+        ensures { (xcm : List Instruction) → IsSendFault (deposit_out_refusal (part_of self.now) goods.now dest.now xcm) result }
+    {
+        let Ok(assets) = goods.list() else {
+            return HostFault::Memory;
+        };
+        if let Some(error) = self.take_refusal(&account_of(dest, &self.site), assets.as_slice()) {
+            return HostFault::Xcm(error);
+        }
+        self.sending_fault(assets.as_slice(), dest)
+    }
+
+    /// Why goods aren't shipped to another chain.
+    pub(crate) fn ship_out_fault(&self, goods: &AssetBundle, way: Way, dest: &Location) -> HostFault
+        ensures { (xcm : List Instruction) → IsSendFault (ship_refusal (part_of self.now) goods.now way dest.now xcm) result }
+    {
+        let Ok(assets) = goods.list() else {
+            return HostFault::Memory;
+        };
+        if let Some(error) = self.trust_refusal(dest, is_teleport(way), assets.as_slice()) {
+            return HostFault::Xcm(error);
+        }
+        self.sending_fault(assets.as_slice(), dest)
+    }
+}
