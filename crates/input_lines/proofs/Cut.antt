@@ -1,9 +1,10 @@
 -- The lines of some bytes are the one way to cut them behind each line feed.
 use Rattle.std.proofs.Common.{◌≡◌, ◌∙◌, ℕ, zero, suc, inl, inr, List, [], ◌∷◌, ◌++◌, refl, sym, subst, ap, arith, append-nil, append_assoc}
 use Rattle.std.proofs.lemmas.Bool.{cases_eq}
-use Rattle.input_lines.specs.Lines.{lines_of, onto, joined, HasNoFeed}
-use Rattle.input_lines.specs.Laws.{IsEnded, AreLines}
-use Rattle.input_lines.proofs.FirstLine.{at_feed, past_other, no_lines, only_line}
+use Rattle.std.specs.List.{concat}
+use Rattle.input_lines.specs.Lines.{lines_of, onto, HasNoFeed}
+use Rattle.input_lines.specs.Meaning.{IsEnded, AreLines}
+use Rattle.input_lines.specs.Laws.{at_feed, past_other, no_lines, only_line}
 
 no_feed_cons : (b : ℕ) (bytes : List ℕ) → (b ≡ 10 → ⊥) → HasNoFeed bytes → HasNoFeed (b ∷ bytes)
 no_feed_cons b bytes n none zero l e = n e
@@ -41,8 +42,8 @@ ended_first (b ∷ text) more none =
 line_first : (line more : List ℕ) → IsEnded line → lines_of (line ++ more) ≡ line ∷ lines_of more
 line_first line more (text, is, none) = rw (is, append_assoc) (ended_first text more none)
 
-pub only_cut : (lines : List (List ℕ)) → AreLines lines → lines_of (joined lines) ≡ lines
+pub only_cut : (lines : List (List ℕ)) → AreLines lines → lines_of (concat lines) ≡ lines
 only_cut [] a = no_lines [] refl
 only_cut (line ∷ []) (inl e) = line_first line [] e ∙ ap (λ r. line ∷ r) (no_lines [] refl)
 only_cut (line ∷ []) (inr (l, none)) = rw append-nil (only_line line l none)
-only_cut (line ∷ next ∷ lines) (e, a) = line_first line (joined (next ∷ lines)) e ∙ ap (λ r. line ∷ r) (only_cut (next ∷ lines) a)
+only_cut (line ∷ next ∷ lines) (e, a) = line_first line (concat (next ∷ lines)) e ∙ ap (λ r. line ∷ r) (only_cut (next ∷ lines) a)

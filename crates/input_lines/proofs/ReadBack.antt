@@ -12,8 +12,8 @@ use Rattle.std.specs.Result.{result_ok}
 use Rattle.hex.specs.Hex.{IsBytes, encode_with, encode_lower, lower_digits, hex_digit_value}
 use Rattle.hex.proofs.HexLemmas.{decode_of-encode_lower, decode_pairs-encode_with, length-encode_with, IsDigits-lower_digits}
 use Rattle.hex.proofs.Pairs.{decode_sized-pairs}
-use Rattle.input_lines.specs.Step.{split_word, chain_of, account_of, bytes_of, exec_words, exec_tail, exec_of, read_line_of}
-use Rattle.input_lines.specs.Laws.{ChainFits, exec_line}
+use Rattle.input_lines.specs.Step.{split_word, chain_word, account_word, message_word, exec_words, exec_tail, exec_of, read_line}
+use Rattle.input_lines.specs.Meaning.{ChainFits, exec_line}
 use Rattle.chain_ids.specs.Texts.{chain_text}
 use Rattle.chain_ids.specs.declared.chain.ChainId.{ChainId}
 use Rattle.chain_ids.specs.declared.chain.ChainId.TheVariants.{Relay, Para}
@@ -63,19 +63,19 @@ false_from : (b : Bool) → (b ≡ true → ⊥) → b ≡ false
 false_from true n = absurd (n refl)
 false_from false n = refl
 
-chain_back : (chain : ChainId) → ChainFits chain → chain_of (chain_text chain) ≡ Some chain
+chain_back : (chain : ChainId) → ChainFits chain → chain_word (chain_text chain) ≡ Some chain
 chain_back Relay f = refl
 chain_back (Para number) f =
     let digits = digits_decimal own number (omega arith) in
     cond-false (bytes_eq (decimal number) (codes "relay")) _ _ (false_from _ (not_relay (decimal number) digits))
     ∙ ap (option_map Para) (number_is number f)
 
-account_back : (account : List ℕ) → length account ≡ 32 → IsBytes account → account_of (codes "0x" ++ encode_lower account) ≡ Some account
+account_back : (account : List ℕ) → length account ≡ 32 → IsBytes account → account_word (codes "0x" ++ encode_lower account) ≡ Some account
 account_back account l h =
     let size = length-encode_with lower_digits account in
     ap result_ok (decode_sized-pairs (encode_lower account) 32 (omega (arith, size, l)) (omega (arith, size, l)) ∙ decode_pairs-encode_with lower_digits IsDigits-lower_digits 0 account h)
 
-message_back : (message : List ℕ) → IsBytes message → bytes_of (codes "0x" ++ encode_lower message) ≡ Some message
+message_back : (message : List ℕ) → IsBytes message → message_word (codes "0x" ++ encode_lower message) ≡ Some message
 message_back message h =
     cond-false (eqb (length (codes "0x" ++ encode_lower message)) 0) _ _ (ne_eqb _ 0 (λ e. omega (arith, e)))
     ∙ ap result_ok (decode_of-encode_lower message h)
@@ -84,14 +84,14 @@ all_read : (chain : Option ChainId) (account message : Option (List ℕ)) (c : C
     → exec_of chain account message ≡ Exec c a m
 all_read chain account message c a m ec ea em = rw (ec, ea, em) refl
 
-behind_exec : (words : List ℕ) → read_line_of (codes "exec " ++ words) ≡ exec_words (split_word words)
-unfolding read_line_of
+behind_exec : (words : List ℕ) → read_line (codes "exec " ++ words) ≡ exec_words (split_word words)
+unfolding read_line
 behind_exec words =
     let full : eqb (length (codes "exec " ++ words)) 0 ≡ false = ne_eqb _ 0 (λ e. omega (arith, e)) in
     cond-false (eqb (length (codes "exec " ++ words)) 0 || false) _ _ (ap (λ b. b || false) full)
 
 pub read_back : (chain : ChainId) (account message : List ℕ) → ChainFits chain → length account ≡ 32 → IsBytes account → IsBytes message
-    → read_line_of (exec_line chain account message) ≡ Exec chain account message
+    → read_line (exec_line chain account message) ≡ Exec chain account message
 read_back chain account message f l a m =
     let last = codes "0x" ++ encode_lower message in
     let middle = codes "0x" ++ encode_lower account in
@@ -99,5 +99,5 @@ read_back chain account message f l a m =
     let second = split_behind middle last (grind arith, (grind arith, hex_no_space account a)) in
     behind_exec (chain_text chain ++ 32 ∷ (middle ++ 32 ∷ last))
     ∙ ap exec_words first
-    ∙ ap (exec_tail (chain_of (chain_text chain))) second
+    ∙ ap (exec_tail (chain_word (chain_text chain))) second
     ∙ all_read _ _ _ chain account message (chain_back chain f) (account_back account l a) (message_back message m)

@@ -11,11 +11,6 @@ unfoldable pub lines_of : List ℕ → List (List ℕ)
 lines_of [] = []
 lines_of (b ∷ rest) = if b == 10 then (b ∷ []) ∷ lines_of rest else onto b (lines_of rest)
 
--- all bytes of some lines
-abbrev pub joined : List (List ℕ) → List ℕ
-joined [] = []
-joined (line ∷ lines) = line ++ joined lines
-
 -- the last byte is c
 abbrev pub ends_with : ℕ → List ℕ → Bool
 ends_with c bytes = nat_lt 0 (length bytes) && slice_index bytes (length bytes - 1) == c
@@ -28,37 +23,37 @@ abbrev pub without_feed : List ℕ → List ℕ
 without_feed line = if ends_with 10 line then without_last line else line
 
 -- what a line says: its line feed is dropped, and one carriage return before it
-unfoldable pub line_text : List ℕ → List ℕ
-line_text line = if ends_with 10 line then (if ends_with 13 (without_last line) then without_last (without_last line) else without_last line) else line
+unfoldable pub text_of : List ℕ → List ℕ
+text_of line = if ends_with 10 line then (if ends_with 13 (without_last line) then without_last (without_last line) else without_last line) else line
 
 -- the line ends the network part
-abbrev pub is_mark : List ℕ → Bool
-is_mark line = bytes_eq (line_text line) (codes "---")
+abbrev pub ends_network : List ℕ → Bool
+ends_network line = bytes_eq (text_of line) (codes "---")
 
 -- some line ends the network part
 abbrev pub has_mark : List (List ℕ) → Bool
 has_mark [] = false
-has_mark (line ∷ lines) = is_mark line || has_mark lines
+has_mark (line ∷ lines) = ends_network line || has_mark lines
 
 -- the bytes before the first such line
 abbrev pub network_part : List (List ℕ) → List ℕ
 network_part [] = []
-network_part (line ∷ lines) = if is_mark line then [] else line ++ network_part lines
+network_part (line ∷ lines) = if ends_network line then [] else line ++ network_part lines
 
 -- the lines after it
 abbrev pub later_lines : List (List ℕ) → List (List ℕ)
 later_lines [] = []
-later_lines (line ∷ lines) = if is_mark line then lines else later_lines lines
+later_lines (line ∷ lines) = if ends_network line then lines else later_lines lines
 
 -- how many lines stand before the later ones
 abbrev pub lines_through : List (List ℕ) → ℕ
 lines_through [] = 0
-lines_through (line ∷ lines) = if is_mark line then 1 else lines_through lines + 1
+lines_through (line ∷ lines) = if ends_network line then 1 else lines_through lines + 1
 
 -- how many bytes they have
 abbrev pub bytes_through : List (List ℕ) → ℕ
 bytes_through [] = 0
-bytes_through (line ∷ lines) = if is_mark line then length line else bytes_through lines + length line
+bytes_through (line ∷ lines) = if ends_network line then length line else bytes_through lines + length line
 
 -- no byte is a line feed
 abbrev pub HasNoFeed : List ℕ → Type 0

@@ -8,5 +8,5 @@ abbrev pub is_plain : List ℕ → Bool
 is_plain text = all_ascii_digits text && nat_lt 0 (length text) && (length text == 1 || not (slice_index text 0 == 48))
 
 -- the number below 2 ^ 32 that the text is
-unfoldable pub number_of : List ℕ → Option ℕ
-number_of text = if is_plain text && nat_lt (digits_value 10 text) (2 ^ 32) then Some (digits_value 10 text) else None
+unfoldable pub read_number : List ℕ → Option ℕ
+read_number text = if is_plain text && nat_lt (digits_value 10 text) (2 ^ 32) then Some (digits_value 10 text) else None

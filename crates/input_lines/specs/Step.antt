@@ -1,11 +1,11 @@
 -- What a line after the network asks for. Source: this project's own rule.
-use Rattle.std.specs.Prelude.{ℕ, ◌==◌, ◌||◌, nat_eq, List, [], ◌∷◌, length, drop, slice_index, Bool, Option, Some, None, codes, decimal, bytes_eq, if◌then◌else◌}
+use Rattle.std.specs.Prelude.{ℕ, ◌==◌, ◌||◌, nat_eq, List, [], ◌∷◌, length, drop, slice_index, Bool, Option, Some, None, codes, bytes_eq, if◌then◌else◌}
 use Rattle.std.specs.Borrow.{Bor}
 use Rattle.std.specs.List.{starts_with}
 use Rattle.std.specs.Option.{option_map}
 use Rattle.std.specs.Result.{result_ok}
 use Rattle.hex.specs.Hex.{decode_of, decode_sized}
-use Rattle.input_lines.specs.Numbers.{number_of}
+use Rattle.input_lines.specs.Numbers.{read_number}
 use Rattle.chain_ids.specs.declared.chain.ChainId.{ChainId}
 use Rattle.chain_ids.specs.declared.chain.ChainId.TheVariants.{Relay, Para}
 use Rattle.input_lines.specs.declared.line.Line.{Line}
@@ -21,20 +21,20 @@ split_word [] = None
 split_word (b ∷ rest) = if b == 32 then Some ([], rest) else option_map (λ x. (b ∷ x.0, x.1)) (split_word rest)
 
 -- hex digits, without the `0x` that may stand in front
-abbrev pub plain_digits : List ℕ → List ℕ
-plain_digits text = if starts_with nat_eq text (codes "0x") then drop 2 text else text
+abbrev pub without_prefix : List ℕ → List ℕ
+without_prefix text = if starts_with nat_eq text (codes "0x") then drop 2 text else text
 
 -- `relay`, or a parachain's number below 2^32 in decimal
-abbrev pub chain_of : List ℕ → Option ChainId
-chain_of text = if bytes_eq text (codes "relay") then Some Relay else option_map Para (number_of text)
+abbrev pub chain_word : List ℕ → Option ChainId
+chain_word text = if bytes_eq text (codes "relay") then Some Relay else option_map Para (read_number text)
 
 -- the 32 bytes of 64 hex digits
-abbrev pub account_of : List ℕ → Option (List ℕ)
-account_of text = result_ok (decode_sized (plain_digits text) 32)
+abbrev pub account_word : List ℕ → Option (List ℕ)
+account_word text = result_ok (decode_sized (without_prefix text) 32)
 
 -- the bytes of an even number of hex digits; without a digit there is the `0x`
-abbrev pub bytes_of : List ℕ → Option (List ℕ)
-bytes_of text = if length text == 0 then None else result_ok (decode_of (plain_digits text))
+abbrev pub message_word : List ℕ → Option (List ℕ)
+message_word text = if length text == 0 then None else result_ok (decode_of (without_prefix text))
 
 -- all three words have to be in form
 abbrev pub exec_of : Option ChainId → Option (List ℕ) → Option (List ℕ) → Line
@@ -46,16 +46,16 @@ exec_of None account message = Refused
 -- an account and a message, behind a chain
 abbrev pub exec_tail : Option ChainId → Option (List ℕ × List ℕ) → Line
 exec_tail chain None = Refused
-exec_tail chain (Some words) = exec_of chain (account_of words.0) (bytes_of words.1)
+exec_tail chain (Some words) = exec_of chain (account_word words.0) (message_word words.1)
 
 -- a chain, and the words behind it
 abbrev pub exec_words : Option (List ℕ × List ℕ) → Line
 exec_words None = Refused
-exec_words (Some words) = exec_tail (chain_of words.0) (split_word words.1)
+exec_words (Some words) = exec_tail (chain_word words.0) (split_word words.1)
 
 -- what a line asks for
-unfoldable pub read_line_of : List ℕ → Line
-read_line_of text =
+unfoldable pub read_line : List ℕ → Line
+read_line text =
     if is_no_step text then NoStep
     else (if starts_with nat_eq text (codes "exec ") then exec_words (split_word (drop 5 text)) else Refused)
 

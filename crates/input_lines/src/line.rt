@@ -1,7 +1,9 @@
-ghost use Rattle.std.specs.Prelude.{◌≡◌, IfOk};
-ghost use Rattle.input_lines.specs.Step.{read_line_of, exec_words, split_word};
+//! What a line after the network asks for.
 
-use crate::words::{read_account, read_bytes, read_chain, split_word};
+ghost use Rattle.std.specs.Prelude.{◌≡◌, IfOk};
+ghost use Rattle.input_lines.specs.Step.{read_line, exec_words, split_word};
+
+use crate::words::{account_word, chain_word, message_word, split_word};
 use chain_ids::ChainId;
 use plain_lists::Listed;
 use std::alloc::{AllocError, Global};
@@ -25,10 +27,10 @@ pub enum Line {
 }
 
 /// Reads what a line asks for, of the text without its line feed and the carriage return before it.
-/// `Err` is want of memory alone.
-#[tactic(auto, unfolding(crate::specs::Step::read_line_of))]
+/// `Err` is out of memory alone.
+#[tactic(auto, unfolding(crate::specs::Step::read_line))]
 pub fn read_line(alloc: Global, text: &[u8]) -> Result<Line, AllocError>
-    ensures { IfOk result (λ line. line ≡ read_line_of text.now) }
+    ensures { IfOk result (λ line. line ≡ read_line text.now) }
 {
     if text.is_empty() || text[0] == b'#' {
         return Ok(Line::NoStep);
@@ -49,13 +51,13 @@ fn read_exec(alloc: Global, words: &[u8]) -> Result<Line, AllocError>
     let Some((account, message)) = split_word(words) else {
         return Ok(Line::Refused);
     };
-    let Some(chain) = read_chain(chain) else {
+    let Some(chain) = chain_word(chain) else {
         return Ok(Line::Refused);
     };
-    let Some(account) = read_account(account) else {
+    let Some(account) = account_word(account) else {
         return Ok(Line::Refused);
     };
-    match read_bytes(alloc, message)? {
+    match message_word(alloc, message)? {
         Some(message) => Ok(Line::Exec {
             chain,
             account,

@@ -1,6 +1,7 @@
-// The lines of an input.
+//! The lines of an input.
+
 ghost use Rattle.std.specs.Prelude.{◌≡◌, ◌+◌, ◌<◌, ◌≤◌, ℕ, List, [], ◌∷◌, ◌++◌, length, take, drop, true, IfSome, IfNone};
-ghost use Rattle.input_lines.specs.Lines.{HasNoFeed, lines_of, line_text, is_mark, ends_with, without_feed};
+ghost use Rattle.input_lines.specs.Lines.{HasNoFeed, lines_of, text_of, ends_network, ends_with, without_feed};
 
 /// The length in bytes of the first line with its line feed, or `None` where no line feed stands.
 pub fn line_len(bytes: &[u8]) -> Option<usize>
@@ -37,9 +38,9 @@ pub fn without_feed(line: &[u8]) -> &[u8]
 }
 
 /// What a line says: its line feed is dropped, and one carriage return before that.
-#[tactic(auto, unfolding(crate::specs::Lines::line_text))]
+#[tactic(auto, unfolding(crate::specs::Lines::text_of))]
 pub fn text_of(line: &[u8]) -> &[u8]
-    ensures { result.now ≡ line_text line.now }
+    ensures { result.now ≡ text_of line.now }
 {
     if !ends_with(line, b'\n') {
         return line;
@@ -53,7 +54,7 @@ pub fn text_of(line: &[u8]) -> &[u8]
 
 /// Whether a line ends the network part: whether it says `---`.
 pub fn ends_network(line: &[u8]) -> bool
-    ensures { result ≡ is_mark line.now }
+    ensures { result ≡ ends_network line.now }
 {
     text_of(line) == b"---".as_slice()
 }

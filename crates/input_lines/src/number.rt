@@ -1,10 +1,11 @@
-// Numbers in decimal.
+//! Numbers in decimal.
+
 ghost use Rattle.std.specs.Prelude.{◌≡◌};
-ghost use Rattle.input_lines.specs.Numbers.{number_of};
+ghost use Rattle.input_lines.specs.Numbers.{read_number};
 
 /// The number below 2^32 that the text is, which has no leading zeros.
 pub(crate) fn read_number(text: &[u8]) -> Option<u32>
-    ensures { result ≡ number_of text.now }
+    ensures { result ≡ read_number text.now }
 {
     if text.is_empty() {
         return None;

@@ -1,7 +1,8 @@
-// The words of a line.
+//! The words of a line.
+
 ghost use Rattle.std.specs.Prelude.{◌≡◌, IfOk};
 ghost use Rattle.std.specs.Option.{option_map};
-ghost use Rattle.input_lines.specs.Step.{split_word, plain_digits, chain_of, account_of, bytes_of, seen};
+ghost use Rattle.input_lines.specs.Step.{split_word, without_prefix, chain_word, account_word, message_word, seen};
 
 use crate::number::read_number;
 use chain_ids::ChainId;
@@ -22,7 +23,7 @@ pub(crate) fn split_word(words: &[u8]) -> Option<(&[u8], &[u8])>
 
 /// The digits behind the `0x` that may stand in front.
 fn without_prefix(text: &[u8]) -> &[u8]
-    ensures { result.now ≡ plain_digits text.now }
+    ensures { result.now ≡ without_prefix text.now }
 {
     if text.starts_with(b"0x") {
         return &text[2..];
@@ -31,8 +32,8 @@ fn without_prefix(text: &[u8]) -> &[u8]
 }
 
 /// The chain that the text names: `relay`, or a number below 2^32 in decimal.
-pub(crate) fn read_chain(text: &[u8]) -> Option<ChainId>
-    ensures { result ≡ chain_of text.now }
+pub(crate) fn chain_word(text: &[u8]) -> Option<ChainId>
+    ensures { result ≡ chain_word text.now }
 {
     if text == b"relay".as_slice() {
         return Some(ChainId::Relay);
@@ -41,15 +42,15 @@ pub(crate) fn read_chain(text: &[u8]) -> Option<ChainId>
 }
 
 /// The account of 64 hex digits.
-pub(crate) fn read_account(text: &[u8]) -> Option<[u8; 32]>
-    ensures { result ≡ account_of text.now }
+pub(crate) fn account_word(text: &[u8]) -> Option<[u8; 32]>
+    ensures { result ≡ account_word text.now }
 {
     <[u8; 32] as FromHex>::from_hex(without_prefix(text)).ok()
 }
 
-/// The bytes of an even number of hex digits. `Err` is want of memory alone.
-pub(crate) fn read_bytes(alloc: Global, text: &[u8]) -> Result<Option<Vec<u8>>, AllocError>
-    ensures { IfOk result (λ bytes. option_map (λ v. v.items) bytes ≡ bytes_of text.now) }
+/// The bytes of an even number of hex digits. `Err` is out of memory alone.
+pub(crate) fn message_word(alloc: Global, text: &[u8]) -> Result<Option<Vec<u8>>, AllocError>
+    ensures { IfOk result (λ bytes. option_map (λ v. v.items) bytes ≡ message_word text.now) }
 {
     if text.is_empty() {
         return Ok(None);

@@ -2,13 +2,12 @@
 use Rattle.std.proofs.Common.{◌≡◌, ◌⊎◌, inl, inr, ℕ, ◌<◌, ◌^◌, List, length, Option, Some, None, Result, Ok, Err, sym, ap, ◌∙◌, arith}
 use Rattle.std.specs.Prelude.{codes}
 use Rattle.xcm_program.specs.declared.instruction.Instruction.{Instruction}
-use Rattle.versioned_xcm.specs.declared.fault.MessageFault.{MessageFault}
-use Rattle.versioned_xcm.specs.declared.fault.MessageFault.TheVariants.{Memory}
+use Rattle.versioned_xcm.specs.declared.faults.MessageFault.{MessageFault}
+use Rattle.versioned_xcm.specs.declared.faults.MessageFault.TheVariants.{Memory}
 use Rattle.versioned_xcm.specs.Message.{IsDecoded}
 use Rattle.versioned_xcm.specs.Reading.{message_of}
 use Rattle.xcm_executor.specs.declared.instruction.PlainInstruction.{PlainInstruction}
 use Rattle.xcm_executor.specs.Built.{plain_program}
-use Rattle.xcm_executor.proofs.Building.{length-plain}
 use Rattle.report_text.specs.Steps.{run_or_refusal, message_text}
 
 pub unbuilt : (account message : List ℕ) (program : List Instruction) (plain : Option (List PlainInstruction)) → ((let r : Result (List Instruction) MessageFault = Ok program in r) ≡ Err Memory) ⊎ (Ok program ≡ message_of message)
@@ -17,5 +16,5 @@ unbuilt account message program plain (inl e) is none = absurd cc
 unbuilt account message program plain (inr e) is none = ap (message_text account) (sym e) ∙ ap (run_or_refusal account program) (sym is ∙ none)
 
 -- a message has few instructions, and so few built ones
-pub few : (message : List ℕ) (program : List Instruction) (plains : List PlainInstruction) → IsDecoded message program → Some plains ≡ plain_program program → length plains < 2 ^ 32
-few message program plains m is = omega (arith, length-plain program plains (sym is), m.message.1.readable.fits.0)
+pub few : (message : List ℕ) (program : List Instruction) (plains : List PlainInstruction) → IsDecoded message program → length plains ≡ length program → length plains < 2 ^ 32
+few message program plains m size = omega (arith, size, m.message.1.readable.fits.0)

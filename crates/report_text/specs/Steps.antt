@@ -8,9 +8,9 @@ use Rattle.xcm_program.specs.Texts.{instruction_name, outcome_error_text}
 use Rattle.xcm_program.specs.declared.instruction.Instruction.{Instruction, out-Instruction}
 use Rattle.xcm_program.specs.declared.outcome.Outcome.{Outcome}
 use Rattle.xcm_program.specs.declared.outcome.Outcome.TheVariants.{Complete, Incomplete, Error}
-use Rattle.versioned_xcm.specs.Message.{fault_text}
+use Rattle.versioned_xcm.specs.Message.{message_fault_text}
 use Rattle.versioned_xcm.specs.Reading.{message_of}
-use Rattle.versioned_xcm.specs.declared.fault.MessageFault.{MessageFault}
+use Rattle.versioned_xcm.specs.declared.faults.MessageFault.{MessageFault}
 use Rattle.xcm_executor.specs.Built.{plain_program}
 use Rattle.xcm_executor.specs.PlainRun.{plain_run}
 use Rattle.xcm_executor.specs.declared.instruction.PlainInstruction.{PlainInstruction}
@@ -35,8 +35,8 @@ result_text None = codes "ok"
 result_text (Some error) = error_text error
 
 -- the line of an instruction of the program that ran
-abbrev pub line_text : List Instruction → PlainLine → List ℕ
-line_text program line =
+abbrev pub plain_line_text : List Instruction → PlainLine → List ℕ
+plain_line_text program line =
     codes "  p" ++ decimal line.index ++ codes " " ++ name_text (slice_get program line.index) ++ codes " " ++ result_text line.error ++ codes "\n"
 
 -- the origin register: the location of an account of the chain's own, or `-` where it is empty
@@ -56,7 +56,7 @@ outcome_text (Error error) = codes "  = error " ++ outcome_error_text error ++ c
 
 -- a line for each instruction that ran, in order; then the registers; then the outcome
 unfoldable pub run_text : List Instruction → PlainRun → List ℕ
-run_text program run = flat_map (line_text program) run.lines ++ end_text run ++ outcome_text run.outcome
+run_text program run = flat_map (plain_line_text program) run.lines ++ end_text run ++ outcome_text run.outcome
 
 -- a message is refused too where an instruction of it isn't built
 abbrev pub run_or_refusal : List ℕ → List Instruction → Option (List PlainInstruction) → List ℕ
@@ -66,7 +66,7 @@ run_or_refusal account program (Some plain) = run_text program (plain_run accoun
 -- what a message does on behalf of an account, or why it is refused
 abbrev pub message_text : List ℕ → Result (List Instruction) MessageFault → List ℕ
 message_text account (Ok program) = run_or_refusal account program (plain_program program)
-message_text account (Err fault) = codes "  = message refused: " ++ fault_text fault ++ codes "\n"
+message_text account (Err fault) = codes "  = message refused: " ++ message_fault_text fault ++ codes "\n"
 
 -- the relay is the one chain
 abbrev pub result_at : ChainId → List ℕ → List ℕ → List ℕ

@@ -4,8 +4,4 @@
 mod run;
 mod step;
 
-pub use run::write_run;
 pub use step::exec_block;
-
-#[cfg(test)]
-mod tests;

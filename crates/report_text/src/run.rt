@@ -1,6 +1,7 @@
-// The text of a run.
+//! The text of a run.
+
 ghost use Rattle.std.specs.Prelude.{◌≡◌, ◌++◌, flat_map, slice_get, IfOk, OnOk, string_bytes};
-ghost use Rattle.report_text.specs.Steps.{name_text, line_text, origin_text, end_text, outcome_text, run_text};
+ghost use Rattle.report_text.specs.Steps.{name_text, plain_line_text, origin_text, end_text, outcome_text, run_text};
 
 use std::alloc::{AllocError, Global};
 use std::fmt::Write;
@@ -8,9 +9,9 @@ use xcm_executor::{PlainLine, PlainRun};
 use xcm_program::{Outcome, Program};
 
 /// Appends the lines of a run of the program: one for each instruction that ran, one for the registers at the end and one
-/// for the outcome. `Err` is want of memory alone.
+/// for the outcome. `Err` is out of memory alone.
 #[tactic(auto, unfolding(crate::specs::Steps::run_text))]
-pub fn write_run(
+pub(crate) fn write_run(
     alloc: Global,
     text: &mut String,
     program: &Program,
@@ -25,7 +26,7 @@ pub fn write_run(
 
 /// Appends the lines of the instructions that ran.
 fn write_lines(text: &mut String, program: &Program, lines: &[PlainLine]) -> Result<(), AllocError>
-    ensures { OnOk result (string_bytes text.new ≡ string_bytes text.old ++ flat_map (line_text program.now) lines.now) }
+    ensures { OnOk result (string_bytes text.new ≡ string_bytes text.old ++ flat_map (plain_line_text program.now) lines.now) }
 {
     for line in lines {
         write_line(text, program, *line)?;
@@ -45,7 +46,7 @@ fn name_at(program: &Program, index: u32) -> &'static str
 
 /// Appends the line of an instruction that ran.
 fn write_line(text: &mut String, program: &Program, line: PlainLine) -> Result<(), AllocError>
-    ensures { OnOk result (string_bytes text.new ≡ string_bytes text.old ++ line_text program.now line) }
+    ensures { OnOk result (string_bytes text.new ≡ string_bytes text.old ++ plain_line_text program.now line) }
 {
     let index = line.index;
     let name = name_at(program, index);

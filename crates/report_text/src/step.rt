@@ -1,4 +1,5 @@
-// The block of a step.
+//! The block of a step.
+
 ghost use Rattle.std.specs.Prelude.{◌≡◌, ◌++◌, IfOk, OnOk, string_bytes};
 ghost use Rattle.versioned_xcm.specs.Reading.{message_of};
 ghost use Rattle.report_text.specs.Steps.{heading, message_text, exec_text};
@@ -12,7 +13,7 @@ use xcm_executor::{plain_program, run_plain};
 
 /// The block of the step with this number, from 1, that executes a message (SCALE codec, XCM format) on a chain on behalf of
 /// an account: the heading, and below it what the message does, why it is refused, or that there is no such chain. The relay
-/// is the one chain. `Err` is want of memory alone.
+/// is the one chain. `Err` is out of memory alone.
 #[tactic(auto, unfolding(crate::specs::Steps::exec_text))]
 pub fn exec_block(
     alloc: Global,

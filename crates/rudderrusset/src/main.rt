@@ -7,7 +7,7 @@ use std::{env, io};
 use xcm_cli::run;
 use xcm_io::{StdSink, StdSource};
 
-/// The status for want of memory.
+/// The status for out of memory.
 const NO_MEMORY: u8 = 8;
 
 /// The words of the command line. Where one of them is no text, no words are handed on, which is a faulty command line too.

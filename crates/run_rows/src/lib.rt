@@ -1,5 +1,9 @@
-//! Runs of the program over memory, in several cuts of the bytes and with calls that fail.
+//! The program on whole inputs over memory, in several cuts of the bytes and with calls that fail.
 #![tactic(auto)]
 
 #[cfg(test)]
-mod tests;
+mod faults;
+#[cfg(test)]
+mod inputs;
+#[cfg(test)]
+mod running;

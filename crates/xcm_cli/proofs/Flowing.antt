@@ -8,34 +8,34 @@ use Rattle.std.specs.List.{starts_with}
 use Rattle.std.proofs.lemmas.Slice.Eq.{bytes_eq-Decides}
 use Rattle.std.proofs.KnownBytes.{Appends-nil, Appends-trans}
 use Rattle.xcm_io.specs.Bytes.{IsFront, IsProperFront}
-use Rattle.input_lines.specs.Lines.{lines_of, HasNoFeed, onto, is_mark, line_text, without_feed, without_last, ends_with}
-use Rattle.input_lines.proofs.FirstLine.{past_other, no_lines}
+use Rattle.input_lines.specs.Lines.{lines_of, HasNoFeed, onto, ends_network, text_of, without_feed, without_last, ends_with}
+use Rattle.input_lines.specs.Laws.{past_other, no_lines}
 use Rattle.xcm_cli.specs.declared.session.Session.{Session}
 use Rattle.xcm_cli.specs.declared.session.Phase.TheVariants.{Network, Steps}
 use Rattle.xcm_cli.specs.declared.feeder.Feeder.{Feeder}
 use Rattle.xcm_cli.specs.declared.status.Status.{Status}
 use Rattle.xcm_cli.specs.declared.status.Status.TheVariants.{Done, WriteFault, ReadFault, TooLong}
-use Rattle.xcm_cli.specs.Report.{Outcome, ends, then_on, max_input, max_line, max_network, is_within}
-use Rattle.xcm_cli.specs.Session.{Advances, Finishes, Flows, Stops, TakesLines, AllWhole, IsReady, outcome_at}
+use Rattle.xcm_cli.specs.Report.{Reply, ends, then_on, max_input, max_line, max_network, fits_limits}
+use Rattle.xcm_cli.specs.Session.{Advances, Finishes, Flows, Stops, TakesLines, AllWhole, IsReady, reply_at}
 use Rattle.xcm_cli.specs.Feeding.{Ends}
 use Rattle.xcm_cli.proofs.Advance.{line_over, long_step, at_steps, nothing_yet}
 
--- ---- outcomes one after the other
+-- ---- replies one after the other
 
-pub then_then : (whole rest : Outcome) (text more : List ℕ) (last : Outcome) → whole ≡ then_on text rest → rest ≡ then_on more last → whole ≡ then_on (text ++ more) last
+pub then_then : (whole rest : Reply) (text more : List ℕ) (last : Reply) → whole ≡ then_on text rest → rest ≡ then_on more last → whole ≡ then_on (text ++ more) last
 then_then whole rest text more last a b = a ∙ ap (then_on text) b ∙ ap (λ t. record { text = t; status = last.status }) (sym (append_assoc text more last.text))
 
-pub then_front : (whole rest : Outcome) (text more : List ℕ) → whole ≡ then_on text rest → IsFront more rest.text → IsFront (text ++ more) whole.text
+pub then_front : (whole rest : Reply) (text more : List ℕ) → whole ≡ then_on text rest → IsFront more rest.text → IsFront (text ++ more) whole.text
 then_front whole rest text more e f = (f.0, ap (λ o. o.text) e ∙ ap (λ t. text ++ t) f.1 ∙ sym (append_assoc text more f.0))
 
-pub then_proper : (whole rest : Outcome) (text more : List ℕ) → whole ≡ then_on text rest → IsProperFront more rest.text → IsProperFront (text ++ more) whole.text
+pub then_proper : (whole rest : Reply) (text more : List ℕ) → whole ≡ then_on text rest → IsProperFront more rest.text → IsProperFront (text ++ more) whole.text
 then_proper whole rest text more e f = (f.0, ap (λ o. o.text) e ∙ ap (λ t. text ++ t) f.1 ∙ sym (append_assoc text more f.0), f.2)
 
-pub then_ends : (whole rest : Outcome) (text more : List ℕ) (status : Status) → whole ≡ then_on text rest → rest ≡ ends more status → whole ≡ ends (text ++ more) status
+pub then_ends : (whole rest : Reply) (text more : List ℕ) (status : Status) → whole ≡ then_on text rest → rest ≡ ends more status → whole ≡ ends (text ++ more) status
 then_ends whole rest text more status e r = e ∙ ap (then_on text) r
 
 -- where no line comes behind, just the text
-pub then_nothing : (whole rest : Outcome) (text : List ℕ) → whole ≡ then_on text rest → rest ≡ ends [] Done → whole ≡ ends text Done
+pub then_nothing : (whole rest : Reply) (text : List ℕ) → whole ≡ then_on text rest → rest ≡ ends [] Done → whole ≡ ends text Done
 then_nothing whole rest text e n = e ∙ ap (then_on text) n ∙ ap (λ t. ends t Done) (append-nil text)
 
 -- ---- lines taken one after the other
@@ -53,16 +53,16 @@ flows_start session bytes known = record { took = []; text = []; appends = Appen
 
 module _ (session now : Session) (bytes rest : List ℕ) (old mid : Option (List ℕ)) (f : Flows session now bytes rest old mid) where
   -- what these lines report, and then the rest
-  pub flow_bytes : (at_end : Bool) (more : List ℕ) → outcome_at session at_end (lines_of (bytes ++ more)) ≡ then_on f.text (outcome_at now at_end (lines_of (rest ++ more)))
-  flow_bytes at_end more = ap (outcome_at session at_end) (f.cut more) ∙ f.goes at_end (lines_of (rest ++ more))
+  pub flow_bytes : (at_end : Bool) (more : List ℕ) → reply_at session at_end (lines_of (bytes ++ more)) ≡ then_on f.text (reply_at now at_end (lines_of (rest ++ more)))
+  flow_bytes at_end more = ap (reply_at session at_end) (f.cut more) ∙ f.goes at_end (lines_of (rest ++ more))
 
   -- what was taken is reported so far
-  pub flow_so_far : IsReady now → outcome_at session false f.took ≡ ends f.text Done
-  flow_so_far r = then_nothing _ _ f.text (ap (outcome_at session false) (sym (append-nil f.took)) ∙ f.goes false []) (nothing_yet now r)
+  pub flow_so_far : IsReady now → reply_at session false f.took ≡ ends f.text Done
+  flow_so_far r = then_nothing _ _ f.text (ap (reply_at session false) (sym (append-nil f.took)) ∙ f.goes false []) (nothing_yet now r)
 
   -- a line is taken: `next` says how the bytes that come begin with it
   pub flows_line : {E : Type 0} (then : Session) (less line : List ℕ) (due : List ℕ) (new : Option (List ℕ)) (result : Result (Option Status) E)
-      → Advances (λ (x : Bool × List (List ℕ)). outcome_at now x.0 (line ∷ x.1)) (λ x. outcome_at then x.0 x.1) due mid new result → result ≡ Ok None
+      → Advances (λ (x : Bool × List (List ℕ)). reply_at now x.0 (line ∷ x.1)) (λ x. reply_at then x.0 x.1) due mid new result → result ≡ Ok None
       → ((more : List ℕ) → lines_of (rest ++ more) ≡ line ∷ lines_of (less ++ more)) → ends_with 10 line ≡ true → Flows session then bytes less old new
   flows_line then less line due new result a e next w = record {
     took = f.took ++ line ∷ [];
@@ -70,18 +70,18 @@ module _ (session now : Session) (bytes rest : List ℕ) (old mid : Option (List
     appends = Appends-trans old mid new f.text a.text f.appends a.appends;
     cut = λ more. f.cut more ∙ ap (λ l. f.took ++ l) (next more) ∙ sym (append_assoc f.took (line ∷ []) (lines_of (less ++ more)));
     whole = whole_more f.took line f.whole w;
-    goes = λ at_end lines. ap (outcome_at session at_end) (append_assoc f.took (line ∷ []) lines)
-        ∙ then_then _ _ f.text a.text (outcome_at then at_end lines) (f.goes at_end (line ∷ lines)) (a.goes_on e (at_end, lines));
+    goes = λ at_end lines. ap (reply_at session at_end) (append_assoc f.took (line ∷ []) lines)
+        ∙ then_then _ _ f.text a.text (reply_at then at_end lines) (f.goes at_end (line ∷ lines)) (a.goes_on e (at_end, lines));
   }
 
   -- a call on the next line that ends the run, or gives up
   pub flows_over : {E F : Type 0} (then : Session) (less line : List ℕ) (new : Option (List ℕ)) (result : Result (Option Status) E) (answer : Result (Option Status) F)
-      → IsReady now → Advances (λ (x : Bool × List (List ℕ)). outcome_at now x.0 (line ∷ x.1)) (λ x. outcome_at then x.0 x.1) (outcome_at now false (line ∷ [])).text mid new result
+      → IsReady now → Advances (λ (x : Bool × List (List ℕ)). reply_at now x.0 (line ∷ x.1)) (λ x. reply_at then x.0 x.1) (reply_at now false (line ∷ [])).text mid new result
       → ((status : Status) → answer ≡ Ok (Some status) → result ≡ Ok (Some status))
       → ((more : List ℕ) → lines_of (rest ++ more) ≡ line ∷ lines_of (less ++ more)) → ends_with 10 line ≡ true → Stops session bytes old new answer
   flows_over then less line new result answer r a same next w =
-      let at : (at_end : Bool) (more : List ℕ) → outcome_at session at_end (lines_of (bytes ++ more)) ≡ then_on f.text (outcome_at now at_end (line ∷ lines_of (less ++ more))) =
-      λ at_end more. flow_bytes at_end more ∙ ap (λ l. then_on f.text (outcome_at now at_end l)) (next more) in
+      let at : (at_end : Bool) (more : List ℕ) → reply_at session at_end (lines_of (bytes ++ more)) ≡ then_on f.text (reply_at now at_end (line ∷ lines_of (less ++ more))) =
+      λ at_end more. flow_bytes at_end more ∙ ap (λ l. then_on f.text (reply_at now at_end l)) (next more) in
       let here : lines_of bytes ≡ f.took ++ line ∷ lines_of less =
       ap lines_of (sym (append-nil bytes)) ∙ f.cut [] ∙ ap (λ l. f.took ++ l) (next []) ∙ ap (λ b. f.took ++ line ∷ lines_of b) (append-nil less) in
       record {
@@ -111,7 +111,7 @@ module _ (session now : Session) (bytes rest : List ℕ) (old mid : Option (List
   flows_err refused = record {
     text = f.text;
     appends = f.appends;
-    front = λ at_end more. ((outcome_at now at_end (lines_of (rest ++ more))).text, ap (λ o. o.text) (flow_bytes at_end more));
+    front = λ at_end more. ((reply_at now at_end (lines_of (rest ++ more))).text, ap (λ o. o.text) (flow_bytes at_end more));
     ended = λ status e n at_end more. cc;
     short = λ e. absurd cc;
     long = λ e. absurd cc;
@@ -177,21 +177,21 @@ kept_length bytes [] l n = rw (append-nil, no_feed_end bytes l n) (omega arith)
 kept_length bytes (t ∷ ts) l n = omega (arith, cut_length (ends_with 10 (bytes ++ t ∷ ts)) (bytes ++ t ∷ ts), length-append bytes (t ∷ ts))
 
 pub over_total : (f : Feeder) (done : ℕ) (at_end : Bool) (more : List ℕ) → HasNoFeed f.pending.items → 0 < length f.pending.items → f.session.phase ≡ Steps done → max_input < f.session.taken + length f.pending.items
-    → outcome_at f.session at_end (lines_of (f.pending.items ++ more)) ≡ ends [] TooLong
+    → reply_at f.session at_end (lines_of (f.pending.items ++ more)) ≡ ends [] TooLong
 over_total f done at_end more n some e l =
     let h = begins f.pending.items more some n in
     let size : max_input < f.session.taken + length (f.pending.items ++ h.0) = omega (arith, length-append f.pending.items h.0) in
-    let past : is_within f.session.taken (f.pending.items ++ h.0) ≡ false = second_false _ (nat_le (f.session.taken + length (f.pending.items ++ h.0)) max_input) (grind (arith, nat_tests)) in
-    ap (outcome_at f.session at_end) h.1.1 ∙ at_steps f.session done at_end _ e ∙ long_step done f.session.lines f.session.taken (f.pending.items ++ h.0) h.1.0 past
+    let past : fits_limits f.session.taken (f.pending.items ++ h.0) ≡ false = second_false _ (nat_le (f.session.taken + length (f.pending.items ++ h.0)) max_input) (grind (arith, nat_tests)) in
+    ap (reply_at f.session at_end) h.1.1 ∙ at_steps f.session done at_end _ e ∙ long_step done f.session.lines f.session.taken (f.pending.items ++ h.0) h.1.0 past
 
 pub over_line : (f : Feeder) (done : ℕ) (at_end : Bool) (more : List ℕ) → HasNoFeed f.pending.items → f.session.phase ≡ Steps done → max_line < length f.pending.items
-    → outcome_at f.session at_end (lines_of (f.pending.items ++ more)) ≡ ends [] TooLong
+    → reply_at f.session at_end (lines_of (f.pending.items ++ more)) ≡ ends [] TooLong
 over_line f done at_end more n e l =
     let some : 0 < length f.pending.items = omega arith in
     let h = begins f.pending.items more some n in
     let kept : length f.pending.items ≤ length (without_feed (f.pending.items ++ h.0)) = kept_length f.pending.items h.0 some n in
-    let past : is_within f.session.taken (f.pending.items ++ h.0) ≡ false = first_false (nat_le (length (without_feed (f.pending.items ++ h.0))) max_line) _ (grind (arith, nat_tests)) in
-    ap (outcome_at f.session at_end) h.1.1 ∙ at_steps f.session done at_end _ e ∙ long_step done f.session.lines f.session.taken (f.pending.items ++ h.0) h.1.0 past
+    let past : fits_limits f.session.taken (f.pending.items ++ h.0) ≡ false = first_false (nat_le (length (without_feed (f.pending.items ++ h.0))) max_line) _ (grind (arith, nat_tests)) in
+    ap (reply_at f.session at_end) h.1.1 ∙ at_steps f.session done at_end _ e ∙ long_step done f.session.lines f.session.taken (f.pending.items ++ h.0) h.1.0 past
 
 -- ---- a line that begins so can't end the network part
 
@@ -222,9 +222,9 @@ marks line true true f r e =
 marks line true false f r e = inr (inl (last_is 10 line (nat_lt 0 (length line)) refl f ∙ ap (λ xs. xs ++ 10 ∷ []) e))
 marks line false returned f r e = inl e
 
-mark_is : (line : List ℕ) → is_mark line ≡ true → (line ≡ codes "---") ⊎ ((line ≡ codes "---\n") ⊎ (line ≡ codes "---\r\n"))
-unfolding line_text
-mark_is line e = marks line (ends_with 10 line) (ends_with 13 (without_last line)) refl refl ((bytes_eq-Decides (line_text line) (codes "---")).0 e)
+mark_is : (line : List ℕ) → ends_network line ≡ true → (line ≡ codes "---") ⊎ ((line ≡ codes "---\n") ⊎ (line ≡ codes "---\r\n"))
+unfolding text_of
+mark_is line e = marks line (ends_with 10 line) (ends_with 13 (without_last line)) refl refl ((bytes_eq-Decides (text_of line) (codes "---")).0 e)
 
 -- what begins such a line and has no feed begins `---` and a carriage return
 begins_mark : (bytes tail : List ℕ) → HasNoFeed bytes → (bytes ++ tail ≡ codes "---") ⊎ ((bytes ++ tail ≡ codes "---\n") ⊎ (bytes ++ tail ≡ codes "---\r\n"))
@@ -244,7 +244,7 @@ begins_mark (a ∷ b ∷ c ∷ d ∷ rest) tail n (inr (inl e)) = let k : d ≡ 
 begins_mark (a ∷ b ∷ c ∷ d ∷ []) tail n (inr (inr e)) = let h : a ≡ 45 = cc in let i : b ≡ 45 = cc in let j : c ≡ 45 = cc in let k : d ≡ 13 = cc in rw (h, i, j, k) refl
 begins_mark (a ∷ b ∷ c ∷ d ∷ f ∷ rest) tail n (inr (inr e)) = let k : f ≡ 10 = cc in absurd (n 4 (omega arith) k)
 
-unlike_mark : (bytes tail : List ℕ) (b : Bool) → HasNoFeed bytes → starts_with nat_eq (codes "---\r") bytes ≡ false → is_mark (bytes ++ tail) ≡ b → is_mark (bytes ++ tail) ≡ false
+unlike_mark : (bytes tail : List ℕ) (b : Bool) → HasNoFeed bytes → starts_with nat_eq (codes "---\r") bytes ≡ false → ends_network (bytes ++ tail) ≡ b → ends_network (bytes ++ tail) ≡ false
 unlike_mark bytes tail true n u e = let h : starts_with nat_eq (codes "---\r") bytes ≡ true = begins_mark bytes tail n (mark_is (bytes ++ tail) e) in absurd cc
 unlike_mark bytes tail false n u e = e
 
@@ -253,16 +253,16 @@ some_byte [] e = absurd cc
 some_byte (b ∷ rest) e = omega arith
 
 pub over_network : (f : Feeder) (part : Vec ℕ Global) (at_end : Bool) (more : List ℕ) → HasNoFeed f.pending.items → f.session.phase ≡ Network part → starts_with nat_eq (codes "---\r") f.pending.items ≡ false
-    → max_network < length part.items + length f.pending.items → outcome_at f.session at_end (lines_of (f.pending.items ++ more)) ≡ ends [] TooLong
+    → max_network < length part.items + length f.pending.items → reply_at f.session at_end (lines_of (f.pending.items ++ more)) ≡ ends [] TooLong
 over_network f part at_end more n e u l =
     let h = begins f.pending.items more (some_byte f.pending.items u) n in
     let size : length (f.pending.items ++ h.0) ≡ length f.pending.items + length h.0 = length-append f.pending.items h.0 in
-    ap (outcome_at f.session at_end) h.1.1 ∙ line_over f.session part (f.pending.items ++ h.0) at_end h.1.0 e (unlike_mark f.pending.items h.0 (is_mark (f.pending.items ++ h.0)) n u refl) (omega arith)
+    ap (reply_at f.session at_end) h.1.1 ∙ line_over f.session part (f.pending.items ++ h.0) at_end h.1.0 e (unlike_mark f.pending.items h.0 (ends_network (f.pending.items ++ h.0)) n u refl) (omega arith)
 
 -- ---- the end of the input
 
 -- nothing is pending
-pub ends_empty : {E : Type 0} (s : Session) (bytes : List ℕ) (old new : Option (List ℕ)) (result : Result Status E) → length bytes ≡ 0 → IsReady s → Finishes (outcome_at s true []) old new result → Ends s bytes old new result
+pub ends_empty : {E : Type 0} (s : Session) (bytes : List ℕ) (old new : Option (List ℕ)) (result : Result Status E) → length bytes ≡ 0 → IsReady s → Finishes (reply_at s true []) old new result → Ends s bytes old new result
 ends_empty s bytes old new result z r f =
     let none : lines_of bytes ≡ [] = no_lines bytes z in
     record {
@@ -278,7 +278,7 @@ ends_empty s bytes old new result z r f =
 module _ (s now : Session) (bytes : List ℕ) (old mid : Option (List ℕ)) (line : lines_of bytes ≡ bytes ∷ []) (ready : IsReady s) where
   -- the last line is taken, and the input ends behind it
   pub ends_behind : {E F : Type 0} (due : List ℕ) (new : Option (List ℕ)) (taken : Result (Option Status) F) (result : Result Status E) → taken ≡ Ok None → IsReady now
-      → Advances (λ (x : Bool × List (List ℕ)). outcome_at s x.0 (bytes ∷ x.1)) (λ x. outcome_at now x.0 x.1) due old mid taken → Finishes (outcome_at now true []) mid new result → Ends s bytes old new result
+      → Advances (λ (x : Bool × List (List ℕ)). reply_at s x.0 (bytes ∷ x.1)) (λ x. reply_at now x.0 x.1) due old mid taken → Finishes (reply_at now true []) mid new result → Ends s bytes old new result
   ends_behind due new taken result t r a f = record {
     text = a.text ++ f.text;
     appends = Appends-trans old mid new a.text f.text a.appends f.appends;
@@ -294,7 +294,7 @@ module _ (s now : Session) (bytes : List ℕ) (old mid : Option (List ℕ)) (lin
 
   -- a call on the last line ended the run
   pub ends_in : {E F : Type 0} (taken : Result (Option Status) F) (answer : Status) → taken ≡ Ok (Some answer) → taken ≢ Ok (Some ReadFault)
-      → Advances (λ (x : Bool × List (List ℕ)). outcome_at s x.0 (bytes ∷ x.1)) (λ x. outcome_at now x.0 x.1) (outcome_at s false (bytes ∷ [])).text old mid taken → Ends {E = E} s bytes old mid (Ok answer)
+      → Advances (λ (x : Bool × List (List ℕ)). reply_at s x.0 (bytes ∷ x.1)) (λ x. reply_at now x.0 x.1) (reply_at s false (bytes ∷ [])).text old mid taken → Ends {E = E} s bytes old mid (Ok answer)
   ends_in taken answer t n a = record {
     text = a.text;
     appends = a.appends;
@@ -319,7 +319,7 @@ module _ (s now : Session) (bytes : List ℕ) (old mid : Option (List ℕ)) (lin
   }
 
   -- memory was refused in it
-  pub ends_err : {E F : Type 0} (taken : Result (Option Status) F) (refused : E) (due : List ℕ) → Advances (λ (x : Bool × List (List ℕ)). outcome_at s x.0 (bytes ∷ x.1)) (λ x. outcome_at now x.0 x.1) due old mid taken
+  pub ends_err : {E F : Type 0} (taken : Result (Option Status) F) (refused : E) (due : List ℕ) → Advances (λ (x : Bool × List (List ℕ)). reply_at s x.0 (bytes ∷ x.1)) (λ x. reply_at now x.0 x.1) due old mid taken
       → Ends s bytes old mid (Err refused)
   ends_err taken refused due a = record {
     text = a.text;

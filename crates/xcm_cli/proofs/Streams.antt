@@ -7,14 +7,15 @@ use Rattle.std.specs.Prelude.{filter, nat_lt, ◌&&◌}
 use Rattle.std.specs.Io.KnownBytes.{Appends, Consumes, Keeps, IsAtEnd}
 use Rattle.std.proofs.KnownBytes.{Appends-nil, Appends-trans, Consumes-nil, Consumes-trans, Consumes-kept}
 use Rattle.xcm_io.specs.Bytes.{IsFront}
-use Rattle.input_lines.specs.Lines.{lines_of, joined, ends_with, HasNoFeed}
-use Rattle.input_lines.proofs.FirstLine.{no_lines, only_line}
-use Rattle.input_lines.proofs.Joined.{joined-lines_of}
+use Rattle.std.specs.List.{concat}
+use Rattle.input_lines.specs.Lines.{lines_of, ends_with, HasNoFeed}
+use Rattle.std.proofs.lemmas.List.Folds.{concat-append}
+use Rattle.input_lines.specs.Laws.{no_lines, only_line, concat-lines_of}
 use Rattle.xcm_cli.specs.declared.session.Session.{Session}
 use Rattle.xcm_cli.specs.declared.status.Status.{Status}
 use Rattle.xcm_cli.specs.declared.status.Status.TheVariants.{Done, ReadFault, TooLong}
-use Rattle.xcm_cli.specs.Report.{ends, then_on, lines_outcome, bytes_outcome, so_far}
-use Rattle.xcm_cli.specs.Session.{AllWhole, Flows, Stops, StopsInLine, StopsAtLimit, IsReady, outcome_at}
+use Rattle.xcm_cli.specs.Report.{ends, then_on, lines_reply, bytes_reply, so_far}
+use Rattle.xcm_cli.specs.Session.{AllWhole, Flows, Stops, StopsInLine, StopsAtLimit, IsReady, reply_at}
 use Rattle.xcm_cli.specs.Feeding.{Ends, StopsAtEnd}
 use Rattle.xcm_cli.specs.Serving.{Serves, FailedInLine, FailedAtEnd, StoppedAtLimit}
 use Rattle.xcm_cli.proofs.Advance.{nothing_yet}
@@ -30,10 +31,10 @@ pub record Streams (left rest old now : Option (List ℕ)) (session : Session) (
   pub appends : Appends old now text
   pub cut : (more : List ℕ) → lines_of (taken ++ more) ≡ reported ++ lines_of (pending ++ more)
   pub whole : AllWhole reported
-  pub goes : (at_end : Bool) (lines : List (List ℕ)) → lines_outcome at_end (reported ++ lines) ≡ then_on text (outcome_at session at_end lines)
+  pub goes : (at_end : Bool) (lines : List (List ℕ)) → lines_reply at_end (reported ++ lines) ≡ then_on text (reply_at session at_end lines)
 
 pub streams_start : (left old : Option (List ℕ)) (session : Session) (pending : List ℕ) → pending ≡ []
-    → ((at_end : Bool) (lines : List (List ℕ)) → outcome_at session at_end lines ≡ lines_outcome at_end lines) → Streams left left old old session pending
+    → ((at_end : Bool) (lines : List (List ℕ)) → reply_at session at_end lines ≡ lines_reply at_end lines) → Streams left left old old session pending
 streams_start left old session pending none start = record {
   taken = [];
   consumed = Consumes-nil left;
@@ -62,25 +63,25 @@ whole_of lines (b ∷ rest) w n =
 
 module _ (left rest old now : Option (List ℕ)) (session : Session) (pending : List ℕ) (s : Streams left rest old now session pending) where
   -- the report of what was taken and of what comes
-  stream_bytes : (more : List ℕ) → bytes_outcome (s.taken ++ more) ≡ then_on s.text (outcome_at session true (lines_of (pending ++ more)))
-  stream_bytes more = ap (lines_outcome true) (s.cut more) ∙ s.goes true (lines_of (pending ++ more))
+  stream_bytes : (more : List ℕ) → bytes_reply (s.taken ++ more) ≡ then_on s.text (reply_at session true (lines_of (pending ++ more)))
+  stream_bytes more = ap (lines_reply true) (s.cut more) ∙ s.goes true (lines_of (pending ++ more))
 
   -- the report of what was taken
-  stream_taken : bytes_outcome s.taken ≡ then_on s.text (outcome_at session true (lines_of pending))
-  stream_taken = ap bytes_outcome (sym (append-nil s.taken)) ∙ stream_bytes [] ∙ ap (λ p. then_on s.text (outcome_at session true (lines_of p))) (append-nil pending)
+  stream_taken : bytes_reply s.taken ≡ then_on s.text (reply_at session true (lines_of pending))
+  stream_taken = ap bytes_reply (sym (append-nil s.taken)) ∙ stream_bytes [] ∙ ap (λ p. then_on s.text (reply_at session true (lines_of p))) (append-nil pending)
 
   stream_lines : lines_of s.taken ≡ s.reported ++ lines_of pending
   stream_lines = ap lines_of (sym (append-nil s.taken)) ∙ s.cut [] ∙ ap (λ p. s.reported ++ lines_of p) (append-nil pending)
 
   -- what is reported so far
-  stream_reported : IsReady session → lines_outcome false s.reported ≡ ends s.text Done
-  stream_reported r = then_nothing _ _ s.text (ap (lines_outcome false) (sym (append-nil s.reported)) ∙ s.goes false []) (nothing_yet session r)
+  stream_reported : IsReady session → lines_reply false s.reported ≡ ends s.text Done
+  stream_reported r = then_nothing _ _ s.text (ap (lines_reply false) (sym (append-nil s.reported)) ∙ s.goes false []) (nothing_yet session r)
 
   stream_so_far : IsReady session → HasNoFeed pending → so_far s.taken ≡ ends s.text Done
-  stream_so_far r n = ap (λ l. lines_outcome false (filter (ends_with 10) l)) stream_lines ∙ ap (lines_outcome false) (whole_of s.reported pending s.whole n) ∙ stream_reported r
+  stream_so_far r n = ap (λ l. lines_reply false (filter (ends_with 10) l)) stream_lines ∙ ap (lines_reply false) (whole_of s.reported pending s.whole n) ∙ stream_reported r
 
-  stream_front : IsFront s.text (bytes_outcome s.taken).text
-  stream_front = ((outcome_at session true (lines_of pending)).text, ap (λ o. o.text) stream_taken)
+  stream_front : IsFront s.text (bytes_reply s.taken).text
+  stream_front = ((reply_at session true (lines_of pending)).text, ap (λ o. o.text) stream_taken)
 
   -- nothing more is taken or written
   pub streams_kept : (less : Option (List ℕ)) → Keeps rest less → Streams left less old now session pending
@@ -125,8 +126,8 @@ module _ (left rest old now : Option (List ℕ)) (session : Session) (pending : 
     appends = Appends-trans old now new s.text f.text s.appends f.appends;
     cut = λ more. joined_more piece more ∙ ap (λ l. s.reported ++ l) (f.cut more) ∙ sym (append_assoc s.reported f.took (lines_of (unended ++ more)));
     whole = all_whole s.reported f.took s.whole f.whole;
-    goes = λ at_end lines. ap (lines_outcome at_end) (append_assoc s.reported f.took lines)
-        ∙ then_then _ _ s.text f.text (outcome_at then at_end lines) (s.goes at_end (f.took ++ lines)) (f.goes at_end lines);
+    goes = λ at_end lines. ap (lines_reply at_end) (append_assoc s.reported f.took lines)
+        ∙ then_then _ _ s.text f.text (reply_at then at_end lines) (s.goes at_end (f.took ++ lines)) (f.goes at_end lines);
   }
 
 -- ---- what is behind a line that ends in the last piece
@@ -159,18 +160,14 @@ ends_behind pending piece before line behind e n w = by_test (nat_lt (length pen
         let here : get_or pending (length before + (length line - 1)) 0 ≡ 10 = sym (get_or_append_left pending piece 0 (length before + (length line - 1)) (omega (arith, some))) ∙ there in
         absurd (n (length before + (length line - 1)) (omega (arith, some)) here)
 
-joined-append : (one two : List (List ℕ)) → joined (one ++ two) ≡ joined one ++ joined two
-joined-append [] two = refl
-joined-append (line ∷ lines) two = ap (λ b. line ++ b) (joined-append lines two) ∙ sym (append_assoc line (joined lines) (joined two))
-
 near_of : (pending piece : List ℕ) (before : List (List ℕ)) (line : List ℕ) (behind : List (List ℕ)) → lines_of (pending ++ piece) ≡ before ++ line ∷ behind → HasNoFeed pending → length piece ≤ 65536
-    → (ends_with 10 line ≡ true) ⊎ (behind ≡ []) → length (joined behind) < 65536
+    → (ends_with 10 line ≡ true) ⊎ (behind ≡ []) → length (concat behind) < 65536
 near_of pending piece before line behind e n few (inr none) = rw none (omega arith)
 near_of pending piece before line behind e n few (inl w) =
-    let parts : pending ++ piece ≡ joined before ++ (line ++ joined behind) = sym (joined-lines_of (pending ++ piece)) ∙ ap joined e ∙ joined-append before (line ∷ behind) in
-    let past : length pending < length (joined before) + length line = ends_behind pending piece (joined before) line (joined behind) parts n w in
-    let size : length pending + length piece ≡ length (joined before) + (length line + length (joined behind)) =
-    sym (length-append pending piece) ∙ ap length parts ∙ length-append (joined before) (line ++ joined behind) ∙ ap (λ k. length (joined before) + k) (length-append line (joined behind)) in
+    let parts : pending ++ piece ≡ concat before ++ (line ++ concat behind) = sym (concat-lines_of (pending ++ piece)) ∙ ap concat e ∙ concat-append before (line ∷ behind) in
+    let past : length pending < length (concat before) + length line = ends_behind pending piece (concat before) line (concat behind) parts n w in
+    let size : length pending + length piece ≡ length (concat before) + (length line + length (concat behind)) =
+    sym (length-append pending piece) ∙ ap length parts ∙ length-append (concat before) (line ++ concat behind) ∙ ap (λ k. length (concat before) + k) (length-append line (concat behind)) in
     omega arith
 
 told : (left rest : Option (List ℕ)) (taken : List ℕ) (P : List ℕ → Type 0) → Consumes left rest taken → ((more : List ℕ) → P (taken ++ more)) → IfSome left P
@@ -185,10 +182,10 @@ at_end_of (Some bytes) (Some more) taken P c a p = let e : bytes ≡ taken = c �
 
 module _ (left rest old now : Option (List ℕ)) (session : Session) (pending : List ℕ) (s : Streams left rest old now session pending) where
   -- the report of these lines goes on from what is written
-  before_front : (before : List (List ℕ)) (text : List ℕ) → IsFront (outcome_at session false before).text text → IsFront (lines_outcome false (s.reported ++ before)).text (s.text ++ text)
+  before_front : (before : List (List ℕ)) (text : List ℕ) → IsFront (reply_at session false before).text text → IsFront (lines_reply false (s.reported ++ before)).text (s.text ++ text)
   before_front before text f =
-      let e : (lines_outcome false (s.reported ++ before)).text ≡ s.text ++ (outcome_at session false before).text = ap (λ o. o.text) (s.goes false before) in
-      (f.0, ap (λ t. s.text ++ t) f.1 ∙ sym (append_assoc s.text (outcome_at session false before).text f.0) ∙ ap (λ t. t ++ f.0) (sym e))
+      let e : (lines_reply false (s.reported ++ before)).text ≡ s.text ++ (reply_at session false before).text = ap (λ o. o.text) (s.goes false before) in
+      (f.0, ap (λ t. s.text ++ t) f.1 ∙ sym (append_assoc s.text (reply_at session false before).text f.0) ∙ ap (λ t. t ++ f.0) (sym e))
 
   -- a write failed in a line
   failed_in : (less : Option (List ℕ)) (piece text : List ℕ) → length piece ≤ 65536 → HasNoFeed pending → StopsInLine session (pending ++ piece) text → FailedInLine (s.taken ++ piece) (s.text ++ text)
@@ -211,14 +208,14 @@ module _ (left rest old now : Option (List ℕ)) (session : Session) (pending : 
   }
 
   -- what comes behind a piece
-  piece_bytes : (piece more : List ℕ) → bytes_outcome ((s.taken ++ piece) ++ more) ≡ then_on s.text (outcome_at session true (lines_of ((pending ++ piece) ++ more)))
-  piece_bytes piece more = ap (lines_outcome true) (joined_more left rest old now session pending s piece more) ∙ s.goes true (lines_of ((pending ++ piece) ++ more))
+  piece_bytes : (piece more : List ℕ) → bytes_reply ((s.taken ++ piece) ++ more) ≡ then_on s.text (reply_at session true (lines_of ((pending ++ piece) ++ more)))
+  piece_bytes piece more = ap (lines_reply true) (joined_more left rest old now session pending s piece more) ∙ s.goes true (lines_of ((pending ++ piece) ++ more))
 
-  piece_taken : (piece : List ℕ) → bytes_outcome (s.taken ++ piece) ≡ then_on s.text (outcome_at session true (lines_of (pending ++ piece)))
-  piece_taken piece = ap (lines_outcome true) (joined_here left rest old now session pending s piece) ∙ s.goes true (lines_of (pending ++ piece))
+  piece_taken : (piece : List ℕ) → bytes_reply (s.taken ++ piece) ≡ then_on s.text (reply_at session true (lines_of (pending ++ piece)))
+  piece_taken piece = ap (lines_reply true) (joined_here left rest old now session pending s piece) ∙ s.goes true (lines_of (pending ++ piece))
 
-  front_here : (piece text : List ℕ) → ((at_end : Bool) (more : List ℕ) → IsFront text (outcome_at session at_end (lines_of ((pending ++ piece) ++ more))).text) → IsFront text (outcome_at session true (lines_of (pending ++ piece))).text
-  front_here piece text f = let g = f true [] in (g.0, ap (λ b. (outcome_at session true (lines_of b)).text) (sym (append-nil (pending ++ piece))) ∙ g.1)
+  front_here : (piece text : List ℕ) → ((at_end : Bool) (more : List ℕ) → IsFront text (reply_at session at_end (lines_of ((pending ++ piece) ++ more))).text) → IsFront text (reply_at session true (lines_of (pending ++ piece))).text
+  front_here piece text f = let g = f true [] in (g.0, ap (λ b. (reply_at session true (lines_of b)).text) (sym (append-nil (pending ++ piece))) ∙ g.1)
 
   -- a call on a piece ended the run
   pub streams_over : {E F : Type 0} (less new : Option (List ℕ)) (piece : List ℕ) (result : Result (Option Status) F) (answer : Status) → Consumes rest less piece → length piece ≤ 65536 → HasNoFeed pending
@@ -229,7 +226,7 @@ module _ (left rest old now : Option (List ℕ)) (session : Session) (pending : 
     text = s.text ++ p.text;
     appends = Appends-trans old now new s.text p.text s.appends p.appends;
     front = then_front _ _ s.text p.text (piece_taken piece) (front_here piece p.text p.front);
-    ended = λ status r f. told left less (s.taken ++ piece) (λ bytes. bytes_outcome bytes ≡ ends (s.text ++ p.text) status) (Consumes-trans left rest less s.taken piece s.consumed c)
+    ended = λ status r f. told left less (s.taken ++ piece) (λ bytes. bytes_reply bytes ≡ ends (s.text ++ p.text) status) (Consumes-trans left rest less s.taken piece s.consumed c)
         (λ more. then_ends _ _ s.text p.text status (piece_bytes piece more) (p.ended status (e ∙ ap (λ x. Ok (Some x)) cc) (λ w. f (inr w)) true more));
     read_failed = λ r. absurd (k (e ∙ ap (λ x. Ok (Some x)) cc));
     write_failed = λ r. inl (failed_in less piece p.text few n (p.short (e ∙ ap (λ x. Ok (Some x)) cc)));
@@ -277,7 +274,7 @@ module _ (left rest old now : Option (List ℕ)) (session : Session) (pending : 
         text = s.text ++ f.text;
         appends = Appends-trans old now new s.text f.text s.appends f.appends;
         front = then_front _ _ s.text f.text (stream_taken left rest old now session pending s) f.front;
-        ended = λ status r k. at_end_of left less s.taken (λ bytes. bytes_outcome bytes ≡ ends (s.text ++ f.text) status) consumed a
+        ended = λ status r k. at_end_of left less s.taken (λ bytes. bytes_reply bytes ≡ ends (s.text ++ f.text) status) consumed a
             (then_ends _ _ s.text f.text status (stream_taken left rest old now session pending s) (f.ended status r (λ w. k (inr w))));
         read_failed = λ r. absurd (f.no_read r);
         write_failed = λ r. elim (f.short r) [ inl i ↦ inl (failed_last f.text n i) | inr i ↦ inr (failed_at_end less f.text a i) ];
@@ -288,14 +285,14 @@ module _ (left rest old now : Option (List ℕ)) (session : Session) (pending : 
   limit_here r = record { before = s.reported; behind = lines_of pending; lines = stream_lines left rest old now session pending s; reported = stream_reported left rest old now session pending s r }
 
   -- past a limit, whatever comes
-  pub streams_long : {E : Type 0} → IsReady session → ((at_end : Bool) (more : List ℕ) → outcome_at session at_end (lines_of (pending ++ more)) ≡ ends [] TooLong) → Serves {E = E} left rest old now (Ok TooLong)
+  pub streams_long : {E : Type 0} → IsReady session → ((at_end : Bool) (more : List ℕ) → reply_at session at_end (lines_of (pending ++ more)) ≡ ends [] TooLong) → Serves {E = E} left rest old now (Ok TooLong)
   streams_long r over = record {
     taken = s.taken;
     consumed = s.consumed;
     text = s.text;
     appends = s.appends;
     front = stream_front left rest old now session pending s;
-    ended = λ status e k. told left rest s.taken (λ bytes. bytes_outcome bytes ≡ ends s.text status) s.consumed
+    ended = λ status e k. told left rest s.taken (λ bytes. bytes_reply bytes ≡ ends s.text status) s.consumed
         (λ more. then_ends _ _ s.text [] TooLong (stream_bytes left rest old now session pending s more) (over true more) ∙ ap (λ t. ends t TooLong) (append-nil s.text) ∙ ap (λ x. ends s.text x) cc);
     read_failed = λ e. absurd cc;
     write_failed = λ e. absurd cc;

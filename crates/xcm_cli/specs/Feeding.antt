@@ -4,7 +4,7 @@ use Rattle.std.specs.Io.KnownBytes.{Appends}
 use Rattle.xcm_io.specs.Bytes.{IsFront, IsProperFront}
 use Rattle.input_lines.specs.Lines.{lines_of, HasNoFeed}
 use Rattle.xcm_cli.specs.Report.{ends, max_input}
-use Rattle.xcm_cli.specs.Session.{outcome_at, IsReady, StopsInLine, StopsAtLimit}
+use Rattle.xcm_cli.specs.Session.{reply_at, IsReady, StopsInLine, StopsAtLimit}
 use Rattle.xcm_cli.specs.declared.feeder.Feeder.{Feeder}
 use Rattle.xcm_cli.specs.declared.session.Session.{Session}
 use Rattle.xcm_cli.specs.declared.status.Status.{Status}
@@ -18,15 +18,15 @@ pub record IsFed (feeder : Feeder) : Type 0 where
 
 -- The text ends inside what the end of the input calls for: the opening, or the line that refuses the network.
 pub record StopsAtEnd (session : Session) (bytes text : List ℕ) : Type 0 where
-  pub reported : IsFront (outcome_at session false (lines_of bytes)).text text
-  pub short : IsProperFront text (outcome_at session true (lines_of bytes)).text
+  pub reported : IsFront (reply_at session false (lines_of bytes)).text text
+  pub short : IsProperFront text (reply_at session true (lines_of bytes)).text
 
 -- The run is over at the end of its input, which ends with these bytes.
 pub record Ends {E : Type 0} (session : Session) (bytes : List ℕ) (old new : Option (List ℕ)) (result : Result Status E) : Type 0 where
   pub text : List ℕ
   pub appends : Appends old new text
-  pub front : IsFront text (outcome_at session true (lines_of bytes)).text
-  pub ended : (status : Status) → result ≡ Ok status → status ≢ WriteFault → outcome_at session true (lines_of bytes) ≡ ends text status
+  pub front : IsFront text (reply_at session true (lines_of bytes)).text
+  pub ended : (status : Status) → result ≡ Ok status → status ≢ WriteFault → reply_at session true (lines_of bytes) ≡ ends text status
   pub short : result ≡ Ok WriteFault → StopsInLine session bytes text ⊎ StopsAtEnd session bytes text
   pub long : result ≡ Ok TooLong → StopsAtLimit session bytes text
   pub no_read : result ≢ Ok ReadFault

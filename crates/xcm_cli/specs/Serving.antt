@@ -3,8 +3,9 @@ use Rattle.std.specs.Prelude.{◌≡◌, ◌⊎◌, ◌<◌, ℕ, List, [], ◌�
 use Rattle.std.specs.declared.alloc.Global.{Global}
 use Rattle.std.specs.Io.KnownBytes.{Appends, Consumes, IsAtEnd}
 use Rattle.xcm_io.specs.Bytes.{IsFront, IsProperFront}
-use Rattle.input_lines.specs.Lines.{lines_of, joined}
-use Rattle.xcm_cli.specs.Report.{bytes_outcome, lines_outcome, so_far, ends, report, is_run}
+use Rattle.std.specs.List.{concat}
+use Rattle.input_lines.specs.Lines.{lines_of}
+use Rattle.xcm_cli.specs.Report.{bytes_reply, lines_reply, so_far, ends, report, is_run}
 use Rattle.xcm_cli.specs.Session.{IsFault}
 use Rattle.xcm_cli.specs.declared.status.Status.{Status}
 use Rattle.xcm_cli.specs.declared.status.Status.TheVariants.{Done, ReadFault, WriteFault, TooLong}
@@ -16,14 +17,14 @@ pub record FailedInLine (taken text : List ℕ) : Type 0 where
   pub line : List ℕ
   pub behind : List (List ℕ)
   pub lines : lines_of taken ≡ before ++ line ∷ behind
-  pub reported : IsFront (lines_outcome false before).text text
-  pub short : IsProperFront text (lines_outcome false (before ++ line ∷ [])).text
-  pub near : length (joined behind) < 65536
+  pub reported : IsFront (lines_reply false before).text text
+  pub short : IsProperFront text (lines_reply false (before ++ line ∷ [])).text
+  pub near : length (concat behind) < 65536
 
 -- The write failed in what the end of the input calls for, where no line `---` came. Nothing is left to take.
 pub record FailedAtEnd (taken text : List ℕ) (left : Option (List ℕ)) : Type 0 where
-  pub reported : IsFront (lines_outcome false (lines_of taken)).text text
-  pub short : IsProperFront text (bytes_outcome taken).text
+  pub reported : IsFront (lines_reply false (lines_of taken)).text text
+  pub short : IsProperFront text (bytes_reply taken).text
   pub ended : IsAtEnd left
 
 -- What stands written is the report of the first lines, so many, none of which is refused or past a limit.
@@ -31,7 +32,7 @@ pub record StoppedAtLimit (taken text : List ℕ) : Type 0 where
   pub before : List (List ℕ)
   pub behind : List (List ℕ)
   pub lines : lines_of taken ≡ before ++ behind
-  pub reported : lines_outcome false before ≡ ends text Done
+  pub reported : lines_reply false before ≡ ends text Done
 
 -- These bytes were taken and this text was written, a front of their report. It is the whole of the input's report, and the
 -- answer its fate, unless source or sink failed. With ReadFault the whole lines taken pass no limit and none is refused, and the
@@ -42,8 +43,8 @@ pub record Serves {E : Type 0} (left rest old new : Option (List ℕ)) (result :
   pub consumed : Consumes left rest taken
   pub text : List ℕ
   pub appends : Appends old new text
-  pub front : IsFront text (bytes_outcome taken).text
-  pub ended : (status : Status) → result ≡ Ok status → (IsFault status → ⊥) → IfSome left (λ bytes. bytes_outcome bytes ≡ ends text status)
+  pub front : IsFront text (bytes_reply taken).text
+  pub ended : (status : Status) → result ≡ Ok status → (IsFault status → ⊥) → IfSome left (λ bytes. bytes_reply bytes ≡ ends text status)
   pub read_failed : result ≡ Ok ReadFault → so_far taken ≡ ends text Done
   pub write_failed : result ≡ Ok WriteFault → FailedInLine taken text ⊎ FailedAtEnd taken text rest
   pub past_limit : result ≡ Ok TooLong → StoppedAtLimit taken text

@@ -4,21 +4,21 @@ use Rattle.std.specs.Io.KnownBytes.{Appends}
 use Rattle.xcm_io.specs.Bytes.{IsFront, IsProperFront}
 use Rattle.xcm_io.specs.Causes.{Rose}
 use Rattle.input_lines.specs.Lines.{lines_of, has_mark, network_part, later_lines, lines_through, bytes_through, ends_with}
-use Rattle.xcm_cli.specs.Report.{Outcome, ends, then_on, part_outcome, steps_outcome, max_network, max_input}
+use Rattle.xcm_cli.specs.Report.{Reply, ends, then_on, part_reply, steps_reply, max_network, max_input}
 use Rattle.xcm_cli.specs.declared.session.Session.{Session}
 use Rattle.xcm_cli.specs.declared.session.Phase.{Phase}
 use Rattle.xcm_cli.specs.declared.session.Phase.TheVariants.{Network, Steps}
 use Rattle.xcm_cli.specs.declared.status.Status.{Status}
 use Rattle.xcm_cli.specs.declared.status.Status.TheVariants.{WriteFault, ReadFault, TooLong, Done, Usage}
 
-abbrev pub phase_outcome : Phase → ℕ → ℕ → Bool → List (List ℕ) → Outcome
-phase_outcome (Network part) before taken at_end lines =
-    part_outcome (has_mark lines || at_end) (part.items ++ network_part lines) (before + lines_through lines) (taken + bytes_through lines) (later_lines lines)
-phase_outcome (Steps done) before taken at_end lines = steps_outcome done before taken lines
+abbrev pub phase_reply : Phase → ℕ → ℕ → Bool → List (List ℕ) → Reply
+phase_reply (Network part) before taken at_end lines =
+    part_reply (has_mark lines || at_end) (part.items ++ network_part lines) (before + lines_through lines) (taken + bytes_through lines) (later_lines lines)
+phase_reply (Steps done) before taken at_end lines = steps_reply done before taken lines
 
 -- what is written from here on where these lines come, at whose end the input ends or not, and the answer
-unfoldable pub outcome_at : Session → Bool → List (List ℕ) → Outcome
-outcome_at session at_end lines = phase_outcome session.phase session.lines session.taken at_end lines
+unfoldable pub reply_at : Session → Bool → List (List ℕ) → Reply
+reply_at session at_end lines = phase_reply session.phase session.lines session.taken at_end lines
 
 -- the text was written and this is the answer, or the write failed with a proper front of it written
 pub record Writes (text : List ℕ) (answer : Option Status) (old new : Option (List ℕ)) (result : Option Status) : Type 0 where
@@ -29,7 +29,7 @@ pub record Writes (text : List ℕ) (answer : Option Status) (old new : Option (
 -- A call went from `before` to `after`, which say what is still to come. What it wrote is a front of that. Where it answers
 -- `None` the run goes on, and where it answers a status other than a fault the run is over. A write that failed wrote a proper
 -- front of `due`. TooLong is answered before anything is written.
-pub record Advances {X E : Type 0} (before after : X → Outcome) (due : List ℕ) (old new : Option (List ℕ)) (result : Result (Option Status) E) : Type 0 where
+pub record Advances {X E : Type 0} (before after : X → Reply) (due : List ℕ) (old new : Option (List ℕ)) (result : Result (Option Status) E) : Type 0 where
   pub text : List ℕ
   pub appends : Appends old new text
   pub front : (more : X) → IsFront text (before more).text
@@ -39,16 +39,17 @@ pub record Advances {X E : Type 0} (before after : X → Outcome) (due : List �
   pub long : result ≡ Ok (Some TooLong) → text ≡ []
 
 -- The count has not fallen, and a call whose answer is a write fault has raised it. It answers neither what the
--- source nor what the words call for.
+-- source nor what the words call for, nor that all is done.
 pub record HasWriteCause {E : Type 0} (old new : ℕ) (result : Result (Option Status) E) : Type 0 where
   pub later : old ≤ new
   pub failed : result ≡ Ok (Some WriteFault) → Rose old new
   pub no_read : result ≢ Ok (Some ReadFault)
   pub no_usage : result ≢ Ok (Some Usage)
+  pub no_done : result ≢ Ok (Some Done)
 
 -- At the end of the input the run is over. What was written is a front of what was still to come, and all of it unless a write
 -- failed, which wrote a proper front of it.
-pub record Finishes {E : Type 0} (rest : Outcome) (old new : Option (List ℕ)) (result : Result Status E) : Type 0 where
+pub record Finishes {E : Type 0} (rest : Reply) (old new : Option (List ℕ)) (result : Result Status E) : Type 0 where
   pub text : List ℕ
   pub appends : Appends old new text
   pub front : IsFront text rest.text
@@ -91,7 +92,7 @@ pub record Flows (session now : Session) (bytes rest : List ℕ) (old new : Opti
   pub appends : Appends old new text
   pub cut : (more : List ℕ) → lines_of (bytes ++ more) ≡ took ++ lines_of (rest ++ more)
   pub whole : AllWhole took
-  pub goes : (at_end : Bool) (lines : List (List ℕ)) → outcome_at session at_end (took ++ lines) ≡ then_on text (outcome_at now at_end lines)
+  pub goes : (at_end : Bool) (lines : List (List ℕ)) → reply_at session at_end (took ++ lines) ≡ then_on text (reply_at now at_end lines)
 
 -- The text ends inside the report of one of the lines, the first whose report isn't written whole. That line is whole, or the last.
 pub record StopsInLine (session : Session) (bytes text : List ℕ) : Type 0 where
@@ -99,8 +100,8 @@ pub record StopsInLine (session : Session) (bytes text : List ℕ) : Type 0 wher
   pub line : List ℕ
   pub behind : List (List ℕ)
   pub lines : lines_of bytes ≡ before ++ line ∷ behind
-  pub reported : IsFront (outcome_at session false before).text text
-  pub short : IsProperFront text (outcome_at session false (before ++ line ∷ [])).text
+  pub reported : IsFront (reply_at session false before).text text
+  pub short : IsProperFront text (reply_at session false (before ++ line ∷ [])).text
   pub near : (ends_with 10 line ≡ true) ⊎ (behind ≡ [])
 
 -- The text is the report of the first lines, so many, none of which is refused or past a limit.
@@ -108,14 +109,14 @@ pub record StopsAtLimit (session : Session) (bytes text : List ℕ) : Type 0 whe
   pub before : List (List ℕ)
   pub behind : List (List ℕ)
   pub lines : lines_of bytes ≡ before ++ behind
-  pub reported : outcome_at session false before ≡ ends text Done
+  pub reported : reply_at session false before ≡ ends text Done
 
 -- A call on these bytes that ended the run, or gave up.
 pub record Stops {E : Type 0} (session : Session) (bytes : List ℕ) (old new : Option (List ℕ)) (result : Result (Option Status) E) : Type 0 where
   pub text : List ℕ
   pub appends : Appends old new text
-  pub front : (at_end : Bool) (more : List ℕ) → IsFront text (outcome_at session at_end (lines_of (bytes ++ more))).text
-  pub ended : (status : Status) → result ≡ Ok (Some status) → status ≢ WriteFault → (at_end : Bool) (more : List ℕ) → outcome_at session at_end (lines_of (bytes ++ more)) ≡ ends text status
+  pub front : (at_end : Bool) (more : List ℕ) → IsFront text (reply_at session at_end (lines_of (bytes ++ more))).text
+  pub ended : (status : Status) → result ≡ Ok (Some status) → status ≢ WriteFault → (at_end : Bool) (more : List ℕ) → reply_at session at_end (lines_of (bytes ++ more)) ≡ ends text status
   pub short : result ≡ Ok (Some WriteFault) → StopsInLine session bytes text
   pub long : result ≡ Ok (Some TooLong) → StopsAtLimit session bytes text
 

@@ -1,9 +1,10 @@
-// A run over pieces of its input.
+//! A run over pieces of its input.
+
 ghost use Rattle.std.specs.Prelude.{◌≡◌, ◌≢◌, ◌+◌, ◌<◌, ◌≤◌, ℕ, List, [], ◌++◌, length, Bool, Some, None, Ok, false, IsTrue};
 ghost use Rattle.xcm_io.specs.Causes.{Rose};
 ghost use Rattle.input_lines.specs.Lines.{lines_of, HasNoFeed};
-ghost use Rattle.xcm_cli.specs.Report.{lines_outcome, ends, max_input};
-ghost use Rattle.xcm_cli.specs.Session.{TakesLines, HasWriteCause, IsReady, outcome_at};
+ghost use Rattle.xcm_cli.specs.Report.{lines_reply, ends, max_input};
+ghost use Rattle.xcm_cli.specs.Session.{TakesLines, HasWriteCause, IsReady, reply_at};
 ghost use Rattle.xcm_cli.specs.Feeding.{Ends, IsFed};
 
 use crate::limits::{MAX_INPUT, MAX_LINE, MAX_NETWORK};
@@ -25,7 +26,7 @@ pub(crate) struct Feeder {
 impl Feeder {
     /// A run at the start of its input.
     pub(crate) fn new(alloc: Global) -> Feeder
-        ensures start { (at_end : Bool) (lines : List (List ℕ)) → outcome_at result.session at_end lines ≡ lines_outcome at_end lines }
+        ensures start { (at_end : Bool) (lines : List (List ℕ)) → reply_at result.session at_end lines ≡ lines_reply at_end lines }
         ensures fed { IsFed result }
         ensures none { result.pending.items ≡ [] }
         ensures size { result.session.taken + length result.pending.items ≡ 0 }
@@ -73,7 +74,7 @@ impl Feeder {
     pub(crate) fn is_over(&self) -> bool
         requires ready { IsReady self.now.session }
         requires open { HasNoFeed self.now.pending.items }
-        ensures over { IsTrue result → (at_end : Bool) (more : List ℕ) → outcome_at self.now.session at_end (lines_of (self.now.pending.items ++ more)) ≡ ends [] Status.TooLong }
+        ensures over { IsTrue result → (at_end : Bool) (more : List ℕ) → reply_at self.now.session at_end (lines_of (self.now.pending.items ++ more)) ≡ ends [] Status.TooLong }
         ensures short { result ≡ false → length self.now.pending.items ≤ max_input }
     {
         let pending = self.pending.len();

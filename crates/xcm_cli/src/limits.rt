@@ -1,4 +1,4 @@
-// The limits of an input, in bytes.
+//! The limits of an input, in bytes.
 
 /// The most bytes of an input.
 pub(crate) const MAX_INPUT: u64 = 67_108_864;

@@ -1,5 +1,7 @@
-// The run over a source and a sink.
+//! The run over a source and a sink.
+
 ghost use Rattle.std.specs.Prelude.{◌≡◌, ◌≢◌, Ok};
+ghost use Rattle.std.specs.Io.KnownBytes.{IsAtEnd};
 ghost use Rattle.xcm_io.specs.Causes.{Rose};
 ghost use Rattle.xcm_cli.specs.Serving.{Serves};
 
@@ -16,6 +18,7 @@ pub(crate) fn serve<I: Source, O: Sink>(
     out: &mut O,
 ) -> Result<Status, AllocError>
     ensures run { Serves (I.left input.old) (I.left input.new) (O.written out.old) (O.written out.new) result }
+    ensures end { result ≡ Ok Status.Done → IsAtEnd (I.left input.new) }
     ensures read { result ≡ Ok Status.ReadFault → Rose (I.faults input.old) (I.faults input.new) }
     ensures write { result ≡ Ok Status.WriteFault → Rose (O.faults out.old) (O.faults out.new) }
     ensures usage { result ≢ Ok Status.Usage }

@@ -1,10 +1,11 @@
-// A run, a line at a time.
+//! A run, a line at a time.
+
 ghost use Rattle.std.specs.Prelude.{◌≡◌, ◌≢◌, ◌⊎◌, ◌+◌, ◌^◌, ◌<◌, ◌≤◌, ℕ, List, [], ◌∷◌, length, drop, Bool, false, true, Some, None, Ok};
 ghost use Rattle.xcm_io.specs.Causes.{Rose};
 ghost use Rattle.input_lines.specs.Lines.{HasNoFeed};
 ghost use Rattle.network_config.specs.Document.{network_of};
-ghost use Rattle.xcm_cli.specs.Report.{lines_outcome, network_outcome, steps_outcome, is_within, max_input};
-ghost use Rattle.xcm_cli.specs.Session.{Writes, Advances, Finishes, HasWriteCause, IsReady, TakesLines, outcome_at};
+ghost use Rattle.xcm_cli.specs.Report.{lines_reply, network_reply, steps_reply, fits_limits, max_input};
+ghost use Rattle.xcm_cli.specs.Session.{Writes, Advances, Finishes, HasWriteCause, IsReady, TakesLines, reply_at};
 
 use crate::limits::{MAX_INPUT, MAX_LINE, MAX_NETWORK};
 use crate::status::Status;
@@ -35,7 +36,7 @@ pub(crate) struct Session {
 impl Session {
     /// A run at the start of its input.
     pub(crate) fn new(alloc: Global) -> Session
-        ensures start { (at_end : Bool) (lines : List (List ℕ)) → outcome_at result at_end lines ≡ lines_outcome at_end lines }
+        ensures start { (at_end : Bool) (lines : List (List ℕ)) → reply_at result at_end lines ≡ lines_reply at_end lines }
         ensures ready { IsReady result }
         ensures taken { result.taken ≡ 0 }
     {
@@ -56,8 +57,8 @@ impl Session {
         requires ready { IsReady self.old }
         requires some { 0 < length line.now }
         requires few { length line.now < 2 ^ 40 }
-        ensures run { Advances (λ (x : Bool × List (List ℕ)). outcome_at self.old x.0 (line.now ∷ x.1)) (λ x. outcome_at self.new x.0 x.1)
-            (outcome_at self.old false (line.now ∷ [])).text (O.written out.old) (O.written out.new) result }
+        ensures run { Advances (λ (x : Bool × List (List ℕ)). reply_at self.old x.0 (line.now ∷ x.1)) (λ x. reply_at self.new x.0 x.1)
+            (reply_at self.old false (line.now ∷ [])).text (O.written out.old) (O.written out.new) result }
         ensures cause { HasWriteCause (O.faults out.old) (O.faults out.new) result }
         ensures taken { result ≡ Ok None → self.new.taken ≡ self.old.taken + length line.now }
         ensures ready { result ≡ Ok None → IsReady self.new }
@@ -121,7 +122,7 @@ impl Session {
     /// Ends the run where the input ends.
     pub(crate) fn finish<O: Sink>(&self, alloc: Global, out: &mut O) -> Result<Status, AllocError>
         requires { IsReady self.now }
-        ensures run { Finishes (outcome_at self.now true []) (O.written out.old) (O.written out.new) result }
+        ensures run { Finishes (reply_at self.now true []) (O.written out.old) (O.written out.new) result }
         ensures later { O.faults out.old ≤ O.faults out.new }
         ensures cause { result ≡ Ok Status.WriteFault → Rose (O.faults out.old) (O.faults out.new) }
         ensures usage { result ≢ Ok Status.Usage }
@@ -155,8 +156,8 @@ fn open_network<O: Sink>(
     part: &[u8],
     out: &mut O,
 ) -> Result<Option<Status>, AllocError>
-    ensures run { (before taken : ℕ) → Advances (network_outcome (network_of part.now) before taken) (steps_outcome 0 before taken)
-        (network_outcome (network_of part.now) before taken []).text (O.written out.old) (O.written out.new) result }
+    ensures run { (before taken : ℕ) → Advances (network_reply (network_of part.now) before taken) (steps_reply 0 before taken)
+        (network_reply (network_of part.now) before taken []).text (O.written out.old) (O.written out.new) result }
     ensures cause { HasWriteCause (O.faults out.old) (O.faults out.new) result }
     ensures short { result ≡ Ok (Some Status.TooLong) → ⊥ }
 {
@@ -171,9 +172,9 @@ fn open_network<O: Sink>(
 }
 
 /// Whether a later line is within its limit, and the input up to its end.
-fn is_within(taken: u64, line: &[u8]) -> bool
+fn fits_limits(taken: u64, line: &[u8]) -> bool
     requires { taken + length line.now < 2 ^ 64 }
-    ensures { result ≡ is_within taken line.now }
+    ensures { result ≡ fits_limits taken line.now }
 {
     without_feed(line).len() <= MAX_LINE && taken + line.len() as u64 <= MAX_INPUT
 }
@@ -190,13 +191,13 @@ fn take_step<O: Sink>(
     requires lines { before + 1 < 2 ^ 64 }
     requires bytes { taken + length line.now < 2 ^ 64 }
     requires steps { done.old ≤ before }
-    ensures run { Advances (λ lines. steps_outcome done.old before taken (line.now ∷ lines)) (steps_outcome done.new (before + 1) (taken + length line.now))
-        (steps_outcome done.old before taken (line.now ∷ [])).text (O.written out.old) (O.written out.new) result }
+    ensures run { Advances (λ lines. steps_reply done.old before taken (line.now ∷ lines)) (steps_reply done.new (before + 1) (taken + length line.now))
+        (steps_reply done.old before taken (line.now ∷ [])).text (O.written out.old) (O.written out.new) result }
     ensures cause { HasWriteCause (O.faults out.old) (O.faults out.new) result }
     ensures steps { done.new ≤ before + 1 }
     ensures within { result ≡ Ok None → taken + length line.now ≤ max_input }
 {
-    if !is_within(taken, line) {
+    if !fits_limits(taken, line) {
         return Ok(Some(Status::TooLong));
     }
     match read_line(alloc, text_of(line)) {

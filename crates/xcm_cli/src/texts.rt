@@ -1,4 +1,5 @@
-// The texts of the report that stand outside its steps.
+//! The texts of the report that stand outside its steps.
+
 ghost use Rattle.std.specs.Prelude.{IfOk, string_bytes, ◌≡◌};
 ghost use Rattle.xcm_cli.specs.Report.{line_refused_text, network_refused_text};
 

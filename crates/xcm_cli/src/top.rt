@@ -1,9 +1,10 @@
-// The run of the program.
+//! The run of the program.
+
 ghost use Rattle.std.specs.Prelude.{◌≡◌, ◌⊎◌, false, Ok, IfOk, IfSome};
-ghost use Rattle.std.specs.Io.KnownBytes.{Appends};
+ghost use Rattle.std.specs.Io.KnownBytes.{Appends, IsAtEnd};
 ghost use Rattle.std.specs.declared.alloc.AllocError.{AllocError};
 ghost use Rattle.xcm_io.specs.Causes.{Rose};
-ghost use Rattle.xcm_cli.specs.Report.{report, fate, is_run, usage_outcome};
+ghost use Rattle.xcm_cli.specs.Report.{report, fate, is_run, usage_reply};
 ghost use Rattle.xcm_cli.specs.Session.{IsFault, Finishes};
 ghost use Rattle.xcm_cli.specs.Serving.{ServesWords};
 
@@ -14,7 +15,7 @@ use std::alloc::{AllocError, Global};
 use xcm_io::{Sink, Source, write_whole};
 
 /// Runs the program: reads the input by pieces, runs and reports each line before it reads on, and answers how the run ended.
-/// With other words than `run` it writes the usage line and reads nothing. `Err` is want of memory alone.
+/// With other words than `run` it writes the usage line and reads nothing. `Err` is out of memory alone.
 pub fn run<I: Source, O: Sink>(
     alloc: Global,
     words: &[String],
@@ -27,6 +28,9 @@ pub fn run<I: Source, O: Sink>(
 
     // Whatever happens, a front of the report of what was taken is written; and which front, after a fault or past a limit.
     ensures front { ServesWords words.now (I.left input.old) (I.left input.new) (O.written out.old) (O.written out.new) result }
+
+    // Done, which is the answer of the word `run` alone, leaves the source at its end.
+    ensures end { result ≡ Ok Status.Done → IsAtEnd (I.left input.new) }
 
     // A fault is answered only where the source, the sink failed in this call.
     ensures read { result ≡ Ok Status.ReadFault → Rose (I.faults input.old) (I.faults input.new) }
@@ -51,7 +55,7 @@ fn is_run(words: &[String]) -> bool
 
 /// Writes the usage line.
 fn write_usage<O: Sink>(out: &mut O) -> Status
-    ensures run { Finishes {E = AllocError} usage_outcome (O.written out.old) (O.written out.new) (Ok result) }
+    ensures run { Finishes {E = AllocError} usage_reply (O.written out.old) (O.written out.new) (Ok result) }
     ensures answer { (result ≡ Status.Usage) ⊎ (result ≡ Status.WriteFault) }
     ensures cause { result ≡ Status.WriteFault → Rose (O.faults out.old) (O.faults out.new) }
 {

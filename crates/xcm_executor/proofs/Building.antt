@@ -1,7 +1,6 @@
 -- Programs whose instructions are all built.
 use Rattle.std.proofs.Common.{◌≡◌, ℕ, suc, Bool, true, false, ◌&&◌, List, [], ◌∷◌, ◌++◌, length, Option, Some, None, refl, sym, ap, ◌∙◌}
-use Rattle.scale_codec.specs.Reading.{◌>>=◌}
-use Rattle.scale_codec.proofs.Steps.{same_some}
+use Rattle.std.specs.Option.{option_and_then, option_map}
 use Rattle.xcm_program.specs.declared.instruction.Instruction.{Instruction, out-Instruction, fold_out-Instruction, map-Instruction}
 use Rattle.xcm_program.specs.declared.instruction.Instruction.TheOpen.{Instruction-F}
 use Rattle.xcm_program.specs.Measure.{inner}
@@ -9,10 +8,13 @@ use Rattle.xcm_program.specs.Conversions.{all_true_inside}
 use Rattle.xcm_executor.specs.declared.instruction.PlainInstruction.{PlainInstruction}
 use Rattle.xcm_executor.specs.Built.{plain_of, plain_program, is_built, built_one, all_built}
 
+same_some : {A : Type 0} (x y : A) → Some x ≡ Some y → x ≡ y
+same_some x y e = cc
+
 -- ---- a program, an instruction at a time
 
 abbrev pub with_front : List PlainInstruction → Option (List PlainInstruction) → Option (List PlainInstruction)
-with_front front rest = rest >>= λ plains. Some (front ++ plains)
+with_front front rest = option_map (λ plains. front ++ plains) rest
 
 more_length : (plain : PlainInstruction) (plains whole : List PlainInstruction) → plain ∷ plains ≡ whole → length whole ≡ suc (length plains)
 more_length plain plains whole e = ap length (sym e)
@@ -20,7 +22,7 @@ more_length plain plains whole e = ap length (sym e)
 -- ---- as many built instructions as instructions
 
 joined_length : (n : ℕ) (o : Option PlainInstruction) (p : Option (List PlainInstruction)) (plains : List PlainInstruction) → ((rest : List PlainInstruction) → p ≡ Some rest → length rest ≡ n)
-    → (o >>= λ x. p >>= λ xs. Some (x ∷ xs)) ≡ Some plains → length plains ≡ suc n
+    → (option_and_then (λ x. option_map (λ xs. x ∷ xs) p) o) ≡ Some plains → length plains ≡ suc n
 joined_length n None p plains h e = absurd cc
 joined_length n (Some x) None plains h e = absurd cc
 joined_length n (Some x) (Some xs) plains h e = more_length x xs plains (same_some (x ∷ xs) plains e) ∙ ap suc (h xs refl)
@@ -61,7 +63,7 @@ abbrev Agrees : Bool → Option (List PlainInstruction) → Type 0
 Agrees b None = b ≡ false
 Agrees b (Some plains) = b ≡ true
 
-joined : (b c : Bool) (o : Option PlainInstruction) (p : Option (List PlainInstruction)) → Tells b o → Agrees c p → Agrees (b && c) (o >>= λ x. p >>= λ xs. Some (x ∷ xs))
+joined : (b c : Bool) (o : Option PlainInstruction) (p : Option (List PlainInstruction)) → Tells b o → Agrees c p → Agrees (b && c) (option_and_then (λ x. option_map (λ xs. x ∷ xs) p) o)
 joined b c None p h k = ap (λ (a : Bool). a && c) h
 joined b c (Some x) None h k = ap (λ (a : Bool). a && c) h ∙ k
 joined b c (Some x) (Some xs) h k = ap (λ (a : Bool). a && c) h ∙ k

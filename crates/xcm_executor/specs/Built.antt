@@ -1,6 +1,6 @@
 -- Which instructions are built. This project's own rule.
 use Rattle.std.specs.Prelude.{Bool, true, false, ◌&&◌, List, [], ◌∷◌, map, Option, Some, None}
-use Rattle.scale_codec.specs.Reading.{◌>>=◌}
+use Rattle.std.specs.Option.{option_and_then, option_map}
 use Rattle.xcm_program.specs.declared.instruction.Instruction.{Instruction, out-Instruction, fold-Instruction}
 use Rattle.xcm_program.specs.declared.instruction.Instruction.TheOpen.{Instruction-F}
 use Rattle.xcm_program.specs.Measure.{inner}
@@ -17,7 +17,7 @@ plain_of _ = None
 -- a program, where all its instructions are built
 abbrev pub plain_program : List Instruction → Option (List PlainInstruction)
 plain_program [] = Some []
-plain_program (instruction ∷ rest) = plain_of (out-Instruction instruction) >>= λ plain. plain_program rest >>= λ plains. Some (plain ∷ plains)
+plain_program (instruction ∷ rest) = option_and_then (λ plain. option_map (λ plains. plain ∷ plains) (plain_program rest)) (plain_of (out-Instruction instruction))
 
 abbrev pub is_built : {X : Type 0} → Instruction-F X → Bool
 is_built Instruction-F.ClearOrigin = true

@@ -31,9 +31,9 @@ abbrev pub unit_weight : Weight
 unit_weight = record { ref_time = 1000; proof_size = 100 }
 
 -- a program weighs the sum over its instructions
-abbrev pub weight_of : List PlainInstruction → Weight
-weight_of [] = no_weight
-weight_of (instruction ∷ rest) = plus unit_weight (weight_of rest)
+abbrev pub plain_weight : List PlainInstruction → Weight
+plain_weight [] = no_weight
+plain_weight (instruction ∷ rest) = plus unit_weight (plain_weight rest)
 
 -- what an instruction does: the origin register after it, or its error
 abbrev pub step : PlainInstruction → Option (List ℕ) → Result (Option (List ℕ)) XcmError
@@ -57,7 +57,7 @@ abbrev pub run_from : ℕ → Option (List ℕ) → List PlainInstruction → Ra
 run_from index origin [] = record { lines = []; origin = origin; error = None; surplus = no_weight }
 run_from index origin (instruction ∷ rest) = elim (step instruction origin) [
   | Ok after ↦ after_lines (record { index = index; error = None } ∷ []) (run_from (index + 1) after rest)
-  | Err error ↦ record { lines = record { index = index; error = Some error } ∷ []; origin = origin; error = Some error; surplus = weight_of rest }
+  | Err error ↦ record { lines = record { index = index; error = Some error } ∷ []; origin = origin; error = Some error; surplus = plain_weight rest }
 ]
 
 -- complete where the error register is empty
@@ -69,7 +69,7 @@ outcome_of used (Some error) = Incomplete used (Xcm error)
 abbrev pub plain_run : List ℕ → List PlainInstruction → PlainRun
 plain_run account program =
     let ran : Ran = run_from 0 (Some account) program in
-    record { lines = ran.lines; origin = ran.origin; surplus = ran.surplus; outcome = outcome_of (less (weight_of program) ran.surplus) ran.error }
+    record { lines = ran.lines; origin = ran.origin; surplus = ran.surplus; outcome = outcome_of (less (plain_weight program) ran.surplus) ran.error }
 
 -- the weight that an execution used: none where it didn't begin
 abbrev pub used_of : Outcome → Weight

@@ -1,6 +1,6 @@
 //! The instructions that are built.
 
-ghost use Rattle.std.specs.Prelude.{◌≡◌, IfOk};
+ghost use Rattle.std.specs.Prelude.{◌≡◌, IfOk, IfSome, length};
 ghost use Rattle.xcm_program.specs.declared.instruction.Instruction.{out-Instruction};
 ghost use Rattle.xcm_executor.specs.Built.{plain_of, plain_program};
 
@@ -35,9 +35,10 @@ fn plain_of(instruction: &Instruction) -> Option<PlainInstruction>
 }
 
 /// The program, where all its instructions are built; `None` exactly where one isn't, at any depth, since what holds a program
-/// isn't built itself. `Err` is want of memory alone.
+/// isn't built itself. `Err` is out of memory alone.
 pub fn plain_program(alloc: Global, program: &Program) -> Result<Option<PlainProgram>, AllocError>
-    ensures { IfOk result (λ plain. plain ≡ plain_program program.now) }
+    ensures built { IfOk result (λ plain. plain ≡ plain_program program.now) }
+    ensures size { IfOk result (λ plain. IfSome plain (λ plains. length plains ≡ length program.now)) }
 {
     let mut built = Vec::new(alloc);
     for instruction in program.items() {

@@ -2,13 +2,10 @@
 #![tactic(auto)]
 
 mod instruction;
-mod law;
+mod laws;
 mod plain;
 mod registers;
 
 pub use instruction::{PlainInstruction, PlainProgram, plain_program};
-pub use law::law_of_built_programs;
+pub use laws::law_of_built_programs;
 pub use plain::{PlainLine, PlainLines, PlainRun, run_plain};
-
-#[cfg(test)]
-mod tests;

@@ -1,6 +1,7 @@
-// The run of a program over the built instructions.
+//! The run of a program over the built instructions.
+
 ghost use Rattle.std.specs.Prelude.{◌≡◌, ◌*◌, ◌^◌, ◌<◌, IfOk, length, take, drop};
-ghost use Rattle.xcm_executor.specs.PlainRun.{plain_run, unit_weight, times, weight_of, used_of};
+ghost use Rattle.xcm_executor.specs.PlainRun.{plain_run, unit_weight, times, plain_weight, used_of};
 
 use crate::instruction::PlainProgram;
 use crate::registers::Registers;
@@ -43,8 +44,8 @@ fn weight_of_count(count: u32) -> Weight
     }
 }
 
-/// Runs a program of fewer than 2^32 instructions on behalf of an account, on a chain with the default
-/// weights, until its end or its first error. `Err` is want of memory alone.
+/// Runs a program of fewer than 2^32 instructions on behalf of an account, on a chain with the default weights, until its end or
+/// its first error. `Err` is out of memory alone.
 pub fn run_plain(
     alloc: Global,
     account: &[u8; 32],
@@ -54,8 +55,8 @@ pub fn run_plain(
     ensures run { IfOk result (λ run. run ≡ plain_run account.now program.now) }
 
     // Used is the weight of the instructions that ran, surplus that of the others.
-    ensures used { IfOk result (λ run. used_of run.outcome ≡ weight_of (take (length run.lines) program.now)) }
-    ensures surplus { IfOk result (λ run. run.surplus ≡ weight_of (drop (length run.lines) program.now)) }
+    ensures used { IfOk result (λ run. used_of run.outcome ≡ plain_weight (take (length run.lines) program.now)) }
+    ensures surplus { IfOk result (λ run. run.surplus ≡ plain_weight (drop (length run.lines) program.now)) }
 {
     let instructions = program.items();
     let count = instructions.len() as u32;

@@ -1,3 +1,5 @@
+//! The registers of a run.
+
 ghost use Rattle.std.specs.Prelude.{◌≡◌, MatchResult};
 ghost use Rattle.xcm_executor.specs.PlainRun.{step};
 
@@ -6,14 +8,14 @@ use xcm_program::XcmError;
 
 /// The registers (XCM format) that the built instructions read or change.
 #[derive(Drop)]
-pub struct Registers {
+pub(crate) struct Registers {
     /// The account on whose behalf the program runs, until it gives the origin up.
-    pub origin: Option<[u8; 32]>,
+    pub(crate) origin: Option<[u8; 32]>,
 }
 
 impl Registers {
     /// Executes one instruction. An instruction that fails leaves the registers as they were.
-    pub fn execute(&mut self, instruction: PlainInstruction) -> Result<(), XcmError>
+    pub(crate) fn execute(&mut self, instruction: PlainInstruction) -> Result<(), XcmError>
         ensures { MatchResult result (λ _. step instruction self.old.origin ≡ Ok self.new.origin)
             (λ error. (step instruction self.old.origin ≡ Err error) × (self.new ≡ self.old)) }
     {

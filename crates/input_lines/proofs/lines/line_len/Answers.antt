@@ -1,5 +1,6 @@
 use Rattle.std.proofs.Common.{arith}
-use Rattle.input_lines.proofs.FirstLine.{first_line, only_line}
+use Rattle.input_lines.specs.Laws.{only_line}
+use Rattle.input_lines.proofs.FirstLine.{first_line}
 use Rattle.input_lines.proofs.lines.line_len.Goals as goal
 
 pub returns-then-byte-eq10-clause-line : goal.returns-then-byte-eq10-clause-line
