@@ -1,5 +1,5 @@
 -- What each call of a host refuses, in the written order of the rules, and the part that it leaves where it refuses nothing.
-use Rattle.std.specs.Prelude.{◌≡◌, ◌⊎◌, ℕ, ◌+◌, ◌-◌, ◌*◌, ◌/◌, ◌%◌, ◌^◌, ◌==◌, min, nat_lt, nat_le, not, ◌&&◌, Bool, true, false, is_some, if◌then◌else◌, List, [], ◌∷◌, ◌++◌, length, map, position, remove, slice_get, Option, Some, None, option_and_then, Result, Ok, Err}
+use Rattle.std.specs.Prelude.{◌≡◌, ◌⊎◌, ℕ, ◌+◌, ◌-◌, ◌*◌, ◌/◌, ◌%◌, ◌^◌, ◌==◌, min, nat_lt, nat_le, not, IsTrue, ◌&&◌, Bool, true, false, is_some, if◌then◌else◌, List, [], ◌∷◌, ◌++◌, length, map, position, remove, slice_get, Option, Some, None, option_and_then, Result, Ok, Err}
 use Rattle.std.specs.Option.{option_map, option_map_or}
 use Rattle.std.specs.List.{list_all, list_any}
 use Rattle.std.specs.Ordering.{eq_by_cmp, nat_cmp, on, then_cmp}
@@ -350,6 +350,14 @@ settled p = record p {
 
 abbrev pub fee_to : ChainPart → Location → Option Asset
 fee_to p dest = option_and_then (λ (c : Outgoing). c.channel.fee) (channel_to p dest)
+
+-- an amount above 0 of a fungible asset
+abbrev pub is_price : Fun → Bool
+is_price (Fun.Fungible n) = nat_lt 0 n
+is_price (Fun.NonFungible instance) = false
+
+abbrev pub IsPrice : Asset → Type 0
+IsPrice a = IsTrue (is_price a.fun)
 
 -- goods that are the fee of one of the chain's channels
 abbrev pub IsFeeOf : ChainPart → Bundle → Type 0

@@ -11,7 +11,7 @@ use xcm_program::Program;
 
 /// A chain, as a program of instructions sees it. Each call answers as its rule says, all or nothing, or memory is refused and the part is as it was.
 pub trait Host {
-    ghost use Rattle.std.specs.Prelude.{◌≡◌, ◌<◌, length, is_some, [], ◌∷◌, IsTrue, IsSome};
+    ghost use Rattle.std.specs.Prelude.{◌≡◌, ◌<◌, length, is_some, None, [], ◌∷◌, IfSome, OnOk};
     ghost use Rattle.std.specs.Option.{option_copied};
     ghost use Rattle.amounts.specs.Amounts.{empty, rows};
     ghost use Rattle.asset_bundles.specs.Bundles.{bundle_of};
@@ -22,7 +22,7 @@ pub trait Host {
     ghost use Rattle.exec_base.specs.Part.{ChainPart};
     ghost use Rattle.exec_base.specs.Answers.{Answers, TakesIn, Keeps, Gives, JoinedInto};
     ghost use Rattle.exec_base.specs.Sending.{channel_to, number_to, IsForwardable};
-    ghost use Rattle.exec_base.specs.Host.{withdraw_refusal, withdrawn, deposit_refusal, deposited, transfer_refusal, transferred, receive_refusal, received, transfer_out_refusal, transferred_out, deposit_out_refusal, deposited_out, ship_refusal, shipped, respond_refusal, responded, report_program, IsFeeOrNothing, is_open, answered, buy_refusal, unspent, bought, refund_goods, refunded, joined, burnt, claim_refusal, claimed, trapped, parked, settled, fee_to, fee_held, fee_taken, fee_kept, fee_drawn, told};
+    ghost use Rattle.exec_base.specs.Host.{withdraw_refusal, withdrawn, deposit_refusal, deposited, transfer_refusal, transferred, receive_refusal, received, transfer_out_refusal, transferred_out, deposit_out_refusal, deposited_out, ship_refusal, shipped, respond_refusal, responded, report_program, IsPrice, IsFeeOrNothing, is_open, answered, buy_refusal, unspent, bought, refund_goods, refunded, joined, burnt, claim_refusal, claimed, trapped, parked, settled, fee_to, fee_held, fee_taken, fee_kept, fee_drawn, told};
 
     /// The chain's part of the world.
     ghost part: { Self → ChainPart };
@@ -159,9 +159,10 @@ pub trait Host {
         requires few { length (part self.old).parked < 4 }
         ensures step { part self.new ≡ parked (part self.old) goods };
 
-    /// The fee of the channel that leads there, if there is one and it has one.
+    /// The fee of the channel that leads there, if there is one and it has one: an amount above 0 of a fungible asset.
     fn fee_of(&self, dest: &Location) -> Option<Asset>
-        ensures { result ≡ fee_to (part self.now) dest.now };
+        ensures fee { result ≡ fee_to (part self.now) dest.now }
+        ensures price { IfSome result IsPrice };
 
     /// Puts a fee of one of the chain's channels, or nothing, into the empty slot.
     fn hold_fee(&mut self, goods: AssetBundle)
@@ -178,9 +179,11 @@ pub trait Host {
     fn keep_fee(&mut self)
         ensures step { part self.new ≡ fee_kept (part self.old) };
 
-    /// Takes a fee out of an account; it ends no cargo.
-    fn draw_fee(&mut self, a: &Assets, who: &Location) -> Result<AssetBundle, HostFault>
-        ensures step { Answers (withdraw_refusal (part self.old) a.now who.now) (bundle_of a.now) (fee_drawn (part self.old) a.now who.now) (part self.old) result (part self.new) };
+    /// Takes a fee out of an account, which can take it back; it ends no cargo.
+    fn draw_fee(&mut self, fee: &Asset, who: &Location) -> Result<AssetBundle, HostFault>
+        requires price { IsPrice fee.now }
+        ensures step { Answers (withdraw_refusal (part self.old) (fee.now ∷ []) who.now) (bundle_of (fee.now ∷ [])) (fee_drawn (part self.old) (fee.now ∷ []) who.now) (part self.old) result (part self.new) }
+        ensures back { OnOk result (deposit_refusal (part self.new) (bundle_of (fee.now ∷ [])) who.now ≡ None) };
 
     /// Tells an event, and behind it what is kept back.
     fn event(&mut self, e: Event) -> Result<(), AllocError>

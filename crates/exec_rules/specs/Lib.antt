@@ -9,3 +9,4 @@ pub mod Stopping
 pub mod AnswerLaws
 pub mod HoldingLaws
 pub mod Readiness
+pub mod Functions

@@ -1,5 +1,5 @@
 //! Assets that move into accounts and out of them, and what would be sent.
-ghost use Rattle.std.specs.Prelude.{◌≡◌, List, Some, None, is_some, option_copied};
+ghost use Rattle.std.specs.Prelude.{◌≡◌, List, [], ◌∷◌, Some, None, is_some, option_copied, OnOk};
 ghost use Rattle.asset_lists.specs.declared.units.Asset.{Asset};
 ghost use Rattle.asset_bundles.specs.Bundles.{bundle_of};
 ghost use Rattle.xcm_program.specs.declared.instruction.Instruction.{Instruction};
@@ -8,7 +8,7 @@ ghost use Rattle.exec_base.specs.Sending.{listed_refusal};
 ghost use Rattle.exec_base.specs.Host as host;
 ghost use Rattle.ledgers.specs.Ledgers.{Withdrawn};
 ghost use Rattle.exec_base.specs.Part.{accounts_of};
-ghost use Rattle.exec_base.specs.Host.{first_fault, give_fault, take_fault, given, withdraw_refusal, deposit_refusal, deposited, transferred, deposit_out_refusal, ship_refusal, is_teleport, querier_seen, seen_from};
+ghost use Rattle.exec_base.specs.Host.{IsPrice, first_fault, give_fault, take_fault, given, fee_drawn, withdraw_refusal, deposit_refusal, deposited, transferred, deposit_out_refusal, ship_refusal, is_teleport, querier_seen, seen_from};
 ghost use Rattle.fake_host.specs.PartOf.{part_of};
 ghost use Rattle.fake_host.specs.Sending.{IsSendFault};
 
@@ -49,6 +49,32 @@ impl FakeHost {
             return Ok(AssetBundle::empty(*self.events.allocator()));
         };
         match self.ledger.withdraw(&account, list) {
+            Ok(goods) => Ok(goods),
+            Err(_) => Err(HostFault::Memory),
+        }
+    }
+
+    /// Takes a fee out of the location's account, which can take it back.
+    #[tactic(auto, unfolding(exec_base::specs::Host::withdraw_refusal, exec_base::specs::Host::fee_drawn))]
+    pub(crate) fn take_fee_out(
+        &mut self,
+        fee: &Asset,
+        who: &Location,
+    ) -> Result<AssetBundle, HostFault>
+        requires price { IsPrice fee.now }
+        ensures step { Answers (withdraw_refusal (part_of self.old) (fee.now ∷ []) who.now) (bundle_of (fee.now ∷ [])) (fee_drawn (part_of self.old) (fee.now ∷ []) who.now) (part_of self.old) result (part_of self.new) }
+        ensures back { OnOk result (deposit_refusal (part_of self.new) (bundle_of (fee.now ∷ [])) who.now ≡ None) }
+    {
+        let account = account_of(who, &self.site);
+        if let Some(error) = self.give_fault(&account, fee) {
+            return Err(HostFault::Xcm(error));
+        }
+        let Some(account) = account else {
+            unreachable!();
+        };
+        let _have = self.ledger.held_of(&account, fee);
+        let list = Assets::one(*self.events.allocator(), fee.copy())?;
+        match self.ledger.withdraw(&account, &list) {
             Ok(goods) => Ok(goods),
             Err(_) => Err(HostFault::Memory),
         }

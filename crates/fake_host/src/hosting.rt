@@ -219,9 +219,8 @@ impl Host for FakeHost {
 
     fn keep_fee(&mut self) {}
 
-    #[tactic(auto, unfolding(exec_base::specs::Host::fee_drawn))]
-    fn draw_fee(&mut self, a: &Assets, who: &Location) -> Result<AssetBundle, HostFault> {
-        self.take_out(a, who)
+    fn draw_fee(&mut self, fee: &Asset, who: &Location) -> Result<AssetBundle, HostFault> {
+        self.take_fee_out(fee, who)
     }
 
     #[tactic(auto, unfolding(exec_base::specs::Host::told))]

@@ -22,7 +22,7 @@ impl FakeHost {
     }
 
     /// Why the account can't give the asset.
-    fn give_fault(&self, account: &Option<[u8; 32]>, asset: &Asset) -> Option<XcmError>
+    pub(crate) fn give_fault(&self, account: &Option<[u8; 32]>, asset: &Asset) -> Option<XcmError>
         ensures { result ≡ host.give_fault (part_of self.now) account.now asset.now }
     {
         if !self.has_row(asset) {

@@ -3,7 +3,7 @@
 use plain_lists::Listed;
 use std::alloc::{AllocError, Global};
 use std::test::Fail;
-use xcm_executor::{PlainInstruction, PlainLine, plain_program, run_plain};
+use plain_executor::{PlainInstruction, PlainLine, plain_program, run_plain};
 use xcm_program::{Instruction, Outcome, OutcomeError, Program, Weight, XcmError};
 
 const ACCOUNT: [u8; 32] = [1; 32];

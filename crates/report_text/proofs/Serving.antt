@@ -6,8 +6,8 @@ use Rattle.versioned_xcm.specs.declared.faults.MessageFault.{MessageFault}
 use Rattle.versioned_xcm.specs.declared.faults.MessageFault.TheVariants.{Memory}
 use Rattle.versioned_xcm.specs.Message.{IsDecoded}
 use Rattle.versioned_xcm.specs.Reading.{message_of}
-use Rattle.xcm_executor.specs.declared.instruction.PlainInstruction.{PlainInstruction}
-use Rattle.xcm_executor.specs.Built.{plain_program}
+use Rattle.plain_executor.specs.declared.instruction.PlainInstruction.{PlainInstruction}
+use Rattle.plain_executor.specs.Built.{plain_program}
 use Rattle.report_text.specs.Steps.{run_or_refusal, message_text}
 
 pub unbuilt : (account message : List ℕ) (program : List Instruction) (plain : Option (List PlainInstruction)) → ((let r : Result (List Instruction) MessageFault = Ok program in r) ≡ Err Memory) ⊎ (Ok program ≡ message_of message)

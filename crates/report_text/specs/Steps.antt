@@ -11,11 +11,11 @@ use Rattle.xcm_program.specs.declared.outcome.Outcome.TheVariants.{Complete, Inc
 use Rattle.versioned_xcm.specs.Message.{message_fault_text}
 use Rattle.versioned_xcm.specs.Reading.{message_of}
 use Rattle.versioned_xcm.specs.declared.faults.MessageFault.{MessageFault}
-use Rattle.xcm_executor.specs.Built.{plain_program}
-use Rattle.xcm_executor.specs.PlainRun.{plain_run}
-use Rattle.xcm_executor.specs.declared.instruction.PlainInstruction.{PlainInstruction}
-use Rattle.xcm_executor.specs.declared.plain.PlainLine.{PlainLine}
-use Rattle.xcm_executor.specs.declared.plain.PlainRun.{PlainRun}
+use Rattle.plain_executor.specs.Built.{plain_program}
+use Rattle.plain_executor.specs.PlainRun.{plain_run}
+use Rattle.plain_executor.specs.declared.instruction.PlainInstruction.{PlainInstruction}
+use Rattle.plain_executor.specs.declared.plain.PlainLine.{PlainLine}
+use Rattle.plain_executor.specs.declared.plain.PlainRun.{PlainRun}
 use Rattle.chain_ids.specs.Texts.{chain_text}
 use Rattle.chain_ids.specs.declared.chain.ChainId.{ChainId}
 use Rattle.chain_ids.specs.declared.chain.ChainId.TheVariants.{Relay, Para}

@@ -5,7 +5,7 @@ ghost use Rattle.report_text.specs.Steps.{name_text, plain_line_text, origin_tex
 
 use std::alloc::{AllocError, Global};
 use std::fmt::Write;
-use xcm_executor::{PlainLine, PlainRun};
+use plain_executor::{PlainLine, PlainRun};
 use xcm_program::{Outcome, Program};
 
 /// Appends the lines of a run of the program: one for each instruction that ran, one for the registers at the end and one

@@ -9,7 +9,7 @@ use chain_ids::ChainId;
 use std::alloc::{AllocError, Global};
 use std::fmt::Write;
 use versioned_xcm::{MessageFault, decode_message};
-use xcm_executor::{plain_program, run_plain};
+use plain_executor::{plain_program, run_plain};
 
 /// The block of the step with this number, from 1, that executes a message (SCALE codec, XCM format) on a chain on behalf of
 /// an account: the heading, and below it what the message does, why it is refused, or that there is no such chain. The relay

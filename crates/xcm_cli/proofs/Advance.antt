@@ -9,10 +9,10 @@ use Rattle.input_lines.specs.Lines.{text_of, network_part, later_lines, lines_th
 use Rattle.input_lines.specs.Step.{read_line}
 use Rattle.chain_ids.specs.declared.chain.ChainId.{ChainId}
 use Rattle.input_lines.specs.declared.line.Line.TheVariants.{NoStep, Exec, Refused}
-use Rattle.network_config.specs.Document.{network_of}
-use Rattle.network_config.specs.declared.document.NetworkSpec.{NetworkSpec}
-use Rattle.network_config.specs.declared.fault.NetworkFault.{NetworkFault}
-use Rattle.network_config.specs.declared.fault.NetworkFault.TheVariants.{Memory}
+use Rattle.plain_network.specs.Document.{network_of}
+use Rattle.plain_network.specs.declared.document.NetworkSpec.{NetworkSpec}
+use Rattle.plain_network.specs.declared.fault.NetworkFault.{NetworkFault}
+use Rattle.plain_network.specs.declared.fault.NetworkFault.TheVariants.{Memory}
 use Rattle.report_text.specs.Steps.{exec_text}
 use Rattle.xcm_cli.specs.declared.session.Session.{Session}
 use Rattle.xcm_cli.specs.declared.session.Phase.{Phase}

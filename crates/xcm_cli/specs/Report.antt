@@ -4,10 +4,10 @@ use Rattle.std.specs.declared.alloc.Global.{Global}
 use Rattle.input_lines.specs.Lines.{lines_of, text_of, has_mark, network_part, later_lines, lines_through, bytes_through, without_feed, ends_with}
 use Rattle.input_lines.specs.Step.{read_line}
 use Rattle.input_lines.specs.declared.line.Line.TheVariants.{NoStep, Exec, Refused}
-use Rattle.network_config.specs.Document.{network_of}
-use Rattle.network_config.specs.Texts.{fault_text}
-use Rattle.network_config.specs.declared.document.NetworkSpec.{NetworkSpec}
-use Rattle.network_config.specs.declared.fault.NetworkFault.{NetworkFault}
+use Rattle.plain_network.specs.Document.{network_of}
+use Rattle.plain_network.specs.Texts.{fault_text}
+use Rattle.plain_network.specs.declared.document.NetworkSpec.{NetworkSpec}
+use Rattle.plain_network.specs.declared.fault.NetworkFault.{NetworkFault}
 use Rattle.report_text.specs.Steps.{exec_text}
 use Rattle.xcm_cli.specs.declared.status.Status.{Status}
 use Rattle.xcm_cli.specs.declared.status.Status.TheVariants.{Done, Usage, NetworkRefused, LineRefused, ReadFault, WriteFault, TooLong}

@@ -3,7 +3,7 @@
 ghost use Rattle.std.specs.Prelude.{◌≡◌, ◌≢◌, ◌⊎◌, ◌+◌, ◌^◌, ◌<◌, ◌≤◌, ℕ, List, [], ◌∷◌, length, drop, Bool, false, true, Some, None, Ok};
 ghost use Rattle.xcm_io.specs.Causes.{Rose};
 ghost use Rattle.input_lines.specs.Lines.{HasNoFeed};
-ghost use Rattle.network_config.specs.Document.{network_of};
+ghost use Rattle.plain_network.specs.Document.{network_of};
 ghost use Rattle.xcm_cli.specs.Report.{lines_reply, network_reply, steps_reply, fits_limits, max_input};
 ghost use Rattle.xcm_cli.specs.Session.{Writes, Advances, Finishes, HasWriteCause, IsReady, TakesLines, reply_at};
 
@@ -11,7 +11,7 @@ use crate::limits::{MAX_INPUT, MAX_LINE, MAX_NETWORK};
 use crate::status::Status;
 use crate::texts::{OPENING, line_refusal, network_refusal};
 use input_lines::{Line, ends_network, line_len, read_line, text_of, without_feed};
-use network_config::{NetworkFault, read_network};
+use plain_network::{NetworkFault, read_network};
 use report_text::exec_block;
 use std::alloc::{AllocError, Global};
 use xcm_io::{Sink, write_whole};

@@ -3,7 +3,7 @@
 ghost use Rattle.std.specs.Prelude.{IfOk, string_bytes, ◌≡◌};
 ghost use Rattle.xcm_cli.specs.Report.{line_refused_text, network_refused_text};
 
-use network_config::NetworkFault;
+use plain_network::NetworkFault;
 use std::alloc::{AllocError, Global};
 
 pub(crate) const USAGE: &str = "usage: run | run --audit | gen NUMBER STEPS\n";

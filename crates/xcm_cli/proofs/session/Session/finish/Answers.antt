@@ -1,5 +1,5 @@
 use Rattle.std.proofs.Common.{◌∙◌, sym, ap, [], Ok}
-use Rattle.network_config.specs.Document.{network_of}
+use Rattle.plain_network.specs.Document.{network_of}
 use Rattle.xcm_cli.specs.Report.{network_reply}
 use Rattle.xcm_cli.proofs.Advance.{at_end, part_within, finishes_steps, finishes_some, finishes_none, finishes_err}
 use Rattle.xcm_cli.proofs.session.Session.finish.Goals as goal

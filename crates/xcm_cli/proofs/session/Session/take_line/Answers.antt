@@ -1,6 +1,6 @@
 use Rattle.std.proofs.Common.{◌≡◌, ◌∙◌, ◌+◌, sym, ap, refl, arith, true, false, length, [], Bool, List, ℕ}
 use Rattle.input_lines.specs.Lines.{ends_network}
-use Rattle.network_config.specs.Document.{network_of}
+use Rattle.plain_network.specs.Document.{network_of}
 use Rattle.xcm_cli.specs.Report.{network_reply}
 use Rattle.input_lines.specs.Laws.{mark_short}
 use Rattle.xcm_cli.proofs.Advance.{stays, stops, line_kept, line_over, line_ends, at_steps, advances_as, part_within, ready_steps}
