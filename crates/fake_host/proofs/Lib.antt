@@ -9,3 +9,4 @@ pub mod Claims
 pub mod Listings
 pub mod Bundles
 pub mod Unsent
+pub mod Returning

@@ -1,0 +1,3 @@
+pub mod Stillness
+pub mod Sends
+pub mod Drains

@@ -1,0 +1,474 @@
+-- What is queued and what may still be sent never rises in a run.
+use Rattle.std.proofs.Common.{◌≡◌, ⊎_elim, ℕ, zero, suc, ◌+◌, ◌≤◌, Bool, true, false, List, [], ◌∷◌, ◌++◌, Option, Some, None, refl, sym, ap, ◌∙◌, subst, arith}
+use Rattle.std.specs.Prelude.{if◌then◌else◌, nat_eq, length, position, remove, drop, find, slice_get, slice_set, sum_by, option_and_then, Result, Ok, Err}
+use Rattle.std.proofs.Common.{get_or}
+use Rattle.std.proofs.lemmas.Option.{slice_get_within, get_or_from_slice_get}
+use Rattle.amounts.specs.Amounts.{rows}
+use Rattle.std.specs.Option.{option_map_or}
+use Rattle.std.proofs.lemmas.List.Sums.{sum_by_push, sum_by-cons}
+use Rattle.locations.specs.declared.relative.Location.{Location}
+use Rattle.message_parts.specs.declared.error.XcmError.{XcmError}
+use Rattle.message_parts.specs.declared.weight.Weight.{Weight}
+use Rattle.message_parts.specs.declared.query.QueryInfo.{QueryInfo}
+use Rattle.message_parts.specs.declared.query.Response.{Response}
+use Rattle.message_parts.specs.declared.query.OpenQuery.{OpenQuery}
+use Rattle.message_parts.specs.Weights.{is_within}
+use Rattle.message_parts.specs.declared.weight.WeightLimit.{WeightLimit}
+use Rattle.message_parts.specs.declared.weight.WeightLimit.TheVariants.{Unlimited, Limited}
+use Rattle.asset_lists.specs.declared.units.Asset.{Asset}
+use Rattle.asset_bundles.specs.Bundles.{Bundle, held_assets}
+use Rattle.asset_bundles.specs.declared.shipment.Way.{Way}
+use Rattle.xcm_program.specs.declared.instruction.Instruction.{Instruction, out-Instruction, roll-Instruction, out-roll-Instruction}
+use Rattle.xcm_program.specs.declared.instruction.Instruction.TheOpen.{Instruction-F}
+use Rattle.weight_trader.specs.Purchases.{no_weight, paying}
+use Rattle.xcm_program.specs.declared.outcome.Outcome.{Outcome}
+use Rattle.xcm_program.specs.Weights.{weight_of}
+use Rattle.xcm_program.specs.Indices.{index}
+use Rattle.xcm_program.specs.Measure.{inner, inner_of, sending, sends_one, sends}
+use Rattle.xcm_program.specs.Weights.{kept}
+use Rattle.xcm_program.specs.Laws.{sends_inside, sends_one-is}
+use Rattle.plain_lists.specs.Firsts.{change_first}
+use Rattle.channel_parts.specs.declared.cargo.Cargo.{Cargo}
+use Rattle.channel_parts.specs.declared.cargo.Cargo.TheVariants.{Nothing, Deposit}
+use Rattle.channel_parts.specs.Channels.{Waiting, Outgoing, with_waiting, away}
+use Rattle.chain_queues.specs.Queues.{leads_to, channel_to, first_of, oldest, without_oldest}
+use Rattle.barriers.specs.declared.barrier.Barrier.{Barrier}
+use Rattle.barriers.specs.Barriers.{with_limit, limited, with_limit_at, purchase_index, left_by, decided, allows, admission}
+use Rattle.chain_ids.specs.declared.chain.ChainId.{ChainId}
+use Rattle.exec_base.specs.declared.event.Event.{Event}
+use Rattle.exec_base.specs.declared.event.Part.{Part}
+use Rattle.exec_base.specs.declared.event.Part.TheVariants.{Appendix}
+use Rattle.exec_base.specs.declared.registers.Registers.{Registers}
+use Rattle.exec_base.specs.Part.{ChainPart}
+use Rattle.exec_base.specs.Sending.{sent, led_by, deposit_program, away_program, listed_program}
+use Rattle.exec_base.specs.Sending as sending_to
+use Rattle.exec_base.specs.Host.{withdrawn, deposited, transferred, received, transferred_out, deposited_out, raised_for, shipped, seen_from, querier_seen, report_program, responded, answered, bought, refunded, joined, booked, burnt, claimed, is_trap, is_query, trapped, settled, fee_to, fee_held, fee_taken, fee_kept, fee_drawn, told}
+use Rattle.exec_run.specs.Machine.{Machine, machine, Control, control_of, Steers, IsOrderly}
+use Rattle.exec_run.specs.Run.{Stage, At, Ended, begin, to_appendix, to_handler, go_on, failed, without_handler, without_appendix, handler_dropped, traced, by_answer, next, steps, machine_of, left_after, run, still_to_run}
+use Rattle.exec_run.specs.Outcome.{owner_of, end_event, end_told, refund_surplus, refunded_last, finished}
+use Rattle.exec_rules.specs.Holdings.{at_origin, taken_of, payment_of, buying_done, refund_now, refund_done}
+use Rattle.exec_rules.specs.Fees.{after_fee, done_around}
+use Rattle.exec_rules.specs.Reports.{pallets_of, reported_list, holding_report_done}
+use Rattle.exec_rules.specs.Instructions.{done, refusal_of, xcm}
+use Rattle.exec_admission.specs.declared.rules.ChainRules.{ChainRules}
+use Rattle.exec_admission.specs.declared.admission.Admitted.{Admitted}
+use Rattle.exec_admission.specs.Admission.{by_barriers, by_limit, by_weight, admitted}
+use Rattle.exec_admission.specs.Execution.{first_machine, first_stage, last_machine, executed_by, executed}
+use Rattle.network_steps.specs.Worlds.{Member, chain_of, World, with_part}
+use Rattle.network_steps.specs.Sends.{message_count, queue_count, queued, deliveries_left}
+use Rattle.network_steps.specs.Acting.{begun}
+use Rattle.network_steps.specs.Steps.{name_at, received, sender_after, receiver_after, delivered}
+use Rattle.network_steps.proofs.Stillness.{set_other}
+
+-- ---- programs
+sends-led_by : (first : Instruction-F Instruction) (program : List Instruction) → sending first ≡ 0 → inner first ≡ None → sends (led_by first program) ≡ sends program
+sends-led_by first program none flat =
+    let one = sends_one-is (roll-Instruction first) in
+    let same : sending (out-Instruction (roll-Instruction first)) ≡ 0 = ap sending (out-roll-Instruction first) ∙ none in
+    let inside : sends_inside (inner_of (roll-Instruction first)) ≡ 0 = ap (λ l. sends_inside (inner l)) (out-roll-Instruction first) ∙ ap sends_inside flat in
+    let two = sends_one-is (roll-Instruction Instruction-F.ClearOrigin) in
+    let clears : sending (out-Instruction (roll-Instruction Instruction-F.ClearOrigin)) ≡ 0 = ap sending (out-roll-Instruction Instruction-F.ClearOrigin) in
+    let nothing : sends_inside (inner_of (roll-Instruction Instruction-F.ClearOrigin)) ≡ 0 = ap (λ l. sends_inside (inner l)) (out-roll-Instruction Instruction-F.ClearOrigin) in
+    omega (arith, one, same, inside, two, clears, nothing)
+
+sends-deposit : (list : List Asset) (program : List Instruction) → sends (deposit_program list program) ≡ sends program
+sends-deposit list program = sends-led_by (Instruction-F.ReserveAssetDeposited list) program refl refl
+
+sends-away : (way : Way) (list : List Asset) (program : List Instruction) → sends (away_program way list program) ≡ sends program
+sends-away Way.Withdrawal list program = sends-led_by (Instruction-F.WithdrawAsset list) program refl refl
+sends-away Way.Teleport list program = sends-led_by (Instruction-F.ReceiveTeleportedAsset list) program refl refl
+
+sends-listed : (around : List Asset → List Instruction) (n : ℕ) → ((list : List Asset) → sends (around list) ≡ n) → (o : Option (List Asset)) → sends (listed_program around o) ≤ n
+sends-listed around n h None = omega arith
+sends-listed around n h (Some list) = let e = h list in omega (arith, e)
+
+sends-report : (info : QueryInfo) (response : Response) (querier : Option Location) → sends (report_program info response querier) ≡ 0
+sends-report info response querier =
+    let one = sends_one-is (roll-Instruction (Instruction-F.QueryResponse info.query_id response info.max_weight querier)) in
+    let same : sending (out-Instruction (roll-Instruction (Instruction-F.QueryResponse info.query_id response info.max_weight querier))) ≡ 0 = ap sending (out-roll-Instruction (Instruction-F.QueryResponse info.query_id response info.max_weight querier)) in
+    let inside : sends_inside (inner_of (roll-Instruction (Instruction-F.QueryResponse info.query_id response info.max_weight querier))) ≡ 0 =
+    ap (λ l. sends_inside (inner l)) (out-roll-Instruction (Instruction-F.QueryResponse info.query_id response info.max_weight querier)) in
+    omega (arith, one, same, inside)
+
+-- ---- a message put last
+changed_head : (x y : Outgoing) (xs : List Outgoing) (n : ℕ) → queue_count y ≡ queue_count x + n → queued (y ∷ xs) ≤ queued (x ∷ xs) + n
+changed_head x y xs n h = let a = sum_by-cons queue_count y xs in let b = sum_by-cons queue_count x xs in omega (arith, a, b, h)
+
+changed_tail : (x : Outgoing) (xs ys : List Outgoing) (n : ℕ) → queued ys ≤ queued xs + n → queued (x ∷ ys) ≤ queued (x ∷ xs) + n
+changed_tail x xs ys n h = let a = sum_by-cons queue_count x ys in let b = sum_by-cons queue_count x xs in omega (arith, a, b, h)
+
+pub changed_more : (test : Outgoing → Bool) (change : Outgoing → Outgoing) (n : ℕ) → ((c : Outgoing) → queue_count (change c) ≡ queue_count c + n) → (cs : List Outgoing) → queued (change_first test change cs) ≤ queued cs + n
+changed_more test change n grows [] = omega arith
+changed_more test change n grows (x ∷ xs) =
+    elim (test x) as (λ b. queued (if b then change x ∷ xs else x ∷ change_first test change xs) ≤ queued (x ∷ xs) + n) [
+      | true ↦ changed_head x (change x) xs n (grows x)
+      | false ↦ changed_tail x xs (change_first test change xs) n (changed_more test change n grows xs)
+    ]
+
+pub waiting_more : (program : List Instruction) (cargo : Cargo) (c : Outgoing) → queue_count (with_waiting program cargo c) ≡ queue_count c + (1 + sends program)
+waiting_more program cargo c = sum_by_push message_count c.queue (record { number = c.next; program = program; cargo = cargo })
+
+sent_more : (p : ChainPart) (dest : Location) (program : List Instruction) (cargo : Cargo) → queued (sent p dest program cargo).channels ≤ queued p.channels + (1 + sends program)
+unfolding sent
+sent_more p dest program cargo = changed_more (sending_to.leads_to p dest) (with_waiting program cargo) (1 + sends program) (waiting_more program cargo) p.channels
+
+-- ---- what calls of a chain send
+transferred_more : (p : ChainPart) (list : List Asset) (from dest : Location) (program : List Instruction) → queued (transferred_out p list from dest program).channels ≤ queued p.channels + (1 + sends program)
+unfolding transferred_out transferred
+transferred_more p list from dest program =
+    let a = sent_more (transferred p list from dest) dest (listed_program (λ l. deposit_program l program) (seen_from p dest list)) (Deposit list) in
+    let b = sends-listed (λ l. deposit_program l program) (sends program) (λ l. sends-deposit l program) (seen_from p dest list) in
+    omega (arith, a, b)
+
+deposited_more : (p : ChainPart) (goods : Bundle) (dest : Location) (program : List Instruction) → queued (deposited_out p goods dest program).channels ≤ queued p.channels + (1 + sends program)
+unfolding deposited_out deposited
+deposited_more p goods dest program =
+    let a = sent_more (deposited p goods dest) dest (listed_program (λ l. deposit_program l program) (seen_from p dest (held_assets goods))) (Deposit (held_assets goods)) in
+    let b = sends-listed (λ l. deposit_program l program) (sends program) (λ l. sends-deposit l program) (seen_from p dest (held_assets goods)) in
+    omega (arith, a, b)
+
+shipped_more : (p : ChainPart) (goods : Bundle) (way : Way) (dest : Location) (program : List Instruction) → queued (shipped p goods way dest program).channels ≤ queued p.channels + (1 + sends program)
+unfolding shipped
+shipped_more p goods way dest program =
+    let a = sent_more (raised_for p way goods) dest (listed_program (λ l. away_program way l program) (seen_from p dest (held_assets goods))) (away way goods) in
+    let b = sends-listed (λ l. away_program way l program) (sends program) (λ l. sends-away way l program) (seen_from p dest (held_assets goods)) in
+    omega (arith, a, b)
+
+response_more : (p : ChainPart) (info : QueryInfo) (response : Response) (o : Option (Option Location))
+    → queued (option_map_or (λ (seen : Option Location). sent p info.destination (report_program info response seen) Nothing) o p).channels ≤ queued p.channels + 1
+response_more p info response None = omega arith
+response_more p info response (Some seen) =
+    let a = sent_more p info.destination (report_program info response seen) Nothing in
+    let b = sends-report info response seen in
+    omega (arith, a, b)
+
+responded_more : (p : ChainPart) (info : QueryInfo) (response : Response) (querier : Option Location) → queued (responded p info response querier).channels ≤ queued p.channels + 1
+unfolding responded
+responded_more p info response querier = response_more p info response (querier_seen p info.destination querier)
+
+-- ---- one instruction
+abbrev channels_of : Machine → List Outgoing
+channels_of m = m.part.channels
+
+origin_same : (o : Option Location) (change : Location → Machine) (m : Machine) → ((who : Location) → channels_of (change who) ≡ channels_of m) → channels_of (at_origin o change m) ≡ channels_of m
+origin_same None change m h = refl
+origin_same (Some who) change m h = h who
+
+origin_more : (o : Option Location) (change : Location → Machine) (m : Machine) (n : ℕ) → ((who : Location) → queued (channels_of (change who)) ≤ queued (channels_of m) + n) → queued (channels_of (at_origin o change m)) ≤ queued (channels_of m) + n
+origin_more None change m n h = omega arith
+origin_more (Some who) change m n h = h who
+
+if_same : (b : Bool) (x y m : Machine) → channels_of x ≡ channels_of m → channels_of y ≡ channels_of m → channels_of (if b then x else y) ≡ channels_of m
+if_same true x y m h k = h
+if_same false x y m h k = k
+
+fee_same : (m : Machine) (fee : Asset) → channels_of (after_fee m fee) ≡ channels_of m
+unfolding fee_held fee_drawn
+fee_same m fee = if_same m.regs.fees_mode _ _ m (origin_same m.regs.origin _ m (λ who. refl)) refl
+
+around_more : (o : Option Asset) (m : Machine) (change : Machine → Machine) (n : ℕ) → ((k : Machine) → queued (channels_of (change k)) ≤ queued (channels_of k) + n) → queued (channels_of (done_around o m change)) ≤ queued (channels_of m) + n
+unfolding fee_kept
+around_more None m change n h = h m
+around_more (Some fee) m change n h =
+    let a = h (after_fee m fee) in
+    let b = ap queued (fee_same m fee) in
+    omega (arith, a, b)
+
+report_more : (m : Machine) (info : QueryInfo) (o : Option (List Asset)) → queued (channels_of (holding_report_done m info o)) ≤ queued (channels_of m) + 1
+report_more m info None = omega arith
+report_more m info (Some list) = responded_more m.part info (Response.Assets list) m.regs.origin
+
+option_same : {A : Type 0} (o : Option A) (f : A → ChainPart) (p : ChainPart) → ((x : A) → (f x).channels ≡ p.channels) → (option_map_or f o p).channels ≡ p.channels
+option_same None f p h = refl
+option_same (Some x) f p h = h x
+
+bought_same : (p : ChainPart) (w : Weight) (payment : Bundle) → (bought p w payment).channels ≡ p.channels
+unfolding bought booked
+bought_same p w payment = option_same (paying w payment p.lines) _ p (λ line. refl)
+
+claimed_same : (p : ChainPart) (list : List Asset) (origin : Location) → (claimed p list origin).channels ≡ p.channels
+unfolding claimed
+claimed_same p list origin = option_same (position (is_trap list origin) p.traps.traps) _ p (λ place. refl)
+
+answered_same : (p : ChainPart) (from : Location) (query : ℕ) → (answered p from query).channels ≡ p.channels
+unfolding answered
+answered_same p from query = elim (position (is_query query from) p.queries) as (λ o. (option_map_or (λ (place : ℕ). record p { queries = remove p.queries place; kept_back = p.kept_back ++ Event.Answered query ∷ [] }) o (record p { kept_back = p.kept_back ++ Event.Ignored query ∷ [] })).channels ≡ p.channels) [
+  | None ↦ refl
+  | Some place ↦ refl
+]
+
+buying_same : (m : Machine) (fees : Asset) (limit : WeightLimit) → channels_of (buying_done m fees limit) ≡ channels_of m
+unfolding joined booked
+buying_same m fees Unlimited = refl
+buying_same m fees (Limited w) = bought_same m.part w (payment_of fees)
+
+refund_same : (m : Machine) (o : Option (Location × ℕ)) → channels_of (refund_done m o) ≡ channels_of m
+unfolding refunded joined booked
+refund_same m None = refl
+refund_same m (Some given) = refl
+
+as_many : (m n : Machine) → channels_of n ≡ channels_of m → queued (channels_of n) ≤ queued (channels_of m) + 0
+as_many m n e = let a = ap queued e in omega (arith, a)
+
+-- what an instruction sends, and what the programs that it sends may send
+sent_in : Instruction-F Instruction → ℕ
+sent_in (Instruction-F.TransferReserveAsset list dest program) = 1 + sends program
+sent_in (Instruction-F.DepositReserveAsset taken dest program) = 1 + sends program
+sent_in (Instruction-F.InitiateReserveWithdraw taken dest program) = 1 + sends program
+sent_in (Instruction-F.InitiateTeleport taken dest program) = 1 + sends program
+sent_in (Instruction-F.ReportError info) = 1
+sent_in (Instruction-F.ReportHolding info taken) = 1
+sent_in (Instruction-F.QueryPallet name info) = 1
+sent_in (Instruction-F.ReportTransactStatus info) = 1
+sent_in _ = 0
+
+done_more : (l : Instruction-F Instruction) (m : Machine) → queued (channels_of (done l m)) ≤ queued (channels_of m) + sent_in l
+unfolding withdrawn received deposited transferred burnt joined booked
+done_more (Instruction-F.WithdrawAsset list) m = as_many m _ (origin_same m.regs.origin _ m (λ who. refl))
+done_more (Instruction-F.ReserveAssetDeposited list) m = as_many m _ (origin_same m.regs.origin _ m (λ who. refl))
+done_more (Instruction-F.ReceiveTeleportedAsset list) m = as_many m _ (origin_same m.regs.origin _ m (λ who. refl))
+done_more (Instruction-F.ClaimAsset list ticket) m = as_many m _ (origin_same m.regs.origin _ m (λ who. claimed_same m.part list who))
+done_more (Instruction-F.QueryResponse query answer weight querier) m = as_many m _ (origin_same m.regs.origin _ m (λ who. answered_same m.part who query))
+done_more (Instruction-F.TransferAsset list who) m = as_many m _ (origin_same m.regs.origin _ m (λ from. refl))
+done_more (Instruction-F.DescendOrigin path) m = as_many m _ (origin_same m.regs.origin _ m (λ who. refl))
+done_more (Instruction-F.TransferReserveAsset list dest program) m = origin_more m.regs.origin _ m (1 + sends program) (λ who. around_more (fee_to m.part dest) m _ (1 + sends program) (λ n. transferred_more n.part list who dest program))
+done_more (Instruction-F.DepositReserveAsset taken dest program) m = around_more (fee_to m.part dest) m _ (1 + sends program) (λ n. deposited_more n.part (taken_of n taken) dest program)
+done_more (Instruction-F.InitiateReserveWithdraw taken dest program) m = around_more (fee_to m.part dest) m _ (1 + sends program) (λ n. shipped_more n.part (taken_of n taken) Way.Withdrawal dest program)
+done_more (Instruction-F.InitiateTeleport taken dest program) m = around_more (fee_to m.part dest) m _ (1 + sends program) (λ n. shipped_more n.part (taken_of n taken) Way.Teleport dest program)
+done_more (Instruction-F.ReportError info) m = around_more (fee_to m.part info.destination) m _ 1 (λ n. responded_more n.part info (Response.ExecutionResult n.regs.error) n.regs.origin)
+done_more (Instruction-F.ReportHolding info taken) m =
+    around_more (fee_to m.part info.destination) m (λ n. holding_report_done n info (reported_list n info taken)) 1 (λ n. report_more n info (reported_list n info taken))
+done_more (Instruction-F.QueryPallet name info) m = around_more (fee_to m.part info.destination) m _ 1 (λ n. responded_more n.part info (Response.PalletsInfo (pallets_of n.part name)) n.regs.origin)
+done_more (Instruction-F.ReportTransactStatus info) m = around_more (fee_to m.part info.destination) m _ 1 (λ n. responded_more n.part info (Response.DispatchResult n.regs.status) n.regs.origin)
+done_more (Instruction-F.BuyExecution fees limit) m = as_many m _ (buying_same m fees limit)
+done_more Instruction-F.RefundSurplus m = as_many m _ (refund_same m (refund_now m))
+done_more _ m = as_many m _ refl
+
+-- ---- what is kept for later
+kept_more : (l : Instruction-F Instruction) (c d : Control) → Steers (λ p. p) l c d → sends d.handler + sends d.appendix ≤ sends c.handler + sends c.appendix + sends_inside (kept l)
+kept_more (Instruction-F.SetErrorHandler program) c d e = subst (λ (d : Control). sends d.handler + sends d.appendix ≤ sends c.handler + sends c.appendix + sends program) (sym e) (omega arith)
+kept_more (Instruction-F.SetAppendix program) c d e = subst (λ (d : Control). sends d.handler + sends d.appendix ≤ sends c.handler + sends c.appendix + sends program) (sym e) (omega arith)
+kept_more Instruction-F.RefundSurplus c d e =
+    ⊎_elim (λ f. subst (λ (d : Control). sends d.handler + sends d.appendix ≤ sends c.handler + sends c.appendix + 0) (sym f) (omega arith))
+    (λ f. subst (λ (d : Control). sends d.handler + sends d.appendix ≤ sends c.handler + sends c.appendix + 0) (sym f) (omega arith)) e
+kept_more (Instruction-F.Transact kind most call) c d e = subst (λ (d : Control). sends d.handler + sends d.appendix ≤ sends c.handler + sends c.appendix + 0) (sym e.2) (omega arith)
+kept_more _ c d e = subst (λ (d : Control). sends d.handler + sends d.appendix ≤ sends c.handler + sends c.appendix + 0) (sym e) (omega arith)
+
+sent_and_kept : (l : Instruction-F Instruction) → sent_in l + sends_inside (kept l) ≤ sending l + sends_inside (inner l)
+sent_and_kept (Instruction-F.TransferReserveAsset list dest program) = omega arith
+sent_and_kept (Instruction-F.DepositReserveAsset taken dest program) = omega arith
+sent_and_kept (Instruction-F.InitiateReserveWithdraw taken dest program) = omega arith
+sent_and_kept (Instruction-F.InitiateTeleport taken dest program) = omega arith
+sent_and_kept (Instruction-F.SetErrorHandler program) = omega arith
+sent_and_kept (Instruction-F.SetAppendix program) = omega arith
+sent_and_kept _ = omega arith
+
+-- what is queued, and what the programs that are kept may send
+abbrev pub due : Machine → ℕ
+due m = queued (channels_of m) + (sends m.regs.handler + sends m.regs.appendix)
+
+pub ran_more : IsOrderly xcm → (x : Instruction) (m : Machine) → refusal_of x m ≡ None → due (xcm.done x m) ≤ due m + sends_one x
+ran_more orderly x m ok =
+    let a = done_more (out-Instruction x) m in
+    let b = kept_more (out-Instruction x) (control_of m.regs) (control_of (xcm.done x m).regs) (orderly x m ok) in
+    let c = sent_and_kept (out-Instruction x) in
+    let d = sends_one-is x in
+    omega (arith, a, b, c, d)
+
+-- ---- a run
+abbrev pub due_at : Stage → ℕ
+due_at (At part place x behind m) = sends (x ∷ behind) + due m
+due_at (Ended m) = due m
+
+told_due : (e : Event) (m : Machine) → due (machine m.regs (told m.part e)) ≡ due m
+unfolding told
+told_due e m = refl
+
+begin_due : (part : Part) (p : List Instruction) (m : Machine) → due_at (begin part p m) ≡ sends p + due m
+begin_due part [] m = omega arith
+begin_due part (x ∷ behind) m = refl
+
+to_appendix_due : (m : Machine) → due_at (to_appendix m) ≤ due m
+to_appendix_due m = let e = begin_due Appendix m.regs.appendix (record m { regs = without_appendix m.regs }) in omega (arith, e)
+
+to_handler_due : (h : List Instruction) (m : Machine) → m.regs.handler ≡ h → due_at (to_handler h m) ≤ due m
+to_handler_due [] m e = to_appendix_due m
+to_handler_due (x ∷ behind) m e = let c = ap sends e in omega (arith, c)
+
+go_on_due : (part : Part) (place : ℕ) (behind : List Instruction) (m : Machine) → due_at (go_on part place behind m) ≤ sends behind + due m
+go_on_due part place [] m = let e = to_appendix_due (record m { regs = handler_dropped m.regs }) in omega (arith, e)
+go_on_due part place (x ∷ behind) m = omega arith
+
+module _ (orderly : IsOrderly xcm) where
+  by_answer_due : (part : Part) (place : ℕ) (x : Instruction) (behind : List Instruction) (m : Machine) (o : Option XcmError) → refusal_of x m ≡ o → due_at (by_answer xcm part place x behind m o) ≤ sends (x ∷ behind) + due m
+  by_answer_due part place x behind m None e =
+      let a = go_on_due part (place + 1) behind (traced part place x None (xcm.done x m)) in
+      let b = told_due (Event.Ran part place (index (out-Instruction x)) None) (xcm.done x m) in
+      let c = ran_more orderly x m e in
+      omega (arith, a, b, c)
+  by_answer_due part place x behind m (Some error) e =
+      let a = to_handler_due m.regs.handler (record (traced part place x (Some error) m) { regs = failed place error behind m.regs }) refl in
+      let b = told_due (Event.Ran part place (index (out-Instruction x)) (Some error)) m in
+      omega (arith, a, b)
+
+  next_due : (g : Stage) → due_at (next xcm g) ≤ due_at g
+  next_due (At part place x behind m) = by_answer_due part place x behind m (refusal_of x m) refl
+  next_due (Ended m) = omega arith
+
+  steps_due : (n : ℕ) (g : Stage) → due_at (steps xcm n g) ≤ due_at g
+  unfolding steps
+  steps_due zero g = omega arith
+  steps_due (suc n) g = let a = steps_due n (next xcm g) in let b = next_due g in omega (arith, a, b)
+
+  machine_due : (g : Stage) → queued (channels_of (machine_of g)) ≤ due_at g
+  machine_due (At part place x behind m) = omega arith
+  machine_due (Ended m) = omega arith
+
+  -- a run leaves no more in the queues than there was with what its program may send
+  pub run_sends : (g : Stage) → queued (channels_of (machine_of (run xcm g))) ≤ due_at g
+  run_sends g = let a = machine_due (run xcm g) in let b = steps_due (still_to_run g) g in omega (arith, a, b)
+
+-- ---- the end of a run sends nothing
+last_same : (m : Machine) (o : Option XcmError) → channels_of (left_after xcm refund_surplus m o) ≡ channels_of m
+last_same m None = ap (λ (l : Instruction-F Instruction). channels_of (done l m)) (out-roll-Instruction Instruction-F.RefundSurplus) ∙ refund_same m (refund_now m)
+last_same m (Some e) = refl
+
+rest_same : (r : Registers) (p : ChainPart) (b : Bool) → (if b then p else trapped p r.holding (owner_of r)).channels ≡ p.channels
+unfolding trapped
+rest_same r p true = refl
+rest_same r p false = refl
+
+told_same : (p : ChainPart) (e : Event) → (told p e).channels ≡ p.channels
+unfolding told
+told_same p e = refl
+
+settled_same : (p : ChainPart) → (settled p).channels ≡ p.channels
+unfolding settled
+settled_same p = refl
+
+pub finished_same : (m : Machine) → (finished xcm m).channels ≡ channels_of m
+finished_same m =
+    let last = refunded_last xcm m in
+    rest_same last.regs (settled (end_told last)) (nat_eq (length (rows last.regs.holding)) 0)
+    ∙ settled_same (end_told last) ∙ told_same last.part (end_event last.regs) ∙ last_same m (refusal_of refund_surplus m)
+
+-- ---- admission changes a limit alone
+sends-with_limit : (limit : WeightLimit) (l : Instruction-F Instruction) → sending (with_limit limit l) + sends_inside (inner (with_limit limit l)) ≡ sending l + sends_inside (inner l)
+sends-with_limit limit (Instruction-F.BuyExecution fees old) = refl
+sends-with_limit limit _ = refl
+
+sends-limited : (limit : WeightLimit) (i : Instruction) → sends_one (limited limit i) ≡ sends_one i
+sends-limited limit i =
+    sends_one-is (limited limit i) ∙ ap (λ l. sending l + sends_inside (inner l)) (out-roll-Instruction (with_limit limit (out-Instruction i)))
+    ∙ sends-with_limit limit (out-Instruction i) ∙ sym (sends_one-is i)
+
+same_some : (x y : Instruction) → Some x ≡ Some y → x ≡ y
+same_some x y e = cc
+
+sends-set : (p : List Instruction) (k : ℕ) (i y : Instruction) → slice_get p k ≡ Some i → sends_one y ≡ sends_one i → sends (slice_set p k y) ≡ sends p
+sends-set [] k i y at same = absurd (cc at)
+sends-set (x ∷ xs) zero i y at same = ap (λ n. n + sends xs) (same ∙ ap sends_one (sym (same_some x i at)))
+sends-set (x ∷ xs) (suc k) i y at same = ap (λ n. sends_one x + n) (sends-set xs k i y at same)
+
+sends-limit_at : (limit : WeightLimit) (k : ℕ) (p : List Instruction) → sends (with_limit_at limit k p) ≡ sends p
+sends-limit_at limit k p = elim (slice_get p k) as (λ o. slice_get p k ≡ o → sends (option_map_or (λ (i : Instruction). slice_set p k (limited limit i)) o p) ≡ sends p) [
+  | None ↦ λ e. refl
+  | Some i ↦ λ e. sends-set p k i (limited limit i) e (sends-limited limit i)
+] refl
+
+sends-left_by : (weight : Weight) (p : List Instruction) (barrier : Barrier) → sends (left_by weight p barrier) ≡ sends p
+sends-left_by weight p Barrier.Paid = sends-limit_at (Limited weight) (purchase_index p) p
+sends-left_by weight p _ = refl
+
+sends-decided : (weight : Weight) (p : List Instruction) (o : Option Barrier) → sends (decided weight p o).1 ≡ sends p
+sends-decided weight p None = refl
+sends-decided weight p (Some barrier) = sends-left_by weight p barrier
+
+same_ok : (a b : Admitted) → Ok {E = Outcome} a ≡ Ok b → a ≡ b
+same_ok a b e = cc
+
+by_barriers_sends : (weight : Weight) (d : Bool × List Instruction) (a : Admitted) → by_barriers weight d ≡ Ok a → sends a.program ≡ sends d.1
+by_barriers_sends weight (true, p) a e = ap (λ (a : Admitted). sends a.program) (sym (same_ok _ a e))
+by_barriers_sends weight (false, p) a e = absurd cc
+
+module _ (rules : ChainRules) (origin : Location) (credit : Weight) (queries : List OpenQuery) (program : List Instruction) where
+  by_limit_sends : (weight : Weight) (b : Bool) (a : Admitted) → by_limit rules origin credit queries program weight b ≡ Ok a → sends a.program ≡ sends program
+  by_limit_sends weight true a e =
+      by_barriers_sends weight (admission origin weight credit queries rules.barriers program) a e
+      ∙ sends-decided weight program (find (allows origin weight credit queries program) rules.barriers)
+  by_limit_sends weight false a e = absurd cc
+
+  by_weight_sends : (o : Option Weight) (a : Admitted) → by_weight rules origin credit queries program o ≡ Ok a → sends a.program ≡ sends program
+  by_weight_sends None a e = absurd cc
+  by_weight_sends (Some weight) a e = by_limit_sends weight (is_within weight rules.limit) a e
+
+module _ (orderly : IsOrderly xcm) (rules : ChainRules) (origin : Location) where
+  executed_by_sends : (r : Result Admitted Outcome) (p : ChainPart) (n : ℕ) → ((a : Admitted) → r ≡ Ok a → sends a.program ≡ n) → queued (executed_by rules origin r p).1.channels ≤ queued p.channels + n
+  executed_by_sends (Err outcome) p n h = omega arith
+  executed_by_sends (Ok a) p n h =
+      let end = ap queued (finished_same (last_machine rules origin a p)) in
+      let went = run_sends orderly (first_stage rules origin a p) in
+      let begins = begin_due Part.Program a.program (first_machine rules origin p) in
+      let same = h a refl in
+      omega (arith, end, went, begins, same)
+
+  -- an execution adds at most what its program may send
+  pub executed_sends : (credit : Weight) (program : List Instruction) (p : ChainPart) → queued (executed rules origin credit program p).1.channels ≤ queued p.channels + sends program
+  executed_sends credit program p =
+      executed_by_sends (admitted rules origin credit p.queries program) p (sends program) (λ a e. by_weight_sends rules origin credit p.queries program (weight_of rules.weight program) a e)
+
+-- ---- a delivery
+member_count : Member → ℕ
+member_count m = queued m.part.channels
+
+shorter_head : (c : Outgoing) (x : Waiting) (cs : List Outgoing) → first_of c.queue ≡ Some x → queued (without_oldest c ∷ cs) + message_count x ≤ queued (c ∷ cs)
+shorter_head c x cs e =
+    let a = sum_by-cons queue_count (without_oldest c) cs in
+    let b = sum_by-cons queue_count c cs in
+    let one = oldest_counts c.queue x e in
+    omega (arith, a, b, one)
+  where
+    oldest_counts : (q : List Waiting) (x : Waiting) → first_of q ≡ Some x → sum_by message_count (drop 1 q) + message_count x ≤ sum_by message_count q
+    oldest_counts [] x e = absurd cc
+    oldest_counts (y ∷ more) x e =
+        let c = sum_by-cons message_count y more in
+        let same : message_count y ≡ message_count x = ap message_count (some_message y x e) in
+        omega (arith, c, same)
+      where
+        some_message : (y x : Waiting) → Some y ≡ Some x → y ≡ x
+        some_message y x e = cc
+
+popped_less : (test : Outgoing → Bool) (cs : List Outgoing) (x : Waiting) → option_and_then oldest (find test cs) ≡ Some x → queued (change_first test without_oldest cs) + message_count x ≤ queued cs
+popped_less test [] x e = absurd cc
+popped_less test (c ∷ cs) x e =
+    elim (test c) as (λ b. option_and_then oldest (if b then Some c else find test cs) ≡ Some x → queued (if b then without_oldest c ∷ cs else c ∷ change_first test without_oldest cs) + message_count x ≤ queued (c ∷ cs)) [
+      | true ↦ λ h. shorter_head c x cs h
+      | false ↦ λ h.
+          let rest = popped_less test cs x h in
+          let a = sum_by-cons queue_count c (change_first test without_oldest cs) in
+          let b = sum_by-cons queue_count c cs in
+          omega (arith, rest, a, b)
+    ] e
+
+begun_same : (sender : ChainId) (cargo : Cargo) (p : ChainPart) (e : Event) → (told (begun sender cargo p) e).channels ≡ p.channels
+unfolding told
+begun_same sender cargo p e = refl
+
+module _ (orderly : IsOrderly xcm) where
+  delivered_less : (w : World) (i j : ℕ) (s r : Member) (x : Waiting) → slice_get w i ≡ Some s → slice_get w j ≡ Some r → (i ≡ j → ⊥) → option_and_then oldest (channel_to (chain_of r) s.part.channels) ≡ Some x
+      → 1 + deliveries_left (delivered w i j s r x).world ≤ deliveries_left w
+  delivered_less w i j s r x is_s is_r apart waits =
+      let a = received s r x in
+      let s' = with_part (sender_after (chain_of r) a s.part) s in
+      let r' = with_part (receiver_after s.part a) r in
+      let one = sum_by-set member_count w i s' s (slice_get_within w i s is_s) in
+      let get_i : get_or w i s ≡ s = get_or_from_slice_get w i s s is_s in
+      let there : slice_get (slice_set w i s') j ≡ Some r = set_other w i j s' (λ e. apart (sym e)) ∙ is_r in
+      let two = sum_by-set member_count (slice_set w i s') j r' r (slice_get_within (slice_set w i s') j r there) in
+      let get_j : get_or (slice_set w i s') j r ≡ r = get_or_from_slice_get (slice_set w i s') j r r there in
+      let at_i = ap member_count get_i in
+      let at_j = ap member_count get_j in
+      let less = popped_less (leads_to (chain_of r)) s.part.channels x waits in
+      let went = executed_sends orderly r.rules (name_at (chain_of r) (chain_of s)) no_weight x.program (told (begun (chain_of s) x.cargo r.part) (Event.Message (chain_of s) (chain_of r) x.number)) in
+      let start = ap queued (begun_same (chain_of s) x.cargo r.part (Event.Message (chain_of s) (chain_of r) x.number)) in
+      omega (arith, one, two, at_i, at_j, less, went, start)

@@ -1,0 +1,6 @@
+pub mod Worlds
+pub mod Acting
+pub mod Sends
+pub mod Steps
+pub mod Still
+pub mod Drains

@@ -1,0 +1,49 @@
+//! What holds of every step: laws, as the contracts of functions that do nothing.
+ghost use Rattle.std.specs.Prelude.{◌≡◌, ◌≤◌, ◌+◌, ℕ, List, Some, None, Ok, length, slice_get};
+ghost use Rattle.chain_ids.specs.declared.chain.ChainId.{ChainId};
+ghost use Rattle.channel_parts.specs.Channels.{Waiting};
+ghost use Rattle.exec_base.specs.Sending.{IsForwardable};
+ghost use Rattle.versioned_xcm.specs.Reading.{message_of};
+ghost use Rattle.xcm_program.specs.declared.instruction.Instruction.{Instruction};
+ghost use Rattle.network_steps.specs.Worlds.{World, place_of};
+ghost use Rattle.network_steps.specs.Sends.{deliveries_left};
+ghost use Rattle.network_steps.specs.Steps.{exec, deliver, claim, Link, waiting, next_channel, drain, world_behind};
+ghost use Rattle.network_steps.specs.Still.{IsStill};
+ghost use Rattle.network_steps.specs.Drains.{AreApart};
+
+use exec_rules::law_of_rules;
+use program_wire::law_of_writable;
+use versioned_xcm::law_of_messages;
+
+/// Whatever program bytes decode to can be executed and sent on: no id of it is bytes, no amount is 0, and it isn't too large to be counted.
+pub fn law_of_decoded_programs()
+    ensures forwardable { (bytes : List ℕ) (program : List Instruction) → message_of bytes ≡ Ok program → IsForwardable program }
+{
+    law_of_messages();
+    law_of_writable();
+}
+
+/// A step that answers neither that a program ran nor that a claim was sent changes nothing, and tells nothing. An execution changes its
+/// chain alone, a delivery the sender and the receiver, and a claim the sender.
+pub fn law_of_steps()
+    ensures exec_still { (w : World) (chain : ChainId) (account bytes : List ℕ) → IsStill (exec w chain account bytes) w }
+    ensures deliver_still { (w : World) (from to : ChainId) → IsStill (deliver w from to) w }
+    ensures claim_still { (w : World) (from to : ChainId) (bytes : List ℕ) → IsStill (claim w from to bytes) w }
+    ensures exec_elsewhere { (w : World) (chain : ChainId) (account bytes : List ℕ) (i k : ℕ)
+        → place_of w chain ≡ Some i → (k ≡ i → ⊥) → slice_get (exec w chain account bytes).world k ≡ slice_get w k }
+    ensures deliver_elsewhere { (w : World) (from to : ChainId) (i j k : ℕ) → place_of w from ≡ Some i → place_of w to ≡ Some j
+        → (k ≡ i → ⊥) → (k ≡ j → ⊥) → slice_get (deliver w from to).world k ≡ slice_get w k }
+    ensures claim_elsewhere { (w : World) (from to : ChainId) (bytes : List ℕ) (i k : ℕ)
+        → place_of w from ≡ Some i → (k ≡ i → ⊥) → slice_get (claim w from to bytes).world k ≡ slice_get w k }
+{}
+
+/// A delivery lowers the sum, over all messages that wait, of 1 and the messages that their programs may send. So a drain makes at most so
+/// many deliveries, and then no message waits, where no channel leads from a chain to itself.
+pub fn law_of_drains()
+    ensures lowers { (w : World) (from to : ChainId) (x : Waiting) → (from ≡ to → ⊥) → waiting w from to ≡ Some x
+        → 1 + deliveries_left (deliver w from to).world ≤ deliveries_left w }
+    ensures few { (order : List Link) (w : World) → length (drain order w) ≤ deliveries_left w }
+    ensures ends { (order : List Link) (w : World) → AreApart order → next_channel order (world_behind w (drain order w)) ≡ None }
+{
+    law_of_rules();
+}
