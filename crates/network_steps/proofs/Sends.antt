@@ -5,7 +5,7 @@ use Rattle.std.proofs.Common.{get_or}
 use Rattle.std.proofs.lemmas.Option.{slice_get_within, get_or_from_slice_get}
 use Rattle.amounts.specs.Amounts.{rows}
 use Rattle.std.specs.Option.{option_map_or}
-use Rattle.std.proofs.lemmas.List.Sums.{sum_by_push, sum_by-cons}
+use Rattle.std.proofs.lemmas.List.Sums.{sum_by_push, sum_by-cons, sum_by-set}
 use Rattle.locations.specs.declared.relative.Location.{Location}
 use Rattle.message_parts.specs.declared.error.XcmError.{XcmError}
 use Rattle.message_parts.specs.declared.weight.Weight.{Weight}
@@ -16,7 +16,7 @@ use Rattle.message_parts.specs.Weights.{is_within}
 use Rattle.message_parts.specs.declared.weight.WeightLimit.{WeightLimit}
 use Rattle.message_parts.specs.declared.weight.WeightLimit.TheVariants.{Unlimited, Limited}
 use Rattle.asset_lists.specs.declared.units.Asset.{Asset}
-use Rattle.asset_bundles.specs.Bundles.{Bundle, held_assets}
+use Rattle.asset_bundles.specs.Bundles.{Bundle, bundle_of, held_assets}
 use Rattle.asset_bundles.specs.declared.shipment.Way.{Way}
 use Rattle.xcm_program.specs.declared.instruction.Instruction.{Instruction, out-Instruction, roll-Instruction, out-roll-Instruction}
 use Rattle.xcm_program.specs.declared.instruction.Instruction.TheOpen.{Instruction-F}
@@ -46,9 +46,11 @@ use Rattle.exec_base.specs.Host.{withdrawn, deposited, transferred, received, tr
 use Rattle.exec_run.specs.Machine.{Machine, machine, Control, control_of, Steers, IsOrderly}
 use Rattle.exec_run.specs.Run.{Stage, At, Ended, begin, to_appendix, to_handler, go_on, failed, without_handler, without_appendix, handler_dropped, traced, by_answer, next, steps, machine_of, left_after, run, still_to_run}
 use Rattle.exec_run.specs.Outcome.{owner_of, end_event, end_told, refund_surplus, refunded_last, finished}
-use Rattle.exec_rules.specs.Holdings.{at_origin, taken_of, payment_of, buying_done, refund_now, refund_done}
+use Rattle.exec_rules.specs.Holdings.{at_origin, holding_more, holding_left, taken_of, payment_of, buying_done, refund_now, refund_done}
 use Rattle.exec_rules.specs.Fees.{after_fee, done_around}
-use Rattle.exec_rules.specs.Reports.{pallets_of, reported_list, holding_report_done}
+use Rattle.exec_rules.specs.Reports.{report_done, pallets_of, reported_list, holding_report_done}
+use Rattle.exec_rules.specs.Programs.{with_registers}
+use Rattle.exec_rules.specs.Origins.{descended}
 use Rattle.exec_rules.specs.Instructions.{done, refusal_of, xcm}
 use Rattle.exec_admission.specs.declared.rules.ChainRules.{ChainRules}
 use Rattle.exec_admission.specs.declared.admission.Admitted.{Admitted}
@@ -57,7 +59,7 @@ use Rattle.exec_admission.specs.Execution.{first_machine, first_stage, last_mach
 use Rattle.network_steps.specs.Worlds.{Member, chain_of, World, with_part}
 use Rattle.network_steps.specs.Sends.{message_count, queue_count, queued, deliveries_left}
 use Rattle.network_steps.specs.Acting.{begun}
-use Rattle.network_steps.specs.Steps.{name_at, received, sender_after, receiver_after, delivered}
+use Rattle.network_steps.specs.Steps.{name_at, run_for, sender_after, receiver_after, delivered}
 use Rattle.network_steps.proofs.Stillness.{set_other}
 
 -- ---- programs
@@ -211,7 +213,7 @@ as_many : (m n : Machine) → channels_of n ≡ channels_of m → queued (channe
 as_many m n e = let a = ap queued e in omega (arith, a)
 
 -- what an instruction sends, and what the programs that it sends may send
-sent_in : Instruction-F Instruction → ℕ
+abbrev sent_in : Instruction-F Instruction → ℕ
 sent_in (Instruction-F.TransferReserveAsset list dest program) = 1 + sends program
 sent_in (Instruction-F.DepositReserveAsset taken dest program) = 1 + sends program
 sent_in (Instruction-F.InitiateReserveWithdraw taken dest program) = 1 + sends program
@@ -224,25 +226,36 @@ sent_in _ = 0
 
 done_more : (l : Instruction-F Instruction) (m : Machine) → queued (channels_of (done l m)) ≤ queued (channels_of m) + sent_in l
 unfolding withdrawn received deposited transferred burnt joined booked
-done_more (Instruction-F.WithdrawAsset list) m = as_many m _ (origin_same m.regs.origin _ m (λ who. refl))
-done_more (Instruction-F.ReserveAssetDeposited list) m = as_many m _ (origin_same m.regs.origin _ m (λ who. refl))
-done_more (Instruction-F.ReceiveTeleportedAsset list) m = as_many m _ (origin_same m.regs.origin _ m (λ who. refl))
-done_more (Instruction-F.ClaimAsset list ticket) m = as_many m _ (origin_same m.regs.origin _ m (λ who. claimed_same m.part list who))
-done_more (Instruction-F.QueryResponse query answer weight querier) m = as_many m _ (origin_same m.regs.origin _ m (λ who. answered_same m.part who query))
-done_more (Instruction-F.TransferAsset list who) m = as_many m _ (origin_same m.regs.origin _ m (λ from. refl))
-done_more (Instruction-F.DescendOrigin path) m = as_many m _ (origin_same m.regs.origin _ m (λ who. refl))
-done_more (Instruction-F.TransferReserveAsset list dest program) m = origin_more m.regs.origin _ m (1 + sends program) (λ who. around_more (fee_to m.part dest) m _ (1 + sends program) (λ n. transferred_more n.part list who dest program))
-done_more (Instruction-F.DepositReserveAsset taken dest program) m = around_more (fee_to m.part dest) m _ (1 + sends program) (λ n. deposited_more n.part (taken_of n taken) dest program)
-done_more (Instruction-F.InitiateReserveWithdraw taken dest program) m = around_more (fee_to m.part dest) m _ (1 + sends program) (λ n. shipped_more n.part (taken_of n taken) Way.Withdrawal dest program)
-done_more (Instruction-F.InitiateTeleport taken dest program) m = around_more (fee_to m.part dest) m _ (1 + sends program) (λ n. shipped_more n.part (taken_of n taken) Way.Teleport dest program)
-done_more (Instruction-F.ReportError info) m = around_more (fee_to m.part info.destination) m _ 1 (λ n. responded_more n.part info (Response.ExecutionResult n.regs.error) n.regs.origin)
+done_more (Instruction-F.WithdrawAsset list) m =
+    as_many m (done (Instruction-F.WithdrawAsset list) m) (origin_same m.regs.origin (λ who. holding_more m (withdrawn m.part list who) (bundle_of list)) m (λ who. refl))
+done_more (Instruction-F.ClaimAsset list ticket) m =
+    as_many m (done (Instruction-F.ClaimAsset list ticket) m) (origin_same m.regs.origin (λ who. holding_more m (claimed m.part list who) (bundle_of list)) m (λ who. claimed_same m.part list who))
+done_more (Instruction-F.QueryResponse query answer weight querier) m =
+    as_many m (done (Instruction-F.QueryResponse query answer weight querier) m) (origin_same m.regs.origin (λ who. machine m.regs (answered m.part who query)) m (λ who. answered_same m.part who query))
+done_more (Instruction-F.TransferAsset list who) m =
+    as_many m (done (Instruction-F.TransferAsset list who) m) (origin_same m.regs.origin (λ from. machine m.regs (transferred m.part list from who)) m (λ from. refl))
+done_more (Instruction-F.DescendOrigin path) m =
+    as_many m (done (Instruction-F.DescendOrigin path) m) (origin_same m.regs.origin (λ who. with_registers m (record m.regs { origin = Some (descended who path) })) m (λ who. refl))
+done_more (Instruction-F.TransferReserveAsset list dest program) m =
+    origin_more m.regs.origin (λ who. done_around (fee_to m.part dest) m (λ n. machine n.regs (transferred_out n.part list who dest program))) m (1 + sends program)
+    (λ who. around_more (fee_to m.part dest) m (λ n. machine n.regs (transferred_out n.part list who dest program)) (1 + sends program) (λ n. transferred_more n.part list who dest program))
+done_more (Instruction-F.DepositReserveAsset taken dest program) m =
+    around_more (fee_to m.part dest) m (λ n. holding_left n taken (deposited_out n.part (taken_of n taken) dest program)) (1 + sends program) (λ n. deposited_more n.part (taken_of n taken) dest program)
+done_more (Instruction-F.InitiateReserveWithdraw taken dest program) m =
+    around_more (fee_to m.part dest) m (λ n. holding_left n taken (shipped n.part (taken_of n taken) Way.Withdrawal dest program)) (1 + sends program) (λ n. shipped_more n.part (taken_of n taken) Way.Withdrawal dest program)
+done_more (Instruction-F.InitiateTeleport taken dest program) m =
+    around_more (fee_to m.part dest) m (λ n. holding_left n taken (shipped n.part (taken_of n taken) Way.Teleport dest program)) (1 + sends program) (λ n. shipped_more n.part (taken_of n taken) Way.Teleport dest program)
+done_more (Instruction-F.ReportError info) m =
+    around_more (fee_to m.part info.destination) m (λ n. report_done n info (Response.ExecutionResult n.regs.error)) 1 (λ n. responded_more n.part info (Response.ExecutionResult n.regs.error) n.regs.origin)
 done_more (Instruction-F.ReportHolding info taken) m =
     around_more (fee_to m.part info.destination) m (λ n. holding_report_done n info (reported_list n info taken)) 1 (λ n. report_more n info (reported_list n info taken))
-done_more (Instruction-F.QueryPallet name info) m = around_more (fee_to m.part info.destination) m _ 1 (λ n. responded_more n.part info (Response.PalletsInfo (pallets_of n.part name)) n.regs.origin)
-done_more (Instruction-F.ReportTransactStatus info) m = around_more (fee_to m.part info.destination) m _ 1 (λ n. responded_more n.part info (Response.DispatchResult n.regs.status) n.regs.origin)
-done_more (Instruction-F.BuyExecution fees limit) m = as_many m _ (buying_same m fees limit)
-done_more Instruction-F.RefundSurplus m = as_many m _ (refund_same m (refund_now m))
-done_more _ m = as_many m _ refl
+done_more (Instruction-F.QueryPallet name info) m =
+    around_more (fee_to m.part info.destination) m (λ n. report_done n info (Response.PalletsInfo (pallets_of n.part name))) 1 (λ n. responded_more n.part info (Response.PalletsInfo (pallets_of n.part name)) n.regs.origin)
+done_more (Instruction-F.ReportTransactStatus info) m =
+    around_more (fee_to m.part info.destination) m (λ n. report_done n info (Response.DispatchResult n.regs.status)) 1 (λ n. responded_more n.part info (Response.DispatchResult n.regs.status) n.regs.origin)
+done_more (Instruction-F.BuyExecution fees limit) m = as_many m (done (Instruction-F.BuyExecution fees limit) m) (buying_same m fees limit)
+done_more Instruction-F.RefundSurplus m = as_many m (done Instruction-F.RefundSurplus m) (refund_same m (refund_now m))
+done_more l m = as_many m (done l m) refl
 
 -- ---- what is kept for later
 kept_more : (l : Instruction-F Instruction) (c d : Control) → Steers (λ p. p) l c d → sends d.handler + sends d.appendix ≤ sends c.handler + sends c.appendix + sends_inside (kept l)
@@ -384,7 +397,10 @@ sends-decided : (weight : Weight) (p : List Instruction) (o : Option Barrier) �
 sends-decided weight p None = refl
 sends-decided weight p (Some barrier) = sends-left_by weight p barrier
 
-same_ok : (a b : Admitted) → Ok {E = Outcome} a ≡ Ok b → a ≡ b
+abbrev let_in : Admitted → Result Admitted Outcome
+let_in a = Ok a
+
+same_ok : (a b : Admitted) → let_in a ≡ let_in b → a ≡ b
 same_ok a b e = cc
 
 by_barriers_sends : (weight : Weight) (d : Bool × List Instruction) (a : Admitted) → by_barriers weight d ≡ Ok a → sends a.program ≡ sends d.1
@@ -418,7 +434,7 @@ module _ (orderly : IsOrderly xcm) (rules : ChainRules) (origin : Location) wher
       executed_by_sends (admitted rules origin credit p.queries program) p (sends program) (λ a e. by_weight_sends rules origin credit p.queries program (weight_of rules.weight program) a e)
 
 -- ---- a delivery
-member_count : Member → ℕ
+abbrev member_count : Member → ℕ
 member_count m = queued m.part.channels
 
 shorter_head : (c : Outgoing) (x : Waiting) (cs : List Outgoing) → first_of c.queue ≡ Some x → queued (without_oldest c ∷ cs) + message_count x ≤ queued (c ∷ cs)
@@ -454,21 +470,24 @@ begun_same : (sender : ChainId) (cargo : Cargo) (p : ChainPart) (e : Event) → 
 unfolding told
 begun_same sender cargo p e = refl
 
+abbrev begun_part : Member → Member → Waiting → ChainPart
+begun_part s r x = told (begun (chain_of s) x.cargo r.part) (Event.Message (chain_of s) (chain_of r) x.number)
+
 module _ (orderly : IsOrderly xcm) where
-  delivered_less : (w : World) (i j : ℕ) (s r : Member) (x : Waiting) → slice_get w i ≡ Some s → slice_get w j ≡ Some r → (i ≡ j → ⊥) → option_and_then oldest (channel_to (chain_of r) s.part.channels) ≡ Some x
+  pub delivered_less : (w : World) (i j : ℕ) (s r : Member) (x : Waiting) → slice_get w i ≡ Some s → slice_get w j ≡ Some r → (i ≡ j → ⊥) → option_and_then oldest (channel_to (chain_of r) s.part.channels) ≡ Some x
       → 1 + deliveries_left (delivered w i j s r x).world ≤ deliveries_left w
   delivered_less w i j s r x is_s is_r apart waits =
-      let a = received s r x in
+      let a = run_for s r x in
       let s' = with_part (sender_after (chain_of r) a s.part) s in
       let r' = with_part (receiver_after s.part a) r in
-      let one = sum_by-set member_count w i s' s (slice_get_within w i s is_s) in
-      let get_i : get_or w i s ≡ s = get_or_from_slice_get w i s s is_s in
       let there : slice_get (slice_set w i s') j ≡ Some r = set_other w i j s' (λ e. apart (sym e)) ∙ is_r in
-      let two = sum_by-set member_count (slice_set w i s') j r' r (slice_get_within (slice_set w i s') j r there) in
-      let get_j : get_or (slice_set w i s') j r ≡ r = get_or_from_slice_get (slice_set w i s') j r r there in
-      let at_i = ap member_count get_i in
-      let at_j = ap member_count get_j in
-      let less = popped_less (leads_to (chain_of r)) s.part.channels x waits in
-      let went = executed_sends orderly r.rules (name_at (chain_of r) (chain_of s)) no_weight x.program (told (begun (chain_of s) x.cargo r.part) (Event.Message (chain_of s) (chain_of r) x.number)) in
-      let start = ap queued (begun_same (chain_of s) x.cargo r.part (Event.Message (chain_of s) (chain_of r) x.number)) in
-      omega (arith, one, two, at_i, at_j, less, went, start)
+      let one : deliveries_left (slice_set w i s') + member_count (get_or w i s) ≡ deliveries_left w + member_count s' = sum_by-set member_count w i s' s (slice_get_within w i s is_s) in
+      let two : deliveries_left (slice_set (slice_set w i s') j r') + member_count (get_or (slice_set w i s') j r) ≡ deliveries_left (slice_set w i s') + member_count r' =
+      sum_by-set member_count (slice_set w i s') j r' r (slice_get_within (slice_set w i s') j r there) in
+      let at_i : member_count (get_or w i s) ≡ queued s.part.channels = ap member_count (get_or_from_slice_get w i s s is_s) in
+      let at_j : member_count (get_or (slice_set w i s') j r) ≡ queued r.part.channels = ap member_count (get_or_from_slice_get (slice_set w i s') j r r there) in
+      let less : member_count s' + message_count x ≤ queued s.part.channels = popped_less (leads_to (chain_of r)) s.part.channels x waits in
+      let start : queued (begun_part s r x).channels ≡ queued r.part.channels = ap queued (begun_same (chain_of s) x.cargo r.part (Event.Message (chain_of s) (chain_of r) x.number)) in
+      let went : member_count r' ≤ queued (begun_part s r x).channels + sends x.program = executed_sends orderly r.rules (name_at (chain_of r) (chain_of s)) no_weight x.program (begun_part s r x) in
+      let end : 1 + deliveries_left (slice_set (slice_set w i s') j r') ≤ deliveries_left w = omega (arith, one, two, at_i, at_j, less, went, start) in
+      end

@@ -74,8 +74,8 @@ abbrev pub without_message : ChainId → ChainPart → ChainPart
 without_message to p = record p { channels = popped to p.channels }
 
 -- the receiver runs it for the sender's location, without credit
-abbrev pub received : Member → Member → Waiting → Acted
-received sender receiver w =
+abbrev pub run_for : Member → Member → Waiting → Acted
+run_for sender receiver w =
     acted receiver.rules (name_at (chain_of receiver) (chain_of sender)) no_weight w.program
     (told (begun (chain_of sender) w.cargo receiver.part) (Event.Message (chain_of sender) (chain_of receiver) w.number))
 
@@ -88,7 +88,7 @@ receiver_after sender a = record a.part { events = a.part.events ++ lost_lines (
 
 abbrev pub delivered : World → ℕ → ℕ → Member → Member → Waiting → Stepped
 delivered w from to sender receiver message =
-    let a = received sender receiver message in
+    let a = run_for sender receiver message in
     let q = receiver_after sender.part a in
     record {
       answer = StepResult.Ran a.outcome;
