@@ -1,8 +1,7 @@
 -- A drain ends with no message waiting, after as many deliveries at most as there may be.
-use Rattle.std.proofs.Common.{◌≡◌, ◌≢◌, ℕ, zero, suc, ◌+◌, ◌≤◌, Bool, true, false, List, [], ◌∷◌, length, Option, Some, None, refl, sym, ap, ◌∙◌, subst, arith, get_or}
+use Rattle.std.proofs.Common.{◌≡◌, ℕ, zero, suc, ◌+◌, ◌≤◌, true, false, List, [], ◌∷◌, length, Option, Some, None, refl, sym, ap, ◌∙◌, subst, arith, get_or}
 use Rattle.std.specs.Prelude.{if◌then◌else◌, find, is_some, slice_get, option_and_then}
 use Rattle.std.specs.Option.{option_map_or}
-use Rattle.std.specs.List.{AllByRecursion}
 use Rattle.std.proofs.lemmas.List.Quantifiers.{position-Some}
 use Rattle.std.proofs.lemmas.Option.{get_or_from_slice_get}
 use Rattle.chain_ids.specs.declared.chain.ChainId.{ChainId}
@@ -15,7 +14,7 @@ use Rattle.exec_rules.specs.Instructions.{xcm}
 use Rattle.network_steps.specs.declared.step_result.StepResult.{StepResult}
 use Rattle.network_steps.specs.Worlds.{Member, chain_of, World, place_of, Stepped, unchanged}
 use Rattle.network_steps.specs.Sends.{deliveries_left}
-use Rattle.network_steps.specs.Steps.{delivered, delivery_of, deliver, Link, waiting, waits, next_channel, deliveries, drain, world_behind}
+use Rattle.network_steps.specs.Steps.{delivered, delivery_of, deliver, Link, waiting, waits, next_channel, deliveries, world_behind}
 use Rattle.network_steps.specs.Drains.{AreApart}
 use Rattle.network_steps.proofs.Stillness.{between_says, between_at}
 use Rattle.network_steps.proofs.Sends.{delivered_less}
@@ -100,7 +99,7 @@ module _ (orderly : IsOrderly xcm) where
       ] refl
   drained (suc n) order w apart few =
       elim (next_channel order w) as (λ o. next_channel order w ≡ o
-          → next_channel order (world_behind w (option_map_or (λ (link : Link). (link, deliver w link.0 link.1) ∷ deliveries n order (deliver w link.0 link.1).world) o [])) ≡ None) [
+      → next_channel order (world_behind w (option_map_or (λ (link : Link). (link, deliver w link.0 link.1) ∷ deliveries n order (deliver w link.0 link.1).world) o [])) ≡ None) [
         | None ↦ λ e. e
         | Some link ↦ λ e. let less = next_lowers order w link apart e in drained n order (deliver w link.0 link.1).world apart (omega (arith, less, few))
       ] refl

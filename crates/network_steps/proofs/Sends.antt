@@ -42,9 +42,9 @@ use Rattle.exec_base.specs.declared.registers.Registers.{Registers}
 use Rattle.exec_base.specs.Part.{ChainPart}
 use Rattle.exec_base.specs.Sending.{sent, led_by, deposit_program, away_program, listed_program}
 use Rattle.exec_base.specs.Sending as sending_to
-use Rattle.exec_base.specs.Host.{withdrawn, deposited, transferred, received, transferred_out, deposited_out, raised_for, shipped, seen_from, querier_seen, report_program, responded, answered, bought, refunded, joined, booked, burnt, claimed, is_trap, is_query, trapped, settled, fee_to, fee_held, fee_taken, fee_kept, fee_drawn, told}
+use Rattle.exec_base.specs.Host.{withdrawn, deposited, transferred, received, transferred_out, deposited_out, raised_for, shipped, seen_from, querier_seen, report_program, responded, answered, bought, refunded, joined, booked, burnt, claimed, is_trap, is_query, trapped, settled, fee_to, fee_held, fee_kept, fee_drawn, told}
 use Rattle.exec_run.specs.Machine.{Machine, machine, Control, control_of, Steers, IsOrderly}
-use Rattle.exec_run.specs.Run.{Stage, At, Ended, begin, to_appendix, to_handler, go_on, failed, without_handler, without_appendix, handler_dropped, traced, by_answer, next, steps, machine_of, left_after, run, still_to_run}
+use Rattle.exec_run.specs.Run.{Stage, At, Ended, begin, to_appendix, to_handler, go_on, failed, without_appendix, handler_dropped, traced, by_answer, next, steps, machine_of, left_after, run, still_to_run}
 use Rattle.exec_run.specs.Outcome.{owner_of, end_event, end_told, refund_surplus, refunded_last, finished}
 use Rattle.exec_rules.specs.Holdings.{at_origin, holding_more, holding_left, taken_of, payment_of, buying_done, refund_now, refund_done}
 use Rattle.exec_rules.specs.Fees.{after_fee, done_around}

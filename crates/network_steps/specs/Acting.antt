@@ -1,6 +1,6 @@
 -- What a chain does with a program, and what a sender does with a cargo that didn't land. Source: xcm-executor's documentation; the cargo
 -- and the burns of lost teleports are this project's own rule.
-use Rattle.std.specs.Prelude.{ℕ, List, [], ◌∷◌, ◌++◌, None}
+use Rattle.std.specs.Prelude.{ℕ, List, [], ◌∷◌, None}
 use Rattle.amounts.specs.Amounts.{empty}
 use Rattle.asset_bundles.specs.Bundles.{Bundle}
 use Rattle.asset_bundles.specs.Books.{Booked, burned_for}

@@ -1,5 +1,5 @@
 -- How many deliveries there may still be: one for each message that waits, and one for each that may yet be sent. This project's own rule.
-use Rattle.std.specs.Prelude.{◌≡◌, ℕ, ◌+◌, List, [], ◌∷◌, sum_by}
+use Rattle.std.specs.Prelude.{ℕ, ◌+◌, List, sum_by}
 use Rattle.xcm_program.specs.Measure.{sends}
 use Rattle.channel_parts.specs.Channels.{Waiting, Outgoing}
 use Rattle.network_steps.specs.Worlds.{Member, World}

@@ -3,7 +3,7 @@
 --   member     a chain of the network: how it runs programs, and its part of the world
 --   world      the members, in the order of the network document
 --   stepped    what a step leaves: its answer, its trace, and the next world
-use Rattle.std.specs.Prelude.{◌≡◌, ℕ, Bool, List, [], Option, Some, None, map, slice_get, slice_set}
+use Rattle.std.specs.Prelude.{ℕ, List, [], Option, map}
 use Rattle.std.specs.List.{position}
 use Rattle.chain_ids.specs.declared.chain.ChainId.{ChainId}
 use Rattle.chain_ids.specs.Chains.{same_chain}

@@ -1,10 +1,6 @@
-use Rattle.std.proofs.Common.{◌≡◌, List, ℕ, Ok, subst, arith}
+use Rattle.std.proofs.Common.{subst, arith}
 use Rattle.std.specs.Prelude.{MatchResult}
-use Rattle.xcm_program.specs.declared.instruction.Instruction.{Instruction}
-use Rattle.xcm_format.specs.Messages.{IsReadable}
-use Rattle.xcm_format.specs.Writable.{IsWritable}
 use Rattle.versioned_xcm.specs.Message.{IsDecoded, IsCause}
-use Rattle.exec_base.specs.Sending.{IsForwardable}
 use Rattle.network_steps.proofs.laws.law_of_decoded_programs.Goals as goal
 
 pub returns : goal.returns
