@@ -11,7 +11,7 @@ use xcm_program::Program;
 
 /// A chain, as a program of instructions sees it. Each call answers as its rule says, all or nothing, or memory is refused and the part is as it was.
 pub trait Host {
-    ghost use Rattle.std.specs.Prelude.{◌≡◌, ◌<◌, length, is_some, None, [], ◌∷◌, IfSome, OnOk};
+    ghost use Rattle.std.specs.Prelude.{◌≡◌, ◌<◌, ◌≤◌, length, is_some, None, [], ◌∷◌, IfSome, OnOk};
     ghost use Rattle.std.specs.Option.{option_copied};
     ghost use Rattle.amounts.specs.Amounts.{empty, rows};
     ghost use Rattle.asset_bundles.specs.Bundles.{bundle_of};
@@ -31,9 +31,10 @@ pub trait Host {
     fn site(&self) -> &Site
         ensures { result.now ≡ (part self.now).site };
 
-    /// The chain's pallets, in listed order.
+    /// The chain's pallets, in listed order, at most 64: so many a report can tell of.
     fn pallets(&self) -> &[PalletInfo]
-        ensures { result.now ≡ (part self.now).pallets };
+        ensures same { result.now ≡ (part self.now).pallets }
+        ensures few { length (part self.now).pallets ≤ 64 };
 
     /// The chain's open queries.
     fn open(&self) -> &[OpenQuery]
