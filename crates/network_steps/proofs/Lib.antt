@@ -1,3 +1,5 @@
 pub mod Stillness
 pub mod Sends
 pub mod Drains
+pub mod Settings
+pub mod Keeping

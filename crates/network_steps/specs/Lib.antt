@@ -4,3 +4,4 @@ pub mod Sends
 pub mod Steps
 pub mod Still
 pub mod Drains
+pub mod Settings

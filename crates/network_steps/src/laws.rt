@@ -8,6 +8,7 @@ ghost use Rattle.xcm_program.specs.declared.instruction.Instruction.{Instruction
 ghost use Rattle.network_steps.specs.Worlds.{World, place_of};
 ghost use Rattle.network_steps.specs.Sends.{deliveries_left};
 ghost use Rattle.network_steps.specs.Steps.{exec, deliver, claim, Link, waiting, next_channel, drain, world_behind};
+ghost use Rattle.network_steps.specs.Settings.{all_settings};
 ghost use Rattle.network_steps.specs.Still.{IsStill};
 ghost use Rattle.network_steps.specs.Drains.{AreApart};
 
@@ -47,3 +48,11 @@ pub fn law_of_drains()
 {
     law_of_rules();
 }
+
+/// No step changes what the network document says: how each chain runs programs, where it stands, what it lists, its pallets, its fee
+/// account, and its channels.
+pub fn law_of_settings()
+    ensures exec { (w : World) (chain : ChainId) (account bytes : List ℕ) → all_settings (exec w chain account bytes).world ≡ all_settings w }
+    ensures deliver { (w : World) (from to : ChainId) → all_settings (deliver w from to).world ≡ all_settings w }
+    ensures claim { (w : World) (from to : ChainId) (bytes : List ℕ) → all_settings (claim w from to bytes).world ≡ all_settings w }
+{}
