@@ -1,0 +1,3 @@
+pub mod Holding
+pub mod Charging
+pub mod Laws
