@@ -1,0 +1,98 @@
+//! The execution of a program: admission, the run, and its end.
+ghost use Rattle.std.specs.Prelude.{◌≡◌, Ok, IfOk, OnOk, OnErr};
+ghost use Rattle.exec_base.specs.Sending.{IsForwardable};
+ghost use Rattle.exec_rules.specs.Readiness.{IsAtRest};
+ghost use Rattle.exec_admission.specs.Admission.{IsWeighed};
+ghost use Rattle.exec_admission.specs.Execution.{started, executed_by, AbandonedIn, executed, IsAbandoned};
+
+use crate::ending::{abandon, close};
+use crate::running::run_all;
+use crate::taking::no_program;
+use crate::weights::NOTHING;
+use asset_bundles::AssetBundle;
+use exec_admission::{Admitted, ChainRules, admit, law_of_admission};
+use exec_base::{Host, Registers};
+use exec_rules::{law_of_readiness, law_of_rules};
+use locations::Location;
+use message_parts::{MaybeError, Weight};
+use std::alloc::{AllocError, Global};
+use xcm_program::{Outcome, Program};
+
+/// The registers as a run begins.
+fn start(alloc: Global, rules: &ChainRules, origin: &Location) -> Registers
+    ensures { result ≡ started rules.now origin.now }
+{
+    Registers {
+        holding: AssetBundle::empty(alloc),
+        origin: Some(origin.copy()),
+        original: origin.copy(),
+        error: None,
+        handler: no_program(alloc),
+        handler_weight: NOTHING,
+        appendix: no_program(alloc),
+        appendix_weight: NOTHING,
+        topic: None,
+        status: MaybeError::Success,
+        surplus: NOTHING,
+        refunded: NOTHING,
+        fees_mode: false,
+        rule: rules.weight,
+        max_holding: rules.max_holding,
+    }
+}
+
+/// Runs an admitted program to its end.
+fn run_admitted<H: Host>(
+    alloc: Global,
+    rules: &ChainRules,
+    origin: &Location,
+    admitted: Admitted,
+    h: &mut H,
+) -> Result<(Outcome, bool), AllocError>
+    requires weighed { IsWeighed rules.now.weight admitted }
+    requires forwardable { IsForwardable admitted.program }
+    requires rest { IsAtRest (H.part h.old) }
+    ensures ok { IfOk result (λ answer. (answer, H.part h.new) ≡ executed_by rules.now origin.now (Ok admitted) (H.part h.old)) }
+    ensures rests { OnOk result (IsAtRest (H.part h.new)) }
+    ensures err { OnErr result (AbandonedIn rules.now origin.now admitted (H.part h.old) (H.part h.new)) }
+{
+    law_of_admission(); // For the prover alone, as the next two lines.
+    law_of_readiness();
+    law_of_rules();
+    let Admitted { program, weight } = admitted;
+    let mut registers = start(alloc, rules, origin);
+    match run_all(alloc, program, &mut registers, h) {
+        Ok(began) => {
+            let outcome = close(alloc, weight, registers, h)?;
+            Ok((outcome, began))
+        }
+        Err(fault) => {
+            abandon(registers, h);
+            Err(fault)
+        }
+    }
+}
+
+/// Executes a program for an origin, on a chain between two runs; its instructions must be such as may be sent. The answer is the outcome,
+/// and whether the first instruction ran and succeeded. `Err` is out of memory alone: then the chain is left where the run was stopped, and
+/// what was held is parked.
+pub fn execute<H: Host>(
+    alloc: Global,
+    origin: &Location,
+    program: Program,
+    rules: &ChainRules,
+    credit: Weight,
+    h: &mut H,
+) -> Result<(Outcome, bool), AllocError>
+    requires forwardable { IsForwardable program }
+    requires rest { IsAtRest (H.part h.old) }
+    ensures ok { IfOk result (λ answer. (answer, H.part h.new) ≡ executed rules.now origin.now credit program (H.part h.old)) }
+    ensures rests { OnOk result (IsAtRest (H.part h.new)) }
+    ensures err { OnErr result (IsAbandoned rules.now origin.now credit program (H.part h.old) (H.part h.new)) }
+{
+    law_of_admission(); // For the prover alone.
+    match admit(rules, origin, program, credit, h.open()) {
+        Err(outcome) => Ok((outcome, false)),
+        Ok(admitted) => run_admitted(alloc, rules, origin, admitted, h),
+    }
+}
