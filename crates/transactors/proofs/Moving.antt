@@ -1,0 +1,219 @@
+-- What is refused to an account, and where there is none.
+use Rattle.std.proofs.Common.{◌≡◌, ℕ, ◌+◌, ◌<◌, zero, suc, Bool, true, false, ◌||◌, not, if◌then◌else◌, List, [], ◌∷◌, length, get_or, drop, refl, sym, ap, ◌∙◌, subst, true≢false}
+use Rattle.std.specs.Prelude.{Option, None, Some, is_some, IsSomeAnd, slice_get, Result, Ok, Err}
+use Rattle.std.specs.List.{list_all}
+use Rattle.std.proofs.lemmas.Bool.{and_from, and_parts}
+use Rattle.std.proofs.lemmas.List.{drop_more}
+use Rattle.amounts.specs.Amounts.{amount}
+use Rattle.locations.specs.declared.relative.Location.{Location}
+use Rattle.asset_lists.specs.declared.units.Asset.{Asset}
+use Rattle.asset_lists.specs.Units.{unit_of}
+use Rattle.asset_lists.specs.Listed.{Listed, listed_of, lists}
+use Rattle.trust_tables.specs.declared.chains.Site.{Site}
+use Rattle.trust_tables.specs.declared.rows.AssetRow.{AssetRow}
+use Rattle.trust_tables.specs.Accounts.{account_of}
+use Rattle.trust_tables.specs.Trust.{row_of, listed_row}
+use Rattle.trust_tables.specs.TrustLaws.{row_found}
+use Rattle.ledgers.specs.Ledgers.{Held, Accounts, shortage, barred, is_barred, Withdrawn}
+use Rattle.ledgers.specs.LedgerFaults.{IsBarred, IsTransferBar}
+use Rattle.ledgers.specs.declared.faults.DepositFault.{DepositFault}
+use Rattle.ledgers.specs.declared.faults.TransferFault.{TransferFault}
+use Rattle.transactors.specs.declared.faults.MoveFault.{MoveFault}
+use Rattle.transactors.specs.declared.faults.MoveFault.TheVariants.{NotHandled, NoAccount, Refused, Memory}
+use Rattle.transactors.specs.Checks.{accepted, is_unhandled, lacks, account_fault, move_fault, check_in, check_out}
+use Rattle.transactors.specs.Moves.{or_fault, first_fault, are_listed, Moves}
+
+-- ---- answers
+fault_told : Result (Unit {0}) MoveFault → Option MoveFault
+fault_told (Ok done) = None
+fault_told (Err fault) = Some fault
+
+told_back : (o : Option MoveFault) → fault_told (accepted o) ≡ o
+unfolding fault_told
+told_back None = refl
+told_back (Some fault) = refl
+
+pub fault_is : (o : Option MoveFault) (fault : MoveFault) → Err fault ≡ accepted o → o ≡ Some fault
+unfolding fault_told
+fault_is o fault is = sym (told_back o) ∙ ap fault_told (sym is)
+
+pub none_is : (o : Option MoveFault) (done : Unit {0}) → Ok done ≡ accepted o → o ≡ None
+unfolding fault_told
+none_is o done is = sym (told_back o) ∙ ap fault_told (sym is)
+
+pub accepted_in : (x y : Option MoveFault) → x ≡ y → accepted x ≡ accepted y
+accepted_in x y same = ap accepted same
+
+-- ---- the first fault
+pub both_none : (x rest : Option MoveFault) → or_fault x rest ≡ None → (x ≡ None) × (rest ≡ None)
+both_none None rest h = (refl, h)
+both_none (Some fault) rest h = absurd (cc)
+
+pub passed_first : (x rest : Option MoveFault) → x ≡ None → or_fault x rest ≡ rest
+passed_first x rest h = ap (λ r. or_fault r rest) h
+
+pub refused_first : (x rest : Option MoveFault) (fault : MoveFault) → x ≡ Some fault → or_fault x rest ≡ Some fault
+refused_first x rest fault h = ap (λ r. or_fault r rest) h
+
+handled_and : (b : Bool) (account : Option (List ℕ)) (refused : List ℕ → Bool) → move_fault b account refused ≡ None → (b ≡ true) × (account_fault account refused ≡ None)
+handled_and true account refused h = (refl, h)
+handled_and false account refused h = absurd (cc)
+
+nobody : (account : Option (List ℕ)) (refused : List ℕ → Bool) → account ≡ None → account_fault account refused ≡ None → ⊥
+nobody account refused none h = (let e : Some NoAccount ≡ None = ap (λ o. account_fault o refused) (sym none) ∙ h in absurd (cc))
+
+-- without an account only nothing is moved
+pub nobody_gives : (rows : List AssetRow) (site : Site) (held : Held) (who : Location) (list : List Asset) → account_of who site ≡ None → first_fault (check_out rows site held who) list ≡ None → list ≡ []
+nobody_gives rows site held who [] none h = refl
+nobody_gives rows site held who (a ∷ rest) none h =
+    absurd (nobody (account_of who site) (λ account. lacks held account a) none (handled_and (is_some (row_of rows a)) (account_of who site) (λ account. lacks held account a) (both_none _ _ h).0).1)
+
+pub nobody_takes : (rows : List AssetRow) (site : Site) (held : Held) (who : Location) (list : List Asset) → account_of who site ≡ None → first_fault (check_in rows site held who) list ≡ None → list ≡ []
+nobody_takes rows site held who [] none h = refl
+nobody_takes rows site held who (a ∷ rest) none h =
+    absurd (nobody (account_of who site) (λ account. is_barred held account a) none (handled_and (is_some (row_of rows a)) (account_of who site) (λ account. is_barred held account a) (both_none _ _ h).0).1)
+
+-- without an account it doesn't matter what is held
+fault_anyhow : (account : Option (List ℕ)) (x y : List ℕ → Bool) → account ≡ None → account_fault account x ≡ account_fault account y
+fault_anyhow account x y none = ap (λ o. account_fault o x) none ∙ sym (ap (λ o. account_fault o y) none)
+
+pub in_anyhow : (rows : List AssetRow) (site : Site) (held other : Held) (who : Location) (list : List Asset) → account_of who site ≡ None
+    → first_fault (check_in rows site held who) list ≡ first_fault (check_in rows site other who) list
+in_anyhow rows site held other who [] none = refl
+in_anyhow rows site held other who (a ∷ rest) none =
+    λ i. or_fault (if is_some (row_of rows a) then fault_anyhow (account_of who site) (λ account. is_barred held account a) (λ account. is_barred other account a) none i else Some NotHandled)
+    (in_anyhow rows site held other who rest none i)
+
+-- ---- an account that can give all
+no_lack : (b : Bool) (who : List ℕ) (account : Option (List ℕ)) (refused : List ℕ → Bool) → account ≡ Some who → account_fault account refused ≡ None → refused who ≡ false
+no_lack b who account refused is h =
+    (let e : (if refused who then Some Refused else None) ≡ None = ap (λ o. account_fault o refused) (sym is) ∙ h in
+    elim (refused who) as (λ t. (if t then Some Refused else None) ≡ None → t ≡ false) [
+      | true ↦ λ g. absurd (cc)
+      | false ↦ λ g. refl
+    ] e)
+
+pub enough_given : (rows : List AssetRow) (site : Site) (held : Held) (from : Location) (who : List ℕ) (list : List Asset) → account_of from site ≡ Some who
+    → first_fault (check_out rows site held from) list ≡ None → shortage held who list ≡ None
+enough_given rows site held from who [] is h = refl
+enough_given rows site held from who (a ∷ rest) is h =
+    let parts = both_none _ _ h in
+    let here = handled_and (is_some (row_of rows a)) (account_of from site) (λ account. lacks held account a) parts.0 in
+    let has = no_lack true who (account_of from site) (λ account. lacks held account a) is here.1 in
+    ap (λ b. if b then Some (amount held (who, unit_of a)) else shortage held who rest) has ∙ enough_given rows site held from who rest is parts.1
+
+pub rows_given : (rows : List AssetRow) (site : Site) (held : Held) (who : Location) (list : List Asset) → first_fault (check_out rows site held who) list ≡ None → list_all (λ a. is_some (row_of rows a)) list ≡ true
+rows_given rows site held who [] h = refl
+rows_given rows site held who (a ∷ rest) h =
+    let parts = both_none _ _ h in
+    and_from _ _ (handled_and (is_some (row_of rows a)) (account_of who site) (λ account. lacks held account a) parts.0).0 (rows_given rows site held who rest parts.1)
+
+pub rows_taken : (rows : List AssetRow) (site : Site) (held : Held) (who : Location) (list : List Asset) → first_fault (check_in rows site held who) list ≡ None → list_all (λ a. is_some (row_of rows a)) list ≡ true
+rows_taken rows site held who [] h = refl
+rows_taken rows site held who (a ∷ rest) h =
+    let parts = both_none _ _ h in
+    and_from _ _ (handled_and (is_some (row_of rows a)) (account_of who site) (λ account. is_barred held account a) parts.0).0 (rows_taken rows site held who rest parts.1)
+
+-- ---- what has a row is listed
+row_there : (o : Option AssetRow) → is_some o ≡ true → (row : AssetRow) × (o ≡ Some row)
+row_there None h = absurd (cc)
+row_there (Some row) h = (row, refl)
+
+listed_at : (listed : List Listed) (rows : List AssetRow) (i : ℕ) (row : AssetRow) → are_listed listed rows ≡ true → slice_get rows i ≡ Some row → lists listed (listed_row row) ≡ true
+listed_at listed [] i row all at = absurd (cc)
+listed_at listed (r ∷ rows) zero row all at = (let same : r ≡ row = cc in ap (λ x. lists listed (listed_row x)) (sym same) ∙ (and_parts (lists listed (listed_row r)) (are_listed listed rows) all).0)
+listed_at listed (r ∷ rows) (suc i) row all at = listed_at listed rows i row (and_parts (lists listed (listed_row r)) (are_listed listed rows) all).1 at
+
+is_listed : (listed : List Listed) (rows : List AssetRow) (a : Asset) → are_listed listed rows ≡ true → is_some (row_of rows a) ≡ true → lists listed (listed_of (unit_of a)) ≡ true
+is_listed listed rows a all some =
+    let there = row_there (row_of rows a) some in
+    let found = row_found rows a there.0 there.1 in
+    ap (lists listed) (λ i. (found.2.0 i, found.2.1 i)) ∙ listed_at listed rows found.0 there.0 all found.1
+
+pub all_listed : (listed : List Listed) (rows : List AssetRow) (list : List Asset) → are_listed listed rows ≡ true → list_all (λ a. is_some (row_of rows a)) list ≡ true → list_all (λ a. lists listed (listed_of (unit_of a))) list ≡ true
+all_listed listed rows [] all h = refl
+all_listed listed rows (a ∷ rest) all h =
+    let parts = and_parts (is_some (row_of rows a)) (list_all (λ b. is_some (row_of rows b)) rest) h in
+    and_from _ _ (is_listed listed rows a all parts.0) (all_listed listed rows rest all parts.1)
+
+-- ---- where each has a row, the receiver refuses exactly where the ledger bars it
+refused_if : Option Asset → Option MoveFault
+refused_if None = None
+refused_if (Some a) = Some Refused
+
+take_here : (row bar : Bool) (a : Asset) (rest : Option MoveFault) (found : Option Asset) → row ≡ true → rest ≡ refused_if found
+    → or_fault (if row then (if bar then Some Refused else None) else Some NotHandled) rest ≡ refused_if (if bar then Some a else found)
+unfolding refused_if
+take_here true true a rest found h e = refl
+take_here true false a rest found h e = e
+take_here false bar a rest found h e = absurd (true≢false (sym h))
+
+refused_as_barred : (rows : List AssetRow) (site : Site) (held : Held) (who : Location) (to : List ℕ) (list : List Asset) → account_of who site ≡ Some to → list_all (λ a. is_some (row_of rows a)) list ≡ true
+    → first_fault (check_in rows site held who) list ≡ refused_if (barred held to list)
+unfolding refused_if
+refused_as_barred rows site held who to [] is h = refl
+refused_as_barred rows site held who to (a ∷ rest) is h =
+    let parts = and_parts (is_some (row_of rows a)) (list_all (λ b. is_some (row_of rows b)) rest) h in
+    ap (λ o. or_fault (if is_some (row_of rows a) then account_fault o (λ account. is_barred held account a) else Some NotHandled) (first_fault (check_in rows site held who) rest)) is
+    ∙ take_here (is_some (row_of rows a)) (is_barred held to a) a (first_fault (check_in rows site held who) rest) (barred held to rest) parts.0 (refused_as_barred rows site held who to rest is parts.1)
+
+pub taker_free : (rows : List AssetRow) (site : Site) (held : Held) (who : Location) (to : List ℕ) (list : List Asset) → account_of who site ≡ Some to → list_all (λ a. is_some (row_of rows a)) list ≡ true → barred held to list ≡ None
+    → first_fault (check_in rows site held who) list ≡ None
+unfolding refused_if
+taker_free rows site held who to list is all free = refused_as_barred rows site held who to list is all ∙ ap refused_if free
+
+some_refused : (P : Asset → Type 0) (o : Option Asset) → IsSomeAnd o P → refused_if o ≡ Some Refused
+unfolding refused_if
+some_refused P None h = absurd h
+some_refused P (Some a) h = refl
+
+pub taker_barred : (rows : List AssetRow) (site : Site) (ledger : Accounts) (who : Location) (from to : List ℕ) (list : List Asset) (have : ℕ) → account_of who site ≡ Some to → list_all (λ a. is_some (row_of rows a)) list ≡ true
+    → IsTransferBar ledger from to list (TransferFault.Overflow have) → first_fault (check_in rows site (Withdrawn from list ledger).held who) list ≡ Some Refused
+taker_barred rows site ledger who from to list have is all bar =
+    refused_as_barred rows site (Withdrawn from list ledger).held who to list is all
+    ∙ some_refused (λ a. IsBarred (Withdrawn from list ledger).held to a (DepositFault.Overflow have)) (barred (Withdrawn from list ledger).held to list) bar.1
+
+-- ---- one transactor behind another
+account_decides : (account : Option (List ℕ)) (refused : List ℕ → Bool) → is_unhandled (accepted (account_fault account refused)) ≡ false
+account_decides None refused = refl
+account_decides (Some who) refused =
+    elim (refused who) as (λ t. is_unhandled (accepted (if t then Some Refused else None)) ≡ false) [
+      | true ↦ refl
+      | false ↦ refl
+    ]
+
+pub later : (first second : Bool) (account : Option (List ℕ)) (refused : List ℕ → Bool) → is_unhandled (accepted (move_fault first account refused)) ≡ true
+    → move_fault second account refused ≡ move_fault (first || second) account refused
+later true second account refused h = absurd (true≢false (sym h ∙ account_decides account refused))
+later false second account refused h = refl
+
+pub sooner : (first second : Bool) (account : Option (List ℕ)) (refused : List ℕ → Bool) → is_unhandled (accepted (move_fault first account refused)) ≡ false
+    → move_fault first account refused ≡ move_fault (first || second) account refused
+sooner true second account refused h = refl
+sooner false second account refused h = absurd (true≢false h)
+
+-- ---- steps of the code
+pub free : (o : Option MoveFault) (r : Result (Unit {0}) MoveFault) → ((f : MoveFault) → r ≡ Err f → ⊥) → r ≡ accepted o → o ≡ None
+free None r not is = refl
+free (Some f) r not is = absurd (not f is)
+
+pub none_if : {A : Type 0} (o : Option A) → ((x : A) → o ≡ Some x → ⊥) → o ≡ None
+none_if None h = refl
+none_if (Some x) h = absurd (h x refl)
+
+pub stops : (check : Asset → Option MoveFault) (xs : List Asset) (i : ℕ) (a : Asset) (fault : MoveFault) → i < length xs → a ≡ get_or xs i a → check a ≡ Some fault
+    → first_fault check xs ≡ first_fault check (drop i xs) → first_fault check xs ≡ Some fault
+stops check xs i a fault inside at is so_far =
+    so_far ∙ ap (first_fault check) (drop_more xs i a inside)
+    ∙ refused_first (check (get_or xs i a)) (first_fault check (drop (i + 1) xs)) fault (ap check (sym at) ∙ is)
+
+-- what a check answers, as a refused move
+pub refuses : (o : Option MoveFault) (r : Result (Unit {0}) MoveFault) (after before : Accounts) → r ≡ accepted o → (o ≡ None → before ≡ after) → Moves o tt after before r before
+refuses None r after before is same = subst (λ x. Moves None tt after before x before) (sym is) (refl, refl, same refl)
+refuses (Some NotHandled) r after before is same = subst (λ x. Moves (Some NotHandled) tt after before x before) (sym is) (refl, refl)
+refuses (Some NoAccount) r after before is same = subst (λ x. Moves (Some NoAccount) tt after before x before) (sym is) (refl, refl)
+refuses (Some Refused) r after before is same = subst (λ x. Moves (Some Refused) tt after before x before) (sym is) (refl, refl)
+refuses (Some Memory) r after before is same = subst (λ x. Moves (Some Memory) tt after before x before) (sym is) refl
+
+pub none_some : {A : Type 0} {x : A} → None ≡ Some x → ⊥
+none_some h = absurd (cc)

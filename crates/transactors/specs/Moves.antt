@@ -1,0 +1,75 @@
+-- Why a list isn't moved, and the ledger that a move leaves. Source: xcm-executor's asset transactors; that a list is moved whole or not at
+-- all, and the order in which its assets are looked at, are this project's own rule.
+use Rattle.std.specs.Prelude.{◌≡◌, ℕ, Bool, List, [], ◌∷◌, Option, Some, None, Result, Ok, Err}
+use Rattle.std.specs.List.{list_all}
+use Rattle.locations.specs.declared.relative.Location.{Location}
+use Rattle.asset_lists.specs.declared.units.Asset.{Asset}
+use Rattle.asset_lists.specs.Listed.{Listed, lists}
+use Rattle.asset_bundles.specs.Bundles.{Bundle, bundle_of, held_assets}
+use Rattle.ledgers.specs.Ledgers.{Accounts, Withdrawn, Deposited}
+use Rattle.trust_tables.specs.declared.chains.Site.{Site}
+use Rattle.trust_tables.specs.declared.rows.AssetRow.{AssetRow}
+use Rattle.trust_tables.specs.Trust.{listed_row}
+use Rattle.trust_tables.specs.Accounts.{account_of}
+use Rattle.transactors.specs.declared.faults.MoveFault.{MoveFault}
+use Rattle.transactors.specs.declared.faults.MoveFault.TheVariants.{NotHandled, NoAccount, Refused, Memory}
+use Rattle.transactors.specs.Checks.{check_in, check_out}
+
+-- each of these rows is listed
+abbrev pub are_listed : List Listed → List AssetRow → Bool
+are_listed listed rows = list_all (λ row. lists listed (listed_row row)) rows
+
+-- ---- faults
+
+abbrev pub or_fault : Option MoveFault → Option MoveFault → Option MoveFault
+or_fault None next = next
+or_fault (Some fault) next = Some fault
+
+-- the first asset in order that is refused decides
+abbrev pub first_fault : (Asset → Option MoveFault) → List Asset → Option MoveFault
+first_fault check [] = None
+first_fault check (a ∷ rest) = or_fault (check a) (first_fault check rest)
+
+abbrev pub withdraw_fault : List AssetRow → Site → Accounts → List Asset → Location → Option MoveFault
+withdraw_fault rows site ledger list who = first_fault (check_out rows site ledger.held who) list
+
+abbrev pub deposit_fault : List AssetRow → Site → Accounts → Bundle → Location → Option MoveFault
+deposit_fault rows site ledger goods who = first_fault (check_in rows site ledger.held who) (held_assets goods)
+
+-- ---- what a move leaves. Where there is no account, nothing was moved
+
+abbrev pub at_account : Option (List ℕ) → (List ℕ → Accounts) → Accounts → Accounts
+at_account None change ledger = ledger
+at_account (Some who) change ledger = change who
+
+abbrev pub withdrawn : Site → List Asset → Location → Accounts → Accounts
+withdrawn site list who ledger = at_account (account_of who site) (λ account. Withdrawn account list ledger) ledger
+
+abbrev pub deposited : Site → Bundle → Location → Accounts → Accounts
+deposited site goods who ledger = at_account (account_of who site) (λ account. Deposited account goods ledger) ledger
+
+-- the giving, and then the taking
+abbrev pub transferred : Site → List Asset → Location → Location → Accounts → Accounts
+transferred site list from to ledger = deposited site (bundle_of list) to (withdrawn site list from ledger)
+
+-- all assets for the giver first, and then all for the receiver as it is after the giving
+abbrev pub transfer_fault : List AssetRow → Site → Accounts → List Asset → Location → Location → Option MoveFault
+transfer_fault rows site ledger list from to =
+    or_fault (withdraw_fault rows site ledger list from) (first_fault (check_in rows site (withdrawn site list from ledger).held to) list)
+
+-- ---- answers. Memory may be refused always, and then nothing changes
+
+abbrev pub Moves : {A : Type 0} → Option MoveFault → A → Accounts → Accounts → Result A MoveFault → Accounts → Type 0
+Moves fault answer after before (Ok out) now = (fault ≡ None) × (out ≡ answer) × (now ≡ after)
+Moves fault answer after before (Err NotHandled) now = (fault ≡ Some NotHandled) × (now ≡ before)
+Moves fault answer after before (Err NoAccount) now = (fault ≡ Some NoAccount) × (now ≡ before)
+Moves fault answer after before (Err Refused) now = (fault ≡ Some Refused) × (now ≡ before)
+Moves fault answer after before (Err Memory) now = now ≡ before
+
+-- goods are moved in, or handed back
+abbrev pub MovesIn : Option MoveFault → Bundle → Accounts → Accounts → Result (Unit {0}) (Bundle × MoveFault) → Accounts → Type 0
+MovesIn fault goods after before (Ok _) now = (fault ≡ None) × (now ≡ after)
+MovesIn fault goods after before (Err (back, NotHandled)) now = (back ≡ goods) × (fault ≡ Some NotHandled) × (now ≡ before)
+MovesIn fault goods after before (Err (back, NoAccount)) now = (back ≡ goods) × (fault ≡ Some NoAccount) × (now ≡ before)
+MovesIn fault goods after before (Err (back, Refused)) now = (back ≡ goods) × (fault ≡ Some Refused) × (now ≡ before)
+MovesIn fault goods after before (Err (back, Memory)) now = (back ≡ goods) × (now ≡ before)

@@ -1,0 +1,38 @@
+//! What moves assets in and out of accounts.
+use crate::MoveFault;
+use asset_lists::Asset;
+use ledgers::Ledger;
+use locations::Location;
+
+/// What moves assets of some of a chain's rows in and out of the accounts of locations. Source: xcm-executor's asset transactors.
+pub trait Transactor {
+    ghost use Rattle.std.specs.Prelude.{◌≡◌, List};
+    ghost use Rattle.trust_tables.specs.declared.chains.Site.{Site};
+    ghost use Rattle.trust_tables.specs.declared.rows.AssetRow.{AssetRow};
+    ghost use Rattle.trust_tables.specs.Accounts.{account_of};
+    ghost use Rattle.transactors.specs.Checks.{accepted, check_in, check_out};
+
+    /// Where the chain stands.
+    ghost site: { Self → Site };
+
+    /// The rows that are handled.
+    ghost rows: { Self → List AssetRow };
+
+    /// Whether all parts of it stand at one chain.
+    ghost agrees: { Self → Type 0 };
+
+    /// The account that the location has on the chain.
+    fn account(&self, who: &Location) -> Option<[u8; 32]>
+        requires agrees { agrees self.now }
+        ensures account { result ≡ account_of who.now (site self.now) };
+
+    /// Whether a deposit of that one asset alone into the location's account would be taken. It takes no memory.
+    fn check_in(&self, ledger: &Ledger, a: &Asset, who: &Location) -> Result<(), MoveFault>
+        requires agrees { agrees self.now }
+        ensures checked { result ≡ accepted (check_in (rows self.now) (site self.now) ledger.now.held who.now a.now) };
+
+    /// Whether a withdrawal of that one asset alone from the location's account would be made. It takes no memory.
+    fn check_out(&self, ledger: &Ledger, a: &Asset, who: &Location) -> Result<(), MoveFault>
+        requires agrees { agrees self.now }
+        ensures checked { result ≡ accepted (check_out (rows self.now) (site self.now) ledger.now.held who.now a.now) };
+}

@@ -1,0 +1,196 @@
+//! The transactors of fungible assets and of instances, and one after the other.
+ghost use Rattle.std.specs.Prelude.{◌≡◌, is_some};
+ghost use Rattle.ledgers.specs.Ledgers.{is_barred};
+ghost use Rattle.trust_tables.specs.Trust.{row_of};
+ghost use Rattle.transactors.specs.Checks.{accepted, is_unhandled, rows_of_kind, move_fault, lacks};
+
+use crate::{MoveFault, Transactor};
+use asset_lists::{Asset, Kind};
+use ledgers::Ledger;
+use locations::Location;
+use trust_tables::{AssetRow, Site, account_of, find_row};
+
+/// Whether a row of that kind lists the asset.
+#[tactic(auto, using(crate::proofs::Rows::row_of_kind, crate::proofs::Rows::found_row))]
+fn handles(kind: Kind, rows: &[AssetRow], a: &Asset) -> bool
+    ensures { result ≡ is_some (row_of (rows_of_kind kind rows.now) a.now) }
+{
+    a.kind() == kind && find_row(rows, a).is_some()
+}
+
+/// Whether the account would take in the asset, which is handled or not.
+fn checked_in(
+    handled: bool,
+    account: Option<[u8; 32]>,
+    ledger: &Ledger,
+    a: &Asset,
+) -> Result<(), MoveFault>
+    ensures { result ≡ accepted (move_fault handled account (λ who. is_barred ledger.now.held who a.now)) }
+{
+    if !handled {
+        return Err(MoveFault::NotHandled);
+    }
+    let Some(who) = account else {
+        return Err(MoveFault::NoAccount);
+    };
+    if ledger.is_barred(&who, a) {
+        return Err(MoveFault::Refused);
+    }
+    Ok(())
+}
+
+/// Whether the account would give the asset, which is handled or not.
+fn checked_out(
+    handled: bool,
+    account: Option<[u8; 32]>,
+    ledger: &Ledger,
+    a: &Asset,
+) -> Result<(), MoveFault>
+    ensures { result ≡ accepted (move_fault handled account (λ who. lacks ledger.now.held who a.now)) }
+{
+    if !handled {
+        return Err(MoveFault::NotHandled);
+    }
+    let Some(who) = account else {
+        return Err(MoveFault::NoAccount);
+    };
+    if ledger.held_of(&who, a) < a.amount() {
+        return Err(MoveFault::Refused);
+    }
+    Ok(())
+}
+
+/// Moves fungible assets: those of the rows of kind `Fungible`.
+#[derive(Clone, Copy)]
+pub struct Fungibles<'a> {
+    /// The chain's rows.
+    pub rows: &'a [AssetRow],
+    /// Where the chain stands.
+    pub site: &'a Site,
+}
+
+impl<'a> Transactor for Fungibles<'a> {
+    ghost use Rattle.std.specs.Prelude.{⊤};
+    ghost use Rattle.asset_lists.specs.declared.units.Kind.{Kind};
+    ghost use Rattle.transactors.specs.Checks.{rows_of_kind};
+
+    ghost site = { λ t. t.site.now };
+
+    ghost rows = { λ t. rows_of_kind Kind.Fungible t.rows.now };
+
+    ghost agrees = { λ _. ⊤ };
+
+    fn account(&self, who: &Location) -> Option<[u8; 32]> {
+        account_of(who, self.site)
+    }
+
+    fn check_in(&self, ledger: &Ledger, a: &Asset, who: &Location) -> Result<(), MoveFault> {
+        checked_in(
+            handles(Kind::Fungible, self.rows, a),
+            account_of(who, self.site),
+            ledger,
+            a,
+        )
+    }
+
+    fn check_out(&self, ledger: &Ledger, a: &Asset, who: &Location) -> Result<(), MoveFault> {
+        checked_out(
+            handles(Kind::Fungible, self.rows, a),
+            account_of(who, self.site),
+            ledger,
+            a,
+        )
+    }
+}
+
+/// Moves instances: those of the rows of kind `Class`.
+#[derive(Clone, Copy)]
+pub struct Instances<'a> {
+    /// The chain's rows.
+    pub rows: &'a [AssetRow],
+    /// Where the chain stands.
+    pub site: &'a Site,
+}
+
+impl<'a> Transactor for Instances<'a> {
+    ghost use Rattle.std.specs.Prelude.{⊤};
+    ghost use Rattle.asset_lists.specs.declared.units.Kind.{Kind};
+    ghost use Rattle.transactors.specs.Checks.{rows_of_kind};
+
+    ghost site = { λ t. t.site.now };
+
+    ghost rows = { λ t. rows_of_kind Kind.Class t.rows.now };
+
+    ghost agrees = { λ _. ⊤ };
+
+    fn account(&self, who: &Location) -> Option<[u8; 32]> {
+        account_of(who, self.site)
+    }
+
+    fn check_in(&self, ledger: &Ledger, a: &Asset, who: &Location) -> Result<(), MoveFault> {
+        checked_in(
+            handles(Kind::Class, self.rows, a),
+            account_of(who, self.site),
+            ledger,
+            a,
+        )
+    }
+
+    fn check_out(&self, ledger: &Ledger, a: &Asset, who: &Location) -> Result<(), MoveFault> {
+        checked_out(
+            handles(Kind::Class, self.rows, a),
+            account_of(who, self.site),
+            ledger,
+            a,
+        )
+    }
+}
+
+/// Whether the asset isn't handled.
+fn is_unhandled(answer: &Result<(), MoveFault>) -> bool
+    ensures { result ≡ is_unhandled answer.now }
+{
+    match answer {
+        Err(MoveFault::NotHandled) => true,
+        Err(MoveFault::NoAccount | MoveFault::Refused | MoveFault::Memory) | Ok(()) => false,
+    }
+}
+
+/// Moves what the first handles, and else what the second does. Both stand at one chain.
+#[derive(Clone, Copy)]
+pub struct FirstThat<A, B> {
+    /// Which is asked first.
+    pub first: A,
+    /// Which is asked where the first doesn't handle the asset.
+    pub second: B,
+}
+
+impl<A: Transactor, B: Transactor> Transactor for FirstThat<A, B> {
+    ghost use Rattle.std.specs.Prelude.{◌≡◌, ◌++◌};
+
+    ghost site = { λ t. A.site t.first };
+
+    ghost rows = { λ t. A.rows t.first ++ B.rows t.second };
+
+    ghost agrees = { λ t. A.agrees t.first × B.agrees t.second × (A.site t.first ≡ B.site t.second) };
+
+    fn account(&self, who: &Location) -> Option<[u8; 32]> {
+        self.first.account(who)
+    }
+
+    fn check_in(&self, ledger: &Ledger, a: &Asset, who: &Location) -> Result<(), MoveFault> {
+        let answer = self.first.check_in(ledger, a, who);
+        if is_unhandled(&answer) {
+            return self.second.check_in(ledger, a, who);
+        }
+        answer
+    }
+
+    fn check_out(&self, ledger: &Ledger, a: &Asset, who: &Location) -> Result<(), MoveFault> {
+        let answer = self.first.check_out(ledger, a, who);
+        if is_unhandled(&answer) {
+            return self.second.check_out(ledger, a, who);
+        }
+        answer
+    }
+}
