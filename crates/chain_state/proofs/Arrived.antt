@@ -1,0 +1,42 @@
+-- The list of the cargo, as the chain names it.
+use Rattle.std.proofs.Common.{◌≡◌, Bool, true, false, ◌&&◌, List, refl, ap, ◌∙◌}
+use Rattle.std.specs.Prelude.{None, Some, option_and_then}
+use Rattle.std.specs.Ordering.{eq_by_cmp}
+use Rattle.locations.specs.declared.relative.Location.{Location}
+use Rattle.chain_ids.specs.declared.chain.ChainId.{ChainId}
+use Rattle.asset_lists.specs.declared.units.Asset.{Asset}
+use Rattle.asset_lists.specs.Units.{assets_cmp}
+use Rattle.asset_lists.specs.Moves.{reanchored_list}
+use Rattle.trust_tables.specs.declared.chains.Site.{Site}
+use Rattle.trust_tables.specs.Chains.{path_of_site, location_of}
+use Rattle.exec_base.specs.Arrivals.{arrived_list, is_this_list}
+use Rattle.exec_base.specs.Part.{ChainPart}
+use Rattle.exec_base.specs.Host.{Arrival, fits_call, cargo_list, is_cargo}
+
+-- a chain that has no name for this one sent nothing
+pub from_nowhere : (site : Site) (sender : ChainId) (xs : List Asset) → location_of sender site.chain ≡ None → arrived_list site sender xs ≡ None
+unfolding arrived_list
+from_nowhere site sender xs none = ap (λ o. option_and_then (λ (target : Location). reanchored_list target (path_of_site (record { network = site.network; chain = sender })) xs) o) none
+
+pub from_sender : (site : Site) (sender : ChainId) (target : Location) (xs : List Asset) → location_of sender site.chain ≡ Some target
+    → arrived_list site sender xs ≡ reanchored_list target (path_of_site (record { network = site.network; chain = sender })) xs
+unfolding arrived_list
+from_sender site sender target xs at =
+    ap (λ o. option_and_then (λ (target : Location). reanchored_list target (path_of_site (record { network = site.network; chain = sender })) xs) o) at
+
+never : (b : Bool) → (b && false) ≡ false
+never true = refl
+never false = refl
+
+pub not_fitting : (p : ChainPart) (arrival : Arrival) (list : List Asset) → fits_call arrival p.cargo.cargo ≡ false → is_cargo p arrival list ≡ false
+unfolding is_cargo
+not_fitting p arrival list fits = ap (λ b. b && is_this_list list (arrived_list p.site p.cargo.sender (cargo_list p.cargo.cargo))) fits
+
+pub not_arrived : (p : ChainPart) (arrival : Arrival) (list : List Asset) → arrived_list p.site p.cargo.sender (cargo_list p.cargo.cargo) ≡ None → is_cargo p arrival list ≡ false
+unfolding is_cargo
+not_arrived p arrival list none = ap (λ o. fits_call arrival p.cargo.cargo && is_this_list list o) none ∙ never (fits_call arrival p.cargo.cargo)
+
+pub arrived : (p : ChainPart) (arrival : Arrival) (list seen : List Asset) → fits_call arrival p.cargo.cargo ≡ true → arrived_list p.site p.cargo.sender (cargo_list p.cargo.cargo) ≡ Some seen
+    → is_cargo p arrival list ≡ eq_by_cmp assets_cmp seen list
+unfolding is_cargo
+arrived p arrival list seen fits at = λ i. fits i && is_this_list list (at i)

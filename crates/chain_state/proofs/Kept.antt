@@ -1,0 +1,25 @@
+-- What the facts of a chain's state rest on stays.
+use Rattle.std.proofs.Common.{◌≡◌, Bool, true, false, ◌&&◌, if◌then◌else◌, List, [], ◌∷◌, refl, ap}
+use Rattle.plain_lists.specs.Firsts.{change_first}
+use Rattle.channel_parts.specs.Channels.{Outgoing}
+use Rattle.asset_bundles.specs.declared.book.Cause.{Cause}
+use Rattle.asset_bundles.specs.declared.shipment.Way.{Way}
+use Rattle.asset_bundles.specs.Bundles.{Bundle}
+use Rattle.asset_bundles.specs.Books.{Book, burned_for}
+use Rattle.asset_bundles.specs.Losing.{book_after_loss}
+use Rattle.asset_bundles.specs.Laws.{listed-Booked}
+use Rattle.chain_state.specs.Prices.{has_price, have_prices}
+
+-- a channel that changes keeps its fee
+pub prices_kept : (test : Outgoing → Bool) (change : Outgoing → Outgoing) → ((c : Outgoing) → has_price (change c) ≡ has_price c) → (channels : List Outgoing) → have_prices (change_first test change channels) ≡ have_prices channels
+prices_kept test change same [] = refl
+prices_kept test change same (c ∷ cs) =
+    elim (test c) as (λ b. have_prices (if b then change c ∷ cs else c ∷ change_first test change cs) ≡ (has_price c && have_prices cs)) [
+      | true ↦ ap (λ p. p && have_prices cs) (same c)
+      | false ↦ ap (λ p. has_price c && p) (prices_kept test change same cs)
+    ]
+
+-- a loss changes no row of the book
+pub lost_listed : (way : Way) (goods : Bundle) (book : Book) → (book_after_loss way goods book).listed ≡ book.listed
+lost_listed Way.Withdrawal goods book = refl
+lost_listed Way.Teleport goods book = listed-Booked book (burned_for Cause.LostTeleport goods)

@@ -1,0 +1,30 @@
+use Rattle.std.proofs.Common.{◌++◌, ap, ◌∙◌}
+use Rattle.asset_bundles.specs.Books.{Book, Booked, given_up}
+use Rattle.asset_bundles.specs.Laws.{listed-Booked}
+use Rattle.trust_tables.specs.Trust.{listing}
+use Rattle.exec_base.specs.Host.{joined, booked}
+use Rattle.chain_state.specs.PartOf.{part_of}
+use Rattle.chain_state.proofs.BurnedLines.{same_book}
+use Rattle.chain_state.proofs.state.ChainState.join_goods.Goals as goal
+
+pub invariant_of-self-2 : goal.invariant_of-self-2
+invariant_of-self-2 c =
+    let f = c.args.self.now in
+    record {
+      ledger_lists = f.ledger_lists;
+      book_lists = ap (λ (b : Book). b.listed) c.in_ok-join.ensures.booked ∙ listed-Booked f.book (given_up c.args.into.now c.args.goods) ∙ f.book_lists;
+      paths = f.paths;
+      rates = f.rates;
+      prices = f.prices;
+      few_pallets = f.few_pallets;
+      room = f.room;
+    }
+
+pub returns-clause-step : goal.returns-clause-step
+unfolding joined booked
+returns-clause-step c =
+    let f = c.args.self.now in
+    let p = part_of f in
+    let burns = ap (λ (b : Book). b.burns) (c.in_ok-join.ensures.booked ∙ ap (λ b. Booked b (given_up c.args.into.now c.args.goods)) (same_book f.book (listing f.rows.items) f.book_lists)) in
+    let told = c.in-Ok-append.ensures.items ∙ (λ i. c.reserve.ensures.items i ++ c.in-Ok.ensures i) in
+    λ i. record p { burns = burns i; kept_back = told i }

@@ -1,0 +1,43 @@
+use Rattle.std.proofs.Common.{◌≡◌, refl, sym, ap, ◌∙◌}
+use Rattle.std.specs.Prelude.{Some}
+use Rattle.asset_bundles.specs.Bundles.{bundle_of}
+use Rattle.ledgers.specs.Ledgers.{Accounts, Withdrawn, Deposited}
+use Rattle.trust_tables.specs.Accounts.{account_of}
+use Rattle.exec_base.specs.Part.{accounts_of}
+use Rattle.exec_base.specs.Host.{at_account, transferred}
+use Rattle.chain_state.specs.PartOf.{part_of}
+use Rattle.chain_state.proofs.Queries.{none_if}
+use Rattle.chain_state.proofs.Moving.{from_nobody, to_nobody}
+use Rattle.chain_state.proofs.Nothing.{nothing_moved}
+use Rattle.chain_state.proofs.state.ChainState.move_over.Goals as goal
+
+pub returns-in_default-account_of-clause-step : goal.returns-in_default-account_of-clause-step
+returns-in_default-account_of-clause-step c =
+    let p = part_of c.args.self.now in
+    let free = sym c.transfer_refusal.ensures ∙ none_if c.transfer_refusal.result c.in_default.not-Some in
+    let nothing = from_nobody p c.args.list.now c.args.from.now c.args.to.now free (sym c.account_of.ensures ∙ none_if c.account_of.result c.in_default-account_of.not-Some) in
+    (free, refl, nothing_moved p c.args.from.now c.args.to.now ∙ ap (λ xs. transferred p xs c.args.from.now c.args.to.now) (sym nothing))
+
+pub returns-in_default-account_of-2-clause-step : goal.returns-in_default-account_of-2-clause-step
+returns-in_default-account_of-2-clause-step c =
+    let p = part_of c.args.self.now in
+    let free = sym c.transfer_refusal.ensures ∙ none_if c.transfer_refusal.result c.in_default.not-Some in
+    let nothing = to_nobody p c.args.list.now c.args.from.now c.args.to.now free (sym c.account_of-2.ensures ∙ none_if c.account_of-2.result c.in_default-account_of-2.not-Some) in
+    (free, refl, nothing_moved p c.args.from.now c.args.to.now ∙ ap (λ xs. transferred p xs c.args.from.now c.args.to.now) (sym nothing))
+
+pub returns-in-Ok-clause-step : goal.returns-in-Ok-clause-step
+unfolding transferred
+returns-in-Ok-clause-step c =
+    let p = part_of c.args.self.now in
+    let list = c.args.list.now in
+    let giver : Some c.in-Some-account_of.giver ≡ account_of c.args.from.now p.site = sym c.in-Some-account_of.is ∙ c.account_of.ensures in
+    let taker : Some c.in-Some-account_of-2.taker ≡ account_of c.args.to.now p.site = sym c.in-Some-account_of-2.is ∙ c.account_of-2.ensures in
+    let moved = ap (λ (l : Accounts). l.held) c.in-Ok.ensures.transferred in (
+      sym c.transfer_refusal.ensures ∙ none_if c.transfer_refusal.result c.in_default.not-Some,
+      refl,
+      (λ i. record p { held = moved i })
+          ∙ (λ i. record p {
+            held = at_account (taker i) (λ account. (Deposited account (bundle_of list) (accounts_of (record p { held = at_account (giver i) (λ a. (Withdrawn a list (accounts_of p)).held) p.held }))).held)
+                (at_account (giver i) (λ a. (Withdrawn a list (accounts_of p)).held) p.held);
+          }),
+    )

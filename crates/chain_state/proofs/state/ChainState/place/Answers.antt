@@ -1,0 +1,16 @@
+use Rattle.std.proofs.Common.{[], ◌∷◌, refl, sym, subst}
+use Rattle.std.proofs.lemmas.Bool.{and_from}
+use Rattle.asset_lists.specs.Laws.{once_each}
+use Rattle.asset_bundles.specs.Books.{AreListed}
+use Rattle.asset_bundles.specs.Laws.{listed_list}
+use Rattle.trust_tables.specs.Trust.{listing}
+use Rattle.chain_state.proofs.state.ChainState.place.Goals as goal
+
+pub mint-requires-clause-once : goal.mint-requires-clause-once
+mint-requires-clause-once c = once_each (c.args.asset ∷ []) refl
+
+pub deposit-requires : goal.deposit-requires
+deposit-requires c =
+    let f = c.args.self.now in
+    let all = listed_list (listing f.rows.items) (c.args.asset ∷ []) (and_from _ _ c.requires.listed refl) in
+    record { listed = subst (λ listed. AreListed listed c.in_ok-goods.goods) (sym f.ledger_lists) (subst (AreListed (listing f.rows.items)) (sym c.in_ok-goods.ensures) all) }

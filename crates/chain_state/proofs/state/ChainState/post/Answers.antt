@@ -1,0 +1,21 @@
+use Rattle.std.proofs.Common.{refl, ap, ◌∙◌}
+use Rattle.channel_parts.specs.Channels.{with_waiting}
+use Rattle.versioned_xcm.specs.Reading.{message_of}
+use Rattle.chain_queues.specs.Decoded.{program_read}
+use Rattle.chain_queues.specs.Queues.{channels_of, leads_to}
+use Rattle.chain_state.specs.Prices.{have_prices}
+use Rattle.chain_state.proofs.Kept.{prices_kept}
+use Rattle.chain_state.proofs.state.ChainState.post.Goals as goal
+
+pub invariant_of-self : goal.invariant_of-self
+invariant_of-self c =
+    let f = c.args.self.now in
+    record {
+      ledger_lists = f.ledger_lists;
+      book_lists = f.book_lists;
+      paths = f.paths;
+      rates = f.rates;
+      prices = ap have_prices c.in-Ok.ensures.queued ∙ prices_kept (leads_to c.args.to) (with_waiting (program_read (message_of c.args.bytes.items)) c.args.cargo) (λ o. refl) (channels_of f.queues) ∙ f.prices;
+      few_pallets = f.few_pallets;
+      room = f.room;
+    }

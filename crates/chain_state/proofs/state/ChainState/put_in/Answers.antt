@@ -1,0 +1,18 @@
+use Rattle.std.proofs.Common.{sym, ap, ◌∙◌, subst}
+use Rattle.asset_bundles.specs.Bundles.{bundle_of}
+use Rattle.asset_bundles.specs.Books.{AreListed}
+use Rattle.asset_bundles.specs.Laws.{listed_list}
+use Rattle.trust_tables.specs.Trust.{listing}
+use Rattle.chain_state.specs.PartOf.{part_of}
+use Rattle.chain_state.proofs.Queries.{none_if}
+use Rattle.chain_state.proofs.Moving.{rows_taken, all_listed}
+use Rattle.chain_state.proofs.state.ChainState.put_in.Goals as goal
+
+pub deposit-requires : goal.deposit-requires
+deposit-requires c =
+    let f = c.args.self.now in
+    let assets = c.as_slice.result.now in
+    let free = sym c.take_refusal.ensures ∙ none_if c.take_refusal.result c.in_default-take_refusal.not-Some in
+    let all = listed_list (listing f.rows.items) assets (all_listed f.rows.items assets (rows_taken (part_of f) c.account_of-account.result assets free)) in
+    let goods = ap bundle_of c.as_slice.ensures.value ∙ c.in-Ok.ensures.bundle in
+    record { listed = subst (λ listed. AreListed listed c.args.goods) (sym f.ledger_lists) (subst (AreListed (listing f.rows.items)) goods all) }

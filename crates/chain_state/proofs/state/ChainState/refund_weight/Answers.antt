@@ -1,0 +1,16 @@
+use Rattle.trust_tables.specs.Trust.{listing}
+use Rattle.chain_state.proofs.RateList.{rates_after}
+use Rattle.chain_state.proofs.state.ChainState.refund_weight.Goals as goal
+
+pub invariant_of-self : goal.invariant_of-self
+invariant_of-self c =
+    let f = c.args.self.now in
+    record {
+      ledger_lists = f.ledger_lists;
+      book_lists = f.book_lists;
+      paths = f.paths;
+      rates = rates_after c.args.w (listing f.rows.items) f.trader c.refund.new.self c.refund.result c.refund.ensures.lines c.refund.ensures.err f.rates;
+      prices = f.prices;
+      few_pallets = f.few_pallets;
+      room = f.room;
+    }

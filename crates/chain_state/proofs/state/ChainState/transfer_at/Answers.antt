@@ -1,0 +1,66 @@
+use Rattle.std.proofs.Common.{◌≡◌, ◌++◌, ℕ, List, [], ◌∷◌, length, sym, ap, ◌∙◌}
+use Rattle.std.specs.Prelude.{Some}
+use Rattle.std.specs.Option.{option_map}
+use Rattle.channel_parts.specs.Channels.{Outgoing}
+use Rattle.channel_parts.specs.declared.cargo.Cargo.{Cargo}
+use Rattle.versioned_xcm.specs.Reading.{message_of}
+use Rattle.chain_queues.specs.Decoded.{program_read}
+use Rattle.chain_queues.specs.Queues as queues
+use Rattle.chain_queues.specs.Queues.{push_refusal, pushed}
+use Rattle.exec_base.specs.declared.event.Event.{Event}
+use Rattle.exec_base.specs.Part.{ChainPart}
+use Rattle.exec_base.specs.Sending.{deposit_program, listed_program, number_to}
+use Rattle.exec_base.specs.Host.{seen_from, transfer_refusal, transferred, transfer_out_refusal, transferred_out}
+use Rattle.chain_state.specs.PartOf.{part_of}
+use Rattle.chain_state.specs.Sends.{IsTaken}
+use Rattle.chain_state.proofs.First.{both_none, moved_back}
+use Rattle.chain_state.proofs.Led.{taken_free, number_is, sent_is}
+use Rattle.chain_ids.specs.declared.chain.ChainId.{ChainId}
+use Rattle.chain_state.proofs.state.ChainState.transfer_at.Goals as goal
+
+posted : Cargo → ChainId → List ℕ → ℕ → ChainPart → ChainPart
+posted cargo to bytes n q = record q { channels = pushed to (program_read (message_of bytes)) cargo q.channels; kept_back = q.kept_back ++ Event.Sent q.site.chain to n ∷ [] }
+
+pub returns-in-Err-move_over : goal.returns-in-Err-move_over
+unfolding transfer_out_refusal transfer_refusal
+returns-in-Err-move_over c =
+    let p = part_of c.args.self.now in
+    let dest = c.args.dest.now in
+    let q = record p { kept_back = c.reserve.new.self.items } in
+    let same : q ≡ p = λ i. record p { kept_back = c.reserve.ensures.items i } in
+    record {
+      step = moved_back (transfer_refusal q c.args.list.now c.args.from.now dest) (transfer_out_refusal p c.args.list.now c.args.from.now dest c.args.xcm.now) (tt {0}) (number_to p dest) (transferred q c.args.list.now c.args.from.now dest) (transferred_out p c.args.list.now c.args.from.now dest c.args.xcm.now) p q (part_of c.move_over.new.self) c.in-Err-move_over.fault same
+          (both_none _ _ c.in-Ok.ensures.ready.1).0 c.in-Err-move_over.ensures.step;
+    }
+
+pub post-requires-clause-free : goal.post-requires-clause-free
+unfolding transferred
+post-requires-clause-free c =
+    let p = part_of c.args.self.now in
+    let dest = c.args.dest.now in
+    let program = listed_program (λ a. deposit_program a c.args.xcm.now) (seen_from p dest c.args.list.now) in
+    ap (λ (x : ChainPart). push_refusal (length c.in-Ok.ready.1.items) (queues.channel_to c.in-Ok.ready.0 x.channels)) c.in_default.ensures.step.2
+    ∙ taken_free p dest program c.in-Ok.ready.0 c.in-Ok.ready.1.items c.in-Ok.ensures.ready.0
+
+pub returns : goal.returns
+unfolding transferred transferred_out posted
+returns c =
+    let p = part_of c.args.self.now in
+    let dest = c.args.dest.now in
+    let to = c.in-Ok.ready.0 in
+    let bytes = c.in-Ok.ready.1.items in
+    let program = listed_program (λ a. deposit_program a c.args.xcm.now) (seen_from p dest c.args.list.now) in
+    let taken = c.in-Ok.ensures.ready.0 in
+    let d = transferred p c.args.list.now c.args.from.now dest in
+    let there : IsTaken d dest program to bytes = record { channel = taken.channel; found = taken.found; accepted = taken.accepted } in
+    let put = c.in_default.ensures.step.2 in
+    let number : option_map (λ (o : Outgoing). o.next) (queues.channel_to to p.channels) ≡ Some c.post.result = sym (ap (λ (x : ChainPart). option_map (λ (o : Outgoing). o.next) (queues.channel_to to x.channels)) put) ∙ c.post.ensures.number in
+    record {
+      step = (
+        c.in-Ok.ensures.ready.1,
+        number_is p dest program to bytes c.post.result taken number,
+        c.post.ensures.posted ∙ ap (posted (Cargo.Deposit c.in-Ok.ready.2) to bytes c.post.result) put
+            ∙ (λ i. posted (Cargo.Deposit (c.in-Ok.ensures.ready.2 i)) to bytes c.post.result (transferred (record p { kept_back = c.reserve.ensures.items i }) c.args.list.now c.args.from.now dest))
+            ∙ sent_is d dest program to bytes (Cargo.Deposit c.args.list.now) c.post.result there number,
+      );
+    }

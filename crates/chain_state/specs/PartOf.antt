@@ -1,0 +1,26 @@
+-- The chain's part of the world, from what it keeps. No delivery fee is kept yet behind the slot. This project's own.
+use Rattle.amounts.specs.Amounts.{empty}
+use Rattle.exec_base.specs.Part.{ChainPart}
+use Rattle.chain_queues.specs.Queues.{channels_of}
+use Rattle.chain_state.specs.declared.state.ChainState.{ChainState}
+
+abbrev pub part_of : ChainState → ChainPart
+part_of s = record {
+  site = s.site;
+  rows = s.rows.items;
+  pallets = s.pallets.items;
+  fee_account = s.fee_account;
+  held = s.ledger.held;
+  traps = s.traps;
+  lines = s.trader;
+  fee_slot = s.fee_slot;
+  fees = empty;
+  parked = s.parked.items;
+  burns = s.book.burns;
+  checking = s.checking.items;
+  queries = s.queries.items;
+  channels = channels_of s.queues;
+  cargo = record { sender = s.sender; cargo = s.cargo };
+  events = s.events.items;
+  kept_back = s.kept_back.items;
+}

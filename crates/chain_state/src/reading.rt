@@ -1,0 +1,86 @@
+//! What the chain keeps, read.
+ghost use Rattle.std.specs.Prelude.{◌≡◌, ◌≤◌, length};
+ghost use Rattle.exec_base.specs.Part.{accounts_of, book_of};
+ghost use Rattle.chain_queues.specs.Queues.{channels_of};
+ghost use Rattle.chain_state.specs.PartOf.{part_of};
+
+use crate::ChainState;
+use asset_bundles::{BurnBook, Units};
+use chain_queues::Queues;
+use exec_base::Event;
+use ledgers::{Ledger, TrapStore};
+use message_parts::{OpenQuery, PalletInfo};
+use trust_tables::{AssetRow, Site};
+
+impl ChainState {
+    /// Where the chain stands.
+    pub fn site(&self) -> &Site
+        ensures { result.now ≡ (part_of self.now).site }
+    {
+        &self.site
+    }
+
+    /// The assets that the chain lists, in listed order.
+    pub fn rows(&self) -> &[AssetRow]
+        ensures { result.now ≡ (part_of self.now).rows }
+    {
+        self.rows.as_slice()
+    }
+
+    /// The chain's pallets, in listed order.
+    pub fn pallets(&self) -> &[PalletInfo]
+        ensures same { result.now ≡ (part_of self.now).pallets }
+        ensures few { length (part_of self.now).pallets ≤ 64 }
+    {
+        self.pallets.as_slice()
+    }
+
+    /// The chain's open queries.
+    pub fn open_queries(&self) -> &[OpenQuery]
+        ensures { result.now ≡ (part_of self.now).queries }
+    {
+        self.queries.as_slice()
+    }
+
+    /// What accounts hold.
+    pub fn ledger(&self) -> &Ledger
+        ensures ledger { result.now ≡ accounts_of (part_of self.now) }
+    {
+        &self.ledger
+    }
+
+    /// What is trapped.
+    pub fn traps(&self) -> &TrapStore
+        ensures traps { result.now ≡ (part_of self.now).traps }
+    {
+        &self.traps
+    }
+
+    /// What was burned.
+    pub fn burns(&self) -> &BurnBook
+        ensures book { result.now ≡ book_of (part_of self.now) }
+    {
+        &self.book
+    }
+
+    /// The channels that lead from the chain, with the messages that wait in them.
+    pub fn queues(&self) -> &Queues
+        ensures channels { channels_of result.now ≡ (part_of self.now).channels }
+    {
+        &self.queues
+    }
+
+    /// What is parked: goods that couldn't be put where they belong, because memory was refused.
+    pub fn parked(&self) -> &[Units]
+        ensures parked { result.now ≡ (part_of self.now).parked }
+    {
+        self.parked.as_slice()
+    }
+
+    /// What was told in the last step at the chain.
+    pub fn trace(&self) -> &[Event]
+        ensures events { result.now ≡ (part_of self.now).events }
+    {
+        self.events.as_slice()
+    }
+}

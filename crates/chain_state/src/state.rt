@@ -1,0 +1,49 @@
+//! What a chain keeps.
+ghost use Rattle.std.specs.Prelude.{◌≡◌, ◌≤◌, length, vec_capacity, IsTrue};
+ghost use Rattle.trust_tables.specs.Chains.{path_of_site};
+ghost use Rattle.trust_tables.specs.Trust.{listing};
+ghost use Rattle.chain_state.specs.Rates.{are_rates_listed};
+ghost use Rattle.chain_queues.specs.Queues.{channels_of};
+ghost use Rattle.chain_state.specs.Paths.{have_paths};
+ghost use Rattle.chain_state.specs.Prices.{have_prices};
+
+use asset_bundles::{BurnBook, Units};
+use chain_ids::ChainId;
+use chain_queues::{Cargo, Queues};
+use exec_base::Event;
+use ledgers::{Ledger, TrapStore};
+use message_parts::{OpenQuery, PalletInfo};
+use trust_tables::{AssetRow, Site};
+use weight_trader::Trader;
+
+/// A chain of the network: what its document says, what stands at it, what it sends, and what is told. The ledger and the book list what
+/// the rows list, the id of each has a path, each rate's asset is listed, each channel's fee is an amount above 0 of a
+/// fungible asset, there are at most 64 pallets, and four bundles can be
+/// parked without memory.
+#[derive(Drop)]
+pub struct ChainState {
+    pub(crate) site: Site,
+    pub(crate) rows: Vec<AssetRow>,
+    pub(crate) pallets: Vec<PalletInfo>,
+    pub(crate) fee_account: [u8; 32],
+    pub(crate) ledger: Ledger,
+    pub(crate) traps: TrapStore,
+    pub(crate) trader: Trader,
+    pub(crate) fee_slot: Units,
+    pub(crate) parked: Vec<Units>,
+    pub(crate) book: BurnBook,
+    pub(crate) checking: Vec<Option<u128>>,
+    pub(crate) queries: Vec<OpenQuery>,
+    pub(crate) queues: Queues,
+    pub(crate) sender: ChainId,
+    pub(crate) cargo: Cargo,
+    pub(crate) events: Vec<Event>,
+    pub(crate) kept_back: Vec<Event>,
+    ghost ledger_lists: { ledger.listed ≡ listing rows.items },
+    ghost book_lists: { book.listed ≡ listing rows.items },
+    ghost paths: { IsTrue (have_paths (path_of_site site) rows.items) },
+    ghost rates: { IsTrue (are_rates_listed (listing rows.items) trader) },
+    ghost prices: { IsTrue (have_prices (channels_of queues)) },
+    ghost few_pallets: { length pallets.items ≤ 64 },
+    ghost room: { 4 ≤ vec_capacity parked },
+}
