@@ -1,0 +1,4 @@
+pub mod Slashes
+pub mod LocationReading
+pub mod BothFields
+pub mod Locations

@@ -1,0 +1,3 @@
+pub mod LocationTexts
+pub mod Entries
+pub mod Alternatives

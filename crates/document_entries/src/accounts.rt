@@ -1,0 +1,52 @@
+//! What accounts hold.
+ghost use Rattle.std.specs.Prelude.{codes};
+ghost use Rattle.serde_json.specs.View.{view};
+ghost use Rattle.document_forms.specs.Answers.{Answers};
+ghost use Rattle.document_entries.specs.Entries.{account, either, made, amount, instance};
+ghost use Rattle.asset_lists.specs.declared.units.Fun.TheVariants.{Fungible, NonFungible};
+
+use crate::alternatives::both_there;
+use crate::{amount_of, instance_of, location_of};
+use asset_lists::{Asset, AssetId, Fun};
+use document_forms::{NetworkFault, Place, Stop, bytes_of, check_fields, needed};
+use network_spec::Balance;
+use serde_json::Value;
+use std::alloc::Global;
+
+/// An amount, or an instance.
+fn fun_of(alloc: Global, place: Place, value: &Value) -> Result<Fun, Stop>
+    ensures { Answers result (either (codes "amount") (made Fungible amount) (codes "instance") (made NonFungible instance) place (view value.now)) }
+{
+    match value.get("amount") {
+        Some(amount) => match value.get("instance") {
+            Some(instance) => Err(both_there(
+                place,
+                amount_of(place, amount),
+                instance_of(alloc, place, instance),
+            )),
+            None => Ok(Fun::Fungible(amount_of(place, amount)?)),
+        },
+        None => match value.get("instance") {
+            Some(instance) => Ok(Fun::NonFungible(instance_of(alloc, place, instance)?)),
+            None => Err(Stop::Fault(NetworkFault::MissingField(place))),
+        },
+    }
+}
+
+/// What an account holds.
+#[tactic(auto, unfolding(crate::specs::Entries::account, document_forms::specs::Forms::fields, document_forms::specs::Forms::field))]
+pub fn account_of(alloc: Global, place: Place, value: &Value) -> Result<Balance, Stop>
+    ensures { Answers result (account place (view value.now)) }
+{
+    check_fields(place, &["who", "asset", "amount", "instance"], value)?;
+    let who = bytes_of(place, needed(place, "who", value)?)?;
+    let id = location_of(alloc, place, needed(place, "asset", value)?)?;
+    let fun = fun_of(alloc, place, value)?;
+    Ok(Balance {
+        who,
+        asset: Asset {
+            id: AssetId::Concrete(id),
+            fun,
+        },
+    })
+}

@@ -1,0 +1,97 @@
+//! Locations and instances.
+ghost use Rattle.std.specs.Prelude.{◌≡◌, IfOk};
+ghost use Rattle.serde_json.specs.View.{view};
+ghost use Rattle.document_forms.specs.Answers.{Answers};
+ghost use Rattle.document_entries.specs.Entries.{location, locations, instance, instance_of, whole_instance};
+ghost use Rattle.asset_wire.specs.Reading.{instance_at};
+
+use asset_lists::Instance;
+use asset_wire::read_instance;
+use document_forms::{
+    Entry, NetworkFault, Place, Stop, behind_0x, read_entries, text_of, texts_of,
+};
+use hex::FromHexError;
+use location_wire::{TextFault, law_of_one_location, read_location_text};
+use locations::Location;
+use plain_lists::Listed;
+use scale_codec::Cursor;
+use serde_json::Value;
+use std::alloc::{AllocError, Global};
+
+/// A location, as its text.
+#[tactic(auto, unfolding(crate::specs::Entries::location))]
+pub fn location_of(alloc: Global, place: Place, value: &Value) -> Result<Location, Stop>
+    ensures { Answers result (location place (view value.now)) }
+{
+    law_of_one_location();
+    let text = text_of(place, value)?;
+    match read_location_text(alloc, text) {
+        Ok(location) => Ok(location),
+        Err(TextFault::BadText) => Err(Stop::Fault(NetworkFault::BadValue(place))),
+        Err(TextFault::Memory) => Err(Stop::Memory),
+    }
+}
+
+/// A reader of locations that stand at one place.
+#[derive(Clone, Copy)]
+struct LocationsAt {
+    /// The place.
+    place: Place,
+}
+
+impl Entry<Location> for LocationsAt {
+    ghost use Rattle.document_entries.specs.Entries.{location};
+
+    ghost form = { λ at _ value. location at.place value };
+
+    fn read(&self, alloc: Global, _index: u32, value: &Value) -> Result<Location, Stop> {
+        location_of(alloc, self.place, value)
+    }
+}
+
+/// A list of locations.
+#[tactic(auto, unfolding(crate::specs::Entries::locations))]
+pub fn locations_of(alloc: Global, place: Place, value: &Value) -> Result<Listed<Location>, Stop>
+    ensures { Answers result (locations place (view value.now)) }
+{
+    let items = texts_of(place, value)?;
+    read_entries(alloc, &LocationsAt { place }, items)
+}
+
+/// The instance that the bytes spell, all of them.
+fn whole_instance(bytes: &[u8]) -> Option<Instance>
+    ensures { result ≡ whole_instance (instance_at bytes.now) }
+{
+    let mut cursor = Cursor::new(bytes);
+    let instance = read_instance(&mut cursor).ok()?;
+    if !cursor.rest().is_empty() {
+        return None;
+    }
+    Some(instance)
+}
+
+/// The instance that `0x` and hex digits spell. `Err` is out of memory.
+fn spelled_instance(alloc: Global, text: &[u8]) -> Result<Option<Instance>, AllocError>
+    ensures { IfOk result (λ o. o ≡ instance_of text.now) }
+{
+    let Some(digits) = behind_0x(text) else {
+        return Ok(None);
+    };
+    match hex::decode(alloc, digits) {
+        Ok(bytes) => Ok(whole_instance(bytes.as_slice())),
+        Err(FromHexError::OutOfMemory) => Err(AllocError),
+        Err(_) => Ok(None),
+    }
+}
+
+/// An instance, as `0x` and the hex digits, of either case, of its spelling.
+#[tactic(auto, unfolding(crate::specs::Entries::instance))]
+pub fn instance_of(alloc: Global, place: Place, value: &Value) -> Result<Instance, Stop>
+    ensures { Answers result (instance place (view value.now)) }
+{
+    let text = text_of(place, value)?;
+    match spelled_instance(alloc, text.as_bytes())? {
+        Some(instance) => Ok(instance),
+        None => Err(Stop::Fault(NetworkFault::BadValue(place))),
+    }
+}

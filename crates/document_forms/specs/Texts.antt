@@ -1,0 +1,38 @@
+-- What a report says of a refused network document. Source: this project's own rule.
+use Rattle.std.specs.Prelude.{ℕ, List, ◌++◌, codes, decimal, Option, Some, None}
+use Rattle.document_forms.specs.declared.fault.NetworkFault.{NetworkFault}
+use Rattle.document_forms.specs.declared.fault.NetworkFault.TheVariants.{NotJson, MissingField, WrongKind, UnknownField, BadValue, Repeated, LimitPassed, Memory}
+use Rattle.document_forms.specs.declared.fault.Place.{Place}
+use Rattle.document_forms.specs.declared.fault.Section.{Section}
+use Rattle.document_forms.specs.declared.fault.Section.TheVariants.{Top, Fields, Barriers, Rates, Assets, Accounts, Pallets, Queries, Channels}
+
+abbrev pub section_name : Section → List ℕ
+section_name Top = codes "top"
+section_name Fields = codes "fields"
+section_name Barriers = codes "barriers"
+section_name Rates = codes "rates"
+section_name Assets = codes "assets"
+section_name Accounts = codes "accounts"
+section_name Pallets = codes "pallets"
+section_name Queries = codes "queries"
+section_name Channels = codes "channels"
+
+abbrev pub in_section : Section → ℕ → List ℕ
+in_section section index = section_name section ++ codes " " ++ decimal index
+
+abbrev pub in_chain : Option ℕ → List ℕ → List ℕ
+in_chain None text = text
+in_chain (Some chain) text = codes "chains " ++ decimal chain ++ codes " " ++ text
+
+abbrev pub place_text : Place → List ℕ
+place_text place = in_chain place.chain (in_section place.section place.index)
+
+abbrev pub fault_text : NetworkFault → List ℕ
+fault_text (NotJson place) = codes "NotJson at " ++ place_text place
+fault_text (MissingField place) = codes "MissingField at " ++ place_text place
+fault_text (WrongKind place) = codes "WrongKind at " ++ place_text place
+fault_text (UnknownField place) = codes "UnknownField at " ++ place_text place
+fault_text (BadValue place) = codes "BadValue at " ++ place_text place
+fault_text (Repeated place) = codes "Repeated at " ++ place_text place
+fault_text (LimitPassed place) = codes "LimitPassed at " ++ place_text place
+fault_text Memory = codes "out of memory"

@@ -1,0 +1,16 @@
+use Rattle.std.proofs.Common.{◌≡◌, ◌∙◌, length, sym, arith, Ok, Err}
+use Rattle.document_forms.specs.Forms.{next_index}
+use Rattle.network_config.specs.References.{flaw_at, place_in}
+use Rattle.network_config.proofs.Checking.{checked, refused, all_checked}
+use Rattle.network_config.proofs.checks.check_each.Goals as goal
+
+pub returns-in-Err : goal.returns-in-Err
+returns-in-Err g c = sym (c.loop-at.invariant ∙ refused _ _ _ _ c.loop-at.at _ _ c.in-Err.fault c.loop-at-test.true c.index-items-at.is (rw (← c.flaws_of-flaws.ensures) (sym c.check_flaws.ensures ∙ c.in-Err.is)))
+
+pub loop-at-preserved : goal.loop-at-preserved
+loop-at-preserved g c =
+    let index : c.saturating_add-index.result ≡ next_index c.loop-at.index = c.saturating_add-index.ensures in
+    rw index (c.loop-at.invariant ∙ checked _ _ _ _ c.loop-at.at _ _ c.loop-at-test.true c.index-items-at.is (rw (← c.flaws_of-flaws.ensures) (sym c.check_flaws.ensures ∙ c.in-Ok.is)))
+
+pub returns : goal.returns
+returns g c = let all : length c.args.items.now ≡ c.loop-at.at = omega arith in sym (c.loop-at.invariant ∙ all_checked _ _ _ _ c.loop-at.at _ _ all)

@@ -1,0 +1,17 @@
+//! The network document: from bytes to the network that they describe, or the first fault and its place.
+#![tactic(auto)]
+
+mod chains;
+mod checks;
+mod document;
+mod head;
+mod lists;
+mod network;
+mod references;
+mod sums;
+
+pub use document_forms::{NetworkFault, Place, Section};
+pub use network::{comes_before, read_network};
+pub use network_spec::{Balance, ChainSpec, ChannelSpec, NetworkSpec};
+pub use references::check_references;
+pub use sums::check_sums;

@@ -1,0 +1,84 @@
+//! The lists of a document.
+ghost use Rattle.std.specs.Prelude.{◌≡◌, ◌≤◌, length};
+ghost use Rattle.serde_json.specs.View.{view, items_view};
+ghost use Rattle.document_forms.specs.Answers.{Answers, AnswersAs};
+ghost use Rattle.document_forms.specs.Forms.{list_field, fields};
+ghost use Rattle.network_config.specs.Chains.{short_list, lists, own_fields};
+
+use crate::head::{ChainHead, head_of};
+use document_forms::{NetworkFault, Place, Stop, check_fields, list_of};
+use serde_json::Value;
+
+/// A list, which is empty where it isn't there.
+#[tactic(auto, unfolding(document_forms::specs::Forms::list_field))]
+pub(crate) fn list_field<'a>(
+    place: Place,
+    name: &str,
+    value: &'a Value,
+) -> Result<&'a [Value], Stop>
+    ensures { AnswersAs (λ items. items_view items.now) result (list_field name.now place (view value.now)) }
+{
+    match value.get(name) {
+        Some(listed) => list_of(place, listed),
+        None => Ok(&[]),
+    }
+}
+
+/// A list of at most so many.
+#[tactic(auto, using(crate::proofs::Counts::count_is), unfolding(crate::specs::Chains::short_list))]
+pub(crate) fn short_list<'a>(
+    place: Place,
+    name: &str,
+    most: usize,
+    value: &'a Value,
+) -> Result<&'a [Value], Stop>
+    ensures { AnswersAs (λ items. items_view items.now) result (short_list name.now most place (view value.now)) }
+{
+    let items = list_field(place, name, value)?;
+    if items.len() > most {
+        return Err(Stop::Fault(NetworkFault::LimitPassed(place)));
+    }
+    Ok(items)
+}
+
+/// Refuses a chain where what is to be a list isn't one, or a list is too long.
+#[tactic(auto, unfolding(crate::specs::Chains::lists))]
+fn check_lists(place: Place, value: &Value) -> Result<(), Stop>
+    ensures { Answers result (lists place (view value.now)) }
+{
+    let _ = list_field(place, "barriers", value)?;
+    let _ = list_field(place, "rates", value)?;
+    let _ = short_list(place, "assets", 128, value)?;
+    let _ = list_field(place, "accounts", value)?;
+    let _ = short_list(place, "pallets", 64, value)?;
+    let _ = list_field(place, "queries", value)?;
+    Ok(())
+}
+
+/// A chain's own fields, where the shapes of its lists are right too.
+#[tactic(auto, unfolding(crate::specs::Chains::own_fields, document_forms::specs::Forms::fields))]
+pub(crate) fn own_fields(place: Place, value: &Value) -> Result<ChainHead, Stop>
+    ensures { Answers result (own_fields place (view value.now)) }
+{
+    check_fields(
+        place,
+        &[
+            "para",
+            "unit_weight",
+            "max_weight",
+            "max_instructions",
+            "max_holding",
+            "fee_account",
+            "barriers",
+            "rates",
+            "assets",
+            "accounts",
+            "pallets",
+            "queries",
+        ],
+        value,
+    )?;
+    let head = head_of(place, value)?;
+    check_lists(place, value)?;
+    Ok(head)
+}

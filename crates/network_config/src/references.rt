@@ -1,0 +1,422 @@
+//! What entries of a document say of one another.
+ghost use Rattle.std.specs.Prelude.{◌≡◌, ◌≤◌, ◌==◌, ◌&&◌, ◌||◌, not, [], length, nat_lt};
+ghost use Rattle.std.specs.List.{list_any, list_all};
+ghost use Rattle.trust_tables.specs.Chains.{path_of_site};
+ghost use Rattle.document_forms.specs.Answers.{Answers};
+ghost use Rattle.locations.specs.Chains.{path_of};
+ghost use Rattle.trust_tables.specs.Trust.{is_row_of};
+ghost use Rattle.chain_ids.specs.Chains.{same_chain};
+ghost use Rattle.network_config.specs.References as spec;
+ghost use Rattle.network_config.specs.References.{is_there, is_other, lists_fungible, names_others, same_holding, same_fun, lists_fee, chain_references, chains_references, references};
+
+use crate::checks::{Check, Flaws, check_each, check_flaws};
+use asset_lists::{Asset, AssetId, Fun, Kind};
+use chain_ids::ChainId;
+use document_forms::{NetworkFault, Place, Section};
+use locations::{Location, NetworkId};
+use message_parts::PalletInfo;
+use network_spec::{Balance, ChainSpec, ChannelSpec, NetworkSpec};
+use trust_tables::{AssetRole, AssetRow};
+use weight_trader::Rate;
+
+/// Whether two names are of one chain.
+fn same_chain(a: ChainId, b: ChainId) -> bool
+    ensures { result ≡ same_chain a b }
+{
+    match (a, b) {
+        (ChainId::Relay, ChainId::Relay) => true,
+        (ChainId::Para(a), ChainId::Para(b)) => a == b,
+        _ => false,
+    }
+}
+
+/// Whether the chain is there, as the relay chain always is.
+fn is_there(chains: &[ChainSpec], chain: ChainId) -> bool
+    ensures { result ≡ is_there chains.now chain }
+{
+    same_chain(chain, ChainId::Relay) || has_chain(chains, chain)
+}
+
+/// Whether a chain of the list has this name.
+pub(crate) fn has_chain(chains: &[ChainSpec], chain: ChainId) -> bool
+    ensures { result ≡ list_any (λ c. same_chain c.chain chain) chains.now }
+{
+    chains.iter().any(|c| same_chain(c.chain, chain))
+}
+
+/// Whether the chain is there, and another than this.
+fn is_other(chains: &[ChainSpec], here: ChainId, chain: ChainId) -> bool
+    ensures { result ≡ is_other chains.now here chain }
+{
+    !same_chain(here, chain) && is_there(chains, chain)
+}
+
+/// Whether two locations are the same.
+fn same_location(a: &Location, b: &Location) -> bool
+    ensures { result ≡ spec.same_location a.now b.now }
+{
+    a == b
+}
+
+/// Whether the row lists the id as an asset that has amounts.
+fn lists_fungible(id: &Location, row: &AssetRow) -> bool
+    ensures { result ≡ lists_fungible id.now row.now }
+{
+    same_location(&row.id, id) && matches!(row.kind, Kind::Fungible)
+}
+
+/// Whether one of the rates is of the asset.
+fn has_rate(rates: &[Rate], asset: &Location) -> bool
+    ensures { result ≡ list_any (λ other. spec.same_location other.asset asset.now) rates.now }
+{
+    rates.iter().any(|other| same_location(&other.asset, asset))
+}
+
+/// Whether a row lists the id as an asset that has amounts.
+fn has_fungible(rows: &[AssetRow], id: &Location) -> bool
+    ensures { result ≡ list_any (λ row. lists_fungible id.now row) rows.now }
+{
+    rows.iter().any(|row| lists_fungible(id, row))
+}
+
+/// The rates of a chain with these assets.
+#[derive(Clone, Copy)]
+struct RateCheck<'a> {
+    assets: &'a [AssetRow],
+}
+
+impl Check<Rate> for RateCheck<'_> {
+    ghost use Rattle.network_config.specs.References.{rate_flaws};
+
+    ghost flaws = { λ check earlier rate. rate_flaws check.assets.now earlier rate };
+
+    fn flaws_of(&self, earlier: &[Rate], rate: &Rate) -> Flaws {
+        Flaws {
+            repeated: has_rate(earlier, &rate.asset),
+            bad: !has_fungible(self.assets, &rate.asset),
+            past: false,
+        }
+    }
+}
+
+/// Whether the chains are there, and others than this.
+fn are_others(chains: &[ChainSpec], here: ChainId, named: &[ChainId]) -> bool
+    ensures { result ≡ list_all (λ chain. is_other chains.now here chain) named.now }
+{
+    named.iter().all(|chain| is_other(chains, here, *chain))
+}
+
+/// Whether one of the rows has the id.
+fn has_row(rows: &[AssetRow], id: &Location) -> bool
+    ensures { result ≡ list_any (λ other. spec.same_location other.id id.now) rows.now }
+{
+    rows.iter().any(|other| same_location(&other.id, id))
+}
+
+/// How many levels there are from the root to the chain.
+fn levels_of(network: NetworkId, here: ChainId) -> usize
+    ensures levels { result ≡ length (path_of_site (record { network = network; chain = here })) }
+    ensures few { result ≤ 2 }
+{
+    let _ = network;
+    match here {
+        ChainId::Relay => 1,
+        ChainId::Para(_) => 2,
+    }
+}
+
+/// Whether the path of the id, as seen from the chain, has more than eight junctions.
+fn is_long(network: NetworkId, here: ChainId, id: &Location) -> bool
+    ensures { result ≡ nat_lt 8 (length (path_of (path_of_site (record { network = network; chain = here })) id.now)) }
+{
+    let levels = levels_of(network, here);
+    let below = id.interior.items().len();
+    levels.saturating_sub(usize::from(id.parents)) + below > 8
+}
+
+/// Whether the chains that the role names are there, and others than this.
+fn names_others(chains: &[ChainSpec], here: ChainId, role: &AssetRole) -> bool
+    ensures { result ≡ names_others chains.now here role.now }
+{
+    match role {
+        AssetRole::Native { partners, .. } => are_others(chains, here, partners.items()),
+        AssetRole::Derivative { reserve } => is_other(chains, here, *reserve),
+    }
+}
+
+/// Whether the row names a chain that isn't there, or the chain itself, or its id passes the root.
+fn is_misplaced(chains: &[ChainSpec], network: NetworkId, here: ChainId, row: &AssetRow) -> bool
+    ensures { result ≡ (not (names_others chains.now here row.now.role) || nat_lt (length (path_of_site (record { network = network; chain = here }))) row.now.id.parents) }
+{
+    if !names_others(chains, here, &row.role) {
+        return true;
+    }
+    levels_of(network, here) < usize::from(row.id.parents)
+}
+
+/// The assets of a chain.
+#[derive(Clone, Copy)]
+struct AssetCheck<'a> {
+    chains: &'a [ChainSpec],
+    network: NetworkId,
+    here: ChainId,
+}
+
+impl Check<AssetRow> for AssetCheck<'_> {
+    ghost use Rattle.network_config.specs.References.{asset_flaws};
+
+    ghost flaws = { λ check earlier row. asset_flaws check.chains.now check.network check.here earlier row };
+
+    fn flaws_of(&self, earlier: &[AssetRow], row: &AssetRow) -> Flaws {
+        Flaws {
+            repeated: has_row(earlier, &row.id),
+            bad: is_misplaced(self.chains, self.network, self.here, row),
+            past: is_long(self.network, self.here, &row.id),
+        }
+    }
+}
+
+/// Whether two entries are of one account and asset, or of one instance.
+fn same_fun(who: &[u8; 32], fun: &Fun, other: &[u8; 32], other_fun: &Fun) -> bool
+    ensures { result ≡ same_fun who.now fun.now other.now other_fun.now }
+{
+    match (fun, other_fun) {
+        (Fun::Fungible(_), Fun::Fungible(_)) => *who == *other,
+        (Fun::NonFungible(a), Fun::NonFungible(b)) => a.cmp(b).is_eq(),
+        _ => false,
+    }
+}
+
+/// Whether two entries are of one account and asset, or of one instance of one class.
+fn same_holding(a: &Balance, b: &Balance) -> bool
+    ensures { result ≡ same_holding a.now b.now }
+{
+    a.asset.id == b.asset.id && same_fun(&a.who, &a.asset.fun, &b.who, &b.asset.fun)
+}
+
+/// Whether the row lists the asset: its id, and amounts or instances.
+fn is_row(row: &AssetRow, asset: &Asset) -> bool
+    ensures { result ≡ is_row_of asset.now row.now }
+{
+    match &asset.id {
+        AssetId::Concrete(id) => *id == row.id && asset.kind() == row.kind,
+        AssetId::Abstract(_) => false,
+    }
+}
+
+/// Whether one of the entries is of the same account and asset, or of the same instance.
+fn has_holding(balances: &[Balance], balance: &Balance) -> bool
+    ensures { result ≡ list_any (λ other. same_holding other balance.now) balances.now }
+{
+    balances.iter().any(|other| same_holding(other, balance))
+}
+
+/// Whether a row lists the asset.
+fn is_listed(rows: &[AssetRow], asset: &Asset) -> bool
+    ensures { result ≡ list_any (is_row_of asset.now) rows.now }
+{
+    rows.iter().any(|row| is_row(row, asset))
+}
+
+/// The accounts of a chain with these assets.
+#[derive(Clone, Copy)]
+struct AccountCheck<'a> {
+    assets: &'a [AssetRow],
+}
+
+impl Check<Balance> for AccountCheck<'_> {
+    ghost use Rattle.network_config.specs.References.{account_flaws};
+
+    ghost flaws = { λ check earlier balance. account_flaws check.assets.now earlier balance };
+
+    fn flaws_of(&self, earlier: &[Balance], balance: &Balance) -> Flaws {
+        Flaws {
+            repeated: has_holding(earlier, balance),
+            bad: !is_listed(self.assets, &balance.asset),
+            past: false,
+        }
+    }
+}
+
+/// Whether one of the pallets has the index.
+fn has_pallet(pallets: &[PalletInfo], index: u32) -> bool
+    ensures { result ≡ list_any (λ other. other.index == index) pallets.now }
+{
+    pallets.iter().any(|other| other.index == index)
+}
+
+/// Whether one of the queries has the number and the chain.
+fn has_query(queries: &[(u64, ChainId)], id: u64, from: ChainId) -> bool
+    ensures { result ≡ list_any (λ other. (other.0 == id) && same_chain other.1 from) queries.now }
+{
+    queries
+        .iter()
+        .any(|other| other.0 == id && same_chain(other.1, from))
+}
+
+/// The pallets of a chain.
+#[derive(Clone, Copy)]
+struct PalletCheck;
+
+impl Check<PalletInfo> for PalletCheck {
+    ghost use Rattle.network_config.specs.References.{pallet_flaws};
+
+    ghost flaws = { λ _ earlier pallet. pallet_flaws earlier pallet };
+
+    fn flaws_of(&self, earlier: &[PalletInfo], pallet: &PalletInfo) -> Flaws {
+        Flaws {
+            repeated: has_pallet(earlier, pallet.index),
+            bad: false,
+            past: false,
+        }
+    }
+}
+
+/// The queries of a chain.
+#[derive(Clone, Copy)]
+struct QueryCheck<'a> {
+    chains: &'a [ChainSpec],
+    here: ChainId,
+}
+
+impl Check<(u64, ChainId)> for QueryCheck<'_> {
+    ghost use Rattle.network_config.specs.References.{query_flaws};
+
+    ghost flaws = { λ check earlier query. query_flaws check.chains.now check.here earlier query };
+
+    fn flaws_of(&self, earlier: &[(u64, ChainId)], query: &(u64, ChainId)) -> Flaws {
+        Flaws {
+            repeated: has_query(earlier, query.0, query.1),
+            bad: !is_other(self.chains, self.here, query.1),
+            past: false,
+        }
+    }
+}
+
+/// Whether the sender lists the asset.
+fn sender_lists(chains: &[ChainSpec], from: ChainId, fee: &Asset) -> bool
+    ensures { result ≡ list_any (λ c. same_chain c.chain from && list_any (is_row_of fee.now) c.assets) chains.now }
+{
+    chains.iter().any(|c| same_chain(c.chain, from) && is_listed(c.assets.items(), fee))
+}
+
+/// Whether one of the channels leads from the one chain to the other.
+fn has_channel(channels: &[ChannelSpec], from: ChainId, to: ChainId) -> bool
+    ensures { result ≡ list_any (λ other. same_chain other.from from && same_chain other.channel.to to) channels.now }
+{
+    channels.iter().any(|other| same_chain(other.from, from) && same_chain(other.channel.to, to))
+}
+
+/// Whether the sender lists the asset of the fee.
+fn lists_fee(chains: &[ChainSpec], from: ChainId, fee: &Option<Asset>) -> bool
+    ensures { result ≡ lists_fee chains.now from fee.now }
+{
+    match fee {
+        None => true,
+        Some(fee) => sender_lists(chains, from, fee),
+    }
+}
+
+/// The channels between these chains.
+#[derive(Clone, Copy)]
+struct ChannelCheck<'a> {
+    chains: &'a [ChainSpec],
+}
+
+impl Check<ChannelSpec> for ChannelCheck<'_> {
+    ghost use Rattle.network_config.specs.References.{channel_flaws};
+
+    ghost flaws = { λ check earlier c. channel_flaws check.chains.now earlier c };
+
+    fn flaws_of(&self, earlier: &[ChannelSpec], c: &ChannelSpec) -> Flaws {
+        let (from, to) = (c.from, c.channel.to);
+        let between = is_there(self.chains, from) && is_other(self.chains, from, to);
+        Flaws {
+            repeated: has_channel(earlier, from, to),
+            bad: !between || !lists_fee(self.chains, from, &c.channel.fee),
+            past: false,
+        }
+    }
+}
+
+/// Refuses a chain by the first of its entries that says something anew, or names what isn't there.
+#[tactic(auto, unfolding(crate::specs::References::chain_references))]
+fn check_chain(
+    chains: &[ChainSpec],
+    network: NetworkId,
+    index: u32,
+    earlier: &[ChainSpec],
+    chain: &ChainSpec,
+) -> Result<(), NetworkFault>
+    ensures { result ≡ chain_references chains.now network index earlier.now chain.now }
+{
+    let here = chain.chain;
+    let entry = Some(index);
+    let place = Place {
+        chain: entry,
+        section: Section::Fields,
+        index: 0,
+    };
+    let flaws = Flaws {
+        repeated: has_chain(earlier, here),
+        bad: false,
+        past: false,
+    };
+    check_flaws(place, flaws)?;
+    let assets = chain.assets.items();
+    check_each(
+        &RateCheck { assets },
+        entry,
+        Section::Rates,
+        chain.rates.items(),
+    )?;
+    let rows = AssetCheck {
+        chains,
+        network,
+        here,
+    };
+    check_each(&rows, entry, Section::Assets, assets)?;
+    check_each(
+        &AccountCheck { assets },
+        entry,
+        Section::Accounts,
+        chain.accounts.items(),
+    )?;
+    check_each(&PalletCheck, entry, Section::Pallets, chain.pallets.items())?;
+    check_each(
+        &QueryCheck { chains, here },
+        entry,
+        Section::Queries,
+        chain.queries.items(),
+    )
+}
+
+/// Refuses the chains by the first of their entries.
+fn check_chains(chains: &[ChainSpec], network: NetworkId) -> Result<(), NetworkFault>
+    ensures { result ≡ chains_references chains.now network 0 [] chains.now }
+{
+    let mut index: u32 = 0;
+    for (at, chain) in chains.iter().enumerate() {
+        match check_chain(chains, network, index, &chains[..at], chain) {
+            Ok(()) => {}
+            Err(fault) => return Err(fault),
+        }
+        index = index.saturating_add(1);
+    }
+    Ok(())
+}
+
+/// Refuses a network by the first entry that says something anew, or names what isn't there.
+#[tactic(auto, unfolding(crate::specs::References::references))]
+pub fn check_references(spec: &NetworkSpec) -> Result<(), NetworkFault>
+    ensures { result ≡ references spec.now }
+{
+    let chains = spec.chains.items();
+    check_chains(chains, spec.network)?;
+    check_each(
+        &ChannelCheck { chains },
+        None,
+        Section::Channels,
+        spec.channels.items(),
+    )
+}
