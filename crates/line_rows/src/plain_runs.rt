@@ -1,9 +1,9 @@
 //! Programs of built instructions, and their runs.
 
+use plain_executor::{PlainInstruction, PlainLine, plain_program, run_plain};
 use plain_lists::Listed;
 use std::alloc::{AllocError, Global};
 use std::test::Fail;
-use plain_executor::{PlainInstruction, PlainLine, plain_program, run_plain};
 use xcm_program::{Instruction, Outcome, OutcomeError, Program, Weight, XcmError};
 
 const ACCOUNT: [u8; 32] = [1; 32];

@@ -3,9 +3,9 @@
 ghost use Rattle.std.specs.Prelude.{◌≡◌, ◌++◌, flat_map, slice_get, IfOk, OnOk, string_bytes};
 ghost use Rattle.report_text.specs.Steps.{name_text, plain_line_text, origin_text, end_text, outcome_text, run_text};
 
+use plain_executor::{PlainLine, PlainRun};
 use std::alloc::{AllocError, Global};
 use std::fmt::Write;
-use plain_executor::{PlainLine, PlainRun};
 use xcm_program::{Outcome, Program};
 
 /// Appends the lines of a run of the program: one for each instruction that ran, one for the registers at the end and one

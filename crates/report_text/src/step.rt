@@ -6,10 +6,10 @@ ghost use Rattle.report_text.specs.Steps.{heading, message_text, exec_text};
 
 use crate::run::write_run;
 use chain_ids::ChainId;
+use plain_executor::{plain_program, run_plain};
 use std::alloc::{AllocError, Global};
 use std::fmt::Write;
 use versioned_xcm::{MessageFault, decode_message};
-use plain_executor::{plain_program, run_plain};
 
 /// The block of the step with this number, from 1, that executes a message (SCALE codec, XCM format) on a chain on behalf of
 /// an account: the heading, and below it what the message does, why it is refused, or that there is no such chain. The relay
