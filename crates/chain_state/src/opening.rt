@@ -1,11 +1,12 @@
 //! A chain on which nothing has happened.
-ghost use Rattle.std.specs.Prelude.{◌≡◌, ◌<◌, ◌≤◌, ◌^◌, length, map, IsTrue, IsFalse, IfOk, OnOk, OnErr, [], ◌∷◌};
+ghost use Rattle.std.specs.Prelude.{◌≡◌, ◌<◌, ◌≤◌, ◌^◌, length, map, IsTrue, IsFalse, None, IfOk, IfErr, OnOk, OnErr, [], ◌∷◌};
 ghost use Rattle.std.specs.Ordering.{eq_by_cmp};
 ghost use Rattle.std.specs.List.{IsDistinct};
 ghost use Rattle.asset_lists.specs.Units.{unit_of, is_zero};
 ghost use Rattle.asset_lists.specs.Listed.{listed_cmp, listed_of, lists};
-ghost use Rattle.asset_bundles.specs.Bundles.{bundle_of};
-ghost use Rattle.ledgers.specs.Ledgers.{listed_pair, Deposited};
+ghost use Rattle.asset_bundles.specs.Bundles.{bundle_of, held_assets};
+ghost use Rattle.ledgers.specs.Ledgers.{listed_pair, Deposited, barred};
+ghost use Rattle.ledgers.specs.LedgerFaults.{IsDepositFault};
 ghost use Rattle.trust_tables.specs.Chains.{path_of_site};
 ghost use Rattle.trust_tables.specs.Trust.{listing};
 ghost use Rattle.channel_parts.specs.Channels.{opened};
@@ -122,11 +123,14 @@ impl ChainState {
         })
     }
 
-    /// Makes an asset, which is no amount of 0, in an account: what stands there when the network opens.
+    /// Makes an asset, which is no amount of 0, in an account: what stands there when the network opens. `Err` is an amount that would
+    /// pass 2^128-1, an instance that has an owner, or out of memory; the account is then as it was.
     pub fn place(&mut self, who: &[u8; 32], asset: Asset) -> Result<(), DepositFault>
         requires some { IsFalse (is_zero asset) }
         requires listed { IsTrue (lists (listing (part_of self.old).rows) (listed_of (unit_of asset))) }
         ensures placed { OnOk result (part_of self.new ≡ record (part_of self.old) { held = (Deposited who.now (bundle_of (asset ∷ [])) (accounts_of (part_of self.old))).held }) }
+        ensures fault { IfErr result (λ fault. IsDepositFault (part_of self.old).held who.now (held_assets (bundle_of (asset ∷ []))) fault) }
+        ensures free { OnOk result (barred (part_of self.old).held who.now (held_assets (bundle_of (asset ∷ []))) ≡ None) }
         ensures kept { OnErr result (part_of self.new ≡ part_of self.old) }
     {
         let goods = AssetBundle::mint(*self.events.allocator(), &[asset])?;

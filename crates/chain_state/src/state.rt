@@ -17,9 +17,8 @@ use trust_tables::{AssetRow, Site};
 use weight_trader::Trader;
 
 /// A chain of the network: what its document says, what stands at it, what it sends, and what is told. The ledger and the book list what
-/// the rows list, the id of each has a path, each rate's asset is listed, each channel's fee is an amount above 0 of a
-/// fungible asset, there are at most 64 pallets, and four bundles can be
-/// parked without memory.
+/// the rows list, the id of each has a path, each rate's asset is listed, each channel's fee is an amount above 0 of a fungible asset,
+/// there are at most 64 pallets, and four bundles can be parked without memory.
 #[derive(Drop)]
 pub struct ChainState {
     pub(crate) site: Site,
