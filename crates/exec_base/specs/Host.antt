@@ -27,7 +27,7 @@ use Rattle.asset_bundles.specs.declared.shipment.Way.{Way}
 use Rattle.asset_bundles.specs.declared.book.Cause.{Cause}
 use Rattle.asset_bundles.specs.declared.totals.Total.{Total}
 use Rattle.asset_bundles.specs.Bundles.{Bundle, bundle_of, held_assets}
-use Rattle.asset_bundles.specs.Books.{Booked, Burns, burned_for, given_up, excess_cause}
+use Rattle.asset_bundles.specs.Books.{Booked, Burns, burned_for, given_up, excess_cause, most_burned}
 use Rattle.asset_lists.specs.Listed.{Listed, kind_of, listed_of}
 use Rattle.asset_bundles.specs.Changed.{with_amounts}
 use Rattle.asset_bundles.specs.Joins.{Excess}
@@ -373,8 +373,12 @@ fee_held p goods = record p { fee_slot = goods }
 unfoldable pub fee_taken : ChainPart → ChainPart
 fee_taken p = record p { fee_slot = empty }
 
+-- fees with more of them, asset by asset; each sum saturates at 2^160-1
+unfoldable pub fees_with : Bundle → Bundle → Bundle
+fees_with fees more = merge fees (with_amounts (λ (unit : Unit) n. min n (most_burned - amount fees unit)) more)
+
 unfoldable pub fee_kept : ChainPart → ChainPart
-fee_kept p = record p { fee_slot = empty; fees = merge p.fees p.fee_slot }
+fee_kept p = record p { fee_slot = empty; fees = fees_with p.fees p.fee_slot }
 
 -- a fee from an account ends no cargo
 unfoldable pub fee_drawn : ChainPart → List Asset → Location → ChainPart

@@ -176,7 +176,7 @@ pub trait Host {
         ensures goods { result ≡ (part self.old).fee_slot }
         ensures step { part self.new ≡ fee_taken (part self.old) };
 
-    /// Adds the slot to the fees.
+    /// Adds the slot to the fees, whose sums saturate at 2^160-1.
     fn keep_fee(&mut self)
         ensures step { part self.new ≡ fee_kept (part self.old) };
 

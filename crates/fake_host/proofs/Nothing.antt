@@ -1,9 +1,9 @@
 -- What nothing leaves: no fee, no line and no asset.
-use Rattle.std.proofs.Common.{◌≡◌, ℕ, ◌+◌, ◌-◌, ◌^◌, List, [], ◌∷◌, ◌++◌, map, refl, sym, ap, ◌∙◌, subst, arith, inl, inr}
+use Rattle.std.proofs.Common.{◌≡◌, ℕ, ◌+◌, ◌-◌, ◌^◌, List, [], ◌++◌, map, refl, sym, ap, ◌∙◌, arith, inl, inr}
 use Rattle.std.proofs.lemmas.List.{append-nil}
 use Rattle.std.specs.declared.cmp.Ordering.{Ordering}
-use Rattle.amounts.specs.Rows.{IsKeyOrder, rows_at}
-use Rattle.amounts.specs.Amounts.{Amounts, amount, empty, rows, from_rows, plus_all, merge, difference, map_keys, amount-empty, same_amounts}
+use Rattle.amounts.specs.Rows.{rows_at}
+use Rattle.amounts.specs.Amounts.{amount, empty, rows, from_rows, plus_all, merge, difference, map_keys, amount-empty, same_amounts}
 use Rattle.amounts.specs.Laws.{rows-from_rows, merge-empty, amount-difference}
 use Rattle.asset_lists.specs.Units.{Unit, unit_cmp}
 use Rattle.asset_lists.specs.Listed.{listed_of}
@@ -11,19 +11,19 @@ use Rattle.asset_bundles.specs.declared.book.Cause.{Cause}
 use Rattle.asset_bundles.specs.Bundles.{Bundle, unit_keys, assets_at, held_assets, bundle_of}
 use Rattle.asset_bundles.specs.BundleLaws.{bundle_of-none}
 use Rattle.asset_bundles.specs.Changed.{rows_with, with_amounts}
-use Rattle.asset_bundles.specs.Books.{Book, Booked, Burns, burned_for}
+use Rattle.asset_bundles.specs.Books.{Book, Booked, burned_for, most_burned}
 use Rattle.asset_bundles.specs.Laws.{booked_nothing}
-use Rattle.ledgers.specs.Ledgers.{Holder, Held, held_by}
+use Rattle.ledgers.specs.Ledgers.{Held, held_by}
 use Rattle.ledgers.specs.Laws.{holder_keys}
-use Rattle.weight_trader.specs.Purchases.{Line, paid_goods}
+use Rattle.weight_trader.specs.Purchases.{paid_goods}
 use Rattle.weight_trader.specs.Refunds.{Closed}
-use Rattle.std.specs.Prelude.{Option, None, Some, option_and_then, find}
+use Rattle.std.specs.Prelude.{Option, None, Some, option_and_then, find, min}
 use Rattle.channel_parts.specs.Channels.{Outgoing}
 use Rattle.locations.specs.declared.relative.Location.{Location}
 use Rattle.trust_tables.specs.Accounts.{account_of}
 use Rattle.exec_base.specs.Part.{ChainPart, book_of}
 use Rattle.exec_base.specs.Sending.{leads_to}
-use Rattle.exec_base.specs.Host.{fee_to, IsFeeOrNothing, all_fees, fees_above, fees_within, settled_burns, burned_line, burned_lines, settled, at_account, transferred}
+use Rattle.exec_base.specs.Host.{fee_to, IsFeeOrNothing, all_fees, fees_above, fees_within, settled_burns, fees_with, burned_line, burned_lines, settled, at_account, transferred}
 
 -- the rows of nothing
 pub rows-nothing : rows (empty {R = unit_cmp}) ≡ []
@@ -42,8 +42,9 @@ pub held_nothing : held_assets empty ≡ []
 unfolding held_assets
 held_nothing = ap (λ (es : List (Unit × ℕ)). assets_at es) rows-nothing
 
-pub kept_nothing : ◌≡◌ {A = Bundle} empty (merge empty empty)
-kept_nothing = sym (merge-empty unit_keys empty)
+pub kept_nothing : empty ≡ fees_with empty empty
+unfolding fees_with
+kept_nothing = sym (ap (merge empty) (with_amounts-nothing (λ unit n. min n (most_burned - amount {R = unit_cmp} empty unit))) ∙ merge-empty unit_keys empty)
 
 difference-nothing : ◌≡◌ {A = Bundle} (difference empty empty) empty
 difference-nothing = same_amounts unit_keys _ _ (λ u.

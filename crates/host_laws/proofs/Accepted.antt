@@ -76,28 +76,28 @@ module _ (withdraws : Withdraws) (moves : MovesAreKept) where
   conserved (Instruction-F.TransferAsset list who) m test steady in_order fees room ok = plain _ _ test (by_origin m.regs.origin m _ _ test ok
       (λ from h. part_whole m (transferred m.part list from who) (conserves_transfer withdraws m.part list from who in_order h) test))
   conserved (Instruction-F.TransferReserveAsset list dest program) m test steady in_order fees room ok = plain _ _ test (by_origin m.regs.origin m _ _ test ok
-      (λ who h. around_whole withdraws (fee_to m.part dest) m (λ n. transfer_out_refusal n.part list who dest program) (λ n. machine n.regs (transferred_out n.part list who dest program)) (fees dest) steady.rest.slot h
+      (λ who h. around_whole withdraws (fee_to m.part dest) m (λ n. transfer_out_refusal n.part list who dest program) (λ n. machine n.regs (transferred_out n.part list who dest program)) (fees dest) steady.rest.slot room h
       (λ n k t. part_whole n (transferred_out n.part list who dest program) (conserves_transfer_out withdraws n.part list who dest program in_order k) t) test))
   conserved (Instruction-F.DepositReserveAsset filter dest program) m test steady in_order fees room ok = plain _ _ test
-      (around_whole withdraws (fee_to m.part dest) m (λ n. deposit_out_refusal n.part (taken_of n filter) dest program) (λ n. holding_left n filter (deposited_out n.part (taken_of n filter) dest program)) (fees dest) steady.rest.slot ok
+      (around_whole withdraws (fee_to m.part dest) m (λ n. deposit_out_refusal n.part (taken_of n filter) dest program) (λ n. holding_left n filter (deposited_out n.part (taken_of n filter) dest program)) (fees dest) steady.rest.slot room ok
       (λ n k t. left_whole n filter (deposited_out n.part (taken_of n filter) dest program) (conserves_deposit_out n.part (taken_of n filter) dest program k) t) test)
   conserved (Instruction-F.InitiateReserveWithdraw filter dest program) m test steady in_order fees room ok = plain _ _ test
-      (around_whole withdraws (fee_to m.part dest) m (λ n. ship_refusal n.part (taken_of n filter) Way.Withdrawal dest program) (λ n. holding_left n filter (shipped n.part (taken_of n filter) Way.Withdrawal dest program)) (fees dest) steady.rest.slot ok
+      (around_whole withdraws (fee_to m.part dest) m (λ n. ship_refusal n.part (taken_of n filter) Way.Withdrawal dest program) (λ n. holding_left n filter (shipped n.part (taken_of n filter) Way.Withdrawal dest program)) (fees dest) steady.rest.slot room ok
       (λ n k t. left_whole n filter (shipped n.part (taken_of n filter) Way.Withdrawal dest program) (conserves_shipping n.part (taken_of n filter) Way.Withdrawal dest program k) t) test)
   conserved (Instruction-F.InitiateTeleport filter dest program) m test steady in_order fees room ok = plain _ _ test
-      (around_whole withdraws (fee_to m.part dest) m (λ n. ship_refusal n.part (taken_of n filter) Way.Teleport dest program) (λ n. holding_left n filter (shipped n.part (taken_of n filter) Way.Teleport dest program)) (fees dest) steady.rest.slot ok
+      (around_whole withdraws (fee_to m.part dest) m (λ n. ship_refusal n.part (taken_of n filter) Way.Teleport dest program) (λ n. holding_left n filter (shipped n.part (taken_of n filter) Way.Teleport dest program)) (fees dest) steady.rest.slot room ok
       (λ n k t. left_whole n filter (shipped n.part (taken_of n filter) Way.Teleport dest program) (conserves_shipping n.part (taken_of n filter) Way.Teleport dest program k) t) test)
   conserved (Instruction-F.ReportError info) m test steady in_order fees room ok = plain _ _ test
-      (around_whole withdraws (fee_to m.part info.destination) m (λ n. report_refused n info (response.ExecutionResult n.regs.error)) (λ n. report_done n info (response.ExecutionResult n.regs.error)) (fees info.destination) steady.rest.slot ok
+      (around_whole withdraws (fee_to m.part info.destination) m (λ n. report_refused n info (response.ExecutionResult n.regs.error)) (λ n. report_done n info (response.ExecutionResult n.regs.error)) (fees info.destination) steady.rest.slot room ok
       (λ n k t. report_whole n info (response.ExecutionResult n.regs.error) t) test)
   conserved (Instruction-F.ReportHolding info filter) m test steady in_order fees room ok = plain _ _ test
-      (around_whole withdraws (fee_to m.part info.destination) m (λ n. holding_report_refused n info (reported_list n info filter)) (λ n. holding_report_done n info (reported_list n info filter)) (fees info.destination) steady.rest.slot ok
+      (around_whole withdraws (fee_to m.part info.destination) m (λ n. holding_report_refused n info (reported_list n info filter)) (λ n. holding_report_done n info (reported_list n info filter)) (fees info.destination) steady.rest.slot room ok
       (λ n k t. holding_report_whole n info (reported_list n info filter) t) test)
   conserved (Instruction-F.QueryPallet name info) m test steady in_order fees room ok = plain _ _ test
-      (around_whole withdraws (fee_to m.part info.destination) m (λ n. report_refused n info (response.PalletsInfo (pallets_of n.part name))) (λ n. report_done n info (response.PalletsInfo (pallets_of n.part name))) (fees info.destination) steady.rest.slot ok
+      (around_whole withdraws (fee_to m.part info.destination) m (λ n. report_refused n info (response.PalletsInfo (pallets_of n.part name))) (λ n. report_done n info (response.PalletsInfo (pallets_of n.part name))) (fees info.destination) steady.rest.slot room ok
       (λ n k t. report_whole n info (response.PalletsInfo (pallets_of n.part name)) t) test)
   conserved (Instruction-F.ReportTransactStatus info) m test steady in_order fees room ok = plain _ _ test
-      (around_whole withdraws (fee_to m.part info.destination) m (λ n. report_refused n info (response.DispatchResult n.regs.status)) (λ n. report_done n info (response.DispatchResult n.regs.status)) (fees info.destination) steady.rest.slot ok
+      (around_whole withdraws (fee_to m.part info.destination) m (λ n. report_refused n info (response.DispatchResult n.regs.status)) (λ n. report_done n info (response.DispatchResult n.regs.status)) (fees info.destination) steady.rest.slot room ok
       (λ n k t. report_whole n info (response.DispatchResult n.regs.status) t) test)
   conserved (Instruction-F.QueryResponse query answer weight querier) m test steady in_order fees room ok = plain _ _ test (by_origin m.regs.origin m _ _ test ok
       (λ who h. part_whole m (answered m.part who query) (conserves_answer m.part who query) test))

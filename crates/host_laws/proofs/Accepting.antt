@@ -1,5 +1,5 @@
 -- What an accepted instruction conserves, step by step.
-use Rattle.std.proofs.Common.{◌≡◌, ℕ, ◌+◌, ◌≤◌, Bool, true, false, List, [], ◌∷◌, Option, Some, None, refl, ap, ◌∙◌, arith}
+use Rattle.std.proofs.Common.{◌≡◌, ℕ, ◌+◌, ◌≤◌, Bool, true, false, List, [], ◌∷◌, Option, Some, None, refl, sym, ap, ◌∙◌, subst, arith}
 use Rattle.std.specs.Prelude.{if◌then◌else◌, IsTrue}
 use Rattle.std.specs.Ordering.{eq_by_cmp}
 use Rattle.amounts.specs.Amounts.{total, empty, merge, total-empty}
@@ -10,7 +10,8 @@ use Rattle.message_parts.specs.declared.error.XcmError.TheVariants as error
 use Rattle.message_parts.specs.declared.weight.Weight.{Weight}
 use Rattle.asset_lists.specs.declared.units.Asset.{Asset}
 use Rattle.asset_lists.specs.declared.filters.Filter.{Filter}
-use Rattle.asset_lists.specs.Listed.{Listed, listed_cmp}
+use Rattle.asset_lists.specs.Listed.{Listed, listed_cmp, listed_of}
+use Rattle.asset_lists.specs.Units.{Unit, unit_cmp}
 use Rattle.asset_lists.specs.Lists.{IsAssetList}
 use Rattle.asset_bundles.specs.declared.book.Cause.{Cause}
 use Rattle.asset_bundles.specs.Bundles.{Bundle, unit_keys}
@@ -26,7 +27,7 @@ use Rattle.exec_rules.specs.Holdings.{with_origin, at_origin, holds_asset, holdi
 use Rattle.exec_rules.specs.Fees.{fee_refusal, after_fee, refused_around, keeping_fee, done_around}
 use Rattle.exec_rules.specs.AnswerLaws.{unless_held, none_first, none_next}
 use Rattle.exec_rules.specs.HoldingLaws.{payment_within}
-use Rattle.host_laws.specs.Wholes.{whole, Conserves, BooksBelow, BuysBelow}
+use Rattle.host_laws.specs.Wholes.{on_chain, whole, Conserves, BooksBelow, BuysBelow, KeepsBelow}
 use Rattle.host_laws.specs.Accepted.{whole_of, HasRoomFor}
 use Rattle.host_laws.proofs.Booking.{conserves_join, conserves_burn, conserves_held_fee, conserves_kept_fee}
 use Rattle.host_laws.proofs.Moving.{Withdraws, conserves_drawn_fee}
@@ -158,13 +159,33 @@ charged_by law m fee false in_order slot ok test = from_holding m fee slot ok te
 charged_whole : Withdraws → (m : Machine) (fee : Asset) → IsAssetList (fee ∷ []) → m.part.fee_slot ≡ empty → fee_refusal m fee ≡ None → (test : Listed → Bool) → whole_of test (after_fee m fee) ≡ whole_of test m
 charged_whole law m fee in_order slot ok test = charged_by law m fee m.regs.fees_mode in_order slot ok test
 
-keeping_whole : (m : Machine) (test : Listed → Bool) → whole_of test (keeping_fee m) ≡ whole_of test m
-keeping_whole m test = part_whole m (fee_kept m.part) (conserves_kept_fee m.part) test
+unit_passes : (unit : Unit) → IsTrue (is_unit_of (listed_of unit) unit)
+unit_passes unit = same_key listed_keys (listed_of unit)
 
-pub around_whole : Withdraws → (o : Option Asset) (m : Machine) (rule : Machine → Option XcmError) (change : Machine → Machine) → ((fee : Asset) → o ≡ Some fee → IsAssetList (fee ∷ [])) → m.part.fee_slot ≡ empty
+fees_in_whole : (t : Unit → Bool) (p : ChainPart) → total t p.fees + total t p.fee_slot ≤ on_chain t p
+unfolding on_chain
+fees_in_whole t p = omega arith
+
+-- kept fees are part of what is on the chain
+keeps_below : (m : Machine) → HasRoomFor empty m → KeepsBelow m.part
+keeps_below m room unit =
+    let kept = amount_at_most unit_keys (is_unit_of (listed_of unit)) m.part.fees unit (unit_passes unit) in
+    let slot = amount_at_most unit_keys (is_unit_of (listed_of unit)) m.part.fee_slot unit (unit_passes unit) in
+    let here = fees_in_whole (is_unit_of (listed_of unit)) m.part in
+    let all = room (listed_of unit) in
+    omega (arith, kept, slot, here, all)
+
+keeping_whole : (m : Machine) → HasRoomFor empty m → (test : Listed → Bool) → whole_of test (keeping_fee m) ≡ whole_of test m
+keeping_whole m room test = part_whole m (fee_kept m.part) (conserves_kept_fee m.part (keeps_below m room)) test
+
+same_room : (m n : Machine) → ((test : Listed → Bool) → whole_of test n ≡ whole_of test m) → HasRoomFor empty m → HasRoomFor empty n
+same_room m n same room k = subst (λ (a : ℕ). a + total {R = unit_cmp} (is_unit_of k) empty ≤ most_burned) (sym (same (eq_by_cmp listed_cmp k))) (room k)
+
+pub around_whole : Withdraws → (o : Option Asset) (m : Machine) (rule : Machine → Option XcmError) (change : Machine → Machine) → ((fee : Asset) → o ≡ Some fee → IsAssetList (fee ∷ [])) → m.part.fee_slot ≡ empty → HasRoomFor empty m
     → refused_around o m rule ≡ None → ((n : Machine) → rule n ≡ None → (test : Listed → Bool) → whole_of test (change n) ≡ whole_of test n) → (test : Listed → Bool) → whole_of test (done_around o m change) ≡ whole_of test m
-around_whole law None m rule change fees slot ok inside test = inside m ok test
-around_whole law (Some fee) m rule change fees slot ok inside test =
-    keeping_whole (change (after_fee m fee)) test
-    ∙ inside (after_fee m fee) (none_next (fee_refusal m fee) (rule (after_fee m fee)) ok) test
-    ∙ charged_whole law m fee (fees fee refl) slot (none_first (fee_refusal m fee) (rule (after_fee m fee)) ok) test
+around_whole law None m rule change fees slot room ok inside test = inside m ok test
+around_whole law (Some fee) m rule change fees slot room ok inside test =
+    let same : (t : Listed → Bool) → whole_of t (change (after_fee m fee)) ≡ whole_of t m =
+    λ t. inside (after_fee m fee) (none_next (fee_refusal m fee) (rule (after_fee m fee)) ok) t
+    ∙ charged_whole law m fee (fees fee refl) slot (none_first (fee_refusal m fee) (rule (after_fee m fee)) ok) t in
+    keeping_whole (change (after_fee m fee)) (same_room m (change (after_fee m fee)) same room) test ∙ same test

@@ -1,22 +1,23 @@
 -- What is booked, joined, burned and parked, and what changes no amount.
 use Rattle.std.proofs.Common.{◌≡◌, ℕ, ◌+◌, Bool, List, [], ◌∷◌, Option, Some, None, refl, ap, ◌∙◌, arith}
-use Rattle.std.specs.Prelude.{◌++◌, remove, position}
+use Rattle.std.specs.Prelude.{◌++◌, ◌-◌, min, remove, position}
 use Rattle.std.specs.Option.{option_map_or}
 use Rattle.std.proofs.lemmas.List.Sums.{sum_by_push}
-use Rattle.amounts.specs.Amounts.{total, merge, empty, total-empty}
+use Rattle.amounts.specs.Amounts.{amount, total, merge, empty, total-empty, same_amounts}
 use Rattle.amounts.specs.Laws.{total-merge}
 use Rattle.locations.specs.declared.relative.Location.{Location}
 use Rattle.asset_lists.specs.Units.{Unit, unit_cmp}
 use Rattle.asset_lists.specs.Listed.{Listed}
 use Rattle.asset_bundles.specs.declared.book.Cause.{Cause}
 use Rattle.asset_bundles.specs.Bundles.{Bundle, unit_keys}
-use Rattle.asset_bundles.specs.Books.{Burns, burned_for, given_up, excess_cause, is_unit_where, is_burn_where}
+use Rattle.asset_bundles.specs.Books.{Burns, burned_for, given_up, excess_cause, is_unit_where, is_burn_where, most_burned}
+use Rattle.asset_bundles.specs.Changed.{amount-with_amounts}
 use Rattle.asset_bundles.specs.Joins.{Joined, Excess}
 use Rattle.asset_bundles.specs.Laws.{burn_keys, burned_for_total, given_up_total, joined_total, booked_below}
 use Rattle.exec_base.specs.declared.event.Event.{Event}
 use Rattle.exec_base.specs.Part.{ChainPart, book_of}
-use Rattle.exec_base.specs.Host.{booked, burned_lines, joined, burnt, parked, fee_held, fee_taken, fee_kept, told, answered, is_query}
-use Rattle.host_laws.specs.Wholes.{on_chain, burned_where, whole, Conserves, BooksBelow}
+use Rattle.exec_base.specs.Host.{booked, burned_lines, joined, burnt, parked, fee_held, fee_taken, fees_with, fee_kept, told, answered, is_query}
+use Rattle.host_laws.specs.Wholes.{on_chain, burned_where, whole, Conserves, BooksBelow, KeepsBelow}
 
 -- where nothing goes in or out, the whole stays
 pub keeps_whole : (p q : ChainPart) → ((test : Listed → Bool) → whole test q ≡ whole test p) → Conserves empty empty p q
@@ -93,9 +94,18 @@ conserves_taken_fee p test =
     let none = total-empty unit_keys (is_unit_where test) in
     omega (arith, none)
 
-pub conserves_kept_fee : (p : ChainPart) → Conserves empty empty p (fee_kept p)
+-- sums that don't reach their end
+fees_below : (p : ChainPart) → KeepsBelow p → fees_with p.fees p.fee_slot ≡ merge p.fees p.fee_slot
+unfolding fees_with
+fees_below p below = ap (merge p.fees) (same_amounts unit_keys _ _ (λ unit.
+    let kept = amount-with_amounts unit_keys (λ (u : Unit) n. min n (most_burned - amount p.fees u)) (λ u. omega arith) p.fee_slot unit in
+    let le = below unit in
+    omega (arith, kept, le)))
+
+pub conserves_kept_fee : (p : ChainPart) → KeepsBelow p → Conserves empty empty p (fee_kept p)
 unfolding fee_kept on_chain
-conserves_kept_fee p test =
+conserves_kept_fee p below test =
+    let kept = ap (total (is_unit_where test)) (fees_below p below) in
     let more = total-merge unit_keys (is_unit_where test) p.fees p.fee_slot in
     let none = total-empty unit_keys (is_unit_where test) in
-    omega (arith, more, none)
+    omega (arith, kept, more, none)

@@ -12,7 +12,7 @@ use Rattle.message_parts.specs.declared.weight.Weight.{Weight}
 use Rattle.asset_lists.specs.Listed.{Listed, listed_of}
 use Rattle.asset_bundles.specs.declared.book.Cause.{Cause}
 use Rattle.asset_bundles.specs.Bundles.{Bundle}
-use Rattle.asset_bundles.specs.Books.{Burns, AreTotals, burned_for, is_unit_where, is_burn_where}
+use Rattle.asset_bundles.specs.Books.{Burns, AreTotals, burned_for, is_unit_where, is_burn_where, most_burned}
 use Rattle.ledgers.specs.Ledgers.{Holder, account_cmp, is_account}
 use Rattle.trap_store.specs.Traps.{trapped_where}
 use Rattle.weight_trader.specs.Purchases.{Line, coin_of, paying, excess, paid_goods}
@@ -72,6 +72,10 @@ Conserves goods_in goods_out before now =
 -- no sum of burns passes its end by these
 abbrev pub BooksBelow : ChainPart → Burns → Type 0
 BooksBelow p more = AreTotals (merge p.burns more)
+
+-- no sum of kept delivery fees passes its end by what the slot holds
+abbrev pub KeepsBelow : ChainPart → Type 0
+KeepsBelow p = (unit : Unit) → amount p.fees unit + amount p.fee_slot unit ≤ most_burned
 
 -- the fee account has no more of a unit than an account may have
 abbrev pub IsFeeAccountWithin : ChainPart → Type 0

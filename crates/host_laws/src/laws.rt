@@ -25,7 +25,7 @@ ghost use Rattle.exec_run.specs.Machine.{Machine};
 ghost use Rattle.exec_rules.specs.Instructions.{refusal_of, xcm};
 ghost use Rattle.exec_rules.specs.Readiness.{IsSteady};
 ghost use Rattle.host_laws.specs.Accepted.{whole_of, made, HasList, AreFees, HasRoomFor};
-ghost use Rattle.host_laws.specs.Wholes.{whole, Conserves, BooksBelow, BuysBelow, IsFeeAccountWithin, account_total, IsOtherAccount};
+ghost use Rattle.host_laws.specs.Wholes.{whole, Conserves, BooksBelow, BuysBelow, KeepsBelow, IsFeeAccountWithin, account_total, IsOtherAccount};
 
 use ledgers::law_of_ledgers;
 use trap_store::law_of_traps;
@@ -83,7 +83,7 @@ pub fn law_of_sendings()
 pub fn law_of_fees()
     ensures held { (p : ChainPart) (goods : Bundle) → p.fee_slot ≡ empty → Conserves goods empty p (fee_held p goods) }
     ensures taken { (p : ChainPart) → Conserves empty p.fee_slot p (fee_taken p) }
-    ensures kept { (p : ChainPart) → Conserves empty empty p (fee_kept p) }
+    ensures kept { (p : ChainPart) → KeepsBelow p → Conserves empty empty p (fee_kept p) }
     ensures drawn { (p : ChainPart) (list : List Asset) (who : Location)
         → IsAssetList list → withdraw_refusal p list who ≡ None → Conserves empty (bundle_of list) p (fee_drawn p list who) }
     ensures bought { (p : ChainPart) (w : Weight) (payment : Bundle) → AreWithinEnd p.lines → BuysBelow p w payment → Conserves payment (unspent p w payment) p (bought p w payment) }
