@@ -1,0 +1,227 @@
+-- A message of one of the five shapes lowers its origin's account alone: what isn't behind ClearOrigin is one instruction.
+use Rattle.std.proofs.Common.{◌≡◌, ℕ, zero, suc, ◌+◌, List, [], ◌∷◌, Option, Some, None, Result, Ok, Err, ⊎_elim, refl, sym, ap, subst}
+use Rattle.std.specs.Prelude.{⊤}
+use Rattle.chain_ids.specs.declared.chain.ChainId.{ChainId}
+use Rattle.locations.specs.declared.relative.Location.{Location}
+use Rattle.message_parts.specs.declared.error.XcmError.{XcmError}
+use Rattle.message_parts.specs.declared.query.Response.{Response}
+use Rattle.message_parts.specs.declared.weight.Weight.{Weight}
+use Rattle.asset_lists.specs.declared.units.Asset.{Asset}
+use Rattle.asset_bundles.specs.declared.shipment.Way.{Way}
+use Rattle.trust_tables.specs.declared.chains.Site.{Site}
+use Rattle.trust_tables.specs.Accounts.{account_of}
+use Rattle.ledgers.specs.Ledgers.{Held}
+use Rattle.xcm_program.specs.declared.instruction.Instruction.{Instruction, out-Instruction, roll-Instruction, out-roll-Instruction}
+use Rattle.xcm_program.specs.declared.instruction.Instruction.TheOpen.{Instruction-F}
+use Rattle.xcm_program.specs.declared.outcome.Outcome.{Outcome}
+use Rattle.channel_parts.specs.declared.cargo.Cargo.{Cargo}
+use Rattle.channel_parts.specs.declared.cargo.Cargo.TheVariants.{Nothing, Deposit, Away}
+use Rattle.exec_base.specs.declared.event.Event.{Event}
+use Rattle.exec_base.specs.declared.event.Part.{Part}
+use Rattle.exec_base.specs.declared.event.Part.TheVariants.{Program}
+use Rattle.exec_base.specs.Part.{ChainPart}
+use Rattle.exec_base.specs.Sending.{led_by, away_program}
+use Rattle.exec_base.specs.Host.{told}
+use Rattle.exec_run.specs.Machine.{Machine, machine}
+use Rattle.exec_run.specs.Run.{Stage, At, Ended, begin, go_on, traced, by_answer, steps, machine_of, run, still_to_run, Reaches, Halted}
+use Rattle.exec_run.specs.RunLaws.{steps_end}
+use Rattle.exec_run.specs.Outcome.{finished}
+use Rattle.exec_rules.specs.Stopping.{spills}
+use Rattle.exec_rules.specs.Instructions.{refused, refusal_of, done, xcm}
+use Rattle.exec_admission.specs.declared.rules.ChainRules.{ChainRules}
+use Rattle.exec_admission.specs.declared.admission.Admitted.{Admitted}
+use Rattle.exec_admission.specs.Execution.{first_machine, first_stage, last_machine, executed_by, AbandonedIn}
+use Rattle.message_shapes.specs.Shapes.{IsAnswer, IsLedByClaim, IsShape}
+use Rattle.authority.specs.Origins.{speaker_at, speaker_of, LowersOnly}
+use Rattle.authority.proofs.Lowering.{same_lowers, then_lowers, none_lowers}
+use Rattle.authority.proofs.Acts.{View, view, done_acts}
+use Rattle.authority.proofs.Runs.{go_on_holds, steps_hold, finished_lowers}
+use Rattle.authority.proofs.Stopping.{halted_lowers, clear_halted, stopped_lowers}
+
+-- ---- without an origin
+record Quiet (may : Option (List ℕ)) (start : Held) (v : View) : Type 0 where
+  silent : v.origin ≡ None
+  lowers : LowersOnly may start v.held
+
+quiet_kept : (may : Option (List ℕ)) (start : Held) (l : Instruction-F Instruction) (m : Machine) → Quiet may start (view m) → Quiet may start (view (done l m))
+quiet_kept may start l m v =
+    let acts = done_acts l m in
+    let none : speaker_of m ≡ None = ap (speaker_at m.part.site) v.silent in
+    record {
+      silent = acts.empty v.silent;
+      lowers = then_lowers may start m.part.held (done l m).part.held v.lowers
+          (none_lowers may m.part.held (done l m).part.held (subst (λ (s : Option (List ℕ)). LowersOnly s m.part.held (done l m).part.held) none acts.lowers));
+    }
+
+-- ---- a message at its receiver
+module _ (rules : ChainRules) (origin : Location) (p : ChainPart) where
+  abbrev may : Option (List ℕ)
+  may = account_of origin p.site
+
+  abbrev start : Machine
+  start = first_machine rules origin p
+
+  -- where the run stands, and whatever is left where memory is refused there
+  abbrev Safe : Stage → Type 0
+  Safe (At part place x behind m) = LowersOnly may p.held m.part.held × ((left : Machine) → Halted xcm spills x m left → LowersOnly may p.held left.part.held)
+  Safe (Ended m) = LowersOnly may p.held m.part.held
+
+  lowers_of : (g : Stage) → Safe g → LowersOnly may p.held (machine_of g).part.held
+  lowers_of (At part place x behind m) s = s.0
+  lowers_of (Ended m) s = s
+
+  safe_quiet : (g : Stage) → Quiet may p.held (view (machine_of g)) → Safe g
+  safe_quiet (At part place x behind m) q = (
+    q.lowers,
+    λ left k. then_lowers may p.held m.part.held left.part.held q.lowers
+        (none_lowers may m.part.held left.part.held (subst (λ (s : Option (List ℕ)). LowersOnly s m.part.held left.part.held) (ap (speaker_at m.part.site) q.silent) (halted_lowers x m left k))),
+  )
+  safe_quiet (Ended m) q = q.lowers
+
+  safe_start : (x : Instruction) (behind : List Instruction) → Safe (At Program 0 x behind start)
+  safe_start x behind = (same_lowers may p.held, λ left k. halted_lowers x start left k)
+
+  at_end : (n : ℕ) (m : Machine) → LowersOnly may p.held m.part.held → Safe (steps xcm n (Ended m))
+  at_end n m h = subst Safe (sym (steps_end xcm n (Ended m) tt)) h
+
+  first_lowers : (x : Instruction) → LowersOnly may p.held (xcm.done x start).part.held
+  first_lowers x = (done_acts (out-Instruction x) start).lowers
+
+  -- behind ClearOrigin
+  cleared_quiet : (m : Machine) → LowersOnly may p.held m.part.held → Quiet may p.held (view (xcm.done (roll-Instruction Instruction-F.ClearOrigin) m))
+  cleared_quiet m h = subst (λ (l : Instruction-F Instruction). Quiet may p.held (view (done l m))) (sym (out-roll-Instruction Instruction-F.ClearOrigin)) (record { silent = refl; lowers = h })
+
+  told_quiet : (m : Machine) (e : Event) → Quiet may p.held (view m) → Quiet may p.held (view (machine m.regs (told m.part e)))
+  unfolding told
+  told_quiet m e h = h
+
+  after_clear : (n place : ℕ) (behind : List Instruction) (m : Machine) → LowersOnly may p.held m.part.held
+      → Quiet may p.held (view (machine_of (steps xcm n (by_answer xcm Program place (roll-Instruction Instruction-F.ClearOrigin) behind m None))))
+  after_clear n place behind m h =
+      let clear = roll-Instruction Instruction-F.ClearOrigin in
+      let quiet = told_quiet (xcm.done clear m) _ (cleared_quiet m h) in
+      steps_hold (Quiet may p.held) (quiet_kept may p.held) n _ (go_on_holds (Quiet may p.held) (quiet_kept may p.held) Program (place + 1) behind (traced Program place clear None (xcm.done clear m)) quiet)
+
+  from_clear : (n place : ℕ) (behind : List Instruction) (m : Machine) → LowersOnly may p.held m.part.held → Safe (steps xcm n (At Program place (roll-Instruction Instruction-F.ClearOrigin) behind m))
+  unfolding steps
+  from_clear zero place behind m h = (h, λ left k. clear_halted may p.held m h left k)
+  from_clear (suc n) place behind m h =
+      let free : refusal_of (roll-Instruction Instruction-F.ClearOrigin) m ≡ None = ap (λ (l : Instruction-F Instruction). refused l m) (out-roll-Instruction Instruction-F.ClearOrigin) in
+      subst (λ (o : Option XcmError). Safe (steps xcm n (by_answer xcm Program place (roll-Instruction Instruction-F.ClearOrigin) behind m o))) (sym free) (safe_quiet (steps xcm n (by_answer xcm Program place (roll-Instruction Instruction-F.ClearOrigin) behind m None)) (after_clear n place behind m h))
+
+  -- the first instruction, refused: no handler and no appendix is there
+  refused_first : (n : ℕ) (x : Instruction) (behind : List Instruction) (e : XcmError) → Safe (steps xcm n (by_answer xcm Program 0 x behind start (Some e)))
+  unfolding told
+  refused_first n x behind e = at_end n _ (same_lowers may p.held)
+
+  led_by_answer : (n : ℕ) (x : Instruction) (behind : List Instruction) (o : Option XcmError) → Safe (steps xcm n (by_answer xcm Program 0 x (roll-Instruction Instruction-F.ClearOrigin ∷ behind) start o))
+  unfolding told
+  led_by_answer n x behind None = from_clear n (0 + 1) behind (traced Program 0 x None (xcm.done x start)) (first_lowers x)
+  led_by_answer n x behind (Some e) = refused_first n x (roll-Instruction Instruction-F.ClearOrigin ∷ behind) e
+
+  led_safe : (n : ℕ) (first : Instruction-F Instruction) (behind : List Instruction) → Safe (steps xcm n (begin Program (led_by first behind) start))
+  unfolding steps
+  led_safe zero first behind = safe_start (roll-Instruction first) (roll-Instruction Instruction-F.ClearOrigin ∷ behind)
+  led_safe (suc n) first behind = led_by_answer n (roll-Instruction first) behind (refusal_of (roll-Instruction first) start)
+
+  -- a response alone
+  alone_by_answer : (n query : ℕ) (answer : Response) (weight : Weight) (querier : Option Location) (o : Option XcmError)
+      → Safe (steps xcm n (by_answer xcm Program 0 (roll-Instruction (Instruction-F.QueryResponse query answer weight querier)) [] start o))
+  unfolding told
+  alone_by_answer n query answer weight querier None =
+      let l : Instruction-F Instruction = Instruction-F.QueryResponse query answer weight querier in
+      let x = roll-Instruction l in
+      subst (λ (d : Machine). Safe (steps xcm n (go_on Program (0 + 1) [] (traced Program 0 x None d)))) (sym (ap (λ (k : Instruction-F Instruction). done k start) (out-roll-Instruction l))) (at_end n _ (done_acts l start).lowers)
+  alone_by_answer n query answer weight querier (Some e) = refused_first n (roll-Instruction (Instruction-F.QueryResponse query answer weight querier)) [] e
+
+  alone_safe : (n query : ℕ) (answer : Response) (weight : Weight) (querier : Option Location) → Safe (steps xcm n (begin Program (roll-Instruction (Instruction-F.QueryResponse query answer weight querier) ∷ []) start))
+  unfolding steps
+  alone_safe zero query answer weight querier = safe_start (roll-Instruction (Instruction-F.QueryResponse query answer weight querier)) []
+  alone_safe (suc n) query answer weight querier = alone_by_answer n query answer weight querier (refusal_of (roll-Instruction (Instruction-F.QueryResponse query answer weight querier)) start)
+
+  -- ---- the five shapes
+  away_safe : (n : ℕ) (way : Way) (list : List Asset) (behind : List Instruction) → Safe (steps xcm n (begin Program (away_program way list behind) start))
+  away_safe n Way.Withdrawal list behind = led_safe n (Instruction-F.WithdrawAsset list) behind
+  away_safe n Way.Teleport list behind = led_safe n (Instruction-F.ReceiveTeleportedAsset list) behind
+
+  abbrev Begun : ℕ → List Instruction → Type 0
+  Begun n program = Safe (steps xcm n (begin Program program start))
+
+  shape_safe : (n : ℕ) (here : Site) (there : ChainId) (program : List Instruction) (cargo : Cargo) → IsShape here there program cargo → Begun n program
+  shape_safe n here there program (Deposit list) s = subst (Begun n) (sym s.is) (led_safe n (Instruction-F.ReserveAssetDeposited s.list) s.behind)
+  shape_safe n here there program (Away shipment) s = subst (Begun n) (sym s.is) (away_safe n shipment.way s.list s.behind)
+  shape_safe n here there program Nothing s =
+      ⊎_elim (λ (a : IsAnswer program). subst (Begun n) (sym a.is) (alone_safe n a.query a.answer a.weight a.querier))
+      (λ (c : IsLedByClaim program). subst (Begun n) (sym c.is) (led_safe n (Instruction-F.ClaimAsset c.list c.ticket) c.behind)) s
+
+  safe_at : (here : Site) (there : ChainId) (cargo : Cargo) (a : Admitted) (g : Stage) → IsShape here there a.program cargo → Reaches xcm (first_stage rules origin a p) g → Safe g
+  safe_at here there cargo a g shape r = subst Safe r.1 (shape_safe r.0 here there a.program cargo shape)
+
+  pub message_lowers : (here : Site) (there : ChainId) (cargo : Cargo) (r : Result Admitted Outcome) → ((a : Admitted) → r ≡ Ok a → IsShape here there a.program cargo) → LowersOnly may p.held (executed_by rules origin r p).1.held
+  message_lowers here there cargo (Err outcome) shape = same_lowers may p.held
+  message_lowers here there cargo (Ok a) shape =
+      let last = last_machine rules origin a p in
+      let ran = safe_at here there cargo a (run xcm (first_stage rules origin a p)) (shape a refl) (still_to_run (first_stage rules origin a p), refl) in
+      then_lowers may p.held last.part.held (finished xcm last).held (lowers_of (run xcm (first_stage rules origin a p)) ran) (finished_lowers may last)
+
+  pub message_stopped : (here : Site) (there : ChainId) (cargo : Cargo) (a : Admitted) (now : ChainPart) → IsShape here there a.program cargo → AbandonedIn rules origin a p now → LowersOnly may p.held now.held
+  message_stopped here there cargo a now shape h =
+      stopped_lowers may rules origin a p now (λ g r. lowers_of g (safe_at here there cargo a g shape r)) (λ part place x behind m left r k. (safe_at here there cargo a (At part place x behind m) shape r).1 left k) h
+
+  -- ---- once two instructions were taken, the origin register is empty wherever the run stands
+  abbrev Silent : Stage → Type 0
+  Silent (At part place x behind m) = m.regs.origin ≡ None
+  Silent (Ended m) = ⊤
+
+  silent_quiet : (g : Stage) → Quiet may p.held (view (machine_of g)) → Silent g
+  silent_quiet (At part place x behind m) q = q.silent
+  silent_quiet (Ended m) q = tt
+
+  silent_end : (n : ℕ) (m : Machine) → Silent (steps xcm n (Ended m))
+  silent_end n m = subst Silent (sym (steps_end xcm n (Ended m) tt)) tt
+
+  silent_clear : (n place : ℕ) (behind : List Instruction) (m : Machine) → LowersOnly may p.held m.part.held → Silent (steps xcm (suc n) (At Program place (roll-Instruction Instruction-F.ClearOrigin) behind m))
+  unfolding steps
+  silent_clear n place behind m h =
+      let free : refusal_of (roll-Instruction Instruction-F.ClearOrigin) m ≡ None = ap (λ (l : Instruction-F Instruction). refused l m) (out-roll-Instruction Instruction-F.ClearOrigin) in
+      subst (λ (o : Option XcmError). Silent (steps xcm n (by_answer xcm Program place (roll-Instruction Instruction-F.ClearOrigin) behind m o))) (sym free)
+      (silent_quiet (steps xcm n (by_answer xcm Program place (roll-Instruction Instruction-F.ClearOrigin) behind m None)) (after_clear n place behind m h))
+
+  silent_by_answer : (n : ℕ) (x : Instruction) (behind : List Instruction) (o : Option XcmError) → Silent (steps xcm (suc n) (by_answer xcm Program 0 x (roll-Instruction Instruction-F.ClearOrigin ∷ behind) start o))
+  unfolding told
+  silent_by_answer n x behind None = silent_clear n (0 + 1) behind (traced Program 0 x None (xcm.done x start)) (first_lowers x)
+  silent_by_answer n x behind (Some e) = silent_end (suc n) _
+
+  led_silent : (n : ℕ) (first : Instruction-F Instruction) (behind : List Instruction) → Silent (steps xcm (suc (suc n)) (begin Program (led_by first behind) start))
+  unfolding steps
+  led_silent n first behind = silent_by_answer n (roll-Instruction first) behind (refusal_of (roll-Instruction first) start)
+
+  alone_silent_by : (n query : ℕ) (answer : Response) (weight : Weight) (querier : Option Location) (o : Option XcmError)
+      → Silent (steps xcm n (by_answer xcm Program 0 (roll-Instruction (Instruction-F.QueryResponse query answer weight querier)) [] start o))
+  alone_silent_by n query answer weight querier None =
+      let l : Instruction-F Instruction = Instruction-F.QueryResponse query answer weight querier in
+      let x = roll-Instruction l in
+      subst (λ (d : Machine). Silent (steps xcm n (go_on Program (0 + 1) [] (traced Program 0 x None d)))) (sym (ap (λ (k : Instruction-F Instruction). done k start) (out-roll-Instruction l))) (silent_end n _)
+  alone_silent_by n query answer weight querier (Some e) = silent_end n _
+
+  alone_silent : (n query : ℕ) (answer : Response) (weight : Weight) (querier : Option Location) → Silent (steps xcm (suc n) (begin Program (roll-Instruction (Instruction-F.QueryResponse query answer weight querier) ∷ []) start))
+  unfolding steps
+  alone_silent n query answer weight querier = alone_silent_by n query answer weight querier (refusal_of (roll-Instruction (Instruction-F.QueryResponse query answer weight querier)) start)
+
+  away_silent : (n : ℕ) (way : Way) (list : List Asset) (behind : List Instruction) → Silent (steps xcm (suc (suc n)) (begin Program (away_program way list behind) start))
+  away_silent n Way.Withdrawal list behind = led_silent n (Instruction-F.WithdrawAsset list) behind
+  away_silent n Way.Teleport list behind = led_silent n (Instruction-F.ReceiveTeleportedAsset list) behind
+
+  abbrev Went : ℕ → List Instruction → Type 0
+  Went n program = Silent (steps xcm (suc (suc n)) (begin Program program start))
+
+  shape_silent : (n : ℕ) (here : Site) (there : ChainId) (program : List Instruction) (cargo : Cargo) → IsShape here there program cargo → Went n program
+  shape_silent n here there program (Deposit list) s = subst (Went n) (sym s.is) (led_silent n (Instruction-F.ReserveAssetDeposited s.list) s.behind)
+  shape_silent n here there program (Away shipment) s = subst (Went n) (sym s.is) (away_silent n shipment.way s.list s.behind)
+  shape_silent n here there program Nothing s =
+      ⊎_elim (λ (a : IsAnswer program). subst (Went n) (sym a.is) (alone_silent (suc n) a.query a.answer a.weight a.querier))
+      (λ (c : IsLedByClaim program). subst (Went n) (sym c.is) (led_silent n (Instruction-F.ClaimAsset c.list c.ticket) c.behind)) s
+
+  pub cleared : (here : Site) (there : ChainId) (cargo : Cargo) (a : Admitted) (n : ℕ) (part : Part) (place : ℕ) (x : Instruction) (behind : List Instruction) (m : Machine) → IsShape here there a.program cargo
+      → steps xcm (suc (suc n)) (first_stage rules origin a p) ≡ At part place x behind m → m.regs.origin ≡ None
+  cleared here there cargo a n part place x behind m shape e = subst Silent e (shape_silent n here there a.program cargo shape)

@@ -1,0 +1,79 @@
+//! Whose amounts fall: laws, as the contracts of functions that do nothing.
+ghost use Rattle.std.specs.Prelude.{◌≡◌, ◌≤◌, ℕ, suc, true, List, Some, None, slice_get};
+ghost use Rattle.amounts.specs.Amounts.{amount};
+ghost use Rattle.asset_lists.specs.Units.{Unit};
+ghost use Rattle.chain_ids.specs.declared.chain.ChainId.{ChainId};
+ghost use Rattle.locations.specs.declared.relative.Location.{Location};
+ghost use Rattle.message_parts.specs.declared.weight.Weight.{Weight};
+ghost use Rattle.trust_tables.specs.declared.chains.Site.{Site};
+ghost use Rattle.trust_tables.specs.Accounts.{account_of, sovereign_account};
+ghost use Rattle.xcm_program.specs.declared.instruction.Instruction.{Instruction};
+ghost use Rattle.channel_parts.specs.declared.cargo.Cargo.{Cargo};
+ghost use Rattle.exec_base.specs.declared.event.Part.{Part};
+ghost use Rattle.exec_base.specs.Part.{ChainPart};
+ghost use Rattle.exec_run.specs.Machine.{Machine};
+ghost use Rattle.exec_run.specs.Run.{Stage, At, steps, machine_of, Reaches};
+ghost use Rattle.exec_rules.specs.Instructions.{xcm};
+ghost use Rattle.exec_admission.specs.declared.rules.ChainRules.{ChainRules};
+ghost use Rattle.exec_admission.specs.declared.admission.Admitted.{Admitted};
+ghost use Rattle.exec_admission.specs.Execution.{first_stage, executed, IsAbandoned};
+ghost use Rattle.network_steps.specs.Acting.{caller};
+ghost use Rattle.network_steps.specs.Worlds.{Member, World};
+ghost use Rattle.network_steps.specs.Steps.{is_sovereign, exec, deliver, claim, Link, Step, Exec, Deliver, Claim};
+ghost use Rattle.message_shapes.specs.Shapes.{IsShape, AllShaped};
+ghost use Rattle.authority.specs.Origins.{speaker_of, LowersOnly, IsAtOrBelow};
+ghost use Rattle.authority.specs.Speakers.{SpeaksFor, HasAuthority, IsAuthorized, AreAuthorized};
+
+use message_shapes::{law_of_admitted_messages, law_of_delivered_messages, law_of_shapes};
+use trust_tables::law_of_sovereign_accounts;
+
+/// An instruction lowers no account but that of the origin register: with a register that is empty, or whose location has no account, none.
+pub fn law_of_speakers()
+    ensures done { (x : Instruction) (m : Machine) → LowersOnly (speaker_of m) m.part.held (xcm.done x m).part.held }
+{}
+
+/// Wherever a run comes, its origin register is empty or holds a location that begins with the origin for which it began. In a run of one of
+/// the five messages it is empty before each instruction from the third on.
+pub fn law_of_origin_registers()
+    ensures reached { (rules : ChainRules) (origin : Location) (a : Admitted) (p : ChainPart) (g : Stage) → Reaches xcm (first_stage rules origin a p) g → IsAtOrBelow origin (machine_of g).regs.origin }
+    ensures cleared { (here : Site) (there : ChainId) (cargo : Cargo) (rules : ChainRules) (origin : Location) (a : Admitted) (p : ChainPart) (n : ℕ) (part : Part) (place : ℕ) (x : Instruction) (behind : List Instruction) (m : Machine)
+        → IsShape here there a.program cargo → steps xcm (suc (suc n)) (first_stage rules origin a p) ≡ At part place x behind m → m.regs.origin ≡ None }
+{}
+
+/// An execution for a local caller lowers the caller's account alone, and an execution of one of the five messages the account of its origin
+/// alone; also where memory is refused and the run stops.
+pub fn law_of_executions()
+    ensures caller { (rules : ChainRules) (account : List ℕ) (credit : Weight) (program : List Instruction) (p : ChainPart) → LowersOnly (Some account) p.held (executed rules (caller account) credit program p).1.held }
+    ensures message { (here : Site) (there : ChainId) (cargo : Cargo) (rules : ChainRules) (origin : Location) (credit : Weight) (program : List Instruction) (p : ChainPart)
+        → IsShape here there program cargo → LowersOnly (account_of origin p.site) p.held (executed rules origin credit program p).1.held }
+    ensures caller_stopped { (rules : ChainRules) (account : List ℕ) (credit : Weight) (program : List Instruction) (p now : ChainPart)
+        → IsAbandoned rules (caller account) credit program p now → LowersOnly (Some account) p.held now.held }
+    ensures message_stopped { (here : Site) (there : ChainId) (cargo : Cargo) (rules : ChainRules) (origin : Location) (credit : Weight) (program : List Instruction) (p now : ChainPart)
+        → IsShape here there program cargo → IsAbandoned rules origin credit program p now → LowersOnly (account_of origin p.site) p.held now.held }
+{
+    law_of_admitted_messages();
+}
+
+/// An account that has less of some unit after a step is the caller's, on the chain of an execution, or that of the sending chain at the
+/// receiver of a delivery; so it is in each delivery of a drain. It holds in every network in which the messages that wait have their shapes,
+/// as they have from the first world on.
+pub fn law_of_authority()
+    ensures exec { (w : World) (chain : ChainId) (account bytes : List ℕ) → HasAuthority w (Exec chain account bytes) (exec w chain account bytes).world }
+    ensures deliver { (w : World) (from to : ChainId) → AllShaped w → HasAuthority w (Deliver from to) (deliver w from to).world }
+    ensures claim { (w : World) (from to : ChainId) (bytes : List ℕ) → HasAuthority w (Claim from to bytes) (claim w from to bytes).world }
+    ensures after { (order : List Link) (w : World) (step : Step) → AllShaped w → IsAuthorized order w step }
+    ensures worlds { (order : List Link) (w : World) (steps : List Step) → AllShaped w → AreAuthorized order w steps }
+{
+    law_of_shapes();
+    law_of_delivered_messages();
+    law_of_admitted_messages();
+}
+
+/// The account of a whole chain falls by no execution; and at the receiver of a delivery it is the sending chain's own that may.
+pub fn law_of_spent_sovereign_accounts()
+    ensures exec { (w : World) (chain : ChainId) (account bytes : List ℕ) (place : ℕ) (before now : Member) (who : List ℕ) (unit : Unit) → is_sovereign who ≡ true → slice_get w place ≡ Some before
+        → slice_get (exec w chain account bytes).world place ≡ Some now → amount before.part.held (who, unit) ≤ amount now.part.held (who, unit) }
+    ensures deliver { (w : World) (from to : ChainId) (place : ℕ) (member : Member) (who : List ℕ) → slice_get w place ≡ Some member → SpeaksFor w (Deliver from to) place member who → who ≡ sovereign_account to from }
+{
+    law_of_sovereign_accounts();
+}

@@ -1,0 +1,57 @@
+//! What holds of every message that waits: laws, as the contracts of functions that do nothing.
+ghost use Rattle.std.specs.Prelude.{◌≡◌, ℕ, true, List, Some, Ok, slice_get};
+ghost use Rattle.std.specs.List.{AllByRecursion};
+ghost use Rattle.chain_ids.specs.declared.chain.ChainId.{ChainId};
+ghost use Rattle.locations.specs.declared.relative.Location.{Location};
+ghost use Rattle.message_parts.specs.declared.query.OpenQuery.{OpenQuery};
+ghost use Rattle.message_parts.specs.declared.weight.Weight.{Weight};
+ghost use Rattle.asset_lists.specs.declared.units.Asset.{Asset};
+ghost use Rattle.trust_tables.specs.declared.chains.Site.{Site};
+ghost use Rattle.xcm_program.specs.declared.instruction.Instruction.{Instruction};
+ghost use Rattle.channel_parts.specs.declared.cargo.Cargo.{Cargo};
+ghost use Rattle.channel_parts.specs.Channels.{Waiting};
+ghost use Rattle.exec_base.specs.Part.{ChainPart};
+ghost use Rattle.exec_base.specs.Host.{Arrival, fits_call, cargo_list, is_cargo};
+ghost use Rattle.exec_run.specs.Run.{Stage, machine_of, Reaches};
+ghost use Rattle.exec_rules.specs.Instructions.{xcm};
+ghost use Rattle.exec_admission.specs.declared.rules.ChainRules.{ChainRules};
+ghost use Rattle.exec_admission.specs.declared.admission.Admitted.{Admitted};
+ghost use Rattle.exec_admission.specs.Admission.{admitted};
+ghost use Rattle.exec_admission.specs.Execution.{IsAbandoned};
+ghost use Rattle.network_steps.specs.Worlds.{Member, World, place_of};
+ghost use Rattle.network_steps.specs.Steps.{exec, deliver, claim, Link, Step, waiting, after, worlds};
+ghost use Rattle.message_shapes.specs.Shapes.{named_there, IsShape, IsShaped, AreShapedAt, AllShaped, NothingWaits};
+
+/// Each message that waits has one of the five shapes, in every world from one in which nothing waits on.
+pub fn law_of_shapes()
+    ensures first { (w : World) → NothingWaits w → AllShaped w }
+    ensures exec { (w : World) (chain : ChainId) (account bytes : List ℕ) → AllShaped w → AllShaped (exec w chain account bytes).world }
+    ensures deliver { (w : World) (from to : ChainId) → AllShaped w → AllShaped (deliver w from to).world }
+    ensures claim { (w : World) (from to : ChainId) (bytes : List ℕ) → AllShaped w → AllShaped (claim w from to bytes).world }
+    ensures after { (order : List Link) (w : World) (step : Step) → AllShaped w → AllShaped (after order w step) }
+    ensures worlds { (order : List Link) (w : World) (steps : List Step) → AllShaped w → AllByRecursion AllShaped (worlds order w steps) }
+{}
+
+/// So it is inside a run, wherever it comes, and where memory is refused and the run stops.
+pub fn law_of_runs_that_send()
+    ensures reached { (g h : Stage) → Reaches xcm g h → AreShapedAt (machine_of g).part → AreShapedAt (machine_of h).part }
+    ensures stopped { (rules : ChainRules) (origin : Location) (credit : Weight) (program : List Instruction) (p now : ChainPart) → IsAbandoned rules origin credit program p now → AreShapedAt p → AreShapedAt now }
+{}
+
+/// What a delivery takes from its channel has one of the five shapes.
+pub fn law_of_delivered_messages()
+    ensures { (w : World) (from to : ChainId) (i : ℕ) (sender : Member) (x : Waiting) → AllShaped w → place_of w from ≡ Some i → slice_get w i ≡ Some sender
+        → waiting w from to ≡ Some x → IsShaped sender.part.site to x }
+{}
+
+/// The program that the receiver's barriers let in has the shape still, whatever limit they set in it.
+pub fn law_of_admitted_messages()
+    ensures { (here : Site) (there : ChainId) (program : List Instruction) (cargo : Cargo) (rules : ChainRules) (origin : Location) (credit : Weight) (queries : List OpenQuery) (a : Admitted)
+        → IsShape here there program cargo → admitted rules origin credit queries program ≡ Ok a → IsShape here there a.program cargo }
+{}
+
+/// The list in front of a message is its cargo's, as the receiver names it: so the receiver's call of the kind that fits finds its cargo.
+pub fn law_of_matched_cargoes()
+    ensures { (here : Site) (p : ChainPart) (cargo : Cargo) (arrival : Arrival) (list : List Asset) → p.site.network ≡ here.network → p.cargo.sender ≡ here.chain → p.cargo.cargo ≡ cargo
+        → fits_call arrival cargo ≡ true → named_there here p.site.chain (cargo_list cargo) ≡ Some list → is_cargo p arrival list ≡ true }
+{}
