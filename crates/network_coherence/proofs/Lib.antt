@@ -1,0 +1,5 @@
+pub mod Listing
+pub mod Splits
+pub mod Normals
+pub mod Totals
+pub mod Shares

@@ -1,0 +1,10 @@
+use Rattle.std.proofs.Common.{◌∙◌}
+use Rattle.locations.specs.Chains.{path_of}
+use Rattle.coherence.specs.UniversalAssets.{every}
+use Rattle.network_coherence.proofs.Totals.{amount_there}
+use Rattle.network_coherence.proofs.balances.amount_at.Goals as goal
+
+pub returns : goal.returns
+returns c =
+    c.sum_of.ensures
+    ∙ amount_there c.args.spec.now c.args.at.now (path_of c.args.home.now c.args.row.now.id, c.args.row.now.kind) every _ _ c.context_of-context.ensures c.items.ensures

@@ -1,0 +1,354 @@
+//! What chains list: rows of one path, ids that aren't normal, and rows that a partner or a reserve doesn't list.
+ghost use Rattle.std.specs.Prelude.{◌≡◌, ◌&&◌};
+ghost use Rattle.std.specs.List.{list_any};
+ghost use Rattle.chain_ids.specs.Chains as chain_ids;
+ghost use Rattle.coherence.specs.Networks.{is_native_role};
+ghost use Rattle.coherence.specs.Causes as causes;
+ghost use Rattle.network_coherence.specs.Answers.{finding_of, table_of, tables_in};
+ghost use Rattle.network_coherence.specs.Parts as parts;
+ghost use Rattle.network_coherence.specs.Parts.{paths_twice, ids_not_normal};
+
+use crate::paths::{context_of, is_asset, is_normal, same_chain, same_path};
+use crate::{Incoherent, IncoherentCause};
+use chain_ids::ChainId;
+use locations::Junctions;
+use network_spec::{ChainSpec, NetworkSpec};
+use trust_tables::{AssetRole, AssetRow};
+
+// ---- rows of one chain
+
+/// Whether one of the later rows has the row's path.
+fn is_repeated(spec: &NetworkSpec, chain: &ChainSpec, row: &AssetRow, later: &[AssetRow]) -> bool
+    ensures { result ≡ list_any (causes.same_path (table_of spec.now chain.now) row.now) later.now }
+{
+    let context = context_of(spec, chain);
+    later
+        .iter()
+        .any(|other| same_path(&context, &row.id, &context, &other.id))
+}
+
+/// Whether two rows of a chain have the same path.
+fn has_path_twice(spec: &NetworkSpec, chain: &ChainSpec) -> bool
+    ensures { result ≡ causes.has_path_twice (table_of spec.now chain.now) chain.now.assets }
+{
+    let mut rows = chain.assets.items();
+    while let Some((row, later)) = rows.split_first() {
+        if is_repeated(spec, chain, row, later) {
+            return true;
+        }
+        rows = later;
+    }
+    false
+}
+
+/// The first chain with two rows of the same path.
+pub(crate) fn path_twice(spec: &NetworkSpec) -> Option<Incoherent>
+    ensures { finding_of result ≡ paths_twice (tables_in spec.now) }
+{
+    let chains = spec.chains.items();
+    for chain in chains {
+        if has_path_twice(spec, chain) {
+            return Some(Incoherent {
+                cause: IncoherentCause::PathTwice,
+                first: chain.chain,
+                second: chain.chain,
+            });
+        }
+    }
+    None
+}
+
+/// The first of a chain's rows whose id isn't the shortest name of its place.
+fn chain_not_normal(spec: &NetworkSpec, chain: &ChainSpec) -> Option<Incoherent>
+    ensures { finding_of result ≡ parts.id_not_normal (table_of spec.now chain.now) }
+{
+    let context = context_of(spec, chain);
+    let rows = chain.assets.items();
+    for row in rows {
+        if !is_normal(&context, &row.id) {
+            return Some(Incoherent {
+                cause: IncoherentCause::IdNotNormal,
+                first: chain.chain,
+                second: chain.chain,
+            });
+        }
+    }
+    None
+}
+
+/// The first chain with an id that isn't the shortest name of its place.
+pub(crate) fn id_not_normal(spec: &NetworkSpec) -> Option<Incoherent>
+    ensures { finding_of result ≡ ids_not_normal (tables_in spec.now) }
+{
+    let chains = spec.chains.items();
+    for chain in chains {
+        if let Some(found) = chain_not_normal(spec, chain) {
+            return Some(found);
+        }
+    }
+    None
+}
+
+// ---- the row at another chain
+
+/// Whether a chain is one of these.
+fn is_among(chains: &[ChainId], chain: ChainId) -> bool
+    ensures { result ≡ list_any (λ partner. chain_ids.same_chain partner chain) chains.now }
+{
+    chains.iter().any(|other| same_chain(*other, chain))
+}
+
+/// Whether a role is that of a native asset with the chain as partner.
+fn has_partner(chain: ChainId, role: &AssetRole) -> bool
+    ensures { result ≡ causes.has_partner chain role.now }
+{
+    match role {
+        AssetRole::Native { partners, .. } => is_among(partners.items(), chain),
+        AssetRole::Derivative { .. } => false,
+    }
+}
+
+/// Whether a role is that of a native asset.
+pub(crate) fn is_native(role: &AssetRole) -> bool
+    ensures { result ≡ is_native_role role.now }
+{
+    match role {
+        AssetRole::Native { .. } => true,
+        AssetRole::Derivative { .. } => false,
+    }
+}
+
+/// Whether a row of the second chain is of the asset of a row of the first.
+fn is_twin(
+    spec: &NetworkSpec,
+    here: &ChainSpec,
+    row: &AssetRow,
+    there: &ChainSpec,
+    other: &AssetRow,
+) -> bool
+    ensures { result ≡ causes.is_twin (table_of spec.now here.now) row.now (table_of spec.now there.now) other.now }
+{
+    is_asset(
+        &context_of(spec, there),
+        &other.id,
+        other.kind,
+        &context_of(spec, here),
+        row,
+    )
+}
+
+/// Whether a row of the second chain is of the row's asset, native, with the first chain as partner.
+fn is_back(
+    spec: &NetworkSpec,
+    here: &ChainSpec,
+    row: &AssetRow,
+    there: &ChainSpec,
+    other: &AssetRow,
+) -> bool
+    ensures { result ≡ (causes.is_twin (table_of spec.now here.now) row.now (table_of spec.now there.now) other.now && causes.has_partner here.now.chain other.now.role) }
+{
+    has_partner(here.chain, &other.role) && is_twin(spec, here, row, there, other)
+}
+
+/// Whether the second chain lists the row's asset as native with the first chain as partner.
+fn has_back(spec: &NetworkSpec, here: &ChainSpec, row: &AssetRow, there: &ChainSpec) -> bool
+    ensures { result ≡ parts.has_back (table_of spec.now here.now) row.now (table_of spec.now there.now) }
+{
+    let rows = there.assets.items();
+    rows.iter()
+        .any(|other| is_back(spec, here, row, there, other))
+}
+
+/// Whether the second chain is this one, and lists the row's asset as native with the first chain as partner.
+fn lists_back(
+    spec: &NetworkSpec,
+    here: &ChainSpec,
+    row: &AssetRow,
+    chain: ChainId,
+    there: &ChainSpec,
+) -> bool
+    ensures { result ≡ causes.lists_back (table_of spec.now here.now) row.now chain (table_of spec.now there.now) }
+{
+    same_chain(there.chain, chain) && has_back(spec, here, row, there)
+}
+
+/// Whether one of these chains lists the row's asset so.
+fn some_lists_back(
+    spec: &NetworkSpec,
+    here: &ChainSpec,
+    row: &AssetRow,
+    chain: ChainId,
+    chains: &[ChainSpec],
+) -> bool
+    ensures { result ≡ list_any (λ there. causes.lists_back (table_of spec.now here.now) row.now chain (table_of spec.now there)) chains.now }
+{
+    chains
+        .iter()
+        .any(|there| lists_back(spec, here, row, chain, there))
+}
+
+/// Whether the chain is there, and lists the row's asset as native with the row's chain as partner.
+fn is_listed_back(spec: &NetworkSpec, here: &ChainSpec, row: &AssetRow, chain: ChainId) -> bool
+    ensures { result ≡ list_any (causes.lists_back (table_of spec.now here.now) row.now chain) (tables_in spec.now) }
+{
+    some_lists_back(spec, here, row, chain, spec.chains.items())
+}
+
+/// The first of a row's partners that doesn't list the asset as native with the row's chain as partner.
+fn first_unlisted(
+    spec: &NetworkSpec,
+    here: &ChainSpec,
+    row: &AssetRow,
+    partners: &[ChainId],
+) -> Option<Incoherent>
+    ensures { finding_of result ≡ parts.first_unlisted (tables_in spec.now) (table_of spec.now here.now) row.now partners.now }
+{
+    for partner in partners {
+        if !is_listed_back(spec, here, row, *partner) {
+            return Some(Incoherent {
+                cause: IncoherentCause::PartnerUnlisted,
+                first: here.chain,
+                second: *partner,
+            });
+        }
+    }
+    None
+}
+
+/// A row's first partner that doesn't list the asset so; a derivative has no partners.
+fn row_partner(spec: &NetworkSpec, here: &ChainSpec, row: &AssetRow) -> Option<Incoherent>
+    ensures { finding_of result ≡ causes.partner_unlisted (tables_in spec.now) (table_of spec.now here.now) row.now row.now.role }
+{
+    match &row.role {
+        AssetRole::Native { partners, .. } => first_unlisted(spec, here, row, partners.items()),
+        AssetRole::Derivative { .. } => None,
+    }
+}
+
+/// The first such partner of a chain's rows.
+fn chain_partner(spec: &NetworkSpec, here: &ChainSpec) -> Option<Incoherent>
+    ensures { finding_of result ≡ parts.partners_unlisted_at (tables_in spec.now) (table_of spec.now here.now) }
+{
+    let rows = here.assets.items();
+    for row in rows {
+        if let Some(found) = row_partner(spec, here, row) {
+            return Some(found);
+        }
+    }
+    None
+}
+
+/// The first partner that doesn't list the asset as native with the row's chain as partner.
+pub(crate) fn partner_unlisted(spec: &NetworkSpec) -> Option<Incoherent>
+    ensures { finding_of result ≡ parts.partners_unlisted (tables_in spec.now) (tables_in spec.now) }
+{
+    let chains = spec.chains.items();
+    for here in chains {
+        if let Some(found) = chain_partner(spec, here) {
+            return Some(found);
+        }
+    }
+    None
+}
+
+/// Whether a row of the second chain is of the row's asset, and native.
+fn is_source(
+    spec: &NetworkSpec,
+    here: &ChainSpec,
+    row: &AssetRow,
+    there: &ChainSpec,
+    other: &AssetRow,
+) -> bool
+    ensures { result ≡ (causes.is_twin (table_of spec.now here.now) row.now (table_of spec.now there.now) other.now && is_native_role other.now.role) }
+{
+    is_native(&other.role) && is_twin(spec, here, row, there, other)
+}
+
+/// Whether the second chain lists the row's asset as native.
+fn has_source(spec: &NetworkSpec, here: &ChainSpec, row: &AssetRow, there: &ChainSpec) -> bool
+    ensures { result ≡ parts.has_source (table_of spec.now here.now) row.now (table_of spec.now there.now) }
+{
+    let rows = there.assets.items();
+    rows.iter()
+        .any(|other| is_source(spec, here, row, there, other))
+}
+
+/// Whether the second chain is this one, and lists the row's asset as native.
+fn lists_native(
+    spec: &NetworkSpec,
+    here: &ChainSpec,
+    row: &AssetRow,
+    chain: ChainId,
+    there: &ChainSpec,
+) -> bool
+    ensures { result ≡ causes.lists_native (table_of spec.now here.now) row.now chain (table_of spec.now there.now) }
+{
+    same_chain(there.chain, chain) && has_source(spec, here, row, there)
+}
+
+/// Whether one of these chains lists the row's asset so.
+fn some_lists_native(
+    spec: &NetworkSpec,
+    here: &ChainSpec,
+    row: &AssetRow,
+    chain: ChainId,
+    chains: &[ChainSpec],
+) -> bool
+    ensures { result ≡ list_any (λ there. causes.lists_native (table_of spec.now here.now) row.now chain (table_of spec.now there)) chains.now }
+{
+    chains
+        .iter()
+        .any(|there| lists_native(spec, here, row, chain, there))
+}
+
+/// Whether the chain is there, and lists the row's asset as native.
+fn is_native_at(spec: &NetworkSpec, here: &ChainSpec, row: &AssetRow, chain: ChainId) -> bool
+    ensures { result ≡ list_any (causes.lists_native (table_of spec.now here.now) row.now chain) (tables_in spec.now) }
+{
+    some_lists_native(spec, here, row, chain, spec.chains.items())
+}
+
+/// A row's reserve, where it doesn't list the asset as native; a native asset has no reserve.
+fn row_reserve(spec: &NetworkSpec, here: &ChainSpec, row: &AssetRow) -> Option<Incoherent>
+    ensures { finding_of result ≡ causes.reserve_unlisted (tables_in spec.now) (table_of spec.now here.now) row.now row.now.role }
+{
+    match &row.role {
+        AssetRole::Native { .. } => None,
+        AssetRole::Derivative { reserve } => {
+            if is_native_at(spec, here, row, *reserve) {
+                return None;
+            }
+            Some(Incoherent {
+                cause: IncoherentCause::ReserveUnlisted,
+                first: here.chain,
+                second: *reserve,
+            })
+        }
+    }
+}
+
+/// The first such reserve of a chain's rows.
+fn chain_reserve(spec: &NetworkSpec, here: &ChainSpec) -> Option<Incoherent>
+    ensures { finding_of result ≡ parts.reserves_unlisted_at (tables_in spec.now) (table_of spec.now here.now) }
+{
+    let rows = here.assets.items();
+    for row in rows {
+        if let Some(found) = row_reserve(spec, here, row) {
+            return Some(found);
+        }
+    }
+    None
+}
+
+/// The first reserve that doesn't list the asset as native.
+pub(crate) fn reserve_unlisted(spec: &NetworkSpec) -> Option<Incoherent>
+    ensures { finding_of result ≡ parts.reserves_unlisted (tables_in spec.now) (tables_in spec.now) }
+{
+    let chains = spec.chains.items();
+    for here in chains {
+        if let Some(found) = chain_reserve(spec, here) {
+            return Some(found);
+        }
+    }
+    None
+}
