@@ -1,0 +1,3 @@
+mod Balances
+mod Firsts
+mod Networks

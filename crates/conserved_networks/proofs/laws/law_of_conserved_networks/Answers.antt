@@ -1,0 +1,9 @@
+use Rattle.network_genesis.specs.Genesis.{first_world, order_of}
+use Rattle.conserved_networks.proofs.Networks.{is_first}
+use Rattle.conserved_networks.proofs.laws.law_of_conserved_networks.Goals as goal
+
+pub returns : goal.returns
+returns c = record {
+  first = λ spec coherent. is_first c.law_of_shapes.ensures.first spec coherent;
+  kept = λ spec steps coherent. c.law_of_conserved_worlds.ensures.kept (order_of spec) (first_world spec) steps (is_first c.law_of_shapes.ensures.first spec coherent);
+}

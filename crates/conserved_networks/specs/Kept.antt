@@ -1,0 +1,17 @@
+-- What is promised of a network document: where it can be opened and no cause is found, every world keeps every asset and every backing.
+use Rattle.std.specs.Prelude.{◌≡◌, List, None}
+use Rattle.network_steps.specs.Steps.{Step}
+use Rattle.network_spec.specs.declared.network.NetworkSpec.{NetworkSpec}
+use Rattle.network_genesis.specs.Genesis.{first_world, order_of, entries_of}
+use Rattle.network_genesis.specs.Openable.{IsOpenable}
+use Rattle.coherence.specs.Causes.{first_cause}
+use Rattle.conserved_steps.specs.Worlds.{AllKept}
+
+-- a network that can be opened, with none of the seven causes for which it isn't coherent
+pub record IsCoherent (spec : NetworkSpec) : Type 0 where
+  pub openable : IsOpenable spec
+  pub coherent : first_cause (entries_of spec) ≡ None
+
+-- whatever the steps, every world from the first on
+abbrev pub NetworkKept : NetworkSpec → List Step → Type 0
+NetworkKept spec steps = AllKept (order_of spec) (first_world spec) steps

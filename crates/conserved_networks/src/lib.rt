@@ -1,0 +1,6 @@
+//! Every world of a coherent network document keeps every asset and every backing.
+#![tactic(auto)]
+
+mod laws;
+
+pub use laws::law_of_conserved_networks;

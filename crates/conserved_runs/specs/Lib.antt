@@ -1,0 +1,10 @@
+pub mod Views
+pub mod Sums
+pub mod Calls
+pub mod Posts
+pub mod Safety
+pub mod Turns
+pub mod Shipping
+pub mod Accepted
+pub mod Runs
+pub mod Stopping

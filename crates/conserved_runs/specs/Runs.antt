@@ -1,0 +1,346 @@
+-- Lemmas: a run for a quiet origin is a safe change, wherever it comes, and so is its end. A reader may skip this file.
+use Rattle.std.proofs.Common.{◌≡◌, ℕ, Bool, true, false, List, [], ◌∷◌, ◌++◌, Option, Some, None, length, refl, sym, ap, ◌∙◌, subst, arith}
+use Rattle.std.specs.Prelude.{nat_eq, if◌then◌else◌}
+use Rattle.std.specs.List.{AllByRecursion}
+use Rattle.std.proofs.lemmas.Bool.Decides.{nat_tests}
+use Rattle.amounts.specs.Amounts.{total, empty, rows, total-empty, total-rows}
+use Rattle.amounts.specs.Rows.{sum_where}
+use Rattle.amounts.specs.Laws.{amount-difference}
+use Rattle.locations.specs.declared.grammar.Junction.{Junction}
+use Rattle.locations.specs.declared.relative.Location.{Location}
+use Rattle.message_parts.specs.declared.error.XcmError.{XcmError}
+use Rattle.message_parts.specs.declared.weight.Weight.{Weight}
+use Rattle.message_parts.specs.declared.weight.WeightLimit.{WeightLimit}
+use Rattle.message_parts.specs.declared.weight.WeightLimit.TheVariants.{Unlimited, Limited}
+use Rattle.message_parts.specs.declared.query.QueryInfo.{QueryInfo}
+use Rattle.message_parts.specs.declared.query.Response.TheVariants as response
+use Rattle.asset_lists.specs.declared.units.Asset.{Asset}
+use Rattle.asset_lists.specs.declared.filters.Filter.{Filter}
+use Rattle.asset_lists.specs.declared.filters.Filter.TheVariants.{Definite}
+use Rattle.asset_lists.specs.Units.{Unit}
+use Rattle.asset_bundles.specs.declared.shipment.Way.{Way}
+use Rattle.asset_bundles.specs.Bundles.{Bundle, unit_keys}
+use Rattle.asset_bundles.specs.Books.{AreListed}
+use Rattle.asset_bundles.specs.Joins.{Joined, IsWithinMost}
+use Rattle.asset_bundles.specs.Filters.{Taken, Left}
+use Rattle.asset_bundles.specs.Laws.{amount-Joined}
+use Rattle.weight_trader.specs.Purchases.{AreWithinEnd}
+use Rattle.weight_trader.specs.Laws.{MovesAreKept}
+use Rattle.xcm_program.specs.declared.instruction.Instruction.{Instruction, out-Instruction, out-roll-Instruction}
+use Rattle.xcm_program.specs.declared.instruction.Instruction.TheOpen.{Instruction-F}
+use Rattle.xcm_program.specs.Everywhere.{AllInside}
+use Rattle.xcm_program.specs.Measure.{inner}
+use Rattle.xcm_program.specs.Weights.{kept}
+use Rattle.xcm_program.specs.Laws.{everywhere_open}
+use Rattle.exec_base.specs.declared.event.Event.{Event}
+use Rattle.exec_base.specs.declared.registers.Registers.{Registers}
+use Rattle.exec_base.specs.Part.{ChainPart}
+use Rattle.exec_base.specs.Host.{fee_to, fee_held, fee_drawn, transferred_out, deposited_out, shipped, settled, trapped, told}
+use Rattle.exec_run.specs.Machine.{Machine, machine, IsOrderly}
+use Rattle.exec_run.specs.Run.{Stage, failed, without_handler, without_appendix, handler_dropped, steps, machine_of, left_after}
+use Rattle.exec_run.specs.Accounts.{IsBalanced}
+use Rattle.exec_run.specs.Outcome.{owner_of, end_event, end_told, refund_surplus, refunded_last, finished}
+use Rattle.exec_run.specs.Keeping.{IsKeptByRuns, IsAheadOf, GoesInside}
+use Rattle.exec_run.specs.KeepingLaws.{steps_keep}
+use Rattle.exec_rules.specs.Holdings.{at_origin, taken_of, holding_left, payment_of, holding_paid, buying_done, refund_now, refund_done}
+use Rattle.exec_rules.specs.Fees.{after_fee, done_around}
+use Rattle.exec_rules.specs.Reports.{report_done, reported_list, pallets_of, holding_report_done}
+use Rattle.exec_rules.specs.Origins.{descended}
+use Rattle.exec_rules.specs.Instructions.{refusal_of, done, xcm}
+use Rattle.exec_rules.specs.Readiness.{IsSteady}
+use Rattle.coherence.specs.Networks.{Table, IsIn, Agrees}
+use Rattle.conserved_runs.specs.Views.{table_of}
+use Rattle.conserved_runs.specs.Sums.{sum_of, none, nobody, Call, HasRoom}
+use Rattle.conserved_runs.specs.Calls.{Withdraws, Trapping, call_then, call_with, call_by, still, room_kept, room_with, telling, settling, trapping_goods}
+use Rattle.conserved_runs.specs.Safety.{HasList, AreLists, IsSpared, hold, Turn, Safely, IsFine, HasFee, AreFees, moved_safely, turn_safely, safely_then, keeps_room, same_table}
+use Rattle.conserved_runs.specs.Turns.{same_turn, part_turn, by_nobody, refund_by}
+use Rattle.conserved_runs.specs.Shipping.{HasList-IsOfLayer}
+use Rattle.conserved_runs.specs.Accepted.{IsCaller, IsQuiet, caller_spared, safely_done}
+
+-- ---- the registers that an instruction leaves
+at_any : (P : Registers → Type 0) (o : Option Location) (change : Location → Machine) (m : Machine) → P m.regs → ((who : Location) → P (change who).regs) → P (at_origin o change m).regs
+at_any P None change m h k = h
+at_any P (Some who) change m h k = k who
+
+if_any : (P : Registers → Type 0) (b : Bool) (x y : Machine) → P x.regs → P y.regs → P (if b then x else y).regs
+if_any P true x y h k = h
+if_any P false x y h k = k
+
+around_any : (P : Registers → Type 0) (o : Option Asset) (m : Machine) (change : Machine → Machine) → ((fee : Asset) → P (after_fee m fee).regs) → ((k : Machine) → P k.regs → P (change k).regs) → P m.regs → P (done_around o m change).regs
+around_any P None m change fee h k = h m k
+around_any P (Some a) m change fee h k = h (after_fee m a) (fee a)
+
+report_any : (P : Registers → Type 0) (m : Machine) (info : QueryInfo) (o : Option (List Asset)) → P m.regs → P (holding_report_done m info o).regs
+report_any P m info None h = h
+report_any P m info (Some list) h = h
+
+-- ---- the origin
+abbrev quiet_in : Registers → Type 0
+quiet_in r = IsQuiet r.origin
+
+fee_quiet : (m : Machine) (fee : Asset) → quiet_in m.regs → quiet_in (after_fee m fee).regs
+fee_quiet m fee h = if_any quiet_in m.regs.fees_mode (at_origin m.regs.origin (λ who. machine m.regs (fee_held (fee_drawn m.part (fee ∷ []) who) (payment_of fee))) m) (machine (holding_paid m fee).regs (fee_held m.part (payment_of fee)))
+    (at_any quiet_in m.regs.origin _ m h (λ who. h)) h
+
+buying_quiet : (m : Machine) (fees : Asset) (limit : WeightLimit) → quiet_in m.regs → quiet_in (buying_done m fees limit).regs
+buying_quiet m fees Unlimited h = h
+buying_quiet m fees (Limited w) h = h
+
+refund_quiet : (m : Machine) (o : Option (Location × ℕ)) → quiet_in m.regs → quiet_in (refund_done m o).regs
+refund_quiet m None h = h
+refund_quiet m (Some given) h = h
+
+descended_quiet : (m : Machine) (path : List Junction) (o : Option Location) → m.regs.origin ≡ o → quiet_in m.regs → quiet_in (at_origin o (λ who. machine (record m.regs { origin = Some (descended who path) }) m.part) m).regs
+descended_quiet m path None e h = h
+descended_quiet m path (Some who) e h = λ l same.
+    let c = h who e in
+    let there : descended who path ≡ l = cc in
+    subst IsCaller there (record {
+      account = c.account;
+      rest = c.rest ++ path;
+      is = ap (λ (l : Location). descended l path) c.is;
+      own = c.own;
+    })
+
+pub quiet_done : (l : Instruction-F Instruction) (m : Machine) → quiet_in m.regs → quiet_in (done l m).regs
+quiet_done (Instruction-F.WithdrawAsset list) m h = at_any quiet_in m.regs.origin _ m h (λ who. h)
+quiet_done (Instruction-F.ClaimAsset list ticket) m h = at_any quiet_in m.regs.origin _ m h (λ who. h)
+quiet_done (Instruction-F.BuyExecution fees limit) m h = buying_quiet m fees limit h
+quiet_done Instruction-F.RefundSurplus m h = refund_quiet m (refund_now m) h
+quiet_done (Instruction-F.TransferAsset list who) m h = at_any quiet_in m.regs.origin _ m h (λ from. h)
+quiet_done (Instruction-F.TransferReserveAsset list dest program) m h = at_any quiet_in m.regs.origin _ m h (λ who. around_any quiet_in (fee_to m.part dest) m (λ k. machine k.regs (transferred_out k.part list who dest program)) (λ fee. fee_quiet m fee h) (λ k q. q) h)
+quiet_done (Instruction-F.DepositReserveAsset filter dest program) m h = around_any quiet_in (fee_to m.part dest) m (λ k. holding_left k filter (deposited_out k.part (taken_of k filter) dest program)) (λ fee. fee_quiet m fee h) (λ k q. q) h
+quiet_done (Instruction-F.InitiateReserveWithdraw filter dest program) m h = around_any quiet_in (fee_to m.part dest) m (λ k. holding_left k filter (shipped k.part (taken_of k filter) Way.Withdrawal dest program)) (λ fee. fee_quiet m fee h) (λ k q. q) h
+quiet_done (Instruction-F.InitiateTeleport filter dest program) m h = around_any quiet_in (fee_to m.part dest) m (λ k. holding_left k filter (shipped k.part (taken_of k filter) Way.Teleport dest program)) (λ fee. fee_quiet m fee h) (λ k q. q) h
+quiet_done (Instruction-F.ReportError info) m h = around_any quiet_in (fee_to m.part info.destination) m (λ k. report_done k info (response.ExecutionResult k.regs.error)) (λ fee. fee_quiet m fee h) (λ k q. q) h
+quiet_done (Instruction-F.ReportHolding info filter) m h =
+    around_any quiet_in (fee_to m.part info.destination) m (λ k. holding_report_done k info (reported_list k info filter)) (λ fee. fee_quiet m fee h) (λ k q. report_any quiet_in k info (reported_list k info filter) q) h
+quiet_done (Instruction-F.QueryPallet name info) m h = around_any quiet_in (fee_to m.part info.destination) m (λ k. report_done k info (response.PalletsInfo (pallets_of k.part name))) (λ fee. fee_quiet m fee h) (λ k q. q) h
+quiet_done (Instruction-F.ReportTransactStatus info) m h = around_any quiet_in (fee_to m.part info.destination) m (λ k. report_done k info (response.DispatchResult k.regs.status)) (λ fee. fee_quiet m fee h) (λ k q. q) h
+quiet_done (Instruction-F.QueryResponse query answer weight querier) m h = at_any quiet_in m.regs.origin _ m h (λ who. h)
+quiet_done Instruction-F.ClearOrigin m h = λ l e. absurd cc
+quiet_done (Instruction-F.DescendOrigin path) m h = descended_quiet m path m.regs.origin refl h
+quiet_done _ m h = h
+
+-- ---- the holding
+abbrev held_in : Registers → Type 0
+held_in r = IsWithinMost r.holding
+
+joined_held : (a b : Bundle) → IsWithinMost (Joined a b)
+joined_held a b u = let e = amount-Joined a b u in omega (arith, e)
+
+left_held : (filter : Filter) (b : Bundle) → IsWithinMost b → IsWithinMost (Left filter b)
+unfolding Left
+left_held filter b within u = let e = amount-difference unit_keys b (Taken filter b) u in let le = within u in omega (arith, e, le)
+
+fee_held_in : (m : Machine) (fee : Asset) → held_in m.regs → held_in (after_fee m fee).regs
+fee_held_in m fee h = after_fee_holds_most m fee h
+  where
+    after_fee_holds_most : (m : Machine) (fee : Asset) → IsWithinMost m.regs.holding → IsWithinMost (after_fee m fee).regs.holding
+    after_fee_holds_most m fee h = if_any held_in m.regs.fees_mode (at_origin m.regs.origin (λ who. machine m.regs (fee_held (fee_drawn m.part (fee ∷ []) who) (payment_of fee))) m) (machine (holding_paid m fee).regs (fee_held m.part (payment_of fee)))
+        (at_any held_in m.regs.origin _ m h (λ who. h)) (λ u. let e = amount-difference unit_keys m.regs.holding (payment_of fee) u in let le = h u in omega (arith, e, le))
+
+buying_held : (m : Machine) (fees : Asset) (limit : WeightLimit) → held_in m.regs → held_in (buying_done m fees limit).regs
+buying_held m fees Unlimited h = h
+buying_held m fees (Limited w) h = joined_held _ _
+
+refund_held : (m : Machine) (o : Option (Location × ℕ)) → held_in m.regs → held_in (refund_done m o).regs
+refund_held m None h = h
+refund_held m (Some given) h = joined_held _ _
+
+pub held_done : (l : Instruction-F Instruction) (m : Machine) → held_in m.regs → held_in (done l m).regs
+held_done (Instruction-F.WithdrawAsset list) m h = at_any held_in m.regs.origin _ m h (λ who. joined_held _ _)
+held_done (Instruction-F.ReserveAssetDeposited list) m h = joined_held _ _
+held_done (Instruction-F.ReceiveTeleportedAsset list) m h = joined_held _ _
+held_done (Instruction-F.ClaimAsset list ticket) m h = at_any held_in m.regs.origin _ m h (λ who. joined_held _ _)
+held_done (Instruction-F.DepositAsset filter who) m h = left_held filter m.regs.holding h
+held_done (Instruction-F.BurnAsset list) m h = left_held (Definite list) m.regs.holding h
+held_done (Instruction-F.BuyExecution fees limit) m h = buying_held m fees limit h
+held_done Instruction-F.RefundSurplus m h = refund_held m (refund_now m) h
+held_done (Instruction-F.TransferAsset list who) m h = at_any held_in m.regs.origin _ m h (λ from. h)
+held_done (Instruction-F.TransferReserveAsset list dest program) m h = at_any held_in m.regs.origin _ m h (λ who. around_any held_in (fee_to m.part dest) m (λ k. machine k.regs (transferred_out k.part list who dest program)) (λ fee. fee_held_in m fee h) (λ k q. q) h)
+held_done (Instruction-F.DepositReserveAsset filter dest program) m h = around_any held_in (fee_to m.part dest) m (λ k. holding_left k filter (deposited_out k.part (taken_of k filter) dest program)) (λ fee. fee_held_in m fee h) (λ k q. left_held filter k.regs.holding q) h
+held_done (Instruction-F.InitiateReserveWithdraw filter dest program) m h = around_any held_in (fee_to m.part dest) m (λ k. holding_left k filter (shipped k.part (taken_of k filter) Way.Withdrawal dest program)) (λ fee. fee_held_in m fee h) (λ k q. left_held filter k.regs.holding q) h
+held_done (Instruction-F.InitiateTeleport filter dest program) m h = around_any held_in (fee_to m.part dest) m (λ k. holding_left k filter (shipped k.part (taken_of k filter) Way.Teleport dest program)) (λ fee. fee_held_in m fee h) (λ k q. left_held filter k.regs.holding q) h
+held_done (Instruction-F.ReportError info) m h = around_any held_in (fee_to m.part info.destination) m (λ k. report_done k info (response.ExecutionResult k.regs.error)) (λ fee. fee_held_in m fee h) (λ k q. q) h
+held_done (Instruction-F.ReportHolding info filter) m h =
+    around_any held_in (fee_to m.part info.destination) m (λ k. holding_report_done k info (reported_list k info filter)) (λ fee. fee_held_in m fee h) (λ k q. report_any held_in k info (reported_list k info filter) q) h
+held_done (Instruction-F.QueryPallet name info) m h = around_any held_in (fee_to m.part info.destination) m (λ k. report_done k info (response.PalletsInfo (pallets_of k.part name))) (λ fee. fee_held_in m fee h) (λ k q. q) h
+held_done (Instruction-F.ReportTransactStatus info) m h = around_any held_in (fee_to m.part info.destination) m (λ k. report_done k info (response.DispatchResult k.regs.status)) (λ fee. fee_held_in m fee h) (λ k q. q) h
+held_done (Instruction-F.QueryResponse query answer weight querier) m h = at_any held_in m.regs.origin _ m h (λ who. h)
+held_done (Instruction-F.DescendOrigin path) m h = at_any held_in m.regs.origin _ m h (λ who. h)
+held_done _ m h = h
+
+-- ---- programs
+lists_inside : (l : Instruction-F Instruction) (o : Option (List Instruction)) → kept l ≡ o → AllInside AreLists (inner l) → AllInside AreLists o
+lists_inside (Instruction-F.SetErrorHandler program) o e h = subst (AllInside AreLists) e h
+lists_inside (Instruction-F.SetAppendix program) o e h = subst (AllInside AreLists) e h
+lists_inside _ o e h = subst (AllInside AreLists) e tt
+
+pub lists_go_inside : GoesInside AreLists
+lists_go_inside x q = lists_inside (out-Instruction x) (kept (out-Instruction x)) refl (everywhere_open HasList HasList-IsOfLayer x q).1
+
+-- ---- a run
+-- what a run keeps for a quiet origin
+pub record IsSafeAt (n : List Table) (m : Machine) : Type 0 where
+  pub fine : IsFine n m
+  pub quiet : IsQuiet m.regs.origin
+  pub steady : IsSteady m
+  pub fees : AreFees m.part.channels
+
+abbrev pub Goes : List Table → Machine → Machine → Type 0
+Goes n m k = IsSafeAt n m → IsSafeAt n k × Safely m k
+
+-- each instruction leaves a steady machine steady
+abbrev pub StaysSteady : Type 0
+StaysSteady = (x : Instruction) (m : Machine) → IsSteady m → refusal_of x m ≡ None → IsSteady (xcm.done x m)
+
+pub registers_go : (n : List Table) (m : Machine) (r : Registers) → r.holding ≡ m.regs.holding → r.origin ≡ m.regs.origin → Goes n m (record m { regs = r })
+registers_go n m r holding origin safe = (
+  record {
+    fine = record {
+      spared = subst (λ (o : Option Location). IsSpared (record m { regs = record m.regs { origin = o } })) (sym origin) safe.fine.spared;
+      room = subst (λ (b : Bundle). HasRoom (sum_of b) m.part) (sym holding) safe.fine.room;
+      listed = subst (AreListed _) (sym holding) safe.fine.listed;
+      within = subst IsWithinMost (sym holding) safe.fine.within;
+      there = safe.fine.there;
+    };
+    quiet = subst IsQuiet (sym origin) safe.quiet;
+    steady = record { rest = safe.steady.rest; holding = subst (AreListed _) (sym holding) safe.steady.holding };
+    fees = safe.fees;
+  },
+  turn_safely m (record m { regs = r }) safe.fine.spared (same_turn m (record m { regs = r }) refl holding),
+)
+
+pub told_fees : (p : ChainPart) (e : Event) → AreFees p.channels → AreFees (told p e).channels
+unfolding told
+told_fees p e all = all
+
+pub told_steady : (m : Machine) (e : Event) → IsSteady m → IsSteady (record m { part = told m.part e })
+unfolding told
+told_steady m e steady = record {
+  rest = record { order = record { traps = steady.rest.order.traps; rates = steady.rest.order.rates; paid = steady.rest.order.paid; unparked = steady.rest.order.unparked }; slot = steady.rest.slot };
+  holding = steady.holding;
+}
+
+pub told_table : (p : ChainPart) (e : Event) → table_of (told p e) ≡ table_of p
+unfolding told
+told_table p e = refl
+
+told_turn : (m : Machine) (e : Event) → Turn m (record m { part = told m.part e })
+told_turn m e = part_turn m (told m.part e) (call_by nobody _ none none m.part (told m.part e) (telling m.part e) (by_nobody m))
+
+module _ (withdraws : Withdraws) (moves : MovesAreKept) (stays : StaysSteady) (n : List Table) (agrees : Agrees n) where
+  pub done_goes : (x : Instruction) (m : Machine) → AreLists x → refusal_of x m ≡ None → Goes n m (xcm.done x m)
+  done_goes x m lists ok safe =
+      let k = xcm.done x m in
+      let opened = everywhere_open HasList HasList-IsOfLayer x lists in
+      let safely = safely_done withdraws moves n agrees (out-Instruction x) m safe.fine safe.quiet safe.steady safe.fees opened.0 opened.1 ok in
+      let steady = stays x m safe.steady ok in
+      let quiet = quiet_done (out-Instruction x) m safe.quiet in (
+        record {
+          fine = record {
+            spared = caller_spared k quiet;
+            room = keeps_room m k safely safe.fine.room;
+            listed = steady.holding;
+            within = held_done (out-Instruction x) m safe.fine.within;
+            there = subst (IsIn n) (sym (same_table m.part k.part safely.site safely.rows)) safe.fine.there;
+          };
+          quiet = quiet;
+          steady = steady;
+          fees = subst (AllByRecursion HasFee) (sym safely.links) safe.fees;
+        },
+        safely,
+      )
+
+  told_goes : (e : Event) (m : Machine) → Goes n m (record m { part = told m.part e })
+  told_goes e m safe =
+      let k : Machine = record m { part = told m.part e } in
+      let safely = turn_safely m k safe.fine.spared (told_turn m e) in (
+        record {
+          fine = record {
+            spared = caller_spared k safe.quiet;
+            room = keeps_room m k safely safe.fine.room;
+            listed = (told_steady m e safe.steady).holding;
+            within = safe.fine.within;
+            there = subst (IsIn n) (sym (told_table m.part e)) safe.fine.there;
+          };
+          quiet = safe.quiet;
+          steady = told_steady m e safe.steady;
+          fees = subst (AllByRecursion HasFee) (sym safely.links) safe.fees;
+        },
+        safely,
+      )
+
+  goes_then : (a b c : Machine) → Goes n a b → Goes n b c → Goes n a c
+  goes_then a b c x y safe =
+      let one = x safe in
+      let two = y one.0 in
+      (two.0, safely_then a b c one.1 two.1)
+
+  goes_nowhere : (m : Machine) → Goes n m m
+  goes_nowhere m safe = (safe, turn_safely m m safe.fine.spared (same_turn m m refl refl))
+
+  pub runs_go : IsKeptByRuns xcm AreLists (Goes n)
+  runs_go = record {
+    same = goes_nowhere;
+    chained = goes_then;
+    done = λ x m lists affordable ok. done_goes x m lists ok;
+    told = told_goes;
+    failed_at = λ place e behind m. registers_go n m (failed place e behind m.regs) refl refl;
+    handler_taken = λ m. registers_go n m (without_handler m.regs) refl refl;
+    handler_given_up = λ m. registers_go n m (handler_dropped m.regs) refl refl;
+    appendix_taken = λ m. registers_go n m (without_appendix m.regs) refl refl;
+  }
+
+  -- however far a run comes
+  pub steps_go : IsOrderly xcm → (w : Weight) (count : ℕ) (g : Stage) → IsBalanced w g → IsAheadOf AreLists g → Goes n (machine_of g) (machine_of (steps xcm count g))
+  steps_go orderly w count g balanced ahead = steps_keep xcm orderly AreLists lists_go_inside (Goes n) runs_go w count g balanced ahead
+
+  -- ---- the end
+  pub refund_call : (m : Machine) (o : Option XcmError) → refusal_of refund_surplus m ≡ o → IsSteady m → HasRoom (hold m) m.part → Call nobody (hold m) (hold (left_after xcm refund_surplus m o)) m.part (left_after xcm refund_surplus m o).part × IsSteady (left_after xcm refund_surplus m o)
+  refund_call m None e steady room = (
+    subst (λ (l : Instruction-F Instruction). Call nobody (hold m) (hold (done l m)) m.part (done l m).part) (sym (out-roll-Instruction Instruction-F.RefundSurplus)) (refund_by moves m (refund_now m) steady.rest.order.paid room),
+    stays refund_surplus m steady e,
+  )
+  refund_call m (Some error) e steady room = (call_with nobody none none (hold m) (hold m) m.part m.part (still m.part m.part refl) (λ t. omega arith), steady)
+
+  rest_call : Trapping → (b : Bool) (r : Registers) (p : ChainPart) → (b ≡ true → (t : Unit → Bool) → total t r.holding ≡ 0) → Call nobody (sum_of r.holding) none p (if b then p else trapped p r.holding (owner_of r))
+  rest_call law true r p none_left = call_with nobody none none (sum_of r.holding) none p p (still p p refl) (λ t. let z = none_left refl t in omega (arith, z))
+  rest_call law false r p none_left = trapping_goods law p r.holding (owner_of r)
+
+  no_rows : (b : Bundle) → nat_eq (length (rows b)) 0 ≡ true → (t : Unit → Bool) → total t b ≡ 0
+  no_rows b e t = sym (total-rows t b) ∙ none_of (rows b) (grind (arith, nat_tests, e))
+    where
+      none_of : (rs : List (Unit × ℕ)) → length rs ≡ 0 → sum_where t rs ≡ 0
+      none_of [] h = refl
+      none_of (r ∷ rs) h = absurd (omega (arith, h))
+
+  pub told_within : (p : ChainPart) (e : Event) → AreWithinEnd p.lines → AreWithinEnd (told p e).lines
+  unfolding told
+  told_within p e h = h
+
+  -- the last refund, the line of the end, settlement, and what is held is trapped
+  pub finished_call : Trapping → (m : Machine) → IsSteady m → HasRoom (hold m) m.part → Call nobody (hold m) none m.part (finished xcm m)
+  finished_call law m steady room =
+      let last = refunded_last xcm m in
+      let first = refund_call m (refusal_of refund_surplus m) refl steady room in
+      let room_last = room_kept nobody (hold m) (hold last) m.part last.part first.0 room in
+      let p = end_told last in
+      let said : Call nobody (hold last) (hold last) last.part p = call_with nobody none none (hold last) (hold last) last.part p (telling last.part (end_event last.regs)) (λ t. omega arith) in
+      let room_p = room_kept nobody (hold last) (hold last) last.part p said room_last in
+      let within : AreWithinEnd p.lines = told_within last.part (end_event last.regs) first.1.rest.order.paid in
+      let paid : Call nobody (hold last) (hold last) p (settled p) = call_with nobody none none (hold last) (hold last) p (settled p) (settling moves p within (room_with (hold last) none p room_p (λ t. omega arith))) (λ t. omega arith) in
+      let rest = rest_call law (nat_eq (length (rows last.regs.holding)) 0) last.regs (settled p) (λ e t. no_rows last.regs.holding e t) in
+      call_then nobody (hold m) (hold last) none m.part last.part (finished xcm m) first.0
+      (call_then nobody (hold last) (hold last) none last.part p (finished xcm m) said
+      (call_then nobody (hold last) (hold last) none p (settled p) (finished xcm m) paid rest))
+
+  -- nothing is held afterwards
+  abbrev pub emptied : Machine → Machine
+  emptied m = machine (record m.regs { holding = empty }) (finished xcm m)
+
+  pub finished_safely : Trapping → (m : Machine) → IsSteady m → HasRoom (hold m) m.part → Safely m (emptied m)
+  finished_safely law m steady room =
+      moved_safely nobody m (emptied m) (λ chain number foreign h. h)
+      (call_with nobody (hold m) none (hold m) (sum_of empty) m.part (finished xcm m) (finished_call law m steady room) (λ t. let z = total-empty unit_keys t in omega (arith, z)))

@@ -1,0 +1,16 @@
+pub mod Views
+pub mod Rooms
+pub mod Admitting
+pub mod Soundness
+pub mod Locals
+pub mod Senders
+pub mod Landing
+pub mod Firsts
+pub mod Bounds
+pub mod Receptions
+pub mod Fates
+pub mod Deliveries
+pub mod Reading
+pub mod Worlds
+pub mod Stepping
+pub mod Insides

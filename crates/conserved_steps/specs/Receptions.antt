@@ -1,0 +1,499 @@
+-- Lemmas: what a delivery does to its receiver. A reader may skip this file.
+use Rattle.std.proofs.Common.{◌≡◌, ℕ, zero, suc, ◌+◌, ◌<◌, ◌≤◌, Bool, true, false, List, [], ◌∷◌, length, Option, Some, None, Ok, map, refl, sym, ap, ◌∙◌, subst, arith}
+use Rattle.std.specs.Prelude.{IsTrue, ◌≢◌, ◌&&◌, if◌then◌else◌, slice_get, slice_set}
+use Rattle.std.specs.List.{AllByRecursion}
+use Rattle.std.specs.Ordering.{eq_by_cmp}
+use Rattle.amounts.specs.Amounts.{amount, total, empty, merge, IsWithin, total-empty, amount-total}
+use Rattle.locations.specs.declared.relative.Location.{Location}
+use Rattle.message_parts.specs.declared.error.XcmError.{XcmError}
+use Rattle.message_parts.specs.declared.weight.Weight.{Weight}
+use Rattle.message_parts.specs.declared.query.Response.{Response}
+use Rattle.asset_lists.specs.declared.units.Asset.{Asset}
+use Rattle.asset_lists.specs.Lists.{IsAssetList}
+use Rattle.asset_lists.specs.Listed.{Listed, listed_cmp}
+use Rattle.asset_lists.specs.Units.{Unit, unit_of}
+use Rattle.asset_bundles.specs.Bundles.{Bundle, unit_keys, bundle_of, held_assets, IsGoods}
+use Rattle.asset_bundles.specs.Books.{is_unit_where, is_unit_of, is_burn_of, given_up, AreListed, AreTotals}
+use Rattle.asset_bundles.specs.Joins.{Joined}
+use Rattle.asset_bundles.specs.Laws.{booked_below, given_up_total, joined_total}
+use Rattle.chain_ids.specs.declared.chain.ChainId.{ChainId}
+use Rattle.ledgers.specs.Ledgers.{holder_cmp, Withdrawn, held_by}
+use Rattle.ledgers.specs.Laws.{holder_keys, held_by_total}
+use Rattle.trust_tables.specs.declared.rows.AssetRow.{AssetRow}
+use Rattle.trust_tables.specs.Chains.{location_of}
+use Rattle.trust_tables.specs.ChainLaws.{account_of-location_of}
+use Rattle.trust_tables.specs.Accounts.{IsChain, account_of, sovereign_account}
+use Rattle.trust_tables.specs.Trust.{listing, is_reserve, is_partner}
+use Rattle.weight_trader.specs.Purchases.{no_weight}
+use Rattle.xcm_program.specs.declared.instruction.Instruction.{Instruction, roll-Instruction, out-roll-Instruction}
+use Rattle.xcm_program.specs.declared.instruction.Instruction.TheOpen.{Instruction-F}
+use Rattle.xcm_program.specs.Laws.{everywhere_open}
+use Rattle.channel_parts.specs.declared.cargo.Cargo as carried
+use Rattle.channel_parts.specs.declared.cargo.Cargo.TheVariants as cargos
+use Rattle.exec_base.specs.declared.event.Event.{Event}
+use Rattle.exec_base.specs.Arrivals.{arrived_list, is_this_list}
+use Rattle.exec_base.specs.Part.{Taken, ChainPart, accounts_of, book_of}
+use Rattle.exec_base.specs.Sending.{led_by}
+use Rattle.exec_base.specs.Host.{Arrival, ByWithdrawal, ByDeposit, ByTeleport, arrival_of, fits_call, cargo_list, is_cargo, cargo_after, first_fault, receive_refusal, withdraw_refusal, give_fault, at_account, withdrawn, received, joined, booked, claimed, answered, told}
+use Rattle.exec_run.specs.Machine.{Machine}
+use Rattle.exec_run.specs.Run.{Stage, machine_of, GoesOnTo}
+use Rattle.exec_run.specs.Accounts.{IsBalanced}
+use Rattle.exec_run.specs.Keeping.{IsAheadOf}
+use Rattle.exec_run.specs.Outcome.{finished}
+use Rattle.exec_rules.specs.Holdings.{has_room, is_ticket, holding_more}
+use Rattle.exec_rules.specs.AnswerLaws.{unless_next, none_first, received_is_listed}
+use Rattle.exec_rules.specs.Instructions.{refused, done, refusal_of, xcm}
+use Rattle.exec_rules.specs.Readiness.{IsAtRest, IsSteady}
+use Rattle.exec_admission.specs.declared.rules.ChainRules.{ChainRules}
+use Rattle.exec_admission.specs.declared.admission.Admitted.{Admitted}
+use Rattle.exec_admission.specs.Admission.{admitted, IsWeighed}
+use Rattle.exec_admission.specs.Execution.{first_machine, first_stage, last_machine}
+use Rattle.network_steps.specs.Acting.{begun, ended}
+use Rattle.coherence.specs.UniversalAssets.{UniversalAsset, Choice, is_unit_at, IsPlaced}
+use Rattle.coherence.specs.Networks.{Table, context_of, IsIn, Agrees}
+use Rattle.coherence.specs.Twins.{unit_placed}
+use Rattle.coherence.specs.Trusting.{IsShared}
+use Rattle.conservation.specs.Parts.{Cargo, Deposit, Withdrawal, Teleport, Part, World, chain_of}
+use Rattle.conservation.specs.Channels as queues
+use Rattle.conservation.specs.Steps.{tables_of, table_at, get_set_same, get_set_other, IsSafe, IsExchange}
+use Rattle.conservation.specs.Moves.{IsTrusted, received_safe}
+use Rattle.conservation.specs.Cargoes.{IsDepositFor, teleport_trusted, deposit_trusted, withdrawal_trusted}
+use Rattle.conservation.specs.Receiving.{shared_there, owed_there, deposit_for}
+use Rattle.conservation.specs.Landings.{WithoutFront, WithList, IsListFor, list_received}
+use Rattle.conservation.specs.Accounts.{Paid, paid_received}
+use Rattle.conservation.specs.Histories.{History, Two}
+use Rattle.conserved_runs.specs.Views.{table_of, cargo_of, channel_of, seen, view}
+use Rattle.conserved_runs.specs.Sums.{kept_of, in_kept, in_places, burned_where, Sum, sum_of, none, with, nobody, only, Call, HasRoom}
+use Rattle.conserved_runs.specs.Calls.{call_then, call_with, room_kept, below, receiving, joining, withdrawing, claiming, answering, no_shortage}
+use Rattle.conserved_runs.specs.Safety.{AreLists, HasFee, AreTrustedAt, AreTrusted, links_of, hold, Safely, moved_safely, safely_then, same_table}
+use Rattle.conserved_runs.specs.Safety as runs
+use Rattle.conserved_runs.specs.Turns.{more_call}
+use Rattle.conserved_runs.specs.Shipping.{HasList-IsOfLayer, each_unit, reserves_hold}
+use Rattle.conserved_runs.specs.Runs.{emptied, held_done}
+use Rattle.conserved_steps.specs.Rooms.{unlisted, AllListed, IsSmall, small_room, sum_rises, none_rises, with_rises, goods_listed, listed_goods}
+use Rattle.conserved_steps.specs.Admitting.{admitted_lists}
+use Rattle.conserved_steps.specs.Soundness.{IsLink, IsSoundPart, LawsBelow}
+use Rattle.conserved_steps.specs.Locals.{sound_ended, nothing_listed, none_listed, none_above, no_ahead, fees_of_links}
+use Rattle.conserved_steps.specs.Landing.{names, lands, found_there, same_amounts_there, listed_placed}
+use Rattle.conserved_steps.specs.Firsts.{IsSet, joined_cargo, refused_safely, refused_inside, alone_safely, alone_inside, led_safely, led_inside}
+use Rattle.conserved_steps.specs.Bounds.{IsSoundGenesis, agrees_now, small_now, small_more}
+
+-- the receiver as the message begins
+abbrev pub taken : ChainId → carried.Cargo → Event → ChainPart → ChainPart
+taken sender cargo e p = told (begun sender cargo p) e
+
+-- what a message did to its receiver: its cargo is left, or it landed; so it is wherever its run comes
+pub data Fate (ps pr : ChainPart) (cargo left : carried.Cargo) (q : ChainPart) (comes : Machine → Type 0) : Type 0 where
+  Left : left ≡ cargo → IsSafe (seen empty pr) (seen empty q) → IsSoundPart q → ((m : Machine) → comes m → (m.part.cargo.cargo ≡ cargo) × IsSafe (seen empty pr) (view m)) → Fate ps pr cargo left q comes
+  Landed : (mid : Part) → left ≡ cargos.Nothing → IsExchange (seen empty ps) (WithoutFront (seen empty pr) (seen empty ps)) (seen empty pr) mid → IsSafe mid (seen empty q) → IsSoundPart q
+      → ((m : Machine) → comes m → (m.part.cargo.cargo ≡ cargos.Nothing) × IsSafe mid (view m)) → Fate ps pr cargo left q comes
+
+-- a run has come there, behind its first instruction
+abbrev pub ComesTo : Stage → Machine → Type 0
+ComesTo g m = (h : Stage) × GoesOnTo xcm g h × (machine_of h ≡ m)
+
+taken_all : (sender : ChainId) (cargo : carried.Cargo) (e : Event) (p : ChainPart) → record (kept_of (taken sender cargo e p)) { cargo = cargos.Nothing } ≡ record (kept_of p) { cargo = cargos.Nothing }
+unfolding told
+taken_all sender cargo e p = refl
+
+all_at : {A : Type 0} (P : A → Type 0) (xs : List A) (x : A) → AllByRecursion P xs → IsIn xs x → P x
+all_at P [] x all inside = absurd (let h = inside.1 in cc)
+all_at P (y ∷ xs) x all (zero, at) = let same : y ≡ x = cc in subst P same all.0
+all_at P (y ∷ xs) x all (suc i, at) = all_at P xs x all.1 (i, at)
+
+pub same_safe : (p : Part) → IsSafe p p
+same_safe p = record {
+  keeps = record { table = refl; owing = λ row chain count inside role other. omega arith; covering = λ chain a count number foreign other. omega arith };
+  owned = λ a. refl;
+  rare = λ a choice. omega arith;
+}
+
+module _ (laws : LawsBelow) (first : World) (genesis : IsSoundGenesis first) (v : World) (history : History first v) (i j : ℕ) (ps pr : ChainPart) (at_i : slice_get v i ≡ Some (seen empty ps)) (at_j : slice_get v j ≡ Some (seen empty pr))
+    (apart : i ≡ j → ⊥) (sound_s : IsSoundPart ps) (sound_r : IsSoundPart pr) (rules : ChainRules) (cargo : carried.Cargo) (program : List Instruction) (e : Event)
+    (front : queues.front pr.site.chain (map channel_of ps.channels) ≡ Some (cargo_of cargo)) (name origin : Location) (leads : location_of ps.site.chain pr.site.chain ≡ Some name) (back : location_of pr.site.chain ps.site.chain ≡ Some origin)
+    (runnable : runs.IsRunnable program) (trusts : runs.IsTrusted ps.site ps.rows name cargo) where
+  n : List Table
+  n = tables_of v
+
+  abbrev tables : List Table
+  tables = tables_of v
+
+  agrees : Agrees (tables_of v)
+  agrees = agrees_now first genesis v history
+
+  s_in : IsIn (tables_of v) (table_of ps)
+  s_in = (i, table_at v i (seen empty ps) at_i)
+
+  t_in : IsIn (tables_of v) (table_of pr)
+  t_in = (j, table_at v j (seen empty pr) at_j)
+
+  chains_apart : ps.site.chain ≢ pr.site.chain
+  chains_apart same = apart (agrees.network.apart i j (table_of ps) (table_of pr) (table_at v i (seen empty ps) at_i) (table_at v j (seen empty pr) at_j) same)
+
+  sender_number : IsChain ps.site.chain
+  sender_number = agrees.network.chains (table_of ps) s_in
+
+  abbrev p0 : ChainPart
+  p0 = taken ps.site.chain cargo e pr
+
+  abbrev m0 : Machine
+  m0 = first_machine rules origin (taken ps.site.chain cargo e pr)
+
+  -- ---- the receiver as it begins
+  rest0 : IsAtRest (taken ps.site.chain cargo e pr)
+  unfolding told
+  rest0 = let s = sound_r.rest in record { order = record { traps = s.order.traps; rates = s.order.rates; paid = s.order.paid; unparked = s.order.unparked }; slot = s.slot }
+
+  listed0 : AllListed none (taken ps.site.chain cargo e pr)
+  unfolding told in_kept
+  listed0 = sound_r.listed
+
+  trusted0 : AreTrustedAt p0.site p0.rows p0.channels
+  unfolding told
+  trusted0 = sound_r.trusted
+
+  links0 : AllByRecursion (IsLink p0.site.chain) (links_of p0.channels)
+  unfolding told
+  links0 = sound_r.links
+
+  there0 : IsIn (tables_of v) (table_of p0)
+  unfolding told
+  there0 = t_in
+
+  cargo0 : p0.cargo.cargo ≡ cargo
+  unfolding told
+  cargo0 = refl
+
+  seen0 : view (first_machine rules origin (taken ps.site.chain cargo e pr)) ≡ seen empty pr
+  unfolding told
+  seen0 = refl
+
+  small0 : IsSmall none (taken ps.site.chain cargo e pr)
+  unfolding told in_kept
+  small0 = small_now first genesis v history j pr at_j
+
+  room_none : HasRoom none p0
+  room_none = small_room p0 none none_rises listed0 small0
+
+  room0 : HasRoom (hold m0) p0
+  room0 k = let le = room_none k in let z = total-empty unit_keys (is_unit_of k) in omega (arith, le, z)
+
+  steady0 : IsSteady m0
+  steady0 = record { rest = rest0; holding = none_listed (listing p0.rows) }
+
+  -- ---- a run behind an accepted first instruction
+  all_listed : (may : List ℕ → Type 0) (ins : Sum) (k : Machine) → Call may ins (hold k) p0 k.part → AllListed ins p0 → AllListed (hold k) k.part
+  all_listed may ins k x listed =
+      subst (λ (r : List AssetRow). burned_where (unlisted r) k.part + (in_places (is_unit_where (unlisted r)) k.part + hold k (is_unit_where (unlisted r))) ≡ 0) (sym x.rows)
+      (let one = x.amounts (is_unit_where (unlisted p0.rows)) in let two = x.books (unlisted p0.rows) in omega (arith, one, two, listed))
+
+  abbrev end_of : Admitted → ChainPart
+  end_of a = finished xcm (last_machine rules origin a (taken ps.site.chain cargo e pr))
+
+  weighed : (a : Admitted) → admitted rules origin no_weight p0.queries program ≡ Ok a → IsWeighed rules.weight a
+  weighed a ok = laws.weighs rules origin no_weight p0.queries program a runnable.few ok
+
+  balanced : (a : Admitted) → admitted rules origin no_weight p0.queries program ≡ Ok a → IsBalanced a.weight (first_stage rules origin a p0)
+  balanced a ok = laws.balances rules origin a p0 (weighed a ok)
+
+  ahead : (a : Admitted) → admitted rules origin no_weight p0.queries program ≡ Ok a → IsAheadOf AreLists (first_stage rules origin a p0)
+  ahead a ok = no_ahead a.program m0 refl refl (admitted_lists rules origin no_weight p0.queries program runnable.lists a ok)
+
+  ends_at_rest : (a : Admitted) → admitted rules origin no_weight p0.queries program ≡ Ok a → IsAtRest (end_of a)
+  ends_at_rest a ok = laws.rests rules origin a p0 (weighed a ok) rest0
+
+  accepted_way : (l : Instruction-F Instruction) → refused l m0 ≡ None → refusal_of (roll-Instruction l) m0 ≡ None
+  accepted_way l way = ap (λ (k : Instruction-F Instruction). refused k m0) (out-roll-Instruction l) ∙ way
+
+  led_through : (a : Admitted) → admitted rules origin no_weight p0.queries program ≡ Ok a → (l : Instruction-F Instruction) (behind : List Instruction) → a.program ≡ led_by l behind → refused l m0 ≡ None
+      → (may : List ℕ → Type 0) (ins : Sum) → Call may ins (hold (done l m0)) p0 (done l m0).part → HasRoom ins p0 → AllListed ins p0
+      → Safely (done l m0) (emptied laws.withdraws laws.moves laws.stays (tables_of v) agrees (last_machine rules origin a p0)) × IsSoundPart (ended (end_of a)) × ((m : Machine) → ComesTo (first_stage rules origin a (taken ps.site.chain cargo e pr)) m → Safely (done l m0) m)
+  led_through a ok l behind is way may ins x room listed =
+      let k = done l m0 in
+      let same : xcm.done (roll-Instruction l) m0 ≡ k = ap (λ (f : Instruction-F Instruction). done f m0) (out-roll-Instruction l) in
+      let all = all_listed may ins k x listed in
+      let set : IsSet (tables_of v) k = record {
+        room = room_kept may ins (hold k) p0 k.part x room;
+        listed = listed_goods k.part.rows k.regs.holding (omega (arith, all));
+        within = held_done l m0 none_above;
+        there = subst (IsIn (tables_of v)) (sym (same_table p0 k.part x.site x.rows)) there0;
+        steady = subst IsSteady same (laws.stays (roll-Instruction l) m0 steady0 (accepted_way l way));
+        fees = subst (AllByRecursion HasFee) (sym (ap links_of x.channels)) (fees_of_links p0.site.chain (links_of p0.channels) links0);
+      } in
+      let final = emptied laws.withdraws laws.moves laws.stays (tables_of v) agrees (last_machine rules origin a p0) in
+      let safely : Safely k final = subst (λ (z : Machine). Safely z final) same
+      (led_safely laws (tables_of v) agrees rules origin p0 a (balanced a ok) (roll-Instruction l) behind is (accepted_way l way) (ahead a ok) (subst (IsSet (tables_of v)) (sym same) set)) in (
+        safely,
+        sound_ended k final safely refl all (runs.same_trust p0.site k.part.site p0.rows k.part.rows p0.channels k.part.channels x.site x.rows x.channels trusted0)
+            (subst (λ (c : ChainId). AllByRecursion (IsLink c) (links_of k.part.channels)) (sym (ap (λ s. s.chain) x.site)) (subst (AllByRecursion (IsLink p0.site.chain)) (sym (ap links_of x.channels)) links0))
+            (ends_at_rest a ok),
+        λ m c. subst (Safely k) c.2 (subst (λ (z : Machine). Safely z (machine_of c.0)) same
+            (led_inside laws (tables_of v) agrees rules origin p0 a (balanced a ok) (roll-Instruction l) behind is (accepted_way l way) (ahead a ok) (subst (IsSet (tables_of v)) (sym same) set) c.0 c.1)),
+      )
+
+  -- ---- its cargo is left
+  pub refused_fate : (a : Admitted) → admitted rules origin no_weight p0.queries program ≡ Ok a → (x : Instruction) (behind : List Instruction) (error : XcmError) → a.program ≡ x ∷ behind → refusal_of x m0 ≡ Some error
+      → Fate ps pr cargo (end_of a).cargo.cargo (ended (end_of a)) (ComesTo (first_stage rules origin a (taken ps.site.chain cargo e pr)))
+  refused_fate a ok x behind error is no_way =
+      let both = refused_safely laws (tables_of v) agrees rules origin p0 a (balanced a ok) x behind error is no_way rest0 room_none in
+      let final = emptied laws.withdraws laws.moves laws.stays (tables_of v) agrees (last_machine rules origin a p0) in
+      Left (ap (λ (t : Taken). t.cargo) both.1 ∙ cargo0) (subst (λ (q : Part). IsSafe q (seen empty (end_of a))) seen0 both.0.safe)
+      (sound_ended m0 final both.0 refl (nothing_listed p0 listed0 empty refl) trusted0 links0 (ends_at_rest a ok))
+      (λ m c.
+      let inside = refused_inside laws (tables_of v) agrees rules origin p0 a (balanced a ok) x behind error is no_way c.0 c.1 in
+      let safely : Safely m0 m = subst (Safely m0) c.2 inside.0 in (
+        ap (λ (z : Machine). z.part.cargo.cargo) (sym c.2) ∙ ap (λ (t : Taken). t.cargo) inside.1 ∙ cargo0,
+        subst (λ (q : Part). IsSafe q (view m)) seen0 safely.safe,
+      ))
+
+  -- ---- nothing comes with it
+  nothing_fate : (a : Admitted) → admitted rules origin no_weight p0.queries program ≡ Ok a → cargo ≡ cargos.Nothing → (k : Machine) → Safely m0 k → Safely k (emptied laws.withdraws laws.moves laws.stays (tables_of v) agrees (last_machine rules origin a p0))
+      → ((m : Machine) → ComesTo (first_stage rules origin a (taken ps.site.chain cargo e pr)) m → Safely k m) → Fate ps pr cargo (end_of a).cargo.cargo (ended (end_of a)) (ComesTo (first_stage rules origin a (taken ps.site.chain cargo e pr)))
+  nothing_fate a ok empty_handed k one two inside =
+      let final = emptied laws.withdraws laws.moves laws.stays (tables_of v) agrees (last_machine rules origin a p0) in
+      let all = safely_then m0 k final one two in
+      Left (all.cargo (cargo0 ∙ empty_handed) ∙ sym empty_handed) (subst (λ (q : Part). IsSafe q (seen empty (end_of a))) seen0 all.safe)
+      (sound_ended m0 final all refl (nothing_listed p0 listed0 empty refl) trusted0 links0 (ends_at_rest a ok))
+      (λ m c. let so_far = safely_then m0 k m one (inside m c) in (so_far.cargo (cargo0 ∙ empty_handed) ∙ sym empty_handed, subst (λ (q : Part). IsSafe q (view m)) seen0 so_far.safe))
+
+  claim_call : (list : List Asset) (ticket : Location) → refused (Instruction-F.ClaimAsset list ticket) m0 ≡ None → Call nobody (hold m0) (hold (done (Instruction-F.ClaimAsset list ticket) m0)) p0 (done (Instruction-F.ClaimAsset list ticket) m0).part
+  claim_call list ticket way =
+      more_call nobody m0 (claimed p0 list origin) (bundle_of list) (claiming p0 list origin (unless_next (is_ticket ticket) _ _ (unless_next (has_room m0 (length list)) _ _ way))) room0
+
+  pub claim_fate : (a : Admitted) → admitted rules origin no_weight p0.queries program ≡ Ok a → cargo ≡ cargos.Nothing → (list : List Asset) (ticket : Location) (behind : List Instruction) → a.program ≡ led_by (Instruction-F.ClaimAsset list ticket) behind
+      → refused (Instruction-F.ClaimAsset list ticket) m0 ≡ None → Fate ps pr cargo (end_of a).cargo.cargo (ended (end_of a)) (ComesTo (first_stage rules origin a (taken ps.site.chain cargo e pr)))
+  claim_fate a ok empty_handed list ticket behind is way =
+      let l = Instruction-F.ClaimAsset list ticket in
+      let x = claim_call list ticket way in
+      let through = led_through a ok l behind is way nobody (hold m0) x room0 (nothing_listed p0 listed0 empty refl) in
+      nothing_fate a ok empty_handed (done l m0) (moved_safely nobody m0 (done l m0) (λ chain number foreign h. h) x) through.0 through.2
+
+  answer_call : (query : ℕ) → Call nobody (hold m0) (hold m0) p0 (answered p0 origin query)
+  answer_call query = call_with nobody none none (hold m0) (hold m0) p0 (answered p0 origin query) (answering p0 origin query) (λ t. omega arith)
+
+  pub answer_fate : (a : Admitted) → admitted rules origin no_weight p0.queries program ≡ Ok a → cargo ≡ cargos.Nothing → (query : ℕ) (answer : Response) (weight : Weight) (querier : Option Location)
+      → a.program ≡ roll-Instruction (Instruction-F.QueryResponse query answer weight querier) ∷ [] → Fate ps pr cargo (end_of a).cargo.cargo (ended (end_of a)) (ComesTo (first_stage rules origin a (taken ps.site.chain cargo e pr)))
+  answer_fate a ok empty_handed query answer weight querier is =
+      let l = Instruction-F.QueryResponse query answer weight querier in
+      let k = done l m0 in
+      let same : xcm.done (roll-Instruction l) m0 ≡ k = ap (λ (f : Instruction-F Instruction). done f m0) (out-roll-Instruction l) in
+      let x = answer_call query in
+      let way = accepted_way l refl in
+      let final = emptied laws.withdraws laws.moves laws.stays (tables_of v) agrees (last_machine rules origin a p0) in
+      let room : HasRoom (hold k) k.part = room_kept nobody (hold m0) (hold k) p0 k.part x room0 in
+      let rest = alone_safely laws (tables_of v) agrees rules origin p0 a (balanced a ok) (roll-Instruction l) is way (ap (λ (z : Machine). z.regs.appendix) same) (laws.stays (roll-Instruction l) m0 steady0 way)
+      (subst (λ (z : Machine). HasRoom (hold z) z.part) (sym same) room) in
+      nothing_fate a ok empty_handed k (moved_safely nobody m0 k (λ chain number foreign h. h) x) (subst (λ (z : Machine). Safely z final) same rest)
+      (λ m c. subst (Safely k) c.2 (subst (λ (z : Machine). Safely z (machine_of c.0)) same
+      (alone_inside laws (tables_of v) agrees rules origin p0 a (balanced a ok) (roll-Instruction l) is way (ap (λ (z : Machine). z.regs.appendix) same) c.0 c.1)))
+
+  -- ---- a cargo that a call ends
+  ends_here : (arrival : Arrival) (new : List Asset) → fits_call arrival cargo ≡ true → is_this_list new (arrived_list pr.site ps.site.chain (cargo_list cargo)) ≡ true → is_cargo p0 arrival new ≡ true
+  unfolding told is_cargo
+  ends_here arrival new fits found = ap (λ (b : Bool). b && is_this_list new (arrived_list pr.site ps.site.chain (cargo_list cargo))) fits ∙ found
+
+  gone_by : (p : ChainPart) (arrival : Arrival) (new : List Asset) → is_cargo p arrival new ≡ true → (cargo_after p arrival new).cargo ≡ cargos.Nothing
+  unfolding cargo_after
+  gone_by p arrival new found = ap (λ (b : Bool). (if b then (let r : Taken = record { sender = p.cargo.sender; cargo = cargos.Nothing } in r) else p.cargo).cargo) found
+
+  received_gone : (new : List Asset) (teleport : Bool) → is_cargo p0 (arrival_of teleport) new ≡ true → (received p0 new teleport).cargo.cargo ≡ cargos.Nothing
+  unfolding received
+  received_gone new teleport found = gone_by p0 (arrival_of teleport) new found
+
+  withdrawn_gone : (new : List Asset) → is_cargo p0 ByWithdrawal new ≡ true → (withdrawn p0 new origin).cargo.cargo ≡ cargos.Nothing
+  unfolding withdrawn
+  withdrawn_gone new found = gone_by p0 ByWithdrawal new found
+
+  more_gone : (p : ChainPart) (goods : Bundle) → p.cargo.cargo ≡ cargos.Nothing → (holding_more m0 p goods).part.cargo.cargo ≡ cargos.Nothing
+  more_gone p goods h = ap (λ (t : Taken). t.cargo) (joined_cargo p empty goods) ∙ h
+
+  -- ---- a list comes: a teleport, or a deposit
+  list_call : (teleport : Bool) (new : List Asset) → HasRoom (with (sum_of empty) (sum_of (bundle_of new))) p0
+      → Call nobody (with (sum_of empty) (sum_of (bundle_of new))) (hold (holding_more m0 (received p0 new teleport) (bundle_of new))) p0 (holding_more m0 (received p0 new teleport) (bundle_of new)).part
+  list_call teleport new room =
+      let r = received p0 new teleport in
+      let both = with (sum_of empty) (sum_of (bundle_of new)) in
+      let one : Call nobody both both p0 r = call_with nobody none none both both p0 r (receiving p0 new teleport) (λ t. omega arith) in
+      call_then nobody both both (sum_of (Joined empty (bundle_of new))) p0 r (joined r empty (bundle_of new)) one (joining r empty (bundle_of new) (room_kept nobody both both p0 r one room))
+
+  given_part : (new : List Asset) (k : Listed) → total (is_burn_of k) (given_up empty (bundle_of new)) ≤ with (sum_of empty) (sum_of (bundle_of new)) (is_unit_of k)
+  given_part new k =
+      let a = given_up_total (eq_by_cmp listed_cmp k) empty (bundle_of new) in
+      let b = joined_total (is_unit_of k) empty (bundle_of new) in
+      omega (arith, a, b)
+
+  list_ends : (new : List Asset) → HasRoom (with (sum_of empty) (sum_of (bundle_of new))) p0 → AreTotals (merge pr.burns (given_up empty (bundle_of new)))
+  unfolding told
+  list_ends new room = below p0 (with (sum_of empty) (sum_of (bundle_of new))) (given_up empty (bundle_of new)) room (given_part new)
+
+  list_view : (teleport : Bool) (new : List Asset) → AreTotals (merge pr.burns (given_up empty (bundle_of new))) → view (holding_more m0 (received p0 new teleport) (bundle_of new)) ≡ WithList new (seen empty pr)
+  unfolding joined booked received told
+  list_view teleport new ends = λ i. record (WithList new (seen empty pr)) { burns = booked_below (book_of pr) (given_up empty (bundle_of new)) ends i }
+
+  list_small : (new : List Asset) → IsSmall (with (sum_of empty) (sum_of (bundle_of new))) pr → IsSmall (with (sum_of empty) (sum_of (bundle_of new))) p0
+  unfolding told in_kept
+  list_small new small = small
+
+  list_fate : (a : Admitted) → admitted rules origin no_weight p0.queries program ≡ Ok a → (l : Instruction-F Instruction) (behind : List Instruction) → a.program ≡ led_by l behind → refused l m0 ≡ None
+      → (teleport : Bool) (new : List Asset) → done l m0 ≡ holding_more m0 (received p0 new teleport) (bundle_of new) → AreListed (listing p0.rows) (bundle_of new) → is_cargo p0 (arrival_of teleport) new ≡ true
+      → IsListFor (cargo_of cargo) new (seen empty ps) (seen empty pr) → IsTrusted (cargo_of cargo) (seen empty ps) (seen empty pr) → Fate ps pr cargo (end_of a).cargo.cargo (ended (end_of a)) (ComesTo (first_stage rules origin a (taken ps.site.chain cargo e pr)))
+  list_fate a ok l behind is way teleport new does listed found same trusted =
+      let p = seen empty ps in
+      let q = seen empty pr in
+      let mid = WithList new q in
+      let exchange : IsExchange p (WithoutFront q p) q mid = received_safe (cargo_of cargo) p (WithoutFront q p) q mid chains_apart sender_number (list_received (cargo_of cargo) new p q front same) trusted in
+      let w = slice_set (slice_set v i (WithoutFront q p)) j mid in
+      let after : History first w = Two v i j p (WithoutFront q p) q mid history at_i at_j apart exchange in
+      let at : slice_get w j ≡ Some mid = get_set_same (slice_set v i (WithoutFront q p)) j q mid (get_set_other v i j (WithoutFront q p) (λ h. apart (sym h)) ∙ at_j) in
+      let both = with (sum_of empty) (sum_of (bundle_of new)) in
+      let small : IsSmall both p0 = list_small new (small_more first genesis w after j (bundle_of new) pr at) in
+      let none_out : AllListed both p0 =
+      (let z = total-empty unit_keys (is_unit_where (unlisted p0.rows)) in
+      let y = goods_listed p0.rows (bundle_of new) listed in
+      let x = listed0 in
+      omega (arith, x, y, z)) in
+      let room = small_room p0 both (with_rises (sum_of empty) (sum_of (bundle_of new)) (sum_rises empty) (sum_rises (bundle_of new))) none_out small in
+      let k = holding_more m0 (received p0 new teleport) (bundle_of new) in
+      let x = list_call teleport new room in
+      let through = led_through a ok l behind is way nobody both (subst (λ (z : Machine). Call nobody both (hold z) p0 z.part) (sym does) x) room none_out in
+      let final = emptied laws.withdraws laws.moves laws.stays (tables_of v) agrees (last_machine rules origin a p0) in
+      let safely : Safely k final = subst (λ (z : Machine). Safely z final) does through.0 in
+      Landed mid (safely.cargo (more_gone (received p0 new teleport) (bundle_of new) (received_gone new teleport found))) exchange
+      (subst (λ (z : Part). IsSafe z (seen empty (end_of a))) (list_view teleport new (list_ends new room)) safely.safe) through.1
+      (λ m c.
+      let so_far : Safely k m = subst (λ (z : Machine). Safely z m) does (through.2 m c) in (
+        so_far.cargo (more_gone (received p0 new teleport) (bundle_of new) (received_gone new teleport found)),
+        subst (λ (z : Part). IsSafe z (view m)) (list_view teleport new (list_ends new room)) so_far.safe,
+      ))
+
+  -- ---- the list of the cargo
+  module _ (xs new : List Asset) (named : arrived_list (record { network = ps.site.network; chain = pr.site.chain }) ps.site.chain xs ≡ Some new) where
+    same_list_there : ((u : Unit) → 0 < amount (bundle_of xs) u → IsPlaced (context_of (table_of ps)) u.0) → (a : UniversalAsset) (choice : Choice)
+        → total (is_unit_at (context_of (table_of pr)) a choice) (bundle_of new) ≡ total (is_unit_at (context_of (table_of ps)) a choice) (bundle_of xs)
+    same_list_there placed a choice = same_amounts_there (tables_of v) agrees (table_of ps) (table_of pr) s_in t_in name origin leads back xs new named placed a choice
+
+    this_list : is_this_list new (arrived_list pr.site ps.site.chain xs) ≡ true
+    this_list = found_there (tables_of v) agrees (table_of ps) (table_of pr) s_in t_in name origin leads back xs new named
+
+  -- ---- a teleport
+  shared_units : (units : Bundle) → IsGoods units → AllByRecursion (λ (a : Asset). IsTrue (is_partner ps.rows ps.site a name)) (held_assets units) → (u : Unit) → 0 < amount units u → IsShared (table_of ps) (table_of pr) u
+  shared_units units whole all u held =
+      let found = each_unit (λ (a : Asset). IsTrue (is_partner ps.rows ps.site a name)) units whole all u held in
+      subst (IsShared (table_of ps) (table_of pr)) (sym found.2) (shared_there (tables_of v) agrees (table_of ps) (table_of pr) s_in t_in name origin leads back found.0 found.1)
+
+  received_listed : (new : List Asset) (teleport : Bool) → receive_refusal p0 new origin teleport ≡ None → AreListed (listing p0.rows) (bundle_of new)
+  received_listed new teleport h = received_is_listed p0 new origin teleport h
+
+  pub teleport_fate : (a : Admitted) → admitted rules origin no_weight p0.queries program ≡ Ok a → (units : Bundle) (new : List Asset) (behind : List Instruction) → cargo_of cargo ≡ Teleport units → cargo_list cargo ≡ held_assets units → fits_call ByTeleport cargo ≡ true
+      → IsGoods units → AllByRecursion (λ (a : Asset). IsTrue (is_partner ps.rows ps.site a name)) (held_assets units)
+      → arrived_list (record { network = ps.site.network; chain = pr.site.chain }) ps.site.chain (held_assets units) ≡ Some new → a.program ≡ led_by (Instruction-F.ReceiveTeleportedAsset new) behind
+      → refused (Instruction-F.ReceiveTeleportedAsset new) m0 ≡ None → Fate ps pr cargo (end_of a).cargo.cargo (ended (end_of a)) (ComesTo (first_stage rules origin a (taken ps.site.chain cargo e pr)))
+  teleport_fate a ok units new behind carries list fits whole partners named is way =
+      let shared = shared_units units whole partners in
+      let placed : (u : Unit) → 0 < amount (bundle_of (held_assets units)) u → IsPlaced (context_of (table_of ps)) u.0 =
+      λ u held. unit_placed (tables_of v) agrees (table_of ps) (table_of pr) s_in t_in name leads u (shared u (subst (λ (b : Bundle). 0 < amount b u) whole held)).twin in
+      let same : IsListFor (Teleport units) new (seen empty ps) (seen empty pr) = λ b choice.
+      let x = same_list_there (held_assets units) new named placed b choice in
+      let y = ap (total (is_unit_at (context_of (table_of ps)) b choice)) whole in
+      omega (arith, x, y) in
+      let accepted = unless_next (has_room m0 (length new)) _ _ way in
+      list_fate a ok (Instruction-F.ReceiveTeleportedAsset new) behind is way true new refl (received_listed new true accepted)
+      (ends_here ByTeleport new fits (subst (λ (xs : List Asset). is_this_list new (arrived_list pr.site ps.site.chain xs) ≡ true) (sym list) (this_list (held_assets units) new named)))
+      (subst (λ (c : Cargo). IsListFor c new (seen empty ps) (seen empty pr)) (sym carries) same)
+      (subst (λ (c : Cargo). IsTrusted c (seen empty ps) (seen empty pr)) (sym carries) (teleport_trusted (tables_of v) agrees (seen empty ps) (seen empty pr) units t_in shared))
+
+  -- ---- a deposit
+  reserves_there : (new : List Asset) → receive_refusal p0 new origin false ≡ None → AllByRecursion (λ (a : Asset). IsTrue (is_reserve pr.rows pr.site a origin)) new
+  unfolding receive_refusal told
+  reserves_there new h = reserves_hold (tables_of v) agrees p0 origin new (none_first _ _ h)
+
+  pub deposit_fate : (a : Admitted) → admitted rules origin no_weight p0.queries program ≡ Ok a → (list new : List Asset) (behind : List Instruction) → cargo ≡ cargos.Deposit list → AreListed (listing ps.rows) (bundle_of list)
+      → arrived_list (record { network = ps.site.network; chain = pr.site.chain }) ps.site.chain list ≡ Some new → a.program ≡ led_by (Instruction-F.ReserveAssetDeposited new) behind
+      → refused (Instruction-F.ReserveAssetDeposited new) m0 ≡ None → Fate ps pr cargo (end_of a).cargo.cargo (ended (end_of a)) (ComesTo (first_stage rules origin a (taken ps.site.chain cargo e pr)))
+  deposit_fate a ok list new behind carries listed named is way =
+      let placed = listed_placed (tables_of v) agrees (table_of ps) s_in (bundle_of list) listed in
+      let same : IsListFor (Deposit (bundle_of list)) new (seen empty ps) (seen empty pr) = λ b choice. let x = same_list_there list new named placed b choice in omega (arith, x) in
+      let accepted = unless_next (has_room m0 (length new)) _ _ way in
+      let reserves = reserves_there new accepted in
+      let found = names (tables_of v) agrees (table_of ps) (table_of pr) s_in t_in name origin leads back list new named in
+      let owed : (u : Unit) → 0 < amount (bundle_of list) u → IsDepositFor (table_of ps) (table_of pr) u = λ u held.
+      deposit_for (tables_of v) agrees (table_of ps) (table_of pr) s_in t_in name origin leads back list new found.all found.moved (lands name (context_of (table_of ps)) list new found)
+      (λ b inside. all_at (λ (a : Asset). IsTrue (is_reserve pr.rows pr.site a origin)) new b reserves inside) u held (placed u held) in
+      let carried_list : cargo_of cargo ≡ Deposit (bundle_of list) = ap cargo_of carries in
+      list_fate a ok (Instruction-F.ReserveAssetDeposited new) behind is way false new refl (received_listed new false accepted)
+      (ends_here ByDeposit new (ap (fits_call ByDeposit) carries) (subst (λ (c : carried.Cargo). is_this_list new (arrived_list pr.site ps.site.chain (cargo_list c)) ≡ true) (sym carries) (this_list list new named)))
+      (subst (λ (c : Cargo). IsListFor c new (seen empty ps) (seen empty pr)) (sym carried_list) same)
+      (subst (λ (c : Cargo). IsTrusted c (seen empty ps) (seen empty pr)) (sym carried_list) (deposit_trusted (tables_of v) agrees (seen empty ps) (seen empty pr) (bundle_of list) t_in owed))
+
+  -- ---- a withdrawal
+  owed_placed : (units : Bundle) → IsGoods units → AllByRecursion (λ (a : Asset). IsTrue (is_reserve ps.rows ps.site a name)) (held_assets units) → (u : Unit) → 0 < amount (bundle_of (held_assets units)) u → IsPlaced (context_of (table_of ps)) u.0
+  owed_placed units whole all u held =
+      let found = each_unit (λ (a : Asset). IsTrue (is_reserve ps.rows ps.site a name)) units whole all u (subst (λ (b : Bundle). 0 < amount b u) whole held) in
+      let owed = owed_there (tables_of v) agrees (table_of ps) (table_of pr) s_in t_in name origin leads back found.0 found.1 in
+      subst (λ (w : Unit). IsPlaced (context_of (table_of ps)) w.0) (sym found.2) (unit_placed (tables_of v) agrees (table_of ps) (table_of pr) s_in t_in name leads (unit_of found.0) owed.twin)
+
+  payer : List ℕ
+  payer = sovereign_account pr.site.chain ps.site.chain
+
+  payer_found : account_of origin pr.site ≡ Some (sovereign_account pr.site.chain ps.site.chain)
+  payer_found = account_of-location_of pr.site ps.site.chain origin back
+
+  holds_list : (new : List Asset) → IsAssetList new → withdraw_refusal p0 new origin ≡ None → IsWithin (held_by (sovereign_account pr.site.chain ps.site.chain) (bundle_of new)) pr.held
+  unfolding withdraw_refusal told
+  holds_list new fits ok h =
+      let who = sovereign_account pr.site.chain ps.site.chain in
+      let gives : first_fault (give_fault p0 (Some who)) new ≡ None = subst (λ (o : Option (List ℕ)). first_fault (give_fault p0 o) new ≡ None) payer_found ok in
+      let kept = laws.withdraws (accounts_of p0) who new (eq_by_cmp holder_cmp h) fits (no_shortage p0 who new gives) in
+      let share = held_by_total (eq_by_cmp holder_cmp h) who (bundle_of new) in
+      let a = amount-total holder_keys (held_by who (bundle_of new)) h in
+      let b = amount-total holder_keys p0.held h in
+      omega (arith, kept, share, a, b)
+
+  paid_ends : (new : List Asset) → HasRoom (with (sum_of empty) (sum_of (bundle_of new))) (withdrawn p0 new origin) → AreTotals (merge pr.burns (given_up empty (bundle_of new)))
+  unfolding told withdrawn
+  paid_ends new room = below (withdrawn p0 new origin) (with (sum_of empty) (sum_of (bundle_of new))) (given_up empty (bundle_of new)) room (given_part new)
+
+  paid_view : (new : List Asset) → AreTotals (merge pr.burns (given_up empty (bundle_of new))) → view (holding_more m0 (withdrawn p0 new origin) (bundle_of new)) ≡ Paid (seen empty ps) new (seen empty pr)
+  unfolding joined booked withdrawn told
+  paid_view new ends = λ i. record (Paid (seen empty ps) new (seen empty pr)) {
+    held = at_account (payer_found i) (λ account. (Withdrawn account new (accounts_of pr)).held) pr.held;
+    burns = booked_below (book_of pr) (given_up empty (bundle_of new)) ends i;
+  }
+
+  list_fits : (a : Admitted) → admitted rules origin no_weight p0.queries program ≡ Ok a → (new : List Asset) (behind : List Instruction) → a.program ≡ led_by (Instruction-F.WithdrawAsset new) behind → IsAssetList new
+  list_fits a ok new behind is =
+      let all = subst (AllByRecursion AreLists) is (admitted_lists rules origin no_weight p0.queries program runnable.lists a ok) in
+      subst (runs.HasList Instruction) (out-roll-Instruction (Instruction-F.WithdrawAsset new)) (everywhere_open runs.HasList HasList-IsOfLayer (roll-Instruction (Instruction-F.WithdrawAsset new)) all.0).0
+
+  pub withdrawal_fate : (a : Admitted) → admitted rules origin no_weight p0.queries program ≡ Ok a → (units : Bundle) (new : List Asset) (behind : List Instruction) → cargo_of cargo ≡ Withdrawal units → cargo_list cargo ≡ held_assets units → fits_call ByWithdrawal cargo ≡ true
+      → IsGoods units → AllByRecursion (λ (a : Asset). IsTrue (is_reserve ps.rows ps.site a name)) (held_assets units)
+      → arrived_list (record { network = ps.site.network; chain = pr.site.chain }) ps.site.chain (held_assets units) ≡ Some new → a.program ≡ led_by (Instruction-F.WithdrawAsset new) behind
+      → refused (Instruction-F.WithdrawAsset new) m0 ≡ None → Fate ps pr cargo (end_of a).cargo.cargo (ended (end_of a)) (ComesTo (first_stage rules origin a (taken ps.site.chain cargo e pr)))
+  withdrawal_fate a ok units new behind carries list fits whole reserves named is way =
+      let p = seen empty ps in
+      let q = seen empty pr in
+      let in_order = list_fits a ok new behind is in
+      let accepted = unless_next (has_room m0 (length new)) _ _ way in
+      let r = withdrawn p0 new origin in
+      let k = holding_more m0 r (bundle_of new) in
+      let may = only (account_of origin p0.site) in
+      let goods = sum_of (bundle_of new) in
+      let gave = withdrawing laws.withdraws p0 new origin in_order accepted in
+      let came : Call may (sum_of empty) (with (sum_of empty) goods) p0 r = call_with may none goods (sum_of empty) (with (sum_of empty) goods) p0 r gave (λ t. omega arith) in
+      let room = room_kept may (sum_of empty) (with (sum_of empty) goods) p0 r came room0 in
+      let x = more_call may m0 r (bundle_of new) gave room0 in
+      let through = led_through a ok (Instruction-F.WithdrawAsset new) behind is way may (hold m0) x room0 (nothing_listed p0 listed0 empty refl) in
+      let same : (b : UniversalAsset) (choice : Choice) → total (is_unit_at (context_of q.table) b choice) (bundle_of new) ≡ total (is_unit_at (context_of p.table) b choice) units = λ b choice.
+      same_list_there (held_assets units) new named (owed_placed units whole reserves) b choice ∙ ap (total (is_unit_at (context_of (table_of ps)) b choice)) whole in
+      let front_is : queues.front (chain_of q) p.outgoing ≡ Some (Withdrawal units) = front ∙ ap Some carries in
+      let exchange : IsExchange p (WithoutFront q p) q (Paid p new q) = received_safe (Withdrawal units) p (WithoutFront q p) q (Paid p new q) chains_apart sender_number
+      (paid_received units new p q front_is sender_number chains_apart (holds_list new in_order accepted) same) (withdrawal_trusted (tables_of v) agrees p q units) in
+      let found : is_cargo p0 ByWithdrawal new ≡ true =
+      ends_here ByWithdrawal new fits (subst (λ (xs : List Asset). is_this_list new (arrived_list pr.site ps.site.chain xs) ≡ true) (sym list) (this_list (held_assets units) new named)) in
+      Landed (Paid p new q) (through.0.cargo (more_gone r (bundle_of new) (withdrawn_gone new found))) exchange
+      (subst (λ (z : Part). IsSafe z (seen empty (end_of a))) (paid_view new (paid_ends new room)) through.0.safe) through.1
+      (λ m c.
+      let so_far = through.2 m c in (
+        so_far.cargo (more_gone r (bundle_of new) (withdrawn_gone new found)),
+        subst (λ (z : Part). IsSafe z (view m)) (paid_view new (paid_ends new room)) so_far.safe,
+      ))

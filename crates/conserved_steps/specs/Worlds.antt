@@ -1,0 +1,98 @@
+-- Every world of a coherent network keeps every asset and every backing. This project's own rule.
+use Rattle.std.specs.Prelude.{◌≡◌, ℕ, ◌≤◌, false, List, Some, Ok, slice_get, slice_set}
+use Rattle.amounts.specs.Amounts.{empty}
+use Rattle.xcm_program.specs.declared.instruction.Instruction.{Instruction}
+use Rattle.versioned_xcm.specs.Reading.{message_of}
+use Rattle.channel_parts.specs.declared.cargo.Cargo.TheVariants as cargos
+use Rattle.channel_parts.specs.Channels.{Waiting, Outgoing}
+use Rattle.chain_queues.specs.Queues.{channel_to, oldest}
+use Rattle.exec_base.specs.declared.event.Event.{Event}
+use Rattle.exec_base.specs.Host.{told}
+use Rattle.exec_base.specs.Part.{ChainPart}
+use Rattle.exec_run.specs.Machine.{Machine}
+use Rattle.std.specs.List.{AllByRecursion}
+use Rattle.asset_lists.specs.declared.units.Instance.{Instance}
+use Rattle.network_steps.specs.Worlds as networks
+use Rattle.network_steps.specs.Worlds.{Member, chain_of}
+use Rattle.network_steps.specs.Acting.{begun, lost_of, booking_lost}
+use Rattle.network_steps.specs.Steps.{is_sovereign, without_message, Link, Step, worlds}
+use Rattle.conserved_runs.specs.Views.{seen, view}
+use Rattle.message_shapes.specs.Shapes.{AllShaped}
+use Rattle.coherence.specs.UniversalAssets.{UniversalAsset, just}
+use Rattle.conservation.specs.Parts.{World, population}
+use Rattle.conservation.specs.Histories.{History}
+use Rattle.conservation.specs.Headline.{IsKept}
+use Rattle.conserved_steps.specs.Views.{views}
+use Rattle.conserved_steps.specs.Soundness.{IsSoundPart}
+use Rattle.conserved_steps.specs.Bounds.{IsSoundGenesis}
+
+-- each chain is between runs, with every unit and every burn listed, and what waits was trusted when it was sent
+abbrev pub AreSoundParts : networks.World → Type 0
+AreSoundParts w = (k : ℕ) (m : Member) → slice_get w k ≡ Some m → IsSoundPart m.part
+
+-- a first world: its chains agree and it is backed, of no asset there is 2^127 or more, no instance stands at two homes, each message that
+-- waits has a shape, and each chain is sound
+pub record IsFirst (w : networks.World) : Type 0 where
+  pub genesis : IsSoundGenesis (views w)
+  pub once : (a : UniversalAsset) (instance : Instance) → population a (just (Some instance)) (views w) ≤ 1
+  pub shaped : AllShaped w
+  pub parts : AreSoundParts w
+
+-- a world that safe changes lead to
+pub record IsReached (first : World) (w : networks.World) : Type 0 where
+  pub history : History first (views w)
+  pub shaped : AllShaped w
+  pub parts : AreSoundParts w
+
+-- conserved, backed, below 2^127 and with each instance once: so is every world, whatever the steps
+abbrev pub AllKept : List Link → networks.World → List Step → Type 0
+AllKept order w steps = AllByRecursion (λ (v : networks.World). IsKept (views w) (views v)) (worlds order w steps)
+
+-- the network while the chain at a place runs a program: its part is what stands in the run, with what is held
+abbrev pub while_running : networks.World → ℕ → Machine → World
+while_running w k m = slice_set (views w) k (view m)
+
+-- the network where memory was refused to a chain's run: its part is what then stands, with what is parked
+abbrev pub where_stopped : networks.World → ℕ → ChainPart → World
+where_stopped w k p = slice_set (views w) k (seen empty p)
+
+-- an account has a message executed on its chain, in one of the worlds
+pub record IsExecution (order : List Link) (w : networks.World) (steps : List Step) (account : List ℕ) (program : List Instruction) : Type 0 where
+  pub at : ℕ
+  pub world : networks.World
+  pub reached : slice_get (worlds order w steps) at ≡ Some world
+  pub place : ℕ
+  pub member : Member
+  pub stands : slice_get world place ≡ Some member
+  pub own : is_sovereign account ≡ false
+  pub bytes : List ℕ
+  pub decoded : message_of bytes ≡ Ok program
+
+-- the chain's part as the execution begins
+abbrev pub begins : Member → ChainPart
+begins m = begun (chain_of m) cargos.Nothing m.part
+
+-- a message is the oldest of its channel, in one of the worlds
+pub record IsDelivery (order : List Link) (w : networks.World) (steps : List Step) : Type 0 where
+  pub at : ℕ
+  pub world : networks.World
+  pub reached : slice_get (worlds order w steps) at ≡ Some world
+  pub from : ℕ
+  pub sender : Member
+  pub sends : slice_get world from ≡ Some sender
+  pub to : ℕ
+  pub receiver : Member
+  pub receives : slice_get world to ≡ Some receiver
+  pub channel : Outgoing
+  pub leads : channel_to (chain_of receiver) sender.part.channels ≡ Some channel
+  pub message : Waiting
+  pub oldest : oldest channel ≡ Some message
+
+-- the receiver's part as the message begins
+abbrev pub arrives : Member → Member → Waiting → ChainPart
+arrives sender receiver m = told (begun (chain_of sender) m.cargo receiver.part) (Event.Message (chain_of sender) (chain_of receiver) m.number)
+
+-- the network while the receiver runs the message: it is out of its channel, the receiver's part is what stands in the run, with what is held,
+-- and what is still left of a teleported cargo counts as burned, as it would if the run ended there
+abbrev pub while_delivered : networks.World → ℕ → Member → ℕ → Member → Machine → World
+while_delivered w from sender to receiver m = slice_set (slice_set (views w) from (seen empty (booking_lost (lost_of m.part.cargo.cargo) (without_message (chain_of receiver) sender.part)))) to (view m)

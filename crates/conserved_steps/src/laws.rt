@@ -1,0 +1,79 @@
+//! What holds of every world of a coherent network: laws, as the contracts of functions that do nothing.
+ghost use Rattle.std.specs.Prelude.{◌≡◌, ℕ, List, Ok};
+ghost use Rattle.weight_trader.specs.Purchases.{no_weight};
+ghost use Rattle.xcm_program.specs.declared.instruction.Instruction.{Instruction};
+ghost use Rattle.exec_base.specs.Part.{ChainPart};
+ghost use Rattle.exec_run.specs.Run.{Stage, machine_of, Reaches, GoesOnTo};
+ghost use Rattle.exec_rules.specs.Instructions.{xcm};
+ghost use Rattle.exec_admission.specs.declared.admission.Admitted.{Admitted};
+ghost use Rattle.exec_admission.specs.Admission.{admitted};
+ghost use Rattle.exec_admission.specs.Execution.{first_stage, IsAbandoned};
+ghost use Rattle.network_steps.specs.Worlds.{World, chain_of};
+ghost use Rattle.network_steps.specs.Acting.{caller};
+ghost use Rattle.network_steps.specs.Steps.{name_at, Link, Step};
+ghost use Rattle.conservation.specs.Headline.{IsKept};
+ghost use Rattle.conserved_steps.specs.Views.{views};
+ghost use Rattle.conserved_steps.specs.Worlds.{IsFirst, AllKept, IsExecution, begins, while_running, where_stopped, IsDelivery, arrives, while_delivered};
+
+use exec_admission::law_of_admission;
+use exec_rules::{law_of_readiness, law_of_rules};
+use ledgers::law_of_ledgers;
+use message_shapes::{law_of_admitted_messages, law_of_shapes};
+use trap_store::law_of_traps;
+use versioned_xcm::law_of_messages;
+use weight_trader::law_of_trading;
+
+/// From a first world, whatever the steps, every world has each asset as before, at its homes, under way between them and burned there; every
+/// derivative is covered by what its reserve keeps; no chain has 2^127 or more of a listed asset, nor an instance twice.
+pub fn law_of_conserved_worlds()
+    ensures kept { (order : List Link) (w : World) (steps : List Step) → IsFirst w → AllKept order w steps }
+{
+    law_of_ledgers();
+    law_of_trading();
+    law_of_traps();
+    law_of_readiness();
+    law_of_rules();
+    law_of_admission();
+    law_of_shapes();
+    law_of_admitted_messages();
+    law_of_messages();
+}
+
+/// So it is inside a local execution, wherever its run comes, with what the run holds counted; and where memory is refused to it, with what is
+/// parked counted.
+pub fn law_of_conserved_executions()
+    ensures inside { (order : List Link) (w : World) (steps : List Step) (account : List ℕ) (program : List Instruction) (x : IsExecution order w steps account program) (a : Admitted) (g : Stage) → IsFirst w
+        → admitted x.member.rules (caller account) x.member.rules.limit (begins x.member).queries program ≡ Ok a
+        → Reaches xcm (first_stage x.member.rules (caller account) a (begins x.member)) g → IsKept (views w) (while_running x.world x.place (machine_of g)) }
+    ensures stopped { (order : List Link) (w : World) (steps : List Step) (account : List ℕ) (program : List Instruction) (x : IsExecution order w steps account program) (now : ChainPart) → IsFirst w
+        → IsAbandoned x.member.rules (caller account) x.member.rules.limit program (begins x.member) now → IsKept (views w) (where_stopped x.world x.place now) }
+{
+    law_of_ledgers();
+    law_of_trading();
+    law_of_traps();
+    law_of_readiness();
+    law_of_rules();
+    law_of_admission();
+    law_of_shapes();
+    law_of_admitted_messages();
+    law_of_messages();
+}
+
+/// So it is inside a delivery, wherever its run comes behind its first instruction: the message is out of its channel, what the run holds is
+/// counted, and a teleported cargo that it didn't take counts as burned.
+pub fn law_of_conserved_deliveries()
+    ensures inside { (order : List Link) (w : World) (steps : List Step) (d : IsDelivery order w steps) (a : Admitted) (g : Stage) → IsFirst w
+        → admitted d.receiver.rules (name_at (chain_of d.receiver) (chain_of d.sender)) no_weight (arrives d.sender d.receiver d.message).queries d.message.program ≡ Ok a
+        → GoesOnTo xcm (first_stage d.receiver.rules (name_at (chain_of d.receiver) (chain_of d.sender)) a (arrives d.sender d.receiver d.message)) g
+        → IsKept (views w) (while_delivered d.world d.from d.sender d.to d.receiver (machine_of g)) }
+{
+    law_of_ledgers();
+    law_of_trading();
+    law_of_traps();
+    law_of_readiness();
+    law_of_rules();
+    law_of_admission();
+    law_of_shapes();
+    law_of_admitted_messages();
+    law_of_messages();
+}
