@@ -1,5 +1,5 @@
 -- The references of chains, chain by chain.
-use Rattle.std.proofs.Common.{◌≡◌, ◌∙◌, ℕ, ◌+◌, ◌<◌, List, [], ◌∷◌, ◌++◌, length, get_or, take, drop, refl, ap, sym, arith, Result, Ok, Err}
+use Rattle.std.proofs.Common.{◌≡◌, ℕ, ◌+◌, ◌<◌, List, length, get_or, take, drop, refl, arith, Ok, Err}
 use Rattle.std.proofs.lemmas.List.{drop_more, drop_all, take_more}
 use Rattle.locations.specs.declared.grammar.NetworkId.{NetworkId}
 use Rattle.network_spec.specs.declared.chain.ChainSpec.{ChainSpec}

@@ -1,5 +1,5 @@
 -- Lists whose entries are looked at beside one another, entry by entry.
-use Rattle.std.proofs.Common.{◌≡◌, ◌∙◌, ℕ, ◌+◌, ◌<◌, List, [], ◌∷◌, ◌++◌, length, get_or, take, drop, refl, ap, sym, arith, Option, Result, Ok, Err}
+use Rattle.std.proofs.Common.{◌≡◌, ℕ, ◌+◌, ◌<◌, List, length, get_or, take, drop, refl, arith, Option, Ok, Err}
 use Rattle.std.proofs.lemmas.List.{drop_more, drop_all, take_more}
 use Rattle.document_forms.specs.declared.fault.NetworkFault.{NetworkFault}
 use Rattle.document_forms.specs.declared.fault.Section.{Section}

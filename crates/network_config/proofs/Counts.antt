@@ -1,5 +1,5 @@
 -- How many elements a list has, and whether one of them is the relay chain's entry.
-use Rattle.std.proofs.Common.{◌≡◌, ◌∙◌, ℕ, suc, ◌+◌, List, [], ◌∷◌, length, Bool, ◌||◌, refl, ap, sym, arith, add-one}
+use Rattle.std.proofs.Common.{◌≡◌, List, [], ◌∷◌, length, ◌||◌, refl, ap, arith}
 use Rattle.std.specs.List.{list_any}
 use Rattle.serde_json.specs.View.{view, items_view}
 use Rattle.serde_json.specs.declared.value.Value.{Value}

@@ -5,3 +5,9 @@ pub mod ChainsChecked
 pub mod Summing
 pub mod Arranging
 pub mod Documents
+pub mod Holding
+pub mod Asking
+pub mod Textual
+pub mod Shaped
+pub mod ShapedChains
+pub mod Reading

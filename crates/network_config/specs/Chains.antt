@@ -1,7 +1,7 @@
 -- A chain's entry in a network document, a line a field. Source: this project's own rule.
-use Rattle.std.specs.Prelude.{ℕ, List, [], ◌∷◌, ◌+◌, Bool, true, false, ◌||◌, ◌&&◌, nat_le, codes, Option, Some, None, is_some, is_none, Result, Ok, Err, if◌then◌else◌}
-use Rattle.serde_json.specs.Data.{Data, Items, no_items, item}
-use Rattle.serde_json.specs.Find.{as_object, get}
+use Rattle.std.specs.Prelude.{ℕ, List, [], ◌∷◌, nat_le, codes, Option, Some, None, Result, Ok}
+use Rattle.serde_json.specs.Data.{Data, Items}
+use Rattle.serde_json.specs.Find.{get}
 use Rattle.chain_ids.specs.declared.chain.ChainId.{ChainId}
 use Rattle.chain_ids.specs.declared.chain.ChainId.TheVariants.{Relay, Para}
 use Rattle.message_parts.specs.declared.weight.Weight.{Weight}
@@ -17,7 +17,7 @@ use Rattle.document_forms.specs.declared.fault.NetworkFault.TheVariants.{LimitPa
 use Rattle.document_forms.specs.declared.fault.Place.{Place}
 use Rattle.document_forms.specs.declared.fault.Section.{Section}
 use Rattle.document_forms.specs.declared.fault.Section.TheVariants.{Top, Fields, Barriers, Rates, Assets, Accounts, Pallets, Queries, Channels}
-use Rattle.document_forms.specs.Forms.{Form, ◌>>=◌, ◌>>◌, where_true, fields, defaulted, of_optional, number_within, bytes, pair, list, list_field, entries, count}
+use Rattle.document_forms.specs.Forms.{Form, ◌>>=◌, ◌>>◌, where_true, fields, defaulted, number_within, bytes, pair, list_field, entries, count}
 use Rattle.document_entries.specs.Entries.{made, u32, barrier, rate, asset_row, account, pallet, query}
 use Rattle.network_config.specs.declared.head.ChainHead.{ChainHead}
 

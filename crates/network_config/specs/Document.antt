@@ -1,18 +1,15 @@
 -- The network document. Source: this project's own rule, over JSON as `serde_json` reads it.
-use Rattle.std.specs.Prelude.{ℕ, List, [], ◌∷◌, ◌+◌, Bool, true, false, ◌||◌, ◌&&◌, ◌==◌, nat_le, bytes_eq, codes, Option, Some, None, is_some, is_none, Result, Ok, Err, if◌then◌else◌}
+use Rattle.std.specs.Prelude.{ℕ, List, [], ◌∷◌, ◌+◌, Bool, false, ◌||◌, ◌&&◌, ◌==◌, nat_le, bytes_eq, codes, Option, Some, is_some, is_none, Result, Ok, if◌then◌else◌}
 use Rattle.std.specs.Option.{option_map}
-use Rattle.std.specs.Str.{is_utf8}
 use Rattle.serde_json.specs.Data.{Data, Items, no_items, item}
 use Rattle.serde_json.specs.Find.{as_object, get}
-use Rattle.serde_json.specs.Read.{read}
 use Rattle.locations.specs.declared.grammar.NetworkId.{NetworkId}
 use Rattle.locations.specs.declared.grammar.NetworkId.TheVariants.{ByGenesis, Polkadot, Kusama, Westend, Rococo, Wococo}
 use Rattle.network_spec.specs.declared.network.NetworkSpec.{NetworkSpec}
 use Rattle.document_forms.specs.declared.fault.NetworkFault.{NetworkFault}
-use Rattle.document_forms.specs.declared.fault.NetworkFault.TheVariants.{NotJson, BadValue, LimitPassed}
-use Rattle.document_forms.specs.declared.fault.Place.{Place}
+use Rattle.document_forms.specs.declared.fault.NetworkFault.TheVariants.{BadValue, LimitPassed}
 use Rattle.document_forms.specs.Forms.{Form, ◌>>=◌, ◌>>◌, or_fault, where_true, fields, defaulted, text, bytes32, number_within, list_field, entries, count}
-use Rattle.document_entries.specs.Entries.{made, channel_entry}
+use Rattle.document_entries.specs.Entries.{channel_entry}
 use Rattle.network_config.specs.Chains.{top, channel_at, short_list, chain_entry}
 
 -- the network of a name, or of the hash of its first block

@@ -3,3 +3,10 @@ pub mod Document
 pub mod References
 pub mod Sums
 pub mod Network
+pub mod Valid
+pub mod Totals
+pub mod Holdings
+pub mod Queries
+pub mod Faultless
+pub mod Summed
+pub mod Arranged

@@ -1,27 +1,18 @@
 -- What entries of a document say of one another: an entry says nothing anew, names what is there, and no sum is too large.
 -- Source: this project's own rule.
-use Rattle.std.specs.Prelude.{ℕ, ◌+◌, List, [], ◌∷◌, ◌++◌, length, Bool, true, false, not, ◌&&◌, ◌||◌, ◌==◌, nat_lt, nat_le, Option, Some, None, is_some, Result, Ok, Err, if◌then◌else◌}
+use Rattle.std.specs.Prelude.{ℕ, List, [], ◌∷◌, ◌++◌, length, Bool, true, false, not, ◌&&◌, ◌||◌, ◌==◌, nat_lt, Option, Some, None, Result, Ok, Err, if◌then◌else◌}
 use Rattle.std.specs.List.{list_any, list_all}
-use Rattle.std.specs.Ordering.{eq_by_cmp, nat_cmp}
-use Rattle.std.specs.Cmp.Lexicographic.{slice_cmp}
-use Rattle.std.specs.Str.{bytes_eq}
+use Rattle.std.specs.Ordering.{eq_by_cmp}
 use Rattle.chain_ids.specs.declared.chain.ChainId.{ChainId}
 use Rattle.chain_ids.specs.declared.chain.ChainId.TheVariants.{Relay}
 use Rattle.chain_ids.specs.Chains.{same_chain}
 use Rattle.locations.specs.declared.grammar.NetworkId.{NetworkId}
-use Rattle.locations.specs.declared.grammar.Junction.{Junction}
 use Rattle.locations.specs.declared.relative.Location.{Location}
-use Rattle.locations.specs.Order.{location_cmp, junctions_cmp}
+use Rattle.locations.specs.Order.{location_cmp}
 use Rattle.locations.specs.Chains.{path_of}
 use Rattle.asset_lists.specs.declared.units.Asset.{Asset}
-use Rattle.asset_lists.specs.declared.units.AssetId.{AssetId}
-use Rattle.asset_lists.specs.declared.units.AssetId.TheVariants.{Concrete, Abstract}
-use Rattle.asset_lists.specs.declared.units.Fun.{Fun}
-use Rattle.asset_lists.specs.declared.units.Fun.TheVariants as funs
-use Rattle.asset_lists.specs.declared.units.Kind.{Kind}
-use Rattle.asset_lists.specs.declared.units.Kind.TheVariants.{Fungible, Class}
-use Rattle.asset_lists.specs.Units.{asset_id_cmp, instance_cmp, unit_of, amount_of}
-use Rattle.asset_lists.specs.Listed.{kind_of, same_kind}
+use Rattle.asset_lists.specs.declared.units.Kind.TheVariants.{Fungible}
+use Rattle.asset_lists.specs.Listed.{same_kind}
 use Rattle.trust_tables.specs.declared.rows.AssetRole.{AssetRole}
 use Rattle.trust_tables.specs.declared.rows.AssetRole.TheVariants.{Native, Derivative}
 use Rattle.trust_tables.specs.declared.rows.AssetRow.{AssetRow}
@@ -33,13 +24,13 @@ use Rattle.network_spec.specs.declared.chain.Balance.{Balance}
 use Rattle.network_spec.specs.declared.chain.ChainSpec.{ChainSpec}
 use Rattle.network_spec.specs.declared.network.ChannelSpec.{ChannelSpec}
 use Rattle.network_spec.specs.declared.network.NetworkSpec.{NetworkSpec}
+use Rattle.network_spec.specs.Networks.{same_holding}
 use Rattle.document_forms.specs.declared.fault.NetworkFault.{NetworkFault}
 use Rattle.document_forms.specs.declared.fault.NetworkFault.TheVariants.{Repeated, BadValue, LimitPassed}
 use Rattle.document_forms.specs.declared.fault.Place.{Place}
 use Rattle.document_forms.specs.declared.fault.Section.{Section}
 use Rattle.document_forms.specs.declared.fault.Section.TheVariants.{Fields, Rates, Assets, Accounts, Pallets, Queries, Channels}
-use Rattle.document_forms.specs.Forms.{◌>>◌, where_true, next_index}
-use Rattle.document_entries.specs.Entries.{amount_limit}
+use Rattle.document_forms.specs.Forms.{◌>>◌, next_index}
 use Rattle.network_config.specs.declared.checks.Flaws.{Flaws}
 
 -- the fault of an entry with these flaws
@@ -94,16 +85,6 @@ asset_flaws chains network here earlier row = record {
   bad = not (names_others chains here row.role) || nat_lt (length (path_of_site (record { network = network; chain = here }))) row.id.parents;
   past = nat_lt 8 (length (path_of (path_of_site (record { network = network; chain = here })) row.id));
 }
-
--- an account has an asset once, and an instance is had once
-abbrev pub same_fun : List ℕ → Fun → List ℕ → Fun → Bool
-same_fun who (funs.Fungible a) other (funs.Fungible b) = bytes_eq who other
-same_fun who (funs.NonFungible a) other (funs.NonFungible b) = eq_by_cmp instance_cmp a b
-same_fun who (funs.Fungible a) other (funs.NonFungible b) = false
-same_fun who (funs.NonFungible a) other (funs.Fungible b) = false
-
-abbrev pub same_holding : Balance → Balance → Bool
-same_holding a b = eq_by_cmp asset_id_cmp a.asset.id b.asset.id && same_fun a.who a.asset.fun b.who b.asset.fun
 
 abbrev pub account_flaws : List AssetRow → List Balance → Balance → Flaws
 account_flaws rows earlier balance = record {

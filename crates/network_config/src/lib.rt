@@ -5,8 +5,10 @@ mod chains;
 mod checks;
 mod document;
 mod head;
+mod holdings;
 mod lists;
 mod network;
+mod queries;
 mod references;
 mod sums;
 

@@ -7,15 +7,18 @@ ghost use Rattle.locations.specs.Chains.{path_of};
 ghost use Rattle.trust_tables.specs.Trust.{is_row_of};
 ghost use Rattle.chain_ids.specs.Chains.{same_chain};
 ghost use Rattle.network_config.specs.References as spec;
-ghost use Rattle.network_config.specs.References.{is_there, is_other, lists_fungible, names_others, same_holding, same_fun, lists_fee, chain_references, chains_references, references};
+ghost use Rattle.network_config.specs.References.{is_there, is_other, lists_fungible, names_others, lists_fee, chain_references, chains_references, references};
 
 use crate::checks::{Check, Flaws, check_each, check_flaws};
-use asset_lists::{Asset, AssetId, Fun, Kind};
+use crate::holdings::check_accounts;
+use crate::queries::check_queries;
+use asset_lists::{Asset, AssetId, Kind};
 use chain_ids::ChainId;
-use document_forms::{NetworkFault, Place, Section};
+use document_forms::{Place, Section, Stop};
 use locations::{Location, NetworkId};
 use message_parts::PalletInfo;
-use network_spec::{Balance, ChainSpec, ChannelSpec, NetworkSpec};
+use network_spec::{ChainSpec, ChannelSpec, NetworkSpec};
+use std::alloc::Global;
 use trust_tables::{AssetRole, AssetRow};
 use weight_trader::Rate;
 
@@ -45,7 +48,7 @@ pub(crate) fn has_chain(chains: &[ChainSpec], chain: ChainId) -> bool
 }
 
 /// Whether the chain is there, and another than this.
-fn is_other(chains: &[ChainSpec], here: ChainId, chain: ChainId) -> bool
+pub(crate) fn is_other(chains: &[ChainSpec], here: ChainId, chain: ChainId) -> bool
     ensures { result ≡ is_other chains.now here chain }
 {
     !same_chain(here, chain) && is_there(chains, chain)
@@ -176,39 +179,14 @@ impl Check<AssetRow> for AssetCheck<'_> {
     }
 }
 
-/// Whether two entries are of one account and asset, or of one instance.
-fn same_fun(who: &[u8; 32], fun: &Fun, other: &[u8; 32], other_fun: &Fun) -> bool
-    ensures { result ≡ same_fun who.now fun.now other.now other_fun.now }
-{
-    match (fun, other_fun) {
-        (Fun::Fungible(_), Fun::Fungible(_)) => *who == *other,
-        (Fun::NonFungible(a), Fun::NonFungible(b)) => a.cmp(b).is_eq(),
-        _ => false,
-    }
-}
-
-/// Whether two entries are of one account and asset, or of one instance of one class.
-fn same_holding(a: &Balance, b: &Balance) -> bool
-    ensures { result ≡ same_holding a.now b.now }
-{
-    a.asset.id == b.asset.id && same_fun(&a.who, &a.asset.fun, &b.who, &b.asset.fun)
-}
-
 /// Whether the row lists the asset: its id, and amounts or instances.
-fn is_row(row: &AssetRow, asset: &Asset) -> bool
+pub(crate) fn is_row(row: &AssetRow, asset: &Asset) -> bool
     ensures { result ≡ is_row_of asset.now row.now }
 {
     match &asset.id {
         AssetId::Concrete(id) => *id == row.id && asset.kind() == row.kind,
         AssetId::Abstract(_) => false,
     }
-}
-
-/// Whether one of the entries is of the same account and asset, or of the same instance.
-fn has_holding(balances: &[Balance], balance: &Balance) -> bool
-    ensures { result ≡ list_any (λ other. same_holding other balance.now) balances.now }
-{
-    balances.iter().any(|other| same_holding(other, balance))
 }
 
 /// Whether a row lists the asset.
@@ -218,40 +196,11 @@ fn is_listed(rows: &[AssetRow], asset: &Asset) -> bool
     rows.iter().any(|row| is_row(row, asset))
 }
 
-/// The accounts of a chain with these assets.
-#[derive(Clone, Copy)]
-struct AccountCheck<'a> {
-    assets: &'a [AssetRow],
-}
-
-impl Check<Balance> for AccountCheck<'_> {
-    ghost use Rattle.network_config.specs.References.{account_flaws};
-
-    ghost flaws = { λ check earlier balance. account_flaws check.assets.now earlier balance };
-
-    fn flaws_of(&self, earlier: &[Balance], balance: &Balance) -> Flaws {
-        Flaws {
-            repeated: has_holding(earlier, balance),
-            bad: !is_listed(self.assets, &balance.asset),
-            past: false,
-        }
-    }
-}
-
 /// Whether one of the pallets has the index.
 fn has_pallet(pallets: &[PalletInfo], index: u32) -> bool
     ensures { result ≡ list_any (λ other. other.index == index) pallets.now }
 {
     pallets.iter().any(|other| other.index == index)
-}
-
-/// Whether one of the queries has the number and the chain.
-fn has_query(queries: &[(u64, ChainId)], id: u64, from: ChainId) -> bool
-    ensures { result ≡ list_any (λ other. (other.0 == id) && same_chain other.1 from) queries.now }
-{
-    queries
-        .iter()
-        .any(|other| other.0 == id && same_chain(other.1, from))
 }
 
 /// The pallets of a chain.
@@ -267,27 +216,6 @@ impl Check<PalletInfo> for PalletCheck {
         Flaws {
             repeated: has_pallet(earlier, pallet.index),
             bad: false,
-            past: false,
-        }
-    }
-}
-
-/// The queries of a chain.
-#[derive(Clone, Copy)]
-struct QueryCheck<'a> {
-    chains: &'a [ChainSpec],
-    here: ChainId,
-}
-
-impl Check<(u64, ChainId)> for QueryCheck<'_> {
-    ghost use Rattle.network_config.specs.References.{query_flaws};
-
-    ghost flaws = { λ check earlier query. query_flaws check.chains.now check.here earlier query };
-
-    fn flaws_of(&self, earlier: &[(u64, ChainId)], query: &(u64, ChainId)) -> Flaws {
-        Flaws {
-            repeated: has_query(earlier, query.0, query.1),
-            bad: !is_other(self.chains, self.here, query.1),
             past: false,
         }
     }
@@ -342,13 +270,14 @@ impl Check<ChannelSpec> for ChannelCheck<'_> {
 /// Refuses a chain by the first of its entries that says something anew, or names what isn't there.
 #[tactic(auto, unfolding(crate::specs::References::chain_references))]
 fn check_chain(
+    alloc: Global,
     chains: &[ChainSpec],
     network: NetworkId,
     index: u32,
     earlier: &[ChainSpec],
     chain: &ChainSpec,
-) -> Result<(), NetworkFault>
-    ensures { result ≡ chain_references chains.now network index earlier.now chain.now }
+) -> Result<(), Stop>
+    ensures { Answers result (chain_references chains.now network index earlier.now chain.now) }
 {
     let here = chain.chain;
     let entry = Some(index);
@@ -376,30 +305,20 @@ fn check_chain(
         here,
     };
     check_each(&rows, entry, Section::Assets, assets)?;
-    check_each(
-        &AccountCheck { assets },
-        entry,
-        Section::Accounts,
-        chain.accounts.items(),
-    )?;
+    check_accounts(alloc, entry, assets, chain.accounts.items())?;
     check_each(&PalletCheck, entry, Section::Pallets, chain.pallets.items())?;
-    check_each(
-        &QueryCheck { chains, here },
-        entry,
-        Section::Queries,
-        chain.queries.items(),
-    )
+    check_queries(alloc, entry, chains, here, chain.queries.items())
 }
 
 /// Refuses the chains by the first of their entries.
-fn check_chains(chains: &[ChainSpec], network: NetworkId) -> Result<(), NetworkFault>
-    ensures { result ≡ chains_references chains.now network 0 [] chains.now }
+fn check_chains(alloc: Global, chains: &[ChainSpec], network: NetworkId) -> Result<(), Stop>
+    ensures { Answers result (chains_references chains.now network 0 [] chains.now) }
 {
     let mut index: u32 = 0;
     for (at, chain) in chains.iter().enumerate() {
-        match check_chain(chains, network, index, &chains[..at], chain) {
+        match check_chain(alloc, chains, network, index, &chains[..at], chain) {
             Ok(()) => {}
-            Err(fault) => return Err(fault),
+            Err(stop) => return Err(stop),
         }
         index = index.saturating_add(1);
     }
@@ -408,15 +327,16 @@ fn check_chains(chains: &[ChainSpec], network: NetworkId) -> Result<(), NetworkF
 
 /// Refuses a network by the first entry that says something anew, or names what isn't there.
 #[tactic(auto, unfolding(crate::specs::References::references))]
-pub fn check_references(spec: &NetworkSpec) -> Result<(), NetworkFault>
-    ensures { result ≡ references spec.now }
+pub fn check_references(alloc: Global, spec: &NetworkSpec) -> Result<(), Stop>
+    ensures { Answers result (references spec.now) }
 {
     let chains = spec.chains.items();
-    check_chains(chains, spec.network)?;
+    check_chains(alloc, chains, spec.network)?;
     check_each(
         &ChannelCheck { chains },
         None,
         Section::Channels,
         spec.channels.items(),
-    )
+    )?;
+    Ok(())
 }

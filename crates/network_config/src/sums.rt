@@ -1,14 +1,20 @@
 //! What accounts hold when a network opens, summed up over all chains.
-ghost use Rattle.std.specs.Prelude.{◌≡◌, ◌-◌, ◌^◌, ◌++◌, [], min, nat_lt, option_to_list, IfOk, OnOk};
+ghost use Rattle.std.specs.Prelude.{◌≡◌, ◌+◌, ◌++◌, ◌⊎◌, [], true, false, nat_lt, option_to_list, if◌then◌else◌, IfOk, IfErr, OnOk};
+ghost use Rattle.std.specs.Ordering.{eq_by_cmp};
+ghost use Rattle.asset_lists.specs.Listed.{kind_number};
 ghost use Rattle.document_forms.specs.Answers.{Answers};
+ghost use Rattle.document_forms.specs.declared.stop.Stop.TheVariants as Stop;
+ghost use Rattle.document_forms.specs.declared.fault.NetworkFault.TheVariants as NetworkFault;
 ghost use Rattle.document_entries.specs.Entries.{amount_limit};
-ghost use Rattle.network_config.specs.Sums.{path_at, share_of, shares_in, shares_of, same_asset, counted, total, sums_in, sums};
+ghost use Rattle.network_config.specs.Sums.{path_at, share_of, shares_in, shares_of, sums_in, sums};
+ghost use Rattle.network_config.specs.Totals.{TotalKey, total_key_cmp, key_of, total_at, with_share};
 
 use asset_lists::{AssetId, Kind};
 use document_forms::{NetworkFault, Place, Section, Stop};
 use locations::{Junctions, Location};
 use network_spec::{Balance, ChainSpec, NetworkSpec};
 use std::alloc::{AllocError, Global};
+use std::collections::BTreeMap;
 use trust_tables::Site;
 
 /// What an account's entry counts for.
@@ -102,48 +108,75 @@ fn shares_of(alloc: Global, network: &NetworkSpec) -> Result<Vec<Share>, AllocEr
     Ok(shares)
 }
 
-/// Whether two are of one path and kind.
-fn same_asset(a: &Share, b: &Share) -> bool
-    ensures { result ≡ same_asset a.now b.now }
-{
-    a.path == b.path && a.kind == b.kind
-}
+/// What accounts hold so far, by an asset's path and the number of its kind.
+type Totals = BTreeMap<(Junctions, u32), u128>;
 
-/// What an earlier share counts for beside this one.
-fn counted(share: &Share, other: &Share) -> u128
-    ensures { result ≡ counted share.now other.now }
+/// The number of a kind.
+fn kind_number(kind: Kind) -> u32
+    ensures { result ≡ kind_number kind }
 {
-    if same_asset(other, share) {
-        return other.amount;
+    match kind {
+        Kind::Fungible => 0,
+        Kind::Class => 1,
     }
-    0
 }
 
-/// The sum up to a share, over those of its path and kind; at most 2^128-1.
-fn total(earlier: &[Share], share: &Share) -> u128
-    ensures { result ≡ min (total earlier.now share.now) (2 ^ 128 - 1) }
+/// A share's path and kind.
+fn key_of(share: &Share) -> (Junctions, u32)
+    ensures { result ≡ key_of share.now }
 {
-    let mut sum: u128 = share.amount;
-    for other in earlier {
-        sum = sum.saturating_add(counted(share, other));
+    (share.path.copy(), kind_number(share.kind))
+}
+
+/// The total of a path and kind so far, 0 where there is none.
+fn total_in(totals: &Totals, key: &(Junctions, u32)) -> u128
+    ensures { result ≡ total_at totals.now.entries key.now }
+{
+    totals.get(key).copied().unwrap_or(0)
+}
+
+/// Writes the total of a path and kind.
+fn write_total(totals: &mut Totals, key: (Junctions, u32), total: u128) -> Result<(), AllocError>
+    ensures { OnOk result ((q : TotalKey) → total_at totals.new.entries q ≡ (if eq_by_cmp total_key_cmp key q then total else total_at totals.old.entries q)) }
+{
+    totals.insert(key, total)?;
+    Ok(())
+}
+
+/// Whether a sum is below the limit.
+#[tactic(auto, unfolding(document_entries::specs::Entries::amount_limit))]
+fn is_within(sum: u128) -> bool
+    ensures { result ≡ nat_lt sum amount_limit }
+{
+    sum < 170_141_183_460_469_231_731_687_303_715_884_105_728
+}
+
+/// Adds a share to the totals, and refuses it where its total reaches the limit.
+fn add_total(totals: &mut Totals, share: &Share) -> Result<(), Stop>
+    ensures added { OnOk result ((q : TotalKey) → total_at totals.new.entries q ≡ with_share share.now totals.old.entries q) }
+    ensures below { OnOk result (nat_lt (total_at totals.old.entries (key_of share.now) + share.now.amount) amount_limit ≡ true) }
+    ensures refused { IfErr result (λ stop. (stop ≡ Stop.Memory) ⊎ ((stop ≡ Stop.Fault (NetworkFault.LimitPassed share.now.place)) × (nat_lt (total_at totals.old.entries (key_of share.now) + share.now.amount) amount_limit ≡ false))) }
+{
+    let key = key_of(share);
+    let sum = total_in(totals, &key).saturating_add(share.amount);
+    if !is_within(sum) {
+        return Err(Stop::Fault(NetworkFault::LimitPassed(share.place)));
     }
-    sum
-}
-
-/// Whether the sum up to a share is below the limit.
-fn is_within(earlier: &[Share], share: &Share) -> bool
-    ensures { result ≡ nat_lt (total earlier.now share.now) amount_limit }
-{
-    total(earlier, share) < 170_141_183_460_469_231_731_687_303_715_884_105_728
+    match write_total(totals, key, sum) {
+        Ok(()) => Ok(()),
+        Err(_) => Err(Stop::Memory),
+    }
 }
 
 /// Refuses the shares by the first with which a sum reaches the limit.
-fn check_shares(shares: &[Share]) -> Result<(), NetworkFault>
-    ensures { result ≡ sums_in [] shares.now }
+fn check_shares(alloc: Global, shares: &[Share]) -> Result<(), Stop>
+    ensures { Answers result (sums_in [] shares.now) }
 {
-    for (at, share) in shares.iter().enumerate() {
-        if !is_within(&shares[..at], share) {
-            return Err(NetworkFault::LimitPassed(share.place));
+    let mut totals: Totals = BTreeMap::new(alloc);
+    for share in shares {
+        match add_total(&mut totals, share) {
+            Ok(()) => {}
+            Err(stop) => return Err(stop),
         }
     }
     Ok(())
@@ -155,6 +188,5 @@ pub fn check_sums(alloc: Global, network: &NetworkSpec) -> Result<(), Stop>
     ensures { Answers result (sums network.now) }
 {
     let shares = shares_of(alloc, network)?;
-    check_shares(shares.as_slice())?;
-    Ok(())
+    check_shares(alloc, shares.as_slice())
 }

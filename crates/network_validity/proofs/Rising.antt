@@ -1,10 +1,9 @@
 -- Chains that rise, one after another.
-use Rattle.std.proofs.Common.{◌≡◌, ◌∙◌, ℕ, ◌+◌, ◌<◌, List, [], ◌∷◌, length, get_or, drop, refl, arith, Bool, true, false, ◌&&◌}
+use Rattle.std.proofs.Common.{◌≡◌, ℕ, ◌+◌, ◌<◌, List, length, get_or, drop, refl, arith, Bool, true, ◌&&◌}
 use Rattle.std.proofs.lemmas.List.{drop_more, drop_all}
 use Rattle.chain_ids.specs.declared.chain.ChainId.{ChainId}
 use Rattle.network_spec.specs.declared.chain.ChainSpec.{ChainSpec}
-use Rattle.network_config.specs.Network.{comes_before}
-use Rattle.network_validity.specs.Valid.{rises}
+use Rattle.network_spec.specs.Networks.{comes_before, rises}
 
 pub risen : (last : ChainId) (xs : List ChainSpec) (k : ℕ) (x : ChainSpec) (b : Bool) → k < length xs → x ≡ get_or xs k x → comes_before last x.chain ≡ b
     → rises last (drop k xs) ≡ (b && rises x.chain (drop (k + 1) xs))

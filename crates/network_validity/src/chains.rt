@@ -3,8 +3,8 @@ ghost use Rattle.std.specs.Prelude.{◌≡◌, nat_lt};
 ghost use Rattle.std.specs.List.{list_all};
 ghost use Rattle.std.specs.Str.{is_utf8};
 ghost use Rattle.document_entries.specs.Entries.{rate_limit, amount_limit};
-ghost use Rattle.network_validity.specs.Valid as valid;
-ghost use Rattle.network_validity.specs.Valid.{fits_rate, fits_role, fits_fun, fits_asset, fits_pallet, fits_lists, fits_rules, fits_entries, fits_chain, fits_fee, fits_channel};
+ghost use Rattle.network_config.specs.Valid as valid;
+ghost use Rattle.network_config.specs.Valid.{fits_rate, fits_role, fits_fun, fits_asset, fits_pallet, fits_lists, fits_rules, fits_entries, fits_chain, fits_fee, fits_channel};
 
 use asset_lists::{Asset, AssetId, Fun, Kind};
 use message_parts::PalletInfo;

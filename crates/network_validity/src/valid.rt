@@ -1,7 +1,8 @@
 //! Whether a network is valid.
 ghost use Rattle.std.specs.Prelude.{◌≡◌, IfOk};
-ghost use Rattle.network_validity.specs.Valid as valid;
-ghost use Rattle.network_validity.specs.Valid.{rises, is_in_order, fits};
+ghost use Rattle.network_spec.specs.Networks.{rises, is_in_order};
+ghost use Rattle.network_config.specs.Valid as valid;
+ghost use Rattle.network_config.specs.Valid.{fits};
 
 use crate::chains::{fit_chains, fit_channels};
 use chain_ids::ChainId;
@@ -54,8 +55,10 @@ pub fn is_valid(alloc: Global, network: &NetworkSpec) -> Result<bool, AllocError
     if !is_in_order(network.chains.items()) || !fits(network) {
         return Ok(false);
     }
-    if check_references(network).is_err() {
-        return Ok(false);
+    match check_references(alloc, network) {
+        Ok(()) => {}
+        Err(Stop::Fault(_)) => return Ok(false),
+        Err(Stop::Memory) => return Err(AllocError),
     }
     match check_sums(alloc, network) {
         Ok(()) => Ok(true),

@@ -1,6 +1,5 @@
-use Rattle.std.proofs.Common.{◌≡◌, ◌∙◌, length, sym, arith, Ok, Err}
+use Rattle.std.proofs.Common.{◌≡◌, ◌∙◌, length, sym, arith}
 use Rattle.document_forms.specs.Forms.{next_index}
-use Rattle.network_config.specs.References.{flaw_at, place_in}
 use Rattle.network_config.proofs.Checking.{checked, refused, all_checked}
 use Rattle.network_config.proofs.checks.check_each.Goals as goal
 

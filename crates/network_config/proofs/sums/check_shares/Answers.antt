@@ -1,12 +1,30 @@
-use Rattle.std.proofs.Common.{◌≡◌, ◌∙◌, length, sym, arith}
-use Rattle.network_config.proofs.Summing.{within, beyond, summed}
+use Rattle.std.proofs.Common.{◌≡◌, ◌∙◌, ◌+◌, length, take, sym, ap, inl, inr, arith}
+use Rattle.std.specs.Prelude.{nat_lt}
+use Rattle.document_forms.specs.declared.fault.NetworkFault.TheVariants.{LimitPassed}
+use Rattle.document_entries.specs.Entries.{amount_limit}
+use Rattle.network_config.specs.Sums.{total}
+use Rattle.network_config.specs.Totals.{key_of, total_at}
+use Rattle.network_config.proofs.Summing.{within, beyond, summed, total_is, total_more, stops_at}
 use Rattle.network_config.proofs.sums.check_shares.Goals as goal
 
-pub returns-then-not-is_within : goal.returns-then-not-is_within
-returns-then-not-is_within c = sym (c.loop-at.invariant ∙ beyond _ c.loop-at.at _ c.loop-at-test.true c.index-shares-at.is (sym c.is_within.ensures ∙ c.if-not-is_within.true))
+pub returns-in-Err : goal.returns-in-Err
+returns-in-Err c =
+    let same : total_at c.loop-share.totals.entries (key_of c.share-item.result) + c.share-item.result.amount ≡ total (take c.loop-share.share-index c.args.shares.now) c.share-item.result =
+    total_is c.loop-share.totals.entries (take c.loop-share.share-index c.args.shares.now) c.share-item.result c.loop-share.invariant.totals in
+    stops_at c.in-Err.stop c.args.shares.now (LimitPassed c.share-item.result.place)
+    (elim c.in-Err.ensures.refused [
+      | inl e ↦ inl e
+      | inr e ↦ inr (e.0, c.loop-share.invariant.sums ∙ beyond c.args.shares.now c.loop-share.share-index c.share-item.result c.loop-share-test.true c.share-item.is (ap (λ n. nat_lt n amount_limit) (sym same) ∙ e.1))
+    ])
 
-pub loop-at-preserved : goal.loop-at-preserved
-loop-at-preserved c = c.loop-at.invariant ∙ within _ c.loop-at.at _ c.loop-at-test.true c.index-shares-at.is (sym c.is_within.ensures ∙ c.if-not-is_within.false)
+pub loop-share-preserved : goal.loop-share-preserved
+loop-share-preserved c =
+    let same : total_at c.loop-share.totals.entries (key_of c.share-item.result) + c.share-item.result.amount ≡ total (take c.loop-share.share-index c.args.shares.now) c.share-item.result =
+    total_is c.loop-share.totals.entries (take c.loop-share.share-index c.args.shares.now) c.share-item.result c.loop-share.invariant.totals in
+    record {
+      sums = c.loop-share.invariant.sums ∙ within c.args.shares.now c.loop-share.share-index c.share-item.result c.loop-share-test.true c.share-item.is (ap (λ n. nat_lt n amount_limit) (sym same) ∙ c.in-Ok.ensures.below);
+      totals = total_more c.loop-share.totals.entries c.add_total.new.totals.entries c.args.shares.now c.loop-share.share-index c.share-item.result c.loop-share-test.true c.share-item.is c.in-Ok.ensures.added c.loop-share.invariant.totals;
+    }
 
 pub returns : goal.returns
-returns c = let all : length c.args.shares.now ≡ c.loop-at.at = omega arith in sym (c.loop-at.invariant ∙ summed _ c.loop-at.at _ all)
+returns c = let all : length c.args.shares.now ≡ c.loop-share.share-index = omega arith in c.loop-share.invariant.sums ∙ summed c.args.shares.now c.loop-share.share-index _ all

@@ -1,5 +1,5 @@
 use Rattle.std.proofs.Common.{◌≡◌, drop}
-use Rattle.network_validity.specs.Valid.{rises}
+use Rattle.network_spec.specs.Networks.{rises}
 use Rattle.network_validity.proofs.valid.rises.Given as goal
 
 abbrev pub invariant-loop-chain : goal.invariant-loop-chain

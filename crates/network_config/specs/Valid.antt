@@ -1,11 +1,8 @@
 -- When a network is valid: its chains are in order, each value is in its range, no list is too long, no entry says anew what an
 -- earlier one has said or names what isn't there, and no sum is too large. Source: this project's own rule.
-use Rattle.std.specs.Prelude.{ℕ, List, [], ◌∷◌, length, Bool, true, false, ◌&&◌, nat_lt, nat_le, Option, Some, None, Result, is_ok}
+use Rattle.std.specs.Prelude.{ℕ, length, Bool, true, false, ◌&&◌, nat_lt, nat_le, Option, Some, None, is_ok}
 use Rattle.std.specs.List.{list_all}
 use Rattle.std.specs.Str.{is_utf8}
-use Rattle.chain_ids.specs.declared.chain.ChainId.{ChainId}
-use Rattle.chain_ids.specs.declared.chain.ChainId.TheVariants.{Relay}
-use Rattle.chain_ids.specs.Chains.{same_chain}
 use Rattle.asset_lists.specs.declared.units.Asset.{Asset}
 use Rattle.asset_lists.specs.declared.units.AssetId.{AssetId}
 use Rattle.asset_lists.specs.declared.units.AssetId.TheVariants.{Concrete, Abstract}
@@ -15,30 +12,18 @@ use Rattle.asset_lists.specs.declared.units.Kind.{Kind}
 use Rattle.asset_lists.specs.declared.units.Kind.TheVariants as kinds
 use Rattle.trust_tables.specs.declared.rows.AssetRole.{AssetRole}
 use Rattle.trust_tables.specs.declared.rows.AssetRole.TheVariants.{Native, Derivative}
-use Rattle.trust_tables.specs.declared.rows.AssetRow.{AssetRow}
 use Rattle.weight_trader.specs.declared.rate.Rate.{Rate}
 use Rattle.message_parts.specs.declared.pallet.PalletInfo.{PalletInfo}
-use Rattle.network_spec.specs.declared.chain.Balance.{Balance}
 use Rattle.network_spec.specs.declared.chain.ChainSpec.{ChainSpec}
 use Rattle.network_spec.specs.declared.network.ChannelSpec.{ChannelSpec}
 use Rattle.network_spec.specs.declared.network.NetworkSpec.{NetworkSpec}
+use Rattle.network_spec.specs.Networks.{is_in_order}
 use Rattle.document_entries.specs.Entries.{rate_limit, amount_limit}
-use Rattle.network_config.specs.Network.{comes_before}
 use Rattle.network_config.specs.References.{references}
 use Rattle.network_config.specs.Sums.{sums}
 
 abbrev pub is_within : ℕ → ℕ → ℕ → Bool
 is_within low high n = nat_le low n && nat_le n high
-
--- each chain behind the one before it
-abbrev pub rises : ChainId → List ChainSpec → Bool
-rises before [] = true
-rises before (c ∷ cs) = comes_before before c.chain && rises c.chain cs
-
--- the relay chain first, then parachains rising by number
-abbrev pub is_in_order : List ChainSpec → Bool
-is_in_order [] = false
-is_in_order (c ∷ cs) = same_chain c.chain Relay && rises c.chain cs
 
 abbrev pub fits_rate : Rate → Bool
 fits_rate rate = nat_lt rate.per_second rate_limit && nat_lt rate.per_mb rate_limit

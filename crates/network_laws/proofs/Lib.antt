@@ -1,0 +1,4 @@
+pub mod OpenChains
+pub mod OpenChannels
+pub mod OpenSums
+pub mod Opening

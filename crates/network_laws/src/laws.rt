@@ -1,0 +1,13 @@
+//! The laws of networks that are valid. Each function has an empty body, and its contract is a law.
+ghost use Rattle.std.specs.Prelude.{◌≡◌, true};
+ghost use Rattle.std.specs.List.{All};
+ghost use Rattle.trust_tables.specs.Accounts.{IsChain};
+ghost use Rattle.network_spec.specs.declared.chain.ChainSpec.{ChainSpec};
+ghost use Rattle.network_spec.specs.declared.network.NetworkSpec.{NetworkSpec};
+ghost use Rattle.network_config.specs.Valid.{is_valid};
+ghost use Rattle.network_genesis.specs.Openable.{IsOpenable};
+
+/// A valid network, whose parachains' numbers are below 2^32 as those of a program are, is one that can open.
+pub fn law_of_valid_networks()
+    ensures { (spec : NetworkSpec) → All (λ (c : ChainSpec). IsChain c.chain) spec.chains → is_valid spec ≡ true → IsOpenable spec }
+{}

@@ -1,0 +1,6 @@
+//! The laws of networks that are valid: they can open.
+#![tactic(auto)]
+
+mod laws;
+
+pub use laws::law_of_valid_networks;
