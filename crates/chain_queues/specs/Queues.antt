@@ -1,5 +1,5 @@
 -- The channels of a chain as lists of messages: a message is put last, and the oldest is taken first. This project's own rule.
-use Rattle.std.specs.Prelude.{ℕ, ◌==◌, nat_lt, Bool, if◌then◌else◌, List, [], ◌∷◌, length, map, drop, find, Option, Some, None}
+use Rattle.std.specs.Prelude.{ℕ, ◌==◌, nat_lt, Bool, true, if◌then◌else◌, List, [], ◌∷◌, length, map, drop, find, Option, Some, None}
 use Rattle.std.specs.Option.{option_and_then}
 use Rattle.plain_lists.specs.Firsts.{change_first}
 use Rattle.chain_ids.specs.declared.chain.ChainId.{ChainId}
@@ -13,7 +13,7 @@ use Rattle.chain_queues.specs.declared.faults.PushFault.TheVariants.{NoChannel, 
 use Rattle.chain_queues.specs.declared.queues.Queued.{Queued}
 use Rattle.chain_queues.specs.declared.queues.Queue.{Queue}
 use Rattle.chain_queues.specs.declared.queues.Queues.{Queues}
-use Rattle.chain_queues.specs.Decoded.{program_read}
+use Rattle.chain_queues.specs.Decoded.{program_read, is_spelled_in}
 
 -- ---- what the queues mean
 
@@ -38,6 +38,11 @@ abbrev pub channel_to : ChainId → List Outgoing → Option Outgoing
 channel_to to channels = find (leads_to to) channels
 
 -- ---- putting a message in
+
+-- whether the bytes begin with the byte of the channel's version; where there is no channel, any do
+abbrev pub is_spelled_for : Option Outgoing → List ℕ → Bool
+is_spelled_for None bytes = true
+is_spelled_for (Some c) bytes = is_spelled_in c.channel.version bytes
 
 -- why a channel doesn't take a message of so many bytes; None where it does
 abbrev pub push_refusal : ℕ → Option Outgoing → Option PushFault

@@ -3,15 +3,27 @@ ghost use Rattle.std.specs.Prelude.{◌≡◌, None, Some, IfOk, IfErr, OnOk, On
 ghost use Rattle.std.specs.List.{position};
 ghost use Rattle.channel_parts.specs.Channels.{Outgoing, opened};
 ghost use Rattle.versioned_xcm.specs.Reading.{message_of};
-ghost use Rattle.chain_queues.specs.Decoded.{decodes, program_read};
-ghost use Rattle.chain_queues.specs.Queues.{waiting_of, outgoing_of, channels_of, leads_to, is_led_to, channel_to, push_refusal, pushed, oldest_to, popped};
+ghost use Rattle.chain_queues.specs.Decoded.{decodes, is_spelled_in, program_read};
+ghost use Rattle.chain_queues.specs.Queues.{waiting_of, outgoing_of, channels_of, leads_to, is_led_to, channel_to, is_spelled_for, push_refusal, pushed, oldest_to, popped};
 
 use crate::faults::PushFault;
 use crate::queues::{Queue, Queued, Queues};
+use asset_wire::Version;
 use chain_ids::ChainId;
 use channel_parts::{Cargo, Channel};
 use std::alloc::{AllocError, Global};
 use std::collections::VecDeque;
+
+/// Whether the bytes begin with the byte of the version.
+fn is_spelled_in(version: Version, bytes: &[u8]) -> bool
+    ensures { result ≡ is_spelled_in version bytes.now }
+{
+    match (version, bytes.first()) {
+        (_, None) => false,
+        (Version::V3, Some(byte)) => *byte == 3,
+        (Version::V4, Some(byte)) => *byte == 4,
+    }
+}
 
 impl Queues {
     /// These channels, without messages. There is room for the capacity of each, so that a push takes no memory.
@@ -66,8 +78,18 @@ impl Queues {
         Ok(())
     }
 
+    /// Whether the bytes begin with the byte of the version of the channel that leads to the chain; where none does, any do.
+    pub fn is_spelled_for(&self, to: ChainId, bytes: &[u8]) -> bool
+        ensures { result ≡ is_spelled_for (channel_to to (channels_of self.now)) bytes.now }
+    {
+        match self.place_to(to) {
+            None => true,
+            Some(place) => is_spelled_in(self.list[place].channel.version, bytes),
+        }
+    }
+
     /// Puts a message last in the channel that leads to the chain, and answers its number; or hands the cargo back. The bytes must
-    /// decode. It takes no memory, and no time in proportion to what waits.
+    /// decode and be of the channel's version. It takes no memory, and no time in proportion to what waits.
     pub fn push(
         &mut self,
         to: ChainId,
@@ -75,6 +97,7 @@ impl Queues {
         cargo: Cargo,
     ) -> Result<u64, (Cargo, PushFault)>
         requires message { IsTrue (decodes bytes.items) }
+        requires spelled { IsTrue (is_spelled_for (channel_to to (channels_of self.old)) bytes.items) }
         ensures taken { OnOk result (push_refusal (length bytes.items) (channel_to to (channels_of self.old)) ≡ None) }
         ensures number { IfOk result (λ number. option_map (λ (c : Outgoing). c.next) (channel_to to (channels_of self.old)) ≡ Some number) }
         ensures queued { OnOk result (channels_of self.new ≡ pushed to (program_read (message_of bytes.items)) cargo (channels_of self.old)) }

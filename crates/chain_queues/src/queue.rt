@@ -2,7 +2,7 @@
 ghost use Rattle.std.specs.Prelude.{◌≡◌, ◌<◌, ◌==◌, IfOk, IsTrue, length, option_map};
 ghost use Rattle.channel_parts.specs.Channels.{opened, with_waiting};
 ghost use Rattle.versioned_xcm.specs.Reading.{message_of};
-ghost use Rattle.chain_queues.specs.Decoded.{decodes, program_read};
+ghost use Rattle.chain_queues.specs.Decoded.{decodes, is_spelled_in, program_read};
 ghost use Rattle.chain_queues.specs.Queues.{waiting_of, outgoing_of, oldest, without_oldest};
 
 use crate::queues::{Queue, Queued};
@@ -33,6 +33,7 @@ impl Queue {
     /// Puts a message last and answers its number. It takes no memory.
     pub(crate) fn push(&mut self, bytes: Vec<u8>, cargo: Cargo) -> u64
         requires message { IsTrue (decodes bytes.items) }
+        requires spelled { IsTrue (is_spelled_in self.old.channel.version bytes.items) }
         requires room { length self.old.waiting.items < self.old.channel.capacity }
         ensures number { result ≡ self.old.next }
         ensures queue { outgoing_of self.new ≡ with_waiting (program_read (message_of bytes.items)) cargo (outgoing_of self.old) }

@@ -1,7 +1,7 @@
 //! A message that waits, a channel with its messages, and the channels of a chain.
-ghost use Rattle.std.specs.Prelude.{◌≤◌, IsTrue, length};
+ghost use Rattle.std.specs.Prelude.{◌≤◌, All, IsTrue, length};
 ghost use Rattle.std.specs.VecDeque.{deque_capacity};
-ghost use Rattle.chain_queues.specs.Decoded.{decodes};
+ghost use Rattle.chain_queues.specs.Decoded.{decodes, is_spelled_in};
 
 use channel_parts::{Cargo, Channel};
 use std::collections::VecDeque;
@@ -18,7 +18,7 @@ pub struct Queued {
     ghost message: { IsTrue (decodes bytes.items) },
 }
 
-/// A channel and what waits in it: never more than its capacity, for which there is room from the beginning.
+/// A channel and what waits in it: messages of its version, never more than its capacity, for which there is room from the beginning.
 #[derive(Drop)]
 pub struct Queue {
     /// The channel.
@@ -29,6 +29,7 @@ pub struct Queue {
     pub waiting: VecDeque<Queued>,
     ghost room: { channel.capacity ≤ deque_capacity waiting },
     ghost within: { length waiting.items ≤ channel.capacity },
+    ghost spelled: { All (λ q. IsTrue (is_spelled_in channel.version q.bytes.items)) waiting.items },
 }
 
 /// The channels that lead from a chain, in the order in which the network document lists them.

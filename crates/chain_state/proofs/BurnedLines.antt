@@ -19,7 +19,7 @@ use Rattle.trust_tables.specs.Trust.{listing, row_of}
 use Rattle.trust_tables.specs.TrustLaws.{listing_says, row_found}
 use Rattle.exec_base.specs.declared.event.Event.{Event}
 use Rattle.exec_base.specs.Host.{total_of, trapped_lines}
-use Rattle.chain_state.specs.Paths.{has_path, have_paths}
+use Rattle.network_genesis.specs.Tests.{has_path, have_paths}
 use Rattle.chain_state.specs.Lines.{numbered}
 
 less_whole : (n m : ℕ) → n < m → n % m ≡ n

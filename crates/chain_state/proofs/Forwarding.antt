@@ -90,7 +90,7 @@ around_writable v call xcm list f places = record {
 }
 
 -- ---- what a bundle holds, as a list
-same_instance : (x : Option Instance) (n : ℕ) → instance_in (fun_of x n) ≡ x
+pub same_instance : (x : Option Instance) (n : ℕ) → instance_in (fun_of x n) ≡ x
 same_instance None n = refl
 same_instance (Some i) n = refl
 

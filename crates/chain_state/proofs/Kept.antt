@@ -8,9 +8,20 @@ use Rattle.asset_bundles.specs.Bundles.{Bundle}
 use Rattle.asset_bundles.specs.Books.{Book, burned_for}
 use Rattle.asset_bundles.specs.Losing.{book_after_loss}
 use Rattle.asset_bundles.specs.Laws.{listed-Booked}
-use Rattle.chain_state.specs.Prices.{has_price, have_prices}
+use Rattle.asset_lists.specs.Listed.{Listed}
+use Rattle.network_genesis.specs.Tests.{has_price, have_prices}
+use Rattle.chain_state.specs.ListedFees.{is_fee_listed, are_fees_listed}
 
 -- a channel that changes keeps its fee
+pub fees_kept : (listed : List Listed) (test : Outgoing → Bool) (change : Outgoing → Outgoing) → ((c : Outgoing) → is_fee_listed listed (change c) ≡ is_fee_listed listed c) → (channels : List Outgoing)
+    → are_fees_listed listed (change_first test change channels) ≡ are_fees_listed listed channels
+fees_kept listed test change same [] = refl
+fees_kept listed test change same (c ∷ cs) =
+    elim (test c) as (λ b. are_fees_listed listed (if b then change c ∷ cs else c ∷ change_first test change cs) ≡ (is_fee_listed listed c && are_fees_listed listed cs)) [
+      | true ↦ ap (λ p. p && are_fees_listed listed cs) (same c)
+      | false ↦ ap (λ p. is_fee_listed listed c && p) (fees_kept listed test change same cs)
+    ]
+
 pub prices_kept : (test : Outgoing → Bool) (change : Outgoing → Outgoing) → ((c : Outgoing) → has_price (change c) ≡ has_price c) → (channels : List Outgoing) → have_prices (change_first test change channels) ≡ have_prices channels
 prices_kept test change same [] = refl
 prices_kept test change same (c ∷ cs) =

@@ -18,7 +18,7 @@ use Rattle.channel_parts.specs.Channels.{Outgoing, with_waiting}
 use Rattle.versioned_xcm.specs.Reading.{message_of}
 use Rattle.chain_queues.specs.Decoded.{decodes, program_read}
 use Rattle.chain_queues.specs.Queues as queues
-use Rattle.chain_queues.specs.Queues.{outgoing_of, push_refusal, pushed}
+use Rattle.chain_queues.specs.Queues.{outgoing_of, is_spelled_for, push_refusal, pushed}
 use Rattle.exec_base.specs.declared.event.Event.{Event}
 use Rattle.exec_base.specs.Part.{ChainPart}
 use Rattle.exec_base.specs.Sending.{leads_to, channel_to, number_to, sent_event, sent}
@@ -51,6 +51,9 @@ same_channel p dest program to bytes t = λ i. find (λ c. sym (leads_same p des
 -- what posting needs
 pub taken_free : (p : ChainPart) (dest : Location) (program : List Instruction) (to : ChainId) (bytes : List ℕ) → IsTaken p dest program to bytes → push_refusal (length bytes) (queues.channel_to to p.channels) ≡ None
 taken_free p dest program to bytes t = ap (push_refusal (length bytes)) (same_channel p dest program to bytes t ∙ t.found) ∙ t.accepted.free
+
+pub taken_spelled : (p : ChainPart) (dest : Location) (program : List Instruction) (to : ChainId) (bytes : List ℕ) → IsTaken p dest program to bytes → is_spelled_for (queues.channel_to to p.channels) bytes ≡ true
+taken_spelled p dest program to bytes t = ap (λ o. is_spelled_for o bytes) (same_channel p dest program to bytes t ∙ t.found) ∙ t.accepted.spelled
 
 pub taken_decodes : (p : ChainPart) (dest : Location) (program : List Instruction) (to : ChainId) (bytes : List ℕ) → IsTaken p dest program to bytes → decodes bytes ≡ true
 taken_decodes p dest program to bytes t = ap is_ok t.accepted.meaning

@@ -3,10 +3,10 @@ use Rattle.std.proofs.Common.{◌≡◌, ℕ, suc, ◌+◌, Bool, true, false, �
 use Rattle.std.specs.Prelude.{Option, None, Some, is_some, nat_lt, position, MatchOption}
 use Rattle.std.specs.List.{list_any, position_or_len}
 
-first_below : (n : ℕ) → true ≡ nat_lt 0 (suc n)
+pub first_below : (n : ℕ) → true ≡ nat_lt 0 (suc n)
 first_below n = grind arith
 
-below_more : (n m : ℕ) → nat_lt (1 + n) (suc m) ≡ nat_lt n m
+pub below_more : (n m : ℕ) → nat_lt (1 + n) (suc m) ≡ nat_lt n m
 below_more n m = grind arith
 
 any_below : {A : Type 0} (p : A → Bool) (xs : List A) → list_any p xs ≡ nat_lt (position_or_len p xs) (length xs)

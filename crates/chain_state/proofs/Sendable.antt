@@ -7,6 +7,7 @@ use Rattle.chain_ids.specs.declared.chain.ChainId.{ChainId}
 use Rattle.message_parts.specs.declared.error.XcmError.{XcmError}
 use Rattle.message_parts.specs.declared.error.XcmError.TheVariants as error
 use Rattle.asset_wire.specs.declared.version.Version.{Version}
+use Rattle.asset_wire.specs.declared.version.Version.TheVariants.{V3, V4}
 use Rattle.xcm_program.specs.declared.instruction.Instruction.{Instruction}
 use Rattle.xcm_program.specs.Measure.{deep_count, depth}
 use Rattle.xcm_format.specs.Messages.{message, IsMessageIn}
@@ -17,6 +18,7 @@ use Rattle.versioned_xcm.specs.declared.faults.EncodeFault.TheVariants.{ExceedsL
 use Rattle.versioned_xcm.specs.Message.{IsEncodeCause}
 use Rattle.versioned_xcm.specs.Reading.{message_of}
 use Rattle.chain_queues.specs.declared.queues.Queue.{Queue}
+use Rattle.chain_queues.specs.Decoded.{is_spelled_in}
 use Rattle.chain_queues.specs.Queues.{waiting_of, outgoing_of, push_refusal}
 use Rattle.exec_base.specs.declared.faults.HostFault.{HostFault}
 use Rattle.exec_base.specs.Part.{ChainPart}
@@ -81,8 +83,14 @@ is_free q n none =
     let second = passes (nat_lt (length q.waiting.items) q.channel.capacity) error.Transport None first.1 in
     free_by q n first.0 second.0
 
+-- a message begins with the byte of its version
+begun : (v : Version) (program : List Instruction) → is_spelled_in v (message v program) ≡ true
+unfolding message
+begun V3 program = refl
+begun V4 program = refl
+
 pub accepts : (q : Queue) (bytes : List ℕ) (program : List Instruction) → IsMessageIn q.channel.version bytes program → message_of bytes ≡ Ok program → by_size q (length bytes) ≡ None → IsAccepted (outgoing_of q) program q.channel.to bytes
-accepts q bytes program is meaning none = record { leads = refl; meaning = meaning; unrefused = size_decides q bytes program is ∙ none; free = is_free q (length bytes) none }
+accepts q bytes program is meaning none = record { leads = refl; meaning = meaning; spelled = ap (is_spelled_in q.channel.version) is.text ∙ begun q.channel.version program; unrefused = size_decides q bytes program is ∙ none; free = is_free q (length bytes) none }
 
 -- ---- the channel to a location
 pub unrouted : (p : ChainPart) (dest : Location) (few : Bool) (program : List Instruction) → channel_to p dest ≡ None → send_refusal p dest few program ≡ Some error.Unroutable

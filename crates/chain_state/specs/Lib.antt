@@ -1,8 +1,8 @@
-pub mod Paths
 pub mod PartOf
 pub mod Lines
 pub mod Arrivals
-pub mod Prices
-pub mod Opening
-pub mod Rates
 pub mod Sends
+pub mod Claims
+pub mod ListedFees
+pub mod Settling
+pub mod Aside

@@ -1,5 +1,5 @@
--- The chain's part of the world, from what it keeps. No delivery fee is kept yet behind the slot. This project's own.
-use Rattle.amounts.specs.Amounts.{empty}
+-- The chain's part of the world, from what it keeps. This project's own.
+use Rattle.fee_rows.specs.Fees.{kept_goods}
 use Rattle.exec_base.specs.Part.{ChainPart}
 use Rattle.chain_queues.specs.Queues.{channels_of}
 use Rattle.chain_state.specs.declared.state.ChainState.{ChainState}
@@ -14,7 +14,7 @@ part_of s = record {
   traps = s.traps;
   lines = s.trader;
   fee_slot = s.fee_slot;
-  fees = empty;
+  fees = kept_goods s.fees;
   parked = s.parked.items;
   burns = s.book.burns;
   checking = s.checking.items;

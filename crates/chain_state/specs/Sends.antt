@@ -9,6 +9,7 @@ use Rattle.xcm_program.specs.declared.instruction.Instruction.{Instruction}
 use Rattle.xcm_program.specs.declared.instruction.Instruction.TheOpen.{Instruction-F}
 use Rattle.channel_parts.specs.Channels.{Outgoing}
 use Rattle.versioned_xcm.specs.Reading.{message_of}
+use Rattle.chain_queues.specs.Decoded.{is_spelled_in}
 use Rattle.chain_queues.specs.Queues.{push_refusal}
 use Rattle.exec_base.specs.declared.faults.HostFault.{HostFault}
 use Rattle.exec_base.specs.declared.faults.HostFault.TheVariants.{Xcm, Memory}
@@ -16,10 +17,11 @@ use Rattle.exec_base.specs.Part.{ChainPart}
 use Rattle.exec_base.specs.Sending.{channel_to, channel_refusal, led_by}
 use Rattle.chain_state.specs.declared.arrivals.ArrivalCall.{ArrivalCall}
 
--- the bytes mean the program, the rule doesn't refuse it, and the channel takes them
+-- the bytes mean the program and are of the channel's version, the rule doesn't refuse it, and the channel takes them
 pub record IsAccepted (channel : Outgoing) (program : List Instruction) (to : ChainId) (bytes : List ℕ) : Type 0 where
   pub leads : channel.channel.to ≡ to
   pub meaning : message_of bytes ≡ Ok program
+  pub spelled : is_spelled_in channel.channel.version bytes ≡ true
   pub unrefused : channel_refusal (Some channel) true program ≡ None
   pub free : push_refusal (length bytes) (Some channel) ≡ None
 

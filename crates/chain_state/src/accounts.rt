@@ -9,7 +9,6 @@ ghost use Rattle.chain_state.specs.PartOf.{part_of};
 use crate::ChainState;
 use crate::arrivals::ArrivalCall;
 use crate::carried::call_of;
-use crate::checking::lower_all;
 use asset_bundles::AssetBundle;
 use asset_lists::{Asset, Assets};
 use chain_queues::Cargo;
@@ -32,7 +31,7 @@ impl ChainState {
         ensures { part_of self.new ≡ record (part_of self.old) { checking = if teleport then changed_all (λ n a. n - a) list.now (part_of self.old).rows (part_of self.old).checking else (part_of self.old).checking } }
     {
         if teleport {
-            lower_all(self.rows.as_slice(), self.checking.as_mut_slice(), list);
+            self.change_checking(list, false);
         }
     }
 

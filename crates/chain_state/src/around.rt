@@ -10,10 +10,10 @@ ghost use Rattle.chain_state.specs.Sends.{IsTaken, IsSendFault, first_by, progra
 
 use crate::ChainState;
 use crate::arrivals::ArrivalCall;
-use crate::naming::named;
 use crate::sending::accepted;
 use asset_lists::{Asset, Assets};
 use chain_ids::ChainId;
+use chain_lists::named;
 use exec_base::HostFault;
 use locations::Location;
 use message_parts::XcmError;

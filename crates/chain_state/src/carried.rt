@@ -2,21 +2,18 @@
 ghost use Rattle.std.specs.Prelude.{◌≡◌, IfOk};
 ghost use Rattle.std.specs.Ordering.{eq_by_cmp};
 ghost use Rattle.asset_lists.specs.Units.{assets_cmp};
-ghost use Rattle.trust_tables.specs.Chains as chains;
 ghost use Rattle.exec_base.specs.Host.{arrival_of, fits_call, cargo_list, is_cargo};
 ghost use Rattle.chain_state.specs.PartOf.{part_of};
 ghost use Rattle.chain_state.specs.Arrivals.{arrival_by};
 
 use crate::ChainState;
 use crate::arrivals::ArrivalCall;
-use crate::naming::{copied, named};
 use asset_bundles::Way;
 use asset_lists::{Asset, Assets};
-use chain_ids::ChainId;
+use chain_lists::{copied, named, place_for};
 use chain_queues::Cargo;
-use locations::Location;
 use std::alloc::{AllocError, Global};
-use trust_tables::{Site, location_of};
+use trust_tables::Site;
 
 /// By which call assets are received.
 pub(crate) fn call_of(teleport: bool) -> ArrivalCall
@@ -57,17 +54,6 @@ fn cargo_list(alloc: Global, cargo: &Cargo) -> Result<Vec<Asset>, AllocError>
         Cargo::Deposit(list) => copied(alloc, list.items()),
         Cargo::Away(shipment) => shipment.list(),
     }
-}
-
-/// How the chain that sent a message names this one; none where it is this one.
-#[tactic(auto, using(trust_tables::specs::ChainLaws::no_location_of_self))]
-fn place_for(sender: ChainId, here: ChainId) -> Option<Location>
-    ensures { result ≡ chains.location_of sender here }
-{
-    if sender == here {
-        return None;
-    }
-    Some(location_of(sender, here))
 }
 
 /// Whether they are the same assets in the same order.

@@ -1,37 +1,15 @@
 //! Checking accounts: how much of an asset may stand at its other homes, row by row.
-ghost use Rattle.std.specs.Prelude.{◌≡◌, ◌-◌, ℕ, Option, option_and_then, slice_get};
+ghost use Rattle.std.specs.Prelude.{◌≡◌, ℕ, Option, option_and_then, slice_get};
 ghost use Rattle.exec_base.specs.Host as host;
-ghost use Rattle.exec_base.specs.Host.{changed_rows, changed_all, first_fault};
+ghost use Rattle.exec_base.specs.Host.{changed_all, first_fault};
 ghost use Rattle.chain_state.specs.PartOf.{part_of};
+ghost use Rattle.chain_lists.specs.Checked.{change_by};
 
 use crate::ChainState;
 use asset_lists::Asset;
+use chain_lists::change_all;
 use message_parts::XcmError;
-use trust_tables::{AssetRow, find_row};
-
-/// Lowers the checking account of the asset's row, if it has one.
-fn lower(rows: &[AssetRow], checking: &mut [Option<u128>], asset: &Asset)
-    ensures { checking.new ≡ changed_rows (λ n a. n - a) asset.now rows.now checking.old }
-{
-    let Some(place) = find_row(rows, asset) else {
-        return;
-    };
-    if place >= checking.len() {
-        return;
-    }
-    if let Some(amount) = checking[place] {
-        checking[place] = Some(amount.saturating_sub(asset.amount()));
-    }
-}
-
-/// Lowers the checking accounts of the rows of these assets.
-pub(crate) fn lower_all(rows: &[AssetRow], checking: &mut [Option<u128>], list: &[Asset])
-    ensures { checking.new ≡ changed_all (λ n a. n - a) list.now rows.now checking.old }
-{
-    for asset in list {
-        lower(rows, checking, asset);
-    }
-}
+use trust_tables::find_row;
 
 impl ChainState {
     /// The amount of the checking account of the asset's row; none where the row has none.
@@ -65,6 +43,41 @@ impl ChainState {
             }
         }
         None
+    }
+
+    /// Why the checking account of the asset's row can't rise by the amount.
+    fn raise_fault(&self, asset: &Asset) -> Option<XcmError>
+        ensures { result ≡ host.raise_fault (part_of self.now) asset.now }
+    {
+        match self.checking_of(asset) {
+            Some(amount) if u128::MAX - amount < asset.amount() => Some(XcmError::NotDepositable),
+            _ => None,
+        }
+    }
+
+    /// Why the checking accounts can't rise by the first of these assets by which they can't.
+    pub(crate) fn raise_refusal(&self, list: &[Asset]) -> Option<XcmError>
+        ensures { result ≡ first_fault (host.raise_fault (part_of self.now)) list.now }
+    {
+        for asset in list {
+            if let Some(error) = self.raise_fault(asset) {
+                return Some(error);
+            }
+        }
+        None
+    }
+
+    /// Changes the checking accounts of the rows of these assets.
+    pub(crate) fn change_checking(&mut self, list: &[Asset], rises: bool)
+        ensures room { self.new.kept_back ≡ self.old.kept_back }
+        ensures step { part_of self.new ≡ record (part_of self.old) { checking = changed_all (change_by rises) list.now (part_of self.old).rows (part_of self.old).checking } }
+    {
+        change_all(
+            self.rows.as_slice(),
+            self.checking.as_mut_slice(),
+            list,
+            rises,
+        );
     }
 
     /// The amount of the checking account of the row of this place; none where the row has none, or there is no such row.

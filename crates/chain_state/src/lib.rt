@@ -1,27 +1,35 @@
 //! The state of one chain of the network, as a host of programs.
 #![tactic(auto)]
 
+mod above;
 mod accounts;
 mod around;
 mod arrivals;
+mod aside;
 mod burning;
 mod carried;
 mod channels;
 mod checking;
 mod fees;
 mod goods_moves;
+mod hosting;
 mod lines;
-mod naming;
+mod losses;
 mod opening;
 mod outgoing;
+mod posting;
 mod reading;
 mod refusals;
 mod reports;
 mod sending;
+mod settling;
+mod shares;
+mod shipping;
 mod state;
 mod steps;
 mod telling;
 mod trapping;
 mod weights;
+mod wide;
 
 pub use state::ChainState;

@@ -30,7 +30,7 @@ fn cause_by(given: Option<Cause>, asset: &Asset) -> Cause
 
 impl ChainState {
     /// The path of the id of a listed asset.
-    fn path(&self, asset: &Asset) -> Junctions
+    pub(crate) fn path(&self, asset: &Asset) -> Junctions
         requires { IsTrue (lists (listing self.now.rows.items) (listed_of (unit_of asset.now))) }
         ensures { result ≡ path_in (part_of self.now) asset.now.id }
     {

@@ -1,81 +1,49 @@
-//! A chain on which nothing has happened.
-ghost use Rattle.std.specs.Prelude.{◌≡◌, ◌<◌, ◌≤◌, ◌^◌, length, map, IsTrue, IsFalse, None, IfOk, IfErr, OnOk, OnErr, [], ◌∷◌};
+//! A chain as the network opens.
+ghost use Rattle.std.specs.Prelude.{◌≡◌, ◌<◌, ◌≤◌, ◌^◌, length, map, find, IsTrue, IsFalse, None, IfOk, IfErr, IsSomeAnd, OnOk, OnErr, [], ◌∷◌};
 ghost use Rattle.std.specs.Ordering.{eq_by_cmp};
-ghost use Rattle.std.specs.List.{IsDistinct};
+ghost use Rattle.std.specs.List.{IsDistinct, list_all};
+ghost use Rattle.amounts.specs.Amounts.{empty};
+ghost use Rattle.chain_ids.specs.Chains.{same_chain};
 ghost use Rattle.asset_lists.specs.Units.{unit_of, is_zero};
 ghost use Rattle.asset_lists.specs.Listed.{listed_cmp, listed_of, lists};
 ghost use Rattle.asset_bundles.specs.Bundles.{bundle_of, held_assets};
-ghost use Rattle.ledgers.specs.Ledgers.{listed_pair, Deposited, barred};
+ghost use Rattle.ledgers.specs.Ledgers.{Deposited, barred};
 ghost use Rattle.ledgers.specs.LedgerFaults.{IsDepositFault};
 ghost use Rattle.trust_tables.specs.Chains.{path_of_site};
 ghost use Rattle.trust_tables.specs.Trust.{listing};
 ghost use Rattle.channel_parts.specs.Channels.{opened};
 ghost use Rattle.weight_trader.specs.Purchases.{NameEachOnce, new_lines};
 ghost use Rattle.exec_base.specs.Part.{accounts_of};
+ghost use Rattle.network_spec.specs.declared.chain.ChainSpec.{ChainSpec};
+ghost use Rattle.network_spec.specs.Networks.{same_holding, has_chain};
+ghost use Rattle.network_genesis.specs.Tests.{have_paths, have_prices, are_rates_listed, may_have_checkings, is_balance};
+ghost use Rattle.network_genesis.specs.Genesis.{fresh, bare_part, part_at, with_balance, with_balances};
+ghost use Rattle.network_genesis.specs.Openable.{IsOpenableChain, IsOpenable};
 ghost use Rattle.chain_state.specs.PartOf.{part_of};
-ghost use Rattle.chain_state.specs.Paths.{have_paths};
-ghost use Rattle.chain_state.specs.Prices.{have_prices};
-ghost use Rattle.chain_state.specs.Rates.{are_rates_listed};
-ghost use Rattle.chain_state.specs.Opening.{row_checking, fresh};
+ghost use Rattle.chain_state.specs.ListedFees.{are_fees_listed};
 
 use crate::ChainState;
 use asset_bundles::{AssetBundle, BurnBook};
-use asset_lists::{Asset, AssetId, Kind};
+use asset_lists::Asset;
+use chain_ids::ChainId;
+use chain_lists::{
+    channels_from, checking_accounts, copied_pallets, copied_rows, entry_of, ids, open_queries,
+    places,
+};
 use chain_queues::{Cargo, Channel, Queues};
+use fee_rows::FeeRows;
 use ledgers::{DepositFault, Ledger, TrapStore};
-use locations::Location;
 use message_parts::{OpenQuery, PalletInfo};
+use network_spec::{Balance, ChainSpec, NetworkSpec};
 use std::alloc::{AllocError, Global};
-use trust_tables::{AssetRole, AssetRow, Site};
+use trust_tables::{AssetRow, Site};
 use weight_trader::{Rate, Trader};
-
-/// The listed assets, by their places.
-fn places(alloc: Global, rows: &[AssetRow]) -> Result<Vec<(Location, Kind)>, AllocError>
-    ensures { IfOk result (λ list. map listed_pair list.items ≡ listing rows.now) }
-{
-    let mut list = Vec::new(alloc);
-    for row in rows {
-        list.push((row.id.copy(), row.kind))?;
-    }
-    Ok(list)
-}
-
-/// The listed assets, by their ids.
-fn ids(alloc: Global, rows: &[AssetRow]) -> Result<Vec<(AssetId, Kind)>, AllocError>
-    ensures { IfOk result (λ list. list.items ≡ listing rows.now) }
-{
-    let mut list = Vec::new(alloc);
-    for row in rows {
-        list.push((AssetId::Concrete(row.id.copy()), row.kind))?;
-    }
-    Ok(list)
-}
-
-/// The row's checking account, if it has one.
-fn row_checking(row: &AssetRow) -> Option<u128>
-    ensures { result ≡ row_checking row.now }
-{
-    match &row.role {
-        AssetRole::Native { checking, .. } => *checking,
-        AssetRole::Derivative { .. } => None,
-    }
-}
-
-/// The checking accounts, row by row.
-fn checking_accounts(alloc: Global, rows: &[AssetRow]) -> Result<Vec<Option<u128>>, AllocError>
-    ensures { IfOk result (λ list. list.items ≡ map row_checking rows.now) }
-{
-    let mut list = Vec::new(alloc);
-    for row in rows {
-        list.push(row_checking(row))?;
-    }
-    Ok(list)
-}
 
 impl ChainState {
     /// A chain with these rows, pallets, rates, open queries and channels, on which no account holds anything. No two rows list the same
     /// asset, there are fewer than 2^32 of them, and the id of each has a path of at most 8 junctions; no two rates name the same asset,
-    /// and each names a listed one; there are at most 64 pallets; and the fee of a channel is an amount above 0 of a fungible asset.
+    /// and each names a listed one; there are at most 64 pallets; the fee of a channel is an amount above 0 of a fungible asset that is
+    /// listed; and only rows of fungible assets have a checking account.
     pub fn new(
         alloc: Global,
         site: Site,
@@ -93,13 +61,17 @@ impl ChainState {
         requires rates { IsTrue (are_rates_listed (listing rows.items) (new_lines rates.now)) }
         requires few_pallets { length pallets.items ≤ 64 }
         requires prices { IsTrue (have_prices (map opened channels.items)) }
+        requires fees { IsTrue (are_fees_listed (listing rows.items) (map opened channels.items)) }
+        requires checkings { IsTrue (may_have_checkings rows.items) }
         ensures fresh { IfOk result (λ chain. part_of chain ≡ fresh site rows.items pallets.items fee_account rates.now queries.items channels.items) }
     {
         let ledger = Ledger::open(alloc, places(alloc, rows.as_slice())?)?;
         let listed = ids(alloc, rows.as_slice())?;
         let book = BurnBook::new(alloc, listed.as_slice())?;
         let checking = checking_accounts(alloc, rows.as_slice())?;
+        let fees = FeeRows::open(alloc, listed.as_slice())?;
         let trader = Trader::new(alloc, rates)?;
+        let spare = Trader::new(alloc, rates)?;
         let queues = Queues::open(alloc, channels)?;
         let parked = Vec::with_capacity(alloc, 4)?;
         Ok(ChainState {
@@ -110,7 +82,9 @@ impl ChainState {
             ledger,
             traps: TrapStore::new(alloc),
             trader,
+            spare,
             fee_slot: AssetBundle::empty(alloc).set_down(),
+            fees,
             parked,
             book,
             checking,
@@ -141,5 +115,73 @@ impl ChainState {
                 Err(fault)
             }
         }
+    }
+
+    /// The chain as its entry of the document says it, with accounts that hold nothing.
+    fn bare(alloc: Global, spec: &NetworkSpec, entry: &ChainSpec) -> Result<ChainState, AllocError>
+        requires chain { IsOpenableChain spec.now.network entry.now }
+        requires prices { IsTrue (have_prices (bare_part spec.now entry.now).channels) }
+        requires fees { IsTrue (are_fees_listed (listing entry.now.assets) (bare_part spec.now entry.now).channels) }
+        ensures { IfOk result (λ chain. part_of chain ≡ bare_part spec.now entry.now) }
+    {
+        let site = Site {
+            network: spec.network,
+            chain: entry.chain,
+        };
+        let rows = copied_rows(alloc, entry.assets.items())?;
+        let pallets = copied_pallets(alloc, entry.pallets.items())?;
+        let queries = open_queries(alloc, entry.chain, entry.queries.items())?;
+        let channels = channels_from(alloc, entry.chain, spec.channels.items())?;
+        ChainState::new(
+            alloc,
+            site,
+            rows,
+            pallets,
+            entry.fee_account,
+            entry.rates.items(),
+            queries,
+            channels,
+        )
+    }
+
+    /// Places what the document says that an account holds, which the conditions on it never refuse.
+    fn place_balance(&mut self, balance: &Balance) -> Result<(), AllocError>
+        requires some { IsFalse (is_zero balance.now.asset) }
+        requires listed { IsTrue (lists (listing (part_of self.old).rows) (listed_of (unit_of balance.now.asset))) }
+        requires free { barred (part_of self.old).held balance.now.who (held_assets (bundle_of (balance.now.asset ∷ []))) ≡ None }
+        ensures placed { OnOk result (part_of self.new ≡ record (part_of self.old) { held = with_balance (part_of self.old).held balance.now }) }
+    {
+        match self.place(&balance.who, balance.asset.copy()) {
+            Ok(()) => Ok(()),
+            Err(DepositFault::Memory) => Err(AllocError),
+            Err(_) => unreachable!(),
+        }
+    }
+
+    /// Places what the document says that accounts hold.
+    fn place_all(&mut self, balances: &[Balance]) -> Result<(), AllocError>
+        requires empty { (part_of self.old).held ≡ empty }
+        requires balances { IsTrue (list_all (is_balance (part_of self.old).rows) balances.now) }
+        requires once { IsDistinct same_holding balances.now }
+        ensures placed { OnOk result (part_of self.new ≡ record (part_of self.old) { held = with_balances empty balances.now }) }
+    {
+        for balance in balances {
+            self.place_balance(balance)?;
+        }
+        Ok(())
+    }
+
+    /// The chain as the network opens: just what the document says of it, and what its accounts hold by the document.
+    pub fn open(alloc: Global, spec: &NetworkSpec, chain: ChainId) -> Result<ChainState, AllocError>
+        requires openable { IsOpenable spec.now }
+        requires listed { IsTrue (has_chain spec.now.chains chain) }
+        ensures opened { IfOk result (λ state. IsSomeAnd (find (λ (c : ChainSpec). same_chain c.chain chain) spec.now.chains) (λ c. part_of state ≡ part_at spec.now c)) }
+    {
+        let Some(entry) = entry_of(spec.chains.items(), chain) else {
+            unreachable!();
+        };
+        let mut state = ChainState::bare(alloc, spec, entry)?;
+        state.place_all(entry.accounts.items())?;
+        Ok(state)
     }
 }

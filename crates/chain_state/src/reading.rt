@@ -77,6 +77,13 @@ impl ChainState {
         self.parked.as_slice()
     }
 
+    /// The checking account of each row, in listed order; `None` where the row has none.
+    pub fn checkings(&self) -> &[Option<u128>]
+        ensures { result.now ≡ (part_of self.now).checking }
+    {
+        self.checking.as_slice()
+    }
+
     /// What was told in the last step at the chain.
     pub fn trace(&self) -> &[Event]
         ensures events { result.now ≡ (part_of self.now).events }

@@ -12,7 +12,7 @@ ghost use Rattle.versioned_xcm.specs.Reading.{message_of};
 ghost use Rattle.versioned_xcm.specs.Message.{IsEncodeCause};
 ghost use Rattle.chain_queues.specs.Decoded.{decodes, program_read};
 ghost use Rattle.chain_queues.specs.Queues as queues;
-ghost use Rattle.chain_queues.specs.Queues.{outgoing_of, push_refusal, pushed};
+ghost use Rattle.chain_queues.specs.Queues.{outgoing_of, is_spelled_for, push_refusal, pushed};
 ghost use Rattle.exec_base.specs.declared.event.Event.{Event};
 ghost use Rattle.exec_base.specs.Answers.{Answers};
 ghost use Rattle.exec_base.specs.Sending.{unless, channel_refusal, send_refusal, number_to, sent, IsForwardable};
@@ -87,6 +87,7 @@ impl ChainState {
     /// Puts the message last in the channel, which takes it, and keeps its line back, for which there is room. It takes no memory.
     pub(crate) fn post(&mut self, to: ChainId, bytes: Vec<u8>, cargo: Cargo) -> u64
         requires message { IsTrue (decodes bytes.items) }
+        requires spelled { IsTrue (is_spelled_for (queues.channel_to to (part_of self.old).channels) bytes.items) }
         requires free { push_refusal (length bytes.items) (queues.channel_to to (part_of self.old).channels) ≡ None }
         requires room { vec_len self.old.kept_back + 1 ≤ vec_capacity self.old.kept_back }
         ensures number { option_map (λ (c : Outgoing). c.next) (queues.channel_to to (part_of self.old).channels) ≡ Some result }

@@ -2,23 +2,28 @@
 ghost use Rattle.std.specs.Prelude.{◌≡◌, ◌≤◌, length, vec_capacity, IsTrue};
 ghost use Rattle.trust_tables.specs.Chains.{path_of_site};
 ghost use Rattle.trust_tables.specs.Trust.{listing};
-ghost use Rattle.chain_state.specs.Rates.{are_rates_listed};
+ghost use Rattle.network_genesis.specs.Tests.{are_rates_listed, have_paths, have_prices};
 ghost use Rattle.chain_queues.specs.Queues.{channels_of};
-ghost use Rattle.chain_state.specs.Paths.{have_paths};
-ghost use Rattle.chain_state.specs.Prices.{have_prices};
+ghost use Rattle.weight_trader.specs.Refunds.{Closed};
+ghost use Rattle.fee_rows.specs.Fees.{HaveRows, HaveRowsFor};
+ghost use Rattle.chain_lists.specs.Checked.{are_checked};
+ghost use Rattle.chain_state.specs.ListedFees.{are_fees_listed};
 
 use asset_bundles::{BurnBook, Units};
 use chain_ids::ChainId;
 use chain_queues::{Cargo, Queues};
 use exec_base::Event;
+use fee_rows::FeeRows;
 use ledgers::{Ledger, TrapStore};
 use message_parts::{OpenQuery, PalletInfo};
 use trust_tables::{AssetRow, Site};
 use weight_trader::Trader;
 
 /// A chain of the network: what its document says, what stands at it, what it sends, and what is told. The ledger and the book list what
-/// the rows list, the id of each has a path, each rate's asset is listed, each channel's fee is an amount above 0 of a fungible asset,
-/// there are at most 64 pallets, and four bundles can be parked without memory.
+/// the rows list, the id of each has a path, each rate's asset is listed, each channel's fee is an amount above 0 of a fungible asset that
+/// is listed, just the fungible ones of the listed assets have a row of kept fees, what is in the fee slot has one, the spare trader has
+/// the rates of the trader, there are at most 64 pallets, four bundles can be parked without memory, and only rows of fungible assets
+/// have a checking account.
 #[derive(Drop)]
 pub struct ChainState {
     pub(crate) site: Site,
@@ -28,7 +33,10 @@ pub struct ChainState {
     pub(crate) ledger: Ledger,
     pub(crate) traps: TrapStore,
     pub(crate) trader: Trader,
+    /// It takes the trader's place when fees are settled, since no trader can be closed without memory.
+    pub(crate) spare: Trader,
     pub(crate) fee_slot: Units,
+    pub(crate) fees: FeeRows,
     pub(crate) parked: Vec<Units>,
     pub(crate) book: BurnBook,
     pub(crate) checking: Vec<Option<u128>>,
@@ -43,6 +51,11 @@ pub struct ChainState {
     ghost paths: { IsTrue (have_paths (path_of_site site) rows.items) },
     ghost rates: { IsTrue (are_rates_listed (listing rows.items) trader) },
     ghost prices: { IsTrue (have_prices (channels_of queues)) },
+    ghost fees_listed: { IsTrue (are_fees_listed (listing rows.items) (channels_of queues)) },
+    ghost fee_rows: { HaveRows (listing rows.items) fees },
+    ghost slot_rows: { HaveRowsFor fees fee_slot },
+    ghost spare_lines: { Closed spare ≡ Closed trader },
     ghost few_pallets: { length pallets.items ≤ 64 },
     ghost room: { 4 ≤ vec_capacity parked },
+    ghost checked: { IsTrue (are_checked rows.items checking.items) },
 }

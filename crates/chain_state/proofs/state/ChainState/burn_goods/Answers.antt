@@ -17,8 +17,13 @@ invariant_of-self c =
       paths = f.paths;
       rates = f.rates;
       prices = f.prices;
+      fees_listed = f.fees_listed;
+      fee_rows = f.fee_rows;
+      slot_rows = f.slot_rows;
+      spare_lines = f.spare_lines;
       few_pallets = f.few_pallets;
       room = f.room;
+      checked = f.checked;
     }
 
 pub returns-in-Ok-append : goal.returns-in-Ok-append

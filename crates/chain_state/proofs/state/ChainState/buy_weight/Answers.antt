@@ -4,15 +4,16 @@ use Rattle.asset_lists.specs.Listed.{listed_of}
 use Rattle.asset_bundles.specs.declared.book.Cause.{Cause}
 use Rattle.asset_bundles.specs.Books.{Book, Booked, burned_for}
 use Rattle.weight_trader.specs.Purchases.{Line, coin_of, excess, excess_at, unspent_at, Bought, AreRatesListed}
+use Rattle.weight_trader.specs.Refunds.{Closed}
 use Rattle.weight_trader.specs.ListedLaws.{saturated_rows}
 use Rattle.trust_tables.specs.Trust.{listing}
 use Rattle.exec_base.specs.Host.{above, burned_lines, booked, no_line_refusal, buy_refusal, unspent, bought}
 use Rattle.chain_state.specs.Lines.{excess_lines}
-use Rattle.chain_state.specs.Rates.{are_rates_listed}
+use Rattle.network_genesis.specs.Tests.{are_rates_listed}
 use Rattle.chain_state.specs.PartOf.{part_of}
 use Rattle.chain_state.proofs.BurnedLines.{same_book}
 use Rattle.chain_state.proofs.Trading.{saturated_is, line_of_excess, none_pays}
-use Rattle.chain_state.proofs.RateList.{each, bought_rates}
+use Rattle.chain_state.proofs.RateList.{each, bought_rates, bought_closed}
 use Rattle.chain_state.proofs.state.ChainState.buy_weight.Goals as goal
 
 pub buy-requires : goal.buy-requires
@@ -30,8 +31,13 @@ invariant_of-self-in-Ok-buy c =
       paths = f.paths;
       rates = ap (are_rates_listed (listing f.rows.items)) is.lines_are ∙ bought_rates c.args.w c.args.payment (listing f.rows.items) f.trader f.rates;
       prices = f.prices;
+      fees_listed = f.fees_listed;
+      fee_rows = f.fee_rows;
+      slot_rows = f.slot_rows;
+      spare_lines = f.spare_lines ∙ sym (ap Closed is.lines_are ∙ bought_closed c.args.w c.args.payment f.trader);
       few_pallets = f.few_pallets;
       room = f.room;
+      checked = f.checked;
     }
 
 pub returns-in-Ok-append : goal.returns-in-Ok-append

@@ -5,7 +5,7 @@ use Rattle.asset_lists.specs.declared.units.Asset.{Asset}
 use Rattle.exec_base.specs.Sending.{leads_to, channel_to}
 use Rattle.exec_base.specs.Host.{is_price}
 use Rattle.chain_queues.specs.Queues.{outgoing_of}
-use Rattle.chain_state.specs.Prices.{fee_is_price, has_price}
+use Rattle.network_genesis.specs.Tests.{fee_is_price, has_price}
 use Rattle.chain_state.specs.PartOf.{part_of}
 use Rattle.chain_state.proofs.Found.{all_found}
 use Rattle.chain_state.proofs.state.ChainState.fee_to.Goals as goal

@@ -1,8 +1,34 @@
-use Rattle.std.proofs.Common.{◌<◌, ◌^◌, sym, ap, ◌∙◌, subst}
+use Rattle.std.proofs.Common.{◌<◌, ◌^◌, List, length, map, sym, ap, ◌∙◌, subst}
+use Rattle.asset_lists.specs.Listed.{Listed}
 use Rattle.trust_tables.specs.Trust.{listing}
-use Rattle.chain_state.proofs.Listings.{as_many}
+use Rattle.weight_trader.specs.Refunds.{Closed}
+use Rattle.fee_rows.specs.Fees.{is_coin}
+use Rattle.network_genesis.specs.Tests.{row_checking, have_prices}
+use Rattle.chain_lists.specs.Checked.{are_checked}
+use Rattle.chain_state.specs.ListedFees.{are_fees_listed}
+use Rattle.chain_state.proofs.Entries.{checked_rows}
+use Rattle.chain_state.proofs.FeeSlot.{nothing_rowed}
 use Rattle.chain_state.proofs.state.ChainState.new.Goals as goal
 
 pub open-requires-clause-few : goal.open-requires-clause-few
-open-requires-clause-few c =
-    subst (λ n. n < 2 ^ 32) (sym (as_many c.in_ok-places.field-0.items c.args.rows.items (c.in_ok-places.ensures ∙ ap listing c.as_slice.ensures.value))) c.requires.few
+open-requires-clause-few c = subst (λ n. n < 2 ^ 32) (sym (c.in_ok-places.ensures.as_many ∙ ap length c.as_slice.ensures.value)) c.requires.few
+
+pub invariant_of-result-clause-prices : goal.invariant_of-result-clause-prices
+invariant_of-result-clause-prices c = ap have_prices c.in_ok-queues.ensures ∙ c.requires.prices
+
+pub invariant_of-result-clause-fees_listed : goal.invariant_of-result-clause-fees_listed
+invariant_of-result-clause-fees_listed c = ap (are_fees_listed (listing c.args.rows.items)) c.in_ok-queues.ensures ∙ c.requires.fees
+
+pub invariant_of-result-clause-fee_rows : goal.invariant_of-result-clause-fee_rows
+invariant_of-result-clause-fee_rows c = λ u.
+    c.in_ok-fees.ensures.rows u ∙ ap (λ (ks : List Listed). is_coin ks u) (c.as_slice-5.ensures.value ∙ c.in_ok-listed.ensures ∙ ap listing c.as_slice-2.ensures.value)
+
+pub invariant_of-result-clause-slot_rows : goal.invariant_of-result-clause-slot_rows
+invariant_of-result-clause-slot_rows c = nothing_rowed _ _ (c.set_down.ensures ∙ c.empty.ensures)
+
+pub invariant_of-result-clause-spare_lines : goal.invariant_of-result-clause-spare_lines
+invariant_of-result-clause-spare_lines c = ap Closed (c.in_ok-spare.ensures.lines ∙ sym c.in_ok-trader.ensures.lines)
+
+pub invariant_of-result-clause-checked : goal.invariant_of-result-clause-checked
+invariant_of-result-clause-checked c =
+    ap (are_checked c.args.rows.items) (c.in_ok-checking.ensures ∙ ap (map row_checking) c.as_slice-4.ensures.value) ∙ checked_rows c.args.rows.items c.requires.checkings

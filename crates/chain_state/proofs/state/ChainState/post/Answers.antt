@@ -3,8 +3,10 @@ use Rattle.channel_parts.specs.Channels.{with_waiting}
 use Rattle.versioned_xcm.specs.Reading.{message_of}
 use Rattle.chain_queues.specs.Decoded.{program_read}
 use Rattle.chain_queues.specs.Queues.{channels_of, leads_to}
-use Rattle.chain_state.specs.Prices.{have_prices}
-use Rattle.chain_state.proofs.Kept.{prices_kept}
+use Rattle.trust_tables.specs.Trust.{listing}
+use Rattle.network_genesis.specs.Tests.{have_prices}
+use Rattle.chain_state.specs.ListedFees.{are_fees_listed}
+use Rattle.chain_state.proofs.Kept.{prices_kept, fees_kept}
 use Rattle.chain_state.proofs.state.ChainState.post.Goals as goal
 
 pub invariant_of-self : goal.invariant_of-self
@@ -16,6 +18,11 @@ invariant_of-self c =
       paths = f.paths;
       rates = f.rates;
       prices = ap have_prices c.in-Ok.ensures.queued ∙ prices_kept (leads_to c.args.to) (with_waiting (program_read (message_of c.args.bytes.items)) c.args.cargo) (λ o. refl) (channels_of f.queues) ∙ f.prices;
+      fees_listed = ap (are_fees_listed (listing f.rows.items)) c.in-Ok.ensures.queued ∙ fees_kept (listing f.rows.items) (leads_to c.args.to) (with_waiting (program_read (message_of c.args.bytes.items)) c.args.cargo) (λ o. refl) (channels_of f.queues) ∙ f.fees_listed;
+      fee_rows = f.fee_rows;
+      slot_rows = f.slot_rows;
+      spare_lines = f.spare_lines;
       few_pallets = f.few_pallets;
       room = f.room;
+      checked = f.checked;
     }

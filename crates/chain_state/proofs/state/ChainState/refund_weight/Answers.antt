@@ -1,5 +1,6 @@
+use Rattle.std.proofs.Common.{sym, ◌∙◌}
 use Rattle.trust_tables.specs.Trust.{listing}
-use Rattle.chain_state.proofs.RateList.{rates_after}
+use Rattle.chain_state.proofs.RateList.{rates_after, closed_after}
 use Rattle.chain_state.proofs.state.ChainState.refund_weight.Goals as goal
 
 pub invariant_of-self : goal.invariant_of-self
@@ -11,6 +12,11 @@ invariant_of-self c =
       paths = f.paths;
       rates = rates_after c.args.w (listing f.rows.items) f.trader c.refund.new.self c.refund.result c.refund.ensures.lines c.refund.ensures.err f.rates;
       prices = f.prices;
+      fees_listed = f.fees_listed;
+      fee_rows = f.fee_rows;
+      slot_rows = f.slot_rows;
+      spare_lines = f.spare_lines ∙ sym (closed_after c.args.w f.trader c.refund.new.self c.refund.result c.refund.ensures.lines c.refund.ensures.err);
       few_pallets = f.few_pallets;
       room = f.room;
+      checked = f.checked;
     }

@@ -5,12 +5,15 @@ use Rattle.chain_queues.specs.Decoded.{program_read}
 use Rattle.chain_queues.specs.Queues.{pushed}
 use Rattle.exec_base.specs.declared.event.Event.{Event}
 use Rattle.chain_state.specs.PartOf.{part_of}
-use Rattle.chain_state.proofs.Led.{taken_free, number_is, sent_is}
+use Rattle.chain_state.proofs.Led.{taken_free, taken_spelled, number_is, sent_is}
 use Rattle.chain_state.proofs.Sendable.{unrefused_by}
 use Rattle.chain_state.proofs.state.ChainState.send_to.Goals as goal
 
 pub post-requires-clause-free : goal.post-requires-clause-free
 post-requires-clause-free c = taken_free (part_of c.args.self.now) c.args.dest.now c.args.program.now c.in_ok-to.to c.in_ok-to.bytes.items c.in_ok-to.ensures.ready
+
+pub post-requires-clause-spelled : goal.post-requires-clause-spelled
+post-requires-clause-spelled c = taken_spelled (part_of c.args.self.now) c.args.dest.now c.args.program.now c.in_ok-to.to c.in_ok-to.bytes.items c.in_ok-to.ensures.ready
 
 pub returns : goal.returns
 returns c =

@@ -1,7 +1,9 @@
 use Rattle.std.proofs.Common.{refl, ap, ◌∙◌}
 use Rattle.chain_queues.specs.Queues.{channels_of, leads_to, without_oldest}
-use Rattle.chain_state.specs.Prices.{have_prices}
-use Rattle.chain_state.proofs.Kept.{prices_kept}
+use Rattle.trust_tables.specs.Trust.{listing}
+use Rattle.network_genesis.specs.Tests.{have_prices}
+use Rattle.chain_state.specs.ListedFees.{are_fees_listed}
+use Rattle.chain_state.proofs.Kept.{prices_kept, fees_kept}
 use Rattle.chain_state.proofs.state.ChainState.take.Goals as goal
 
 pub invariant_of-self : goal.invariant_of-self
@@ -13,6 +15,11 @@ invariant_of-self c =
       paths = f.paths;
       rates = f.rates;
       prices = ap have_prices c.pop.ensures.rest ∙ prices_kept (leads_to c.args.to) without_oldest (λ o. refl) (channels_of f.queues) ∙ f.prices;
+      fees_listed = ap (are_fees_listed (listing f.rows.items)) c.pop.ensures.rest ∙ fees_kept (listing f.rows.items) (leads_to c.args.to) without_oldest (λ o. refl) (channels_of f.queues) ∙ f.fees_listed;
+      fee_rows = f.fee_rows;
+      slot_rows = f.slot_rows;
+      spare_lines = f.spare_lines;
       few_pallets = f.few_pallets;
       room = f.room;
+      checked = f.checked;
     }

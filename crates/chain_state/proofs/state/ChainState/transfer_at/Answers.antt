@@ -6,7 +6,7 @@ use Rattle.channel_parts.specs.declared.cargo.Cargo.{Cargo}
 use Rattle.versioned_xcm.specs.Reading.{message_of}
 use Rattle.chain_queues.specs.Decoded.{program_read}
 use Rattle.chain_queues.specs.Queues as queues
-use Rattle.chain_queues.specs.Queues.{push_refusal, pushed}
+use Rattle.chain_queues.specs.Queues.{is_spelled_for, push_refusal, pushed}
 use Rattle.exec_base.specs.declared.event.Event.{Event}
 use Rattle.exec_base.specs.Part.{ChainPart}
 use Rattle.exec_base.specs.Sending.{deposit_program, listed_program, number_to}
@@ -14,7 +14,7 @@ use Rattle.exec_base.specs.Host.{seen_from, transfer_refusal, transferred, trans
 use Rattle.chain_state.specs.PartOf.{part_of}
 use Rattle.chain_state.specs.Sends.{IsTaken}
 use Rattle.chain_state.proofs.First.{both_none, moved_back}
-use Rattle.chain_state.proofs.Led.{taken_free, number_is, sent_is}
+use Rattle.chain_state.proofs.Led.{taken_free, taken_spelled, number_is, sent_is}
 use Rattle.chain_ids.specs.declared.chain.ChainId.{ChainId}
 use Rattle.chain_state.proofs.state.ChainState.transfer_at.Goals as goal
 
@@ -41,6 +41,15 @@ post-requires-clause-free c =
     let program = listed_program (λ a. deposit_program a c.args.xcm.now) (seen_from p dest c.args.list.now) in
     ap (λ (x : ChainPart). push_refusal (length c.in-Ok.ready.1.items) (queues.channel_to c.in-Ok.ready.0 x.channels)) c.in_default.ensures.step.2
     ∙ taken_free p dest program c.in-Ok.ready.0 c.in-Ok.ready.1.items c.in-Ok.ensures.ready.0
+
+pub post-requires-clause-spelled : goal.post-requires-clause-spelled
+unfolding transferred
+post-requires-clause-spelled c =
+    let p = part_of c.args.self.now in
+    let dest = c.args.dest.now in
+    let program = listed_program (λ a. deposit_program a c.args.xcm.now) (seen_from p dest c.args.list.now) in
+    ap (λ (x : ChainPart). is_spelled_for (queues.channel_to c.in-Ok.ready.0 x.channels) c.in-Ok.ready.1.items) c.in_default.ensures.step.2
+    ∙ taken_spelled p dest program c.in-Ok.ready.0 c.in-Ok.ready.1.items c.in-Ok.ensures.ready.0
 
 pub returns : goal.returns
 unfolding transferred transferred_out posted

@@ -1,0 +1,6 @@
+pub mod Queries
+pub mod Rows
+pub mod NamedLists
+pub mod Rising
+pub mod Listings
+pub mod CheckingRows

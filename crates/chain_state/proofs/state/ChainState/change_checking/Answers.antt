@@ -1,0 +1,31 @@
+use Rattle.std.proofs.Common.{◌≡◌, length, ap, ◌∙◌, arith}
+use Rattle.std.proofs.lemmas.List.{with_items_is}
+use Rattle.exec_base.specs.Host.{changed_all}
+use Rattle.chain_lists.specs.Checked.{are_checked, change_by}
+use Rattle.chain_state.proofs.Raising.{all_kept_checked}
+use Rattle.chain_state.proofs.state.ChainState.change_checking.Goals as goal
+
+pub invariant_of-self : goal.invariant_of-self
+invariant_of-self c =
+    let f = c.args.self.now in
+    let by = change_by c.args.rises in
+    let list = c.args.list.now in
+    let kept = c.change_all.auto.checking in
+    let value = c.as_mut_slice.ensures.value in
+    let whole = ap length value in
+    let len = f.checking.ok.0 in
+    let long : length c.change_all.new.checking ≡ f.checking.len = omega (arith, kept, whole, len) in
+    record {
+      ledger_lists = f.ledger_lists;
+      book_lists = f.book_lists;
+      paths = f.paths;
+      rates = f.rates;
+      prices = f.prices;
+      fees_listed = f.fees_listed;
+      fee_rows = f.fee_rows;
+      slot_rows = f.slot_rows;
+      spare_lines = f.spare_lines;
+      few_pallets = f.few_pallets;
+      room = f.room;
+      checked = ap (are_checked f.rows.items) (with_items_is f.checking c.change_all.new.checking long ∙ c.change_all.ensures ∙ (λ i. changed_all by list (c.as_slice.ensures.value i) (value i))) ∙ all_kept_checked by list f.rows.items f.checking.items ∙ f.checked;
+    }

@@ -1,0 +1,39 @@
+use Rattle.std.proofs.Common.{refl, ap, ◌∙◌}
+use Rattle.channel_parts.specs.Channels.{with_waiting}
+use Rattle.channel_parts.specs.declared.cargo.Cargo.TheVariants.{Nothing}
+use Rattle.versioned_xcm.specs.Reading.{message_of}
+use Rattle.chain_queues.specs.Decoded.{program_read}
+use Rattle.chain_queues.specs.Queues.{channels_of, leads_to}
+use Rattle.trust_tables.specs.Trust.{listing}
+use Rattle.network_genesis.specs.Tests.{have_prices}
+use Rattle.chain_state.specs.ListedFees.{are_fees_listed}
+use Rattle.chain_state.proofs.Kept.{prices_kept, fees_kept}
+use Rattle.chain_state.proofs.Claiming.{claim_decodes, claim_spelled, claim_free}
+use Rattle.chain_state.proofs.state.ChainState.post_claim.Goals as goal
+
+pub put-requires-clause-message : goal.put-requires-clause-message
+put-requires-clause-message c = claim_decodes _ _ _ c.in-Ok.ensures.taken
+
+pub put-requires-clause-spelled : goal.put-requires-clause-spelled
+put-requires-clause-spelled c = claim_spelled _ _ _ c.in-Ok.ensures.taken
+
+pub put-requires-clause-free : goal.put-requires-clause-free
+put-requires-clause-free c = claim_free _ _ _ c.in-Ok.ensures.taken
+
+pub invariant_of-self : goal.invariant_of-self
+invariant_of-self c =
+    let f = c.args.self.now in
+    record {
+      ledger_lists = f.ledger_lists;
+      book_lists = f.book_lists;
+      paths = f.paths;
+      rates = f.rates;
+      prices = ap have_prices c.put.ensures.queued ∙ prices_kept (leads_to c.args.to) (with_waiting (program_read (message_of c.in-Ok.bytes.items)) Nothing) (λ o. refl) (channels_of f.queues) ∙ f.prices;
+      fees_listed = ap (are_fees_listed (listing f.rows.items)) c.put.ensures.queued ∙ fees_kept (listing f.rows.items) (leads_to c.args.to) (with_waiting (program_read (message_of c.in-Ok.bytes.items)) Nothing) (λ o. refl) (channels_of f.queues) ∙ f.fees_listed;
+      fee_rows = f.fee_rows;
+      slot_rows = f.slot_rows;
+      spare_lines = f.spare_lines;
+      few_pallets = f.few_pallets;
+      room = f.room;
+      checked = f.checked;
+    }

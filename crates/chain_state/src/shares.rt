@@ -1,0 +1,118 @@
+//! What the fee account gets of paid fees, and what would pass 2^128-1 there.
+ghost use Rattle.std.specs.Prelude.{◌≡◌, ◌≤◌, ◌+◌, ◌-◌, ◌^◌, ◌++◌, map, None, IsTrue, IfOk, OnOk};
+ghost use Rattle.amounts.specs.Amounts.{amount, rows};
+ghost use Rattle.asset_lists.specs.Listed.{listed_of, lists};
+ghost use Rattle.asset_bundles.specs.declared.book.Cause.{Cause};
+ghost use Rattle.asset_bundles.specs.Bundles.{rows_of, assets_at};
+ghost use Rattle.trust_tables.specs.Trust.{listing};
+ghost use Rattle.ledgers.specs.Ledgers.{barred};
+ghost use Rattle.weight_trader.specs.Purchases.{paid_goods};
+ghost use Rattle.fee_rows.specs.Fees.{some_row};
+ghost use Rattle.exec_base.specs.Host.{fees_within, fees_above, burned_line};
+ghost use Rattle.chain_state.specs.PartOf.{part_of};
+ghost use Rattle.chain_state.specs.Settling.{wide_value, are_units_listed, asset_at, some_coins};
+
+use crate::ChainState;
+use crate::above::Above;
+use crate::wide::{Wide, parted};
+use asset_bundles::Cause;
+use asset_lists::{Asset, AssetId, Fun, Kind};
+use exec_base::Event;
+use fee_rows::FeeRow;
+use std::alloc::AllocError;
+
+/// Adds so much of a fungible asset to the list, if it isn't 0.
+fn push_coins(list: &mut Vec<Asset>, id: &AssetId, amount: u128) -> Result<(), AllocError>
+    ensures { OnOk result (list.new.items ≡ list.old.items ++ some_coins id.now amount) }
+{
+    if amount == 0 {
+        return Ok(());
+    }
+    list.push(Asset {
+        id: id.copy(),
+        fun: Fun::Fungible(amount),
+    })?;
+    Ok(())
+}
+
+/// Adds so much of a fungible asset to the list, if it isn't 0.
+fn push_above(list: &mut Vec<Above>, id: &AssetId, amount: Wide) -> Result<(), AllocError>
+    ensures { OnOk result (list.new.items ≡ list.old.items ++ some_row (id.now, None) (wide_value amount)) }
+{
+    if amount.is_none() {
+        return Ok(());
+    }
+    list.push(Above::new(id, amount))?;
+    Ok(())
+}
+
+impl ChainState {
+    /// What is paid to the trader in an asset.
+    #[tactic(auto, using(crate::proofs::Settled::no_place))]
+    fn paid_in(&self, id: &AssetId) -> u128
+        ensures { result ≡ amount (paid_goods self.now.trader) (id.now, None) }
+    {
+        match id {
+            AssetId::Concrete(place) => self.trader.paid(place),
+            AssetId::Abstract(_) => 0,
+        }
+    }
+
+    /// What the fee account gets of a row's asset, and what would pass 2^128-1 there.
+    fn share(&self, row: &FeeRow) -> (u128, Wide)
+        requires kept { row.now.1 ≡ amount (part_of self.now).fees row.now.0 }
+        ensures within { result.0 ≡ amount (fees_within (part_of self.now)) row.now.0 }
+        ensures above { wide_value result.1 ≡ amount (fees_above (part_of self.now)) row.now.0 }
+        ensures free { amount (part_of self.now).held ((part_of self.now).fee_account, row.now.0) + result.0 ≤ 2 ^ 128 - 1 }
+    {
+        let id = row.id();
+        let held = self.ledger.amount(&self.fee_account, id);
+        parted(held, self.paid_in(id), row.sum())
+    }
+
+    /// What the fee account gets, and what would pass 2^128-1 there, in holding order.
+    pub(crate) fn shares(&self) -> Result<(Vec<Asset>, Vec<Above>), AllocError>
+        ensures within { IfOk result (λ shares. rows_of shares.0.items ≡ rows (fees_within (part_of self.now))) }
+        ensures free { IfOk result (λ shares. barred (part_of self.now).held (part_of self.now).fee_account shares.0.items ≡ None) }
+        ensures above { IfOk result (λ shares. shares.1.items ≡ rows (fees_above (part_of self.now))) }
+    {
+        let alloc = *self.events.allocator();
+        let mut within = Vec::new(alloc);
+        let mut above = Vec::new(alloc);
+        for row in self.fees.rows() {
+            let (fits, rest) = self.share(row);
+            push_coins(&mut within, row.id(), fits)?;
+            push_above(&mut above, row.id(), rest)?;
+        }
+        Ok((within, above))
+    }
+
+    /// The line of so much of a listed asset that is booked as saturated.
+    fn above_line(&self, above: &Above) -> Event
+        requires listed { IsTrue (lists (listing self.now.rows.items) (listed_of above.now.0)) }
+        ensures { result ≡ burned_line (part_of self.now) (λ unit. Cause.Saturated) (asset_at above.now) }
+    {
+        let asset = Asset {
+            id: above.id().copy(),
+            fun: Fun::Fungible(0),
+        };
+        Event::Burned {
+            kind: Kind::Fungible,
+            path: self.path(&asset),
+            amount: above.total(),
+            cause: Cause::Saturated,
+        }
+    }
+
+    /// The lines of what is booked as saturated.
+    pub(crate) fn above_lines(&self, above: &[Above]) -> Result<Vec<Event>, AllocError>
+        requires listed { IsTrue (are_units_listed (listing self.now.rows.items) above.now) }
+        ensures { IfOk result (λ lines. lines.items ≡ map (burned_line (part_of self.now) (λ unit. Cause.Saturated)) (assets_at above.now)) }
+    {
+        let mut lines = Vec::new(*self.events.allocator());
+        for one in above {
+            lines.push(self.above_line(one))?;
+        }
+        Ok(lines)
+    }
+}
