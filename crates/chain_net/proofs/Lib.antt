@@ -1,0 +1,13 @@
+pub mod Searches
+pub mod Shipments
+pub mod Members
+pub mod Runs
+pub mod Losses
+pub mod Accounts
+pub mod Executions
+pub mod Pairs
+pub mod Passes
+pub mod Deliveries
+pub mod Claims
+pub mod Drains
+pub mod Openings

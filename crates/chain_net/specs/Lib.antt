@@ -1,0 +1,6 @@
+pub mod Order
+pub mod Chains
+pub mod Nets
+pub mod Sound
+pub mod Stops
+pub mod Passing

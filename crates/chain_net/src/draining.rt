@@ -1,0 +1,76 @@
+//! The next channel, and drains.
+ghost use Rattle.std.specs.Prelude.{◌≡◌, ◌≤◌, ◌^◌, ◌-◌, min, false, true, length, None, find, IfOk, OnOk, OnErr};
+ghost use Rattle.std.specs.Option.{option_copied};
+ghost use Rattle.network_spec.specs.declared.network.ChannelSpec.{ChannelSpec};
+ghost use Rattle.network_steps.specs.Sends.{deliveries_left};
+ghost use Rattle.network_steps.specs.Steps as steps;
+ghost use Rattle.network_steps.specs.Steps.{next_channel, drain, world_behind};
+ghost use Rattle.network_genesis.specs.Genesis.{order_of};
+ghost use Rattle.chain_net.specs.Nets.{world_of, spec_of, is_stopped};
+ghost use Rattle.chain_net.specs.Stops.{DrainStops};
+
+use crate::Net;
+use crate::delivering::waits_for;
+use chain_ids::ChainId;
+use network_spec::ChannelSpec;
+use network_steps::law_of_drains;
+use std::alloc::AllocError;
+
+impl Net {
+    /// Whether a message waits on the channel between these chains.
+    fn waits(&self, from: ChainId, to: ChainId) -> bool
+        ensures { result ≡ steps.waits (world_of self.now) (from, to) }
+    {
+        let Some(sender) = self.place(from) else {
+            return false;
+        };
+        let Some(_) = self.place(to) else {
+            return false;
+        };
+        let Some(waits) = waits_for(&self.chains[sender], to) else {
+            return false;
+        };
+        waits
+    }
+
+    /// The first channel of the document on which a message waits.
+    fn first_waiting(&self) -> Option<&ChannelSpec>
+        ensures { option_copied result ≡ find (λ (c : ChannelSpec). steps.waits (world_of self.now) (c.from, c.channel.to)) self.now.spec.channels }
+    {
+        self.spec
+            .channels
+            .items()
+            .iter()
+            .find(|channel| self.waits(channel.from, channel.channel.to))
+    }
+
+    /// The first channel, in the order of the document, on which a message waits.
+    pub fn next_channel(&self) -> Option<(ChainId, ChainId)>
+        ensures { result ≡ next_channel (order_of (spec_of self.now)) (world_of self.now) }
+    {
+        let channel = self.first_waiting()?;
+        Some((channel.from, channel.channel.to))
+    }
+
+    /// Delivers on the next channel until no message waits, and answers the number of deliveries, which saturates at 2^64-1. There are at
+    /// most as many as messages wait and may still be sent. `Err` is out of memory: then the network is stopped.
+    pub fn drain(&mut self) -> Result<u64, AllocError>
+        requires running { is_stopped self.old ≡ false }
+        ensures count { IfOk result (λ count. count ≡ min (length (drain (order_of (spec_of self.old)) (world_of self.old))) (2 ^ 64 - 1)) }
+        ensures few { IfOk result (λ count. count ≤ deliveries_left (world_of self.old)) }
+        ensures world { OnOk result (world_of self.new ≡ world_behind (world_of self.old) (drain (order_of (spec_of self.old)) (world_of self.old))) }
+        ensures drained { OnOk result (next_channel (order_of (spec_of self.new)) (world_of self.new) ≡ None) }
+        ensures running { OnOk result (is_stopped self.new ≡ false) }
+        ensures stopped { OnErr result (is_stopped self.new ≡ true) }
+        ensures stops { OnErr result (DrainStops (order_of (spec_of self.old)) (world_of self.old) (world_of self.new)) }
+        ensures spec { spec_of self.new ≡ spec_of self.old }
+    {
+        law_of_drains(); // For the prover alone.
+        let mut count: u64 = 0;
+        'deliveries: while let Some((from, to)) = self.next_channel() {
+            self.deliver(from, to)?;
+            count = count.saturating_add(1);
+        }
+        Ok(count)
+    }
+}

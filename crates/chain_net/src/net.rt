@@ -1,0 +1,26 @@
+//! What a network keeps.
+ghost use Rattle.std.specs.Prelude.{◌≡◌, IsTrue, length, false};
+ghost use Rattle.chain_net.specs.Order.{are_in_order};
+ghost use Rattle.chain_net.specs.Chains.{names_of};
+ghost use Rattle.chain_net.specs.Sound.{AreBetweenSteps, AreBetweenSteps-prop};
+
+use chain_ids::ChainId;
+use chain_state::ChainState;
+use exec_admission::ChainRules;
+use network_spec::NetworkSpec;
+
+/// A network of chains: what its document says, and each chain's state, in the order of the document, with how it runs programs. The
+/// chains rise: the relay chain, then parachains by their numbers.
+#[derive(Drop)]
+pub struct Net {
+    pub(crate) spec: NetworkSpec,
+    pub(crate) names: Vec<ChainId>,
+    pub(crate) rules: Vec<ChainRules>,
+    pub(crate) chains: Vec<ChainState>,
+    pub(crate) acted: Option<usize>,
+    pub(crate) stopped: bool,
+    ghost order: { IsTrue (are_in_order names.items) },
+    ghost ruled: { length rules.items ≡ length chains.items },
+    ghost named: { names_of chains.items ≡ names.items },
+    ghost between: { stopped ≡ false → AreBetweenSteps chains.items } by { AreBetweenSteps-prop stopped chains.items },
+}
