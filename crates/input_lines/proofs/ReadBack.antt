@@ -1,4 +1,4 @@
--- The text of an execution reads back.
+-- The texts of steps read back.
 use Rattle.std.proofs.Common.{◌≡◌, ◌∙◌, ℕ, suc, ◌<◌, ◌/◌, ◌%◌, List, [], ◌∷◌, ◌++◌, length, get_or, Bool, true, false, ◌||◌, Option, Some, refl, ap, arith, eqb}
 use Rattle.std.proofs.lemmas.Bool.{and_parts, cond-false, ne_eqb}
 use Rattle.std.proofs.lemmas.Bool.Decides.{nat_tests}
@@ -12,12 +12,12 @@ use Rattle.std.specs.Result.{result_ok}
 use Rattle.hex.specs.Hex.{IsBytes, encode_with, encode_lower, lower_digits, hex_digit_value}
 use Rattle.hex.proofs.HexLemmas.{decode_of-encode_lower, decode_pairs-encode_with, length-encode_with, IsDigits-lower_digits}
 use Rattle.hex.proofs.Pairs.{decode_sized-pairs}
-use Rattle.input_lines.specs.Step.{split_word, chain_word, account_word, message_word, exec_words, exec_tail, exec_of, read_line}
-use Rattle.input_lines.specs.Meaning.{ChainFits, exec_line}
+use Rattle.input_lines.specs.Step.{split_word, chain_word, account_word, message_word, exec_words, exec_tail, exec_of, deliver_of, deliver_words, claim_of, claim_tail, claim_words, read_line}
+use Rattle.input_lines.specs.Meaning.{ChainFits, exec_line, deliver_line, claim_line}
 use Rattle.chain_ids.specs.Texts.{chain_text}
 use Rattle.chain_ids.specs.declared.chain.ChainId.{ChainId}
 use Rattle.chain_ids.specs.declared.chain.ChainId.TheVariants.{Relay, Para}
-use Rattle.input_lines.specs.declared.line.Line.TheVariants.{Exec}
+use Rattle.input_lines.specs.declared.line.Line.TheVariants.{Exec, Deliver, Claim}
 use Rattle.input_lines.proofs.FirstWord.{at_space, past_other}
 use Rattle.input_lines.proofs.Decimals.{own, number_is}
 
@@ -101,3 +101,40 @@ read_back chain account message f l a m =
     ∙ ap exec_words first
     ∙ ap (exec_tail (chain_word (chain_text chain))) second
     ∙ all_read _ _ _ chain account message (chain_back chain f) (account_back account l a) (message_back message m)
+
+-- ---- deliveries and claims
+
+behind_deliver : (words : List ℕ) → read_line (codes "deliver " ++ words) ≡ deliver_words (split_word words)
+unfolding read_line
+behind_deliver words =
+    let full : eqb (length (codes "deliver " ++ words)) 0 ≡ false = ne_eqb _ 0 (λ e. omega (arith, e)) in
+    cond-false (eqb (length (codes "deliver " ++ words)) 0 || false) _ _ (ap (λ b. b || false) full)
+
+behind_claim : (words : List ℕ) → read_line (codes "claim " ++ words) ≡ claim_words (split_word words)
+unfolding read_line
+behind_claim words =
+    let full : eqb (length (codes "claim " ++ words)) 0 ≡ false = ne_eqb _ 0 (λ e. omega (arith, e)) in
+    cond-false (eqb (length (codes "claim " ++ words)) 0 || false) _ _ (ap (λ b. b || false) full)
+
+both_read : (from to : Option ChainId) (f t : ChainId) → from ≡ Some f → to ≡ Some t → deliver_of from to ≡ Deliver f t
+both_read from to f t ef et = rw (ef, et) refl
+
+claim_read : (from to : Option ChainId) (message : Option (List ℕ)) (f t : ChainId) (m : List ℕ) → from ≡ Some f → to ≡ Some t → message ≡ Some m
+    → claim_of from to message ≡ Claim f t m
+claim_read from to message f t m ef et em = rw (ef, et, em) refl
+
+pub deliver_back : (from to : ChainId) → ChainFits from → ChainFits to → read_line (deliver_line from to) ≡ Deliver from to
+deliver_back from to ff ft =
+    behind_deliver (chain_text from ++ 32 ∷ chain_text to)
+    ∙ ap deliver_words (split_behind (chain_text from) (chain_text to) (chain_no_space from ff))
+    ∙ both_read _ _ from to (chain_back from ff) (chain_back to ft)
+
+pub claim_back : (from to : ChainId) (message : List ℕ) → ChainFits from → ChainFits to → IsBytes message → read_line (claim_line from to message) ≡ Claim from to message
+claim_back from to message ff ft m =
+    let last = codes "0x" ++ encode_lower message in
+    let first = split_behind (chain_text from) (chain_text to ++ 32 ∷ last) (chain_no_space from ff) in
+    let second = split_behind (chain_text to) last (chain_no_space to ft) in
+    behind_claim (chain_text from ++ 32 ∷ (chain_text to ++ 32 ∷ last))
+    ∙ ap claim_words first
+    ∙ ap (claim_tail (chain_word (chain_text from))) second
+    ∙ claim_read _ _ _ from to message (chain_back from ff) (chain_back to ft) (message_back message m)

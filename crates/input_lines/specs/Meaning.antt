@@ -1,4 +1,4 @@
--- Lines and executions in words: the one cut into lines, and the text of an execution. Source: this project's own rule.
+-- Lines and steps in words: the one cut into lines, and the texts of steps. Source: this project's own rule.
 use Rattle.std.specs.Prelude.{◌≡◌, ◌<◌, ◌^◌, ◌⊎◌, ℕ, List, [], ◌∷◌, ◌++◌, length, codes}
 use Rattle.hex.specs.Hex.{encode_lower}
 use Rattle.input_lines.specs.Lines.{HasNoFeed}
@@ -25,3 +25,11 @@ ChainFits (Para number) = number < 2 ^ 32
 abbrev pub exec_line : ChainId → List ℕ → List ℕ → List ℕ
 exec_line chain account message =
     codes "exec " ++ (chain_text chain ++ (codes " 0x" ++ (encode_lower account ++ (codes " 0x" ++ encode_lower message))))
+
+-- the text of a delivery
+abbrev pub deliver_line : ChainId → ChainId → List ℕ
+deliver_line from to = codes "deliver " ++ (chain_text from ++ (codes " " ++ chain_text to))
+
+-- the text of a claim
+abbrev pub claim_line : ChainId → ChainId → List ℕ → List ℕ
+claim_line from to message = codes "claim " ++ (chain_text from ++ (codes " " ++ (chain_text to ++ (codes " 0x" ++ encode_lower message))))

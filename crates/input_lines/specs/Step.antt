@@ -9,7 +9,7 @@ use Rattle.input_lines.specs.Numbers.{read_number}
 use Rattle.chain_ids.specs.declared.chain.ChainId.{ChainId}
 use Rattle.chain_ids.specs.declared.chain.ChainId.TheVariants.{Relay, Para}
 use Rattle.input_lines.specs.declared.line.Line.{Line}
-use Rattle.input_lines.specs.declared.line.Line.TheVariants.{NoStep, Exec, Refused}
+use Rattle.input_lines.specs.declared.line.Line.TheVariants.{NoStep, Exec, Deliver, Claim, Drain, Balances, Traps, Queues, Supply, Refused}
 
 -- an empty line or a comment
 abbrev pub is_no_step : List ℕ → Bool
@@ -53,11 +53,50 @@ abbrev pub exec_words : Option (List ℕ × List ℕ) → Line
 exec_words None = Refused
 exec_words (Some words) = exec_tail (chain_word words.0) (split_word words.1)
 
+-- both chains have to be in form
+abbrev pub deliver_of : Option ChainId → Option ChainId → Line
+deliver_of (Some from) (Some to) = Deliver from to
+deliver_of (Some from) None = Refused
+deliver_of None to = Refused
+
+-- a chain, and another behind it
+abbrev pub deliver_words : Option (List ℕ × List ℕ) → Line
+deliver_words None = Refused
+deliver_words (Some words) = deliver_of (chain_word words.0) (chain_word words.1)
+
+-- all three words have to be in form
+abbrev pub claim_of : Option ChainId → Option ChainId → Option (List ℕ) → Line
+claim_of (Some from) (Some to) (Some message) = Claim from to message
+claim_of (Some from) (Some to) None = Refused
+claim_of (Some from) None message = Refused
+claim_of None to message = Refused
+
+-- another chain and a message, behind a chain
+abbrev pub claim_tail : Option ChainId → Option (List ℕ × List ℕ) → Line
+claim_tail from None = Refused
+claim_tail from (Some words) = claim_of from (chain_word words.0) (message_word words.1)
+
+-- a chain, and the words behind it
+abbrev pub claim_words : Option (List ℕ × List ℕ) → Line
+claim_words None = Refused
+claim_words (Some words) = claim_tail (chain_word words.0) (split_word words.1)
+
+-- a line of one word
+abbrev pub lone_word : List ℕ → Line
+lone_word text =
+    if bytes_eq text (codes "drain") then Drain
+    else (if bytes_eq text (codes "balances") then Balances
+    else (if bytes_eq text (codes "traps") then Traps
+    else (if bytes_eq text (codes "queues") then Queues
+    else (if bytes_eq text (codes "supply") then Supply else Refused))))
+
 -- what a line asks for
 unfoldable pub read_line : List ℕ → Line
 read_line text =
     if is_no_step text then NoStep
-    else (if starts_with nat_eq text (codes "exec ") then exec_words (split_word (drop 5 text)) else Refused)
+    else (if starts_with nat_eq text (codes "exec ") then exec_words (split_word (drop 5 text))
+    else (if starts_with nat_eq text (codes "deliver ") then deliver_words (split_word (drop 8 text))
+    else (if starts_with nat_eq text (codes "claim ") then claim_words (split_word (drop 6 text)) else lone_word text)))
 
 -- a split as a call answers it
 abbrev pub seen : Option (Bor (List ℕ) × Bor (List ℕ)) → Option (List ℕ × List ℕ)

@@ -1,11 +1,11 @@
 //! What the definitions of lines and steps amount to.
 
-ghost use Rattle.std.specs.Prelude.{◌≡◌, ℕ, List, length};
+ghost use Rattle.std.specs.Prelude.{◌≡◌, ℕ, List, length, codes};
 ghost use Rattle.hex.specs.Hex.{IsBytes};
 ghost use Rattle.std.specs.List.{concat};
 ghost use Rattle.input_lines.specs.Lines.{lines_of};
 ghost use Rattle.input_lines.specs.Step.{read_line};
-ghost use Rattle.input_lines.specs.Meaning.{AreLines, ChainFits, exec_line};
+ghost use Rattle.input_lines.specs.Meaning.{AreLines, ChainFits, exec_line, deliver_line, claim_line};
 ghost use Rattle.chain_ids.specs.declared.chain.ChainId.{ChainId};
 
 use crate::line::Line;
@@ -17,8 +17,17 @@ pub fn law_of_lines()
     ensures only { (lines : List (List ℕ)) → AreLines lines → lines_of (concat lines) ≡ lines }
 {}
 
-/// The text of an execution, in lower-case digits, reads back as that execution.
-pub fn law_of_executions()
-    ensures { (chain : ChainId) (account message : List ℕ) → ChainFits chain → length account ≡ 32 → IsBytes account → IsBytes message
+/// The text of a step, in lower-case digits, reads back as that step.
+#[tactic(auto, unfolding(crate::specs::Step::read_line))]
+pub fn law_of_step_lines()
+    ensures exec { (chain : ChainId) (account message : List ℕ) → ChainFits chain → length account ≡ 32 → IsBytes account → IsBytes message
         → read_line (exec_line chain account message) ≡ Line.Exec chain account message }
+    ensures deliver { (from to : ChainId) → ChainFits from → ChainFits to → read_line (deliver_line from to) ≡ Line.Deliver from to }
+    ensures claim { (from to : ChainId) (message : List ℕ) → ChainFits from → ChainFits to → IsBytes message
+        → read_line (claim_line from to message) ≡ Line.Claim from to message }
+    ensures drain { read_line (codes "drain") ≡ Line.Drain }
+    ensures balances { read_line (codes "balances") ≡ Line.Balances }
+    ensures traps { read_line (codes "traps") ≡ Line.Traps }
+    ensures queues { read_line (codes "queues") ≡ Line.Queues }
+    ensures supply { read_line (codes "supply") ≡ Line.Supply }
 {}

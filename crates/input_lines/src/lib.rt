@@ -7,6 +7,6 @@ mod lines;
 mod number;
 mod words;
 
-pub use laws::{law_of_executions, law_of_lines};
+pub use laws::{law_of_lines, law_of_step_lines};
 pub use line::{Line, read_line};
 pub use lines::{ends_network, line_len, text_of, without_feed};

@@ -1,7 +1,7 @@
 //! What a line after the network asks for.
 
 ghost use Rattle.std.specs.Prelude.{◌≡◌, IfOk};
-ghost use Rattle.input_lines.specs.Step.{read_line, exec_words, split_word};
+ghost use Rattle.input_lines.specs.Step.{read_line, exec_words, deliver_words, claim_words, lone_word, split_word};
 
 use crate::words::{account_word, chain_word, message_word, split_word};
 use chain_ids::ChainId;
@@ -22,6 +22,32 @@ pub enum Line {
         /// The message's bytes. Contracts see them as their list.
         message: Listed<u8>,
     },
+    /// The delivery of the oldest message of a channel.
+    Deliver {
+        /// The chain that sent it.
+        from: ChainId,
+        /// The chain that takes it.
+        to: ChainId,
+    },
+    /// A claim that a chain sends in its own name.
+    Claim {
+        /// The chain that sends it.
+        from: ChainId,
+        /// The chain that it goes to.
+        to: ChainId,
+        /// The message's bytes. Contracts see them as their list.
+        message: Listed<u8>,
+    },
+    /// Deliveries until no message waits.
+    Drain,
+    /// What the accounts hold.
+    Balances,
+    /// What is trapped.
+    Traps,
+    /// What waits in the channels.
+    Queues,
+    /// What the assets sum to.
+    Supply,
     /// No line of the list.
     Refused,
 }
@@ -35,10 +61,80 @@ pub fn read_line(alloc: Global, text: &[u8]) -> Result<Line, AllocError>
     if text.is_empty() || text[0] == b'#' {
         return Ok(Line::NoStep);
     }
-    if !text.starts_with(b"exec ") {
-        return Ok(Line::Refused);
+    if text.starts_with(b"exec ") {
+        return read_exec(alloc, &text[5..]);
     }
-    read_exec(alloc, &text[5..])
+    if text.starts_with(b"deliver ") {
+        return Ok(read_delivery(&text[8..]));
+    }
+    if text.starts_with(b"claim ") {
+        return read_claim(alloc, &text[6..]);
+    }
+    Ok(read_lone_word(text))
+}
+
+/// Reads a line of one word.
+fn read_lone_word(text: &[u8]) -> Line
+    ensures { result ≡ lone_word text.now }
+{
+    if text == b"drain".as_slice() {
+        return Line::Drain;
+    }
+    if text == b"balances".as_slice() {
+        return Line::Balances;
+    }
+    if text == b"traps".as_slice() {
+        return Line::Traps;
+    }
+    if text == b"queues".as_slice() {
+        return Line::Queues;
+    }
+    if text == b"supply".as_slice() {
+        return Line::Supply;
+    }
+    Line::Refused
+}
+
+/// Reads the words of a delivery.
+fn read_delivery(words: &[u8]) -> Line
+    ensures { result ≡ deliver_words (split_word words.now) }
+{
+    let Some((from, to)) = split_word(words) else {
+        return Line::Refused;
+    };
+    let Some(from) = chain_word(from) else {
+        return Line::Refused;
+    };
+    let Some(to) = chain_word(to) else {
+        return Line::Refused;
+    };
+    Line::Deliver { from, to }
+}
+
+/// Reads the words of a claim.
+fn read_claim(alloc: Global, words: &[u8]) -> Result<Line, AllocError>
+    ensures { IfOk result (λ line. line ≡ claim_words (split_word words.now)) }
+{
+    let Some((from, words)) = split_word(words) else {
+        return Ok(Line::Refused);
+    };
+    let Some((to, message)) = split_word(words) else {
+        return Ok(Line::Refused);
+    };
+    let Some(from) = chain_word(from) else {
+        return Ok(Line::Refused);
+    };
+    let Some(to) = chain_word(to) else {
+        return Ok(Line::Refused);
+    };
+    match message_word(alloc, message)? {
+        Some(message) => Ok(Line::Claim {
+            from,
+            to,
+            message: Listed::from_vec(message),
+        }),
+        None => Ok(Line::Refused),
+    }
 }
 
 /// Reads the words of an execution.

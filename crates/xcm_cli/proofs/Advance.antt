@@ -8,7 +8,8 @@ use Rattle.xcm_io.specs.Bytes.{IsFront, IsProperFront}
 use Rattle.input_lines.specs.Lines.{text_of, network_part, later_lines, lines_through, bytes_through, ends_network, has_mark}
 use Rattle.input_lines.specs.Step.{read_line}
 use Rattle.chain_ids.specs.declared.chain.ChainId.{ChainId}
-use Rattle.input_lines.specs.declared.line.Line.TheVariants.{NoStep, Exec, Refused}
+use Rattle.xcm_cli.specs.declared.built.BuiltLine.TheVariants.{NoStep, Exec, Refused}
+use Rattle.xcm_cli.specs.Built.{built}
 use Rattle.plain_network.specs.Document.{network_of}
 use Rattle.plain_network.specs.declared.document.NetworkSpec.{NetworkSpec}
 use Rattle.plain_network.specs.declared.fault.NetworkFault.{NetworkFault}
@@ -125,18 +126,18 @@ advances_as through before after first then due owed old new result eb ea ed a =
 
 -- ---- a line after the network
 
-pub no_step : (done before taken : ℕ) (line : List ℕ) (lines : List (List ℕ)) → fits_limits taken line ≡ true → read_line (text_of line) ≡ NoStep
+pub no_step : (done before taken : ℕ) (line : List ℕ) (lines : List (List ℕ)) → fits_limits taken line ≡ true → built (read_line (text_of line)) ≡ NoStep
     → steps_reply done before taken (line ∷ lines) ≡ steps_reply done (before + 1) (taken + length line) lines
 unfolding steps_reply
 no_step done before taken line lines w e = rw (w, e, steps_reply) refl
 
-pub exec_step : (done before taken : ℕ) (chain : ChainId) (account message line text : List ℕ) (lines : List (List ℕ)) → fits_limits taken line ≡ true → read_line (text_of line) ≡ Exec chain account message
+pub exec_step : (done before taken : ℕ) (chain : ChainId) (account message line text : List ℕ) (lines : List (List ℕ)) → fits_limits taken line ≡ true → built (read_line (text_of line)) ≡ Exec chain account message
     → text ≡ exec_text (done + 1) chain account message
     → steps_reply done before taken (line ∷ lines) ≡ then_on text (steps_reply (done + 1) (before + 1) (taken + length line) lines)
 unfolding steps_reply
 exec_step done before taken chain account message line text lines w e t = rw (t, w, e, steps_reply) refl
 
-pub refused_step : (done before taken : ℕ) (line text : List ℕ) (lines : List (List ℕ)) → fits_limits taken line ≡ true → read_line (text_of line) ≡ Refused → text ≡ line_refused_text (before + 1)
+pub refused_step : (done before taken : ℕ) (line text : List ℕ) (lines : List (List ℕ)) → fits_limits taken line ≡ true → built (read_line (text_of line)) ≡ Refused → text ≡ line_refused_text (before + 1)
     → steps_reply done before taken (line ∷ lines) ≡ ends text LineRefused
 unfolding steps_reply
 refused_step done before taken line text lines w e t = rw (t, w, e, steps_reply) refl

@@ -1,3 +1,4 @@
+pub mod Built
 pub mod Report
 pub mod Session
 pub mod Feeding

@@ -3,7 +3,8 @@ use Rattle.std.specs.Prelude.{ℕ, ◌+◌, ◌&&◌, ◌||◌, nat_le, List, []
 use Rattle.std.specs.declared.alloc.Global.{Global}
 use Rattle.input_lines.specs.Lines.{lines_of, text_of, has_mark, network_part, later_lines, lines_through, bytes_through, without_feed, ends_with}
 use Rattle.input_lines.specs.Step.{read_line}
-use Rattle.input_lines.specs.declared.line.Line.TheVariants.{NoStep, Exec, Refused}
+use Rattle.xcm_cli.specs.declared.built.BuiltLine.TheVariants.{NoStep, Exec, Refused}
+use Rattle.xcm_cli.specs.Built.{built}
 use Rattle.plain_network.specs.Document.{network_of}
 use Rattle.plain_network.specs.Texts.{fault_text}
 use Rattle.plain_network.specs.declared.document.NetworkSpec.{NetworkSpec}
@@ -65,7 +66,7 @@ unfoldable pub steps_reply : ℕ → ℕ → ℕ → List (List ℕ) → Reply
 steps_reply steps before taken [] = ends [] Done
 steps_reply steps before taken (line ∷ lines) =
     if fits_limits taken line
-    then elim (read_line (text_of line)) [
+    then elim (built (read_line (text_of line))) [
       | NoStep ↦ steps_reply steps (before + 1) (taken + length line) lines
       | Exec chain account message ↦ then_on (exec_text (steps + 1) chain account message) (steps_reply (steps + 1) (before + 1) (taken + length line) lines)
       | Refused ↦ ends (line_refused_text (before + 1)) LineRefused

@@ -1,6 +1,7 @@
 //! The run of the program over a source and a sink: the network, the step lines, the report.
 #![tactic(auto)]
 
+mod built;
 mod feeder;
 mod limits;
 mod serving;

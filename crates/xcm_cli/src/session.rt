@@ -7,10 +7,11 @@ ghost use Rattle.plain_network.specs.Document.{network_of};
 ghost use Rattle.xcm_cli.specs.Report.{lines_reply, network_reply, steps_reply, fits_limits, max_input};
 ghost use Rattle.xcm_cli.specs.Session.{Writes, Advances, Finishes, HasWriteCause, IsReady, TakesLines, reply_at};
 
+use crate::built::{BuiltLine, read_built};
 use crate::limits::{MAX_INPUT, MAX_LINE, MAX_NETWORK};
 use crate::status::Status;
 use crate::texts::{OPENING, line_refusal, network_refusal};
-use input_lines::{Line, ends_network, line_len, read_line, text_of, without_feed};
+use input_lines::{ends_network, line_len, text_of, without_feed};
 use plain_network::{NetworkFault, read_network};
 use report_text::exec_block;
 use std::alloc::{AllocError, Global};
@@ -200,10 +201,10 @@ fn take_step<O: Sink>(
     if !fits_limits(taken, line) {
         return Ok(Some(Status::TooLong));
     }
-    match read_line(alloc, text_of(line)) {
-        Ok(Line::NoStep) => Ok(None),
+    match read_built(alloc, text_of(line)) {
+        Ok(BuiltLine::NoStep) => Ok(None),
         Ok(
-            Line::Exec {
+            BuiltLine::Exec {
                 chain,
                 account,
                 message,
@@ -213,7 +214,7 @@ fn take_step<O: Sink>(
             let text = exec_block(alloc, *done, chain, &account, message.items())?;
             Ok(write_text(out, &text, None))
         }
-        Ok(Line::Refused) => {
+        Ok(BuiltLine::Refused) => {
             let text = line_refusal(alloc, before + 1)?;
             Ok(write_text(out, &text, Some(Status::LineRefused)))
         }

@@ -1,0 +1,4 @@
+mod Apart
+mod Draining
+mod Found
+mod Reading

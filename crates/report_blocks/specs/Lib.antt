@@ -1,0 +1,5 @@
+pub mod Asked
+pub mod Titles
+pub mod Reads
+pub mod Blocks
+pub mod Serving

@@ -1,0 +1,15 @@
+//! The blocks of a report: what is written when a network opens, and for each step as it is run.
+#![tactic(auto)]
+
+mod opening;
+mod queues;
+mod reads;
+mod served;
+mod serving;
+mod steps;
+mod title;
+mod titles;
+
+pub use opening::{open_network, opening_text};
+pub use served::Served;
+pub use serving::serve;

@@ -1,0 +1,40 @@
+//! The opening of a network.
+ghost use Rattle.std.specs.Prelude.{◌≡◌, IfOk, MatchResult, string_bytes};
+ghost use Rattle.network_genesis.specs.Genesis.{first_world};
+ghost use Rattle.chain_net.specs.Nets.{world_of, spec_of, is_stopped};
+ghost use Rattle.report_blocks.specs.Blocks as blocks;
+ghost use Rattle.report_blocks.specs.Serving.{IsOpened, IsRefused};
+
+use crate::reads::{coherence_line, supply_block};
+use chain_net::Net;
+use document_forms::NetworkFault;
+use network_config::read_network;
+use network_laws::law_of_valid_networks;
+use std::alloc::{AllocError, Global};
+
+/// Opens the network that the bytes describe, or says what is wrong with them. `Err` is out of memory alone.
+pub fn open_network(alloc: Global, bytes: &[u8]) -> Result<Result<Net, NetworkFault>, AllocError>
+    ensures opened { IfOk result (λ answer. MatchResult answer (IsOpened bytes.now) (IsRefused bytes.now)) }
+{
+    law_of_valid_networks(); // For the prover alone.
+    match read_network(alloc, bytes) {
+        Ok(spec) => match Net::open(alloc, spec) {
+            Ok(net) => Ok(Ok(net)),
+            Err(refused) => Err(refused),
+        },
+        Err(NetworkFault::Memory) => Err(AllocError),
+        Err(fault) => Ok(Err(fault)),
+    }
+}
+
+/// What is written when a network opens: whether it is coherent, and what its assets sum to. `Err` is out of memory alone.
+#[tactic(auto, unfolding(crate::specs::Blocks::opening_text))]
+pub fn opening_text(alloc: Global, net: &Net) -> Result<String, AllocError>
+    requires first { world_of net.now ≡ first_world (spec_of net.now) }
+    ensures text { IfOk result (λ text. string_bytes text ≡ blocks.opening_text (spec_of net.now)) }
+{
+    let mut text = coherence_line(alloc, net)?;
+    let sums = supply_block(alloc, net)?;
+    text.push_str(&sums)?;
+    Ok(text)
+}

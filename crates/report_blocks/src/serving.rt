@@ -1,0 +1,45 @@
+//! Lines of the input, served in a network.
+ghost use Rattle.std.specs.Prelude.{◌≡◌, IfOk, OnOk, false};
+ghost use Rattle.chain_net.specs.Nets.{world_of, spec_of, is_stopped};
+ghost use Rattle.report_blocks.specs.Asked.{asked_of};
+ghost use Rattle.report_blocks.specs.Serving.{IsServed};
+
+use crate::Served;
+use crate::reads::supply_block;
+use crate::steps::step_lines;
+use crate::title::Title;
+use crate::titles::title_of;
+use chain_net::Net;
+use input_lines::Line;
+use std::alloc::{AllocError, Global};
+use step_text::heading;
+
+/// Serves a line of the input: runs the step that it asks for, and gives its block in the report, with the audit behind it where that is
+/// asked for. A line that asks for no step changes nothing. `Err` is out of memory, or a drain of more than 2^64-1 deliveries.
+#[tactic(auto, unfolding(crate::specs::Blocks::step_block))]
+pub fn serve(
+    alloc: Global,
+    net: &mut Net,
+    audit: bool,
+    number: u64,
+    line: &Line,
+) -> Result<Served, AllocError>
+    requires running { is_stopped net.old ≡ false }
+    ensures served { IfOk result (λ served. IsServed audit (spec_of net.old) (world_of net.old) number (asked_of line.now) served (world_of net.new)) }
+    ensures running { OnOk result (is_stopped net.new ≡ false) }
+    ensures spec { spec_of net.new ≡ spec_of net.old }
+{
+    let words = match title_of(line) {
+        Title::Nothing => return Ok(Served::Nothing),
+        Title::Unknown => return Ok(Served::Unknown),
+        Title::Step(words) => words,
+    };
+    let mut text = heading(alloc, number, words)?;
+    let lines = step_lines(alloc, net, line)?;
+    text.push_str(&lines)?;
+    if audit {
+        let sums = supply_block(alloc, net)?;
+        text.push_str(&sums)?;
+    }
+    Ok(Served::Block(text))
+}

@@ -1,0 +1,8 @@
+pub mod AccountLines
+pub mod BalanceRows
+pub mod Balances
+pub mod ChannelLines
+pub mod Checking
+pub mod NamesFit
+pub mod Queued
+pub mod Shown

@@ -1,0 +1,5 @@
+pub mod Names
+pub mod Texts
+pub mod Steps
+pub mod Lines
+pub mod Blocks

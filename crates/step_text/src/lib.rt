@@ -1,0 +1,21 @@
+//! The texts of steps and blocks in a report.
+#![tactic(auto)]
+
+mod assets;
+mod blocks;
+mod headings;
+mod laws;
+mod lines;
+mod names;
+mod opening;
+mod steps;
+mod sums;
+mod words;
+
+pub use blocks::{balances_text, checking_text, queue_text, traps_text};
+pub use headings::{StepWords, heading};
+pub use laws::{law_of_names, law_of_queued};
+pub use lines::{backing_line, balance_line, checking_line, queue_line, supply_line, trap_line};
+pub use opening::{line_refused_line, network_refused_line, opening_line};
+pub use steps::{drained_line, step_text};
+pub use sums::{Backing, Supply};

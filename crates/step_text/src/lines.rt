@@ -1,0 +1,122 @@
+//! The lines of blocks.
+
+ghost use Rattle.std.specs.Prelude.{◌≡◌, IfOk, string_bytes};
+ghost use Rattle.step_text.specs.Lines.{balance_line, checking_line, trap_line, queue_line, supply_line, backing_line};
+
+use crate::assets::{asset_text, assets_text, hex_text};
+use crate::words::{Shown, kind_name};
+use crate::{Backing, Supply};
+use asset_lists::{Asset, Kind};
+use chain_ids::ChainId;
+use location_wire::{location_text, path_text};
+use locations::{Junctions, Location};
+use std::alloc::{AllocError, Global};
+use std::fmt::Write;
+
+/// The line of what an account holds of an asset.
+pub fn balance_line(
+    alloc: Global,
+    chain: ChainId,
+    account: &[u8; 32],
+    asset: &Asset,
+) -> Result<String, AllocError>
+    ensures { IfOk result (λ text. string_bytes text ≡ balance_line chain account.now asset.now) }
+{
+    let account = hex_text(alloc, account.as_slice())?;
+    let asset = asset_text(alloc, asset)?;
+    let mut text = String::new(alloc);
+    write!(text, "  balance {chain} {account} {asset}\n")?;
+    Ok(text)
+}
+
+/// The line of the checking account of an asset that a chain lists under this id; the amount is in the asset's smallest unit.
+pub fn checking_line(
+    alloc: Global,
+    chain: ChainId,
+    id: &Location,
+    amount: u128,
+) -> Result<String, AllocError>
+    ensures { IfOk result (λ text. string_bytes text ≡ checking_line chain id.now amount) }
+{
+    let id = location_text(alloc, id)?;
+    let mut text = String::new(alloc);
+    write!(text, "  checking {chain} {id} {amount}\n")?;
+    Ok(text)
+}
+
+/// The line of a trap: its number, who may claim it, and what it has.
+pub fn trap_line(
+    alloc: Global,
+    chain: ChainId,
+    number: u64,
+    origin: &Location,
+    assets: &[Asset],
+) -> Result<String, AllocError>
+    ensures { IfOk result (λ text. string_bytes text ≡ trap_line chain number origin.now assets.now) }
+{
+    let origin = location_text(alloc, origin)?;
+    let assets = assets_text(alloc, assets)?;
+    let mut text = String::new(alloc);
+    write!(text, "  trap {chain} {number} {origin}: {assets}\n")?;
+    Ok(text)
+}
+
+/// The line of a message that waits: its channel, its number there, and its bytes.
+pub fn queue_line(
+    alloc: Global,
+    from: ChainId,
+    to: ChainId,
+    number: u64,
+    bytes: &[u8],
+) -> Result<String, AllocError>
+    ensures { IfOk result (λ text. string_bytes text ≡ queue_line from to number bytes.now) }
+{
+    let digits = hex_text(alloc, bytes)?;
+    let mut text = String::new(alloc);
+    write!(text, "  queue {from} {to} {number} {digits}\n")?;
+    Ok(text)
+}
+
+/// The line of where an asset is.
+pub fn supply_line(
+    alloc: Global,
+    kind: Kind,
+    path: &Junctions,
+    supply: &Supply,
+) -> Result<String, AllocError>
+    ensures { IfOk result (λ text. string_bytes text ≡ supply_line kind path.now supply.now) }
+{
+    let kind = kind_name(kind);
+    let path = path_text(alloc, path)?;
+    let home = Shown(supply.home);
+    let flight = Shown(supply.flight);
+    let burned = Shown(supply.burned);
+    let mut text = String::new(alloc);
+    write!(
+        text,
+        "  supply {kind} {path} home {home} flight {flight} burned {burned}\n"
+    )?;
+    Ok(text)
+}
+
+/// The line of what backs a chain's derivative.
+pub fn backing_line(
+    alloc: Global,
+    chain: ChainId,
+    kind: Kind,
+    path: &Junctions,
+    backing: &Backing,
+) -> Result<String, AllocError>
+    ensures { IfOk result (λ text. string_bytes text ≡ backing_line chain kind path.now backing.now) }
+{
+    let kind = kind_name(kind);
+    let path = path_text(alloc, path)?;
+    let held = Shown(backing.held);
+    let owed = Shown(backing.owed);
+    let mut text = String::new(alloc);
+    write!(
+        text,
+        "  backing {chain} {kind} {path} held {held} owed {owed}\n"
+    )?;
+    Ok(text)
+}

@@ -1,0 +1,59 @@
+//! The words of a report: kinds, causes, totals.
+
+ghost use Rattle.std.specs.Prelude.{◌≡◌, Some};
+ghost use Rattle.step_text.specs.Texts.{kind_name, cause_name, part_letter, total_text};
+
+use asset_bundles::{Cause, Total};
+use asset_lists::Kind;
+use exec_base::Part;
+use std::fmt;
+
+/// The name of a kind.
+pub(crate) fn kind_name(kind: Kind) -> &'static str
+    ensures { result.now ≡ kind_name kind }
+{
+    match kind {
+        Kind::Fungible => "fungible",
+        Kind::Class => "class",
+    }
+}
+
+/// The name of the cause of a burn.
+pub(crate) fn cause_name(cause: Cause) -> &'static str
+    ensures { result.now ≡ cause_name cause }
+{
+    match cause {
+        Cause::BurnAsset => "BurnAsset",
+        Cause::LostTeleport => "LostTeleport",
+        Cause::Merged => "Merged",
+        Cause::Saturated => "Saturated",
+    }
+}
+
+/// The letter of a program of a run.
+pub(crate) fn part_letter(part: Part) -> &'static str
+    ensures { result.now ≡ part_letter part }
+{
+    match part {
+        Part::Program => "p",
+        Part::Handler => "h",
+        Part::Appendix => "a",
+    }
+}
+
+/// A total as a report shows it: in decimal, or `over` where it passes 2^128-1.
+#[derive(Clone, Copy)]
+pub(crate) struct Shown(pub(crate) Total);
+
+impl fmt::Display for Shown {
+    ghost output = { λ shown. Some (total_text shown.0) };
+
+    fn fmt<W: fmt::Write>(&self, f: &mut fmt::Formatter<W>) -> fmt::Result {
+        let Total { high, low } = self.0;
+        if high == 0 {
+            write!(f, "{low}")
+        } else {
+            write!(f, "over")
+        }
+    }
+}

@@ -1,0 +1,6 @@
+pub mod Totals
+pub mod Putting
+pub mod Pieces
+pub mod Lines
+pub mod Order
+pub mod Homes

@@ -1,0 +1,4 @@
+pub mod Natives
+pub mod Sums
+pub mod Block
+pub mod Listed

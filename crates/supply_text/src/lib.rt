@@ -1,0 +1,13 @@
+//! The supply block of a report.
+#![tactic(auto)]
+
+mod backings;
+mod block;
+mod laws;
+mod native_asset;
+mod natives;
+mod paths;
+mod supplies;
+
+pub use block::supply_block;
+pub use laws::law_of_natives;
