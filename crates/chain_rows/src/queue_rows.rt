@@ -9,6 +9,9 @@ use versioned_xcm::decode_message;
 /// The message of ClearOrigin alone, in version 4.
 const CLEARS: [u8; 3] = [4, 4, 10];
 
+/// The message of ClearOrigin alone, in version 3.
+const CLEARS_IN_3: [u8; 3] = [3, 4, 10];
+
 /// The message of ClearOrigin twice.
 const CLEARS_TWICE: [u8; 4] = [4, 8, 10, 10];
 
@@ -38,7 +41,7 @@ fn channel(to: ChainId, capacity: u32, max_size: u32) -> Channel {
     }
 }
 
-/// Pushes a message, which must decode.
+/// Pushes a message, which must decode and be of the channel's version.
 fn pushed(
     alloc: Global,
     queues: &mut Queues,
@@ -47,6 +50,9 @@ fn pushed(
 ) -> Result<Answer, AllocError> {
     let message = Vec::from_slice(alloc, bytes)?;
     if decode_message(alloc, message.as_slice()).is_err() {
+        return Ok(Answer::Nothing);
+    }
+    if !queues.is_spelled_for(to, message.as_slice()) {
         return Ok(Answer::Nothing);
     }
     match queues.push(to, message, Cargo::Nothing) {
@@ -113,6 +119,8 @@ fn channels_stand_in_listed_order(rt: HostRuntime) -> Result<(), Fail> {
         Answer::Number(1)
     );
     assert_eq!(rt; queues.check(near, 3), Ok(()));
+    assert!(rt; !queues.is_spelled_for(near, &CLEARS_IN_3));
+    assert!(rt; queues.is_spelled_for(ChainId::Para(1), &CLEARS_IN_3));
     assert_eq!(rt; queues.check(near, 4), Err(PushFault::TooLarge));
     for (queue, (to, next, waiting)) in queues
         .channels()

@@ -1,1 +1,4 @@
 pub mod Handled
+pub mod Listed
+pub mod Reports
+pub mod Opened

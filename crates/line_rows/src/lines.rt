@@ -2,7 +2,7 @@
 
 use chain_ids::ChainId;
 use input_lines::{
-    Line, ends_network, law_of_executions, law_of_lines, line_len, read_line, text_of, without_feed,
+    Line, ends_network, law_of_lines, law_of_step_lines, line_len, read_line, text_of, without_feed,
 };
 use std::test::Fail;
 
@@ -56,7 +56,19 @@ const NO_ACCOUNTS: [&str; 7] = [
 ];
 
 /// Whole lines, and whether they ask for nothing: the others are refused.
-const OTHER_LINES: [(&str, bool); 14] = [
+const OTHER_LINES: [(&str, bool); 26] = [
+    ("Drain", false),
+    ("drain ", false),
+    (" drain", false),
+    ("drain\r", false),
+    ("drains", false),
+    ("balances relay", false),
+    ("deliver relay", false),
+    ("deliver relay 2000 ", false),
+    ("deliver relay 02000", false),
+    ("claim relay 2000", false),
+    ("claim relay 2000 ", false),
+    ("claim relay  2000 04", false),
     ("", true),
     ("#", true),
     ("# exec relay", true),
@@ -141,9 +153,50 @@ fn other_lines_ask_for_nothing_or_are_refused(rt: HostRuntime) -> Result<(), Fai
         match read_line(rt.alloc(), text.as_bytes())? {
             Line::NoStep => assert!(rt; empty, "of {text}"),
             Line::Refused => assert!(rt; !empty, "of {text}"),
-            Line::Exec { .. } => assert!(rt; false, "of {text}"),
+            _ => assert!(rt; false, "of {text}"),
         }
     }
+    Ok(())
+}
+
+#[test]
+fn deliveries_name_two_chains(rt: HostRuntime) -> Result<(), Fail> {
+    for (word, want) in CHAINS {
+        let line = format!(in rt.alloc(); "deliver relay {word}")?;
+        match read_line(rt.alloc(), line.as_bytes())? {
+            Line::Deliver { from, to } => {
+                assert_eq!(rt; from, ChainId::Relay);
+                assert_eq!(rt; Some(to), want, "of {word}");
+            }
+            _ => assert_eq!(rt; None, want, "of {word}"),
+        }
+    }
+    Ok(())
+}
+
+#[test]
+fn claims_name_two_chains_and_a_message(rt: HostRuntime) -> Result<(), Fail> {
+    for (word, want) in MESSAGES {
+        let line = format!(in rt.alloc(); "claim 2000 relay {word}")?;
+        match read_line(rt.alloc(), line.as_bytes())? {
+            Line::Claim { from, to, message } => {
+                assert_eq!(rt; (from, to), (ChainId::Para(2000), ChainId::Relay));
+                assert_eq!(rt; Some(message.items()), want, "of {word}");
+            }
+            _ => assert!(rt; want.is_none(), "of {word}"),
+        }
+    }
+    Ok(())
+}
+
+#[test]
+fn other_steps_are_one_word(rt: HostRuntime) -> Result<(), Fail> {
+    let alloc = rt.alloc();
+    assert!(rt; matches!(&read_line(alloc, b"drain")?, Line::Drain));
+    assert!(rt; matches!(&read_line(alloc, b"balances")?, Line::Balances));
+    assert!(rt; matches!(&read_line(alloc, b"traps")?, Line::Traps));
+    assert!(rt; matches!(&read_line(alloc, b"queues")?, Line::Queues));
+    assert!(rt; matches!(&read_line(alloc, b"supply")?, Line::Supply));
     Ok(())
 }
 
@@ -182,5 +235,5 @@ fn the_first_line_ends_with_the_first_feed(rt: HostRuntime) {
         assert_eq!(rt; line_len(bytes.as_bytes()), len, "of {bytes}");
     }
     law_of_lines();
-    law_of_executions();
+    law_of_step_lines();
 }
