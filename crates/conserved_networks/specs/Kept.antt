@@ -1,6 +1,8 @@
 -- What is promised of a network document: where it can be opened and no cause is found, every world keeps every asset and every backing.
 use Rattle.std.specs.Prelude.{◌≡◌, List, None}
-use Rattle.network_steps.specs.Steps.{Step}
+use Rattle.std.specs.List.{AllByRecursion}
+use Rattle.message_shapes.specs.Shapes.{AllShaped}
+use Rattle.network_steps.specs.Steps.{Step, worlds}
 use Rattle.network_spec.specs.declared.network.NetworkSpec.{NetworkSpec}
 use Rattle.network_genesis.specs.Genesis.{first_world, order_of, entries_of}
 use Rattle.network_genesis.specs.Openable.{IsOpenable}
@@ -15,3 +17,7 @@ pub record IsCoherent (spec : NetworkSpec) : Type 0 where
 -- whatever the steps, every world from the first on
 abbrev pub NetworkKept : NetworkSpec → List Step → Type 0
 NetworkKept spec steps = AllKept (order_of spec) (first_world spec) steps
+
+-- whatever the steps, in every world from the first on each message that waits has one of the five shapes
+abbrev pub NetworkShaped : NetworkSpec → List Step → Type 0
+NetworkShaped spec steps = AllByRecursion AllShaped (worlds (order_of spec) (first_world spec) steps)

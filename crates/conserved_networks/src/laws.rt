@@ -4,7 +4,7 @@ ghost use Rattle.network_spec.specs.declared.network.NetworkSpec.{NetworkSpec};
 ghost use Rattle.network_genesis.specs.Genesis.{first_world};
 ghost use Rattle.network_steps.specs.Steps.{Step};
 ghost use Rattle.conserved_steps.specs.Worlds.{IsFirst};
-ghost use Rattle.conserved_networks.specs.Kept.{IsCoherent, NetworkKept};
+ghost use Rattle.conserved_networks.specs.Kept.{IsCoherent, NetworkKept, NetworkShaped};
 
 use conserved_steps::law_of_conserved_worlds;
 use message_shapes::law_of_shapes;
@@ -17,4 +17,11 @@ pub fn law_of_conserved_networks()
 {
     law_of_shapes();
     law_of_conserved_worlds();
+}
+
+/// In every network, coherent or not, each message that waits has one of the five shapes, whatever the steps.
+pub fn law_of_shaped_networks()
+    ensures { (spec : NetworkSpec) (steps : List Step) → NetworkShaped spec steps }
+{
+    law_of_shapes();
 }

@@ -3,4 +3,4 @@
 
 mod laws;
 
-pub use laws::law_of_conserved_networks;
+pub use laws::{law_of_conserved_networks, law_of_shaped_networks};
