@@ -1,0 +1,93 @@
+-- The generator: a list of steps that is drawn from a number, run in a fixed network, and what came of it. This project's own rule.
+--
+--   document     the text that describes the network
+--   answers      what the steps answer, one behind another, from a world on
+--   last_world   the world behind the steps
+--   summary      the report of a run in a network
+--   generated    the report of a run in the network of the document
+use Rattle.std.specs.Prelude.{ℕ, ◌+◌, List, [], ◌∷◌, ◌++◌, Result, Ok, Err, codes, decimal, count_by}
+use Rattle.document_forms.specs.declared.fault.NetworkFault.{NetworkFault}
+use Rattle.network_spec.specs.declared.network.NetworkSpec.{NetworkSpec}
+use Rattle.network_config.specs.Network.{network_of}
+use Rattle.network_genesis.specs.Genesis.{order_of, first_world}
+use Rattle.network_steps.specs.declared.step_result.StepResult.{StepResult}
+use Rattle.network_steps.specs.Worlds.{World}
+use Rattle.network_steps.specs.Steps.{Step, Exec, Deliver, Claim, Drain, Balances, Traps, Queues, Supply, Link, exec, deliver, claim, after}
+use Rattle.report_blocks.specs.Reads.{supply_block}
+use Rattle.generator.specs.declared.counts.Counts.{Counts}
+use Rattle.generator.specs.Turns.{steps_from}
+use Rattle.generator.specs.Results.{is_complete, is_incomplete, is_error, is_empty}
+
+-- a relay chain with a native asset, two parachains with a derivative of it, and channels down and up
+abbrev pub document : List ℕ
+document =
+    codes "{\"chains\":[\n"
+    ++ codes "{\"assets\":[{\"id\":\"0\",\"native\":[]}],\n"
+    ++ codes " \"rates\":[{\"asset\":\"0\",\"per_second\":\"1000000000\",\"per_mb\":\"0\"}],\n"
+    ++ codes " \"accounts\":[{\"who\":\"0x0101010101010101010101010101010101010101010101010101010101010101\",\"asset\":\"0\",\"amount\":\"1000000\"}]},\n"
+    ++ codes "{\"para\":2000,\"assets\":[{\"id\":\"1\",\"reserve\":\"relay\"}],\n"
+    ++ codes " \"rates\":[{\"asset\":\"1\",\"per_second\":\"1000000000\",\"per_mb\":\"0\"}]},\n"
+    ++ codes "{\"para\":2001,\"assets\":[{\"id\":\"1\",\"reserve\":\"relay\"}],\n"
+    ++ codes " \"rates\":[{\"asset\":\"1\",\"per_second\":\"1000000000\",\"per_mb\":\"0\"}]}],\n"
+    ++ codes "\"channels\":[{\"from\":\"relay\",\"to\":2000},{\"from\":2000,\"to\":\"relay\"},\n"
+    ++ codes "{\"from\":\"relay\",\"to\":2001},{\"from\":2001,\"to\":\"relay\"}]}\n"
+
+-- what a step answers; a drain and the steps that only report have no answer of their own, and none of them is drawn
+abbrev pub answer_to_step : World → Step → StepResult
+answer_to_step w (Exec chain account bytes) = (exec w chain account bytes).answer
+answer_to_step w (Deliver from to) = (deliver w from to).answer
+answer_to_step w (Claim from to bytes) = (claim w from to bytes).answer
+answer_to_step w Drain = StepResult.Empty
+answer_to_step w Balances = StepResult.Empty
+answer_to_step w Traps = StepResult.Empty
+answer_to_step w Queues = StepResult.Empty
+answer_to_step w Supply = StepResult.Empty
+
+-- what the steps answer, one behind another, each in the world behind the one before it
+abbrev pub answers : List Link → World → List Step → List StepResult
+answers order w [] = []
+answers order w (step ∷ steps) = answer_to_step w step ∷ answers order (after order w step) steps
+
+-- the world behind the steps
+abbrev pub last_world : List Link → World → List Step → World
+last_world order w [] = w
+last_world order w (step ∷ steps) = last_world order (after order w step) steps
+
+-- what was asked for
+abbrev pub asked_line : ℕ → ℕ → List ℕ
+asked_line number steps = codes "gen " ++ (decimal number ++ (codes " " ++ (decimal steps ++ codes "\n")))
+
+-- how many of the answers are of each kind
+abbrev pub counts_of : List StepResult → Counts
+counts_of given = record {
+  complete = count_by is_complete given;
+  incomplete = count_by is_incomplete given;
+  error = count_by is_error given;
+  empty = count_by is_empty given;
+}
+
+-- how many there are in all
+abbrev pub all_steps : Counts → ℕ
+all_steps c = c.complete + c.incomplete + c.error + c.empty
+
+-- the counts, as the report has them
+abbrev pub counts_line : Counts → List ℕ
+counts_line c =
+    codes "complete " ++ (decimal c.complete ++ (codes " incomplete " ++ (decimal c.incomplete
+    ++ (codes " error " ++ (decimal c.error ++ (codes " empty " ++ (decimal c.empty ++ codes "\n")))))))
+
+-- of so many steps, drawn behind the number: how many ended in which way, and what the network then has of each asset
+unfoldable pub summary : NetworkSpec → ℕ → ℕ → List ℕ
+summary spec number steps =
+    asked_line number steps
+    ++ (counts_line (counts_of (answers (order_of spec) (first_world spec) (steps_from steps number)))
+    ++ supply_block (last_world (order_of spec) (first_world spec) (steps_from steps number)))
+
+-- the summary where there is a network
+abbrev pub summary_of : Result NetworkSpec NetworkFault → ℕ → ℕ → Result (List ℕ) NetworkFault
+summary_of (Ok spec) number steps = Ok (summary spec number steps)
+summary_of (Err fault) number steps = Err fault
+
+-- the report of the run in the network of the document, or, if there were one, the document's fault
+unfoldable pub generated : ℕ → ℕ → Result (List ℕ) NetworkFault
+generated number steps = summary_of (network_of document) number steps

@@ -1,0 +1,5 @@
+pub mod Draws
+pub mod Messages
+pub mod Turns
+pub mod Results
+pub mod Generated

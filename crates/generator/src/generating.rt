@@ -1,0 +1,73 @@
+//! The whole run, and its report.
+ghost use Rattle.std.specs.Prelude.{◌≡◌, ◌++◌, false, Ok, Err, IfOk, MatchResult, string_bytes};
+ghost use Rattle.network_genesis.specs.Genesis.{first_world};
+ghost use Rattle.chain_net.specs.Nets.{world_of, spec_of, is_stopped};
+ghost use Rattle.report_blocks.specs.Reads as reads;
+ghost use Rattle.generator.specs.Generated as generated;
+ghost use Rattle.generator.specs.Generated.{asked_line, counts_line, generated};
+
+use crate::counts::Counts;
+use crate::document::document_bytes;
+use crate::running::run_steps;
+use chain_net::Net;
+use document_forms::NetworkFault;
+use report_blocks::open_network;
+use std::alloc::{AllocError, Global};
+
+/// What was asked for.
+fn asked_line(alloc: Global, number: u64, steps: u64) -> Result<String, AllocError>
+    ensures { IfOk result (λ text. string_bytes text ≡ asked_line number steps) }
+{
+    format!(in alloc; "gen {number} {steps}\n")
+}
+
+/// How many steps ended in which way.
+fn counts_line(alloc: Global, counts: &Counts) -> Result<String, AllocError>
+    ensures { IfOk result (λ text. string_bytes text ≡ counts_line counts.now) }
+{
+    let complete = counts.complete;
+    let incomplete = counts.incomplete;
+    let error = counts.error;
+    let empty = counts.empty;
+    format!(in alloc; "complete {complete} incomplete {incomplete} error {error} empty {empty}\n")
+}
+
+/// What the network has of each asset that is native somewhere, and what backs each derivative.
+fn supply_block(alloc: Global, net: &Net) -> Result<String, AllocError>
+    ensures { IfOk result (λ text. string_bytes text ≡ reads.supply_block (world_of net.now)) }
+{
+    supply_text::supply_block(alloc, net.chains())
+}
+
+/// Draws steps and runs them in a network in which nothing has happened yet, and reports what came of them.
+#[tactic(auto, unfolding(crate::specs::Generated::summary))]
+fn summary(alloc: Global, net: &mut Net, number: u64, steps: u64) -> Result<String, AllocError>
+    requires running { is_stopped net.old ≡ false }
+    requires first { world_of net.old ≡ first_world (spec_of net.old) }
+    ensures { IfOk result (λ text. string_bytes text ≡ generated.summary (spec_of net.old) number steps) }
+{
+    let counts = run_steps(alloc, net, number, steps)?;
+    let mut text = asked_line(alloc, number, steps)?;
+    let ends = counts_line(alloc, &counts)?;
+    text.push_str(&ends)?;
+    let sums = supply_block(alloc, net)?;
+    text.push_str(&sums)?;
+    Ok(text)
+}
+
+/// Draws so many steps behind the number, runs them in the generator's network, and reports how many of them ended in which way, and what the
+/// network then has of each asset. It reads nothing else. A fault would be that of the generator's own document. `Err` is out of memory
+/// alone.
+#[tactic(auto, unfolding(crate::specs::Generated::generated))]
+pub fn generate(
+    alloc: Global,
+    number: u64,
+    steps: u64,
+) -> Result<Result<String, NetworkFault>, AllocError>
+    ensures report { IfOk result (λ answer. MatchResult answer (λ text. generated number steps ≡ Ok (string_bytes text)) (λ fault. generated number steps ≡ Err fault)) }
+{
+    match open_network(alloc, document_bytes())? {
+        Ok(mut net) => Ok(Ok(summary(alloc, &mut net, number, steps)?)),
+        Err(fault) => Ok(Err(fault)),
+    }
+}

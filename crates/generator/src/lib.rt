@@ -1,0 +1,15 @@
+//! A list of steps that is drawn from a number, run in a fixed network, and what came of it.
+#![tactic(auto)]
+
+mod counts;
+mod document;
+mod draws;
+mod generating;
+mod laws;
+mod messages;
+mod running;
+mod turns;
+
+pub use document_forms::NetworkFault;
+pub use generating::generate;
+pub use laws::law_of_counts;
