@@ -10,8 +10,10 @@ use Rattle.std.proofs.KnownBytes.{Appends-nil, Appends-trans}
 use Rattle.xcm_io.specs.Bytes.{IsFront, IsProperFront}
 use Rattle.input_lines.specs.Lines.{lines_of, HasNoFeed, onto, ends_network, text_of, without_feed, without_last, ends_with}
 use Rattle.input_lines.specs.Laws.{past_other, no_lines}
-use Rattle.xcm_cli.specs.declared.session.Session.{Session}
-use Rattle.xcm_cli.specs.declared.session.Phase.TheVariants.{Network, Steps}
+use Rattle.xcm_cli.specs.declared.phase.Session.{Session}
+use Rattle.xcm_cli.specs.declared.phase.Phase.TheVariants.{Network, Steps}
+use Rattle.chain_net.specs.declared.net.Net.{Net}
+use Rattle.chain_net.specs.Nets.{world_of, spec_of}
 use Rattle.xcm_cli.specs.declared.feeder.Feeder.{Feeder}
 use Rattle.xcm_cli.specs.declared.status.Status.{Status}
 use Rattle.xcm_cli.specs.declared.status.Status.TheVariants.{Done, WriteFault, ReadFault, TooLong}
@@ -176,22 +178,22 @@ kept_length : (bytes tail : List ℕ) → 0 < length bytes → HasNoFeed bytes �
 kept_length bytes [] l n = rw (append-nil, no_feed_end bytes l n) (omega arith)
 kept_length bytes (t ∷ ts) l n = omega (arith, cut_length (ends_with 10 (bytes ++ t ∷ ts)) (bytes ++ t ∷ ts), length-append bytes (t ∷ ts))
 
-pub over_total : (f : Feeder) (done : ℕ) (at_end : Bool) (more : List ℕ) → HasNoFeed f.pending.items → 0 < length f.pending.items → f.session.phase ≡ Steps done → max_input < f.session.taken + length f.pending.items
+pub over_total : (f : Feeder) (net : Net) (done : ℕ) (at_end : Bool) (more : List ℕ) → HasNoFeed f.pending.items → 0 < length f.pending.items → f.session.phase ≡ Steps net done → max_input < f.session.taken + length f.pending.items
     → reply_at f.session at_end (lines_of (f.pending.items ++ more)) ≡ ends [] TooLong
-over_total f done at_end more n some e l =
+over_total f net done at_end more n some e l =
     let h = begins f.pending.items more some n in
     let size : max_input < f.session.taken + length (f.pending.items ++ h.0) = omega (arith, length-append f.pending.items h.0) in
     let past : fits_limits f.session.taken (f.pending.items ++ h.0) ≡ false = second_false _ (nat_le (f.session.taken + length (f.pending.items ++ h.0)) max_input) (grind (arith, nat_tests)) in
-    ap (reply_at f.session at_end) h.1.1 ∙ at_steps f.session done at_end _ e ∙ long_step done f.session.lines f.session.taken (f.pending.items ++ h.0) h.1.0 past
+    ap (reply_at f.session at_end) h.1.1 ∙ at_steps f.session net done at_end _ e ∙ long_step f.session.audit (spec_of net) (world_of net) done f.session.lines f.session.taken (f.pending.items ++ h.0) h.1.0 past
 
-pub over_line : (f : Feeder) (done : ℕ) (at_end : Bool) (more : List ℕ) → HasNoFeed f.pending.items → f.session.phase ≡ Steps done → max_line < length f.pending.items
+pub over_line : (f : Feeder) (net : Net) (done : ℕ) (at_end : Bool) (more : List ℕ) → HasNoFeed f.pending.items → f.session.phase ≡ Steps net done → max_line < length f.pending.items
     → reply_at f.session at_end (lines_of (f.pending.items ++ more)) ≡ ends [] TooLong
-over_line f done at_end more n e l =
+over_line f net done at_end more n e l =
     let some : 0 < length f.pending.items = omega arith in
     let h = begins f.pending.items more some n in
     let kept : length f.pending.items ≤ length (without_feed (f.pending.items ++ h.0)) = kept_length f.pending.items h.0 some n in
     let past : fits_limits f.session.taken (f.pending.items ++ h.0) ≡ false = first_false (nat_le (length (without_feed (f.pending.items ++ h.0))) max_line) _ (grind (arith, nat_tests)) in
-    ap (reply_at f.session at_end) h.1.1 ∙ at_steps f.session done at_end _ e ∙ long_step done f.session.lines f.session.taken (f.pending.items ++ h.0) h.1.0 past
+    ap (reply_at f.session at_end) h.1.1 ∙ at_steps f.session net done at_end _ e ∙ long_step f.session.audit (spec_of net) (world_of net) done f.session.lines f.session.taken (f.pending.items ++ h.0) h.1.0 past
 
 -- ---- a line that begins so can't end the network part
 

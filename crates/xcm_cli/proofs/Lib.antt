@@ -2,3 +2,4 @@ pub mod Advance
 pub mod Flowing
 pub mod Streams
 pub mod Headline
+pub mod Numbers

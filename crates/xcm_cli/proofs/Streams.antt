@@ -11,7 +11,7 @@ use Rattle.std.specs.List.{concat}
 use Rattle.input_lines.specs.Lines.{lines_of, ends_with, HasNoFeed}
 use Rattle.std.proofs.lemmas.List.Folds.{concat-append}
 use Rattle.input_lines.specs.Laws.{no_lines, only_line, concat-lines_of}
-use Rattle.xcm_cli.specs.declared.session.Session.{Session}
+use Rattle.xcm_cli.specs.declared.phase.Session.{Session}
 use Rattle.xcm_cli.specs.declared.status.Status.{Status}
 use Rattle.xcm_cli.specs.declared.status.Status.TheVariants.{Done, ReadFault, TooLong}
 use Rattle.xcm_cli.specs.Report.{ends, then_on, lines_reply, bytes_reply, so_far}
@@ -23,7 +23,7 @@ use Rattle.xcm_cli.proofs.Flowing.{then_then, then_front, then_proper, then_ends
 
 -- so far: these bytes were taken, and this text was written for the lines among them that are whole; whatever comes, the session
 -- has the rest of the report
-pub record Streams (left rest old now : Option (List ℕ)) (session : Session) (pending : List ℕ) : Type 0 where
+pub record Streams (audit : Bool) (left rest old now : Option (List ℕ)) (session : Session) (pending : List ℕ) : Type 0 where
   pub taken : List ℕ
   pub consumed : Consumes left rest taken
   pub reported : List (List ℕ)
@@ -31,11 +31,11 @@ pub record Streams (left rest old now : Option (List ℕ)) (session : Session) (
   pub appends : Appends old now text
   pub cut : (more : List ℕ) → lines_of (taken ++ more) ≡ reported ++ lines_of (pending ++ more)
   pub whole : AllWhole reported
-  pub goes : (at_end : Bool) (lines : List (List ℕ)) → lines_reply at_end (reported ++ lines) ≡ then_on text (reply_at session at_end lines)
+  pub goes : (at_end : Bool) (lines : List (List ℕ)) → lines_reply audit at_end (reported ++ lines) ≡ then_on text (reply_at session at_end lines)
 
-pub streams_start : (left old : Option (List ℕ)) (session : Session) (pending : List ℕ) → pending ≡ []
-    → ((at_end : Bool) (lines : List (List ℕ)) → reply_at session at_end lines ≡ lines_reply at_end lines) → Streams left left old old session pending
-streams_start left old session pending none start = record {
+pub streams_start : (audit : Bool) (left old : Option (List ℕ)) (session : Session) (pending : List ℕ) → pending ≡ []
+    → ((at_end : Bool) (lines : List (List ℕ)) → reply_at session at_end lines ≡ lines_reply audit at_end lines) → Streams audit left left old old session pending
+streams_start audit left old session pending none start = record {
   taken = [];
   consumed = Consumes-nil left;
   reported = [];
@@ -61,30 +61,30 @@ whole_of lines [] w n = ap (λ l. filter (ends_with 10) (lines ++ l)) (no_lines 
 whole_of lines (b ∷ rest) w n =
     ap (λ l. filter (ends_with 10) (lines ++ l)) (only_line (b ∷ rest) (omega arith) n) ∙ drops_open lines (b ∷ rest) w (no_feed_end (b ∷ rest) (omega arith) n)
 
-module _ (left rest old now : Option (List ℕ)) (session : Session) (pending : List ℕ) (s : Streams left rest old now session pending) where
+module _ (audit : Bool) (left rest old now : Option (List ℕ)) (session : Session) (pending : List ℕ) (s : Streams audit left rest old now session pending) where
   -- the report of what was taken and of what comes
-  stream_bytes : (more : List ℕ) → bytes_reply (s.taken ++ more) ≡ then_on s.text (reply_at session true (lines_of (pending ++ more)))
-  stream_bytes more = ap (lines_reply true) (s.cut more) ∙ s.goes true (lines_of (pending ++ more))
+  stream_bytes : (more : List ℕ) → bytes_reply audit (s.taken ++ more) ≡ then_on s.text (reply_at session true (lines_of (pending ++ more)))
+  stream_bytes more = ap (lines_reply audit true) (s.cut more) ∙ s.goes true (lines_of (pending ++ more))
 
   -- the report of what was taken
-  stream_taken : bytes_reply s.taken ≡ then_on s.text (reply_at session true (lines_of pending))
-  stream_taken = ap bytes_reply (sym (append-nil s.taken)) ∙ stream_bytes [] ∙ ap (λ p. then_on s.text (reply_at session true (lines_of p))) (append-nil pending)
+  stream_taken : bytes_reply audit s.taken ≡ then_on s.text (reply_at session true (lines_of pending))
+  stream_taken = ap (bytes_reply audit) (sym (append-nil s.taken)) ∙ stream_bytes [] ∙ ap (λ p. then_on s.text (reply_at session true (lines_of p))) (append-nil pending)
 
   stream_lines : lines_of s.taken ≡ s.reported ++ lines_of pending
   stream_lines = ap lines_of (sym (append-nil s.taken)) ∙ s.cut [] ∙ ap (λ p. s.reported ++ lines_of p) (append-nil pending)
 
   -- what is reported so far
-  stream_reported : IsReady session → lines_reply false s.reported ≡ ends s.text Done
-  stream_reported r = then_nothing _ _ s.text (ap (lines_reply false) (sym (append-nil s.reported)) ∙ s.goes false []) (nothing_yet session r)
+  stream_reported : IsReady session → lines_reply audit false s.reported ≡ ends s.text Done
+  stream_reported r = then_nothing _ _ s.text (ap (lines_reply audit false) (sym (append-nil s.reported)) ∙ s.goes false []) (nothing_yet session r)
 
-  stream_so_far : IsReady session → HasNoFeed pending → so_far s.taken ≡ ends s.text Done
-  stream_so_far r n = ap (λ l. lines_reply false (filter (ends_with 10) l)) stream_lines ∙ ap (lines_reply false) (whole_of s.reported pending s.whole n) ∙ stream_reported r
+  stream_so_far : IsReady session → HasNoFeed pending → so_far audit s.taken ≡ ends s.text Done
+  stream_so_far r n = ap (λ l. lines_reply audit false (filter (ends_with 10) l)) stream_lines ∙ ap (lines_reply audit false) (whole_of s.reported pending s.whole n) ∙ stream_reported r
 
-  stream_front : IsFront s.text (bytes_reply s.taken).text
+  stream_front : IsFront s.text (bytes_reply audit s.taken).text
   stream_front = ((reply_at session true (lines_of pending)).text, ap (λ o. o.text) stream_taken)
 
   -- nothing more is taken or written
-  pub streams_kept : (less : Option (List ℕ)) → Keeps rest less → Streams left less old now session pending
+  pub streams_kept : (less : Option (List ℕ)) → Keeps rest less → Streams audit left less old now session pending
   streams_kept less k = record {
     taken = s.taken;
     consumed = Consumes-kept left rest less s.taken s.consumed k;
@@ -97,7 +97,7 @@ module _ (left rest old now : Option (List ℕ)) (session : Session) (pending : 
   }
 
   -- the source failed
-  pub streams_fault : {E : Type 0} → IsReady session → HasNoFeed pending → Serves {E = E} left rest old now (Ok ReadFault)
+  pub streams_fault : {E : Type 0} → IsReady session → HasNoFeed pending → Serves {E = E} audit left rest old now (Ok ReadFault)
   streams_fault r n = record {
     taken = s.taken;
     consumed = s.consumed;
@@ -117,7 +117,7 @@ module _ (left rest old now : Option (List ℕ)) (session : Session) (pending : 
   joined_here piece = s.cut piece
 
   -- a piece is taken
-  pub streams_more : (less new : Option (List ℕ)) (then : Session) (piece unended : List ℕ) → Consumes rest less piece → Flows session then (pending ++ piece) unended now new → Streams left less old new then unended
+  pub streams_more : (less new : Option (List ℕ)) (then : Session) (piece unended : List ℕ) → Consumes rest less piece → Flows session then (pending ++ piece) unended now new → Streams audit left less old new then unended
   streams_more less new then piece unended c f = record {
     taken = s.taken ++ piece;
     consumed = Consumes-trans left rest less s.taken piece s.consumed c;
@@ -126,7 +126,7 @@ module _ (left rest old now : Option (List ℕ)) (session : Session) (pending : 
     appends = Appends-trans old now new s.text f.text s.appends f.appends;
     cut = λ more. joined_more piece more ∙ ap (λ l. s.reported ++ l) (f.cut more) ∙ sym (append_assoc s.reported f.took (lines_of (unended ++ more)));
     whole = all_whole s.reported f.took s.whole f.whole;
-    goes = λ at_end lines. ap (lines_reply at_end) (append_assoc s.reported f.took lines)
+    goes = λ at_end lines. ap (lines_reply audit at_end) (append_assoc s.reported f.took lines)
         ∙ then_then _ _ s.text f.text (reply_at then at_end lines) (s.goes at_end (f.took ++ lines)) (f.goes at_end lines);
   }
 
@@ -180,53 +180,53 @@ at_end_of None rest taken P c a p = tt
 at_end_of (Some bytes) None taken P c a p = absurd c
 at_end_of (Some bytes) (Some more) taken P c a p = let e : bytes ≡ taken = c ∙ ap (λ m. taken ++ m) a ∙ append-nil taken in rw e p
 
-module _ (left rest old now : Option (List ℕ)) (session : Session) (pending : List ℕ) (s : Streams left rest old now session pending) where
+module _ (audit : Bool) (left rest old now : Option (List ℕ)) (session : Session) (pending : List ℕ) (s : Streams audit left rest old now session pending) where
   -- the report of these lines goes on from what is written
-  before_front : (before : List (List ℕ)) (text : List ℕ) → IsFront (reply_at session false before).text text → IsFront (lines_reply false (s.reported ++ before)).text (s.text ++ text)
+  before_front : (before : List (List ℕ)) (text : List ℕ) → IsFront (reply_at session false before).text text → IsFront (lines_reply audit false (s.reported ++ before)).text (s.text ++ text)
   before_front before text f =
-      let e : (lines_reply false (s.reported ++ before)).text ≡ s.text ++ (reply_at session false before).text = ap (λ o. o.text) (s.goes false before) in
+      let e : (lines_reply audit false (s.reported ++ before)).text ≡ s.text ++ (reply_at session false before).text = ap (λ o. o.text) (s.goes false before) in
       (f.0, ap (λ t. s.text ++ t) f.1 ∙ sym (append_assoc s.text (reply_at session false before).text f.0) ∙ ap (λ t. t ++ f.0) (sym e))
 
   -- a write failed in a line
-  failed_in : (less : Option (List ℕ)) (piece text : List ℕ) → length piece ≤ 65536 → HasNoFeed pending → StopsInLine session (pending ++ piece) text → FailedInLine (s.taken ++ piece) (s.text ++ text)
+  failed_in : (less : Option (List ℕ)) (piece text : List ℕ) → length piece ≤ 65536 → HasNoFeed pending → StopsInLine session (pending ++ piece) text → FailedInLine audit (s.taken ++ piece) (s.text ++ text)
   failed_in less piece text few n i = record {
     before = s.reported ++ i.before;
     line = i.line;
     behind = i.behind;
-    lines = joined_here left rest old now session pending s piece ∙ ap (λ l. s.reported ++ l) i.lines ∙ sym (append_assoc s.reported i.before (i.line ∷ i.behind));
+    lines = joined_here audit left rest old now session pending s piece ∙ ap (λ l. s.reported ++ l) i.lines ∙ sym (append_assoc s.reported i.before (i.line ∷ i.behind));
     reported = before_front i.before text i.reported;
     short = rw (append_assoc s.reported i.before (i.line ∷ [])) (then_proper _ _ s.text text (s.goes false (i.before ++ i.line ∷ [])) i.short);
     near = near_of pending piece i.before i.line i.behind i.lines n few i.near;
   }
 
-  stopped_at : (piece text : List ℕ) → StopsAtLimit session (pending ++ piece) text → StoppedAtLimit (s.taken ++ piece) (s.text ++ text)
+  stopped_at : (piece text : List ℕ) → StopsAtLimit session (pending ++ piece) text → StoppedAtLimit audit (s.taken ++ piece) (s.text ++ text)
   stopped_at piece text i = record {
     before = s.reported ++ i.before;
     behind = i.behind;
-    lines = joined_here left rest old now session pending s piece ∙ ap (λ l. s.reported ++ l) i.lines ∙ sym (append_assoc s.reported i.before i.behind);
+    lines = joined_here audit left rest old now session pending s piece ∙ ap (λ l. s.reported ++ l) i.lines ∙ sym (append_assoc s.reported i.before i.behind);
     reported = then_ends _ _ s.text text Done (s.goes false i.before) i.reported;
   }
 
   -- what comes behind a piece
-  piece_bytes : (piece more : List ℕ) → bytes_reply ((s.taken ++ piece) ++ more) ≡ then_on s.text (reply_at session true (lines_of ((pending ++ piece) ++ more)))
-  piece_bytes piece more = ap (lines_reply true) (joined_more left rest old now session pending s piece more) ∙ s.goes true (lines_of ((pending ++ piece) ++ more))
+  piece_bytes : (piece more : List ℕ) → bytes_reply audit ((s.taken ++ piece) ++ more) ≡ then_on s.text (reply_at session true (lines_of ((pending ++ piece) ++ more)))
+  piece_bytes piece more = ap (lines_reply audit true) (joined_more audit left rest old now session pending s piece more) ∙ s.goes true (lines_of ((pending ++ piece) ++ more))
 
-  piece_taken : (piece : List ℕ) → bytes_reply (s.taken ++ piece) ≡ then_on s.text (reply_at session true (lines_of (pending ++ piece)))
-  piece_taken piece = ap (lines_reply true) (joined_here left rest old now session pending s piece) ∙ s.goes true (lines_of (pending ++ piece))
+  piece_taken : (piece : List ℕ) → bytes_reply audit (s.taken ++ piece) ≡ then_on s.text (reply_at session true (lines_of (pending ++ piece)))
+  piece_taken piece = ap (lines_reply audit true) (joined_here audit left rest old now session pending s piece) ∙ s.goes true (lines_of (pending ++ piece))
 
   front_here : (piece text : List ℕ) → ((at_end : Bool) (more : List ℕ) → IsFront text (reply_at session at_end (lines_of ((pending ++ piece) ++ more))).text) → IsFront text (reply_at session true (lines_of (pending ++ piece))).text
   front_here piece text f = let g = f true [] in (g.0, ap (λ b. (reply_at session true (lines_of b)).text) (sym (append-nil (pending ++ piece))) ∙ g.1)
 
   -- a call on a piece ended the run
   pub streams_over : {E F : Type 0} (less new : Option (List ℕ)) (piece : List ℕ) (result : Result (Option Status) F) (answer : Status) → Consumes rest less piece → length piece ≤ 65536 → HasNoFeed pending
-      → Stops session (pending ++ piece) now new result → result ≡ Ok (Some answer) → result ≢ Ok (Some ReadFault) → Serves {E = E} left less old new (Ok answer)
+      → Stops session (pending ++ piece) now new result → result ≡ Ok (Some answer) → result ≢ Ok (Some ReadFault) → Serves {E = E} audit left less old new (Ok answer)
   streams_over less new piece result answer c few n p e k = record {
     taken = s.taken ++ piece;
     consumed = Consumes-trans left rest less s.taken piece s.consumed c;
     text = s.text ++ p.text;
     appends = Appends-trans old now new s.text p.text s.appends p.appends;
     front = then_front _ _ s.text p.text (piece_taken piece) (front_here piece p.text p.front);
-    ended = λ status r f. told left less (s.taken ++ piece) (λ bytes. bytes_reply bytes ≡ ends (s.text ++ p.text) status) (Consumes-trans left rest less s.taken piece s.consumed c)
+    ended = λ status r f. told left less (s.taken ++ piece) (λ bytes. bytes_reply audit bytes ≡ ends (s.text ++ p.text) status) (Consumes-trans left rest less s.taken piece s.consumed c)
         (λ more. then_ends _ _ s.text p.text status (piece_bytes piece more) (p.ended status (e ∙ ap (λ x. Ok (Some x)) cc) (λ w. f (inr w)) true more));
     read_failed = λ r. absurd (k (e ∙ ap (λ x. Ok (Some x)) cc));
     write_failed = λ r. inl (failed_in less piece p.text few n (p.short (e ∙ ap (λ x. Ok (Some x)) cc)));
@@ -234,7 +234,7 @@ module _ (left rest old now : Option (List ℕ)) (session : Session) (pending : 
   }
 
   -- memory was refused in a piece
-  pub streams_err : {E F : Type 0} (less new : Option (List ℕ)) (piece : List ℕ) (result : Result (Option Status) F) (refused : E) → Consumes rest less piece → Stops session (pending ++ piece) now new result → Serves left less old new (Err refused)
+  pub streams_err : {E F : Type 0} (less new : Option (List ℕ)) (piece : List ℕ) (result : Result (Option Status) F) (refused : E) → Consumes rest less piece → Stops session (pending ++ piece) now new result → Serves audit left less old new (Err refused)
   streams_err less new piece result refused c p = record {
     taken = s.taken ++ piece;
     consumed = Consumes-trans left rest less s.taken piece s.consumed c;
@@ -247,25 +247,25 @@ module _ (left rest old now : Option (List ℕ)) (session : Session) (pending : 
     past_limit = λ r. absurd cc;
   }
 
-  failed_at_end : (less : Option (List ℕ)) (text : List ℕ) → IsAtEnd less → StopsAtEnd session pending text → FailedAtEnd s.taken (s.text ++ text) less
+  failed_at_end : (less : Option (List ℕ)) (text : List ℕ) → IsAtEnd less → StopsAtEnd session pending text → FailedAtEnd audit s.taken (s.text ++ text) less
   failed_at_end less text a i = record {
-    reported = rw (stream_lines left rest old now session pending s) (before_front (lines_of pending) text i.reported);
-    short = then_proper _ _ s.text text (stream_taken left rest old now session pending s) i.short;
+    reported = rw (stream_lines audit left rest old now session pending s) (before_front (lines_of pending) text i.reported);
+    short = then_proper _ _ s.text text (stream_taken audit left rest old now session pending s) i.short;
     ended = a;
   }
 
-  failed_last : (text : List ℕ) → HasNoFeed pending → StopsInLine session pending text → FailedInLine s.taken (s.text ++ text)
+  failed_last : (text : List ℕ) → HasNoFeed pending → StopsInLine session pending text → FailedInLine audit s.taken (s.text ++ text)
   failed_last text n i =
-      let f : FailedInLine (s.taken ++ []) (s.text ++ text) = failed_in None [] text (omega arith) n (rw (append-nil pending) i) in
+      let f : FailedInLine audit (s.taken ++ []) (s.text ++ text) = failed_in None [] text (omega arith) n (rw (append-nil pending) i) in
       rw (append-nil s.taken) at f
 
-  stopped_last : (text : List ℕ) → StopsAtLimit session pending text → StoppedAtLimit s.taken (s.text ++ text)
+  stopped_last : (text : List ℕ) → StopsAtLimit session pending text → StoppedAtLimit audit s.taken (s.text ++ text)
   stopped_last text i =
-      let f : StoppedAtLimit (s.taken ++ []) (s.text ++ text) = stopped_at [] text (rw (append-nil pending) i) in
+      let f : StoppedAtLimit audit (s.taken ++ []) (s.text ++ text) = stopped_at [] text (rw (append-nil pending) i) in
       rw (append-nil s.taken) at f
 
   -- the input is at its end
-  pub streams_end : {E : Type 0} (less new : Option (List ℕ)) (result : Result Status E) → Consumes rest less [] → IsAtEnd less → HasNoFeed pending → Ends session pending now new result → Serves left less old new result
+  pub streams_end : {E : Type 0} (less new : Option (List ℕ)) (result : Result Status E) → Consumes rest less [] → IsAtEnd less → HasNoFeed pending → Ends session pending now new result → Serves audit left less old new result
   streams_end less new result c a n f =
       let consumed : Consumes left less s.taken = rw (append-nil s.taken) at (Consumes-trans left rest less s.taken [] s.consumed c) in
       record {
@@ -273,27 +273,27 @@ module _ (left rest old now : Option (List ℕ)) (session : Session) (pending : 
         consumed = consumed;
         text = s.text ++ f.text;
         appends = Appends-trans old now new s.text f.text s.appends f.appends;
-        front = then_front _ _ s.text f.text (stream_taken left rest old now session pending s) f.front;
-        ended = λ status r k. at_end_of left less s.taken (λ bytes. bytes_reply bytes ≡ ends (s.text ++ f.text) status) consumed a
-            (then_ends _ _ s.text f.text status (stream_taken left rest old now session pending s) (f.ended status r (λ w. k (inr w))));
+        front = then_front _ _ s.text f.text (stream_taken audit left rest old now session pending s) f.front;
+        ended = λ status r k. at_end_of left less s.taken (λ bytes. bytes_reply audit bytes ≡ ends (s.text ++ f.text) status) consumed a
+            (then_ends _ _ s.text f.text status (stream_taken audit left rest old now session pending s) (f.ended status r (λ w. k (inr w))));
         read_failed = λ r. absurd (f.no_read r);
         write_failed = λ r. elim (f.short r) [ inl i ↦ inl (failed_last f.text n i) | inr i ↦ inr (failed_at_end less f.text a i) ];
         past_limit = λ r. stopped_last f.text (f.long r);
       }
 
-  limit_here : IsReady session → StoppedAtLimit s.taken s.text
-  limit_here r = record { before = s.reported; behind = lines_of pending; lines = stream_lines left rest old now session pending s; reported = stream_reported left rest old now session pending s r }
+  limit_here : IsReady session → StoppedAtLimit audit s.taken s.text
+  limit_here r = record { before = s.reported; behind = lines_of pending; lines = stream_lines audit left rest old now session pending s; reported = stream_reported audit left rest old now session pending s r }
 
   -- past a limit, whatever comes
-  pub streams_long : {E : Type 0} → IsReady session → ((at_end : Bool) (more : List ℕ) → reply_at session at_end (lines_of (pending ++ more)) ≡ ends [] TooLong) → Serves {E = E} left rest old now (Ok TooLong)
+  pub streams_long : {E : Type 0} → IsReady session → ((at_end : Bool) (more : List ℕ) → reply_at session at_end (lines_of (pending ++ more)) ≡ ends [] TooLong) → Serves {E = E} audit left rest old now (Ok TooLong)
   streams_long r over = record {
     taken = s.taken;
     consumed = s.consumed;
     text = s.text;
     appends = s.appends;
-    front = stream_front left rest old now session pending s;
-    ended = λ status e k. told left rest s.taken (λ bytes. bytes_reply bytes ≡ ends s.text status) s.consumed
-        (λ more. then_ends _ _ s.text [] TooLong (stream_bytes left rest old now session pending s more) (over true more) ∙ ap (λ t. ends t TooLong) (append-nil s.text) ∙ ap (λ x. ends s.text x) cc);
+    front = stream_front audit left rest old now session pending s;
+    ended = λ status e k. told left rest s.taken (λ bytes. bytes_reply audit bytes ≡ ends s.text status) s.consumed
+        (λ more. then_ends _ _ s.text [] TooLong (stream_bytes audit left rest old now session pending s more) (over true more) ∙ ap (λ t. ends t TooLong) (append-nil s.text) ∙ ap (λ x. ends s.text x) cc);
     read_failed = λ e. absurd cc;
     write_failed = λ e. absurd cc;
     past_limit = λ e. limit_here r;

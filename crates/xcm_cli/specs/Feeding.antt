@@ -6,7 +6,7 @@ use Rattle.input_lines.specs.Lines.{lines_of, HasNoFeed}
 use Rattle.xcm_cli.specs.Report.{ends, max_input}
 use Rattle.xcm_cli.specs.Session.{reply_at, IsReady, StopsInLine, StopsAtLimit}
 use Rattle.xcm_cli.specs.declared.feeder.Feeder.{Feeder}
-use Rattle.xcm_cli.specs.declared.session.Session.{Session}
+use Rattle.xcm_cli.specs.declared.phase.Session.{Session}
 use Rattle.xcm_cli.specs.declared.status.Status.{Status}
 use Rattle.xcm_cli.specs.declared.status.Status.TheVariants.{WriteFault, ReadFault, TooLong}
 

@@ -1,4 +1,4 @@
-pub mod Built
+pub mod Words
 pub mod Report
 pub mod Session
 pub mod Feeding

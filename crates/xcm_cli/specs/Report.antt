@@ -1,15 +1,22 @@
 -- What is written for an input, and how the run ends. Source: this project's own rule.
-use Rattle.std.specs.Prelude.{ℕ, ◌+◌, ◌&&◌, ◌||◌, nat_le, List, [], ◌∷◌, ◌++◌, length, Bool, true, false, filter, Result, Ok, Err, codes, decimal, String, string_bytes, if◌then◌else◌, bytes_eq}
+use Rattle.std.specs.Prelude.{ℕ, ◌+◌, ◌&&◌, ◌||◌, nat_le, List, [], ◌∷◌, ◌++◌, length, Bool, true, false, filter, Result, Ok, Err, codes, String, if◌then◌else◌}
 use Rattle.std.specs.declared.alloc.Global.{Global}
 use Rattle.input_lines.specs.Lines.{lines_of, text_of, has_mark, network_part, later_lines, lines_through, bytes_through, without_feed, ends_with}
 use Rattle.input_lines.specs.Step.{read_line}
-use Rattle.xcm_cli.specs.declared.built.BuiltLine.TheVariants.{NoStep, Exec, Refused}
-use Rattle.xcm_cli.specs.Built.{built}
-use Rattle.plain_network.specs.Document.{network_of}
-use Rattle.plain_network.specs.Texts.{fault_text}
-use Rattle.plain_network.specs.declared.document.NetworkSpec.{NetworkSpec}
-use Rattle.plain_network.specs.declared.fault.NetworkFault.{NetworkFault}
-use Rattle.report_text.specs.Steps.{exec_text}
+use Rattle.document_forms.specs.declared.fault.NetworkFault.{NetworkFault}
+use Rattle.network_config.specs.Network.{network_of}
+use Rattle.network_spec.specs.declared.network.NetworkSpec.{NetworkSpec}
+use Rattle.network_steps.specs.Worlds.{World}
+use Rattle.network_steps.specs.Steps.{Step, after}
+use Rattle.network_genesis.specs.Genesis.{order_of, first_world}
+use Rattle.step_text.specs.Lines.{network_refused_line, line_refused_line}
+use Rattle.report_blocks.specs.Asked.{asked_of, Nothing, Asks, Unknown}
+use Rattle.report_blocks.specs.Blocks.{opening_text, step_block}
+use Rattle.generator.specs.Generated.{generated}
+use Rattle.xcm_cli.specs.declared.words.Task.{Task}
+use Rattle.xcm_cli.specs.declared.words.Task.TheVariants.{Run, Generate}
+use Rattle.xcm_cli.specs.declared.words.Task.TheVariants as tasks
+use Rattle.xcm_cli.specs.Words.{task_of}
 use Rattle.xcm_cli.specs.declared.status.Status.{Status}
 use Rattle.xcm_cli.specs.declared.status.Status.TheVariants.{Done, Usage, NetworkRefused, LineRefused, ReadFault, WriteFault, TooLong}
 
@@ -29,17 +36,6 @@ then_on text rest = record { text = text ++ rest.text; status = rest.status }
 
 abbrev pub usage_text : List ℕ
 usage_text = codes "usage: run | run --audit | gen NUMBER STEPS\n"
-
--- a network without assets is coherent, and has no supply lines
-abbrev pub opening_text : NetworkSpec → List ℕ
-opening_text spec = codes "coherent\n"
-
-abbrev pub network_refused_text : NetworkFault → List ℕ
-network_refused_text fault = codes "network refused: " ++ fault_text fault ++ codes "\n"
-
--- lines count from 1, over the whole input
-abbrev pub line_refused_text : ℕ → List ℕ
-line_refused_text line = codes "line " ++ decimal line ++ codes " refused\n"
 
 -- ---- limits, in bytes
 
@@ -61,59 +57,65 @@ fits_limits taken line = nat_le (length (without_feed line)) max_line && nat_le 
 
 -- ---- the run
 
--- the lines after the network, with this many steps, lines and bytes before them
-unfoldable pub steps_reply : ℕ → ℕ → ℕ → List (List ℕ) → Reply
-steps_reply steps before taken [] = ends [] Done
-steps_reply steps before taken (line ∷ lines) =
+-- the lines after the network, in a world, with this many steps, lines and bytes before them
+unfoldable pub steps_reply : Bool → NetworkSpec → World → ℕ → ℕ → ℕ → List (List ℕ) → Reply
+steps_reply audit spec w steps before taken [] = ends [] Done
+steps_reply audit spec w steps before taken (line ∷ lines) =
     if fits_limits taken line
-    then elim (built (read_line (text_of line))) [
-      | NoStep ↦ steps_reply steps (before + 1) (taken + length line) lines
-      | Exec chain account message ↦ then_on (exec_text (steps + 1) chain account message) (steps_reply (steps + 1) (before + 1) (taken + length line) lines)
-      | Refused ↦ ends (line_refused_text (before + 1)) LineRefused
+    then elim (asked_of (read_line (text_of line))) [
+      | Nothing ↦ steps_reply audit spec w steps (before + 1) (taken + length line) lines
+      | Asks step ↦ then_on (step_block audit spec w (steps + 1) step)
+          (steps_reply audit spec (after (order_of spec) w step) (steps + 1) (before + 1) (taken + length line) lines)
+      | Unknown ↦ ends (line_refused_line (before + 1)) LineRefused
     ]
     else ends [] TooLong
 
 -- the lines after a network, with this many lines and bytes before them
-abbrev pub network_reply : Result NetworkSpec NetworkFault → ℕ → ℕ → List (List ℕ) → Reply
-network_reply (Ok spec) before taken lines = then_on (opening_text spec) (steps_reply 0 before taken lines)
-network_reply (Err fault) before taken lines = ends (network_refused_text fault) NetworkRefused
+abbrev pub network_reply : Bool → Result NetworkSpec NetworkFault → ℕ → ℕ → List (List ℕ) → Reply
+network_reply audit (Ok spec) before taken lines = then_on (opening_text spec) (steps_reply audit spec (first_world spec) 0 before taken lines)
+network_reply audit (Err fault) before taken lines = ends (network_refused_line fault) NetworkRefused
 
 -- a network part, and the lines after it; the part is read once it is closed, by the line `---` or the end of the input
-abbrev pub part_reply : Bool → List ℕ → ℕ → ℕ → List (List ℕ) → Reply
-part_reply closed part before taken lines =
+abbrev pub part_reply : Bool → Bool → List ℕ → ℕ → ℕ → List (List ℕ) → Reply
+part_reply audit closed part before taken lines =
     if nat_le (length part) max_network
-    then (if closed then network_reply (network_of part) before taken lines else ends [] Done)
+    then (if closed then network_reply audit (network_of part) before taken lines else ends [] Done)
     else ends [] TooLong
 
--- These lines, at whose end the input ends or not. Where it doesn't, the text is what is reported of them whatever lines come
--- behind, and Done says that so far no limit is passed and nothing is refused.
-unfoldable pub lines_reply : Bool → List (List ℕ) → Reply
-lines_reply at_end lines = part_reply (has_mark lines || at_end) (network_part lines) (lines_through lines) (bytes_through lines) (later_lines lines)
+-- These lines, at whose end the input ends or not, with the audit behind each step or without. Where the input doesn't end, the
+-- text is what is reported of them whatever lines come behind, and Done says that so far no limit is passed and nothing is refused.
+unfoldable pub lines_reply : Bool → Bool → List (List ℕ) → Reply
+lines_reply audit at_end lines = part_reply audit (has_mark lines || at_end) (network_part lines) (lines_through lines) (bytes_through lines) (later_lines lines)
 
 -- a whole input
-abbrev pub bytes_reply : List ℕ → Reply
-bytes_reply bytes = lines_reply true (lines_of bytes)
+abbrev pub bytes_reply : Bool → List ℕ → Reply
+bytes_reply audit bytes = lines_reply audit true (lines_of bytes)
 
 -- the lines of these bytes that have their line feed
 abbrev pub whole_lines : List ℕ → List (List ℕ)
 whole_lines bytes = filter (ends_with 10) (lines_of bytes)
 
 -- the whole lines of these bytes, where more may come
-abbrev pub so_far : List ℕ → Reply
-so_far bytes = lines_reply false (whole_lines bytes)
-
--- the words are just `run`
-abbrev pub is_run : List (String Global) → Bool
-is_run [] = false
-is_run (word ∷ []) = bytes_eq (string_bytes word) (codes "run")
-is_run (word ∷ other ∷ words) = false
+abbrev pub so_far : Bool → List ℕ → Reply
+so_far audit bytes = lines_reply audit false (whole_lines bytes)
 
 abbrev pub usage_reply : Reply
 usage_reply = ends usage_text Usage
 
+-- the report of generated steps
+abbrev pub generated_reply : Result (List ℕ) NetworkFault → Reply
+generated_reply (Ok text) = ends text Done
+generated_reply (Err fault) = ends (network_refused_line fault) NetworkRefused
+
+-- what is written for an input where this is asked for, and the answer
+abbrev pub task_reply : Task → List ℕ → Reply
+task_reply (Run audit) bytes = bytes_reply audit bytes
+task_reply (Generate number steps) bytes = generated_reply (generated number steps)
+task_reply tasks.Usage bytes = usage_reply
+
 -- what is written for these words and this input, and the answer
 unfoldable pub reply : List (String Global) → List ℕ → Reply
-reply words bytes = if is_run words then bytes_reply bytes else usage_reply
+reply words bytes = task_reply (task_of words) bytes
 
 -- the report
 abbrev pub report : List (String Global) → List ℕ → List ℕ
@@ -132,3 +134,25 @@ code_of LineRefused = 4
 code_of ReadFault = 5
 code_of WriteFault = 6
 code_of TooLong = 7
+
+-- ---- the steps of an input
+
+-- what the lines after the network ask for, with this many bytes before them, up to the first that is refused or past a limit
+unfoldable pub steps_in : ℕ → List (List ℕ) → List Step
+steps_in taken [] = []
+steps_in taken (line ∷ lines) =
+    if fits_limits taken line
+    then elim (asked_of (read_line (text_of line))) [
+      | Nothing ↦ steps_in (taken + length line) lines
+      | Asks step ↦ step ∷ steps_in (taken + length line) lines
+      | Unknown ↦ []
+    ]
+    else []
+
+-- the steps of an input
+abbrev pub steps_of : List ℕ → List Step
+steps_of bytes = steps_in (bytes_through (lines_of bytes)) (later_lines (lines_of bytes))
+
+-- the network part of an input
+abbrev pub network_bytes : List ℕ → List ℕ
+network_bytes bytes = network_part (lines_of bytes)

@@ -1,55 +1,57 @@
 -- What a run over a source and a sink did.
-use Rattle.std.specs.Prelude.{◌≡◌, ◌⊎◌, ◌<◌, ℕ, List, [], ◌∷◌, ◌++◌, length, true, false, Option, Result, Ok, IfSome, String}
+use Rattle.std.specs.Prelude.{◌≡◌, ◌≢◌, ◌⊎◌, ◌<◌, ℕ, List, [], ◌∷◌, ◌++◌, length, Bool, false, Option, Result, Ok, IfSome, String}
 use Rattle.std.specs.declared.alloc.Global.{Global}
 use Rattle.std.specs.Io.KnownBytes.{Appends, Consumes, IsAtEnd}
 use Rattle.xcm_io.specs.Bytes.{IsFront, IsProperFront}
 use Rattle.std.specs.List.{concat}
 use Rattle.input_lines.specs.Lines.{lines_of}
-use Rattle.xcm_cli.specs.Report.{bytes_reply, lines_reply, so_far, ends, report, is_run}
+use Rattle.xcm_cli.specs.Report.{bytes_reply, lines_reply, so_far, ends, report}
 use Rattle.xcm_cli.specs.Session.{IsFault}
+use Rattle.xcm_cli.specs.Words.{task_of, reads}
+use Rattle.xcm_cli.specs.declared.words.Task.TheVariants.{Run}
 use Rattle.xcm_cli.specs.declared.status.Status.{Status}
 use Rattle.xcm_cli.specs.declared.status.Status.TheVariants.{Done, ReadFault, WriteFault, TooLong}
 
 -- The write failed in the report of a line, the first whose report isn't written whole: what stands written has the report of all
 -- lines before it, and a proper front of that up to its own end. Fewer than 65,536 bytes behind its end were taken.
-pub record FailedInLine (taken text : List ℕ) : Type 0 where
+pub record FailedInLine (audit : Bool) (taken text : List ℕ) : Type 0 where
   pub before : List (List ℕ)
   pub line : List ℕ
   pub behind : List (List ℕ)
   pub lines : lines_of taken ≡ before ++ line ∷ behind
-  pub reported : IsFront (lines_reply false before).text text
-  pub short : IsProperFront text (lines_reply false (before ++ line ∷ [])).text
+  pub reported : IsFront (lines_reply audit false before).text text
+  pub short : IsProperFront text (lines_reply audit false (before ++ line ∷ [])).text
   pub near : length (concat behind) < 65536
 
 -- The write failed in what the end of the input calls for, where no line `---` came. Nothing is left to take.
-pub record FailedAtEnd (taken text : List ℕ) (left : Option (List ℕ)) : Type 0 where
-  pub reported : IsFront (lines_reply false (lines_of taken)).text text
-  pub short : IsProperFront text (bytes_reply taken).text
+pub record FailedAtEnd (audit : Bool) (taken text : List ℕ) (left : Option (List ℕ)) : Type 0 where
+  pub reported : IsFront (lines_reply audit false (lines_of taken)).text text
+  pub short : IsProperFront text (bytes_reply audit taken).text
   pub ended : IsAtEnd left
 
 -- What stands written is the report of the first lines, so many, none of which is refused or past a limit.
-pub record StoppedAtLimit (taken text : List ℕ) : Type 0 where
+pub record StoppedAtLimit (audit : Bool) (taken text : List ℕ) : Type 0 where
   pub before : List (List ℕ)
   pub behind : List (List ℕ)
   pub lines : lines_of taken ≡ before ++ behind
-  pub reported : lines_reply false before ≡ ends text Done
+  pub reported : lines_reply audit false before ≡ ends text Done
 
 -- These bytes were taken and this text was written, a front of their report. It is the whole of the input's report, and the
 -- answer its fate, unless source or sink failed. With ReadFault the whole lines taken pass no limit and none is refused, and the
 -- text is exactly their report. With WriteFault the failure stands in the first line whose report isn't written whole, and little
 -- was taken behind it. With TooLong the text is exactly the report of lines that are within the limits.
-pub record Serves {E : Type 0} (left rest old new : Option (List ℕ)) (result : Result Status E) : Type 0 where
+pub record Serves {E : Type 0} (audit : Bool) (left rest old new : Option (List ℕ)) (result : Result Status E) : Type 0 where
   pub taken : List ℕ
   pub consumed : Consumes left rest taken
   pub text : List ℕ
   pub appends : Appends old new text
-  pub front : IsFront text (bytes_reply taken).text
-  pub ended : (status : Status) → result ≡ Ok status → (IsFault status → ⊥) → IfSome left (λ bytes. bytes_reply bytes ≡ ends text status)
-  pub read_failed : result ≡ Ok ReadFault → so_far taken ≡ ends text Done
-  pub write_failed : result ≡ Ok WriteFault → FailedInLine taken text ⊎ FailedAtEnd taken text rest
-  pub past_limit : result ≡ Ok TooLong → StoppedAtLimit taken text
+  pub front : IsFront text (bytes_reply audit taken).text
+  pub ended : (status : Status) → result ≡ Ok status → (IsFault status → ⊥) → IfSome left (λ bytes. bytes_reply audit bytes ≡ ends text status)
+  pub read_failed : result ≡ Ok ReadFault → so_far audit taken ≡ ends text Done
+  pub write_failed : result ≡ Ok WriteFault → FailedInLine audit taken text ⊎ FailedAtEnd audit taken text rest
+  pub past_limit : result ≡ Ok TooLong → StoppedAtLimit audit taken text
 
--- The same for any words: these bytes were taken, and a front of their report was written. With the word `run` the three further
+-- The same for any words: these bytes were taken, and a front of their report was written. With the words of a run the three further
 -- parts hold; with other words nothing is taken.
 pub record ServesWords {E : Type 0} (words : List (String Global)) (left rest old new : Option (List ℕ)) (result : Result Status E) : Type 0 where
   pub taken : List ℕ
@@ -57,7 +59,9 @@ pub record ServesWords {E : Type 0} (words : List (String Global)) (left rest ol
   pub text : List ℕ
   pub appends : Appends old new text
   pub front : IsFront text (report words taken)
-  pub read_failed : result ≡ Ok ReadFault → so_far taken ≡ ends text Done
-  pub write_failed : is_run words ≡ true → result ≡ Ok WriteFault → FailedInLine taken text ⊎ FailedAtEnd taken text rest
-  pub past_limit : result ≡ Ok TooLong → StoppedAtLimit taken text
-  pub none_taken : is_run words ≡ false → taken ≡ []
+  pub read_failed : (audit : Bool) → task_of words ≡ Run audit → result ≡ Ok ReadFault → so_far audit taken ≡ ends text Done
+  pub write_failed : (audit : Bool) → task_of words ≡ Run audit → result ≡ Ok WriteFault → FailedInLine audit taken text ⊎ FailedAtEnd audit taken text rest
+  pub past_limit : (audit : Bool) → task_of words ≡ Run audit → result ≡ Ok TooLong → StoppedAtLimit audit taken text
+  pub no_read : reads (task_of words) ≡ false → result ≢ Ok ReadFault
+  pub no_limit : reads (task_of words) ≡ false → result ≢ Ok TooLong
+  pub none_taken : reads (task_of words) ≡ false → taken ≡ []

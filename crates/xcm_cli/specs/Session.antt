@@ -1,24 +1,34 @@
 -- What is still to come in a run, from where it stands.
-use Rattle.std.specs.Prelude.{◌≡◌, ◌≢◌, ◌⊎◌, ◌||◌, ℕ, ◌+◌, ◌≤◌, List, ◌∷◌, [], ◌++◌, length, Bool, true, false, Option, Some, None, Result, Ok}
+use Rattle.std.specs.Prelude.{◌≡◌, ◌≢◌, ◌⊎◌, ◌||◌, ℕ, ◌+◌, ◌≤◌, List, ◌∷◌, [], ◌++◌, length, Bool, true, false, Option, Some, None, Result, Ok, Err}
 use Rattle.std.specs.Io.KnownBytes.{Appends}
 use Rattle.xcm_io.specs.Bytes.{IsFront, IsProperFront}
 use Rattle.xcm_io.specs.Causes.{Rose}
 use Rattle.input_lines.specs.Lines.{lines_of, has_mark, network_part, later_lines, lines_through, bytes_through, ends_with}
+use Rattle.document_forms.specs.declared.fault.NetworkFault.{NetworkFault}
+use Rattle.network_spec.specs.declared.network.NetworkSpec.{NetworkSpec}
+use Rattle.network_config.specs.Network.{network_of}
+use Rattle.network_genesis.specs.Genesis.{first_world}
+use Rattle.chain_net.specs.declared.net.Net.{Net}
+use Rattle.chain_net.specs.Nets.{world_of, spec_of, is_stopped}
+use Rattle.step_text.specs.Lines.{network_refused_line}
+use Rattle.report_blocks.specs.Blocks.{opening_text}
 use Rattle.xcm_cli.specs.Report.{Reply, ends, then_on, part_reply, steps_reply, max_network, max_input}
-use Rattle.xcm_cli.specs.declared.session.Session.{Session}
-use Rattle.xcm_cli.specs.declared.session.Phase.{Phase}
-use Rattle.xcm_cli.specs.declared.session.Phase.TheVariants.{Network, Steps}
+use Rattle.xcm_cli.specs.declared.phase.Session.{Session}
+use Rattle.xcm_cli.specs.declared.phase.Phase.{Phase}
+use Rattle.xcm_cli.specs.declared.phase.Phase.TheVariants.{Network, Steps}
+use Rattle.xcm_cli.specs.declared.phase.Opened.{Opened}
+use Rattle.xcm_cli.specs.declared.phase.Opened.TheVariants.{Runs, Over}
 use Rattle.xcm_cli.specs.declared.status.Status.{Status}
-use Rattle.xcm_cli.specs.declared.status.Status.TheVariants.{WriteFault, ReadFault, TooLong, Done, Usage}
+use Rattle.xcm_cli.specs.declared.status.Status.TheVariants.{WriteFault, ReadFault, TooLong, Done, Usage, NetworkRefused}
 
-abbrev pub phase_reply : Phase → ℕ → ℕ → Bool → List (List ℕ) → Reply
-phase_reply (Network part) before taken at_end lines =
-    part_reply (has_mark lines || at_end) (part.items ++ network_part lines) (before + lines_through lines) (taken + bytes_through lines) (later_lines lines)
-phase_reply (Steps done) before taken at_end lines = steps_reply done before taken lines
+abbrev pub phase_reply : Bool → Phase → ℕ → ℕ → Bool → List (List ℕ) → Reply
+phase_reply audit (Network part) before taken at_end lines =
+    part_reply audit (has_mark lines || at_end) (part.items ++ network_part lines) (before + lines_through lines) (taken + bytes_through lines) (later_lines lines)
+phase_reply audit (Steps net done) before taken at_end lines = steps_reply audit (spec_of net) (world_of net) done before taken lines
 
 -- what is written from here on where these lines come, at whose end the input ends or not, and the answer
 unfoldable pub reply_at : Session → Bool → List (List ℕ) → Reply
-reply_at session at_end lines = phase_reply session.phase session.lines session.taken at_end lines
+reply_at session at_end lines = phase_reply session.audit session.phase session.lines session.taken at_end lines
 
 -- the text was written and this is the answer, or the write failed with a proper front of it written
 pub record Writes (text : List ℕ) (answer : Option Status) (old new : Option (List ℕ)) (result : Option Status) : Type 0 where
@@ -58,14 +68,36 @@ pub record Finishes {E : Type 0} (rest : Reply) (old new : Option (List ℕ)) (r
   pub long : result ≢ Ok TooLong
   pub no_read : result ≢ Ok ReadFault
 
+-- the network as it opens, with nothing that happened in it
+pub record Begins (part : List ℕ) (net : Net) : Type 0 where
+  pub read : network_of part ≡ Ok (spec_of net)
+  pub first : world_of net ≡ first_world (spec_of net)
+  pub running : is_stopped net ≡ false
+
+-- what is written first: the opening, or the line that refuses the network
+abbrev pub head_of : Result NetworkSpec NetworkFault → List ℕ
+head_of (Ok spec) = opening_text spec
+head_of (Err fault) = network_refused_line fault
+
+-- A network part was read, and this text written: the opening of the network that runs from now on, or the line that refuses it, or a
+-- proper front of it where the write failed. Where memory was refused nothing was written.
+pub record Opens {E : Type 0} (part : List ℕ) (old new : Option (List ℕ)) (result : Result Opened E) : Type 0 where
+  pub text : List ℕ
+  pub appends : Appends old new text
+  pub runs : (net : Net) → result ≡ Ok (Runs net) → Begins part net × (text ≡ opening_text (spec_of net))
+  pub over : (status : Status) → result ≡ Ok (Over status)
+      → ((status ≡ NetworkRefused) × ((fault : NetworkFault) × ((network_of part ≡ Err fault) × (text ≡ network_refused_line fault))))
+      ⊎ ((status ≡ WriteFault) × IsProperFront text (head_of (network_of part)))
+  pub none : (refused : E) → result ≡ Err refused → text ≡ []
+
 abbrev pub phase_steps : Phase → ℕ
 phase_steps (Network part) = 0
-phase_steps (Steps done) = done
+phase_steps (Steps net done) = done
 
--- while the network is read, its part is all that was taken, and within its limit
+-- while the network is read, its part is all that was taken, and within its limit; later no call was refused memory
 abbrev pub HoldsPart : Phase → ℕ → Type 0
 HoldsPart (Network part) taken = (length part.items ≡ taken) × (taken ≤ max_network)
-HoldsPart (Steps done) taken = taken ≤ max_input
+HoldsPart (Steps net done) taken = (taken ≤ max_input) × (is_stopped net ≡ false)
 
 -- a session as its calls leave it: no more steps than lines, no more lines than bytes
 pub record IsReady (session : Session) : Type 0 where

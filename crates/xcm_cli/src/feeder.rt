@@ -8,7 +8,7 @@ ghost use Rattle.xcm_cli.specs.Session.{TakesLines, HasWriteCause, IsReady, repl
 ghost use Rattle.xcm_cli.specs.Feeding.{Ends, IsFed};
 
 use crate::limits::{MAX_INPUT, MAX_LINE, MAX_NETWORK};
-use crate::session::{Phase, Session};
+use crate::phase::{Phase, Session};
 use crate::status::Status;
 use std::alloc::{AllocError, Global};
 use xcm_io::Sink;
@@ -25,14 +25,14 @@ pub(crate) struct Feeder {
 
 impl Feeder {
     /// A run at the start of its input.
-    pub(crate) fn new(alloc: Global) -> Feeder
-        ensures start { (at_end : Bool) (lines : List (List ℕ)) → reply_at result.session at_end lines ≡ lines_reply at_end lines }
+    pub(crate) fn new(alloc: Global, audit: bool) -> Feeder
+        ensures start { (at_end : Bool) (lines : List (List ℕ)) → reply_at result.session at_end lines ≡ lines_reply audit at_end lines }
         ensures fed { IsFed result }
         ensures none { result.pending.items ≡ [] }
         ensures size { result.session.taken + length result.pending.items ≡ 0 }
     {
         Feeder {
-            session: Session::new(alloc),
+            session: Session::new(alloc, audit),
             pending: Vec::new(alloc),
         }
     }
@@ -79,7 +79,7 @@ impl Feeder {
     {
         let pending = self.pending.len();
         match &self.session.phase {
-            Phase::Steps(_) => {
+            Phase::Steps { .. } => {
                 pending > MAX_LINE || self.session.taken + pending as u64 > MAX_INPUT
             }
             Phase::Network(part) => {

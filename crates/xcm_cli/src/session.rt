@@ -3,45 +3,29 @@
 ghost use Rattle.std.specs.Prelude.{◌≡◌, ◌≢◌, ◌⊎◌, ◌+◌, ◌^◌, ◌<◌, ◌≤◌, ℕ, List, [], ◌∷◌, length, drop, Bool, false, true, Some, None, Ok};
 ghost use Rattle.xcm_io.specs.Causes.{Rose};
 ghost use Rattle.input_lines.specs.Lines.{HasNoFeed};
-ghost use Rattle.plain_network.specs.Document.{network_of};
-ghost use Rattle.xcm_cli.specs.Report.{lines_reply, network_reply, steps_reply, fits_limits, max_input};
-ghost use Rattle.xcm_cli.specs.Session.{Writes, Advances, Finishes, HasWriteCause, IsReady, TakesLines, reply_at};
+ghost use Rattle.chain_net.specs.Nets.{world_of, spec_of, is_stopped};
+ghost use Rattle.xcm_cli.specs.Report.{lines_reply, steps_reply, fits_limits, max_input};
+ghost use Rattle.xcm_cli.specs.Session.{Writes, Advances, Finishes, HasWriteCause, IsReady, Opens, TakesLines, reply_at};
 
-use crate::built::{BuiltLine, read_built};
 use crate::limits::{MAX_INPUT, MAX_LINE, MAX_NETWORK};
+use crate::phase::{Opened, Phase, Session};
 use crate::status::Status;
-use crate::texts::{OPENING, line_refusal, network_refusal};
-use input_lines::{ends_network, line_len, text_of, without_feed};
-use plain_network::{NetworkFault, read_network};
-use report_text::exec_block;
+use chain_net::Net;
+use input_lines::{ends_network, line_len, read_line, text_of, without_feed};
+use report_blocks::{Served, open_network, opening_text, serve};
 use std::alloc::{AllocError, Global};
+use step_text::{line_refused_line, network_refused_line};
 use xcm_io::{Sink, write_whole};
-
-/// Which part of the input is read.
-#[derive(Drop)]
-pub(crate) enum Phase {
-    /// The network part, of which these bytes have come.
-    Network(Vec<u8>),
-    /// The lines after it, with so many steps done.
-    Steps(u64),
-}
-
-/// Where a run stands: so many lines have come, of so many bytes.
-#[derive(Drop)]
-pub(crate) struct Session {
-    pub(crate) phase: Phase,
-    pub(crate) lines: u64,
-    pub(crate) taken: u64,
-}
 
 impl Session {
     /// A run at the start of its input.
-    pub(crate) fn new(alloc: Global) -> Session
-        ensures start { (at_end : Bool) (lines : List (List ℕ)) → reply_at result at_end lines ≡ lines_reply at_end lines }
+    pub(crate) fn new(alloc: Global, audit: bool) -> Session
+        ensures start { (at_end : Bool) (lines : List (List ℕ)) → reply_at result at_end lines ≡ lines_reply audit at_end lines }
         ensures ready { IsReady result }
         ensures taken { result.taken ≡ 0 }
     {
         Session {
+            audit,
             phase: Phase::Network(Vec::new(alloc)),
             lines: 0,
             taken: 0,
@@ -69,12 +53,19 @@ impl Session {
         self.lines += 1;
         self.taken += line.len() as u64;
         match &mut self.phase {
-            Phase::Steps(done) => take_step(alloc, done, before, taken, line, out),
+            Phase::Steps { net, done } => {
+                take_step(alloc, self.audit, net, done, before, taken, line, out)
+            }
             Phase::Network(part) => {
                 if ends_network(line) {
-                    let answer = open_network(alloc, part, out);
-                    self.phase = Phase::Steps(0);
-                    return answer;
+                    return match opened(alloc, part, out) {
+                        Ok(Opened::Runs(net)) => {
+                            self.phase = Phase::Steps { net, done: 0 };
+                            Ok(None)
+                        }
+                        Ok(Opened::Over(status)) => Ok(Some(status)),
+                        Err(refused) => Err(refused),
+                    };
                 }
                 if part.len() + line.len() > MAX_NETWORK {
                     return Ok(Some(Status::TooLong));
@@ -129,10 +120,10 @@ impl Session {
         ensures usage { result ≢ Ok Status.Usage }
     {
         match &self.phase {
-            Phase::Steps(_) => Ok(Status::Done),
-            Phase::Network(part) => match open_network(alloc, part, out) {
-                Ok(Some(status)) => Ok(status),
-                Ok(None) => Ok(Status::Done),
+            Phase::Steps { .. } => Ok(Status::Done),
+            Phase::Network(part) => match opened(alloc, part, out) {
+                Ok(Opened::Over(status)) => Ok(status),
+                Ok(Opened::Runs(_)) => Ok(Status::Done),
                 Err(refused) => Err(refused),
             },
         }
@@ -152,22 +143,26 @@ fn write_text<O: Sink>(out: &mut O, text: &str, answer: Option<Status>) -> Optio
 }
 
 /// Reads the network, and opens the report or refuses the network.
-fn open_network<O: Sink>(
-    alloc: Global,
-    part: &[u8],
-    out: &mut O,
-) -> Result<Option<Status>, AllocError>
-    ensures run { (before taken : ℕ) → Advances (network_reply (network_of part.now) before taken) (steps_reply 0 before taken)
-        (network_reply (network_of part.now) before taken []).text (O.written out.old) (O.written out.new) result }
-    ensures cause { HasWriteCause (O.faults out.old) (O.faults out.new) result }
-    ensures short { result ≡ Ok (Some Status.TooLong) → ⊥ }
+fn opened<O: Sink>(alloc: Global, part: &[u8], out: &mut O) -> Result<Opened, AllocError>
+    ensures opened { Opens part.now (O.written out.old) (O.written out.new) result }
+    ensures later { O.faults out.old ≤ O.faults out.new }
+    ensures cause { result ≡ Ok (Opened.Over Status.WriteFault) → Rose (O.faults out.old) (O.faults out.new) }
 {
-    match read_network(alloc, part) {
-        Ok(_) => Ok(write_text(out, OPENING, None)),
-        Err(NetworkFault::Memory) => Err(AllocError),
-        Err(fault) => {
-            let text = network_refusal(alloc, fault)?;
-            Ok(write_text(out, &text, Some(Status::NetworkRefused)))
+    match open_network(alloc, part) {
+        Ok(Ok(net)) => {
+            let text = opening_text(alloc, &net)?;
+            match write_text(out, &text, None) {
+                None => Ok(Opened::Runs(net)),
+                Some(status) => Ok(Opened::Over(status)),
+            }
+        }
+        Err(refused) => Err(refused),
+        Ok(Err(fault)) => {
+            let text = network_refused_line(alloc, fault)?;
+            match write_text(out, &text, Some(Status::NetworkRefused)) {
+                None => unreachable!(),
+                Some(status) => Ok(Opened::Over(status)),
+            }
         }
     }
 }
@@ -183,6 +178,8 @@ fn fits_limits(taken: u64, line: &[u8]) -> bool
 /// Takes a line after the network, with so many lines and bytes before it.
 fn take_step<O: Sink>(
     alloc: Global,
+    audit: bool,
+    net: &mut Net,
     done: &mut u64,
     before: u64,
     taken: u64,
@@ -192,30 +189,30 @@ fn take_step<O: Sink>(
     requires lines { before + 1 < 2 ^ 64 }
     requires bytes { taken + length line.now < 2 ^ 64 }
     requires steps { done.old ≤ before }
-    ensures run { Advances (λ lines. steps_reply done.old before taken (line.now ∷ lines)) (steps_reply done.new (before + 1) (taken + length line.now))
-        (steps_reply done.old before taken (line.now ∷ [])).text (O.written out.old) (O.written out.new) result }
+    requires running { is_stopped net.old ≡ false }
+    ensures run { Advances (λ lines. steps_reply audit (spec_of net.old) (world_of net.old) done.old before taken (line.now ∷ lines))
+        (steps_reply audit (spec_of net.new) (world_of net.new) done.new (before + 1) (taken + length line.now))
+        (steps_reply audit (spec_of net.old) (world_of net.old) done.old before taken (line.now ∷ [])).text (O.written out.old) (O.written out.new) result }
     ensures cause { HasWriteCause (O.faults out.old) (O.faults out.new) result }
     ensures steps { done.new ≤ before + 1 }
     ensures within { result ≡ Ok None → taken + length line.now ≤ max_input }
+    ensures running { result ≡ Ok None → is_stopped net.new ≡ false }
 {
     if !fits_limits(taken, line) {
         return Ok(Some(Status::TooLong));
     }
-    match read_built(alloc, text_of(line)) {
-        Ok(BuiltLine::NoStep) => Ok(None),
-        Ok(
-            BuiltLine::Exec {
-                chain,
-                account,
-                message,
-            },
-        ) => {
+    let asked = match read_line(alloc, text_of(line)) {
+        Ok(asked) => asked,
+        Err(refused) => return Err(refused),
+    };
+    match serve(alloc, net, audit, *done + 1, &asked) {
+        Ok(Served::Nothing) => Ok(None),
+        Ok(Served::Block(text)) => {
             *done += 1;
-            let text = exec_block(alloc, *done, chain, &account, message.items())?;
             Ok(write_text(out, &text, None))
         }
-        Ok(BuiltLine::Refused) => {
-            let text = line_refusal(alloc, before + 1)?;
+        Ok(Served::Unknown) => {
+            let text = line_refused_line(alloc, before + 1)?;
             Ok(write_text(out, &text, Some(Status::LineRefused)))
         }
         Err(refused) => Err(refused),

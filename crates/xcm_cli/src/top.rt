@@ -1,21 +1,32 @@
 //! The run of the program.
 
-ghost use Rattle.std.specs.Prelude.{◌≡◌, ◌⊎◌, false, Ok, IfOk, IfSome};
+ghost use Rattle.std.specs.Prelude.{◌≡◌, ◌≢◌, ◌⊎◌, true, Ok, IfOk, IfSome};
 ghost use Rattle.std.specs.Io.KnownBytes.{Appends, IsAtEnd};
 ghost use Rattle.std.specs.declared.alloc.AllocError.{AllocError};
 ghost use Rattle.xcm_io.specs.Causes.{Rose};
-ghost use Rattle.xcm_cli.specs.Report.{report, fate, is_run, usage_reply};
+ghost use Rattle.network_spec.specs.declared.network.NetworkSpec.{NetworkSpec};
+ghost use Rattle.network_config.specs.Network.{network_of};
+ghost use Rattle.conserved_networks.specs.Kept.{IsCoherent, NetworkKept};
+ghost use Rattle.xcm_cli.specs.Report.{report, fate, ends, usage_reply, generated_reply, network_bytes, steps_of};
+ghost use Rattle.generator.specs.Generated.{generated};
+ghost use Rattle.xcm_cli.specs.Words.{task_of, reads};
+ghost use Rattle.xcm_cli.specs.declared.words.Task.TheVariants.{Usage};
 ghost use Rattle.xcm_cli.specs.Session.{IsFault, Finishes};
 ghost use Rattle.xcm_cli.specs.Serving.{ServesWords};
 
 use crate::serving::serve;
 use crate::status::Status;
 use crate::texts::USAGE;
+use crate::words::{Task, task_of};
+use conserved_networks::law_of_conserved_networks;
+use generator::generate;
 use std::alloc::{AllocError, Global};
+use step_text::network_refused_line;
 use xcm_io::{Sink, Source, write_whole};
 
-/// Runs the program: reads the input by pieces, runs and reports each line before it reads on, and answers how the run ended.
-/// With other words than `run` it writes the usage line and reads nothing. `Err` is out of memory alone.
+/// Runs the program. With the words `run` or `run --audit` it reads the input by pieces, runs and reports each line before it reads on, and
+/// answers how the run ended. With `gen`, a number and a number of steps it reports the run of steps that are drawn from the number. With
+/// other words it writes the usage line. Only `run` reads. `Err` is out of memory alone.
 pub fn run<I: Source, O: Sink>(
     alloc: Global,
     words: &[String],
@@ -29,28 +40,26 @@ pub fn run<I: Source, O: Sink>(
     // Whatever happens, a front of the report of what was taken is written; and which front, after a fault or past a limit.
     ensures front { ServesWords words.now (I.left input.old) (I.left input.new) (O.written out.old) (O.written out.new) result }
 
-    // Done, which is the answer of the word `run` alone, leaves the source at its end.
-    ensures end { result ≡ Ok Status.Done → IsAtEnd (I.left input.new) }
+    // Where the input is read, Done leaves the source at its end.
+    ensures end { reads (task_of words.now) ≡ true → result ≡ Ok Status.Done → IsAtEnd (I.left input.new) }
 
     // A fault is answered only where the source, the sink failed in this call.
     ensures read { result ≡ Ok Status.ReadFault → Rose (I.faults input.old) (I.faults input.new) }
     ensures write { result ≡ Ok Status.WriteFault → Rose (O.faults out.old) (O.faults out.new) }
 
     // Other words are answered by their usage, whatever the source tells, and only they.
-    ensures usage { is_run words.now ≡ false → IfOk result (λ status. (status ≡ Status.Usage) ⊎ (status ≡ Status.WriteFault)) }
-    ensures other { result ≡ Ok Status.Usage → is_run words.now ≡ false }
-{
-    if !is_run(words) {
-        return Ok(write_usage(out));
-    }
-    serve(alloc, input, out)
-}
+    ensures usage { task_of words.now ≡ Usage → IfOk result (λ status. (status ≡ Status.Usage) ⊎ (status ≡ Status.WriteFault)) }
+    ensures other { result ≡ Ok Status.Usage → task_of words.now ≡ Usage }
 
-/// Whether the words are just `run`.
-fn is_run(words: &[String]) -> bool
-    ensures { result ≡ is_run words.now }
+    // Where the network of the input is coherent, every world of its run keeps each asset and backs each derivative.
+    ensures kept { IfSome (I.left input.old) (λ bytes. (spec : NetworkSpec) → network_of (network_bytes bytes) ≡ Ok spec → IsCoherent spec → NetworkKept spec (steps_of bytes)) }
 {
-    words.len() == 1 && words[0].as_str() == "run"
+    law_of_conserved_networks(); // For the prover alone.
+    match task_of(alloc, words)? {
+        Task::Run { audit } => serve(alloc, audit, input, out),
+        Task::Generate { number, steps } => write_generated(alloc, number, steps, out),
+        Task::Usage => Ok(write_usage(out)),
+    }
 }
 
 /// Writes the usage line.
@@ -59,8 +68,41 @@ fn write_usage<O: Sink>(out: &mut O) -> Status
     ensures answer { (result ≡ Status.Usage) ⊎ (result ≡ Status.WriteFault) }
     ensures cause { result ≡ Status.WriteFault → Rose (O.faults out.old) (O.faults out.new) }
 {
-    match write_whole(out, USAGE.as_bytes()) {
-        Ok(()) => Status::Usage,
+    write_reply(out, USAGE, Status::Usage)
+}
+
+/// Runs so many steps that are drawn from the number, and reports how they ended.
+fn write_generated<O: Sink>(
+    alloc: Global,
+    number: u64,
+    steps: u64,
+    out: &mut O,
+) -> Result<Status, AllocError>
+    ensures run { Finishes (generated_reply (generated number steps)) (O.written out.old) (O.written out.new) result }
+    ensures cause { result ≡ Ok Status.WriteFault → Rose (O.faults out.old) (O.faults out.new) }
+    ensures usage { result ≢ Ok Status.Usage }
+{
+    match generate(alloc, number, steps) {
+        Ok(Ok(text)) => Ok(write_reply(out, &text, Status::Done)),
+        Err(refused) => Err(refused),
+        Ok(Err(fault)) => {
+            let text = network_refused_line(alloc, fault)?;
+            Ok(write_reply(out, &text, Status::NetworkRefused))
+        }
+    }
+}
+
+/// Writes a text, behind which the run is over with this answer. The answer is the one handed in, or a write fault.
+fn write_reply<O: Sink>(out: &mut O, text: &str, answer: Status) -> Status
+    requires read { answer ≢ Status.ReadFault }
+    requires write { answer ≢ Status.WriteFault }
+    requires long { answer ≢ Status.TooLong }
+    ensures run { Finishes {E = AllocError} (ends text.now answer) (O.written out.old) (O.written out.new) (Ok result) }
+    ensures answer { (result ≡ answer) ⊎ (result ≡ Status.WriteFault) }
+    ensures cause { result ≡ Status.WriteFault → Rose (O.faults out.old) (O.faults out.new) }
+{
+    match write_whole(out, text.as_bytes()) {
+        Ok(()) => answer,
         Err(_) => Status::WriteFault,
     }
 }

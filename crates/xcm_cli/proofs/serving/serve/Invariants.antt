@@ -6,7 +6,7 @@ use Rattle.xcm_cli.proofs.serving.serve.Given as goal
 
 abbrev pub invariant-pieces : goal.invariant-pieces
 invariant-pieces g l = record {
-  streams : Streams (g.I.Source.left l.initial.input) (g.I.Source.left l.input) (g.O.Sink.written l.initial.out) (g.O.Sink.written l.out) l.feeder.session l.feeder.pending.items;
+  streams : Streams l.fn.audit (g.I.Source.left l.initial.input) (g.I.Source.left l.input) (g.O.Sink.written l.initial.out) (g.O.Sink.written l.out) l.feeder.session l.feeder.pending.items;
   reads : g.I.Source.faults l.initial.input ≤ g.I.Source.faults l.input;
   writes : g.O.Sink.faults l.initial.out ≤ g.O.Sink.faults l.out;
   ready : IsReady l.feeder.session;

@@ -1,24 +1,57 @@
-use Rattle.std.proofs.Common.{◌≡◌, ◌∙◌, sym, true, false}
-use Rattle.xcm_cli.specs.Report.{is_run}
-use Rattle.xcm_cli.proofs.Headline.{answer_run, front_run, answer_usage, front_usage}
+use Rattle.std.proofs.Common.{◌≡◌, ◌∙◌, sym, ap, ℕ, List, Option, Some, None, Ok, IfSome}
+use Rattle.network_spec.specs.declared.network.NetworkSpec.{NetworkSpec}
+use Rattle.network_config.specs.Network.{network_of}
+use Rattle.network_steps.specs.Steps.{Step}
+use Rattle.conserved_networks.specs.Kept.{IsCoherent, NetworkKept}
+use Rattle.xcm_cli.specs.declared.words.Task.TheVariants.{Run, Generate, Usage}
+use Rattle.xcm_cli.specs.Words.{task_of, reads}
+use Rattle.xcm_cli.specs.Report.{network_bytes, steps_of}
+use Rattle.xcm_cli.proofs.Headline.{reply_of, answer_run, front_run, answer_written, front_written, front_none}
 use Rattle.xcm_cli.proofs.top.run.Goals as goal
 
-pub returns-then-not-is_run-clause-answer : goal.returns-then-not-is_run-clause-answer
-returns-then-not-is_run-clause-answer g c =
-    let words : is_run c.args.words.now ≡ false = sym c.is_run.ensures ∙ c.if-not-is_run.true in
-    answer_usage _ _ _ _ _ words c.write_usage.ensures.run
+pub returns-in-Usage-clause-answer : goal.returns-in-Usage-clause-answer
+returns-in-Usage-clause-answer g c =
+    let words : task_of c.args.words.now ≡ Usage = sym c.in_ok-audit.ensures ∙ c.in-Usage.is in
+    answer_written _ _ _ _ _ _ (λ bytes. reply_of _ _ bytes words) c.write_usage.ensures.run
 
-pub returns-then-not-is_run-clause-front : goal.returns-then-not-is_run-clause-front
-returns-then-not-is_run-clause-front g c =
-    let words : is_run c.args.words.now ≡ false = sym c.is_run.ensures ∙ c.if-not-is_run.true in
-    front_usage _ _ _ _ _ words c.write_usage.ensures.run
+pub returns-in-Usage-clause-front : goal.returns-in-Usage-clause-front
+returns-in-Usage-clause-front g c =
+    let words : task_of c.args.words.now ≡ Usage = sym c.in_ok-audit.ensures ∙ c.in-Usage.is in
+    front_written _ _ _ _ _ _ (λ bytes. reply_of _ _ bytes words) (ap reads words) c.write_usage.ensures.run
 
-pub returns-clause-answer : goal.returns-clause-answer
-returns-clause-answer g c =
-    let words : is_run c.args.words.now ≡ true = sym c.is_run.ensures ∙ c.if-not-is_run.false in
-    answer_run _ _ _ _ _ _ words c.serve.ensures.run
+pub returns-in-Generate-clause-answer : goal.returns-in-Generate-clause-answer
+returns-in-Generate-clause-answer g c =
+    let words : task_of c.args.words.now ≡ Generate c.in-Generate.number c.in-Generate.steps = sym c.in_ok-audit.ensures ∙ c.in-Generate.is in
+    answer_written _ _ _ _ _ _ (λ bytes. reply_of _ _ bytes words) c.write_generated.ensures.run
 
-pub returns-clause-front : goal.returns-clause-front
-returns-clause-front g c =
-    let words : is_run c.args.words.now ≡ true = sym c.is_run.ensures ∙ c.if-not-is_run.false in
-    front_run _ _ _ _ _ _ words c.serve.ensures.run
+pub returns-in-Generate-clause-front : goal.returns-in-Generate-clause-front
+returns-in-Generate-clause-front g c =
+    let words : task_of c.args.words.now ≡ Generate c.in-Generate.number c.in-Generate.steps = sym c.in_ok-audit.ensures ∙ c.in-Generate.is in
+    front_written _ _ _ _ _ _ (λ bytes. reply_of _ _ bytes words) (ap reads words) c.write_generated.ensures.run
+
+pub returns-in-Run-clause-answer : goal.returns-in-Run-clause-answer
+returns-in-Run-clause-answer g c =
+    let words : task_of c.args.words.now ≡ Run c.in-Run.audit = sym c.in_ok-audit.ensures ∙ c.in-Run.is in
+    answer_run _ _ _ _ _ _ _ words c.serve.ensures.run
+
+pub returns-in-Run-clause-front : goal.returns-in-Run-clause-front
+returns-in-Run-clause-front g c =
+    let words : task_of c.args.words.now ≡ Run c.in-Run.audit = sym c.in_ok-audit.ensures ∙ c.in-Run.is in
+    front_run _ _ _ _ _ _ _ words c.serve.ensures.run
+
+pub returns-in_err-audit-clause-front : goal.returns-in_err-audit-clause-front
+returns-in_err-audit-clause-front g c = front_none _ _ _ c.from_residual.result c.from_residual.ensures.0
+
+kept_of : (left : Option (List ℕ)) → ((spec : NetworkSpec) (steps : List Step) → IsCoherent spec → NetworkKept spec steps)
+    → IfSome left (λ bytes. (spec : NetworkSpec) → network_of (network_bytes bytes) ≡ Ok spec → IsCoherent spec → NetworkKept spec (steps_of bytes))
+kept_of None law = tt
+kept_of (Some bytes) law = λ spec read coherent. law spec (steps_of bytes) coherent
+
+pub returns-in-Usage-clause-kept : goal.returns-in-Usage-clause-kept
+returns-in-Usage-clause-kept g c = kept_of _ c.law_of_conserved_networks.ensures.kept
+
+pub returns-in-Generate-clause-kept : goal.returns-in-Generate-clause-kept
+returns-in-Generate-clause-kept g c = kept_of _ c.law_of_conserved_networks.ensures.kept
+
+pub returns-in-Run-clause-kept : goal.returns-in-Run-clause-kept
+returns-in-Run-clause-kept g c = kept_of _ c.law_of_conserved_networks.ensures.kept

@@ -8,13 +8,13 @@ use Rattle.xcm_cli.proofs.feeder.Feeder.is_over.Goals as goal
 pub returns-then-pending-gt-MAX_LINE-clause-over : goal.returns-then-pending-gt-MAX_LINE-clause-over
 returns-then-pending-gt-MAX_LINE-clause-over c t at_end more =
     let long : 262144 < c.len-pending.result = ltb-true 262144 c.len-pending.result t in
-    over_line c.args.self.now _ at_end more c.requires.open c.in-Steps.is (omega (arith, c.len-pending.ensures, c.args.self.now.pending.ok))
+    over_line c.args.self.now _ _ at_end more c.requires.open c.in-Steps.is (omega (arith, c.len-pending.ensures, c.args.self.now.pending.ok))
 
 pub returns-else-pending-gt-MAX_LINE-clause-over : goal.returns-else-pending-gt-MAX_LINE-clause-over
 returns-else-pending-gt-MAX_LINE-clause-over c t at_end more =
     let past : 67108864 < c.args.self.now.session.taken + c.len-pending.result = ltb-true 67108864 _ t in
-    let size : c.args.self.now.session.taken ≤ 67108864 = steps_size c.args.self.now.session _ c.in-Steps.is c.requires.ready in
-    over_total c.args.self.now _ at_end more c.requires.open (omega (arith, c.len-pending.ensures, c.args.self.now.pending.ok)) c.in-Steps.is (omega (arith, c.len-pending.ensures, c.args.self.now.pending.ok))
+    let size : c.args.self.now.session.taken ≤ 67108864 = (steps_size c.args.self.now.session _ _ c.in-Steps.is c.requires.ready).0 in
+    over_total c.args.self.now _ _ at_end more c.requires.open (omega (arith, c.len-pending.ensures, c.args.self.now.pending.ok)) c.in-Steps.is (omega (arith, c.len-pending.ensures, c.args.self.now.pending.ok))
 
 pub returns-then-not-starts_with-clause-over : goal.returns-then-not-starts_with-clause-over
 returns-then-not-starts_with-clause-over c t at_end more =

@@ -1,0 +1,37 @@
+//! Where a run stands.
+
+use crate::status::Status;
+use chain_net::Net;
+
+/// Which part of the input is read.
+#[derive(Drop)]
+pub(crate) enum Phase {
+    /// The network part, of which these bytes have come.
+    Network(Vec<u8>),
+    /// The lines after it.
+    Steps {
+        /// The network, as the steps have left it.
+        net: Net,
+        /// So many steps are done.
+        done: u64,
+    },
+}
+
+/// Where a run stands: so many lines have come, of so many bytes.
+#[derive(Drop)]
+pub(crate) struct Session {
+    /// Whether the audit stands behind each step.
+    pub(crate) audit: bool,
+    pub(crate) phase: Phase,
+    pub(crate) lines: u64,
+    pub(crate) taken: u64,
+}
+
+/// What came of a network part.
+#[derive(Drop)]
+pub(crate) enum Opened {
+    /// The network runs.
+    Runs(Net),
+    /// The run is over.
+    Over(Status),
+}
