@@ -1,4 +1,4 @@
-//! The crates below the top call on cases: sources and sinks, lists, lines, runs of programs, and the text of steps.
+//! The crates below the top call on cases: sources and sinks, lists, and lines.
 #![tactic(auto)]
 
 #[cfg(test)]
@@ -6,8 +6,4 @@ mod lines;
 #[cfg(test)]
 mod lists;
 #[cfg(test)]
-mod plain_runs;
-#[cfg(test)]
 mod sources;
-#[cfg(test)]
-mod steps;

@@ -1,6 +1,6 @@
 //! Limits, and sources and sinks that fail.
 
-use crate::running::{exec_input, run_of};
+use crate::running::{RUN, exec_input, run_of};
 use std::alloc::Global;
 use std::test::Fail;
 use xcm_cli::Status;
@@ -34,7 +34,7 @@ fn limits_are_passed_at_their_first_byte(rt: HostRuntime) -> Result<(), Fail> {
         (1_048_577, b"", Status::TooLong, ""),
     ] {
         let input = long_network(alloc, bytes, behind)?;
-        let ran = run_of(alloc, "run", &input, 65_536, &[], &[])?;
+        let ran = run_of(alloc, RUN, &input, 65_536, &[], &[])?;
         assert_eq!(&rt; ran.status, status);
         assert_eq!(&rt; ran.bytes.as_slice(), report.as_bytes());
     }
@@ -49,7 +49,7 @@ fn limits_are_passed_at_their_first_byte(rt: HostRuntime) -> Result<(), Fail> {
         let mut input = b"{}\n---\n".to_vec(alloc)?;
         input.extend_from_slice(&vec![in alloc; b'#'; bytes]?)?;
         input.extend_from_slice(end)?;
-        let ran = run_of(alloc, "run", &input, 65_536, &[], &[])?;
+        let ran = run_of(alloc, RUN, &input, 65_536, &[], &[])?;
         assert_eq!(&rt; ran.status, status);
         assert_eq!(&rt; ran.bytes.as_slice(), b"coherent\n".as_slice());
     }
@@ -60,19 +60,19 @@ fn limits_are_passed_at_their_first_byte(rt: HostRuntime) -> Result<(), Fail> {
 fn a_failing_source_leaves_the_report_of_the_whole_lines(rt: HostRuntime) -> Result<(), Fail> {
     let alloc = rt.alloc();
     let input = exec_input(alloc, "04041914")?;
-    let whole = run_of(alloc, "run", input.as_bytes(), 4096, &[], &[])?;
+    let whole = run_of(alloc, RUN, input.as_bytes(), 4096, &[], &[])?;
     let len = input.len();
     if len == 0 {
         return Ok(());
     }
-    let ran_2 = run_of(alloc, "run", input.as_bytes(), len, &[2], &[])?;
+    let ran_2 = run_of(alloc, RUN, input.as_bytes(), len, &[2], &[])?;
     assert_eq!(&rt; ran_2.status, Status::ReadFault);
     assert_eq!(&rt; ran_2.bytes.as_slice(), whole.bytes.as_slice());
-    let ran_1 = run_of(alloc, "run", input.as_bytes(), len, &[1], &[])?;
+    let ran_1 = run_of(alloc, RUN, input.as_bytes(), len, &[1], &[])?;
     assert_eq!(&rt; ran_1.status, Status::ReadFault);
     assert_eq!(&rt; ran_1.bytes.len(), 0);
     // the eighth byte is the first one behind the line `---`
-    let ran_8 = run_of(alloc, "run", input.as_bytes(), 1, &[8], &[])?;
+    let ran_8 = run_of(alloc, RUN, input.as_bytes(), 1, &[8], &[])?;
     assert_eq!(&rt; ran_8.status, Status::ReadFault);
     assert_eq!(&rt; ran_8.bytes.as_slice(), b"coherent\n".as_slice());
     Ok(())
@@ -82,9 +82,9 @@ fn a_failing_source_leaves_the_report_of_the_whole_lines(rt: HostRuntime) -> Res
 fn a_failing_sink_leaves_a_front_of_the_report(rt: HostRuntime) -> Result<(), Fail> {
     let alloc = rt.alloc();
     let input = exec_input(alloc, "04041914")?;
-    let whole = run_of(alloc, "run", input.as_bytes(), 16, &[], &[])?;
+    let whole = run_of(alloc, RUN, input.as_bytes(), 16, &[], &[])?;
     for failing in 1u64..20 {
-        let ran = run_of(alloc, "run", input.as_bytes(), 16, &[], &[failing])?;
+        let ran = run_of(alloc, RUN, input.as_bytes(), 16, &[], &[failing])?;
         if ran.status == Status::Done {
             assert_eq!(&rt; ran.bytes.as_slice(), whole.bytes.as_slice());
         } else {

@@ -2,8 +2,30 @@
 #![tactic(auto)]
 
 #[cfg(test)]
+mod crowds;
+#[cfg(test)]
+mod deliveries;
+#[cfg(test)]
+mod devices;
+#[cfg(test)]
+mod documents;
+#[cfg(test)]
 mod faults;
+#[cfg(test)]
+mod generated;
+#[cfg(test)]
+mod holdings;
+#[cfg(test)]
+mod hostile;
 #[cfg(test)]
 mod inputs;
 #[cfg(test)]
+mod messages;
+#[cfg(test)]
+mod openings;
+#[cfg(test)]
 mod running;
+#[cfg(test)]
+mod teleports;
+#[cfg(test)]
+mod transfers;

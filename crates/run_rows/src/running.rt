@@ -2,14 +2,32 @@
 
 ghost use Rattle.std.specs.Prelude.{◌<◌};
 
-use std::alloc::{AllocError, Global};
+use std::alloc::Global;
 use std::process::Abort;
 use std::test::Fail;
 use xcm_cli::{Status, run};
 use xcm_io::{MemSink, MemSource};
 
-/// The account on whose behalf messages are executed.
-const ACCOUNT: &str = "0x0101010101010101010101010101010101010101010101010101010101010101";
+/// The word that runs a network.
+pub(crate) const RUN: &[&str] = &["run"];
+
+/// The words that run a network, with the sums behind each step.
+pub(crate) const AUDIT: &[&str] = &["run", "--audit"];
+
+/// How many bytes a report may have here.
+const ROOM: usize = 1_048_576;
+
+/// A whole input, its answer and its report.
+pub(crate) struct Row {
+    /// What it shows.
+    pub(crate) name: &'static str,
+    /// The network document.
+    pub(crate) network: &'static str,
+    /// The lines behind the line `---`.
+    pub(crate) steps: &'static str,
+    pub(crate) status: Status,
+    pub(crate) report: &'static str,
+}
 
 /// What a run answers and writes.
 #[derive(Drop)]
@@ -18,10 +36,19 @@ pub(crate) struct Ran {
     pub(crate) bytes: Vec<u8>,
 }
 
-/// A run of one word over an input, by pieces of at most so many bytes, with the numbers of the reads and writes that fail.
+/// The words of the command line.
+fn words_of(alloc: Global, words: &[&str]) -> Result<Vec<String>, Fail> {
+    let mut list = Vec::new(alloc);
+    for word in words {
+        list.push(String::from_str(alloc, word)?)?;
+    }
+    Ok(list)
+}
+
+/// A run with these words over an input, by pieces of at most so many bytes, with the numbers of the reads and writes that fail.
 pub(crate) fn run_of(
     alloc: Global,
-    word: &str,
+    words: &[&str],
     input: &[u8],
     piece: usize,
     reads: &[u64],
@@ -29,10 +56,9 @@ pub(crate) fn run_of(
 ) -> Result<Ran, Fail>
     requires { 0 < piece }
 {
-    let mut words = Vec::new(alloc);
-    words.push(String::from_str(alloc, word)?)?;
+    let words = words_of(alloc, words)?;
     let mut source = MemSource::new(input.to_vec(alloc)?, piece, reads.to_vec(alloc)?);
-    let mut sink = MemSink::new(alloc, 65_536, piece, writes.to_vec(alloc)?)?;
+    let mut sink = MemSink::new(alloc, ROOM, piece, writes.to_vec(alloc)?)?;
     let status = run(alloc, &words, &mut source, &mut sink)?;
     Ok(Ran {
         status,
@@ -44,12 +70,13 @@ pub(crate) fn run_of(
 pub(crate) fn check(
     rt: &impl Abort,
     alloc: Global,
+    words: &[&str],
     input: &[u8],
     status: Status,
     report: &str,
 ) -> Result<(), Fail> {
-    for piece in [1usize, 2, 3, 7, 64, 65_536] {
-        let ran = run_of(alloc, "run", input, piece, &[], &[])?;
+    for piece in [1usize, 2, 3, 7, 64, 65_535, 65_536] {
+        let ran = run_of(alloc, words, input, piece, &[], &[])?;
         assert_eq!(rt; ran.status, status, "status by pieces of {piece}");
         assert_eq!(rt;
             ran.bytes.as_slice(),
@@ -60,12 +87,33 @@ pub(crate) fn check(
     Ok(())
 }
 
-/// The input of one step that executes a message on the relay.
-pub(crate) fn exec_input(alloc: Global, message: &str) -> Result<String, AllocError> {
-    format!(in alloc; "{{}}\n---\nexec relay {ACCOUNT} {message}\n")
+/// Each row has its answer and its report.
+pub(crate) fn check_rows(
+    rt: &impl Abort,
+    alloc: Global,
+    words: &[&str],
+    rows: &[Row],
+) -> Result<(), Fail> {
+    for row in rows {
+        let input = input_of(alloc, row.network, row.steps)?;
+        check(rt, alloc, words, input.as_bytes(), row.status, row.report)?;
+    }
+    Ok(())
 }
 
-/// The report of one step on the relay with these lines.
-pub(crate) fn exec_report(alloc: Global, lines: &str) -> Result<String, AllocError> {
-    format!(in alloc; "coherent\n#1 exec relay\n{lines}")
+/// The input of a network and the lines behind it.
+pub(crate) fn input_of(alloc: Global, network: &str, steps: &str) -> Result<String, Fail> {
+    Ok(format!(in alloc; "{network}\n---\n{steps}")?)
+}
+
+/// The input of one step that executes a message on a relay chain without assets.
+pub(crate) fn exec_input(alloc: Global, message: &str) -> Result<String, Fail> {
+    Ok(format!(in alloc;
+        "{{}}\n---\nexec relay 0x0101010101010101010101010101010101010101010101010101010101010101 {message}\n"
+    )?)
+}
+
+/// The report of one step on the relay chain with these lines.
+pub(crate) fn exec_report(alloc: Global, lines: &str) -> Result<String, Fail> {
+    Ok(format!(in alloc; "coherent\n#1 exec relay\n{lines}")?)
 }

@@ -1,0 +1,23 @@
+//! Steps in networks: what each tells, and what stands behind it.
+#![tactic(auto)]
+
+#[cfg(test)]
+mod admission;
+#[cfg(test)]
+mod documents;
+#[cfg(test)]
+mod fees;
+#[cfg(test)]
+mod programs;
+#[cfg(test)]
+mod queries;
+#[cfg(test)]
+mod refusals;
+#[cfg(test)]
+mod stepping;
+#[cfg(test)]
+mod teleports;
+#[cfg(test)]
+mod transfers;
+#[cfg(test)]
+mod traps;

@@ -1,0 +1,161 @@
+//! Networks that are opened and stepped, and what is told of it.
+use chain_net::{Net, StepResult};
+use input_lines::{Line, read_line};
+use network_coherence::coherent;
+use network_config::read_network;
+use network_laws::law_of_valid_networks;
+use std::alloc::{AllocError, Global};
+use std::process::Abort;
+use std::test::Fail;
+use step_text::{
+    balances_text, checking_text, drained_line, opening_line, queue_text, step_text, traps_text,
+};
+use supply_text::supply_block;
+
+/// Short words of the tables, and what they stand for: accounts, their bytes within a message, and the account of parachain 2000 at the
+/// relay chain.
+const WORDS: [(&str, &str); 7] = [
+    (
+        "A0",
+        "0x0000000000000000000000000000000000000000000000000000000000000000",
+    ),
+    (
+        "A1",
+        "0x0101010101010101010101010101010101010101010101010101010101010101",
+    ),
+    (
+        "A2",
+        "0x0202020202020202020202020202020202020202020202020202020202020202",
+    ),
+    (
+        "A3",
+        "0x0303030303030303030303030303030303030303030303030303030303030303",
+    ),
+    (
+        "B2",
+        "0202020202020202020202020202020202020202020202020202020202020202",
+    ),
+    (
+        "B3",
+        "0303030303030303030303030303030303030303030303030303030303030303",
+    ),
+    (
+        "PARA",
+        "0x70617261d0070000000000000000000000000000000000000000000000000000",
+    ),
+];
+
+/// The text, with what its short words stand for.
+fn spelled(alloc: Global, text: &str) -> Result<String, AllocError> {
+    let mut spelled = String::from_str(alloc, text)?;
+    for (word, meaning) in WORDS {
+        spelled = spelled.replace(alloc, word, meaning)?;
+    }
+    Ok(spelled)
+}
+
+/// The network of a document.
+pub(crate) fn opened(alloc: Global, document: &str) -> Result<Net, Fail> {
+    law_of_valid_networks(); // For the prover alone.
+    let text = spelled(alloc, document)?;
+    let spec = read_network(alloc, text.as_bytes())?;
+    Ok(Net::open(alloc, spec)?)
+}
+
+/// What is told of an answer, and of what the step told.
+fn told(alloc: Global, net: &Net, answer: StepResult) -> Result<String, Fail> {
+    Ok(step_text(alloc, net.trace(), &answer)?)
+}
+
+/// What the accounts of all chains hold, and their checking accounts.
+fn balances(alloc: Global, net: &Net) -> Result<String, Fail> {
+    let mut text = String::new(alloc);
+    for chain in net.chains() {
+        let name = chain.site().chain;
+        text.push_str(&balances_text(alloc, name, chain.ledger())?)?;
+        text.push_str(&checking_text(alloc, name, chain.rows(), chain.checkings())?)?;
+    }
+    Ok(text)
+}
+
+/// What is trapped at all chains.
+fn traps(alloc: Global, net: &Net) -> Result<String, Fail> {
+    let mut text = String::new(alloc);
+    for chain in net.chains() {
+        text.push_str(&traps_text(alloc, chain.site().chain, chain.traps().traps())?)?;
+    }
+    Ok(text)
+}
+
+/// What waits, chain by chain, each one's channels as the document lists them.
+fn queues(alloc: Global, net: &Net) -> Result<String, Fail> {
+    let mut text = String::new(alloc);
+    for chain in net.chains() {
+        for queue in chain.queues().channels() {
+            text.push_str(&queue_text(alloc, chain.site().chain, queue)?)?;
+        }
+    }
+    Ok(text)
+}
+
+/// Takes a step in the network, or reads it: what is told of it.
+fn step(alloc: Global, net: &mut Net, line: Line) -> Result<String, Fail> {
+    if net.stopped() {
+        return Err(Fail::new("the network is stopped"));
+    }
+    match line {
+        Line::Exec {
+            chain,
+            account,
+            message,
+        } => {
+            let answer = net.exec(chain, &account, message.items())?;
+            told(alloc, net, answer)
+        }
+        Line::Deliver { from, to } => {
+            let answer = net.deliver(from, to)?;
+            told(alloc, net, answer)
+        }
+        Line::Claim { from, to, message } => {
+            let answer = net.claim(from, to, message.items())?;
+            told(alloc, net, answer)
+        }
+        Line::Drain => Ok(drained_line(alloc, net.drain()?)?),
+        Line::Balances => balances(alloc, net),
+        Line::Traps => traps(alloc, net),
+        Line::Queues => queues(alloc, net),
+        Line::Supply => Ok(supply_block(alloc, net.chains())?),
+        Line::NoStep | Line::Refused => Err(Fail::new("no step")),
+    }
+}
+
+/// The step of a line, in short words.
+pub(crate) fn stepped(alloc: Global, net: &mut Net, line: &str) -> Result<String, Fail> {
+    let text = spelled(alloc, line)?;
+    let line = read_line(alloc, text.as_bytes())?;
+    step(alloc, net, line)
+}
+
+/// Whether the network is coherent, or why it isn't.
+pub(crate) fn coherence(alloc: Global, net: &Net) -> Result<String, Fail> {
+    Ok(opening_line(alloc, coherent(net.spec()).err())?)
+}
+
+/// Opens the network of a document, of whose coherence this is said, and takes steps in it. Each step has the lines that stand beside it.
+pub(crate) fn check(
+    rt: &impl Abort,
+    alloc: Global,
+    document: &str,
+    opening: &str,
+    steps: &[(&str, &str)],
+) -> Result<(), Fail> {
+    let mut net = opened(alloc, document)?;
+    let said = coherence(alloc, &net)?;
+    assert_eq!(rt; said.as_str(), opening);
+    for (line, lines) in steps {
+        let text = stepped(alloc, &mut net, line)?;
+        let wanted = spelled(alloc, lines)?;
+        assert_eq!(rt; text.as_str(), wanted.as_str(), "behind {line}");
+    }
+    Ok(())
+}
