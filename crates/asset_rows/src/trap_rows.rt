@@ -70,43 +70,54 @@ fn claimed(store: &mut TrapStore, list: &Assets, origin: &Location) -> Result<us
     Ok(kinds)
 }
 
+/// Whether so much of the coin is trapped, and so many pieces of the class.
+fn has(store: &TrapStore, coins: u128, pieces: u128) -> bool {
+    let some = |low| Total { low, high: 0 };
+    store.total(&coin(), Kind::Fungible) == some(coins)
+        && store.total(&class(), Kind::Class) == some(pieces)
+}
+
+/// Whether a claim gives so many kinds, or none where no trap fits, and leaves so much.
+fn gives(
+    store: &mut TrapStore,
+    list: &Assets,
+    origin: &Location,
+    (kinds, coins, pieces): (usize, u128, u128),
+) -> bool {
+    claimed(store, list, origin).unwrap_or(0) == kinds && has(store, coins, pieces)
+}
+
+/// A coin and two pieces.
+fn listed(alloc: Global) -> Result<Assets, Fail> {
+    Ok(Assets::from_sorted(vec![in alloc; coins(7), piece(1), piece(2)]?)?)
+}
+
+/// A store in which a list was trapped twice.
+fn with_two(alloc: Global, list: &Assets, origin: &Location) -> Result<Option<TrapStore>, Fail> {
+    let mut store = TrapStore::new(alloc);
+    let first = trapped(alloc, &mut store, list, origin)?;
+    let second = trapped(alloc, &mut store, list, origin)?;
+    if first != Some((1, 1)) || second != Some((2, 1)) {
+        return Ok(None);
+    }
+    Ok(Some(store))
+}
+
+/// Whether the two are claimed by their origin alone, one after the other.
+fn are_claimed(mut store: TrapStore, list: &Assets, origin: &Location) -> bool {
+    let other = place(&[Junction::GeneralIndex(1)]);
+    gives(&mut store, list, &other, (0, 14, 4))
+        && gives(&mut store, list, origin, (3, 7, 2))
+        && gives(&mut store, list, origin, (3, 0, 0))
+        && gives(&mut store, list, origin, (0, 0, 0))
+        && store.traps().next().is_none()
+}
+
 #[test]
 fn the_oldest_trap_of_a_list_is_claimed(rt: HostRuntime) -> Result<(), Fail> {
-    let alloc = rt.alloc();
     law_of_traps();
-    let list = Assets::from_sorted(vec![in alloc; coins(7), piece(1), piece(2)]?)?;
-    let origin = place(&[]);
-    let other = place(&[Junction::GeneralIndex(1)]);
-    let mut store = TrapStore::new(alloc);
-    assert_eq!(rt; trapped(alloc, &mut store, &list, &origin)?, Some((1, 1)));
-    assert_eq!(rt; trapped(alloc, &mut store, &list, &origin)?, Some((2, 1)));
-    for (answer, coins, pieces) in [
-        (Err(Unknown), 14, 4),
-        (Ok(3), 7, 2),
-        (Ok(3), 0, 0),
-        (Err(Unknown), 0, 0),
-    ] {
-        let asked = if answer.is_err() && coins > 0 {
-            &other
-        } else {
-            &origin
-        };
-        assert_eq!(rt; claimed(&mut store, &list, asked), answer);
-        assert_eq!(rt;
-            store.total(&coin(), Kind::Fungible),
-            Total {
-                low: coins,
-                high: 0
-            }
-        );
-        assert_eq!(rt;
-            store.total(&class(), Kind::Class),
-            Total {
-                low: pieces,
-                high: 0
-            }
-        );
-    }
-    assert!(rt; store.traps().is_empty());
+    let list = listed(rt.alloc())?;
+    let store = with_two(rt.alloc(), &list, &place(&[]))?;
+    assert!(rt; store.is_some_and(|store| are_claimed(store, &list, &place(&[]))));
     Ok(())
 }

@@ -89,7 +89,7 @@ fn push_traps(alloc: Global, text: &mut String, chain: &ChainState) -> Result<()
 fn chain_traps(alloc: Global, chain: &ChainState) -> Result<String, AllocError>
     ensures { IfOk result (λ text. string_bytes text ≡ traps_of (part_of chain.now)) }
 {
-    traps_text(alloc, chain.site().chain, chain.traps().traps())
+    traps_text(alloc, chain.site().chain, chain.traps())
 }
 
 /// What the network has of each asset that is native somewhere, and what backs each derivative.

@@ -15,7 +15,7 @@ use chain_ids::ChainId;
 use chain_queues::{Queue, Queued};
 use ledgers::Ledger;
 use std::alloc::{AllocError, Global};
-use trap_store::Trap;
+use trap_store::{Trap, TrapStore};
 use trust_tables::AssetRow;
 
 /// The lines of what a chain's accounts hold: accounts by bytes, and each one's assets in holding order.
@@ -64,11 +64,11 @@ fn push_balances(
 }
 
 /// The lines of a chain's traps, oldest first.
-pub fn traps_text(alloc: Global, chain: ChainId, traps: &[Trap]) -> Result<String, AllocError>
-    ensures { IfOk result (λ text. string_bytes text ≡ traps_text chain traps.now) }
+pub fn traps_text(alloc: Global, chain: ChainId, store: &TrapStore) -> Result<String, AllocError>
+    ensures { IfOk result (λ text. string_bytes text ≡ traps_text chain store.now.traps) }
 {
     let mut text = String::new(alloc);
-    push_traps(alloc, &mut text, chain, traps)?;
+    push_traps(alloc, &mut text, chain, store)?;
     Ok(text)
 }
 
@@ -77,11 +77,11 @@ fn push_traps(
     alloc: Global,
     text: &mut String,
     chain: ChainId,
-    traps: &[Trap],
+    store: &TrapStore,
 ) -> Result<(), AllocError>
-    ensures { OnOk result (string_bytes text.new ≡ string_bytes text.old ++ traps_text chain traps.now) }
+    ensures { OnOk result (string_bytes text.new ≡ string_bytes text.old ++ traps_text chain store.now.traps) }
 {
-    for trap in traps {
+    for trap in store.traps() {
         push_trap(alloc, text, chain, trap)?;
     }
     Ok(())

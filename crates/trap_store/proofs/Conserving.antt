@@ -1,7 +1,5 @@
 -- What is trapped is all there, and a claim takes out just what it names.
-use Rattle.std.proofs.Common.{◌≡◌, ℕ, zero, suc, ◌+◌, ◌*◌, ◌<◌, ◌≤◌, Bool, List, [], ◌∷◌, ◌++◌, length, length-drop, take, drop, get_or, refl, sym, ap, ◌∙◌, arith}
-use Rattle.std.specs.Prelude.{remove}
-use Rattle.std.specs.List.{sum_by}
+use Rattle.std.proofs.Common.{◌≡◌, ℕ, zero, suc, ◌+◌, ◌*◌, ◌≤◌, Bool, List, [], ◌∷◌, ◌++◌, length, length-drop, take, drop, refl, sym, ap, ◌∙◌, arith}
 use Rattle.std.proofs.lemmas.List.{take-append-drop}
 use Rattle.std.proofs.lemmas.List.Sums.{sum_by-cons, sum_by-append}
 use Rattle.amounts.specs.Rows.{sum_where}
@@ -13,6 +11,8 @@ use Rattle.asset_lists.specs.Units.{Unit}
 use Rattle.asset_bundles.specs.Bundles.{Bundle, unit_keys, bundle_of}
 use Rattle.trap_store.specs.declared.trap.Trap.{Trap}
 use Rattle.trap_store.specs.Traps.{Store, traps_of, pieces_of, number_after, piece_count, with_trapped, IsClaimed, trapped_where, AreNumbered}
+use Rattle.trap_store.specs.Oldest.{IsTaken}
+use Rattle.trap_store.proofs.Claiming.{is_claimed}
 
 joined : (p : Unit → Bool) (xs ys : List (Unit × ℕ)) → sum_where p (xs ++ ys) ≡ sum_where p xs + sum_where p ys
 joined p [] ys = omega arith
@@ -56,24 +56,13 @@ claimed_given p list origin old new claim =
     let goods = ap (total p) claim.fits.1 in
     omega (arith, whole, one, left, before, after, goods)
 
-removed : (f : Trap → ℕ) (xs : List Trap) (i : ℕ) (d : Trap) → i < length xs → sum_by f (remove xs i) + f (get_or xs i d) ≡ sum_by f xs
-removed f [] i d h = absurd (omega (arith, h))
-removed f (x ∷ xs) zero d h = let sums = sum_by-cons f x xs in omega (arith, sums)
-removed f (x ∷ xs) (suc i) d h =
-    let rest = removed f xs i d (omega (arith, h)) in
-    let sums = sum_by-cons f x xs in
-    let less = sum_by-cons f x (remove xs i) in
-    omega (arith, rest, sums, less)
-
 -- one trap taken out
-pub one_less : (p : Unit → Bool) (before after : List Trap) (place : ℕ) (t : Trap) → place < length before → t ≡ get_or before place t → after ≡ remove before place
+pub one_less : (p : Unit → Bool) (list : List Asset) (origin : Location) (before after : List Trap) (t : Trap) → IsTaken list origin before t after
     → trapped_where p before ≡ trapped_where p after + total p t.goods
-one_less p before after place t h at left =
-    let f : Trap → ℕ = λ x. total p x.goods in
-    let sums = removed f before place t h in
-    let here : f t ≡ f (get_or before place t) = ap f at in
-    let rest : trapped_where p after ≡ sum_by f (remove before place) = ap (trapped_where p) left in
-    omega (arith, sums, here, rest)
+one_less p list origin before after t taken =
+    let claim = claimed_given p list origin (record { traps = before; next = 0 }) (record { traps = after; next = 0 }) (is_claimed list origin (record { traps = before; next = 0 }) (record { traps = after; next = 0 }) t taken refl) in
+    let goods : total p t.goods ≡ total p (bundle_of list) = ap (total p) taken.fits.1 in
+    omega (arith, claim, goods)
 
 numbered : (count number : ℕ) (origin : Location) (xs : List (Unit × ℕ)) → AreNumbered number (traps_of count number origin xs)
 numbered zero number origin xs = tt

@@ -1,7 +1,10 @@
--- The list of what a bundle holds is a holding: each unit once, and no amount of 0; and so is a piece of it.
+-- The list of what a bundle holds is a holding: each unit once, and no amount of 0; and so are a piece of it, and a list of assets.
 use Rattle.std.proofs.Common.{◌≡◌, ℕ, zero, suc, ◌<◌, ◌≤◌, Bool, true, false, ◌&&◌, ◌||◌, List, [], ◌∷◌, take, Option, Some, None, refl, sym, ap, ◌∙◌, subst, arith, true≢false}
 use Rattle.std.specs.Prelude.{nat_eq}
 use Rattle.std.specs.Ordering.{is_lt}
+use Rattle.std.specs.declared.cmp.Ordering.{Ordering}
+use Rattle.std.specs.declared.cmp.Ordering.TheVariants.{Less, Equal, Greater}
+use Rattle.std.specs.List.{AllByRecursion}
 use Rattle.std.proofs.lemmas.Bool.{and_parts}
 use Rattle.std.proofs.lemmas.List.{length-take}
 use Rattle.std.specs.List.Sorted.{IsStrictlySortedBy}
@@ -10,6 +13,7 @@ use Rattle.amounts.specs.Rows.{IsPositive, keys_rising}
 use Rattle.amounts.specs.Amounts.{rows, rows_sorted, rows_positive}
 use Rattle.asset_lists.specs.declared.units.Instance.{Instance}
 use Rattle.asset_lists.specs.Units.{Unit, unit_of, amount_of, unit_cmp, instance_in, amount_in}
+use Rattle.asset_lists.specs.UnitLaws.{unit_total}
 use Rattle.asset_lists.specs.declared.units.Asset.{Asset}
 use Rattle.asset_lists.specs.Lists.{IsAssetList, is_rising, has_zero}
 use Rattle.asset_lists.specs.Moves.{occurrences}
@@ -88,3 +92,36 @@ piece_is_list xs h = record {
   no_zero = front_no_zero 20 xs (none_zero xs h.positive);
   rising = front_rises 20 xs (rises xs h.rising);
 }
+
+-- ---- a list as a holding
+less_is : (r : Ordering) → is_lt r ≡ true → r ≡ Less
+less_is Less h = refl
+less_is Equal h = absurd (cc)
+less_is Greater h = absurd (cc)
+
+all_above : (u v : Unit) (us : List Unit) → unit_cmp u v ≡ Less → AllByRecursion (λ w. unit_cmp v w ≡ Less) us → AllByRecursion (λ w. unit_cmp u w ≡ Less) us
+all_above u v [] first all = tt
+all_above u v (w ∷ us) first all = (unit_total.trans u v w first all.0, all_above u v us first all.1)
+
+rising_keys : (xs : List Asset) → is_rising xs ≡ true → IsStrictlySortedBy unit_cmp (keys_of (rows_of xs))
+unfolding IsStrictlySortedBy
+rising_keys [] rising = tt
+rising_keys (a ∷ []) rising = (tt, tt)
+rising_keys (a ∷ b ∷ xs) rising =
+    let parts = and_parts (is_lt (unit_cmp (unit_of a) (unit_of b))) (is_rising (b ∷ xs)) rising in
+    let rest = rising_keys (b ∷ xs) parts.1 in
+    let first = less_is (unit_cmp (unit_of a) (unit_of b)) parts.0 in
+    ((first, all_above (unit_of a) (unit_of b) (keys_of (rows_of xs)) first rest.0), rest)
+
+not_zero : (n : ℕ) → nat_eq n 0 ≡ false → 0 < n
+not_zero zero h = absurd (cc)
+not_zero (suc n) h = omega arith
+
+positive_rows : (xs : List Asset) → has_zero xs ≡ false → IsPositive (rows_of xs)
+positive_rows [] none = tt
+positive_rows (a ∷ xs) none =
+    let parts = neither (nat_eq (amount_of a) 0) (has_zero xs) none in
+    (not_zero (amount_of a) parts.0, positive_rows xs parts.1)
+
+pub holding_of_list : (xs : List Asset) → IsAssetList xs → IsHolding xs
+holding_of_list xs list = record { rising = rising_keys xs list.rising; positive = positive_rows xs list.no_zero }

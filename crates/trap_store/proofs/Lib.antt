@@ -2,6 +2,8 @@ mod Holding
 mod Mapped
 mod SumRows
 mod Cutting
+mod Places
+mod Searching
 mod Claiming
 mod Conserving
 mod Settling

@@ -1,6 +1,6 @@
 -- The running sums after traps came or went, written back into their place.
-use Rattle.std.proofs.Common.{◌≡◌, ℕ, zero, suc, ◌+◌, ◌-◌, ◌^◌, ◌<◌, List, [], ◌∷◌, ◌++◌, map, length, take, get_or, refl, sym, ap, ◌∙◌, arith}
-use Rattle.std.specs.Prelude.{min, remove}
+use Rattle.std.proofs.Common.{◌≡◌, ℕ, zero, suc, ◌+◌, ◌-◌, ◌^◌, List, [], ◌∷◌, ◌++◌, map, length, take, refl, sym, ap, ◌∙◌, arith}
+use Rattle.std.specs.Prelude.{min}
 use Rattle.amounts.specs.Amounts.{rows}
 use Rattle.asset_lists.specs.declared.units.Asset.{Asset}
 use Rattle.locations.specs.declared.relative.Location.{Location}
@@ -11,6 +11,7 @@ use Rattle.asset_bundles.specs.Books.{most_burned, AreListed}
 use Rattle.trap_store.specs.declared.trap.Trap.{Trap}
 use Rattle.trap_store.specs.Traps.{Store, trapped, with_trapped, traps_of, pieces_of, piece_count}
 use Rattle.trap_store.specs.Sums.{SumRow, sum_at, keys_in, raised, settled}
+use Rattle.trap_store.specs.Oldest.{IsTaken}
 use Rattle.trap_store.proofs.SumRows.{sums_raised, sums_settled}
 use Rattle.trap_store.proofs.Conserving.{one_less, trapped_kept}
 
@@ -29,12 +30,12 @@ written f n rows now rest len changed =
     let same : length now ≡ n = ap length changed ∙ length_changed f rows ∙ len in
     front_of n now rest same ∙ changed
 
-pub settled_sums : (rows now rest : List SumRow) (n : ℕ) (before after : List Trap) (place : ℕ) (t : Trap) → length rows ≡ n → now ≡ map (settled t.goods after) rows
-    → place < length before → t ≡ get_or before place t → after ≡ remove before place → ((k : Listed) → sum_at k rows ≡ min (trapped k.0 k.1 before) most_burned)
+pub settled_sums : (rows now rest : List SumRow) (n : ℕ) (list : List Asset) (origin : Location) (before after : List Trap) (t : Trap) → length rows ≡ n → now ≡ map (settled t.goods after) rows
+    → IsTaken list origin before t after → ((k : Listed) → sum_at k rows ≡ min (trapped k.0 k.1 before) most_burned)
     → (k : Listed) → sum_at k (take n (now ++ rest)) ≡ min (trapped k.0 k.1 after) most_burned
-settled_sums rows now rest n before after place t len changed h at left sums k =
+settled_sums rows now rest n list origin before after t len changed taken sums k =
     ap (sum_at k) (written (settled t.goods after) n rows now rest len changed)
-    ∙ sums_settled rows t.goods before after sums (λ j. one_less (is_asset j.0 j.1) before after place t h at left) k
+    ∙ sums_settled rows t.goods before after sums (λ j. one_less (is_asset j.0 j.1) list origin before after t taken) k
 
 pub raised_sums : (rows now rest : List SumRow) (n : ℕ) (store : Store) (origin : Location) (goods : Bundle) (after : List Trap) → length rows ≡ n → now ≡ map (raised goods) rows
     → AreListed (keys_in rows) goods → after ≡ (with_trapped store origin goods).traps → ((k : Listed) → sum_at k rows ≡ min (trapped k.0 k.1 store.traps) most_burned)

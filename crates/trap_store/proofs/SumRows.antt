@@ -1,13 +1,12 @@
 -- Rows of running sums: one more, all changed at once, and what they then say of each asset.
-use Rattle.std.proofs.Common.{◌≡◌, ℕ, zero, suc, ◌+◌, ◌-◌, ◌<◌, Bool, true, false, cond, ◌&&◌, ◌||◌, List, [], ◌∷◌, ◌++◌, map, length, get_or, take, Option, Some, None, refl, sym, ap, ◌∙◌, arith, true≢false}
+use Rattle.std.proofs.Common.{◌≡◌, ℕ, zero, suc, ◌+◌, ◌-◌, ◌<◌, ◌≤◌, Bool, true, false, cond, ◌&&◌, ◌||◌, List, [], ◌∷◌, ◌++◌, map, length, get_or, take, Option, Some, None, refl, sym, ap, ◌∙◌, arith, true≢false}
 use Rattle.std.specs.Prelude.{min, nat_lt, if◌then◌else◌}
 use Rattle.std.specs.List.{find, list_all, position}
 use Rattle.std.specs.Option.{option_map_or}
 use Rattle.std.specs.Ordering.{eq_by_cmp}
 use Rattle.std.proofs.lemmas.Bool.{and_parts, and_from}
-use Rattle.std.proofs.lemmas.List.{take_more}
 use Rattle.std.proofs.lemmas.List.Folds.{list_all_more}
-use Rattle.std.proofs.lemmas.List.Sums.{sum_by_push}
+use Rattle.std.proofs.lemmas.List.Sums.{sum_by-cons}
 use Rattle.plain_lists.specs.Firsts.{found_at, found_nowhere, passes_at}
 use Rattle.amounts.specs.Amounts.{total}
 use Rattle.amounts.specs.Laws.{same_key, key_same, total_none}
@@ -179,12 +178,20 @@ sums_settled rows goods before after sums fallen k =
     ] refl
 
 -- ---- counting anew, trap by trap
-pub counted_more : (id : AssetId) (kind : Kind) (traps : List Trap) (i : ℕ) (t : Trap) (sum next : ℕ) → i < length traps → t ≡ get_or traps i t
-    → next ≡ min (sum + total (is_asset id kind) t.goods) most_burned → sum ≡ min (trapped id kind (take i traps)) most_burned
-    → next ≡ min (trapped id kind (take (i + 1) traps)) most_burned
-counted_more id kind traps i t sum next h at step so_far =
+pub counted_more : (id : AssetId) (kind : Kind) (rest left : List Trap) (t : Trap) (sum next all : ℕ) → rest ≡ t ∷ left → next ≡ min (sum + total (is_asset id kind) t.goods) most_burned
+    → min (sum + trapped id kind rest) most_burned ≡ min all most_burned → min (next + trapped id kind left) most_burned ≡ min all most_burned
+counted_more id kind rest left t sum next all is step so_far =
     let f : Trap → ℕ = λ x. total (is_asset id kind) x.goods in
-    let cut : take (i + 1) traps ≡ take i traps ++ t ∷ [] = take_more traps i t h ∙ ap (λ x. take i traps ++ x ∷ []) (sym at) in
-    let sums : trapped id kind (take i traps ++ t ∷ []) ≡ trapped id kind (take i traps) + f t = sum_by_push f (take i traps) t in
-    let all : trapped id kind (take (i + 1) traps) ≡ trapped id kind (take i traps) + f t = ap (trapped id kind) cut ∙ sums in
-    step ∙ ap (λ n. min (n + f t) most_burned) so_far ∙ more_min (trapped id kind (take i traps)) (f t) ∙ ap (λ n. min n most_burned) (sym all)
+    let sums : trapped id kind rest ≡ f t + trapped id kind left = ap (trapped id kind) is ∙ sum_by-cons f t left in
+    ap (λ n. min (n + trapped id kind left) most_burned) step ∙ more_min (sum + f t) (trapped id kind left)
+    ∙ ap (λ n. min n most_burned) (omega (arith, sums)) ∙ so_far
+
+pub no_more_than : (n next : ℕ) → next ≡ min n most_burned → next ≤ most_burned
+no_more_than n next step = grind (arith, step)
+
+pub counted_all : (id : AssetId) (kind : Kind) (rest : List Trap) (sum all : ℕ) → rest ≡ [] → sum ≤ most_burned → min (sum + trapped id kind rest) most_burned ≡ min all most_burned
+    → sum ≡ min all most_burned
+counted_all id kind rest sum all none within so_far =
+    let nothing : trapped id kind rest ≡ 0 = ap (trapped id kind) none in
+    let whole : min (sum + trapped id kind rest) most_burned ≡ sum = grind (arith, nothing, within) in
+    sym whole ∙ so_far

@@ -1,4 +1,5 @@
 pub mod Traps
+pub mod Digest
 pub mod Sums
 pub mod Oldest
 pub mod StoreCode

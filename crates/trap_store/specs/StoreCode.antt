@@ -5,5 +5,8 @@ use Rattle.trap_store.specs.contracts.trap.Trap.{the_row as trap}
 use Rattle.trap_store.specs.declared.trap.Trap.{Trap}
 use Rattle.trap_store.specs.Traps.{Store}
 
+abbrev pub rows_code : Coded (List Trap)
+rows_code = coded_list trap.coded
+
 abbrev pub store_code : Coded Store
-store_code = code_by (List Trap × ℕ) (coded× (coded_list trap.coded) coded_ℕ) (λ s. (s.traps, s.next)) (λ p. record { traps = p.0; next = p.1 }) (λ _. refl)
+store_code = code_by (List Trap × ℕ) (coded× rows_code coded_ℕ) (λ s. (s.traps, s.next)) (λ p. record { traps = p.0; next = p.1 }) (λ _. refl)

@@ -1,8 +1,10 @@
 //! What a chain keeps of what runs left in their holding, until it is claimed.
 #![tactic(auto)]
 
+mod digest;
 mod laws;
 mod pieces;
+mod rows;
 mod store;
 mod sums;
 mod trap;

@@ -1,19 +1,20 @@
 //! The trap store.
-ghost use Rattle.std.specs.Prelude.{◌≡◌, ◌-◌, ◌^◌, ◌<◌, [], ◌↔◌, length, min, IsTrue, MatchOption, MatchResult};
+ghost use Rattle.std.specs.Prelude.{◌≡◌, ◌-◌, ◌^◌, ◌<◌, [], length, min, MatchResult};
 ghost use Rattle.amounts.specs.Amounts.{rows};
 ghost use Rattle.asset_bundles.specs.Bundles.{bundle_of};
 ghost use Rattle.asset_bundles.specs.Books.{most_burned};
 ghost use Rattle.asset_bundles.specs.Totals.{total_value};
-ghost use Rattle.trap_store.specs.Traps.{piece_count, with_trapped, Fits, NoneFits, IsClaimed, trapped};
-ghost use Rattle.trap_store.specs.Oldest.{NoneBefore, IsOldest};
+ghost use Rattle.trap_store.specs.Traps.{piece_count, with_trapped, NoneFits, IsClaimed, trapped};
 
 use crate::Trap;
 use crate::pieces::in_pieces;
+use crate::rows::TrapRows;
 use crate::sums::{AssetSum, make_rows, raise_all, settle_all, sum_of};
 use asset_bundles::{AssetBundle, Total, Units};
 use asset_lists::{AssetId, Assets, Kind, MAX_ASSETS};
 use locations::Location;
 use std::alloc::{AllocError, Global};
+use std::collections::btree_map::Values;
 use std::marker::Model;
 use thiserror::Error;
 
@@ -25,7 +26,7 @@ pub struct Unknown;
 /// What was trapped on a chain, oldest first.
 #[derive(Drop)]
 pub struct TrapStore {
-    traps: Vec<Trap>,
+    traps: TrapRows,
     next: u64,
     sums: Vec<AssetSum>,
 }
@@ -42,9 +43,9 @@ impl Model for TrapStore {
 
     ghost coded = { store_code };
 
-    ghost view = { λ s. record { traps = s.traps.items; next = s.next } };
+    ghost view = { λ s. record { traps = s.traps; next = s.next } };
 
-    ghost invariant = { λ s. (k : Listed) → sum_at k s.sums.items ≡ min (trapped k.0 k.1 s.traps.items) most_burned };
+    ghost invariant = { λ s. (k : Listed) → sum_at k s.sums.items ≡ min (trapped k.0 k.1 s.traps) most_burned };
 }
 
 impl TrapStore {
@@ -53,17 +54,17 @@ impl TrapStore {
         ensures { result ≡ record { traps = []; next = 1 } }
     {
         TrapStore {
-            traps: Vec::new(alloc),
+            traps: TrapRows::new(alloc),
             next: 1,
             sums: Vec::new(alloc),
         }
     }
 
     /// All traps, oldest first.
-    pub fn traps(&self) -> &[Trap]
-        ensures { result.now ≡ self.now.traps }
+    pub fn traps(&self) -> Values<'_, u64, Trap>
+        ensures { result ≡ self.now.traps }
     {
-        self.traps.as_slice()
+        self.traps.iter()
     }
 
     /// How many traps a bundle makes: pieces of at most 20 assets.
@@ -96,10 +97,10 @@ impl TrapStore {
     {
         let number = self.next;
         let assets = goods.list()?;
-        let alloc = *self.traps.allocator();
-        let (mut traps, next) = in_pieces(alloc, assets.as_slice(), number, origin)?;
+        let alloc = *self.sums.allocator();
+        let (traps, next) = in_pieces(alloc, assets.as_slice(), number, origin)?;
         make_rows(&mut self.sums, assets.as_slice())?;
-        self.traps.append(&mut traps)?;
+        self.traps.append(traps)?;
         raise_all(self.sums.as_mut_slice(), goods);
         self.next = next;
         Ok(number)
@@ -111,10 +112,9 @@ impl TrapStore {
             (λ goods. (goods ≡ bundle_of list.now) × IsClaimed list.now origin.now self.old self.new)
             (λ _. NoneFits list.now origin.now self.old.traps × (self.new ≡ self.old)) }
     {
-        match oldest(self.traps.as_slice(), list, origin) {
-            Some(place) => {
-                let trap = self.traps.remove(place);
-                settle_all(self.sums.as_mut_slice(), &trap.goods, self.traps.as_slice());
+        match self.traps.take_oldest(list, origin) {
+            Some(trap) => {
+                settle_all(self.sums.as_mut_slice(), &trap.goods, &self.traps);
                 Ok(AssetBundle::take_up(trap.goods))
             }
             None => Err(Unknown),
@@ -128,25 +128,4 @@ impl TrapStore {
     {
         sum_of(self.sums.as_slice(), id, kind)
     }
-}
-
-/// Whether the trap has that origin and just that list.
-fn fits(trap: &Trap, list: &Assets, origin: &Location) -> bool
-    ensures { IsTrue result ↔ Fits list.now origin.now trap.now }
-{
-    trap.origin == *origin && trap.goods.is_list(list)
-}
-
-/// Where the oldest trap with that origin and that list is.
-fn oldest(traps: &[Trap], list: &Assets, origin: &Location) -> Option<usize>
-    ensures { MatchOption result
-        (NoneBefore list.now origin.now (length traps.now) traps.now)
-        (IsOldest list.now origin.now traps.now) }
-{
-    for (i, trap) in traps.iter().enumerate() {
-        if fits(trap, list, origin) {
-            return Some(i);
-        }
-    }
-    None
 }

@@ -9,7 +9,7 @@ ghost use Rattle.asset_bundles.specs.Books.{most_burned};
 ghost use Rattle.trap_store.specs.Traps.{trapped};
 ghost use Rattle.trap_store.specs.Sums.{is_row, sum_at, keys_in, raised, settled};
 
-use crate::Trap;
+use crate::rows::TrapRows;
 use asset_bundles::{Total, Units};
 use asset_lists::{Asset, AssetId, Kind};
 use std::alloc::AllocError;
@@ -59,11 +59,11 @@ fn less(sum: Total, amount: u128) -> Total
 }
 
 /// The amount of a fungible asset in these traps, or the number of instances of a class.
-pub(crate) fn counted(traps: &[Trap], id: &AssetId, kind: Kind) -> Total
+pub(crate) fn counted(traps: &TrapRows, id: &AssetId, kind: Kind) -> Total
     ensures { total_value result ≡ min (trapped id.now kind traps.now) most_burned }
 {
     let mut sum = Total { low: 0, high: 0 };
-    for trap in traps {
+    for trap in traps.iter() {
         sum = sum.plus(trap.goods.total(id, kind));
     }
     sum
@@ -103,7 +103,7 @@ impl AssetSum {
     }
 
     /// These units were taken out, and these traps are left. A sum that saturated is counted anew.
-    fn settle(&mut self, goods: &Units, traps: &[Trap])
+    fn settle(&mut self, goods: &Units, traps: &TrapRows)
         ensures { self.new ≡ settled goods.now traps.now self.old }
     {
         self.sum = if self.sum < MOST {
@@ -167,7 +167,7 @@ pub(crate) fn raise_all(rows: &mut [AssetSum], goods: &Units)
 }
 
 /// These units were taken out, and these traps are left.
-pub(crate) fn settle_all(rows: &mut [AssetSum], goods: &Units, traps: &[Trap])
+pub(crate) fn settle_all(rows: &mut [AssetSum], goods: &Units, traps: &TrapRows)
     ensures { rows.new ≡ map (settled goods.now traps.now) rows.old }
 {
     for row in rows.iter_mut() {

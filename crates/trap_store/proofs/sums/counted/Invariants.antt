@@ -1,4 +1,4 @@
-use Rattle.std.proofs.Common.{◌≡◌, take}
+use Rattle.std.proofs.Common.{◌≡◌, ◌+◌, ◌≤◌}
 use Rattle.std.specs.Prelude.{min}
 use Rattle.asset_bundles.specs.Totals.{total_value}
 use Rattle.asset_bundles.specs.Books.{most_burned}
@@ -6,4 +6,6 @@ use Rattle.trap_store.specs.Traps.{trapped}
 use Rattle.trap_store.proofs.sums.counted.Given as goal
 
 abbrev pub invariant-loop-trap : goal.invariant-loop-trap
-invariant-loop-trap l = total_value l.sum ≡ min (trapped l.id l.kind (take l.trap-index l.traps)) most_burned
+invariant-loop-trap l =
+    (min (total_value l.sum + trapped l.id l.kind l.trap-iterator) most_burned ≡ min (trapped l.id l.kind l.traps) most_burned)
+    × (total_value l.sum ≤ most_burned)

@@ -1,5 +1,5 @@
 use Rattle.trap_store.proofs.Claiming.{another_origin, same_origin}
-use Rattle.trap_store.proofs.store.fits.Goals as goal
+use Rattle.trap_store.proofs.rows.fits.Goals as goal
 
 pub returns-then-eq : goal.returns-then-eq
 returns-then-eq c = same_origin _ _ c.args.trap.now c.eq.result _ c.eq.ensures c.if-eq.true c.is_list.ensures
