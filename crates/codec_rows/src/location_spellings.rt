@@ -1,5 +1,6 @@
 //! Networks, junctions and locations, as bytes and as texts.
 
+use crate::values::place;
 use location_wire::{
     TextFault, law_of_no_prefix, law_of_one_location, law_of_one_spelling, law_of_readers,
     location_text, path_text, read_junction, read_junctions, read_location, read_location_text,
@@ -8,216 +9,243 @@ use location_wire::{
 use locations::{BodyId, BodyPart, Junction, Junctions, Location, NetworkId};
 use scale_codec::{Cursor, NoSpelling, Out};
 use std::alloc::Global;
-use std::process::Abort;
 use std::test::Fail;
 
-fn junctions_of(rt: &impl Abort, items: &[Junction]) -> Junctions {
-    let mut junctions = Junctions::empty();
-    for junction in items {
-        junctions.push(*junction).expect(rt, "at most eight");
-    }
-    junctions
-}
-
 /// Each junction, and the hex of its spelling.
-fn junction_rows() -> [(Junction, &'static str); 12] {
-    [
-        (Junction::Parachain(2000), "00411f"),
-        (
-            Junction::AccountId32 {
-                network: Some(NetworkId::Kusama),
-                id: [2; 32],
-            },
-            "0101030202020202020202020202020202020202020202020202020202020202020202",
-        ),
-        (
-            Junction::AccountIndex64 {
-                network: None,
-                index: 1,
-            },
-            "020004",
-        ),
-        (
-            Junction::AccountKey20 {
-                network: Some(NetworkId::Ethereum { chain_id: 1 }),
-                key: [7; 20],
-            },
-            "030107040707070707070707070707070707070707070707",
-        ),
-        (Junction::PalletInstance(50), "0432"),
-        (Junction::GeneralIndex(64), "050101"),
-        (
-            Junction::GeneralKey {
-                length: 255,
-                key: [1; 32],
-            },
-            "06ff0101010101010101010101010101010101010101010101010101010101010101",
-        ),
-        (Junction::OnlyChild, "07"),
-        (
-            Junction::Plurality {
-                id: BodyId::Moniker([1, 2, 3, 4]),
-                part: BodyPart::Fraction { nom: 1, denom: 64 },
-            },
-            "08010102030402040101",
-        ),
-        (
-            Junction::Plurality {
-                id: BodyId::Index(1),
-                part: BodyPart::Members { count: 5 },
-            },
-            "0802040114",
-        ),
-        (
-            Junction::GlobalConsensus(NetworkId::ByFork {
-                block_number: 258,
-                block_hash: [9; 32],
-            }),
-            "090102010000000000000909090909090909090909090909090909090909090909090909090909090909",
-        ),
-        (Junction::GlobalConsensus(NetworkId::Wococo), "0906"),
-    ]
-}
+const JUNCTIONS: &[(Junction, &str)] = &[
+    (Junction::Parachain(2000), "00411f"),
+    (
+        Junction::AccountId32 {
+            network: Some(NetworkId::Kusama),
+            id: [2; 32],
+        },
+        "0101030202020202020202020202020202020202020202020202020202020202020202",
+    ),
+    (
+        Junction::AccountIndex64 {
+            network: None,
+            index: 1,
+        },
+        "020004",
+    ),
+    (
+        Junction::AccountKey20 {
+            network: Some(NetworkId::Ethereum { chain_id: 1 }),
+            key: [7; 20],
+        },
+        "030107040707070707070707070707070707070707070707",
+    ),
+    (Junction::PalletInstance(50), "0432"),
+    (Junction::GeneralIndex(64), "050101"),
+    (
+        Junction::GeneralKey {
+            length: 255,
+            key: [1; 32],
+        },
+        "06ff0101010101010101010101010101010101010101010101010101010101010101",
+    ),
+    (Junction::OnlyChild, "07"),
+    (
+        Junction::Plurality {
+            id: BodyId::Moniker([1, 2, 3, 4]),
+            part: BodyPart::Fraction { nom: 1, denom: 64 },
+        },
+        "08010102030402040101",
+    ),
+    (
+        Junction::Plurality {
+            id: BodyId::Index(1),
+            part: BodyPart::Members { count: 5 },
+        },
+        "0802040114",
+    ),
+    (
+        Junction::GlobalConsensus(NetworkId::ByFork {
+            block_number: 258,
+            block_hash: [9; 32],
+        }),
+        "090102010000000000000909090909090909090909090909090909090909090909090909090909090909",
+    ),
+    (Junction::GlobalConsensus(NetworkId::Wococo), "0906"),
+];
 
-fn spelled(alloc: Global, junction: &Junction) -> Result<String, Fail> {
+/// Whether the bytes of the hex are what is written for the junction, and are read as it.
+fn spells(alloc: Global, junction: &Junction, hex: &str) -> Result<bool, Fail> {
+    let bytes = hex::decode(alloc, hex)?;
     let mut out = Out::new(alloc);
     write_junction(&mut out, junction)?;
-    Ok(hex::encode(alloc, out.bytes())?)
+    let mut cursor = Cursor::new(bytes.as_slice());
+    let read = read_junction(&mut cursor)?;
+    Ok(out.bytes() == bytes.as_slice() && read == *junction && cursor.rest().is_empty())
 }
 
 #[test]
 fn junctions_are_spelled_by_their_index(rt: HostRuntime) -> Result<(), Fail> {
-    for (junction, want) in junction_rows() {
-        let text = spelled(rt.alloc(), &junction)?;
-        assert_eq!(rt; text.as_str(), want);
-        let bytes = hex::decode(rt.alloc(), want)?;
-        let mut cursor = Cursor::new(bytes.as_slice());
-        assert_eq!(rt; read_junction(&mut cursor), Ok(junction));
-        assert!(rt; cursor.rest().is_empty());
+    for (junction, hex) in JUNCTIONS {
+        assert!(rt; spells(rt.alloc(), junction, hex)?, "{hex}");
     }
     Ok(())
+}
+
+/// Networks, and the bytes of their spellings.
+const NETWORKS: &[(NetworkId, &[u8])] = &[
+    (NetworkId::Polkadot, &[2]),
+    (NetworkId::Kusama, &[3]),
+    (NetworkId::Westend, &[4]),
+    (NetworkId::Rococo, &[5]),
+    (NetworkId::Wococo, &[6]),
+    (NetworkId::Ethereum { chain_id: 64 }, &[7, 1, 1]),
+    (NetworkId::BitcoinCore, &[8]),
+    (NetworkId::BitcoinCash, &[9]),
+];
+
+/// Whether the bytes are what is written for the network, and are read as it.
+fn spells_network(alloc: Global, network: &NetworkId, bytes: &[u8]) -> Result<bool, Fail> {
+    let mut out = Out::new(alloc);
+    write_network_id(&mut out, network)?;
+    let mut cursor = Cursor::new(bytes);
+    let read = read_network_id(&mut cursor)?;
+    Ok(out.bytes() == bytes && read == *network)
 }
 
 #[test]
 fn networks_are_spelled_by_their_index(rt: HostRuntime) -> Result<(), Fail> {
-    for (network, bytes) in [
-        (NetworkId::Polkadot, [2].as_slice()),
-        (NetworkId::Kusama, [3].as_slice()),
-        (NetworkId::Westend, [4].as_slice()),
-        (NetworkId::Rococo, [5].as_slice()),
-        (NetworkId::Wococo, [6].as_slice()),
-        (NetworkId::Ethereum { chain_id: 64 }, [7, 1, 1].as_slice()),
-        (NetworkId::BitcoinCore, [8].as_slice()),
-        (NetworkId::BitcoinCash, [9].as_slice()),
-    ] {
-        let mut out = Out::new(rt.alloc());
-        write_network_id(&mut out, &network)?;
-        assert_eq!(rt; out.bytes(), bytes);
-        let mut cursor = Cursor::new(bytes);
-        assert_eq!(rt; read_network_id(&mut cursor), Ok(network));
+    for (network, bytes) in NETWORKS {
+        assert!(rt; spells_network(rt.alloc(), network, bytes)?);
     }
-    let mut cursor = Cursor::new(&[10, 10]);
-    assert_eq!(rt; read_network_id(&mut cursor), Err(NoSpelling));
-    assert_eq!(rt; cursor.rest(), [10, 10].as_slice());
     Ok(())
 }
 
+#[test]
+fn other_bytes_are_no_network(rt: HostRuntime) {
+    let mut cursor = Cursor::new(&[10, 10]);
+    assert!(rt; read_network_id(&mut cursor) == Err(NoSpelling));
+    assert!(rt; cursor.rest() == [10, 10].as_slice());
+}
+
 /// `(1, [Parachain(2000), AccountId32 { network: Kusama, id: 32 bytes of 2 }])`.
-fn sibling_account(rt: &impl Abort) -> Location {
-    Location {
-        parents: 1,
-        interior: junctions_of(
-            rt,
-            &[
-                Junction::Parachain(2000),
-                Junction::AccountId32 {
-                    network: Some(NetworkId::Kusama),
-                    id: [2; 32],
-                },
-            ],
-        ),
-    }
+fn sibling_account() -> Location {
+    place(
+        1,
+        &[
+            Junction::Parachain(2000),
+            Junction::AccountId32 {
+                network: Some(NetworkId::Kusama),
+                id: [2; 32],
+            },
+        ],
+    )
+}
+
+/// The account of the sibling, as bytes.
+const SIBLING_HEX: &str =
+    "010200411f0101030202020202020202020202020202020202020202020202020202020202020202";
+
+/// The account of the sibling, as text.
+const SIBLING_TEXT: &str =
+    "1/Parachain(2000)/0x0101030202020202020202020202020202020202020202020202020202020202020202";
+
+/// Whether the bytes of the hex are what is written for the location, and are read as it.
+fn spells_location(alloc: Global, location: &Location, hex: &str) -> Result<bool, Fail> {
+    let bytes = hex::decode(alloc, hex)?;
+    let mut out = Out::new(alloc);
+    write_location(&mut out, location)?;
+    let mut cursor = Cursor::new(bytes.as_slice());
+    let read = read_location(&mut cursor)?;
+    Ok(out.bytes() == bytes.as_slice() && read == *location)
+}
+
+/// Whether the text is that of the location, and is read as it.
+fn says_location(alloc: Global, location: &Location, want: &str) -> Result<bool, Fail> {
+    let text = location_text(alloc, location)?;
+    let read = read_location_text(alloc, want)?;
+    Ok(text.as_str() == want && read == *location)
 }
 
 #[test]
 fn a_location_as_bytes_and_as_text(rt: HostRuntime) -> Result<(), Fail> {
-    let location = sibling_account(&rt);
-    let mut out = Out::new(rt.alloc());
-    write_location(&mut out, &location)?;
-    let spelling = hex::encode(rt.alloc(), out.bytes())?;
-    assert_eq!(rt;
-        spelling.as_str(),
-        "010200411f0101030202020202020202020202020202020202020202020202020202020202020202"
-    );
-    let mut cursor = Cursor::new(out.bytes());
-    let read = read_location(&mut cursor)?;
-    assert_eq!(rt; read, location);
-    let text = location_text(rt.alloc(), &location)?;
-    assert_eq!(rt;
-        text.as_str(),
-        "1/Parachain(2000)/0x0101030202020202020202020202020202020202020202020202020202020202020202"
-    );
+    assert!(rt; spells_location(rt.alloc(), &sibling_account(), SIBLING_HEX)?);
+    assert!(rt; says_location(rt.alloc(), &sibling_account(), SIBLING_TEXT)?);
     Ok(())
+}
+
+/// Whether the bytes are no location, and the cursor stays.
+fn is_no_location(bytes: &[u8]) -> bool {
+    let mut cursor = Cursor::new(bytes);
+    let is_refused = read_location(&mut cursor).is_err();
+    is_refused && cursor.rest() == bytes
+}
+
+/// Whether the bytes are read as a path of so many junctions, and are what is written for it.
+fn spells_path(alloc: Global, bytes: &[u8], count: usize) -> Result<bool, Fail> {
+    let mut cursor = Cursor::new(bytes);
+    let path = read_junctions(&mut cursor)?;
+    let mut out = Out::new(alloc);
+    write_junctions(&mut out, &path)?;
+    Ok(path.items().len() == count && out.bytes() == bytes)
 }
 
 #[test]
 fn more_than_eight_junctions_are_no_location(rt: HostRuntime) -> Result<(), Fail> {
     let bytes = [0, 9, 7, 7, 7, 7, 7, 7, 7, 7, 7];
-    let mut cursor = Cursor::new(&bytes);
-    assert!(rt; read_location(&mut cursor).is_err());
-    assert_eq!(rt; cursor.rest(), bytes.as_slice());
-    let mut cursor = Cursor::new(&bytes[1..]);
-    assert!(rt; read_junctions(&mut cursor).is_err());
-    let eight = [8, 7, 7, 7, 7, 7, 7, 7, 7];
-    let mut cursor = Cursor::new(&eight);
-    let junctions = read_junctions(&mut cursor)?;
-    assert_eq!(rt; junctions.items().len(), 8);
-    let mut out = Out::new(rt.alloc());
-    write_junctions(&mut out, &junctions)?;
-    assert_eq!(rt; out.bytes(), eight.as_slice());
+    assert!(rt; is_no_location(&bytes));
+    assert!(rt; read_junctions(&mut Cursor::new(&bytes[1..])).is_err());
+    assert!(rt; spells_path(rt.alloc(), &[8, 7, 7, 7, 7, 7, 7, 7, 7], 8)?);
     Ok(())
+}
+
+/// Paths and their texts.
+const PATHS: &[(&[Junction], &str)] = &[
+    (&[], "/"),
+    (
+        &[
+            Junction::GlobalConsensus(NetworkId::Polkadot),
+            Junction::Parachain(1000),
+        ],
+        "/GlobalConsensus(Polkadot)/Parachain(1000)",
+    ),
+    (
+        &[Junction::PalletInstance(50), Junction::GeneralIndex(7)],
+        "/PalletInstance(50)/GeneralIndex(7)",
+    ),
+    (
+        &[Junction::GlobalConsensus(NetworkId::BitcoinCore)],
+        "/0x0908",
+    ),
+    (
+        &[Junction::AccountId32 {
+            network: None,
+            id: [171; 32],
+        }],
+        "/AccountId32(0xabababababababababababababababababababababababababababababababab)",
+    ),
+];
+
+/// Whether this is the text of the path of these junctions.
+fn says_path(alloc: Global, items: &[Junction], want: &str) -> Result<bool, Fail> {
+    let mut path = Junctions::empty();
+    for junction in items {
+        if path.push(*junction).is_err() {
+            return Ok(false);
+        }
+    }
+    let text = path_text(alloc, &path)?;
+    Ok(text.as_str() == want)
 }
 
 #[test]
 fn paths_have_texts(rt: HostRuntime) -> Result<(), Fail> {
-    for (items, want) in [
-        ([].as_slice(), "/"),
-        (
-            [
-                Junction::GlobalConsensus(NetworkId::Polkadot),
-                Junction::Parachain(1000),
-            ]
-            .as_slice(),
-            "/GlobalConsensus(Polkadot)/Parachain(1000)",
-        ),
-        (
-            [Junction::PalletInstance(50), Junction::GeneralIndex(7)].as_slice(),
-            "/PalletInstance(50)/GeneralIndex(7)",
-        ),
-        (
-            [Junction::GlobalConsensus(NetworkId::BitcoinCore)].as_slice(),
-            "/0x0908",
-        ),
-        (
-            [Junction::AccountId32 {
-                network: None,
-                id: [171; 32],
-            }]
-            .as_slice(),
-            "/AccountId32(0xabababababababababababababababababababababababababababababababab)",
-        ),
-    ] {
-        let text = path_text(rt.alloc(), &junctions_of(&rt, items))?;
-        assert_eq!(rt; text.as_str(), want);
+    for (items, want) in PATHS {
+        assert!(rt; says_path(rt.alloc(), items, want)?, "{want}");
     }
     Ok(())
 }
 
 /// Texts of locations, one for each form of junction.
-const TEXTS: [&str; 10] = [
+const TEXTS: &[&str] = &[
     "0",
     "255",
-    "1/Parachain(2000)/0x0101030202020202020202020202020202020202020202020202020202020202020202",
+    SIBLING_TEXT,
     "0/PalletInstance(50)/GeneralIndex(340282366920938463463374607431768211455)",
     "2/GlobalConsensus(Polkadot)/Parachain(4294967295)",
     "0/GlobalConsensus(Kusama)/GlobalConsensus(Westend)/GlobalConsensus(Rococo)/GlobalConsensus(Wococo)",
@@ -227,22 +255,23 @@ const TEXTS: [&str; 10] = [
     "3/0x020004/0x0802040114/0x06ff0101010101010101010101010101010101010101010101010101010101010101",
 ];
 
+/// Whether the text is read as a location, and is what is written for it.
+fn is_written_back(alloc: Global, text: &str) -> Result<bool, Fail> {
+    let location = read_location_text(alloc, text)?;
+    let again = location_text(alloc, &location)?;
+    Ok(again.as_str() == text)
+}
+
 #[test]
 fn texts_are_read_and_written_back(rt: HostRuntime) -> Result<(), Fail> {
     for text in TEXTS {
-        let location = read_location_text(rt.alloc(), text)?;
-        let again = location_text(rt.alloc(), &location)?;
-        assert_eq!(rt; again.as_str(), text);
+        assert!(rt; is_written_back(rt.alloc(), text)?, "{text}");
     }
-    assert_eq!(rt;
-        read_location_text(rt.alloc(), TEXTS[2])?,
-        sibling_account(&rt)
-    );
     Ok(())
 }
 
 /// Texts of no location: other numbers, other hex, other names, spelled where there is a name, too many junctions.
-const BAD_TEXTS: [&str; 29] = [
+const BAD_TEXTS: &[&str] = &[
     "",
     "/",
     "0/",
@@ -274,14 +303,15 @@ const BAD_TEXTS: [&str; 29] = [
     "0/0x07/0x07/0x07/0x07/0x07/0x07/0x07/0x07/0x07",
 ];
 
+/// Whether the text is refused as none of a location.
+fn is_refused(alloc: Global, text: &str) -> bool {
+    read_location_text(alloc, text).err() == Some(TextFault::BadText)
+}
+
 #[test]
 fn other_texts_are_refused(rt: HostRuntime) {
     for text in BAD_TEXTS {
-        assert_eq!(rt;
-            read_location_text(rt.alloc(), text).err(),
-            Some(TextFault::BadText),
-            "{text}"
-        );
+        assert!(rt; is_refused(rt.alloc(), text), "{text}");
     }
 }
 

@@ -4,11 +4,11 @@ use scale_codec::{
     Cursor, Draft, NoSpelling, Out, WireFault, law_of_no_prefix, law_of_no_prefix_of_numbers,
     law_of_one_spelling, law_of_readers,
 };
-use std::alloc::AllocError;
+use std::alloc::{AllocError, Global};
 use std::test::Fail;
 
 /// Compact numbers and their one spelling, at the ends of each form.
-const COMPACTS: [(u128, &[u8]); 13] = [
+const COMPACTS: &[(u128, &[u8])] = &[
     (0, &[0x00]),
     (1, &[0x04]),
     (63, &[0xfc]),
@@ -37,7 +37,7 @@ const COMPACTS: [(u128, &[u8]); 13] = [
 ];
 
 /// No compact numbers: longer forms than the shortest, a last byte of 0, too many bytes, too few.
-const NOT_COMPACT: [&[u8]; 8] = [
+const NOT_COMPACT: &[&[u8]] = &[
     &[],
     &[0x01, 0x00],
     &[0xfd, 0x00],
@@ -48,22 +48,35 @@ const NOT_COMPACT: [&[u8]; 8] = [
     &[0x03, 0x00, 0x00, 0x00],
 ];
 
+/// Whether the bytes are what is written for the number, and are read as it.
+fn spells(alloc: Global, number: u128, bytes: &[u8]) -> Result<bool, Fail> {
+    let mut out = Out::new(alloc);
+    out.put_compact(number)?;
+    let mut cursor = Cursor::new(bytes);
+    let read = cursor.compact_u128();
+    Ok(out.bytes() == bytes && read == Ok(number) && cursor.rest().is_empty())
+}
+
+/// Whether no front of the bytes is a compact number, and the cursor stays.
+fn is_no_number(bytes: &[u8]) -> bool {
+    let mut cursor = Cursor::new(bytes);
+    let read = cursor.compact_u128();
+    read == Err(NoSpelling) && cursor.rest() == bytes
+}
+
 #[test]
 fn compact_numbers_both_ways(rt: HostRuntime) -> Result<(), Fail> {
     for (number, bytes) in COMPACTS {
-        let mut out = Out::new(rt.alloc());
-        out.put_compact(number)?;
-        assert_eq!(rt; out.bytes(), bytes, "of {number}");
-        let mut cursor = Cursor::new(bytes);
-        assert_eq!(rt; cursor.compact_u128(), Ok(number));
-        assert!(rt; cursor.rest().is_empty());
-    }
-    for bytes in NOT_COMPACT {
-        let mut cursor = Cursor::new(bytes);
-        assert_eq!(rt; cursor.compact_u128(), Err(NoSpelling));
-        assert_eq!(rt; cursor.rest(), bytes, "it stays");
+        assert!(rt; spells(rt.alloc(), *number, bytes)?, "{number}");
     }
     Ok(())
+}
+
+#[test]
+fn other_bytes_are_no_numbers(rt: HostRuntime) {
+    for bytes in NOT_COMPACT {
+        assert!(rt; is_no_number(bytes));
+    }
 }
 
 #[test]
@@ -75,34 +88,65 @@ fn compact_numbers_keep_their_range(rt: HostRuntime) {
     assert_eq!(rt; past.compact_u64(), Ok(0x1_0000_0000));
 }
 
+/// A number of each width, two flags and two bytes more.
+const MIXED: &[u8] = &[7, 1, 2, 3, 4, 1, 2, 3, 4, 5, 6, 7, 8, 1, 0, 9, 9];
+
 #[test]
-fn numbers_flags_and_bytes(rt: HostRuntime) -> Result<(), Fail> {
+fn numbers_flags_and_bytes_are_written(rt: HostRuntime) -> Result<(), Fail> {
     let mut out = Out::new(rt.alloc());
     out.put_u8(7)?;
     out.put_u32(0x0403_0201)?;
     out.put_u64(0x0807_0605_0403_0201)?;
     out.put_bytes(&[1, 0, 9, 9])?;
-    assert_eq!(rt;
-        out.bytes(),
-        [7, 1, 2, 3, 4, 1, 2, 3, 4, 5, 6, 7, 8, 1, 0, 9, 9].as_slice()
-    );
-
+    assert!(rt; out.bytes() == MIXED);
     let bytes = out.into_vec();
-    let mut cursor = Cursor::new(bytes.as_slice());
-    assert_eq!(rt; cursor.u8(), Ok(7));
-    assert_eq!(rt; cursor.u32_le(), Ok(0x0403_0201));
-    assert_eq!(rt; cursor.u64_le(), Ok(0x0807_0605_0403_0201));
-    assert_eq!(rt; cursor.flag(), Ok(true));
-    assert_eq!(rt; cursor.flag(), Ok(false));
-    assert_eq!(rt; cursor.flag(), Err(NoSpelling));
-    assert_eq!(rt; cursor.u32_le(), Err(NoSpelling));
-    assert_eq!(rt; cursor.u64_le(), Err(NoSpelling));
-    assert_eq!(rt; cursor.take(3), Err(NoSpelling));
-    assert_eq!(rt; cursor.take_array::<3>(), Err(NoSpelling));
-    assert_eq!(rt; cursor.take_array::<1>(), Ok([9]));
-    assert_eq!(rt; cursor.take(1), Ok([9].as_slice()));
-    assert_eq!(rt; cursor.u8(), Err(NoSpelling));
+    assert!(rt; bytes.as_slice() == MIXED);
     Ok(())
+}
+
+/// Whether the numbers and the flags are read one after the other.
+fn reads_numbers(cursor: &mut Cursor<'_>) -> bool {
+    let byte = cursor.u8();
+    let short = cursor.u32_le();
+    let long = cursor.u64_le();
+    byte == Ok(7) && short == Ok(0x0403_0201) && long == Ok(0x0807_0605_0403_0201)
+}
+
+/// Whether the two flags are read, and nothing that two bytes of 9 aren't.
+fn reads_flags(cursor: &mut Cursor<'_>) -> bool {
+    let first = cursor.flag();
+    let second = cursor.flag();
+    let third = cursor.flag();
+    first == Ok(true) && second == Ok(false) && third == Err(NoSpelling)
+}
+
+/// Whether the bytes left are too few for a number and for three bytes.
+fn is_too_short(cursor: &mut Cursor<'_>) -> bool {
+    let short = cursor.u32_le();
+    let long = cursor.u64_le();
+    let three = cursor.take(3);
+    let array = cursor.take_array::<3>();
+    short == Err(NoSpelling)
+        && long == Err(NoSpelling)
+        && three == Err(NoSpelling)
+        && array == Err(NoSpelling)
+}
+
+/// Whether two bytes of 9 are left, which are read in either way.
+fn reads_the_rest(cursor: &mut Cursor<'_>) -> bool {
+    let array = cursor.take_array::<1>();
+    let last = cursor.take(1);
+    let none = cursor.u8();
+    array == Ok([9]) && last == Ok([9].as_slice()) && none == Err(NoSpelling)
+}
+
+#[test]
+fn numbers_flags_and_bytes_are_read(rt: HostRuntime) {
+    let mut cursor = Cursor::new(MIXED);
+    assert!(rt; reads_numbers(&mut cursor));
+    assert!(rt; reads_flags(&mut cursor));
+    assert!(rt; is_too_short(&mut cursor));
+    assert!(rt; reads_the_rest(&mut cursor));
 }
 
 /// Puts one number of each width into a draft, and fails then where that is asked for.
@@ -115,31 +159,37 @@ fn put_numbers(draft: &mut Draft, fails: bool) -> Result<(), AllocError> {
     if fails { Err(AllocError) } else { Ok(()) }
 }
 
+/// Whether a draft that is settled so leaves these bytes.
+fn leaves(alloc: Global, fails: bool, want: &[u8]) -> Result<bool, Fail> {
+    let mut out = Out::new(alloc);
+    out.put_u8(5)?;
+    let mut draft = out.draft();
+    let written = put_numbers(&mut draft, fails);
+    let is_cut = out.settle(draft, written).is_err();
+    Ok(is_cut == fails && out.bytes() == want)
+}
+
 #[test]
 fn a_draft_is_kept_or_cut_back(rt: HostRuntime) -> Result<(), Fail> {
-    for (fails, want) in [
-        (
-            false,
-            [5, 7, 1, 0, 0, 0, 2, 0, 0, 0, 0, 0, 0, 0, 1, 1, 9].as_slice(),
-        ),
-        (true, [5].as_slice()),
-    ] {
-        let mut out = Out::new(rt.alloc());
-        out.put_u8(5)?;
-        let mut draft = out.draft();
-        let written = put_numbers(&mut draft, fails);
-        assert_eq!(rt; out.settle(draft, written).is_err(), fails);
-        assert_eq!(rt; out.bytes(), want);
-    }
-    let bytes = [1, 2, 3];
-    for (read, left) in [(Ok(1), 2), (Err(NoSpelling), 3)] {
-        let mut cursor = Cursor::new(&bytes);
-        let start = cursor.rest();
-        assert_eq!(rt; cursor.u8(), Ok(1));
-        assert_eq!(rt; cursor.settle(start, read), read);
-        assert_eq!(rt; cursor.rest().len(), left);
-    }
+    let kept = [5, 7, 1, 0, 0, 0, 2, 0, 0, 0, 0, 0, 0, 0, 1, 1, 9];
+    assert!(rt; leaves(rt.alloc(), false, &kept)?);
+    assert!(rt; leaves(rt.alloc(), true, &[5])?);
     Ok(())
+}
+
+/// Whether a cursor from which a byte was read has so many bytes left when that is settled so.
+fn goes_back(read: Result<u8, NoSpelling>, left: usize) -> bool {
+    let mut cursor = Cursor::new(&[1, 2, 3]);
+    let start = cursor.rest();
+    let first = cursor.u8();
+    let settled = cursor.settle(start, read);
+    first == Ok(1) && settled == read && cursor.rest().len() == left
+}
+
+#[test]
+fn a_refused_read_goes_back(rt: HostRuntime) {
+    assert!(rt; goes_back(Ok(1), 2));
+    assert!(rt; goes_back(Err(NoSpelling), 3));
 }
 
 #[test]

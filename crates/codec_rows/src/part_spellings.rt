@@ -4,7 +4,7 @@ ghost use Rattle.std.specs.Prelude.{◌≤◌, length};
 use crate::values::{filled, place};
 use asset_lists::{Asset, AssetId, Assets, Fun};
 use asset_wire::{Version, WireFault};
-use locations::Junction;
+use locations::{Junction, Location};
 use message_parts::{
     BoundedVec, LongBytes, MaybeError, OriginKind, PalletInfo, PalletInfos, PalletName, QueryInfo,
     Response, Weight, WeightLimit, XcmError,
@@ -28,79 +28,122 @@ const fn weight(ref_time: u64, proof_size: u64) -> Weight {
     }
 }
 
+/// The time and the size of proofs of weights, and the hex of their spellings.
+const WEIGHTS: &[(u64, u64, &str)] = &[
+    (0, 0, "0000"),
+    (64, 1, "010104"),
+    (1_000_000_000_000, 5_242_880, "070010a5d4e802004001"),
+    (18_446_744_073_709_551_615, 0, "13ffffffffffffffff00"),
+];
+
+/// Whether the bytes of the hex are what is written for the weight, and are read as it.
+fn spells_weight(alloc: Global, value: &Weight, hex: &str) -> Result<bool, Fail> {
+    let bytes = hex::decode(alloc, hex)?;
+    let mut out = Out::new(alloc);
+    write_weight(&mut out, value)?;
+    let mut cursor = Cursor::new(bytes.as_slice());
+    let read = read_weight(&mut cursor)?;
+    Ok(out.bytes() == bytes.as_slice() && read == *value && cursor.rest().is_empty())
+}
+
 #[test]
 fn weights_are_two_compact_numbers(rt: HostRuntime) -> Result<(), Fail> {
-    let alloc = rt.alloc();
-    for (value, want) in [
-        (weight(0, 0), "0000"),
-        (weight(64, 1), "010104"),
-        (weight(1_000_000_000_000, 5_242_880), "070010a5d4e802004001"),
-        (
-            weight(18_446_744_073_709_551_615, 0),
-            "13ffffffffffffffff00",
-        ),
-    ] {
-        let mut out = Out::new(alloc);
-        write_weight(&mut out, &value)?;
-        let text = hex::encode(alloc, out.bytes())?;
-        assert_eq!(rt; text.as_str(), want);
-        let mut cursor = Cursor::new(out.bytes());
-        assert_eq!(rt; read_weight(&mut cursor), Ok(value));
-        assert!(rt; cursor.rest().is_empty());
-    }
-    for hex in ["", "00", "010000", "1700000000000000000100"] {
-        let bytes = hex::decode(alloc, hex)?;
-        let mut cursor = Cursor::new(bytes.as_slice());
-        assert_eq!(rt; read_weight(&mut cursor), Err(NoSpelling), "{hex}");
-        assert_eq!(rt; cursor.rest(), bytes.as_slice());
+    for (time, size, hex) in WEIGHTS {
+        assert!(rt;
+            spells_weight(rt.alloc(), &weight(*time, *size), hex)?,
+            "{hex}"
+        );
     }
     Ok(())
+}
+
+/// Hex at the front of which stands no weight.
+const NO_WEIGHTS: &[&str] = &["", "00", "010000", "1700000000000000000100"];
+
+/// Whether no front of what the hex says is a weight, and the cursor stays.
+fn is_no_weight(alloc: Global, hex: &str) -> Result<bool, Fail> {
+    let bytes = hex::decode(alloc, hex)?;
+    let mut cursor = Cursor::new(bytes.as_slice());
+    let read = read_weight(&mut cursor);
+    Ok(read == Err(NoSpelling) && cursor.rest() == bytes.as_slice())
+}
+
+#[test]
+fn other_bytes_are_no_weight(rt: HostRuntime) -> Result<(), Fail> {
+    for hex in NO_WEIGHTS {
+        assert!(rt; is_no_weight(rt.alloc(), hex)?, "{hex}");
+    }
+    Ok(())
+}
+
+/// Whether the bytes are what is written for the limit, and are read as it.
+fn spells_limit(alloc: Global, value: &WeightLimit, bytes: &[u8]) -> Result<bool, Fail> {
+    let mut out = Out::new(alloc);
+    write_weight_limit(&mut out, value)?;
+    let mut cursor = Cursor::new(bytes);
+    let read = read_weight_limit(&mut cursor)?;
+    Ok(out.bytes() == bytes && read == *value)
 }
 
 #[test]
 fn limits_are_spelled_by_their_index(rt: HostRuntime) -> Result<(), Fail> {
-    let alloc = rt.alloc();
-    for (value, want) in [
-        (WeightLimit::Unlimited, "00"),
-        (WeightLimit::Limited(weight(1, 2)), "010408"),
-    ] {
-        let mut out = Out::new(alloc);
-        write_weight_limit(&mut out, &value)?;
-        let text = hex::encode(alloc, out.bytes())?;
-        assert_eq!(rt; text.as_str(), want);
-        let mut cursor = Cursor::new(out.bytes());
-        assert_eq!(rt; read_weight_limit(&mut cursor), Ok(value));
+    let limited = WeightLimit::Limited(weight(1, 2));
+    assert!(rt; spells_limit(rt.alloc(), &WeightLimit::Unlimited, &[0])?);
+    assert!(rt; spells_limit(rt.alloc(), &limited, &[1, 4, 8])?);
+    Ok(())
+}
+
+/// Bytes that begin with no limit.
+const NO_LIMITS: &[&[u8]] = &[&[2], &[1, 4], &[]];
+
+/// Whether no front of the bytes is a limit, and the cursor stays.
+fn is_no_limit(bytes: &[u8]) -> bool {
+    let mut cursor = Cursor::new(bytes);
+    let read = read_weight_limit(&mut cursor);
+    read == Err(NoSpelling) && cursor.rest() == bytes
+}
+
+#[test]
+fn other_bytes_are_no_limit(rt: HostRuntime) {
+    for bytes in NO_LIMITS {
+        assert!(rt; is_no_limit(bytes));
     }
-    for bytes in [[2].as_slice(), [1, 4].as_slice(), [].as_slice()] {
-        let mut cursor = Cursor::new(bytes);
-        assert_eq!(rt; read_weight_limit(&mut cursor), Err(NoSpelling));
-        assert_eq!(rt; cursor.rest(), bytes);
+}
+
+/// The kinds of origin, and their indices.
+const KINDS: &[(OriginKind, u8)] = &[
+    (OriginKind::Native, 0),
+    (OriginKind::SovereignAccount, 1),
+    (OriginKind::Superuser, 2),
+    (OriginKind::Xcm, 3),
+];
+
+/// Whether the kind of origin is written as this byte, and read from it.
+fn spells_kind(alloc: Global, kind: &OriginKind, index: u8) -> Result<bool, Fail> {
+    let mut out = Out::new(alloc);
+    write_origin_kind(&mut out, kind)?;
+    let mut cursor = Cursor::new(out.bytes());
+    let read = read_origin_kind(&mut cursor)?;
+    Ok(out.bytes() == [index].as_slice() && read == *kind)
+}
+
+#[test]
+fn kinds_of_origin_are_their_index(rt: HostRuntime) -> Result<(), Fail> {
+    for (kind, index) in KINDS {
+        assert!(rt; spells_kind(rt.alloc(), kind, *index)?, "{index}");
     }
     Ok(())
 }
 
 #[test]
-fn kinds_of_origin_are_their_index(rt: HostRuntime) -> Result<(), Fail> {
-    for (value, index) in [
-        (OriginKind::Native, 0),
-        (OriginKind::SovereignAccount, 1),
-        (OriginKind::Superuser, 2),
-        (OriginKind::Xcm, 3),
-    ] {
-        let mut out = Out::new(rt.alloc());
-        write_origin_kind(&mut out, &value)?;
-        assert_eq!(rt; out.bytes(), [index].as_slice());
-        let mut cursor = Cursor::new(out.bytes());
-        assert_eq!(rt; read_origin_kind(&mut cursor), Ok(value));
-    }
+fn there_is_no_fifth_kind_of_origin(rt: HostRuntime) {
     let mut cursor = Cursor::new(&[4]);
-    assert_eq!(rt; read_origin_kind(&mut cursor), Err(NoSpelling));
-    assert_eq!(rt; cursor.rest(), [4].as_slice());
-    Ok(())
+    assert!(rt; read_origin_kind(&mut cursor) == Err(NoSpelling));
+    assert!(rt; cursor.rest() == [4].as_slice());
 }
 
 /// Each error without a code, and its index.
-const ERRORS: [(XcmError, u8); 34] = [
+const ERRORS: &[(XcmError, u8)] = &[
     (XcmError::Overflow, 0),
     (XcmError::Unimplemented, 1),
     (XcmError::UntrustedReserveLocation, 2),
@@ -137,141 +180,204 @@ const ERRORS: [(XcmError, u8); 34] = [
     (XcmError::NotDepositable, 34),
 ];
 
+/// Whether the bytes are what is written for the error, and are read as it.
+fn spells_error(alloc: Global, error: &XcmError, bytes: &[u8]) -> Result<bool, Fail> {
+    let mut out = Out::new(alloc);
+    write_error(&mut out, error)?;
+    let mut cursor = Cursor::new(bytes);
+    let read = read_error(&mut cursor)?;
+    Ok(out.bytes() == bytes && read == *error)
+}
+
 #[test]
 fn errors_are_spelled_by_their_index(rt: HostRuntime) -> Result<(), Fail> {
     for (error, index) in ERRORS {
-        let mut out = Out::new(rt.alloc());
-        write_error(&mut out, &error)?;
-        assert_eq!(rt; out.bytes(), [index].as_slice());
-        let mut cursor = Cursor::new(out.bytes());
-        assert_eq!(rt; read_error(&mut cursor), Ok(error));
-    }
-    let mut out = Out::new(rt.alloc());
-    write_error(&mut out, &XcmError::Trap(0x4000_0000))?;
-    assert_eq!(rt; out.bytes(), [21, 0, 0, 0, 0x40, 0, 0, 0, 0].as_slice());
-    let mut cursor = Cursor::new(out.bytes());
-    assert_eq!(rt; read_error(&mut cursor), Ok(XcmError::Trap(0x4000_0000)));
-    for bytes in [
-        [].as_slice(),
-        [35].as_slice(),
-        [21, 0, 0, 0, 0x40, 0, 0, 0].as_slice(),
-    ] {
-        let mut cursor = Cursor::new(bytes);
-        assert_eq!(rt; read_error(&mut cursor), Err(NoSpelling));
-        assert_eq!(rt; cursor.rest(), bytes);
+        assert!(rt; spells_error(rt.alloc(), error, &[*index])?, "{index}");
     }
     Ok(())
+}
+
+#[test]
+fn a_trap_has_its_code_behind_its_index(rt: HostRuntime) -> Result<(), Fail> {
+    let trap = XcmError::Trap(0x4000_0000);
+    assert!(rt; spells_error(rt.alloc(), &trap, &[21, 0, 0, 0, 0x40, 0, 0, 0, 0])?);
+    Ok(())
+}
+
+/// Bytes that begin with no error.
+const NO_ERRORS: &[&[u8]] = &[&[], &[35], &[21, 0, 0, 0, 0x40, 0, 0, 0]];
+
+/// Whether no front of the bytes is an error, and the cursor stays.
+fn is_no_error(bytes: &[u8]) -> bool {
+    let mut cursor = Cursor::new(bytes);
+    let read = read_error(&mut cursor);
+    read == Err(NoSpelling) && cursor.rest() == bytes
+}
+
+#[test]
+fn other_bytes_are_no_error(rt: HostRuntime) {
+    for bytes in NO_ERRORS {
+        assert!(rt; is_no_error(bytes));
+    }
+}
+
+/// Whether the bytes of the hex are what is written for the failure, and are read as it.
+fn spells_failure(alloc: Global, failure: &(u32, XcmError), hex: &str) -> Result<bool, Fail> {
+    let bytes = hex::decode(alloc, hex)?;
+    let mut out = Out::new(alloc);
+    write_failure(&mut out, failure)?;
+    let mut cursor = Cursor::new(bytes.as_slice());
+    let read = read_failure(&mut cursor)?;
+    Ok(out.bytes() == bytes.as_slice() && read == *failure)
 }
 
 #[test]
 fn a_failure_is_an_index_of_four_bytes_and_an_error(rt: HostRuntime) -> Result<(), Fail> {
     let alloc = rt.alloc();
-    for (failure, want) in [
-        ((0, XcmError::BadOrigin), "0000000006"),
-        ((258, XcmError::Trap(5)), "02010000150500000000000000"),
-    ] {
-        let mut out = Out::new(alloc);
-        write_failure(&mut out, &failure)?;
-        let text = hex::encode(alloc, out.bytes())?;
-        assert_eq!(rt; text.as_str(), want);
-        let mut cursor = Cursor::new(out.bytes());
-        assert_eq!(rt; read_failure(&mut cursor), Ok(failure));
-    }
-    for bytes in [[0, 0, 0].as_slice(), [0, 0, 0, 0, 35].as_slice()] {
-        let mut cursor = Cursor::new(bytes);
-        assert_eq!(rt; read_failure(&mut cursor), Err(NoSpelling));
-        assert_eq!(rt; cursor.rest(), bytes);
-    }
+    let refused = (0, XcmError::BadOrigin);
+    let trapped = (258, XcmError::Trap(5));
+    assert!(rt; spells_failure(alloc, &refused, "0000000006")?);
+    assert!(rt; spells_failure(alloc, &trapped, "02010000150500000000000000")?);
     Ok(())
+}
+
+/// Bytes that begin with no failure.
+const NO_FAILURES: &[&[u8]] = &[&[0, 0, 0], &[0, 0, 0, 0, 35]];
+
+/// Whether no front of the bytes is a failure, and the cursor stays.
+fn is_no_failure(bytes: &[u8]) -> bool {
+    let mut cursor = Cursor::new(bytes);
+    let read = read_failure(&mut cursor);
+    read == Err(NoSpelling) && cursor.rest() == bytes
+}
+
+#[test]
+fn other_bytes_are_no_failure(rt: HostRuntime) {
+    for bytes in NO_FAILURES {
+        assert!(rt; is_no_failure(bytes));
+    }
+}
+
+/// Whether the bytes are what is written for a failure that may be left out, and are read as it.
+fn spells_maybe_failed(
+    alloc: Global,
+    failed: &Option<(u32, XcmError)>,
+    bytes: &[u8],
+) -> Result<bool, Fail> {
+    let mut out = Out::new(alloc);
+    write_optional_failure(&mut out, failed)?;
+    let mut cursor = Cursor::new(bytes);
+    let read = read_optional_failure(&mut cursor)?;
+    Ok(out.bytes() == bytes && read == *failed)
 }
 
 #[test]
 fn a_failure_may_be_left_out(rt: HostRuntime) -> Result<(), Fail> {
-    for (failed, want) in [
-        (None, [0].as_slice()),
-        (Some((1, XcmError::Overflow)), [1, 1, 0, 0, 0, 0].as_slice()),
-    ] {
-        let mut out = Out::new(rt.alloc());
-        write_optional_failure(&mut out, &failed)?;
-        assert_eq!(rt; out.bytes(), want);
-        let mut cursor = Cursor::new(out.bytes());
-        assert_eq!(rt; read_optional_failure(&mut cursor), Ok(failed));
-    }
-    for bytes in [[2].as_slice(), [1, 0, 0, 0].as_slice()] {
-        let mut cursor = Cursor::new(bytes);
-        assert_eq!(rt; read_optional_failure(&mut cursor), Err(NoSpelling));
-        assert_eq!(rt; cursor.rest(), bytes);
-    }
+    let failed = Some((1, XcmError::Overflow));
+    assert!(rt; spells_maybe_failed(rt.alloc(), &None, &[0])?);
+    assert!(rt; spells_maybe_failed(rt.alloc(), &failed, &[1, 1, 0, 0, 0, 0])?);
     Ok(())
+}
+
+/// Whether the bytes don't say whether there is a failure, and the cursor stays.
+fn is_no_maybe_failed(bytes: &[u8]) -> bool {
+    let mut cursor = Cursor::new(bytes);
+    let read = read_optional_failure(&mut cursor);
+    read == Err(NoSpelling) && cursor.rest() == bytes
+}
+
+#[test]
+fn a_failure_that_may_be_left_out_has_a_flag(rt: HostRuntime) {
+    assert!(rt; is_no_maybe_failed(&[2]));
+    assert!(rt; is_no_maybe_failed(&[1, 0, 0, 0]));
+}
+
+/// Whether the bytes of the hex are what is written for a location that may be left out, and are read as it.
+fn spells_maybe_place(alloc: Global, value: &Option<Location>, hex: &str) -> Result<bool, Fail> {
+    let bytes = hex::decode(alloc, hex)?;
+    let mut out = Out::new(alloc);
+    write_optional_location(&mut out, value)?;
+    let mut cursor = Cursor::new(bytes.as_slice());
+    let read = read_optional_location(&mut cursor)?;
+    Ok(out.bytes() == bytes.as_slice() && read == *value)
 }
 
 #[test]
 fn a_location_may_be_left_out(rt: HostRuntime) -> Result<(), Fail> {
-    let alloc = rt.alloc();
-    for (value, want) in [
-        (None, "00"),
-        (Some(place(1, &[])), "010100"),
-        (Some(place(0, &[Junction::Parachain(2000)])), "01000100411f"),
-    ] {
-        let mut out = Out::new(alloc);
-        write_optional_location(&mut out, &value)?;
-        let text = hex::encode(alloc, out.bytes())?;
-        assert_eq!(rt; text.as_str(), want);
-        let mut cursor = Cursor::new(out.bytes());
-        let read = read_optional_location(&mut cursor)?;
-        assert!(rt; read == value);
-    }
-    for bytes in [[2].as_slice(), [1, 0, 9].as_slice()] {
-        let mut cursor = Cursor::new(bytes);
-        let read = read_optional_location(&mut cursor);
-        assert!(rt; read == Err(NoSpelling));
-        assert_eq!(rt; cursor.rest(), bytes);
-    }
+    let sibling = place(0, &[Junction::Parachain(2000)]);
+    assert!(rt; spells_maybe_place(rt.alloc(), &None, "00")?);
+    assert!(rt; spells_maybe_place(rt.alloc(), &Some(place(1, &[])), "010100")?);
+    assert!(rt; spells_maybe_place(rt.alloc(), &Some(sibling), "01000100411f")?);
     Ok(())
+}
+
+/// Whether the bytes don't say whether there is a location, and the cursor stays.
+fn is_no_maybe_place(bytes: &[u8]) -> bool {
+    let mut cursor = Cursor::new(bytes);
+    let read = read_optional_location(&mut cursor);
+    read == Err(NoSpelling) && cursor.rest() == bytes
+}
+
+#[test]
+fn a_location_that_may_be_left_out_has_a_flag(rt: HostRuntime) {
+    assert!(rt; is_no_maybe_place(&[2]));
+    assert!(rt; is_no_maybe_place(&[1, 0, 9]));
+}
+
+/// Whether the front and so many bytes of 7 are read as these bytes, and are what is written for them.
+fn spells_sevens(alloc: Global, front: &[u8], count: usize) -> Result<bool, Fail> {
+    let bytes = filled(alloc, front, count, 7)?;
+    let sevens = filled(alloc, &[], count, 7)?;
+    let mut cursor = Cursor::new(bytes.as_slice());
+    let read: PalletName = read_bytes(alloc, &mut cursor)?;
+    let mut out = Out::new(alloc);
+    write_bytes(&mut out, &read)?;
+    let is_same = out.bytes() == bytes.as_slice() && read.items() == sevens.as_slice();
+    Ok(is_same && cursor.rest().is_empty())
+}
+
+/// How many bytes are read from the front and so many bytes of 7, where there may be many.
+fn long_count(alloc: Global, front: &[u8], count: usize) -> Result<usize, Fail> {
+    let bytes = filled(alloc, front, count, 7)?;
+    let mut cursor = Cursor::new(bytes.as_slice());
+    let long: LongBytes = read_bytes(alloc, &mut cursor)?;
+    Ok(long.items().len())
 }
 
 #[test]
 fn bytes_are_their_number_and_themselves(rt: HostRuntime) -> Result<(), Fail> {
     let alloc = rt.alloc();
-    for (front, count) in [
-        ([0].as_slice(), 0),
-        ([12].as_slice(), 3),
-        ([0xc0].as_slice(), 48),
-    ] {
-        let bytes = filled(alloc, front, count, 7)?;
-        let mut cursor = Cursor::new(bytes.as_slice());
-        let read: PalletName = read_bytes(alloc, &mut cursor)?;
-        assert!(rt; cursor.rest().is_empty());
-        assert_eq!(rt; read.items(), filled(alloc, &[], count, 7)?.as_slice());
-        let mut out = Out::new(alloc);
-        write_bytes(&mut out, &read)?;
-        assert_eq!(rt; out.bytes(), bytes.as_slice());
-    }
-    let bytes = filled(alloc, &[1, 1], 64, 7)?;
-    let mut cursor = Cursor::new(bytes.as_slice());
-    let long: LongBytes = read_bytes(alloc, &mut cursor)?;
-    assert_eq!(rt; long.items().len(), 64);
+    assert!(rt; spells_sevens(alloc, &[0], 0)?);
+    assert!(rt; spells_sevens(alloc, &[12], 3)?);
+    assert!(rt; spells_sevens(alloc, &[0xc0], 48)?);
+    assert!(rt; long_count(alloc, &[1, 1], 64)? == 64);
     Ok(())
+}
+
+/// Fronts and how many bytes of 7 behind them, which are no bytes of a name.
+const NO_NAMES: &[(&[u8], usize)] = &[
+    // more than there may be
+    (&[0xc4], 49),
+    // fewer than the number says
+    (&[12], 2),
+    (&[3, 0xff, 0xff, 0xff, 0xff], 2),
+    // the number in a longer form
+    (&[13, 0], 3),
+    (&[], 0),
+];
+
+/// Whether the front and so many bytes of 7 are no bytes of a name, and the cursor stays.
+fn is_no_name(alloc: Global, front: &[u8], count: usize) -> Result<bool, Fail> {
+    let bytes = filled(alloc, front, count, 7)?;
+    let mut cursor = Cursor::new(bytes.as_slice());
+    let read: Result<PalletName, WireFault> = read_bytes(alloc, &mut cursor);
+    Ok(read == Err(WireFault::NoSpelling) && cursor.rest() == bytes.as_slice())
 }
 
 #[test]
 fn other_bytes_are_none(rt: HostRuntime) -> Result<(), Fail> {
-    let alloc = rt.alloc();
-    for (front, count) in [
-        // more than there may be
-        ([0xc4].as_slice(), 49),
-        // fewer than the number says
-        ([12].as_slice(), 2),
-        ([3, 0xff, 0xff, 0xff, 0xff].as_slice(), 2),
-        // the number in a longer form
-        ([13, 0].as_slice(), 3),
-        ([].as_slice(), 0),
-    ] {
-        let bytes = filled(alloc, front, count, 7)?;
-        let mut cursor = Cursor::new(bytes.as_slice());
-        let read: Result<PalletName, WireFault> = read_bytes(alloc, &mut cursor);
-        assert!(rt; read == Err(WireFault::NoSpelling));
-        assert_eq!(rt; cursor.rest(), bytes.as_slice());
+    for (front, count) in NO_NAMES {
+        assert!(rt; is_no_name(rt.alloc(), front, *count)?, "{count}");
     }
     Ok(())
 }
@@ -286,28 +392,39 @@ fn spells_end(alloc: Global, status: &MaybeError, bytes: &[u8]) -> Result<bool, 
 }
 
 #[test]
-fn the_end_of_a_call_has_at_most_128_bytes(rt: HostRuntime) -> Result<(), Fail> {
+fn the_end_of_a_call_may_have_bytes(rt: HostRuntime) -> Result<(), Fail> {
     let alloc = rt.alloc();
     assert!(rt; spells_end(alloc, &MaybeError::Success, &[0])?);
     let none = MaybeError::Error(BoundedVec::from_vec(Vec::new(alloc)));
     assert!(rt; spells_end(alloc, &none, &[1, 0])?);
     let two = MaybeError::TruncatedError(BoundedVec::from_vec(vec![in alloc; 8, 9]?));
     assert!(rt; spells_end(alloc, &two, &[2, 8, 8, 9])?);
-    let most = filled(alloc, &[2, 1, 2], 128, 5)?;
-    let mut cursor = Cursor::new(most.as_slice());
+    Ok(())
+}
+
+/// Whether the front and so many bytes of 5 are read as the end of a call, and are what is written for it.
+fn spells_fives(alloc: Global, front: &[u8], count: usize) -> Result<bool, Fail> {
+    let bytes = filled(alloc, front, count, 5)?;
+    let mut cursor = Cursor::new(bytes.as_slice());
     let read = read_maybe_error(alloc, &mut cursor)?;
-    assert!(rt; spells_end(alloc, &read, most.as_slice())?);
-    for (front, count) in [
-        ([2, 5, 2].as_slice(), 129),
-        ([3].as_slice(), 0),
-        ([1, 8, 1].as_slice(), 0),
-    ] {
-        let bytes = filled(alloc, front, count, 5)?;
-        let mut cursor = Cursor::new(bytes.as_slice());
-        let read = read_maybe_error(alloc, &mut cursor);
-        assert!(rt; read == Err(WireFault::NoSpelling));
-        assert_eq!(rt; cursor.rest(), bytes.as_slice());
-    }
+    spells_end(alloc, &read, bytes.as_slice())
+}
+
+/// Whether the front and so many bytes of 5 are no end of a call, and the cursor stays.
+fn is_no_end(alloc: Global, front: &[u8], count: usize) -> Result<bool, Fail> {
+    let bytes = filled(alloc, front, count, 5)?;
+    let mut cursor = Cursor::new(bytes.as_slice());
+    let read = read_maybe_error(alloc, &mut cursor);
+    Ok(read == Err(WireFault::NoSpelling) && cursor.rest() == bytes.as_slice())
+}
+
+#[test]
+fn the_end_of_a_call_has_at_most_128_bytes(rt: HostRuntime) -> Result<(), Fail> {
+    let alloc = rt.alloc();
+    assert!(rt; spells_fives(alloc, &[2, 1, 2], 128)?);
+    assert!(rt; is_no_end(alloc, &[2, 5, 2], 129)?);
+    assert!(rt; is_no_end(alloc, &[3], 0)?);
+    assert!(rt; is_no_end(alloc, &[1, 8, 1], 0)?);
     Ok(())
 }
 
@@ -332,46 +449,60 @@ fn balances(alloc: Global) -> Result<PalletInfo, AllocError> {
 /// The pallet of balances: its index, its names, its version.
 const BALANCES: &str = "102042616c616e6365733c70616c6c65745f62616c616e6365730101080c";
 
+/// Whether the bytes of the hex are what is written for the pallet, and are read as it.
+fn spells_pallet(alloc: Global, pallet: &PalletInfo, hex: &str) -> Result<bool, Fail> {
+    let bytes = hex::decode(alloc, hex)?;
+    let mut out = Out::new(alloc);
+    write_pallet_info(&mut out, pallet)?;
+    let mut cursor = Cursor::new(bytes.as_slice());
+    let read = read_pallet_info(alloc, &mut cursor)?;
+    Ok(out.bytes() == bytes.as_slice() && read == *pallet && cursor.rest().is_empty())
+}
+
+/// Whether no front of the bytes is a pallet, and the cursor stays.
+fn is_no_pallet(alloc: Global, bytes: &[u8]) -> bool {
+    let mut cursor = Cursor::new(bytes);
+    let read = read_pallet_info(alloc, &mut cursor);
+    read == Err(WireFault::NoSpelling) && cursor.rest() == bytes
+}
+
 #[test]
 fn a_pallet_is_its_fields_in_order(rt: HostRuntime) -> Result<(), Fail> {
     let alloc = rt.alloc();
     let pallet = balances(alloc)?;
-    let mut out = Out::new(alloc);
-    write_pallet_info(&mut out, &pallet)?;
-    let text = hex::encode(alloc, out.bytes())?;
-    assert_eq!(rt; text.as_str(), BALANCES);
-    let mut cursor = Cursor::new(out.bytes());
-    let read = read_pallet_info(alloc, &mut cursor)?;
-    assert!(rt; read == pallet);
-    assert!(rt; cursor.rest().is_empty());
+    assert!(rt; spells_pallet(alloc, &pallet, BALANCES)?);
     // a name of 49 bytes, and then enough for the rest
     let bytes = filled(alloc, &[0, 0xc4], 60, 0)?;
-    let mut cursor = Cursor::new(bytes.as_slice());
-    let read = read_pallet_info(alloc, &mut cursor);
-    assert!(rt; read == Err(WireFault::NoSpelling));
-    assert_eq!(rt; cursor.rest(), bytes.as_slice());
+    assert!(rt; is_no_pallet(alloc, bytes.as_slice()));
     Ok(())
+}
+
+/// Whether the bytes of the hex are what is written for the query, and are read as it.
+fn spells_query(alloc: Global, info: &QueryInfo, hex: &str) -> Result<bool, Fail> {
+    let bytes = hex::decode(alloc, hex)?;
+    let mut out = Out::new(alloc);
+    write_query_info(&mut out, info)?;
+    let mut cursor = Cursor::new(bytes.as_slice());
+    let read = read_query_info(&mut cursor)?;
+    Ok(out.bytes() == bytes.as_slice() && read == *info)
+}
+
+/// Whether no front of the bytes is a query, and the cursor stays.
+fn is_no_query(bytes: &[u8]) -> bool {
+    let mut cursor = Cursor::new(bytes);
+    let read = read_query_info(&mut cursor);
+    read == Err(NoSpelling) && cursor.rest() == bytes
 }
 
 #[test]
 fn what_a_response_answers(rt: HostRuntime) -> Result<(), Fail> {
-    let alloc = rt.alloc();
     let info = QueryInfo {
         destination: place(1, &[Junction::Parachain(1000)]),
         query_id: 7,
         max_weight: weight(64, 1),
     };
-    let mut out = Out::new(alloc);
-    write_query_info(&mut out, &info)?;
-    let text = hex::encode(alloc, out.bytes())?;
-    assert_eq!(rt; text.as_str(), "010100a10f1c010104");
-    let mut cursor = Cursor::new(out.bytes());
-    let read = read_query_info(&mut cursor)?;
-    assert!(rt; read == info);
-    let mut cursor = Cursor::new(&[1, 0, 4, 4]);
-    let read = read_query_info(&mut cursor);
-    assert!(rt; read == Err(NoSpelling));
-    assert_eq!(rt; cursor.rest(), [1, 0, 4, 4].as_slice());
+    assert!(rt; spells_query(rt.alloc(), &info, "010100a10f1c010104")?);
+    assert!(rt; is_no_query(&[1, 0, 4, 4]));
     Ok(())
 }
 
@@ -386,8 +517,16 @@ fn spells_response(alloc: Global, answer: &Response, v: Version, hex: &str) -> R
     Ok(out.bytes() == bytes.as_slice() && read == *answer && cursor.rest().is_empty())
 }
 
+/// Whether the hex is what both versions say for the response.
+fn says_response(alloc: Global, answer: &Response, hex: &str) -> Result<bool, Fail> {
+    Ok(
+        spells_response(alloc, answer, Version::V3, hex)?
+            && spells_response(alloc, answer, Version::V4, hex)?,
+    )
+}
+
 #[test]
-fn responses_are_spelled_by_their_index(rt: HostRuntime) -> Result<(), Fail> {
+fn a_response_may_have_assets(rt: HostRuntime) -> Result<(), Fail> {
     let alloc = rt.alloc();
     let asset = Asset {
         id: AssetId::Concrete(place(1, &[])),
@@ -396,64 +535,88 @@ fn responses_are_spelled_by_their_index(rt: HostRuntime) -> Result<(), Fail> {
     let assets = Response::Assets(Assets::from_sorted(vec![in alloc; asset]?)?);
     assert!(rt; spells_response(alloc, &assets, Version::V3, "01040001000004")?);
     assert!(rt; spells_response(alloc, &assets, Version::V4, "010401000004")?);
+    Ok(())
+}
+
+#[test]
+fn responses_are_spelled_by_their_index(rt: HostRuntime) -> Result<(), Fail> {
+    let alloc = rt.alloc();
+    assert!(rt; says_response(alloc, &Response::Null, "00")?);
+    assert!(rt; says_response(alloc, &Response::Version(4), "0304000000")?);
+    let ended = Response::DispatchResult(MaybeError::Success);
+    assert!(rt; says_response(alloc, &ended, "0500")?);
+    Ok(())
+}
+
+#[test]
+fn a_response_may_have_a_failure(rt: HostRuntime) -> Result<(), Fail> {
+    let alloc = rt.alloc();
+    let done = Response::ExecutionResult(None);
+    assert!(rt; says_response(alloc, &done, "0200")?);
     let failed = Response::ExecutionResult(Some((1, XcmError::Trap(5))));
-    for (answer, hex) in [
-        (&Response::Null, "00"),
-        (&Response::ExecutionResult(None), "0200"),
-        (&failed, "020101000000150500000000000000"),
-        (&Response::Version(4), "0304000000"),
-        (&Response::DispatchResult(MaybeError::Success), "0500"),
-    ] {
-        assert!(rt; spells_response(alloc, answer, Version::V3, hex)?, "{hex}");
-        assert!(rt; spells_response(alloc, answer, Version::V4, hex)?, "{hex}");
-    }
-    let pallets = Response::PalletsInfo(BoundedVec::from_vec(vec![in alloc; balances(alloc)?]?));
+    assert!(rt; says_response(alloc, &failed, "020101000000150500000000000000")?);
+    Ok(())
+}
+
+#[test]
+fn a_response_may_have_pallets(rt: HostRuntime) -> Result<(), Fail> {
+    let alloc = rt.alloc();
+    let items = vec![in alloc; balances(alloc)?]?;
+    let pallets = Response::PalletsInfo(BoundedVec::from_vec(items));
     let hex = format!(in alloc; "0404{BALANCES}")?;
     assert!(rt; spells_response(alloc, &pallets, Version::V4, hex.as_str())?);
     Ok(())
 }
 
+/// Hex at the front of which stands no response in version 4.
+const NO_RESPONSES: &[&str] = &[
+    "",
+    "06",
+    "0202",
+    "02010000000023",
+    "030400",
+    "0503",
+    // assets of version 3, and an amount of 0
+    "01040001000004",
+    "010401000000",
+];
+
+/// Whether no front of the bytes is a response of version 4, and the cursor stays.
+fn is_no_response(alloc: Global, bytes: &[u8]) -> bool {
+    let mut cursor = Cursor::new(bytes);
+    let read = read_response(alloc, &mut cursor, Version::V4);
+    read == Err(WireFault::NoSpelling) && cursor.rest() == bytes
+}
+
 #[test]
 fn other_bytes_are_no_response(rt: HostRuntime) -> Result<(), Fail> {
-    let alloc = rt.alloc();
-    for hex in [
-        "",
-        "06",
-        "0202",
-        "02010000000023",
-        "030400",
-        "0503",
-        // assets of version 3, and an amount of 0
-        "01040001000004",
-        "010401000000",
-    ] {
-        let bytes = hex::decode(alloc, hex)?;
-        let mut cursor = Cursor::new(bytes.as_slice());
-        let read = read_response(alloc, &mut cursor, Version::V4);
-        assert!(rt; read == Err(WireFault::NoSpelling), "{hex}");
-        assert_eq!(rt; cursor.rest(), bytes.as_slice());
+    for hex in NO_RESPONSES {
+        let bytes = hex::decode(rt.alloc(), hex)?;
+        assert!(rt; is_no_response(rt.alloc(), bytes.as_slice()), "{hex}");
     }
     Ok(())
+}
+
+/// How many pallets the response of version 4 at the front of the bytes has, if it has pallets and is all of the bytes.
+fn pallets_of(alloc: Global, bytes: &[u8]) -> Result<Option<usize>, Fail> {
+    let mut cursor = Cursor::new(bytes);
+    let read = read_response(alloc, &mut cursor, Version::V4)?;
+    match read {
+        Response::PalletsInfo(pallets) if cursor.rest().is_empty() => Ok(Some(
+            pallets.items().len(),
+        )),
+        _ => Ok(None),
+    }
 }
 
 #[test]
 fn a_response_has_at_most_64_pallets(rt: HostRuntime) -> Result<(), Fail> {
     let alloc = rt.alloc();
     // six bytes of 0 are a pallet of index 0 without names, of version 0.0.0
-    let bytes = filled(alloc, &[4, 1, 1], 6 * 64, 0)?;
-    let mut cursor = Cursor::new(bytes.as_slice());
-    let read = read_response(alloc, &mut cursor, Version::V4)?;
-    assert!(rt; cursor.rest().is_empty());
-    if let Response::PalletsInfo(pallets) = &read {
-        assert_eq!(rt; pallets.items().len(), 64);
-    } else {
-        assert!(rt; false);
-    }
-    let bytes = filled(alloc, &[4, 5, 1], 6 * 65, 0)?;
-    let mut cursor = Cursor::new(bytes.as_slice());
-    let read = read_response(alloc, &mut cursor, Version::V4);
-    assert!(rt; read == Err(WireFault::NoSpelling));
-    assert_eq!(rt; cursor.rest(), bytes.as_slice());
+    let most = filled(alloc, &[4, 1, 1], 6 * 64, 0)?;
+    assert!(rt; pallets_of(alloc, most.as_slice())? == Some(64));
+    let past = filled(alloc, &[4, 5, 1], 6 * 65, 0)?;
+    assert!(rt; is_no_response(alloc, past.as_slice()));
     Ok(())
 }
 

@@ -10,7 +10,7 @@ use std::alloc::{AllocError, Global};
 use std::test::Fail;
 
 /// The errors in the order of their indices, with their texts.
-const ERRORS: [(XcmError, &str); 35] = [
+const ERRORS: &[(XcmError, &str)] = &[
     (XcmError::Overflow, "Overflow"),
     (XcmError::Unimplemented, "Unimplemented"),
     (
@@ -54,11 +54,16 @@ const ERRORS: [(XcmError, &str); 35] = [
     (XcmError::NotDepositable, "NotDepositable"),
 ];
 
+/// Whether this is the text of the error.
+fn has_text(alloc: Global, error: &XcmError, want: &str) -> Result<bool, Fail> {
+    let text = format!(in alloc; "{error}")?;
+    Ok(text.as_str() == want)
+}
+
 #[test]
 fn errors_have_their_texts(rt: HostRuntime) -> Result<(), Fail> {
     for (error, want) in ERRORS {
-        let text = format!(in rt.alloc(); "{error}")?;
-        assert_eq!(rt; text.as_str(), want);
+        assert!(rt; has_text(rt.alloc(), error, want)?, "{want}");
     }
     Ok(())
 }
@@ -82,41 +87,80 @@ fn name(alloc: Global, bytes: &[u8]) -> Result<PalletName, AllocError>
     Ok(BoundedVec::from_vec(bytes.to_vec(alloc)?))
 }
 
+/// Whether these bytes make a list that is equal to the other.
+fn is_name(alloc: Global, bytes: &[u8], other: &PalletName) -> Result<bool, Fail>
+    requires { length bytes.now ≤ 48 }
+{
+    let made = name(alloc, bytes)?;
+    Ok(made == *other && made.items() == bytes)
+}
+
 #[test]
 fn lists_are_equal_element_by_element(rt: HostRuntime) -> Result<(), Fail> {
     let alloc = rt.alloc();
     let one = name(alloc, &[1, 2, 3])?;
-    assert_eq!(rt; one.items(), [1, 2, 3].as_slice());
-    assert!(rt; one == name(alloc, &[1, 2, 3])?);
-    assert!(rt; one != name(alloc, &[1, 2])?);
-    assert!(rt; one != name(alloc, &[1, 2, 4])?);
-    let same = one.copy()?;
-    assert_eq!(rt; same.items(), [1, 2, 3].as_slice());
-    let long: LongBytes = BoundedVec::from_vec(vec![in alloc; 7; 100]?);
-    assert_eq!(rt; long.items().len(), 100);
+    assert!(rt; is_name(alloc, &[1, 2, 3], &one)?);
+    assert!(rt; !is_name(alloc, &[1, 2], &one)?);
+    assert!(rt; !is_name(alloc, &[1, 2, 4], &one)?);
     Ok(())
 }
 
 #[test]
-fn copies_are_the_same(rt: HostRuntime) -> Result<(), Fail> {
+fn a_copy_of_a_list_has_its_items(rt: HostRuntime) -> Result<(), Fail> {
     let alloc = rt.alloc();
-    let pallet = PalletInfo {
+    let one = name(alloc, &[1, 2, 3])?;
+    let same = one.copy()?;
+    assert!(rt; same.items() == [1, 2, 3].as_slice());
+    let long: LongBytes = BoundedVec::from_vec(vec![in alloc; 7; 100]?);
+    assert!(rt; long.items().len() == 100);
+    Ok(())
+}
+
+fn balances(alloc: Global) -> Result<PalletInfo, AllocError> {
+    Ok(PalletInfo {
         index: 4,
         name: name(alloc, b"Balances")?,
         module_name: name(alloc, b"pallet_balances")?,
         major: 1,
         minor: 2,
         patch: 3,
-    };
+    })
+}
+
+#[test]
+fn copies_of_pallets_are_the_same(rt: HostRuntime) -> Result<(), Fail> {
+    let pallet = balances(rt.alloc())?;
     let same = pallet.copy()?;
     assert!(rt; same == pallet);
-    assert_eq!(rt; same.name.items(), b"Balances".as_slice());
-    let error = MaybeError::TruncatedError(BoundedVec::from_vec(vec![in alloc; 1, 2]?));
-    assert!(rt; error.copy()? == error);
-    assert!(rt; error != MaybeError::Error(BoundedVec::from_vec(vec![in alloc; 1, 2]?)));
-    assert!(rt; MaybeError::Success.copy()? == MaybeError::Success);
-    let pallets: PalletInfos = BoundedVec::from_vec(vec![in alloc; pallet]?);
-    assert!(rt; Response::PalletsInfo(pallets) != Response::DispatchResult(error));
+    assert!(rt; same.name.items() == b"Balances".as_slice());
+    Ok(())
+}
+
+/// The end of a call with the bytes 1 and 2, some of them cut off.
+fn cut_off(alloc: Global) -> Result<MaybeError, AllocError> {
+    let items = vec![in alloc; 1, 2]?;
+    Ok(MaybeError::TruncatedError(BoundedVec::from_vec(items)))
+}
+
+#[test]
+fn copies_of_ends_are_the_same(rt: HostRuntime) -> Result<(), Fail> {
+    let alloc = rt.alloc();
+    let error = cut_off(alloc)?;
+    let same = error.copy()?;
+    assert!(rt; same == error);
+    let whole = MaybeError::Error(BoundedVec::from_vec(vec![in alloc; 1, 2]?));
+    assert!(rt; error != whole);
+    let success = MaybeError::Success.copy()?;
+    assert!(rt; success == MaybeError::Success);
+    Ok(())
+}
+
+#[test]
+fn responses_of_two_kinds_differ(rt: HostRuntime) -> Result<(), Fail> {
+    let alloc = rt.alloc();
+    let pallets: PalletInfos = BoundedVec::from_vec(vec![in alloc; balances(alloc)?]?);
+    let ended = Response::DispatchResult(cut_off(alloc)?);
+    assert!(rt; Response::PalletsInfo(pallets) != ended);
     Ok(())
 }
 

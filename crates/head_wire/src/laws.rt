@@ -7,7 +7,7 @@ ghost use Rattle.xcm_program.specs.Measure.{with_inner};
 ghost use Rattle.xcm_format.specs.Programs.{head, FitsHead};
 ghost use Rattle.xcm_program.specs.Conversions.{HasAmount};
 ghost use Rattle.xcm_format.specs.Writable.{IsNamedHead};
-ghost use Rattle.head_wire.specs.Reading.{Layer, head_at};
+ghost use Rattle.head_reading.specs.Reading.{Layer, head_at};
 
 /// The reader takes the head of each instruction that fits, whatever follows it, and nothing else. In the place of the program inside it
 /// gives an empty one.

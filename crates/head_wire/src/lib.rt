@@ -5,6 +5,8 @@ mod laws;
 mod reading;
 mod writing;
 
+pub use head_reading::fill_head;
+pub use head_writing::put_head;
 pub use laws::{law_of_heads, law_of_no_prefix, law_of_writable};
-pub use reading::{fill_head, read_head};
-pub use writing::{put_head, write_head};
+pub use reading::read_head;
+pub use writing::write_head;

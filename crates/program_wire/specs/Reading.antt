@@ -5,7 +5,7 @@ use Rattle.scale_codec.specs.Reading.{◌>>=◌, Reader, below_at, repeated}
 use Rattle.asset_wire.specs.declared.version.Version.{Version}
 use Rattle.xcm_program.specs.declared.instruction.Instruction.{Instruction, roll-Instruction}
 use Rattle.xcm_program.specs.Measure.{inner, with_inner}
-use Rattle.head_wire.specs.Reading.{Layer, head_at}
+use Rattle.head_reading.specs.Reading.{Layer, head_at}
 
 -- from how many instructions there may be, and the bytes: a program, how many there may still be, and the bytes behind it
 abbrev pub Nested : Type 0

@@ -25,7 +25,7 @@ use Rattle.xcm_program.specs.declared.instruction.Instruction.TheOpen.{Instructi
 use Rattle.xcm_program.specs.Measure.{with_inner}
 use Rattle.xcm_format.specs.Programs.{head, FitsHead}
 use Rattle.xcm_format.specs.Laws.{head-with}
-use Rattle.head_wire.specs.Reading.{Layer, forms0, forms1, forms2, forms3, forms4, forms5, group0_at, group1_at, group2_at, group3_at, group4_at, group5_at, form_at, head_at}
+use Rattle.head_reading.specs.Reading.{Layer, forms0, forms1, forms2, forms3, forms4, forms5, group0_at, group1_at, group2_at, group3_at, group4_at, group5_at, form_at, head_at}
 
 -- ---- fields that are options or bytes
 

@@ -15,7 +15,7 @@ use Rattle.xcm_format.specs.Programs.{head, FitsHead, behind, instruction_spelli
 use Rattle.xcm_format.specs.Messages.{IsReadable}
 use Rattle.xcm_program.specs.Laws.{deep_count_inside, deep_count_one-is, depth_inside, depth_one-is, inner-with, with-back, with-none}
 use Rattle.xcm_format.specs.Laws.{head-with, FitsHead-with, texts, spelling-is, Inside, fits_open, fits_made}
-use Rattle.head_wire.specs.Reading.{Layer, head_at}
+use Rattle.head_reading.specs.Reading.{Layer, head_at}
 use Rattle.head_wire.specs.Laws.HeadLaws.{head_takes, head_again}
 use Rattle.program_wire.specs.Reading.{Nested, closed, instruction_at, instruction_step, items_at, program_at, readable_at}
 

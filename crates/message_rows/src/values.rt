@@ -1,0 +1,18 @@
+//! Bytes that several tables speak of.
+
+use std::alloc::{AllocError, Global};
+
+/// The bytes of the front, and behind them a byte so many times.
+pub(crate) fn filled(
+    alloc: Global,
+    front: &[u8],
+    count: usize,
+    byte: u8,
+) -> Result<Vec<u8>, AllocError> {
+    let mut bytes = Vec::new(alloc);
+    bytes.extend_from_slice(front)?;
+    for _ in 0..count {
+        bytes.push(byte)?;
+    }
+    Ok(bytes)
+}
