@@ -2,3 +2,4 @@ pub mod Slashes
 pub mod LocationReading
 pub mod BothFields
 pub mod Locations
+pub mod PalletNames

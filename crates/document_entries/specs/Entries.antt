@@ -1,8 +1,9 @@
 -- The entries of the lists of a network document, a line a field: its name, its form, and what it is where it isn't there.
 -- Source: this project's own rule.
-use Rattle.std.specs.Prelude.{ℕ, ◌^◌, List, [], ◌∷◌, length, Bool, true, false, not, ◌||◌, ◌==◌, nat_le, bytes_eq, codes, Option, Some, None, option_and_then, Result, Ok, Err, if◌then◌else◌}
+use Rattle.std.specs.Prelude.{ℕ, ◌^◌, List, [], ◌∷◌, length, Bool, true, false, not, ◌&&◌, ◌||◌, ◌==◌, nat_le, bytes_eq, codes, Option, Some, None, option_and_then, Result, Ok, Err, if◌then◌else◌}
 use Rattle.std.specs.Option.{option_map}
 use Rattle.std.specs.Result.{result_ok}
+use Rattle.std.specs.Str.{is_utf8}
 use Rattle.hex.specs.Hex.{decode_of}
 use Rattle.serde_json.specs.Data.{Data}
 use Rattle.serde_json.specs.Find.{as_str, get}
@@ -195,11 +196,11 @@ account place value = do
 abbrev pub u32 : Form ℕ
 u32 = number_within 0 4294967295
 
--- at most 48 bytes
+-- at most 48 bytes of UTF-8
 unfoldable pub pallet_name : Form (List ℕ)
 pallet_name place value = do
   s ← text place value
-  where_true (BadValue place) (nat_le (length s) 48) s
+  where_true (BadValue place) (nat_le (length s) 48 && is_utf8 s) s
 
 unfoldable pub pallet : Form PalletInfo
 pallet place value = do

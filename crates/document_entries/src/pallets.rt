@@ -19,8 +19,8 @@ fn u32_of(place: Place, value: &Value) -> Result<u32, Stop>
     number_of(place, 0, u32::MAX, value)
 }
 
-/// A name of at most 48 bytes.
-#[tactic(auto, unfolding(crate::specs::Entries::pallet_name))]
+/// A name of at most 48 bytes. That they are UTF-8 needs no test: a text is.
+#[tactic(auto, using(crate::proofs::PalletNames::short_text), unfolding(crate::specs::Entries::pallet_name))]
 fn name_of(alloc: Global, place: Place, value: &Value) -> Result<PalletName, Stop>
     ensures { Answers result (pallet_name place (view value.now)) }
 {

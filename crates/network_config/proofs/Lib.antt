@@ -7,7 +7,6 @@ pub mod Arranging
 pub mod Documents
 pub mod Holding
 pub mod Asking
-pub mod Textual
 pub mod Shaped
 pub mod ShapedChains
 pub mod Reading

@@ -4,8 +4,8 @@ use Rattle.std.specs.Option.{option_map}
 use Rattle.std.specs.Str.{is_utf8}
 use Rattle.std.specs.Str.Parse.{digits_value}
 use Rattle.std.proofs.Common.{◌≡◌, refl, ap, subst, arith}
-use Rattle.std.proofs.lemmas.Bool.{and_from, lt-ltb, not-true, eqb-false, false≢true}
-use Rattle.serde_json.specs.Data.{Data, null, boolean, number, string, array, object}
+use Rattle.std.proofs.lemmas.Bool.{and_parts, and_from, lt-ltb, not-true, eqb-false, false≢true}
+use Rattle.serde_json.specs.Data.{Data}
 use Rattle.serde_json.specs.Find.{get}
 use Rattle.asset_wire.specs.declared.version.Version.TheVariants.{V4}
 use Rattle.asset_lists.specs.declared.units.Asset.{Asset}
@@ -27,7 +27,6 @@ use Rattle.document_forms.specs.declared.fault.Place.{Place}
 use Rattle.document_forms.specs.Forms.{Form, ◌>>=◌, ◌>>◌, or_fault, where_true, fields, is_decimal, field, needed, of_optional, defaulted, some_of, optional, whole, number_within, text, bytes, chain, each, is_chain_kind, decimal_below}
 use Rattle.document_entries.specs.Entries.{both_fault, one_of, either, made, rate_limit, amount_limit, amount, location, instance, rate, kind, native, with_checking, asset_row, account, u32, pallet_name, pallet, fee, version, channel_fields, channel_entry}
 use Rattle.network_config.specs.Valid.{is_within, fits_rate, fits_role, fits_fun, fits_asset, fits_pallet, fits_fee, fits_channel}
-use Rattle.network_config.proofs.Textual.{Textual, TextualIf, textual_get}
 
 -- ---- what is given, where something is
 
@@ -202,34 +201,18 @@ account_gives place value =
 
 -- ---- pallets
 
-text_gives : (place : Place) (value : Data) → Textual value → Gives (λ s. is_utf8 s ≡ true) (text place value)
-unfolding text
-text_gives place null t = err_gives _ (WrongKind place)
-text_gives place (boolean b) t = err_gives _ (WrongKind place)
-text_gives place (number n) t = err_gives _ (WrongKind place)
-text_gives place (string s) t = ok_gives _ s t
-text_gives place (array items) t = err_gives _ (WrongKind place)
-text_gives place (object fields) t = err_gives _ (WrongKind place)
-
-name_gives : (place : Place) (value : Data) → Textual value → Gives (λ s. is_utf8 s ≡ true) (pallet_name place value)
+name_gives : (place : Place) (value : Data) → Gives (λ s. is_utf8 s ≡ true) (pallet_name place value)
 unfolding pallet_name
-name_gives place value t = with_first (text place value) _ (text_gives place value t) (λ s u. where_gives (BadValue place) (nat_le (length s) 48) s (λ h. u))
+name_gives place value =
+    one_by_one (text place value) _ (λ s e. where_gives (BadValue place) (nat_le (length s) 48 && is_utf8 s) s (λ h. (and_parts (nat_le (length s) 48) (is_utf8 s) h).1))
 
-textual_needed : {X : Type 0} {P : X → Type 0} (name : List ℕ) (form : Form X) (place : Place) (value : Data) → Textual value → ((v : Data) → Textual v → Gives P (form place v)) → Gives P (needed name form place value)
-unfolding field
-textual_needed {P = P} name form place value t k = by (get name value) (textual_get name value t)
-  where
-    by : (o : Option Data) → TextualIf o → Gives P (or_fault (MissingField place) o >>= form place)
-    by None u = err_gives P (MissingField place)
-    by (Some v) u = k v u
-
-pub pallet_gives : (place : Place) (value : Data) → Textual value → Gives (λ (p : PalletInfo). fits_pallet p ≡ true) (pallet place value)
+pub pallet_gives : (place : Place) (value : Data) → Gives (λ (p : PalletInfo). fits_pallet p ≡ true) (pallet place value)
 unfolding pallet
-pallet_gives place value t =
+pallet_gives place value =
     after (fields (codes "index" ∷ codes "name" ∷ codes "module_name" ∷ codes "major" ∷ codes "minor" ∷ codes "patch" ∷ []) place value) _
     (one_by_one (needed (codes "index") u32 place value) _ (λ index e.
-    with_first (needed (codes "name") pallet_name place value) _ (textual_needed (codes "name") pallet_name place value t (name_gives place)) (λ name u.
-    with_first (needed (codes "module_name") pallet_name place value) _ (textual_needed (codes "module_name") pallet_name place value t (name_gives place)) (λ module_name v.
+    with_first (needed (codes "name") pallet_name place value) _ (needed_gives (codes "name") pallet_name place value (name_gives place)) (λ name u.
+    with_first (needed (codes "module_name") pallet_name place value) _ (needed_gives (codes "module_name") pallet_name place value (name_gives place)) (λ module_name v.
     one_by_one (needed (codes "major") u32 place value) _ (λ major f.
     one_by_one (needed (codes "minor") u32 place value) _ (λ minor g.
     one_by_one (needed (codes "patch") u32 place value) _ (λ patch h.

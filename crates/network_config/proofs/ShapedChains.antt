@@ -27,7 +27,6 @@ use Rattle.network_config.specs.Document.{network, has_fees, is_relay_entry, has
 use Rattle.network_config.specs.Valid.{is_within, fits_rate, fits_role, fits_asset, fits_pallet, fits_chain, fits_channel}
 use Rattle.network_config.specs.Faultless.{ok_both}
 use Rattle.network_config.specs.Arranged.{is_relay}
-use Rattle.network_config.proofs.Textual.{Textual, TextualItems, TextualIf, textual_get}
 use Rattle.network_config.proofs.Shaped.{Gives, ok_gives, err_gives, one_by_one, with_first, after, after_ok, weaker, where_gives, defaulted_gives, number_gives, rate_gives, asset_gives, account_gives, pallet_gives, channel_gives}
 
 -- ---- lists of entries
@@ -44,11 +43,11 @@ module _ {X : Type 0} (R : Data → X → Type 0) where
   onto_gives v vs x (Ok xs) h g = ok_gives (Match R (item v vs)) (x ∷ xs) (h, g.given xs refl)
   onto_gives v vs x (Err fault) h g = err_gives (Match R (item v vs)) fault
 
-  pub entries_gives : (form : ℕ → Data → Result X NetworkFault) → ((i : ℕ) (v : Data) → Textual v → Gives (R v) (form i v)) → (i : ℕ) (items : Items) → TextualItems items → Gives (Match R items) (entries form i items)
+  pub entries_gives : (form : ℕ → Data → Result X NetworkFault) → ((i : ℕ) (v : Data) → Gives (R v) (form i v)) → (i : ℕ) (items : Items) → Gives (Match R items) (entries form i items)
   unfolding entries
-  entries_gives form k i no_items t = ok_gives (Match R no_items) [] tt
-  entries_gives form k i (item v vs) t =
-      with_first (form i v) _ (k i v t.0) (λ x h. onto_gives v vs x (entries form (next_index i) vs) h (entries_gives form k (next_index i) vs t.1))
+  entries_gives form k i no_items = ok_gives (Match R no_items) [] tt
+  entries_gives form k i (item v vs) =
+      with_first (form i v) _ (k i v) (λ x h. onto_gives v vs x (entries form (next_index i) vs) h (entries_gives form k (next_index i) vs))
 
   pub match_length : (items : Items) (xs : List X) → Match R items xs → length xs ≡ count items
   match_length no_items [] m = refl
@@ -73,22 +72,6 @@ module _ {X : Type 0} (R : Data → X → Type 0) where
 
 -- ---- fields that are lists
 
-pub textual_list : (name : List ℕ) (place : Place) (value : Data) → Textual value → Gives TextualItems (list_field name place value)
-unfolding list_field list
-textual_list name place value t = by (get name value) (textual_get name value t)
-  where
-    listed : (v : Data) → Textual v → Gives TextualItems (or_fault (WrongKind place) (as_array v))
-    listed null u = err_gives TextualItems (WrongKind place)
-    listed (boolean b) u = err_gives TextualItems (WrongKind place)
-    listed (number n) u = err_gives TextualItems (WrongKind place)
-    listed (string s) u = err_gives TextualItems (WrongKind place)
-    listed (array items) u = ok_gives TextualItems items u
-    listed (object ms) u = err_gives TextualItems (WrongKind place)
-
-    by : (o : Option Data) → TextualIf o → Gives TextualItems (of_optional no_items list place o)
-    by None u = ok_gives TextualItems no_items tt
-    by (Some v) u = listed v u
-
 abbrev IsShort : ℕ → Items → Type 0
 IsShort most items = nat_le (count items) most ≡ true
 
@@ -104,23 +87,20 @@ short_gives name most place value h =
           ok_where (LimitPassed place) (nat_le (count items) most) items (subst (λ (r : Result Items NetworkFault). is_ok (r >>= λ listed. where_true (LimitPassed place) (nat_le (count listed) most) listed) ≡ true) e h);
     }
 
-module _ {X : Type 0} (p : X → Bool) (name : List ℕ) (section : Section) (form : Form X) (chain : ℕ) (value : Data) (t : Textual value) (k : (place : Place) (v : Data) → Textual v → Gives (λ x. p x ≡ true) (form place v)) where
-  read_gives : (items : Items) → TextualItems items → Gives (Match (λ v x. p x ≡ true) items) (entries (λ index. form (in_chain chain section index)) 0 items)
-  read_gives items u = entries_gives (λ v x. p x ≡ true) (λ index. form (in_chain chain section index)) (λ i v w. k (in_chain chain section i) v w) 0 items u
+module _ {X : Type 0} (p : X → Bool) (name : List ℕ) (section : Section) (form : Form X) (chain : ℕ) (value : Data) (k : (place : Place) (v : Data) → Gives (λ x. p x ≡ true) (form place v)) where
+  read_gives : (items : Items) → Gives (Match (λ v x. p x ≡ true) items) (entries (λ index. form (in_chain chain section index)) 0 items)
+  read_gives items = entries_gives (λ v x. p x ≡ true) (λ index. form (in_chain chain section index)) (λ i v. k (in_chain chain section i) v) 0 items
 
   field_gives : Gives (λ xs. list_all p xs ≡ true) (entries_field name section form chain value)
   field_gives =
-      with_first (list_field name (fields_of chain) value) _ (textual_list name (fields_of chain) value t) (λ items u.
-      weaker _ (entries (λ index. form (in_chain chain section index)) 0 items) (λ xs m. match_test (λ v x. p x ≡ true) p (λ v x e. e) items xs m) (read_gives items u))
+      one_by_one (list_field name (fields_of chain) value) _ (λ items e.
+      weaker _ (entries (λ index. form (in_chain chain section index)) 0 items) (λ xs m. match_test (λ v x. p x ≡ true) p (λ v x e. e) items xs m) (read_gives items))
 
   short_field_gives : (most : ℕ) → Gives (IsShort most) (list_field name (fields_of chain) value) → Gives (λ xs. (list_all p xs ≡ true) × (nat_le (length xs) most ≡ true)) (entries_field name section form chain value)
   short_field_gives most short =
-      with_first (list_field name (fields_of chain) value) _ both (λ items u.
+      with_first (list_field name (fields_of chain) value) _ short (λ items few.
       weaker _ (entries (λ index. form (in_chain chain section index)) 0 items) (λ xs m.
-      (match_test (λ v x. p x ≡ true) p (λ v x e. e) items xs m, subst (λ n. nat_le n most ≡ true) (sym (match_length (λ v x. p x ≡ true) items xs m)) u.1)) (read_gives items u.0))
-    where
-      both : Gives (λ items. TextualItems items × IsShort most items) (list_field name (fields_of chain) value)
-      both = record { given = λ items e. ((textual_list name (fields_of chain) value t).given items e, short.given items e) }
+      (match_test (λ v x. p x ≡ true) p (λ v x e. e) items xs m, subst (λ n. nat_le n most ≡ true) (sym (match_length (λ v x. p x ≡ true) items xs m)) few)) (read_gives items))
 
 -- ---- a chain's own fields
 
@@ -195,17 +175,17 @@ pub record FitsChain (value : Data) (c : ChainSpec) : Type 0 where
   pub named : IsChain c.chain
   pub relay : is_relay c ≡ is_relay_entry value
 
-pub chain_gives : (chain : ℕ) (value : Data) → Textual value → Gives (FitsChain value) (chain_entry chain value)
+pub chain_gives : (chain : ℕ) (value : Data) → Gives (FitsChain value) (chain_entry chain value)
 unfolding chain_entry
-chain_gives chain value t =
+chain_gives chain value =
     with_first (own_fields (fields_of chain) value) _ (own_gives (fields_of chain) value) (λ h own.
     one_by_one (barriers_field chain value) _ (λ barriers e.
-    with_first (entries_field (codes "rates") Rates rate chain value) _ (field_gives fits_rate (codes "rates") Rates rate chain value t (λ place v w. rate_gives place v)) (λ rates r.
+    with_first (entries_field (codes "rates") Rates rate chain value) _ (field_gives fits_rate (codes "rates") Rates rate chain value rate_gives) (λ rates r.
     with_first (entries_field (codes "assets") Assets asset_row chain value) _
-    (short_field_gives (λ (row : AssetRow). fits_role row.kind row.role) (codes "assets") Assets asset_row chain value t (λ place v w. asset_gives place v) 128 own.1.assets) (λ assets a.
+    (short_field_gives (λ (row : AssetRow). fits_role row.kind row.role) (codes "assets") Assets asset_row chain value asset_gives 128 own.1.assets) (λ assets a.
     with_first (entries_field (codes "accounts") Accounts account chain value) _
-    (field_gives (λ (b : Balance). fits_asset b.asset) (codes "accounts") Accounts account chain value t (λ place v w. account_gives place v)) (λ accounts b.
-    with_first (entries_field (codes "pallets") Pallets pallet chain value) _ (short_field_gives fits_pallet (codes "pallets") Pallets pallet chain value t pallet_gives 64 own.1.pallets) (λ pallets p.
+    (field_gives (λ (b : Balance). fits_asset b.asset) (codes "accounts") Accounts account chain value account_gives) (λ accounts b.
+    with_first (entries_field (codes "pallets") Pallets pallet chain value) _ (short_field_gives fits_pallet (codes "pallets") Pallets pallet chain value pallet_gives 64 own.1.pallets) (λ pallets p.
     one_by_one (entries_field (codes "queries") Queries query chain value) _ (λ queries q.
     ok_gives (FitsChain value) (with_head h barriers rates assets accounts pallets queries) (record {
       fits = all_fit h barriers rates assets accounts pallets queries own.0.rules a.1 p.1 r a.0 b p.0;
@@ -228,18 +208,13 @@ pub record Shape (spec : NetworkSpec) : Type 0 where
   pub fit_channels : list_all fits_channel spec.channels ≡ true
   pub named : AllByRecursion (λ (c : ChainSpec). IsChain c.chain) spec.chains
 
-abbrev AreFew : Items → Type 0
-AreFew items = TextualItems items × (nat_le (chain_count items) 64 ≡ true)
-
-few_give : (place : Place) (value : Data) → Textual value → Gives AreFew (chains_list place value)
+few_give : (place : Place) (value : Data) → Gives (λ items. nat_le (chain_count items) 64 ≡ true) (chains_list place value)
 unfolding chains_list
-few_give place value t =
-    with_first (list_field (codes "chains") place value) _ (textual_list (codes "chains") place value t) (λ items u. where_gives (LimitPassed place) (nat_le (chain_count items) 64) items (λ h. (u, h)))
+few_give place value = one_by_one (list_field (codes "chains") place value) _ (λ items e. where_gives (LimitPassed place) (nat_le (chain_count items) 64) items (λ h. h))
 
-few_channels : (place : Place) (value : Data) → Textual value → Gives (λ items. TextualItems items × (nat_le (count items) 256 ≡ true)) (short_list (codes "channels") 256 place value)
+few_channels : (place : Place) (value : Data) → Gives (IsShort 256) (short_list (codes "channels") 256 place value)
 unfolding short_list
-few_channels place value t =
-    with_first (list_field (codes "channels") place value) _ (textual_list (codes "channels") place value t) (λ items u. where_gives (LimitPassed place) (nat_le (count items) 256) items (λ h. (u, h)))
+few_channels place value = one_by_one (list_field (codes "channels") place value) _ (λ items e. where_gives (LimitPassed place) (nat_le (count items) 256) items (λ h. h))
 
 match_relay : (items : Items) (cs : List ChainSpec) → Match FitsChain items cs → list_any is_relay cs ≡ has_relay items
 match_relay no_items [] m = refl
@@ -247,20 +222,20 @@ match_relay no_items (c ∷ cs) m = absurd m
 match_relay (item v vs) [] m = absurd m
 match_relay (item v vs) (c ∷ cs) m = λ i. m.0.relay i || match_relay vs cs m.1 i
 
-pub shapes_give : (value : Data) → Textual value → Gives Shape (shapes value)
+pub shapes_give : (value : Data) → Gives Shape (shapes value)
 unfolding shapes
-shapes_give value t =
+shapes_give value =
     after (fields top_fields top value) _
     (one_by_one (defaulted (codes "network") Polkadot network top value) _ (λ id e.
-    with_first (chains_list top value) _ (few_give top value t) (λ chain_items few.
-    with_first (short_list (codes "channels") 256 top value) _ (few_channels top value t) (λ channel_items short.
+    with_first (chains_list top value) _ (few_give top value) (λ chain_items few.
+    with_first (short_list (codes "channels") 256 top value) _ (few_channels top value) (λ channel_items short.
     one_by_one (defaulted (codes "format") false has_fees top value) _ (λ fees f.
-    with_first (entries chain_entry 0 chain_items) _ (entries_gives FitsChain chain_entry chain_gives 0 chain_items few.0) (λ chains m.
+    with_first (entries chain_entry 0 chain_items) _ (entries_gives FitsChain chain_entry chain_gives 0 chain_items) (λ chains m.
     with_first (entries (λ index. channel_entry fees (channel_at index)) 0 channel_items) _
-    (entries_gives (λ v c. fits_channel c ≡ true) (λ index. channel_entry fees (channel_at index)) (λ i v w. channel_gives fees (channel_at i) v) 0 channel_items short.0) (λ channels n.
+    (entries_gives (λ v c. fits_channel c ≡ true) (λ index. channel_entry fees (channel_at index)) (λ i v. channel_gives fees (channel_at i) v) 0 channel_items) (λ channels n.
     ok_gives Shape (record { network = id; chains = chains; channels = channels }) (record {
-      chains = subst (λ count. nat_le count 64 ≡ true) (sym (counted chain_items chains m)) few.1;
-      channels = subst (λ count. nat_le count 256 ≡ true) (sym (match_length (λ v c. fits_channel c ≡ true) channel_items channels n)) short.1;
+      chains = subst (λ count. nat_le count 64 ≡ true) (sym (counted chain_items chains m)) few;
+      channels = subst (λ count. nat_le count 256 ≡ true) (sym (match_length (λ v c. fits_channel c ≡ true) channel_items channels n)) short;
       fit_chains = match_test FitsChain fits_chain (λ v c h. h.fits) chain_items chains m;
       fit_channels = match_test (λ v c. fits_channel c ≡ true) fits_channel (λ v c h. h) channel_items channels n;
       named = match_all FitsChain (λ (c : ChainSpec). IsChain c.chain) (λ v c h. h.named) chain_items chains m;

@@ -6,6 +6,7 @@ mod checks;
 mod document;
 mod head;
 mod holdings;
+mod laws;
 mod lists;
 mod network;
 mod queries;
@@ -13,6 +14,7 @@ mod references;
 mod sums;
 
 pub use document_forms::{NetworkFault, Place, Section};
+pub use laws::law_of_documents;
 pub use network::{comes_before, read_network};
 pub use network_spec::{Balance, ChainSpec, ChannelSpec, NetworkSpec};
 pub use references::check_references;

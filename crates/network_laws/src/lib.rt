@@ -3,4 +3,4 @@
 
 mod laws;
 
-pub use laws::law_of_valid_networks;
+pub use laws::{law_of_read_networks, law_of_valid_networks};

@@ -1,12 +1,14 @@
 //! The run of the program.
 
-ghost use Rattle.std.specs.Prelude.{◌≡◌, ◌≢◌, ◌⊎◌, true, Ok, IfOk, IfSome};
+ghost use Rattle.std.specs.Prelude.{◌≡◌, ◌≢◌, ◌⊎◌, true, None, Ok, IfOk, IfSome};
 ghost use Rattle.std.specs.Io.KnownBytes.{Appends, IsAtEnd};
 ghost use Rattle.std.specs.declared.alloc.AllocError.{AllocError};
 ghost use Rattle.xcm_io.specs.Causes.{Rose};
 ghost use Rattle.network_spec.specs.declared.network.NetworkSpec.{NetworkSpec};
 ghost use Rattle.network_config.specs.Network.{network_of};
-ghost use Rattle.conserved_networks.specs.Kept.{IsCoherent, NetworkKept};
+ghost use Rattle.network_genesis.specs.Genesis.{entries_of};
+ghost use Rattle.coherence.specs.Causes.{first_cause};
+ghost use Rattle.conserved_networks.specs.Kept.{NetworkKept};
 ghost use Rattle.xcm_cli.specs.Report.{report, fate, ends, usage_reply, generated_reply, network_bytes, steps_of};
 ghost use Rattle.generator.specs.Generated.{generated};
 ghost use Rattle.xcm_cli.specs.Words.{task_of, reads};
@@ -20,6 +22,7 @@ use crate::texts::USAGE;
 use crate::words::{Task, task_of};
 use conserved_networks::law_of_conserved_networks;
 use generator::generate;
+use network_laws::law_of_read_networks;
 use std::alloc::{AllocError, Global};
 use step_text::network_refused_line;
 use xcm_io::{Sink, Source, write_whole};
@@ -51,10 +54,12 @@ pub fn run<I: Source, O: Sink>(
     ensures usage { task_of words.now ≡ Usage → IfOk result (λ status. (status ≡ Status.Usage) ⊎ (status ≡ Status.WriteFault)) }
     ensures other { result ≡ Ok Status.Usage → task_of words.now ≡ Usage }
 
-    // Where the network of the input is coherent, every world of its run keeps each asset and backs each derivative.
-    ensures kept { IfSome (I.left input.old) (λ bytes. (spec : NetworkSpec) → network_of (network_bytes bytes) ≡ Ok spec → IsCoherent spec → NetworkKept spec (steps_of bytes)) }
+    // Where the input's network is read and none of the seven causes is found in it, every world of its run keeps each asset
+    // and backs each derivative.
+    ensures kept { IfSome (I.left input.old) (λ bytes. (spec : NetworkSpec) → network_of (network_bytes bytes) ≡ Ok spec → first_cause (entries_of spec) ≡ None → NetworkKept spec (steps_of bytes)) }
 {
-    law_of_conserved_networks(); // For the prover alone.
+    law_of_read_networks(); // For the prover alone, as the next.
+    law_of_conserved_networks();
     match task_of(alloc, words)? {
         Task::Run { audit } => serve(alloc, audit, input, out),
         Task::Generate { number, steps } => write_generated(alloc, number, steps, out),

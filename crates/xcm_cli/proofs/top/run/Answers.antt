@@ -2,6 +2,9 @@ use Rattle.std.proofs.Common.{◌≡◌, ◌∙◌, sym, ap, ℕ, List, Option, 
 use Rattle.network_spec.specs.declared.network.NetworkSpec.{NetworkSpec}
 use Rattle.network_config.specs.Network.{network_of}
 use Rattle.network_steps.specs.Steps.{Step}
+use Rattle.network_genesis.specs.Genesis.{entries_of}
+use Rattle.network_genesis.specs.Openable.{IsOpenable}
+use Rattle.coherence.specs.Causes.{first_cause}
 use Rattle.conserved_networks.specs.Kept.{IsCoherent, NetworkKept}
 use Rattle.xcm_cli.specs.declared.words.Task.TheVariants.{Run, Generate, Usage}
 use Rattle.xcm_cli.specs.Words.{task_of, reads}
@@ -42,16 +45,20 @@ returns-in-Run-clause-front g c =
 pub returns-in_err-audit-clause-front : goal.returns-in_err-audit-clause-front
 returns-in_err-audit-clause-front g c = front_none _ _ _ c.from_residual.result c.from_residual.ensures.0
 
-kept_of : (left : Option (List ℕ)) → ((spec : NetworkSpec) (steps : List Step) → IsCoherent spec → NetworkKept spec steps)
-    → IfSome left (λ bytes. (spec : NetworkSpec) → network_of (network_bytes bytes) ≡ Ok spec → IsCoherent spec → NetworkKept spec (steps_of bytes))
-kept_of None law = tt
-kept_of (Some bytes) law = λ spec read coherent. law spec (steps_of bytes) coherent
+kept_of : (left : Option (List ℕ)) → ((bytes : List ℕ) (spec : NetworkSpec) → network_of bytes ≡ Ok spec → IsOpenable spec)
+    → ((spec : NetworkSpec) (steps : List Step) → IsCoherent spec → NetworkKept spec steps)
+    → IfSome left (λ bytes. (spec : NetworkSpec) → network_of (network_bytes bytes) ≡ Ok spec → first_cause (entries_of spec) ≡ None → NetworkKept spec (steps_of bytes))
+kept_of None opens kept = tt
+kept_of (Some bytes) opens kept = λ spec read none. kept spec (steps_of bytes) (record { openable = opens (network_bytes bytes) spec read; coherent = none })
 
 pub returns-in-Usage-clause-kept : goal.returns-in-Usage-clause-kept
-returns-in-Usage-clause-kept g c = kept_of _ c.law_of_conserved_networks.ensures.kept
+returns-in-Usage-clause-kept g c = kept_of _ c.law_of_read_networks.ensures.opens c.law_of_conserved_networks.ensures.kept
 
 pub returns-in-Generate-clause-kept : goal.returns-in-Generate-clause-kept
-returns-in-Generate-clause-kept g c = kept_of _ c.law_of_conserved_networks.ensures.kept
+returns-in-Generate-clause-kept g c = kept_of _ c.law_of_read_networks.ensures.opens c.law_of_conserved_networks.ensures.kept
 
 pub returns-in-Run-clause-kept : goal.returns-in-Run-clause-kept
-returns-in-Run-clause-kept g c = kept_of _ c.law_of_conserved_networks.ensures.kept
+returns-in-Run-clause-kept g c = kept_of _ c.law_of_read_networks.ensures.opens c.law_of_conserved_networks.ensures.kept
+
+pub returns-in_err-audit-clause-kept : goal.returns-in_err-audit-clause-kept
+returns-in_err-audit-clause-kept g c = kept_of _ c.law_of_read_networks.ensures.opens c.law_of_conserved_networks.ensures.kept
