@@ -82,7 +82,7 @@ fn balances(alloc: Global, net: &Net) -> Result<String, Fail> {
 fn traps(alloc: Global, net: &Net) -> Result<String, Fail> {
     let mut text = String::new(alloc);
     for chain in net.chains() {
-        text.push_str(&traps_text(alloc, chain.site().chain, chain.traps().traps())?)?;
+        text.push_str(&traps_text(alloc, chain.site().chain, chain.traps())?)?;
     }
     Ok(text)
 }

@@ -1,7 +1,10 @@
 //! Assets that are sent from their reserve and back.
 use crate::documents::{COHERENT, RESERVE};
-use crate::stepping::check;
+use crate::stepping::{check, opened};
+use asset_lists::Kind;
+use chain_ids::ChainId;
 use std::test::Fail;
+use supply_audit::supply;
 
 /// An account sends 1000 from the relay chain to parachain 2000, where weight is paid of it; and 500 of it come back.
 const THERE_AND_BACK: [(&str, &str); 9] = [
@@ -135,6 +138,20 @@ const AUDITED: [(&str, &str); 7] = [
 #[test]
 fn derivatives_are_backed_behind_each_step(rt: HostRuntime) -> Result<(), Fail> {
     check(&rt, rt.alloc(), RESERVE, COHERENT, &AUDITED)
+}
+
+#[test]
+fn an_asset_is_summed_at_its_home_alone(rt: HostRuntime) -> Result<(), Fail> {
+    let net = opened(rt.alloc(), RESERVE)?;
+    for chain in net.chains() {
+        let found = supply(net.chains(), &chain.site().path(), Kind::Fungible);
+        let wanted = match chain.site().chain {
+            ChainId::Relay => 1_000_000,
+            ChainId::Para(_) => 0,
+        };
+        assert_eq!(rt; found.home.low, wanted);
+    }
+    Ok(())
 }
 
 /// The same chains; the channel to parachain 2000 holds one message, of version 3, and the one to parachain 2001 short ones alone.

@@ -1,2 +1,3 @@
 pub mod Saturating
 pub mod Naming
+pub mod Tables

@@ -18,7 +18,7 @@ pub four : (a b c d m : ℕ) → min (min (min (a + b) m + c) m + d) m ≡ min (
 four a b c d m = omega arith
 
 module _ {X A : Type 0} (g : X → A) (f : A → ℕ) where
-  sum-map_append : (xs ys : List X) → sum_by f (map g (xs ++ ys)) ≡ sum_by f (map g xs) + sum_by f (map g ys)
+  pub sum-map_append : (xs ys : List X) → sum_by f (map g (xs ++ ys)) ≡ sum_by f (map g xs) + sum_by f (map g ys)
   sum-map_append [] ys = omega arith
   sum-map_append (x ∷ xs) ys = let rest = sum-map_append xs ys in let here = sum_by-append f (g x ∷ []) (map g (xs ++ ys)) in let front = sum_by-append f (g x ∷ []) (map g xs) in omega (arith, rest, here, front)
 

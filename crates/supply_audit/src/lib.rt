@@ -4,8 +4,12 @@
 mod audit;
 mod figures;
 mod messages;
+mod network_asset;
 mod places;
+mod table;
 mod totals;
 
 pub use audit::{backing, supply};
+pub use network_asset::NetworkAsset;
+pub use table::Supplies;
 pub use totals::{Backing, Supply};

@@ -59,7 +59,7 @@ fn account(ledger: &Ledger, who: &[u8; 32], id: &AssetId, kind: Kind) -> u128
 }
 
 /// A figure of a chain under an id. It saturates at 2^160-1.
-fn figure(figure: Figure, chain: &ChainState, id: &AssetId, kind: Kind) -> Total
+pub(crate) fn figure(figure: Figure, chain: &ChainState, id: &AssetId, kind: Kind) -> Total
     ensures { total_value result ≡ min (places.figure figure (part_of chain.now) id.now kind) most_burned }
 {
     match figure {
@@ -137,7 +137,7 @@ pub(crate) fn over_rows(
 }
 
 /// Whether a role is that of a native asset.
-fn is_native(role: &AssetRole) -> bool
+pub(crate) fn is_native(role: &AssetRole) -> bool
     ensures { result ≡ is_native_role role.now }
 {
     match role {

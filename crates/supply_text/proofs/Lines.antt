@@ -25,12 +25,10 @@ supply_form kind path h f b =
     ++ (codes " flight " ++ (f ++ (codes " burned " ++ (b ++ codes "\n")))))))))
 
 pub supply_is : (parts : List ChainPart) (a : UniversalAsset) (kind : Kind) (path : List Junction) (s : Supply) → kind ≡ a.1 → path ≡ a.0
-    → total_text s.home ≡ sum_text (home (path, kind) parts) → total_text s.flight ≡ sum_text (flight (path, kind) parts) → total_text s.burned ≡ sum_text (burned (path, kind) parts)
+    → total_text s.home ≡ sum_text (home a parts) → total_text s.flight ≡ sum_text (flight a parts) → total_text s.burned ≡ sum_text (burned a parts)
     → supply_line kind path s ≡ supply_text_of parts a
 unfolding supply_text_of
-supply_is parts a kind path s k p h f b =
-    (λ i. supply_form kind path (h i) (f i) (b i))
-    ∙ (λ i. supply_form (k i) (p i) (sum_text (home (p i, k i) parts)) (sum_text (flight (p i, k i) parts)) (sum_text (burned (p i, k i) parts)))
+supply_is parts a kind path s k p h f b = λ i. supply_form (k i) (p i) (h i) (f i) (b i)
 
 abbrev backing_form : ChainId → Kind → List Junction → List ℕ → List ℕ → List ℕ
 backing_form chain kind path h o =

@@ -14,9 +14,9 @@ use std::alloc::{AllocError, Global};
 pub fn supply_block(alloc: Global, chains: &[ChainState]) -> Result<String, AllocError>
     ensures { IfOk result (λ text. string_bytes text ≡ supply_block (map part_of chains.now)) }
 {
-    let assets = native_assets(alloc, chains)?;
+    let natives = native_assets(alloc, chains)?;
     let mut text = String::new(alloc);
-    push_supplies(alloc, &mut text, chains, assets.as_slice())?;
+    push_supplies(alloc, &mut text, chains, &natives)?;
     push_backings(alloc, &mut text, chains)?;
     Ok(text)
 }

@@ -4,7 +4,6 @@
 mod backings;
 mod block;
 mod laws;
-mod native_asset;
 mod natives;
 mod paths;
 mod supplies;
