@@ -60,7 +60,7 @@ use Rattle.conserved_steps.specs.Rooms.{unlisted, AllListed, small_room, sum_ris
 use Rattle.conserved_steps.specs.Soundness.{IsLink, IsSoundPart, LawsBelow}
 use Rattle.conserved_steps.specs.Senders.{sender_seen, loser_seen, ended_lost, nothing_booked}
 use Rattle.conserved_steps.specs.Bounds.{IsSoundGenesis, agrees_now, small_lost}
-use Rattle.conserved_steps.specs.Receptions.{Fate, Left, Landed}
+use Rattle.conserved_steps.specs.Receptions.{Fate, Left, Landed, Passed, StillCarried, HasLanded}
 use Rattle.conserved_steps.specs.Fates.{KeepsShapes}
 
 -- ---- what waits was trusted
@@ -222,47 +222,45 @@ module _ (laws : LawsBelow) (shapes : KeepsShapes) (first : World) (genesis : Is
   lost_cargo (cargos.Deposit list) carries trusted = just_ends empty refl (λ a choice. ap (λ (c : carried.Cargo). teleported (table_of ps) a choice (cargo_of c)) carries)
   lost_cargo (cargos.Away shipment) carries trusted = lost_by_way shipment shipment.way refl carries trusted.0 trusted.1
 
-  -- ---- both chains
-  pub stands : (left : carried.Cargo) (q : ChainPart) (comes : Machine → Type 0) → Fate ps pr cargo left q comes
-      → Stands first (slice_set (slice_set v i (seen empty (booking_lost (lost_of left) (without_message pr.site.chain ps)))) j (seen empty q)) (booking_lost (lost_of left) (without_message pr.site.chain ps)) q
-  stands left q comes (Left is safe sound inside) =
+  -- both chains, whatever stands at the receiver
+  still_carried : (left : carried.Cargo) → left ≡ cargo → (now : Part) → IsSafe (seen empty pr) now → History first (slice_set (slice_set v i (seen empty (booking_lost (lost_of left) (without_message pr.site.chain ps)))) j now)
+  still_carried left is now safe =
       let lost : Lost (lost_of left) = subst (λ (c : carried.Cargo). Lost (lost_of c)) (sym is) (lost_cargo cargo refl trusts) in
       let s = booking_lost (lost_of left) (without_message pr.site.chain ps) in
-      let once : History first (slice_set v i (seen empty s)) = One v i (seen empty ps) (seen empty s) history at_i lost.safe in
-      record {
-        history = One (slice_set v i (seen empty s)) j (seen empty pr) (seen empty q) once (get_set_other v i j (seen empty s) (λ h. apart (sym h)) ∙ at_j) safe;
-        sender = lost.sound;
-        receiver = sound;
-      }
-  stands left q comes (Landed mid gone exchange safe sound inside) =
+      One (slice_set v i (seen empty s)) j (seen empty pr) now (One v i (seen empty ps) (seen empty s) history at_i lost.safe) (get_set_other v i j (seen empty s) (λ h. apart (sym h)) ∙ at_j) safe
+
+  has_landed : (left : carried.Cargo) (mid : Part) → left ≡ cargos.Nothing → IsExchange (seen empty ps) (WithoutFront (seen empty pr) (seen empty ps)) (seen empty pr) mid → (now : Part) → IsSafe mid now
+      → History first (slice_set (slice_set v i (seen empty (booking_lost (lost_of left) (without_message pr.site.chain ps)))) j now)
+  has_landed left mid gone exchange now safe =
       let s = booking_lost (lost_of left) (without_message pr.site.chain ps) in
-      let none_left : lost_of left ≡ empty = ap lost_of gone in
-      let seen_so : seen empty s ≡ WithoutFront (seen empty pr) (seen empty ps) = sender_seen pr.site.chain (lost_of left) ps none_left in
+      let seen_so : seen empty s ≡ WithoutFront (seen empty pr) (seen empty ps) = sender_seen pr.site.chain (lost_of left) ps (ap lost_of gone) in
       let moved : IsExchange (seen empty ps) (seen empty s) (seen empty pr) mid = subst (λ (p : Part). IsExchange (seen empty ps) p (seen empty pr) mid) (sym seen_so) exchange in
       let w = slice_set (slice_set v i (seen empty s)) j mid in
       let once : History first w = Two v i j (seen empty ps) (seen empty s) (seen empty pr) mid history at_i at_j apart moved in
       let at : slice_get w j ≡ Some mid = get_set_same (slice_set v i (seen empty s)) j (seen empty pr) mid (get_set_other v i j (seen empty s) (λ h. apart (sym h)) ∙ at_j) in
-      record {
-        history = subst (History first) (set_twice (slice_set v i (seen empty s)) j mid (seen empty q)) (One w j mid (seen empty q) once at safe);
-        sender = sender_sound pr.site.chain (lost_of left) ps sound_s (nothing_more pr.site.chain (lost_of left) ps none_left);
-        receiver = sound;
-      }
+      subst (History first) (set_twice (slice_set v i (seen empty s)) j mid now) (One w j mid now once at safe)
+
+  -- ---- both chains between steps
+  pub stands : (left : carried.Cargo) (q : ChainPart) (comes : Machine → Type 0) → Fate ps pr cargo left q comes
+      → Stands first (slice_set (slice_set v i (seen empty (booking_lost (lost_of left) (without_message pr.site.chain ps)))) j (seen empty q)) (booking_lost (lost_of left) (without_message pr.site.chain ps)) q
+  stands left q comes (Left is safe sound inside) = record {
+    history = still_carried left is (seen empty q) safe;
+    sender = (subst (λ (c : carried.Cargo). Lost (lost_of c)) (sym is) (lost_cargo cargo refl trusts)).sound;
+    receiver = sound;
+  }
+  stands left q comes (Landed mid gone exchange safe sound inside) = record {
+    history = has_landed left mid gone exchange (seen empty q) safe;
+    sender = sender_sound pr.site.chain (lost_of left) ps sound_s (nothing_more pr.site.chain (lost_of left) ps (ap lost_of gone));
+    receiver = sound;
+  }
 
   -- both chains while the receiver runs the message, behind its first instruction
   pub stands_inside : (left : carried.Cargo) (q : ChainPart) (comes : Machine → Type 0) → Fate ps pr cargo left q comes → (m : Machine) → comes m
       → History first (slice_set (slice_set v i (seen empty (booking_lost (lost_of m.part.cargo.cargo) (without_message pr.site.chain ps)))) j (view m))
-  stands_inside left q comes (Left is safe sound inside) m c =
-      let so_far = inside m c in
-      let lost : Lost (lost_of m.part.cargo.cargo) = subst (λ (c : carried.Cargo). Lost (lost_of c)) (sym so_far.0) (lost_cargo cargo refl trusts) in
-      let s = booking_lost (lost_of m.part.cargo.cargo) (without_message pr.site.chain ps) in
-      One (slice_set v i (seen empty s)) j (seen empty pr) (view m) (One v i (seen empty ps) (seen empty s) history at_i lost.safe) (get_set_other v i j (seen empty s) (λ h. apart (sym h)) ∙ at_j) so_far.1
-  stands_inside left q comes (Landed mid gone exchange safe sound inside) m c =
-      let so_far = inside m c in
-      let s = booking_lost (lost_of m.part.cargo.cargo) (without_message pr.site.chain ps) in
-      let none_left : lost_of m.part.cargo.cargo ≡ empty = ap lost_of so_far.0 in
-      let seen_so : seen empty s ≡ WithoutFront (seen empty pr) (seen empty ps) = sender_seen pr.site.chain (lost_of m.part.cargo.cargo) ps none_left in
-      let moved : IsExchange (seen empty ps) (seen empty s) (seen empty pr) mid = subst (λ (p : Part). IsExchange (seen empty ps) p (seen empty pr) mid) (sym seen_so) exchange in
-      let w = slice_set (slice_set v i (seen empty s)) j mid in
-      let once : History first w = Two v i j (seen empty ps) (seen empty s) (seen empty pr) mid history at_i at_j apart moved in
-      let at : slice_get w j ≡ Some mid = get_set_same (slice_set v i (seen empty s)) j (seen empty pr) mid (get_set_other v i j (seen empty s) (λ h. apart (sym h)) ∙ at_j) in
-      subst (History first) (set_twice (slice_set v i (seen empty s)) j mid (view m)) (One w j mid (view m) once at so_far.1)
+  stands_inside left q comes (Left is safe sound inside) m c = let so_far = inside m c in still_carried m.part.cargo.cargo so_far.0 (view m) so_far.1
+  stands_inside left q comes (Landed mid gone exchange safe sound inside) m c = let so_far = inside m c in has_landed m.part.cargo.cargo mid so_far.0 exchange (view m) so_far.1
+
+  -- both chains where memory was refused
+  pub stands_stopped : (q : ChainPart) → Passed ps pr cargo q → History first (slice_set (slice_set v i (seen empty (booking_lost (lost_of q.cargo.cargo) (without_message pr.site.chain ps)))) j (seen empty q))
+  stands_stopped q (StillCarried is safe) = still_carried q.cargo.cargo is (seen empty q) safe
+  stands_stopped q (HasLanded mid gone exchange safe) = has_landed q.cargo.cargo mid gone exchange (seen empty q) safe

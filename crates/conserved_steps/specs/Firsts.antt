@@ -20,7 +20,7 @@ use Rattle.exec_base.specs.declared.registers.Registers.{Registers}
 use Rattle.exec_base.specs.Part.{ChainPart}
 use Rattle.exec_base.specs.Host.{told, refunded, joined, booked, settled, trapped}
 use Rattle.exec_run.specs.Machine.{Machine, machine}
-use Rattle.exec_run.specs.Run.{Stage, At, Ended, begin, go_on, failed, without_appendix, handler_dropped, traced, by_answer, next, steps, run, machine_of, left_after, Reaches, GoesOnTo}
+use Rattle.exec_run.specs.Run.{Stage, At, Ended, begin, go_on, failed, without_appendix, handler_dropped, traced, by_answer, next, steps, run, still_to_run, machine_of, left_after, Reaches, GoesOnTo}
 use Rattle.exec_run.specs.RunLaws.{steps_end, reached_balanced, reaches_here, reaches_next, run_reached, run_from}
 use Rattle.exec_run.specs.KeepingLaws.{begin_machine, reached_hold}
 use Rattle.exec_run.specs.Accounts.{IsBalanced}
@@ -40,7 +40,6 @@ use Rattle.conserved_runs.specs.Safety.{AreLists, HasFee, AreFees, links_of, hol
 use Rattle.conserved_runs.specs.Accepted.{IsQuiet, caller_spared}
 use Rattle.conserved_runs.specs.Runs.{IsSafeAt, registers_go, told_steady, told_table, lists_go_inside, steps_go, emptied, finished_safely}
 use Rattle.conserved_steps.specs.Soundness.{LawsBelow}
-use Rattle.conserved_steps.specs.Locals.{run_safely}
 
 -- a machine on which a run may go on, but for its origin
 pub record IsSet (n : List Table) (k : Machine) : Type 0 where
@@ -67,7 +66,7 @@ pub joined_cargo : (p : ChainPart) (a b : Bundle) → (joined p a b).cargo ≡ p
 unfolding joined booked
 joined_cargo p a b = refl
 
-refunded_cargo : (p : ChainPart) (w : Weight) → (refunded p w).cargo ≡ p.cargo
+pub refunded_cargo : (p : ChainPart) (w : Weight) → (refunded p w).cargo ≡ p.cargo
 unfolding refunded
 refunded_cargo p w = refl
 
@@ -75,7 +74,7 @@ refund_cargo : (m : Machine) (o : Option (Location × ℕ)) → (refund_done m o
 refund_cargo m None = refl
 refund_cargo m (Some given) = joined_cargo _ _ _ ∙ refunded_cargo m.part _
 
-last_cargo : (m : Machine) (o : Option XcmError) → (left_after xcm refund_surplus m o).part.cargo ≡ m.part.cargo
+pub last_cargo : (m : Machine) (o : Option XcmError) → (left_after xcm refund_surplus m o).part.cargo ≡ m.part.cargo
 last_cargo m None = ap (λ (l : Instruction-F Instruction). (done l m).part.cargo) (out-roll-Instruction Instruction-F.RefundSurplus) ∙ refund_cargo m (refund_now m)
 last_cargo m (Some e) = refl
 
@@ -84,11 +83,11 @@ unfolding trapped
 rest_cargo r p true = refl
 rest_cargo r p false = refl
 
-settled_cargo : (p : ChainPart) → (settled p).cargo ≡ p.cargo
+pub settled_cargo : (p : ChainPart) → (settled p).cargo ≡ p.cargo
 unfolding settled
 settled_cargo p = refl
 
-told_cargo : (p : ChainPart) (e : Event) → (told p e).cargo ≡ p.cargo
+pub told_cargo : (p : ChainPart) (e : Event) → (told p e).cargo ≡ p.cargo
 unfolding told
 told_cargo p e = refl
 
@@ -97,11 +96,11 @@ finished_cargo m =
     let last = refunded_last xcm m in
     rest_cargo last.regs (settled (end_told last)) (nat_eq (length (rows last.regs.holding)) 0) ∙ settled_cargo (end_told last) ∙ told_cargo last.part (end_event last.regs) ∙ last_cargo m (refusal_of refund_surplus m)
 
-step_on : (k : ℕ) (g : Stage) → steps xcm (suc k) g ≡ steps xcm k (next xcm g)
+pub step_on : (k : ℕ) (g : Stage) → steps xcm (suc k) g ≡ steps xcm k (next xcm g)
 unfolding steps
 step_on k g = refl
 
-stays_here : (g : Stage) → steps xcm zero g ≡ g
+pub stays_here : (g : Stage) → steps xcm zero g ≡ g
 unfolding steps
 stays_here g = refl
 
@@ -110,16 +109,20 @@ ends_there : (g h : Stage) (k : Machine) → next xcm g ≡ Ended k → GoesOnTo
 ends_there g h k ends on =
     ap machine_of (sym on.1 ∙ step_on on.0 g ∙ ap (steps xcm on.0) ends ∙ steps_end xcm on.0 (Ended k) tt)
 
+-- behind the first instruction of a message that carries something
+abbrev pub second : Instruction
+second = roll-Instruction Instruction-F.ClearOrigin
+
 -- ---- programs
 module _ (laws : LawsBelow) (n : List Table) (agrees : Agrees n) (rules : ChainRules) (origin : Location) (p : ChainPart) (a : Admitted) (balanced : IsBalanced a.weight (first_stage rules origin a p)) where
   abbrev over : Machine → Machine
   over m = emptied laws.withdraws laws.moves laws.stays n agrees m
 
   -- ---- its first instruction is refused
-  abbrev stopped : Instruction → XcmError → List Instruction → Machine
+  abbrev pub stopped : Instruction → XcmError → List Instruction → Machine
   stopped x e behind = machine (without_appendix (failed 0 e behind (started rules origin))) (traced parts.Program 0 x (Some e) (first_machine rules origin p)).part
 
-  refused_next : (x : Instruction) (behind : List Instruction) (e : XcmError) → a.program ≡ x ∷ behind → refusal_of x (first_machine rules origin p) ≡ Some e → next xcm (first_stage rules origin a p) ≡ Ended (stopped x e behind)
+  pub refused_next : (x : Instruction) (behind : List Instruction) (e : XcmError) → a.program ≡ x ∷ behind → refusal_of x (first_machine rules origin p) ≡ Some e → next xcm (first_stage rules origin a p) ≡ Ended (stopped x e behind)
   refused_next x behind e is no_way =
       ap (next xcm) (ap (λ (program : List Instruction). begin parts.Program program (first_machine rules origin p)) is) ∙ ap (by_answer xcm parts.Program 0 x behind (first_machine rules origin p)) no_way
 
@@ -141,10 +144,13 @@ module _ (laws : LawsBelow) (n : List Table) (agrees : Agrees n) (rules : ChainR
       let ends : next xcm g ≡ Ended (stopped x e behind) = ap (next xcm) begins ∙ ap (by_answer xcm parts.Program 0 x behind (first_machine rules origin p)) no_way in
       subst (Reaches xcm g) ends (reaches_next xcm g g (reaches_here xcm g))
 
-  stopped_steady : (x : Instruction) (behind : List Instruction) (e : XcmError) → IsAtRest p → IsSteady (stopped x e behind)
+  pub stopped_steady : (x : Instruction) (behind : List Instruction) (e : XcmError) → IsAtRest p → IsSteady (stopped x e behind)
   stopped_steady x behind e rest =
       let s = told_steady (first_machine rules origin p) (Event.Ran parts.Program 0 (index (out-Instruction x)) (Some e)) (record { rest = rest; holding = λ u some. let z = amount-empty unit_keys u in absurd (omega (arith, z, some)) }) in
       record { rest = s.rest; holding = s.holding }
+
+  pub refused_last : (x : Instruction) (behind : List Instruction) (e : XcmError) → a.program ≡ x ∷ behind → refusal_of x (first_machine rules origin p) ≡ Some e → stopped x e behind ≡ last_machine rules origin a p
+  refused_last x behind e is no_way = sym (ap machine_of (run_reached xcm laws.orderly (first_stage rules origin a p) (stopped x e behind) (refused_reach x behind e is no_way)))
 
   pub refused_safely : (x : Instruction) (behind : List Instruction) (e : XcmError) → a.program ≡ x ∷ behind → refusal_of x (first_machine rules origin p) ≡ Some e → IsAtRest p → HasRoom none p
       → Safely (first_machine rules origin p) (over (last_machine rules origin a p)) × ((finished xcm (last_machine rules origin a p)).cargo ≡ p.cargo)
@@ -152,8 +158,7 @@ module _ (laws : LawsBelow) (n : List Table) (agrees : Agrees n) (rules : ChainR
       let g = first_stage rules origin a p in
       let m = first_machine rules origin p in
       let k = stopped x e behind in
-      let ends : run xcm g ≡ Ended k = run_reached xcm laws.orderly g k (refused_reach x behind e is no_way) in
-      let last : k ≡ last_machine rules origin a p = sym (ap machine_of ends) in
+      let last : k ≡ last_machine rules origin a p = refused_last x behind e is no_way in
       let told_so = told_safely m (Event.Ran parts.Program 0 (index (out-Instruction x)) (Some e)) (without_appendix (failed 0 e behind (started rules origin))) refl in
       let room_m : HasRoom (hold m) m.part = λ j. let le = room j in let z = total-empty unit_keys (is_unit_of j) in omega (arith, le, z) in
       let ended = finished_safely laws.withdraws laws.moves laws.stays n agrees laws.trapping k (stopped_steady x behind e rest) (keeps_room m k told_so room_m) in (
@@ -162,10 +167,10 @@ module _ (laws : LawsBelow) (n : List Table) (agrees : Agrees n) (rules : ChainR
       )
 
   -- ---- one instruction, and no more
-  abbrev alone : Instruction → Machine → Machine
+  abbrev pub alone : Instruction → Machine → Machine
   alone x k = machine (without_appendix (handler_dropped k.regs)) (traced parts.Program 0 x None k).part
 
-  alone_next : (x : Instruction) → a.program ≡ x ∷ [] → refusal_of x (first_machine rules origin p) ≡ None → (xcm.done x (first_machine rules origin p)).regs.appendix ≡ [] → next xcm (first_stage rules origin a p) ≡ Ended (alone x (xcm.done x (first_machine rules origin p)))
+  pub alone_next : (x : Instruction) → a.program ≡ x ∷ [] → refusal_of x (first_machine rules origin p) ≡ None → (xcm.done x (first_machine rules origin p)).regs.appendix ≡ [] → next xcm (first_stage rules origin a p) ≡ Ended (alone x (xcm.done x (first_machine rules origin p)))
   alone_next x is way no_appendix =
       ap (next xcm) (ap (λ (program : List Instruction). begin parts.Program program (first_machine rules origin p)) is) ∙ ap (by_answer xcm parts.Program 0 x [] (first_machine rules origin p)) way
       ∙ ap (λ (appendix : List Instruction). begin parts.Appendix appendix (alone x (xcm.done x (first_machine rules origin p)))) no_appendix
@@ -177,28 +182,24 @@ module _ (laws : LawsBelow) (n : List Table) (agrees : Agrees n) (rules : ChainR
       let event = Event.Ran parts.Program 0 (index (out-Instruction x)) None in
       subst (Safely k) (sym (ends_there (first_stage rules origin a p) h (alone x k) (alone_next x is way no_appendix) on)) (told_safely k event (without_appendix (handler_dropped k.regs)) refl)
 
+  pub alone_last : (x : Instruction) → a.program ≡ x ∷ [] → refusal_of x (first_machine rules origin p) ≡ None → (xcm.done x (first_machine rules origin p)).regs.appendix ≡ [] → alone x (xcm.done x (first_machine rules origin p)) ≡ last_machine rules origin a p
+  alone_last x is way no_appendix =
+      let g = first_stage rules origin a p in
+      let k = alone x (xcm.done x (first_machine rules origin p)) in
+      sym (ap machine_of (run_reached xcm laws.orderly g k (subst (Reaches xcm g) (alone_next x is way no_appendix) (reaches_next xcm g g (reaches_here xcm g)))))
+
   pub alone_safely : (x : Instruction) → a.program ≡ x ∷ [] → refusal_of x (first_machine rules origin p) ≡ None → (xcm.done x (first_machine rules origin p)).regs.appendix ≡ [] → IsSteady (xcm.done x (first_machine rules origin p))
       → HasRoom (hold (xcm.done x (first_machine rules origin p))) (xcm.done x (first_machine rules origin p)).part → Safely (xcm.done x (first_machine rules origin p)) (over (last_machine rules origin a p))
   alone_safely x is way no_appendix steady room =
-      let g = first_stage rules origin a p in
-      let m = first_machine rules origin p in
-      let k = xcm.done x m in
-      let begins : g ≡ At parts.Program 0 x [] m = ap (λ (program : List Instruction). begin parts.Program program m) is in
+      let k = xcm.done x (first_machine rules origin p) in
       let e = Event.Ran parts.Program 0 (index (out-Instruction x)) None in
-      let ends : next xcm g ≡ Ended (alone x k) =
-      ap (next xcm) begins ∙ ap (by_answer xcm parts.Program 0 x [] m) way
-      ∙ ap (λ (appendix : List Instruction). begin parts.Appendix appendix (alone x k)) no_appendix in
-      let finish : run xcm g ≡ Ended (alone x k) = run_reached xcm laws.orderly g (alone x k) (subst (Reaches xcm g) ends (reaches_next xcm g g (reaches_here xcm g))) in
-      let last : alone x k ≡ last_machine rules origin a p = sym (ap machine_of finish) in
+      let last : alone x k ≡ last_machine rules origin a p = alone_last x is way no_appendix in
       let told_so = told_safely k e (without_appendix (handler_dropped k.regs)) refl in
       let s = told_steady k e steady in
       let ended = finished_safely laws.withdraws laws.moves laws.stays n agrees laws.trapping (alone x k) (record { rest = s.rest; holding = s.holding }) (keeps_room k (alone x k) told_so room) in
       subst (λ (z : Machine). Safely k (over z)) last (safely_then k (alone x k) (over (alone x k)) told_so ended)
 
   -- ---- a first instruction, ClearOrigin, and more
-  abbrev second : Instruction
-  second = roll-Instruction Instruction-F.ClearOrigin
-
   abbrev cleared : Instruction → Machine → Machine
   cleared x k = traced parts.Program (0 + 1) second None (done Instruction-F.ClearOrigin (traced parts.Program 0 x None k))
 
@@ -217,7 +218,7 @@ module _ (laws : LawsBelow) (n : List Table) (agrees : Agrees n) (rules : ChainR
       let first = subst (Reaches xcm g) once (reaches_next xcm g g (reaches_here xcm g)) in
       subst (Reaches xcm g) twice (reaches_next xcm g (At parts.Program (0 + 1) second behind k) first)
 
-  led_once : (x : Instruction) (behind : List Instruction) → a.program ≡ x ∷ second ∷ behind → refusal_of x (first_machine rules origin p) ≡ None
+  pub led_once : (x : Instruction) (behind : List Instruction) → a.program ≡ x ∷ second ∷ behind → refusal_of x (first_machine rules origin p) ≡ None
       → next xcm (first_stage rules origin a p) ≡ At parts.Program (0 + 1) second behind (traced parts.Program 0 x None (xcm.done x (first_machine rules origin p)))
   led_once x behind is way =
       ap (next xcm) (ap (λ (program : List Instruction). begin parts.Program program (first_machine rules origin p)) is) ∙ ap (by_answer xcm parts.Program 0 x (second ∷ behind) (first_machine rules origin p)) way
@@ -227,6 +228,13 @@ module _ (laws : LawsBelow) (n : List Table) (agrees : Agrees n) (rules : ChainR
       let m = traced parts.Program 0 x None k in
       ap (by_answer xcm parts.Program (0 + 1) second behind m) (ap (λ (l : Instruction-F Instruction). refused l m) (out-roll-Instruction Instruction-F.ClearOrigin))
       ∙ ap (λ (l : Instruction-F Instruction). go_on parts.Program ((0 + 1) + 1) behind (traced parts.Program (0 + 1) second None (done l m))) (out-roll-Instruction Instruction-F.ClearOrigin)
+
+  -- a program that begins so, and a machine on which it may go on
+  pub record IsSetBehind (x : Instruction) (behind : List Instruction) : Type 0 where
+    pub is : a.program ≡ x ∷ second ∷ behind
+    pub way : refusal_of x (first_machine rules origin p) ≡ None
+    pub ahead : IsAheadOf AreLists (first_stage rules origin a p)
+    pub set : IsSet n (xcm.done x (first_machine rules origin p))
 
   quiet_none : IsQuiet None
   quiet_none l e = absurd cc
@@ -268,41 +276,55 @@ module _ (laws : LawsBelow) (n : List Table) (agrees : Agrees n) (rules : ChainR
       )
   goes_on part place (x ∷ behind) m safe = registers_go n m m.regs refl refl safe
 
-  pub led_safely : (x : Instruction) (behind : List Instruction) → a.program ≡ x ∷ second ∷ behind → refusal_of x (first_machine rules origin p) ≡ None → IsAheadOf AreLists (first_stage rules origin a p)
-      → IsSet n (xcm.done x (first_machine rules origin p)) → Safely (xcm.done x (first_machine rules origin p)) (over (last_machine rules origin a p))
-  led_safely x behind is way ahead set =
+  -- the run has come behind ClearOrigin
+  come_on : (x : Instruction) (behind : List Instruction) → IsSetBehind x behind → (count : ℕ)
+      → let h = go_on parts.Program ((0 + 1) + 1) behind (cleared x (xcm.done x (first_machine rules origin p))) in IsSafeAt n (machine_of (steps xcm count h)) × Safely (xcm.done x (first_machine rules origin p)) (machine_of (steps xcm count h))
+  come_on x behind s count =
       let g = first_stage rules origin a p in
       let k = xcm.done x (first_machine rules origin p) in
       let m = cleared x k in
       let h = go_on parts.Program ((0 + 1) + 1) behind m in
-      let reach = clear_reach x behind is way in
-      let begun = cleared_set x k set in
+      let reach = clear_reach x behind s.is s.way in
+      let begun = cleared_set x k s.set in
       let on = goes_on parts.Program ((0 + 1) + 1) behind m begun.0 in
-      let rest = run_safely laws n agrees h a.weight (reached_balanced xcm laws.orderly a.weight g h reach balanced) (reached_hold xcm laws.orderly AreLists lists_go_inside g h reach ahead) on.0 in
-      let same : machine_of (run xcm h) ≡ last_machine rules origin a p = ap machine_of (sym (run_from xcm laws.orderly g h reach)) in
-      subst (λ (z : Machine). Safely k (over z)) same
-      (safely_then k m (over (machine_of (run xcm h))) begun.1 (safely_then m (machine_of h) (over (machine_of (run xcm h))) on.1 rest))
+      let rest = steps_go laws.withdraws laws.moves laws.stays n agrees laws.orderly a.weight count h (reached_balanced xcm laws.orderly a.weight g h reach balanced) (reached_hold xcm laws.orderly AreLists lists_go_inside g h reach s.ahead) on.0 in
+      (rest.0, safely_then k m (machine_of (steps xcm count h)) begun.1 (safely_then m (machine_of h) (machine_of (steps xcm count h)) on.1 rest.1))
+
+  -- where its last instruction left it
+  pub led_last : (x : Instruction) (behind : List Instruction) → IsSetBehind x behind → IsSafeAt n (last_machine rules origin a p) × Safely (xcm.done x (first_machine rules origin p)) (last_machine rules origin a p)
+  led_last x behind s =
+      let g = first_stage rules origin a p in
+      let k = xcm.done x (first_machine rules origin p) in
+      let h = go_on parts.Program ((0 + 1) + 1) behind (cleared x k) in
+      let came = come_on x behind s (still_to_run h) in
+      let same : machine_of (run xcm h) ≡ last_machine rules origin a p = ap machine_of (sym (run_from xcm laws.orderly g h (clear_reach x behind s.is s.way))) in
+      (subst (IsSafeAt n) same came.0, subst (Safely k) same came.1)
+
+  pub led_safely : (x : Instruction) (behind : List Instruction) → IsSetBehind x behind → Safely (xcm.done x (first_machine rules origin p)) (over (last_machine rules origin a p))
+  led_safely x behind s =
+      let k = xcm.done x (first_machine rules origin p) in
+      let m = last_machine rules origin a p in
+      let last = led_last x behind s in
+      safely_then k m (over m) last.1 (finished_safely laws.withdraws laws.moves laws.stays n agrees laws.trapping m last.0.steady last.0.fine.room)
+
+  pub led_on : (x : Instruction) (behind : List Instruction) → IsSetBehind x behind → (count : ℕ)
+      → IsSafeAt n (machine_of (steps xcm (suc count) (next xcm (first_stage rules origin a p)))) × Safely (xcm.done x (first_machine rules origin p)) (machine_of (steps xcm (suc count) (next xcm (first_stage rules origin a p))))
+  led_on x behind s count =
+      let g = first_stage rules origin a p in
+      let k = xcm.done x (first_machine rules origin p) in
+      let h = go_on parts.Program ((0 + 1) + 1) behind (cleared x k) in
+      let there : steps xcm (suc count) (next xcm g) ≡ steps xcm count h = step_on count (next xcm g) ∙ ap (steps xcm count) (ap (next xcm) (led_once x behind s.is s.way) ∙ led_twice x behind k) in
+      let came = come_on x behind s count in
+      (subst (λ (z : Stage). IsSafeAt n (machine_of z)) (sym there) came.0, subst (λ (z : Stage). Safely k (machine_of z)) (sym there) came.1)
 
   -- wherever it comes behind its first instruction
-  led_at : (x : Instruction) (behind : List Instruction) → a.program ≡ x ∷ second ∷ behind → refusal_of x (first_machine rules origin p) ≡ None → IsAheadOf AreLists (first_stage rules origin a p)
-      → IsSet n (xcm.done x (first_machine rules origin p)) → (count : ℕ) → Safely (xcm.done x (first_machine rules origin p)) (machine_of (steps xcm count (next xcm (first_stage rules origin a p))))
-  led_at x behind is way ahead set zero =
+  led_at : (x : Instruction) (behind : List Instruction) → IsSetBehind x behind → (count : ℕ) → Safely (xcm.done x (first_machine rules origin p)) (machine_of (steps xcm count (next xcm (first_stage rules origin a p))))
+  led_at x behind s zero =
       let k = xcm.done x (first_machine rules origin p) in
       let event = Event.Ran parts.Program 0 (index (out-Instruction x)) None in
-      subst (λ (g : Stage). Safely k (machine_of g)) (sym (stays_here (next xcm (first_stage rules origin a p)) ∙ led_once x behind is way)) (told_safely k event k.regs refl)
-  led_at x behind is way ahead set (suc count) =
-      let g = first_stage rules origin a p in
-      let k = xcm.done x (first_machine rules origin p) in
-      let m = cleared x k in
-      let h = go_on parts.Program ((0 + 1) + 1) behind m in
-      let reach = clear_reach x behind is way in
-      let begun = cleared_set x k set in
-      let on = goes_on parts.Program ((0 + 1) + 1) behind m begun.0 in
-      let rest = steps_go laws.withdraws laws.moves laws.stays n agrees laws.orderly a.weight count h (reached_balanced xcm laws.orderly a.weight g h reach balanced) (reached_hold xcm laws.orderly AreLists lists_go_inside g h reach ahead) on.0 in
-      let there : steps xcm (suc count) (next xcm g) ≡ steps xcm count h = step_on count (next xcm g) ∙ ap (steps xcm count) (ap (next xcm) (led_once x behind is way) ∙ led_twice x behind k) in
-      subst (λ (z : Stage). Safely k (machine_of z)) (sym there) (safely_then k m (machine_of (steps xcm count h)) begun.1 (safely_then m (machine_of h) (machine_of (steps xcm count h)) on.1 rest.1))
+      subst (λ (g : Stage). Safely k (machine_of g)) (sym (stays_here (next xcm (first_stage rules origin a p)) ∙ led_once x behind s.is s.way)) (told_safely k event k.regs refl)
+  led_at x behind s (suc count) = (led_on x behind s count).1
 
-  pub led_inside : (x : Instruction) (behind : List Instruction) → a.program ≡ x ∷ second ∷ behind → refusal_of x (first_machine rules origin p) ≡ None → IsAheadOf AreLists (first_stage rules origin a p)
-      → IsSet n (xcm.done x (first_machine rules origin p)) → (h : Stage) → GoesOnTo xcm (first_stage rules origin a p) h → Safely (xcm.done x (first_machine rules origin p)) (machine_of h)
-  led_inside x behind is way ahead set h on =
-      subst (λ (z : Stage). Safely (xcm.done x (first_machine rules origin p)) (machine_of z)) (sym (step_on on.0 (first_stage rules origin a p)) ∙ on.1) (led_at x behind is way ahead set on.0)
+  pub led_inside : (x : Instruction) (behind : List Instruction) → IsSetBehind x behind → (h : Stage) → GoesOnTo xcm (first_stage rules origin a p) h → Safely (xcm.done x (first_machine rules origin p)) (machine_of h)
+  led_inside x behind s h on =
+      subst (λ (z : Stage). Safely (xcm.done x (first_machine rules origin p)) (machine_of z)) (sym (step_on on.0 (first_stage rules origin a p)) ∙ on.1) (led_at x behind s on.0)

@@ -6,6 +6,8 @@ pub mod Locals
 pub mod Senders
 pub mod Landing
 pub mod Firsts
+pub mod Stops
+pub mod Asides
 pub mod Bounds
 pub mod Receptions
 pub mod Fates

@@ -1,5 +1,5 @@
 -- Lemmas: what a delivery does to its receiver. A reader may skip this file.
-use Rattle.std.proofs.Common.{◌≡◌, ℕ, zero, suc, ◌+◌, ◌<◌, ◌≤◌, Bool, true, false, List, [], ◌∷◌, length, Option, Some, None, Ok, map, refl, sym, ap, ◌∙◌, subst, arith}
+use Rattle.std.proofs.Common.{◌≡◌, ◌⊎◌, ⊎_elim, ℕ, zero, suc, ◌+◌, ◌<◌, ◌≤◌, Bool, true, false, List, [], ◌∷◌, length, Option, Some, None, Ok, map, refl, sym, ap, ◌∙◌, subst, arith}
 use Rattle.std.specs.Prelude.{IsTrue, ◌≢◌, ◌&&◌, if◌then◌else◌, slice_get, slice_set}
 use Rattle.std.specs.List.{AllByRecursion}
 use Rattle.std.specs.Ordering.{eq_by_cmp}
@@ -25,7 +25,7 @@ use Rattle.trust_tables.specs.ChainLaws.{account_of-location_of}
 use Rattle.trust_tables.specs.Accounts.{IsChain, account_of, sovereign_account}
 use Rattle.trust_tables.specs.Trust.{listing, is_reserve, is_partner}
 use Rattle.weight_trader.specs.Purchases.{no_weight}
-use Rattle.xcm_program.specs.declared.instruction.Instruction.{Instruction, roll-Instruction, out-roll-Instruction}
+use Rattle.xcm_program.specs.declared.instruction.Instruction.{Instruction, out-Instruction, roll-Instruction, out-roll-Instruction}
 use Rattle.xcm_program.specs.declared.instruction.Instruction.TheOpen.{Instruction-F}
 use Rattle.xcm_program.specs.Laws.{everywhere_open}
 use Rattle.channel_parts.specs.declared.cargo.Cargo as carried
@@ -34,16 +34,17 @@ use Rattle.exec_base.specs.declared.event.Event.{Event}
 use Rattle.exec_base.specs.Arrivals.{arrived_list, is_this_list}
 use Rattle.exec_base.specs.Part.{Taken, ChainPart, accounts_of, book_of}
 use Rattle.exec_base.specs.Sending.{led_by}
-use Rattle.exec_base.specs.Host.{Arrival, ByWithdrawal, ByDeposit, ByTeleport, arrival_of, fits_call, cargo_list, is_cargo, cargo_after, first_fault, receive_refusal, withdraw_refusal, give_fault, at_account, withdrawn, received, joined, booked, claimed, answered, told}
+use Rattle.exec_base.specs.Host.{Arrival, ByWithdrawal, ByDeposit, ByTeleport, arrival_of, fits_call, cargo_list, is_cargo, cargo_after, first_fault, receive_refusal, withdraw_refusal, give_fault, at_account, withdrawn, received, joined, booked, claimed, answered, told, parked}
 use Rattle.exec_run.specs.Machine.{Machine}
-use Rattle.exec_run.specs.Run.{Stage, machine_of, GoesOnTo}
+use Rattle.exec_run.specs.Run.{machine_of}
 use Rattle.exec_run.specs.Accounts.{IsBalanced}
 use Rattle.exec_run.specs.Keeping.{IsAheadOf}
-use Rattle.exec_run.specs.Outcome.{finished}
+use Rattle.exec_run.specs.Outcome.{finished, abandoned}
 use Rattle.exec_rules.specs.Holdings.{has_room, is_ticket, holding_more}
 use Rattle.exec_rules.specs.AnswerLaws.{unless_next, none_first, received_is_listed}
 use Rattle.exec_rules.specs.Instructions.{refused, done, refusal_of, xcm}
 use Rattle.exec_rules.specs.Readiness.{IsAtRest, IsSteady}
+use Rattle.exec_rules.specs.Stopping.{Stops, parking}
 use Rattle.exec_admission.specs.declared.rules.ChainRules.{ChainRules}
 use Rattle.exec_admission.specs.declared.admission.Admitted.{Admitted}
 use Rattle.exec_admission.specs.Admission.{admitted, IsWeighed}
@@ -64,7 +65,7 @@ use Rattle.conservation.specs.Accounts.{Paid, paid_received}
 use Rattle.conservation.specs.Histories.{History, Two}
 use Rattle.conserved_runs.specs.Views.{table_of, cargo_of, channel_of, seen, view}
 use Rattle.conserved_runs.specs.Sums.{kept_of, in_kept, in_places, burned_where, Sum, sum_of, none, with, nobody, only, Call, HasRoom}
-use Rattle.conserved_runs.specs.Calls.{call_then, call_with, room_kept, below, receiving, joining, withdrawing, claiming, answering, no_shortage}
+use Rattle.conserved_runs.specs.Calls.{call_then, call_with, room_kept, below, receiving, joining, withdrawing, claiming, answering, no_shortage, parking_goods}
 use Rattle.conserved_runs.specs.Safety.{AreLists, HasFee, AreTrustedAt, AreTrusted, links_of, hold, Safely, moved_safely, safely_then, same_table}
 use Rattle.conserved_runs.specs.Safety as runs
 use Rattle.conserved_runs.specs.Turns.{more_call}
@@ -75,7 +76,9 @@ use Rattle.conserved_steps.specs.Admitting.{admitted_lists}
 use Rattle.conserved_steps.specs.Soundness.{IsLink, IsSoundPart, LawsBelow}
 use Rattle.conserved_steps.specs.Locals.{sound_ended, nothing_listed, none_listed, none_above, no_ahead, fees_of_links}
 use Rattle.conserved_steps.specs.Landing.{names, lands, found_there, same_amounts_there, listed_placed}
-use Rattle.conserved_steps.specs.Firsts.{IsSet, joined_cargo, refused_safely, refused_inside, alone_safely, alone_inside, led_safely, led_inside}
+use Rattle.conserved_steps.specs.Firsts.{IsSet, IsSetBehind, joined_cargo, stopped_steady, refused_safely, refused_inside, alone_safely, alone_inside, led_safely, led_inside}
+use Rattle.conserved_steps.specs.Stops.{ComesTo, AbandonedBehind, DoneFirst, StopsFirst, StandsAs, over, parked_cargo, same_front, parks, refused_stops, alone_stops, led_stops, done_stops}
+use Rattle.conserved_steps.specs.Asides.{Aside, Drawn, list_aside, paid_aside}
 use Rattle.conserved_steps.specs.Bounds.{IsSoundGenesis, agrees_now, small_now, small_more}
 
 -- the receiver as the message begins
@@ -88,9 +91,10 @@ pub data Fate (ps pr : ChainPart) (cargo left : carried.Cargo) (q : ChainPart) (
   Landed : (mid : Part) → left ≡ cargos.Nothing → IsExchange (seen empty ps) (WithoutFront (seen empty pr) (seen empty ps)) (seen empty pr) mid → IsSafe mid (seen empty q) → IsSoundPart q
       → ((m : Machine) → comes m → (m.part.cargo.cargo ≡ cargos.Nothing) × IsSafe mid (view m)) → Fate ps pr cargo left q comes
 
--- a run has come there, behind its first instruction
-abbrev pub ComesTo : Stage → Machine → Type 0
-ComesTo g m = (h : Stage) × GoesOnTo xcm g h × (machine_of h ≡ m)
+-- what a message did to its receiver before memory was refused: its cargo is left, or it landed
+pub data Passed (ps pr : ChainPart) (cargo : carried.Cargo) (q : ChainPart) : Type 0 where
+  StillCarried : q.cargo.cargo ≡ cargo → IsSafe (seen empty pr) (seen empty q) → Passed ps pr cargo q
+  HasLanded : (mid : Part) → q.cargo.cargo ≡ cargos.Nothing → IsExchange (seen empty ps) (WithoutFront (seen empty pr) (seen empty ps)) (seen empty pr) mid → IsSafe mid (seen empty q) → Passed ps pr cargo q
 
 taken_all : (sender : ChainId) (cargo : carried.Cargo) (e : Event) (p : ChainPart) → record (kept_of (taken sender cargo e p)) { cargo = cargos.Nothing } ≡ record (kept_of p) { cargo = cargos.Nothing }
 unfolding told
@@ -190,6 +194,10 @@ module _ (laws : LawsBelow) (first : World) (genesis : IsSoundGenesis first) (v 
   abbrev end_of : Admitted → ChainPart
   end_of a = finished xcm (last_machine rules origin a (taken ps.site.chain cargo e pr))
 
+  -- what becomes of a message, whether memory is refused to its first instruction or not
+  abbrev pub Ways : Admitted → Type 0
+  Ways a = Fate ps pr cargo (end_of a).cargo.cargo (ended (end_of a)) (StandsAs rules origin a (taken ps.site.chain cargo e pr)) × ((q : ChainPart) → StopsFirst rules origin a (taken ps.site.chain cargo e pr) q → Passed ps pr cargo q)
+
   weighed : (a : Admitted) → admitted rules origin no_weight p0.queries program ≡ Ok a → IsWeighed rules.weight a
   weighed a ok = laws.weighs rules origin no_weight p0.queries program a runnable.few ok
 
@@ -205,9 +213,32 @@ module _ (laws : LawsBelow) (first : World) (genesis : IsSoundGenesis first) (v 
   accepted_way : (l : Instruction-F Instruction) → refused l m0 ≡ None → refusal_of (roll-Instruction l) m0 ≡ None
   accepted_way l way = ap (λ (k : Instruction-F Instruction). refused k m0) (out-roll-Instruction l) ∙ way
 
+  stop_of : (a : Admitted) (l : Instruction-F Instruction) (behind : List Instruction) → a.program ≡ roll-Instruction l ∷ behind → (q : ChainPart) (s : StopsFirst rules origin a (taken ps.site.chain cargo e pr) q) → Stops l (first_machine rules origin p0) s.left
+  stop_of a l behind is q s =
+      let same : s.which ≡ roll-Instruction l = same_front s.which (roll-Instruction l) s.behind behind (sym s.is ∙ is) in
+      subst (λ (k : Instruction-F Instruction). Stops k (first_machine rules origin p0) s.left) (ap out-Instruction same ∙ out-roll-Instruction l) s.changed
+
+  -- what had come is parked
+  aside_passed : (q : ChainPart) (r : ChainPart) (goods : Bundle) (left : Machine) → left ≡ parking m0 r goods → q ≡ abandoned left.regs left.part → r.cargo.cargo ≡ cargos.Nothing → (mid : Part) → view (parking m0 r goods) ≡ mid
+      → IsExchange (seen empty ps) (WithoutFront (seen empty pr) (seen empty ps)) (seen empty pr) mid → Passed ps pr cargo q
+  aside_passed q r goods left is parks_so gone mid looks exchange =
+      let m = parking m0 r goods in
+      let whole : q ≡ abandoned m.regs m.part = parks_so ∙ ap (λ (z : Machine). abandoned z.regs z.part) is in
+      let safely : Safely m (over rules origin q) = subst (λ (y : ChainPart). Safely m (over rules origin y)) (sym whole) (parks laws (tables_of v) agrees rules origin m) in
+      HasLanded mid (ap (λ (y : ChainPart). y.cargo.cargo) whole ∙ ap (λ (t : Taken). t.cargo) (parked_cargo m.part m.regs.holding ∙ parked_cargo r goods) ∙ gone) exchange
+      (subst (λ (z : Part). IsSafe z (seen empty q)) looks safely.safe)
+
+  -- wherever its run stands
+  stands_safely : (a : Admitted) (k m : Machine) → ((c : ComesTo (first_stage rules origin a p0) m) → Safely k (machine_of c.0)) → ((q : ChainPart) → AbandonedBehind rules origin a p0 q → Safely k (over rules origin q))
+      → ((q : ChainPart) → DoneFirst rules origin a p0 q → Safely k (over rules origin q)) → StandsAs rules origin a (taken ps.site.chain cargo e pr) m → Safely k m
+  stands_safely a k m comes behind first c = ⊎_elim
+      (λ (c : ComesTo (first_stage rules origin a p0) m). subst (Safely k) c.2 (comes c))
+      (λ (s : (q : ChainPart) × (AbandonedBehind rules origin a p0 q ⊎ DoneFirst rules origin a p0 q) × (m ≡ over rules origin q)).
+      subst (Safely k) (sym s.2) (⊎_elim (λ (b : AbandonedBehind rules origin a p0 s.0). behind s.0 b) (λ (d : DoneFirst rules origin a p0 s.0). first s.0 d) s.1)) c
+
   led_through : (a : Admitted) → admitted rules origin no_weight p0.queries program ≡ Ok a → (l : Instruction-F Instruction) (behind : List Instruction) → a.program ≡ led_by l behind → refused l m0 ≡ None
       → (may : List ℕ → Type 0) (ins : Sum) → Call may ins (hold (done l m0)) p0 (done l m0).part → HasRoom ins p0 → AllListed ins p0
-      → Safely (done l m0) (emptied laws.withdraws laws.moves laws.stays (tables_of v) agrees (last_machine rules origin a p0)) × IsSoundPart (ended (end_of a)) × ((m : Machine) → ComesTo (first_stage rules origin a (taken ps.site.chain cargo e pr)) m → Safely (done l m0) m)
+      → Safely (done l m0) (emptied laws.withdraws laws.moves laws.stays (tables_of v) agrees (last_machine rules origin a p0)) × IsSoundPart (ended (end_of a)) × ((m : Machine) → StandsAs rules origin a (taken ps.site.chain cargo e pr) m → Safely (done l m0) m)
   led_through a ok l behind is way may ins x room listed =
       let k = done l m0 in
       let same : xcm.done (roll-Instruction l) m0 ≡ k = ap (λ (f : Instruction-F Instruction). done f m0) (out-roll-Instruction l) in
@@ -220,72 +251,106 @@ module _ (laws : LawsBelow) (first : World) (genesis : IsSoundGenesis first) (v 
         steady = subst IsSteady same (laws.stays (roll-Instruction l) m0 steady0 (accepted_way l way));
         fees = subst (AllByRecursion HasFee) (sym (ap links_of x.channels)) (fees_of_links p0.site.chain (links_of p0.channels) links0);
       } in
+      let x1 = roll-Instruction l in
+      let begins : IsSetBehind laws (tables_of v) agrees rules origin p0 a (balanced a ok) x1 behind = record { is = is; way = accepted_way l way; ahead = ahead a ok; set = subst (IsSet (tables_of v)) (sym same) set } in
       let final = emptied laws.withdraws laws.moves laws.stays (tables_of v) agrees (last_machine rules origin a p0) in
-      let safely : Safely k final = subst (λ (z : Machine). Safely z final) same
-      (led_safely laws (tables_of v) agrees rules origin p0 a (balanced a ok) (roll-Instruction l) behind is (accepted_way l way) (ahead a ok) (subst (IsSet (tables_of v)) (sym same) set)) in (
+      let safely : Safely k final = subst (λ (z : Machine). Safely z final) same (led_safely laws (tables_of v) agrees rules origin p0 a (balanced a ok) x1 behind begins) in (
         safely,
         sound_ended k final safely refl all (runs.same_trust p0.site k.part.site p0.rows k.part.rows p0.channels k.part.channels x.site x.rows x.channels trusted0)
             (subst (λ (c : ChainId). AllByRecursion (IsLink c) (links_of k.part.channels)) (sym (ap (λ s. s.chain) x.site)) (subst (AllByRecursion (IsLink p0.site.chain)) (sym (ap links_of x.channels)) links0))
             (ends_at_rest a ok),
-        λ m c. subst (Safely k) c.2 (subst (λ (z : Machine). Safely z (machine_of c.0)) same
-            (led_inside laws (tables_of v) agrees rules origin p0 a (balanced a ok) (roll-Instruction l) behind is (accepted_way l way) (ahead a ok) (subst (IsSet (tables_of v)) (sym same) set) c.0 c.1)),
+        λ m c. stands_safely a k m
+            (λ c. subst (λ (z : Machine). Safely z (machine_of c.0)) same (led_inside laws (tables_of v) agrees rules origin p0 a (balanced a ok) x1 behind begins c.0 c.1))
+            (λ q b. subst (λ (z : Machine). Safely z (over rules origin q)) same (led_stops laws (tables_of v) agrees rules origin p0 a (balanced a ok) x1 behind begins q b))
+            (λ q d. subst (λ (z : Machine). Safely z (over rules origin q)) same (done_stops laws (tables_of v) agrees rules origin p0 a (balanced a ok) x1 (roll-Instruction Instruction-F.ClearOrigin ∷ behind) is q d)) c,
       )
 
   -- ---- its cargo is left
-  pub refused_fate : (a : Admitted) → admitted rules origin no_weight p0.queries program ≡ Ok a → (x : Instruction) (behind : List Instruction) (error : XcmError) → a.program ≡ x ∷ behind → refusal_of x m0 ≡ Some error
-      → Fate ps pr cargo (end_of a).cargo.cargo (ended (end_of a)) (ComesTo (first_stage rules origin a (taken ps.site.chain cargo e pr)))
-  refused_fate a ok x behind error is no_way =
+  -- an instruction that may leave something where memory is refused wasn't refused itself
+  pub refused_fate : (a : Admitted) → admitted rules origin no_weight p0.queries program ≡ Ok a → (l : Instruction-F Instruction) (behind : List Instruction) (error : XcmError) → a.program ≡ roll-Instruction l ∷ behind → refused l m0 ≡ Some error
+      → ((m : Machine) → Stops l (first_machine rules origin (taken ps.site.chain cargo e pr)) m → refused l (first_machine rules origin (taken ps.site.chain cargo e pr)) ≡ None) → Ways a
+  refused_fate a ok l behind error is refuses accepts =
+      let x = roll-Instruction l in
+      let no_way : refusal_of x m0 ≡ Some error = ap (λ (k : Instruction-F Instruction). refused k m0) (out-roll-Instruction l) ∙ refuses in
       let both = refused_safely laws (tables_of v) agrees rules origin p0 a (balanced a ok) x behind error is no_way rest0 room_none in
       let final = emptied laws.withdraws laws.moves laws.stays (tables_of v) agrees (last_machine rules origin a p0) in
-      Left (ap (λ (t : Taken). t.cargo) both.1 ∙ cargo0) (subst (λ (q : Part). IsSafe q (seen empty (end_of a))) seen0 both.0.safe)
-      (sound_ended m0 final both.0 refl (nothing_listed p0 listed0 empty refl) trusted0 links0 (ends_at_rest a ok))
-      (λ m c.
-      let inside = refused_inside laws (tables_of v) agrees rules origin p0 a (balanced a ok) x behind error is no_way c.0 c.1 in
-      let safely : Safely m0 m = subst (Safely m0) c.2 inside.0 in (
-        ap (λ (z : Machine). z.part.cargo.cargo) (sym c.2) ∙ ap (λ (t : Taken). t.cargo) inside.1 ∙ cargo0,
-        subst (λ (q : Part). IsSafe q (view m)) seen0 safely.safe,
-      ))
+      let inside : (m : Machine) → StandsAs rules origin a p0 m → Safely m0 m × (m.part.cargo ≡ p0.cargo) = λ m c. ⊎_elim
+      (λ (c : ComesTo (first_stage rules origin a p0) m).
+      let there = refused_inside laws (tables_of v) agrees rules origin p0 a (balanced a ok) x behind error is no_way c.0 c.1 in
+      (subst (Safely m0) c.2 there.0, ap (λ (z : Machine). z.part.cargo) (sym c.2) ∙ there.1))
+      (λ (s : (q : ChainPart) × (AbandonedBehind rules origin a p0 q ⊎ DoneFirst rules origin a p0 q) × (m ≡ over rules origin q)). ⊎_elim
+      (λ (b : AbandonedBehind rules origin a p0 s.0).
+      let there = refused_stops laws (tables_of v) agrees rules origin p0 a (balanced a ok) x behind error is no_way (stopped_steady laws (tables_of v) agrees rules origin p0 a (balanced a ok) x behind error rest0) room0 s.0 b in
+      (subst (Safely m0) (sym s.2) there.0, ap (λ (z : Machine). z.part.cargo) s.2 ∙ there.1))
+      (λ (d : DoneFirst rules origin a p0 s.0).
+      let same : d.which ≡ x = same_front d.which x d.behind behind (sym d.is ∙ is) in
+      let none_refused : None ≡ Some error = sym d.way ∙ ap (λ (z : Instruction). refusal_of z m0) same ∙ no_way in
+      absurd cc) s.1) c in (
+        Left (ap (λ (t : Taken). t.cargo) both.1 ∙ cargo0) (subst (λ (q : Part). IsSafe q (seen empty (end_of a))) seen0 both.0.safe)
+            (sound_ended m0 final both.0 refl (nothing_listed p0 listed0 empty refl) trusted0 links0 (ends_at_rest a ok))
+            (λ m c. let there = inside m c in (ap (λ (t : Taken). t.cargo) there.1 ∙ cargo0, subst (λ (q : Part). IsSafe q (view m)) seen0 there.0.safe)),
+        λ q s.
+            let none_refused : None ≡ Some error = sym (accepts s.left (stop_of a l behind is q s)) ∙ refuses in
+            absurd cc,
+      )
 
   -- ---- nothing comes with it
   nothing_fate : (a : Admitted) → admitted rules origin no_weight p0.queries program ≡ Ok a → cargo ≡ cargos.Nothing → (k : Machine) → Safely m0 k → Safely k (emptied laws.withdraws laws.moves laws.stays (tables_of v) agrees (last_machine rules origin a p0))
-      → ((m : Machine) → ComesTo (first_stage rules origin a (taken ps.site.chain cargo e pr)) m → Safely k m) → Fate ps pr cargo (end_of a).cargo.cargo (ended (end_of a)) (ComesTo (first_stage rules origin a (taken ps.site.chain cargo e pr)))
-  nothing_fate a ok empty_handed k one two inside =
+      → ((m : Machine) → StandsAs rules origin a (taken ps.site.chain cargo e pr) m → Safely k m) → ((q : ChainPart) → StopsFirst rules origin a (taken ps.site.chain cargo e pr) q → Safely m0 (over rules origin q)) → Ways a
+  nothing_fate a ok empty_handed k one two inside stops =
       let final = emptied laws.withdraws laws.moves laws.stays (tables_of v) agrees (last_machine rules origin a p0) in
       let all = safely_then m0 k final one two in
-      Left (all.cargo (cargo0 ∙ empty_handed) ∙ sym empty_handed) (subst (λ (q : Part). IsSafe q (seen empty (end_of a))) seen0 all.safe)
-      (sound_ended m0 final all refl (nothing_listed p0 listed0 empty refl) trusted0 links0 (ends_at_rest a ok))
-      (λ m c. let so_far = safely_then m0 k m one (inside m c) in (so_far.cargo (cargo0 ∙ empty_handed) ∙ sym empty_handed, subst (λ (q : Part). IsSafe q (view m)) seen0 so_far.safe))
+      let none_left : (m : Machine) → Safely m0 m → m.part.cargo.cargo ≡ cargo = λ m so_far. so_far.cargo (cargo0 ∙ empty_handed) ∙ sym empty_handed in (
+        Left (all.cargo (cargo0 ∙ empty_handed) ∙ sym empty_handed) (subst (λ (q : Part). IsSafe q (seen empty (end_of a))) seen0 all.safe)
+            (sound_ended m0 final all refl (nothing_listed p0 listed0 empty refl) trusted0 links0 (ends_at_rest a ok))
+            (λ m c. let so_far = safely_then m0 k m one (inside m c) in (none_left m so_far, subst (λ (q : Part). IsSafe q (view m)) seen0 so_far.safe)),
+        λ q s. let so_far = stops q s in StillCarried (none_left (over rules origin q) so_far) (subst (λ (z : Part). IsSafe z (seen empty q)) seen0 so_far.safe),
+      )
 
-  claim_call : (list : List Asset) (ticket : Location) → refused (Instruction-F.ClaimAsset list ticket) m0 ≡ None → Call nobody (hold m0) (hold (done (Instruction-F.ClaimAsset list ticket) m0)) p0 (done (Instruction-F.ClaimAsset list ticket) m0).part
-  claim_call list ticket way =
-      more_call nobody m0 (claimed p0 list origin) (bundle_of list) (claiming p0 list origin (unless_next (is_ticket ticket) _ _ (unless_next (has_room m0 (length list)) _ _ way))) room0
+  claim_call : (list : List Asset) (ticket : Location) → refused (Instruction-F.ClaimAsset list ticket) m0 ≡ None → Call nobody none (sum_of (bundle_of list)) p0 (claimed p0 list origin)
+  claim_call list ticket way = claiming p0 list origin (unless_next (is_ticket ticket) _ _ (unless_next (has_room m0 (length list)) _ _ way))
 
   pub claim_fate : (a : Admitted) → admitted rules origin no_weight p0.queries program ≡ Ok a → cargo ≡ cargos.Nothing → (list : List Asset) (ticket : Location) (behind : List Instruction) → a.program ≡ led_by (Instruction-F.ClaimAsset list ticket) behind
-      → refused (Instruction-F.ClaimAsset list ticket) m0 ≡ None → Fate ps pr cargo (end_of a).cargo.cargo (ended (end_of a)) (ComesTo (first_stage rules origin a (taken ps.site.chain cargo e pr)))
+      → refused (Instruction-F.ClaimAsset list ticket) m0 ≡ None → Ways a
   claim_fate a ok empty_handed list ticket behind is way =
       let l = Instruction-F.ClaimAsset list ticket in
-      let x = claim_call list ticket way in
+      let goods = bundle_of list in
+      let r = claimed p0 list origin in
+      let came = claim_call list ticket way in
+      let x : Call nobody (hold m0) (hold (done l m0)) p0 (done l m0).part = more_call nobody m0 r goods came room0 in
       let through = led_through a ok l behind is way nobody (hold m0) x room0 (nothing_listed p0 listed0 empty refl) in
       nothing_fate a ok empty_handed (done l m0) (moved_safely nobody m0 (done l m0) (λ chain number foreign h. h) x) through.0 through.2
+      (λ q s.
+      let m = parking m0 r goods in
+      let put : Call nobody none none p0 m.part = call_then nobody none (sum_of goods) none p0 r m.part came (parking_goods r goods) in
+      let safely : Safely m0 m = moved_safely nobody m0 m (λ chain number foreign h. h) (call_with nobody none none (hold m0) (hold m) p0 m.part put (λ t. omega arith)) in
+      let whole : q ≡ abandoned m.regs m.part = s.parks ∙ ap (λ (z : Machine). abandoned z.regs z.part) (stop_of a l (roll-Instruction Instruction-F.ClearOrigin ∷ behind) is q s).1 in
+      subst (λ (y : ChainPart). Safely m0 (over rules origin y)) (sym whole) (safely_then m0 m (over rules origin (abandoned m.regs m.part)) safely (parks laws (tables_of v) agrees rules origin m)))
 
   answer_call : (query : ℕ) → Call nobody (hold m0) (hold m0) p0 (answered p0 origin query)
   answer_call query = call_with nobody none none (hold m0) (hold m0) p0 (answered p0 origin query) (answering p0 origin query) (λ t. omega arith)
 
   pub answer_fate : (a : Admitted) → admitted rules origin no_weight p0.queries program ≡ Ok a → cargo ≡ cargos.Nothing → (query : ℕ) (answer : Response) (weight : Weight) (querier : Option Location)
-      → a.program ≡ roll-Instruction (Instruction-F.QueryResponse query answer weight querier) ∷ [] → Fate ps pr cargo (end_of a).cargo.cargo (ended (end_of a)) (ComesTo (first_stage rules origin a (taken ps.site.chain cargo e pr)))
+      → a.program ≡ roll-Instruction (Instruction-F.QueryResponse query answer weight querier) ∷ [] → Ways a
   answer_fate a ok empty_handed query answer weight querier is =
       let l = Instruction-F.QueryResponse query answer weight querier in
+      let x1 = roll-Instruction l in
       let k = done l m0 in
-      let same : xcm.done (roll-Instruction l) m0 ≡ k = ap (λ (f : Instruction-F Instruction). done f m0) (out-roll-Instruction l) in
+      let same : xcm.done x1 m0 ≡ k = ap (λ (f : Instruction-F Instruction). done f m0) (out-roll-Instruction l) in
       let x = answer_call query in
       let way = accepted_way l refl in
       let final = emptied laws.withdraws laws.moves laws.stays (tables_of v) agrees (last_machine rules origin a p0) in
       let room : HasRoom (hold k) k.part = room_kept nobody (hold m0) (hold k) p0 k.part x room0 in
-      let rest = alone_safely laws (tables_of v) agrees rules origin p0 a (balanced a ok) (roll-Instruction l) is way (ap (λ (z : Machine). z.regs.appendix) same) (laws.stays (roll-Instruction l) m0 steady0 way)
-      (subst (λ (z : Machine). HasRoom (hold z) z.part) (sym same) room) in
+      let room_done = subst (λ (z : Machine). HasRoom (hold z) z.part) (sym same) room in
+      let no_appendix : (xcm.done x1 m0).regs.appendix ≡ [] = ap (λ (z : Machine). z.regs.appendix) same in
+      let steady = laws.stays x1 m0 steady0 way in
+      let rest = alone_safely laws (tables_of v) agrees rules origin p0 a (balanced a ok) x1 is way no_appendix steady room_done in
       nothing_fate a ok empty_handed k (moved_safely nobody m0 k (λ chain number foreign h. h) x) (subst (λ (z : Machine). Safely z final) same rest)
-      (λ m c. subst (Safely k) c.2 (subst (λ (z : Machine). Safely z (machine_of c.0)) same
-      (alone_inside laws (tables_of v) agrees rules origin p0 a (balanced a ok) (roll-Instruction l) is way (ap (λ (z : Machine). z.regs.appendix) same) c.0 c.1)))
+      (λ m c. stands_safely a k m
+      (λ c. subst (λ (z : Machine). Safely z (machine_of c.0)) same (alone_inside laws (tables_of v) agrees rules origin p0 a (balanced a ok) x1 is way no_appendix c.0 c.1))
+      (λ q b. subst (λ (z : Machine). Safely z (over rules origin q)) same (alone_stops laws (tables_of v) agrees rules origin p0 a (balanced a ok) x1 is way no_appendix steady room_done q b))
+      (λ q d. subst (λ (z : Machine). Safely z (over rules origin q)) same (done_stops laws (tables_of v) agrees rules origin p0 a (balanced a ok) x1 [] is q d)) c)
+      (λ q s. absurd (stop_of a l [] is q s))
 
   -- ---- a cargo that a call ends
   ends_here : (arrival : Arrival) (new : List Asset) → fits_call arrival cargo ≡ true → is_this_list new (arrived_list pr.site ps.site.chain (cargo_list cargo)) ≡ true → is_cargo p0 arrival new ≡ true
@@ -330,14 +395,18 @@ module _ (laws : LawsBelow) (first : World) (genesis : IsSoundGenesis first) (v 
   unfolding joined booked received told
   list_view teleport new ends = λ i. record (WithList new (seen empty pr)) { burns = booked_below (book_of pr) (given_up empty (bundle_of new)) ends i }
 
+  aside_view : (teleport : Bool) (new : List Asset) → view (parking m0 (received p0 new teleport) (bundle_of new)) ≡ Aside (bundle_of new) (seen empty pr)
+  unfolding parked received told
+  aside_view teleport new = refl
+
   list_small : (new : List Asset) → IsSmall (with (sum_of empty) (sum_of (bundle_of new))) pr → IsSmall (with (sum_of empty) (sum_of (bundle_of new))) p0
   unfolding told in_kept
   list_small new small = small
 
   list_fate : (a : Admitted) → admitted rules origin no_weight p0.queries program ≡ Ok a → (l : Instruction-F Instruction) (behind : List Instruction) → a.program ≡ led_by l behind → refused l m0 ≡ None
-      → (teleport : Bool) (new : List Asset) → done l m0 ≡ holding_more m0 (received p0 new teleport) (bundle_of new) → AreListed (listing p0.rows) (bundle_of new) → is_cargo p0 (arrival_of teleport) new ≡ true
-      → IsListFor (cargo_of cargo) new (seen empty ps) (seen empty pr) → IsTrusted (cargo_of cargo) (seen empty ps) (seen empty pr) → Fate ps pr cargo (end_of a).cargo.cargo (ended (end_of a)) (ComesTo (first_stage rules origin a (taken ps.site.chain cargo e pr)))
-  list_fate a ok l behind is way teleport new does listed found same trusted =
+      → (teleport : Bool) (new : List Asset) → ((m : Machine) → Stops l m0 m → m ≡ parking m0 (received p0 new teleport) (bundle_of new)) → done l m0 ≡ holding_more m0 (received p0 new teleport) (bundle_of new) → AreListed (listing p0.rows) (bundle_of new) → is_cargo p0 (arrival_of teleport) new ≡ true
+      → IsListFor (cargo_of cargo) new (seen empty ps) (seen empty pr) → IsTrusted (cargo_of cargo) (seen empty ps) (seen empty pr) → Ways a
+  list_fate a ok l behind is way teleport new parks_so does listed found same trusted =
       let p = seen empty ps in
       let q = seen empty pr in
       let mid = WithList new q in
@@ -358,13 +427,17 @@ module _ (laws : LawsBelow) (first : World) (genesis : IsSoundGenesis first) (v 
       let through = led_through a ok l behind is way nobody both (subst (λ (z : Machine). Call nobody both (hold z) p0 z.part) (sym does) x) room none_out in
       let final = emptied laws.withdraws laws.moves laws.stays (tables_of v) agrees (last_machine rules origin a p0) in
       let safely : Safely k final = subst (λ (z : Machine). Safely z final) does through.0 in
-      Landed mid (safely.cargo (more_gone (received p0 new teleport) (bundle_of new) (received_gone new teleport found))) exchange
-      (subst (λ (z : Part). IsSafe z (seen empty (end_of a))) (list_view teleport new (list_ends new room)) safely.safe) through.1
-      (λ m c.
-      let so_far : Safely k m = subst (λ (z : Machine). Safely z m) does (through.2 m c) in (
-        so_far.cargo (more_gone (received p0 new teleport) (bundle_of new) (received_gone new teleport found)),
-        subst (λ (z : Part). IsSafe z (view m)) (list_view teleport new (list_ends new room)) so_far.safe,
-      ))
+      let aside : IsExchange p (WithoutFront q p) q (Aside (bundle_of new) q) = received_safe (cargo_of cargo) p (WithoutFront q p) q (Aside (bundle_of new) q) chains_apart sender_number (list_aside (cargo_of cargo) new p q front same) trusted in (
+        Landed mid (safely.cargo (more_gone (received p0 new teleport) (bundle_of new) (received_gone new teleport found))) exchange
+            (subst (λ (z : Part). IsSafe z (seen empty (end_of a))) (list_view teleport new (list_ends new room)) safely.safe) through.1
+            (λ m c.
+            let so_far : Safely k m = subst (λ (z : Machine). Safely z m) does (through.2 m c) in (
+              so_far.cargo (more_gone (received p0 new teleport) (bundle_of new) (received_gone new teleport found)),
+              subst (λ (z : Part). IsSafe z (view m)) (list_view teleport new (list_ends new room)) so_far.safe,
+            )),
+        λ z s. aside_passed z (received p0 new teleport) (bundle_of new) s.left (parks_so s.left (stop_of a l (roll-Instruction Instruction-F.ClearOrigin ∷ behind) is z s)) s.parks (received_gone new teleport found)
+            (Aside (bundle_of new) q) (aside_view teleport new) aside,
+      )
 
   -- ---- the list of the cargo
   module _ (xs new : List Asset) (named : arrived_list (record { network = ps.site.network; chain = pr.site.chain }) ps.site.chain xs ≡ Some new) where
@@ -387,7 +460,7 @@ module _ (laws : LawsBelow) (first : World) (genesis : IsSoundGenesis first) (v 
   pub teleport_fate : (a : Admitted) → admitted rules origin no_weight p0.queries program ≡ Ok a → (units : Bundle) (new : List Asset) (behind : List Instruction) → cargo_of cargo ≡ Teleport units → cargo_list cargo ≡ held_assets units → fits_call ByTeleport cargo ≡ true
       → IsGoods units → AllByRecursion (λ (a : Asset). IsTrue (is_partner ps.rows ps.site a name)) (held_assets units)
       → arrived_list (record { network = ps.site.network; chain = pr.site.chain }) ps.site.chain (held_assets units) ≡ Some new → a.program ≡ led_by (Instruction-F.ReceiveTeleportedAsset new) behind
-      → refused (Instruction-F.ReceiveTeleportedAsset new) m0 ≡ None → Fate ps pr cargo (end_of a).cargo.cargo (ended (end_of a)) (ComesTo (first_stage rules origin a (taken ps.site.chain cargo e pr)))
+      → refused (Instruction-F.ReceiveTeleportedAsset new) m0 ≡ None → Ways a
   teleport_fate a ok units new behind carries list fits whole partners named is way =
       let shared = shared_units units whole partners in
       let placed : (u : Unit) → 0 < amount (bundle_of (held_assets units)) u → IsPlaced (context_of (table_of ps)) u.0 =
@@ -397,7 +470,7 @@ module _ (laws : LawsBelow) (first : World) (genesis : IsSoundGenesis first) (v 
       let y = ap (total (is_unit_at (context_of (table_of ps)) b choice)) whole in
       omega (arith, x, y) in
       let accepted = unless_next (has_room m0 (length new)) _ _ way in
-      list_fate a ok (Instruction-F.ReceiveTeleportedAsset new) behind is way true new refl (received_listed new true accepted)
+      list_fate a ok (Instruction-F.ReceiveTeleportedAsset new) behind is way true new (λ m h. h.1) refl (received_listed new true accepted)
       (ends_here ByTeleport new fits (subst (λ (xs : List Asset). is_this_list new (arrived_list pr.site ps.site.chain xs) ≡ true) (sym list) (this_list (held_assets units) new named)))
       (subst (λ (c : Cargo). IsListFor c new (seen empty ps) (seen empty pr)) (sym carries) same)
       (subst (λ (c : Cargo). IsTrusted c (seen empty ps) (seen empty pr)) (sym carries) (teleport_trusted (tables_of v) agrees (seen empty ps) (seen empty pr) units t_in shared))
@@ -409,7 +482,7 @@ module _ (laws : LawsBelow) (first : World) (genesis : IsSoundGenesis first) (v 
 
   pub deposit_fate : (a : Admitted) → admitted rules origin no_weight p0.queries program ≡ Ok a → (list new : List Asset) (behind : List Instruction) → cargo ≡ cargos.Deposit list → AreListed (listing ps.rows) (bundle_of list)
       → arrived_list (record { network = ps.site.network; chain = pr.site.chain }) ps.site.chain list ≡ Some new → a.program ≡ led_by (Instruction-F.ReserveAssetDeposited new) behind
-      → refused (Instruction-F.ReserveAssetDeposited new) m0 ≡ None → Fate ps pr cargo (end_of a).cargo.cargo (ended (end_of a)) (ComesTo (first_stage rules origin a (taken ps.site.chain cargo e pr)))
+      → refused (Instruction-F.ReserveAssetDeposited new) m0 ≡ None → Ways a
   deposit_fate a ok list new behind carries listed named is way =
       let placed = listed_placed (tables_of v) agrees (table_of ps) s_in (bundle_of list) listed in
       let same : IsListFor (Deposit (bundle_of list)) new (seen empty ps) (seen empty pr) = λ b choice. let x = same_list_there list new named placed b choice in omega (arith, x) in
@@ -420,7 +493,7 @@ module _ (laws : LawsBelow) (first : World) (genesis : IsSoundGenesis first) (v 
       deposit_for (tables_of v) agrees (table_of ps) (table_of pr) s_in t_in name origin leads back list new found.all found.moved (lands name (context_of (table_of ps)) list new found)
       (λ b inside. all_at (λ (a : Asset). IsTrue (is_reserve pr.rows pr.site a origin)) new b reserves inside) u held (placed u held) in
       let carried_list : cargo_of cargo ≡ Deposit (bundle_of list) = ap cargo_of carries in
-      list_fate a ok (Instruction-F.ReserveAssetDeposited new) behind is way false new refl (received_listed new false accepted)
+      list_fate a ok (Instruction-F.ReserveAssetDeposited new) behind is way false new (λ m h. h.1) refl (received_listed new false accepted)
       (ends_here ByDeposit new (ap (fits_call ByDeposit) carries) (subst (λ (c : carried.Cargo). is_this_list new (arrived_list pr.site ps.site.chain (cargo_list c)) ≡ true) (sym carries) (this_list list new named)))
       (subst (λ (c : Cargo). IsListFor c new (seen empty ps) (seen empty pr)) (sym carried_list) same)
       (subst (λ (c : Cargo). IsTrusted c (seen empty ps) (seen empty pr)) (sym carried_list) (deposit_trusted (tables_of v) agrees (seen empty ps) (seen empty pr) (bundle_of list) t_in owed))
@@ -460,6 +533,10 @@ module _ (laws : LawsBelow) (first : World) (genesis : IsSoundGenesis first) (v 
     burns = booked_below (book_of pr) (given_up empty (bundle_of new)) ends i;
   }
 
+  drawn_view : (new : List Asset) → view (parking m0 (withdrawn p0 new origin) (bundle_of new)) ≡ Aside (bundle_of new) (Drawn (seen empty ps) new (seen empty pr))
+  unfolding parked withdrawn told
+  drawn_view new = λ i. record (Aside (bundle_of new) (Drawn (seen empty ps) new (seen empty pr))) { held = at_account (payer_found i) (λ account. (Withdrawn account new (accounts_of pr)).held) pr.held }
+
   list_fits : (a : Admitted) → admitted rules origin no_weight p0.queries program ≡ Ok a → (new : List Asset) (behind : List Instruction) → a.program ≡ led_by (Instruction-F.WithdrawAsset new) behind → IsAssetList new
   list_fits a ok new behind is =
       let all = subst (AllByRecursion AreLists) is (admitted_lists rules origin no_weight p0.queries program runnable.lists a ok) in
@@ -468,7 +545,7 @@ module _ (laws : LawsBelow) (first : World) (genesis : IsSoundGenesis first) (v 
   pub withdrawal_fate : (a : Admitted) → admitted rules origin no_weight p0.queries program ≡ Ok a → (units : Bundle) (new : List Asset) (behind : List Instruction) → cargo_of cargo ≡ Withdrawal units → cargo_list cargo ≡ held_assets units → fits_call ByWithdrawal cargo ≡ true
       → IsGoods units → AllByRecursion (λ (a : Asset). IsTrue (is_reserve ps.rows ps.site a name)) (held_assets units)
       → arrived_list (record { network = ps.site.network; chain = pr.site.chain }) ps.site.chain (held_assets units) ≡ Some new → a.program ≡ led_by (Instruction-F.WithdrawAsset new) behind
-      → refused (Instruction-F.WithdrawAsset new) m0 ≡ None → Fate ps pr cargo (end_of a).cargo.cargo (ended (end_of a)) (ComesTo (first_stage rules origin a (taken ps.site.chain cargo e pr)))
+      → refused (Instruction-F.WithdrawAsset new) m0 ≡ None → Ways a
   withdrawal_fate a ok units new behind carries list fits whole reserves named is way =
       let p = seen empty ps in
       let q = seen empty pr in
@@ -490,10 +567,15 @@ module _ (laws : LawsBelow) (first : World) (genesis : IsSoundGenesis first) (v 
       (paid_received units new p q front_is sender_number chains_apart (holds_list new in_order accepted) same) (withdrawal_trusted (tables_of v) agrees p q units) in
       let found : is_cargo p0 ByWithdrawal new ≡ true =
       ends_here ByWithdrawal new fits (subst (λ (xs : List Asset). is_this_list new (arrived_list pr.site ps.site.chain xs) ≡ true) (sym list) (this_list (held_assets units) new named)) in
-      Landed (Paid p new q) (through.0.cargo (more_gone r (bundle_of new) (withdrawn_gone new found))) exchange
-      (subst (λ (z : Part). IsSafe z (seen empty (end_of a))) (paid_view new (paid_ends new room)) through.0.safe) through.1
-      (λ m c.
-      let so_far = through.2 m c in (
-        so_far.cargo (more_gone r (bundle_of new) (withdrawn_gone new found)),
-        subst (λ (z : Part). IsSafe z (view m)) (paid_view new (paid_ends new room)) so_far.safe,
-      ))
+      let aside : IsExchange p (WithoutFront q p) q (Aside (bundle_of new) (Drawn p new q)) = received_safe (Withdrawal units) p (WithoutFront q p) q (Aside (bundle_of new) (Drawn p new q)) chains_apart sender_number
+      (paid_aside units new p q front_is sender_number chains_apart (holds_list new in_order accepted) same) (withdrawal_trusted (tables_of v) agrees p q units) in (
+        Landed (Paid p new q) (through.0.cargo (more_gone r (bundle_of new) (withdrawn_gone new found))) exchange
+            (subst (λ (z : Part). IsSafe z (seen empty (end_of a))) (paid_view new (paid_ends new room)) through.0.safe) through.1
+            (λ m c.
+            let so_far = through.2 m c in (
+              so_far.cargo (more_gone r (bundle_of new) (withdrawn_gone new found)),
+              subst (λ (z : Part). IsSafe z (view m)) (paid_view new (paid_ends new room)) so_far.safe,
+            )),
+        λ z s. aside_passed z r (bundle_of new) s.left (stop_of a (Instruction-F.WithdrawAsset new) (roll-Instruction Instruction-F.ClearOrigin ∷ behind) is z s).1 s.parks (withdrawn_gone new found)
+            (Aside (bundle_of new) (Drawn p new q)) (drawn_view new) aside,
+      )

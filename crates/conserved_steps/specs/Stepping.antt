@@ -1,5 +1,5 @@
 -- Lemmas: each step is made of safe changes. A reader may skip this file.
-use Rattle.std.proofs.Common.{◌≡◌, ⊎_elim, ℕ, zero, suc, ◌+◌, ◌≤◌, Bool, true, false, List, [], ◌∷◌, Option, Some, None, Result, Ok, Err, map, refl, sym, ap, ◌∙◌, subst, arith}
+use Rattle.std.proofs.Common.{◌≡◌, ◌⊎◌, ⊎_elim, inl, ℕ, zero, suc, ◌+◌, ◌≤◌, Bool, true, false, List, [], ◌∷◌, Option, Some, None, Result, Ok, Err, map, refl, sym, ap, ◌∙◌, subst, arith}
 use Rattle.std.specs.Prelude.{◌||◌, if◌then◌else◌, find, slice_get, slice_set}
 use Rattle.std.specs.Option.{option_map_or}
 use Rattle.std.specs.List.{AllByRecursion}
@@ -30,7 +30,7 @@ use Rattle.exec_rules.specs.Instructions.{xcm}
 use Rattle.weight_trader.specs.Purchases.{no_weight}
 use Rattle.exec_admission.specs.declared.admission.Admitted.{Admitted}
 use Rattle.exec_admission.specs.Admission.{admitted}
-use Rattle.exec_admission.specs.Execution.{first_stage, executed_by}
+use Rattle.exec_admission.specs.Execution.{first_stage, executed_by, executed, IsAbandoned}
 use Rattle.network_steps.specs.declared.step_result.StepResult.{StepResult}
 use Rattle.network_steps.specs.Worlds as networks
 use Rattle.network_steps.specs.Worlds.{Member, chain_of, place_of, with_part, Stepped, unchanged}
@@ -58,11 +58,11 @@ use Rattle.conserved_steps.specs.Soundness.{IsLink, IsSoundPart, LawsBelow}
 use Rattle.conserved_steps.specs.Locals.{begun_sound, ended_sound, ActsSafely, admitted_safely}
 use Rattle.conserved_steps.specs.Senders.{front_map}
 use Rattle.conserved_steps.specs.Bounds.{IsSoundGenesis, agrees_now, small_now}
-use Rattle.conserved_steps.specs.Receptions.{same_safe}
-use Rattle.conserved_steps.specs.Fates.{KeepsShapes, fate_of, comes_by}
-use Rattle.conserved_steps.specs.Deliveries.{trusted_front, views_set, has_name, stands, stands_inside}
+use Rattle.conserved_steps.specs.Receptions.{Passed, StillCarried, same_safe}
+use Rattle.conserved_steps.specs.Fates.{KeepsShapes, fate_of, comes_by, abandoned_fate, executed_fate}
+use Rattle.conserved_steps.specs.Deliveries.{trusted_front, views_set, has_name, stands, stands_inside, stands_stopped}
 use Rattle.conserved_steps.specs.Reading.{Decodes, decoded_runs, not_sovereign}
-use Rattle.conserved_steps.specs.Worlds.{AreSoundParts, IsFirst, IsReached, AllKept, arrives, while_delivered}
+use Rattle.conserved_steps.specs.Worlds.{AreSoundParts, IsFirst, IsReached, AllKept, arrives, while_delivered, StopsAt, where_delivery_stopped}
 
 -- ---- places of a world
 some_member : (x y : Member) → Some x ≡ Some y → x ≡ y
@@ -316,9 +316,28 @@ module _ (laws : LawsBelow) (shapes : ShapeLaws) (decodes : Decodes) (first : Wo
         let v = views w in
         let e = Event.Message (chain_of s) (chain_of r) x.number in
         let fate = fate_of laws shapes.admits first genesis v reached.history i j s.part r.part (seen_at w i s is_s) (seen_at w j r is_r) f.apart sound_s sound_r r.rules x.cargo x.program e f.first f.name origin f.there f.back f.runs f.trusted f.shape in
-        let came = comes_by laws shapes.admits first genesis v reached.history i j s.part r.part (seen_at w i s is_s) (seen_at w j r is_r) f.apart sound_s sound_r r.rules x.cargo x.program e f.first f.name origin f.there f.back f.runs f.trusted a ok (machine_of g) (g, on, refl) in
+        let came = comes_by laws shapes.admits first genesis v reached.history i j s.part r.part (seen_at w i s is_s) (seen_at w j r is_r) f.apart sound_s sound_r r.rules x.cargo x.program e f.first f.name origin f.there f.back f.runs f.trusted a ok (machine_of g) (inl (g, on, refl)) in
         stands_inside laws shapes.admits first genesis v reached.history i j s.part r.part (seen_at w i s is_s) (seen_at w j r is_r) f.apart sound_s sound_r x.cargo f.first f.name origin f.there f.back f.trusted
         (run_for s r x).left (run_for s r x).part _ fate (machine_of g) came
+
+    -- where memory was refused to a delivery
+    pub delivered_stopped : (i j : ℕ) (s r : Member) (c : Outgoing) (x : Waiting) → slice_get w i ≡ Some s → slice_get w j ≡ Some r → channel_to (chain_of r) s.part.channels ≡ Some c → oldest c ≡ Some x → (q : ChainPart) → StopsAt s r x q → History first (where_delivery_stopped w i s j r q)
+    delivered_stopped i j s r c x is_s is_r found at_front q stops =
+        let sound_s = reached.parts i s is_s in
+        let sound_r = reached.parts j r is_r in
+        let f = front_of i j s r c x is_s is_r found at_front in
+        let origin = name_at (chain_of r) (chain_of s) in
+        let v = views w in
+        let e = Event.Message (chain_of s) (chain_of r) x.number in
+        let passed : Passed s.part r.part x.cargo q = ⊎_elim
+        (λ (none : q ≡ begun (chain_of s) x.cargo r.part). subst (Passed s.part r.part x.cargo) (sym none) (StillCarried refl (same_safe (seen empty r.part))))
+        (λ (rest : IsAbandoned r.rules origin no_weight x.program (arrives s r x) q ⊎ (q ≡ (executed r.rules origin no_weight x.program (arrives s r x)).1)). ⊎_elim
+        (λ (h : IsAbandoned r.rules origin no_weight x.program (arrives s r x) q).
+        abandoned_fate laws shapes.admits first genesis v reached.history i j s.part r.part (seen_at w i s is_s) (seen_at w j r is_r) f.apart sound_s sound_r r.rules x.cargo x.program e f.first f.name origin f.there f.back f.runs f.trusted f.shape q h)
+        (λ (h : q ≡ (executed r.rules origin no_weight x.program (arrives s r x)).1). subst (Passed s.part r.part x.cargo) (sym h)
+        (executed_fate laws shapes.admits first genesis v reached.history i j s.part r.part (seen_at w i s is_s) (seen_at w j r is_r) f.apart sound_s sound_r r.rules x.cargo x.program e f.first f.name origin f.there f.back f.runs f.trusted f.shape))
+        rest) stops in
+        stands_stopped laws shapes.admits first genesis v reached.history i j s.part r.part (seen_at w i s is_s) (seen_at w j r is_r) f.apart sound_s sound_r x.cargo f.first f.name origin f.there f.back f.trusted q passed
 
     taken_carries : (i j : ℕ) (s r : Member) (c : Outgoing) (o : Option Waiting) → oldest c ≡ o → slice_get w i ≡ Some s → slice_get w j ≡ Some r → channel_to (chain_of r) s.part.channels ≡ Some c
         → IsCarried (option_map_or (λ (message : Waiting). delivered w i j s r message) o (unchanged StepResult.Empty w)).world

@@ -1,5 +1,5 @@
 -- Every world of a coherent network keeps every asset and every backing. This project's own rule.
-use Rattle.std.specs.Prelude.{◌≡◌, ℕ, ◌≤◌, false, List, Some, Ok, slice_get, slice_set}
+use Rattle.std.specs.Prelude.{◌≡◌, ◌⊎◌, ℕ, ◌≤◌, false, List, Some, Ok, slice_get, slice_set}
 use Rattle.amounts.specs.Amounts.{empty}
 use Rattle.xcm_program.specs.declared.instruction.Instruction.{Instruction}
 use Rattle.versioned_xcm.specs.Reading.{message_of}
@@ -10,12 +10,14 @@ use Rattle.exec_base.specs.declared.event.Event.{Event}
 use Rattle.exec_base.specs.Host.{told}
 use Rattle.exec_base.specs.Part.{ChainPart}
 use Rattle.exec_run.specs.Machine.{Machine}
+use Rattle.exec_admission.specs.Execution.{executed, IsAbandoned}
+use Rattle.weight_trader.specs.Purchases.{no_weight}
 use Rattle.std.specs.List.{AllByRecursion}
 use Rattle.asset_lists.specs.declared.units.Instance.{Instance}
 use Rattle.network_steps.specs.Worlds as networks
 use Rattle.network_steps.specs.Worlds.{Member, chain_of}
 use Rattle.network_steps.specs.Acting.{begun, lost_of, booking_lost}
-use Rattle.network_steps.specs.Steps.{is_sovereign, without_message, Link, Step, worlds}
+use Rattle.network_steps.specs.Steps.{is_sovereign, name_at, without_message, Link, Step, worlds}
 use Rattle.conserved_runs.specs.Views.{seen, view}
 use Rattle.message_shapes.specs.Shapes.{AllShaped}
 use Rattle.coherence.specs.UniversalAssets.{UniversalAsset, just}
@@ -96,3 +98,17 @@ arrives sender receiver m = told (begun (chain_of sender) m.cargo receiver.part)
 -- and what is still left of a teleported cargo counts as burned, as it would if the run ended there
 abbrev pub while_delivered : networks.World → ℕ → Member → ℕ → Member → Machine → World
 while_delivered w from sender to receiver m = slice_set (slice_set (views w) from (seen empty (booking_lost (lost_of m.part.cargo.cargo) (without_message (chain_of receiver) sender.part)))) to (view m)
+
+-- where memory was refused to a delivery, the receiver's part is: as the message began, neither read nor told; or as its execution was abandoned;
+-- or as it ended, when what was lost couldn't be told
+abbrev pub StopsAt : Member → Member → Waiting → ChainPart → Type 0
+StopsAt sender receiver m q =
+    (q ≡ begun (chain_of sender) m.cargo receiver.part)
+    ⊎ IsAbandoned receiver.rules (name_at (chain_of receiver) (chain_of sender)) no_weight m.program (arrives sender receiver m) q
+    ⊎ (q ≡ (executed receiver.rules (name_at (chain_of receiver) (chain_of sender)) no_weight m.program (arrives sender receiver m)).1)
+
+-- the network where memory was refused to a delivery: the message is out of its channel, the receiver's part is what then stands, with what is
+-- parked, and what is left of a teleported cargo is burned
+abbrev pub where_delivery_stopped : networks.World → ℕ → Member → ℕ → Member → ChainPart → World
+where_delivery_stopped w from sender to receiver q =
+    slice_set (slice_set (views w) from (seen empty (booking_lost (lost_of q.cargo.cargo) (without_message (chain_of receiver) sender.part)))) to (seen empty q)

@@ -13,7 +13,7 @@ ghost use Rattle.network_steps.specs.Acting.{caller};
 ghost use Rattle.network_steps.specs.Steps.{name_at, Link, Step};
 ghost use Rattle.conservation.specs.Headline.{IsKept};
 ghost use Rattle.conserved_steps.specs.Views.{views};
-ghost use Rattle.conserved_steps.specs.Worlds.{IsFirst, AllKept, IsExecution, begins, while_running, where_stopped, IsDelivery, arrives, while_delivered};
+ghost use Rattle.conserved_steps.specs.Worlds.{IsFirst, AllKept, IsExecution, begins, while_running, where_stopped, IsDelivery, arrives, while_delivered, StopsAt, where_delivery_stopped};
 
 use exec_admission::law_of_admission;
 use exec_rules::{law_of_readiness, law_of_rules};
@@ -60,12 +60,15 @@ pub fn law_of_conserved_executions()
 }
 
 /// So it is inside a delivery, wherever its run comes behind its first instruction: the message is out of its channel, what the run holds is
-/// counted, and a teleported cargo that it didn't take counts as burned.
+/// counted, and a teleported cargo that it didn't take counts as burned. And where memory is refused to it, in the first instruction too, with
+/// what is parked counted: its teleport has landed, or is burned.
 pub fn law_of_conserved_deliveries()
     ensures inside { (order : List Link) (w : World) (steps : List Step) (d : IsDelivery order w steps) (a : Admitted) (g : Stage) → IsFirst w
         → admitted d.receiver.rules (name_at (chain_of d.receiver) (chain_of d.sender)) no_weight (arrives d.sender d.receiver d.message).queries d.message.program ≡ Ok a
         → GoesOnTo xcm (first_stage d.receiver.rules (name_at (chain_of d.receiver) (chain_of d.sender)) a (arrives d.sender d.receiver d.message)) g
         → IsKept (views w) (while_delivered d.world d.from d.sender d.to d.receiver (machine_of g)) }
+    ensures stopped { (order : List Link) (w : World) (steps : List Step) (d : IsDelivery order w steps) (now : ChainPart) → IsFirst w → StopsAt d.sender d.receiver d.message now
+        → IsKept (views w) (where_delivery_stopped d.world d.from d.sender d.to d.receiver now) }
 {
     law_of_ledgers();
     law_of_trading();

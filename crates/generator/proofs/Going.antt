@@ -6,12 +6,12 @@ use Rattle.network_steps.specs.declared.step_result.StepResult.{StepResult}
 use Rattle.network_steps.specs.declared.step_result.StepResult.TheVariants.{Ran, Empty, NoSuchChain, NoSuchChannel, SovereignCaller, Message, NotAClaim, Sent, Unsent}
 use Rattle.xcm_program.specs.declared.outcome.Outcome.TheVariants.{Complete, Incomplete, Error}
 use Rattle.network_steps.specs.Worlds.{World}
-use Rattle.network_steps.specs.Steps.{Step, Link, after}
+use Rattle.network_steps.specs.Steps.{Step, Link, after, last_world}
 use Rattle.generator.specs.declared.counts.Counts.{Counts}
 use Rattle.generator.specs.declared.turns.Turn.{Turn}
 use Rattle.generator.specs.Turns.{drawn, step_of_turn, steps_from}
 use Rattle.generator.specs.Results.{is_complete, is_incomplete, is_error, is_empty}
-use Rattle.generator.specs.Generated.{answer_to_step, answers, last_world, counts_of, all_steps}
+use Rattle.generator.specs.Generated.{answer_to_step, answers, counts_of, all_steps}
 
 abbrev pub one : Bool → ℕ
 one b = cond b 1 0

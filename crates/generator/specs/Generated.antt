@@ -2,7 +2,6 @@
 --
 --   document     the text that describes the network
 --   answers      what the steps answer, one behind another, from a world on
---   last_world   the world behind the steps
 --   summary      the report of a run in a network
 --   generated    the report of a run in the network of the document
 use Rattle.std.specs.Prelude.{ℕ, ◌+◌, List, [], ◌∷◌, ◌++◌, Result, Ok, Err, codes, decimal, count_by}
@@ -12,7 +11,7 @@ use Rattle.network_config.specs.Network.{network_of}
 use Rattle.network_genesis.specs.Genesis.{order_of, first_world}
 use Rattle.network_steps.specs.declared.step_result.StepResult.{StepResult}
 use Rattle.network_steps.specs.Worlds.{World}
-use Rattle.network_steps.specs.Steps.{Step, Exec, Deliver, Claim, Drain, Balances, Traps, Queues, Supply, Link, exec, deliver, claim, after}
+use Rattle.network_steps.specs.Steps.{Step, Exec, Deliver, Claim, Drain, Balances, Traps, Queues, Supply, Link, exec, deliver, claim, after, last_world}
 use Rattle.report_blocks.specs.Reads.{supply_block}
 use Rattle.generator.specs.declared.counts.Counts.{Counts}
 use Rattle.generator.specs.Turns.{steps_from}
@@ -47,11 +46,6 @@ answer_to_step w Supply = StepResult.Empty
 abbrev pub answers : List Link → World → List Step → List StepResult
 answers order w [] = []
 answers order w (step ∷ steps) = answer_to_step w step ∷ answers order (after order w step) steps
-
--- the world behind the steps
-abbrev pub last_world : List Link → World → List Step → World
-last_world order w [] = w
-last_world order w (step ∷ steps) = last_world order (after order w step) steps
 
 -- what was asked for
 abbrev pub asked_line : ℕ → ℕ → List ℕ

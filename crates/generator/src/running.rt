@@ -1,10 +1,10 @@
 //! Steps that are drawn and run.
 ghost use Rattle.std.specs.Prelude.{◌≡◌, IfOk, OnOk, false};
 ghost use Rattle.network_genesis.specs.Genesis.{order_of};
-ghost use Rattle.network_steps.specs.Steps.{after};
+ghost use Rattle.network_steps.specs.Steps.{after, last_world};
 ghost use Rattle.chain_net.specs.Nets.{world_of, spec_of, is_stopped};
 ghost use Rattle.generator.specs.Turns.{step_of_turn, steps_from};
-ghost use Rattle.generator.specs.Generated.{answer_to_step, answers, last_world, counts_of};
+ghost use Rattle.generator.specs.Generated.{answer_to_step, answers, counts_of};
 
 use crate::counts::Counts;
 use crate::draws::Draws;

@@ -17,7 +17,7 @@ ghost use Rattle.exec_rules.specs.Instructions.{xcm};
 ghost use Rattle.exec_admission.specs.declared.rules.ChainRules.{ChainRules};
 ghost use Rattle.exec_admission.specs.declared.admission.Admitted.{Admitted};
 ghost use Rattle.exec_admission.specs.Admission.{admitted};
-ghost use Rattle.exec_admission.specs.Execution.{IsAbandoned};
+ghost use Rattle.exec_admission.specs.Execution.{executed, IsAbandoned};
 ghost use Rattle.network_steps.specs.Worlds.{Member, World, place_of};
 ghost use Rattle.network_steps.specs.Steps.{exec, deliver, claim, Link, Step, waiting, after, worlds};
 ghost use Rattle.message_shapes.specs.Shapes.{named_there, IsShape, IsShaped, AreShapedAt, AllShaped, NothingWaits};
@@ -32,9 +32,10 @@ pub fn law_of_shapes()
     ensures worlds { (order : List Link) (w : World) (steps : List Step) → AllShaped w → AllByRecursion AllShaped (worlds order w steps) }
 {}
 
-/// So it is inside a run, wherever it comes, and where memory is refused and the run stops.
+/// So it is inside a run, wherever it comes, behind the execution of a program, and where memory is refused and the run stops.
 pub fn law_of_runs_that_send()
     ensures reached { (g h : Stage) → Reaches xcm g h → AreShapedAt (machine_of g).part → AreShapedAt (machine_of h).part }
+    ensures executed { (rules : ChainRules) (origin : Location) (credit : Weight) (program : List Instruction) (p : ChainPart) → AreShapedAt p → AreShapedAt (executed rules origin credit program p).1 }
     ensures stopped { (rules : ChainRules) (origin : Location) (credit : Weight) (program : List Instruction) (p now : ChainPart) → IsAbandoned rules origin credit program p now → AreShapedAt p → AreShapedAt now }
 {}
 

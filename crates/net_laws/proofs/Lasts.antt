@@ -3,9 +3,8 @@ use Rattle.std.proofs.Common.{◌≡◌, ◌∙◌, List, [], ◌∷◌, ◌++�
 use Rattle.std.specs.List.{AllByRecursion}
 use Rattle.network_spec.specs.declared.network.NetworkSpec.{NetworkSpec}
 use Rattle.network_steps.specs.Worlds.{World}
-use Rattle.network_steps.specs.Steps.{Link, Step, after, worlds}
+use Rattle.network_steps.specs.Steps.{Link, Step, after, worlds, last_world}
 use Rattle.network_genesis.specs.Genesis.{order_of, first_world}
-use Rattle.net_laws.specs.Runs.{last_world}
 
 pub one_more : (order : List Link) (w : World) (steps : List Step) (step : Step) → last_world order w (steps ++ step ∷ []) ≡ after order (last_world order w steps) step
 one_more order w [] step = refl

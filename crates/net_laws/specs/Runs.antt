@@ -1,15 +1,9 @@
 -- The steps that a network has run. This project's own rule.
-use Rattle.std.specs.Prelude.{◌≡◌, List, [], ◌∷◌}
-use Rattle.network_steps.specs.Worlds.{World}
-use Rattle.network_steps.specs.Steps.{Link, Step, after}
+use Rattle.std.specs.Prelude.{◌≡◌, List}
+use Rattle.network_steps.specs.Steps.{Step, last_world}
 use Rattle.network_genesis.specs.Genesis.{order_of, first_world}
 use Rattle.chain_net.specs.declared.net.Net.{Net}
 use Rattle.chain_net.specs.Nets.{world_of, spec_of}
-
--- the world behind some steps
-abbrev pub last_world : List Link → World → List Step → World
-last_world order w [] = w
-last_world order w (step ∷ steps) = last_world order (after order w step) steps
 
 -- the network stands for the world behind these steps, from the first world of its document on
 abbrev pub HasRun : Net → List Step → Type 0

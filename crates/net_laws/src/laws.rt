@@ -1,18 +1,22 @@
 //! What holds of a network that its calls led to.
-ghost use Rattle.std.specs.Prelude.{◌≡◌, List, [], ◌∷◌, ◌++◌};
-ghost use Rattle.network_steps.specs.Steps.{Step, after};
+ghost use Rattle.std.specs.Prelude.{◌≡◌, ℕ, List, [], ◌∷◌, ◌++◌};
+ghost use Rattle.chain_ids.specs.declared.chain.ChainId.{ChainId};
+ghost use Rattle.network_steps.specs.Steps.{Step, Exec, Deliver, after};
 ghost use Rattle.network_genesis.specs.Genesis.{order_of, first_world};
 ghost use Rattle.message_shapes.specs.Shapes.{AllShaped};
-ghost use Rattle.authority.specs.Speakers.{IsAuthorized};
+ghost use Rattle.authority.specs.Speakers.{HasAuthority, IsAuthorized};
 ghost use Rattle.conservation.specs.Headline.{IsKept};
 ghost use Rattle.conserved_steps.specs.Views.{views};
 ghost use Rattle.conserved_networks.specs.Kept.{IsCoherent};
 ghost use Rattle.chain_net.specs.declared.net.Net.{Net};
 ghost use Rattle.chain_net.specs.Nets.{world_of, spec_of};
+ghost use Rattle.chain_net.specs.Stops.{ExecStops, DeliverStops, DrainStops};
 ghost use Rattle.net_laws.specs.Runs.{HasRun};
 
-use authority::law_of_authority;
+use authority::{law_of_authority, law_of_executions};
 use conserved_networks::{law_of_conserved_networks, law_of_shaped_networks};
+use conserved_steps::{law_of_conserved_deliveries, law_of_conserved_executions};
+use message_shapes::{law_of_delivered_messages, law_of_runs_that_send};
 
 /// A network that was just opened has run no steps, and each call that answers has run one step more: what `Net::open`, `exec`, `deliver`,
 /// `claim` and `drain` ensure of the world is what these clauses ask for.
@@ -43,4 +47,35 @@ pub fn law_of_authorized_nets()
 {
     law_of_shaped_nets();
     law_of_authority();
+}
+
+/// Where a call answered that it is out of memory, a coherent network still keeps each asset and backs each derivative, with the parked bundles
+/// counted: of what `exec`, `deliver` and `drain` ensure that then stands this is what these clauses say. A `claim` has changed nothing. A
+/// delivery's teleport has landed by then, or is burned.
+pub fn law_of_stopped_nets()
+    ensures exec { (old new : Net) (steps : List Step) (chain : ChainId) (account bytes : List ℕ) → IsCoherent (spec_of old) → HasRun old steps
+        → ExecStops (world_of old) chain account bytes (world_of new) → IsKept (views (first_world (spec_of old))) (views (world_of new)) }
+    ensures deliver { (old new : Net) (steps : List Step) (from to : ChainId) → IsCoherent (spec_of old) → HasRun old steps
+        → DeliverStops (world_of old) from to (world_of new) → IsKept (views (first_world (spec_of old))) (views (world_of new)) }
+    ensures drain { (old new : Net) (steps : List Step) → IsCoherent (spec_of old) → HasRun old steps
+        → DrainStops (order_of (spec_of old)) (world_of old) (world_of new) → IsKept (views (first_world (spec_of old))) (views (world_of new)) }
+{
+    law_of_conserved_networks();
+    law_of_conserved_executions();
+    law_of_conserved_deliveries();
+}
+
+/// There each message that waits still has one of the five shapes, and no account has less but the caller's, or that of the sending chain at the
+/// receiver of a delivery; in every network.
+pub fn law_of_stopped_messages()
+    ensures exec { (old new : Net) (steps : List Step) (chain : ChainId) (account bytes : List ℕ) → HasRun old steps → ExecStops (world_of old) chain account bytes (world_of new) → AllShaped (world_of new) }
+    ensures deliver { (old new : Net) (steps : List Step) (from to : ChainId) → HasRun old steps → DeliverStops (world_of old) from to (world_of new) → AllShaped (world_of new) }
+    ensures drain { (old new : Net) (steps : List Step) → HasRun old steps → DrainStops (order_of (spec_of old)) (world_of old) (world_of new) → AllShaped (world_of new) }
+    ensures caller { (old new : Net) (chain : ChainId) (account bytes : List ℕ) → ExecStops (world_of old) chain account bytes (world_of new) → HasAuthority (world_of old) (Exec chain account bytes) (world_of new) }
+    ensures sender { (old new : Net) (steps : List Step) (from to : ChainId) → HasRun old steps → DeliverStops (world_of old) from to (world_of new) → HasAuthority (world_of old) (Deliver from to) (world_of new) }
+{
+    law_of_shaped_networks();
+    law_of_runs_that_send();
+    law_of_delivered_messages();
+    law_of_executions();
 }

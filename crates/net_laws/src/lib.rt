@@ -3,4 +3,6 @@
 
 mod laws;
 
-pub use laws::{law_of_authorized_nets, law_of_kept_nets, law_of_runs, law_of_shaped_nets};
+pub use laws::{
+    law_of_authorized_nets, law_of_kept_nets, law_of_runs, law_of_shaped_nets, law_of_stopped_nets,
+};

@@ -208,3 +208,8 @@ after order w Supply = w
 abbrev pub worlds : List Link → World → List Step → List World
 worlds order w [] = w ∷ []
 worlds order w (step ∷ steps) = w ∷ worlds order (after order w step) steps
+
+-- the world behind a list of steps
+abbrev pub last_world : List Link → World → List Step → World
+last_world order w [] = w
+last_world order w (step ∷ steps) = last_world order (after order w step) steps

@@ -1,6 +1,6 @@
 use Rattle.conserved_steps.specs.Soundness.{LawsBelow}
 use Rattle.conserved_steps.specs.Stepping.{ShapeLaws}
-use Rattle.conserved_steps.specs.Insides.{kept_in_delivery}
+use Rattle.conserved_steps.specs.Insides.{kept_in_delivery, kept_stopped_delivery}
 use Rattle.conserved_steps.proofs.laws.law_of_conserved_deliveries.Goals as goal
 
 pub returns : goal.returns
@@ -21,4 +21,7 @@ returns c =
       deliver = c.law_of_shapes.ensures.deliver;
       claim = c.law_of_shapes.ensures.claim;
     } in
-    record { inside = λ order w steps d a g f ok on. kept_in_delivery laws shapes c.law_of_messages.ensures order w steps f d a ok g on }
+    record {
+      inside = λ order w steps d a g f ok on. kept_in_delivery laws shapes c.law_of_messages.ensures order w steps f d a ok g on;
+      stopped = λ order w steps d now f stops. kept_stopped_delivery laws shapes c.law_of_messages.ensures order w steps f d now stops;
+    }
