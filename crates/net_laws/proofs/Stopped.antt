@@ -93,8 +93,8 @@ module _ (order : List Link) (first : World) (is_first : IsFirst first) (kept : 
       subst (IsKept (views first)) (sym seen_so) (stopped_here steps account s.program x q s.stopped.1)) h
 
   -- a delivery from any of the worlds
-  delivery_kept : (steps : List Step) (from to : ChainId) (now : World) → DeliverStops (last_world order first steps) from to now → Keeps now
-  delivery_kept steps from to now s =
+  pub deliver_kept : (steps : List Step) (from to : ChainId) (now : World) → DeliverStops (last_world order first steps) from to now → Keeps now
+  deliver_kept steps from to now s =
       let w = last_world order first steps in
       let named : chain_of s.sender ≡ from = place_says w from s.sender_place s.sender s.sender_found s.is_sender in
       let there : chain_of s.receiver ≡ to = place_says w to s.receiver_place s.receiver s.receiver_found s.is_receiver in
@@ -125,12 +125,9 @@ module _ (order : List Link) (first : World) (is_first : IsFirst first) (kept : 
       ∙ ap (λ (u : parts.World). slice_set u s.receiver_place (seen empty (ended q))) (views_set w s.sender_place (with_part (booking_lost (lost_of q.cargo.cargo) (without_message (chain_of s.receiver) s.sender.part)) s.sender)) in
       subst (IsKept (views first)) (sym seen_so) (stopped_there steps d q stands)
 
-  pub deliver_kept : (steps : List Step) (from to : ChainId) (now : World) → DeliverStops (last_world order first steps) from to now → Keeps now
-  deliver_kept = delivery_kept
-
   pub drain_kept : (steps : List Step) (now : World) → DrainStops order (last_world order first steps) now → Keeps now
   drain_kept steps now s =
       let w = last_world order first steps in
       let more = delivery_steps s.made order w in
       let same : last_world order first (steps ++ more) ≡ world_behind w (deliveries s.made order w) = last_behind order first steps more ∙ same_deliveries s.made order w in
-      delivery_kept (steps ++ more) s.link.0 s.link.1 now (subst (λ (v : World). DeliverStops v s.link.0 s.link.1 now) (sym same) s.stopped)
+      deliver_kept (steps ++ more) s.link.0 s.link.1 now (subst (λ (v : World). DeliverStops v s.link.0 s.link.1 now) (sym same) s.stopped)

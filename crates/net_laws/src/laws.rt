@@ -1,7 +1,7 @@
 //! What holds of a network that its calls led to.
 ghost use Rattle.std.specs.Prelude.{◌≡◌, ℕ, List, [], ◌∷◌, ◌++◌};
 ghost use Rattle.chain_ids.specs.declared.chain.ChainId.{ChainId};
-ghost use Rattle.network_steps.specs.Steps.{Step, Exec, Deliver, after};
+ghost use Rattle.network_steps.specs.Steps.{Step, Exec, Deliver, after, deliveries, world_behind};
 ghost use Rattle.network_genesis.specs.Genesis.{order_of, first_world};
 ghost use Rattle.message_shapes.specs.Shapes.{AllShaped};
 ghost use Rattle.authority.specs.Speakers.{HasAuthority, IsAuthorized};
@@ -49,9 +49,9 @@ pub fn law_of_authorized_nets()
     law_of_authority();
 }
 
-/// Where a call answered that it is out of memory, a coherent network still keeps each asset and backs each derivative, with the parked bundles
-/// counted: of what `exec`, `deliver` and `drain` ensure that then stands this is what these clauses say. A `claim` has changed nothing. A
-/// delivery's teleport has landed by then, or is burned.
+/// Where a call of a coherent network answered that it is out of memory, the network still keeps each asset and backs each derivative, with the
+/// parked bundles counted. What then stands is what the clause `stops` of `Net::exec`, `deliver` and `drain` says: a delivery's teleport has
+/// landed, or is burned. A claim that is refused memory changes nothing.
 pub fn law_of_stopped_nets()
     ensures exec { (old new : Net) (steps : List Step) (chain : ChainId) (account bytes : List ℕ) → IsCoherent (spec_of old) → HasRun old steps
         → ExecStops (world_of old) chain account bytes (world_of new) → IsKept (views (first_world (spec_of old))) (views (world_of new)) }
@@ -65,14 +65,17 @@ pub fn law_of_stopped_nets()
     law_of_conserved_deliveries();
 }
 
-/// There each message that waits still has one of the five shapes, and no account has less but the caller's, or that of the sending chain at the
-/// receiver of a delivery; in every network.
+/// Where a call of any network answered that it is out of memory, each message that waits still has one of the five shapes, and no account has
+/// less but the caller's (`caller`), or that of the sending chain at the receiver of a delivery (`sender`), as of the last one of a drain
+/// (`last_sender`); those before it are whole steps.
 pub fn law_of_stopped_messages()
     ensures exec { (old new : Net) (steps : List Step) (chain : ChainId) (account bytes : List ℕ) → HasRun old steps → ExecStops (world_of old) chain account bytes (world_of new) → AllShaped (world_of new) }
     ensures deliver { (old new : Net) (steps : List Step) (from to : ChainId) → HasRun old steps → DeliverStops (world_of old) from to (world_of new) → AllShaped (world_of new) }
     ensures drain { (old new : Net) (steps : List Step) → HasRun old steps → DrainStops (order_of (spec_of old)) (world_of old) (world_of new) → AllShaped (world_of new) }
     ensures caller { (old new : Net) (chain : ChainId) (account bytes : List ℕ) → ExecStops (world_of old) chain account bytes (world_of new) → HasAuthority (world_of old) (Exec chain account bytes) (world_of new) }
     ensures sender { (old new : Net) (steps : List Step) (from to : ChainId) → HasRun old steps → DeliverStops (world_of old) from to (world_of new) → HasAuthority (world_of old) (Deliver from to) (world_of new) }
+    ensures last_sender { (old new : Net) (steps : List Step) → HasRun old steps → (s : DrainStops (order_of (spec_of old)) (world_of old) (world_of new))
+        → HasAuthority (world_behind (world_of old) (deliveries s.made (order_of (spec_of old)) (world_of old))) (Deliver s.link.0 s.link.1) (world_of new) }
 {
     law_of_shaped_networks();
     law_of_runs_that_send();

@@ -1,4 +1,4 @@
-use Rattle.std.proofs.Common.{List, ◌++◌, ap, sym, ◌∙◌, subst}
+use Rattle.std.proofs.Common.{ℕ, List, ◌++◌, ap, sym, ◌∙◌, subst}
 use Rattle.network_steps.specs.Worlds.{World}
 use Rattle.network_steps.specs.Steps.{Step, last_world, deliveries, world_behind}
 use Rattle.chain_net.specs.declared.net.Net.{Net}
@@ -23,14 +23,18 @@ returns c =
     } in
     let shaped : (old : Net) (steps : List Step) → AllShaped (last_world (order_of (spec_of old)) (first_world (spec_of old)) steps) = λ old steps. all_last AllShaped (order_of (spec_of old)) (first_world (spec_of old)) steps (c.law_of_shaped_networks.ensures (spec_of old) steps) in
     let now : (old : Net) (steps : List Step) → HasRun old steps → AllShaped (world_of old) = λ old steps run. subst AllShaped (sym run) (shaped old steps) in
+    let behind : Net → ℕ → World = λ old made. world_behind (world_of old) (deliveries made (order_of (spec_of old)) (world_of old)) in
+    let shaped_behind : (old : Net) (steps : List Step) → HasRun old steps → (made : ℕ) → AllShaped (behind old made) = λ old steps run made.
+    let order = order_of (spec_of old) in
+    let first = first_world (spec_of old) in
+    let more = delivery_steps made order (last_world order first steps) in
+    let same = last_behind order first steps more ∙ same_deliveries made order (last_world order first steps) ∙ ap (λ (w : World). world_behind w (deliveries made order w)) (sym run) in
+    subst AllShaped same (shaped old (steps ++ more)) in
     record {
       exec = λ old new steps chain account bytes run stops. exec_shaped laws (world_of old) chain account bytes (world_of new) stops (now old steps run);
       deliver = λ old new steps from to run stops. deliver_shaped laws (world_of old) from to (world_of new) stops (now old steps run);
-      drain = λ old new steps run stops.
-          let order = order_of (spec_of old) in
-          let more = delivery_steps stops.made order (last_world order (first_world (spec_of old)) steps) in
-          let same = last_behind order (first_world (spec_of old)) steps more ∙ same_deliveries stops.made order (last_world order (first_world (spec_of old)) steps) ∙ ap (λ (w : World). world_behind w (deliveries stops.made order w)) (sym run) in
-          deliver_shaped laws (world_behind (world_of old) (deliveries stops.made order (world_of old))) stops.link.0 stops.link.1 (world_of new) stops.stopped (subst AllShaped same (shaped old (steps ++ more)));
+      drain = λ old new steps run stops. deliver_shaped laws (behind old stops.made) stops.link.0 stops.link.1 (world_of new) stops.stopped (shaped_behind old steps run stops.made);
       caller = λ old new chain account bytes stops. exec_authorized laws (world_of old) chain account bytes (world_of new) stops;
       sender = λ old new steps from to run stops. deliver_authorized laws (world_of old) from to (world_of new) stops (now old steps run);
+      last_sender = λ old new steps run stops. deliver_authorized laws (behind old stops.made) stops.link.0 stops.link.1 (world_of new) stops.stopped (shaped_behind old steps run stops.made);
     }
