@@ -2,11 +2,10 @@
 use Rattle.std.specs.Prelude.{◌≡◌, ◌≢◌, ℕ, ◌+◌, ◌≤◌, Bool, true, false, ◌&&◌, if◌then◌else◌, List, Some, refl}
 use Rattle.std.specs.Ordering.{eq_by_cmp}
 use Rattle.std.proofs.Common.{sym, ap, ◌∙◌, subst, arith}
-use Rattle.amounts.specs.Amounts.{amount, total, merge, difference, IsWithin, total_alike}
+use Rattle.amounts.specs.Amounts.{total, merge, difference, IsWithin, total_alike}
 use Rattle.amounts.specs.Keys.{number_keys, list_keys}
 use Rattle.amounts.specs.Laws.{key_same, same_key, total-merge, total-difference}
 use Rattle.asset_lists.specs.declared.units.Asset.{Asset}
-use Rattle.asset_lists.specs.Units.{Unit}
 use Rattle.asset_bundles.specs.Bundles.{Bundle, unit_keys, bundle_of}
 use Rattle.asset_bundles.specs.Books.{given_up}
 use Rattle.asset_lists.specs.Listed.{listed_of}
@@ -20,10 +19,11 @@ use Rattle.amounts.specs.Laws.{total_none}
 use Rattle.chain_ids.specs.Chains.{same_chain}
 use Rattle.coherence.specs.UniversalAssets.{UniversalAsset, Choice, every, is_asset_at, is_unit_at, is_burn_at}
 use Rattle.coherence.specs.Networks.{context_of}
-use Rattle.conservation.specs.Parts.{Cargo, Nothing, Deposit, Withdrawal, Teleport, Part, chain_of, Count, choice_of, stock, account_amount, held_for, burned, teleported, deposited, withdrawn}
+use Rattle.conservation.specs.Parts.{Deposit, Withdrawal, Part, chain_of, choice_of, stock, account_amount, held_for, burned}
 use Rattle.chain_ids.specs.Laws.{same_chain_told, same_chain_itself}
-use Rattle.conservation.specs.Channels.{has_channel, pushed, front, popped}
-use Rattle.conservation.specs.Moves.{IsSent, IsReceived, for_chain}
+use Rattle.conservation.specs.Channels.{has_channel, pushed, front}
+use Rattle.conservation.specs.Checking.{checking_at, risen_by_none}
+use Rattle.conservation.specs.Moves.{IsSent, IsReceived}
 use Rattle.ledgers.specs.Laws.{holder_keys, held_by_total}
 use Rattle.conservation.specs.Landings.{WithoutFront}
 
@@ -87,6 +87,7 @@ deposit_sent to assets left p linked whole =
                 omega (arith, all, share, same)
             | false ↦ λ t. omega (arith, all)
           ] refl;
+      raised = λ a. sym (risen_by_none (checking_at a p));
       foreign = λ a home. refl;
     }
 
@@ -110,6 +111,7 @@ paid_received goods assets p q first number_p apart within same_goods =
     ∙ total-difference holder_keys (λ (h : Holder). is_unit_at (context_of q.table) a choice h.1) q.held (held_by (sovereign_account (chain_of q) (chain_of p)) (bundle_of assets)) within in
     record {
       table = refl;
+      checking = refl;
       first = first;
       outgoing = refl;
       burns_now = λ a. refl;
@@ -142,4 +144,5 @@ paid_received goods assets p q first number_p apart within same_goods =
                 (λ e. true_false (sym t ∙ ap (λ c. same_chain c chain) (sym (sovereign_account_of_one (chain_of q) chain (chain_of p) number number_p foreign_chain apart e)) ∙ same_chain_itself chain)) in
                 omega (arith, cut, share, none)
           ] refl;
+      lowered = λ a. sym (risen_by_none (checking_at a q));
     }

@@ -1,19 +1,18 @@
 -- In a network that agrees, what a chain has of a listed asset is no more than there is at the asset's homes.
-use Rattle.std.specs.Prelude.{◌≡◌, ℕ, zero, suc, ◌+◌, ◌<◌, ◌≤◌, ◌^◌, Bool, true, false, if◌then◌else◌, ◌&&◌, List, [], ◌∷◌, map, Option, Some, None, slice_get, sum_by, refl}
-use Rattle.std.proofs.Common.{sym, ap, ◌∙◌, subst, arith}
+use Rattle.std.specs.Prelude.{◌≡◌, ℕ, zero, suc, ◌+◌, ◌≤◌, true, if◌then◌else◌, ◌&&◌, List, [], ◌∷◌, map, Option, Some, slice_get, sum_by, refl}
+use Rattle.std.proofs.Common.{sym, ap, ◌∙◌, arith}
 use Rattle.std.proofs.lemmas.Bool.{and_parts}
 use Rattle.std.proofs.lemmas.List.Sums.{sum_by-cons}
-use Rattle.amounts.specs.Amounts.{total, total_at_most}
+use Rattle.amounts.specs.Amounts.{total_at_most}
 use Rattle.ledgers.specs.Ledgers.{Holder, is_account}
 use Rattle.chain_ids.specs.declared.chain.ChainId.{ChainId}
 use Rattle.trust_tables.specs.declared.rows.AssetRow.{AssetRow}
-use Rattle.trust_tables.specs.declared.rows.AssetRole.{AssetRole}
 use Rattle.trust_tables.specs.declared.rows.AssetRole.TheVariants.{Native, Derivative}
 use Rattle.trust_tables.specs.Accounts.{sovereign_account}
 use Rattle.coherence.specs.UniversalAssets.{UniversalAsset, Choice, every, just, is_unit_at}
 use Rattle.asset_lists.specs.declared.units.Instance.{Instance}
-use Rattle.coherence.specs.Networks.{Table, context_of, IsIn, path_of_row, asset_of_row, AreTwins, HasReserve, Agrees, is_home}
-use Rattle.conservation.specs.Parts.{Part, World, chain_of, Count, Whole, Only, choice_of, debt, stock, account_amount, held_for, burned, flight, deposits, withdrawals, own, home, supply, alive, population, Backed}
+use Rattle.coherence.specs.Networks.{Table, context_of, IsIn, asset_of_row, HasReserve, Agrees, is_home}
+use Rattle.conservation.specs.Parts.{Part, World, chain_of, Whole, Only, stock, account_amount, burned, flight, own, home, supply, alive, population, Backed}
 use Rattle.conservation.specs.Steps.{tables_of, table_at}
 use Rattle.conservation.specs.Cargoes.{IsRowAsset, home_of_row}
 
@@ -25,7 +24,7 @@ sum_at f [] k p at = absurd (cc)
 sum_at f (x ∷ xs) zero p at = let same : x ≡ p = cc in let here : f x ≡ f p = ap f same in let all = sum_by-cons f x xs in omega (arith, here, all)
 sum_at f (x ∷ xs) (suc k) p at = let rest = sum_at f xs k p at in let all = sum_by-cons f x xs in omega (arith, rest, all)
 
-part_at : (w : World) (k : ℕ) (t : Table) → slice_get (map (λ (p : Part). p.table) w) k ≡ Some t → (p : Part) × (slice_get w k ≡ Some p) × (p.table ≡ t)
+pub part_at : (w : World) (k : ℕ) (t : Table) → slice_get (map (λ (p : Part). p.table) w) k ≡ Some t → (p : Part) × (slice_get w k ≡ Some p) × (p.table ≡ t)
 part_at [] k t at = absurd (cc)
 part_at (x ∷ xs) zero t at = (x, refl, cc)
 part_at (x ∷ xs) (suc k) t at = part_at xs k t at

@@ -1,31 +1,26 @@
 -- What trust gives of a cargo in a network that agrees: a teleport is at home at both ends, a deposit is owed by its
 -- receiver to its sender, and what leaves as a withdrawal is at home elsewhere.
-use Rattle.std.specs.Prelude.{◌≡◌, ◌≢◌, ℕ, zero, suc, ◌<◌, Bool, true, false, ◌&&◌, ◌||◌, List, [], ◌∷◌, Option, Some, None, slice_get, refl}
-use Rattle.std.specs.List.{list_any}
+use Rattle.std.specs.Prelude.{◌≡◌, ℕ, ◌<◌, Bool, true, false, ◌&&◌, List, Option, refl}
 use Rattle.std.specs.Ordering.{eq_by_cmp}
-use Rattle.std.proofs.Common.{sym, ap, ◌∙◌, subst, arith}
+use Rattle.std.proofs.Common.{sym, ap, ◌∙◌}
 use Rattle.std.proofs.lemmas.Bool.{and_parts, and_from}
 use Rattle.amounts.specs.Amounts.{amount}
-use Rattle.locations.specs.declared.grammar.Junction.{Junction}
 use Rattle.locations.specs.Order.{junctions_cmp}
 use Rattle.locations.specs.OrderLaws.{junctions_decides}
-use Rattle.asset_lists.specs.declared.units.Kind.{Kind}
-use Rattle.asset_lists.specs.declared.units.Kind.TheVariants as kind
 use Rattle.asset_lists.specs.Units.{Unit}
 use Rattle.asset_bundles.specs.Bundles.{Bundle, unit_keys}
 use Rattle.asset_lists.specs.Listed.{kind_of}
 use Rattle.chain_ids.specs.declared.chain.ChainId.{ChainId}
 use Rattle.trust_tables.specs.declared.rows.AssetRow.{AssetRow}
-use Rattle.trust_tables.specs.declared.rows.AssetRole.{AssetRole}
 use Rattle.trust_tables.specs.declared.rows.AssetRole.TheVariants.{Native, Derivative}
 use Rattle.asset_lists.specs.Listed.{same_kind}
 use Rattle.asset_lists.specs.Laws.{same_kind_says}
 use Rattle.coherence.specs.CauseLaws.{any_in, any_found, native_told}
 use Rattle.amounts.specs.Laws.{total_none}
 use Rattle.coherence.specs.UniversalAssets.{UniversalAsset, has_path, Choice, every, is_unit_at}
-use Rattle.coherence.specs.Networks.{Table, context_of, IsIn, path_of_row, asset_of_row, AreTwins, Agrees, IsUnitOf, HasTwin, is_native_role, is_native_row, is_home}
-use Rattle.coherence.specs.Trusting.{IsShared, IsOwed}
-use Rattle.conservation.specs.Parts.{Cargo, Nothing, Deposit, Withdrawal, Teleport, Part, chain_of, in_bundle, withdrawn}
+use Rattle.coherence.specs.Networks.{Table, context_of, IsIn, path_of_row, asset_of_row, Agrees, IsUnitOf, is_native_role, is_native_row, is_home}
+use Rattle.coherence.specs.Trusting.{IsShared}
+use Rattle.conservation.specs.Parts.{Deposit, Withdrawal, Teleport, Part, chain_of, in_bundle, withdrawn}
 use Rattle.conservation.specs.Moves.{IsTrusted}
 
 not_true : (b : Bool) → (b ≡ true → ⊥) → b ≡ false

@@ -1,13 +1,11 @@
 -- A message goes behind the others of its channel, and the oldest is taken: what that does to the sums over channels.
-use Rattle.std.specs.Prelude.{◌≡◌, ℕ, ◌+◌, ◌==◌, ◌||◌, Bool, true, false, IsTrue, if◌then◌else◌, List, [], ◌∷◌, ◌++◌, Option, Some, None, sum_by, refl}
+use Rattle.std.specs.Prelude.{◌≡◌, ℕ, ◌+◌, ◌||◌, Bool, true, false, if◌then◌else◌, List, [], ◌∷◌, ◌++◌, Option, Some, None, sum_by, refl}
 use Rattle.std.specs.List.{list_any}
-use Rattle.std.proofs.Common.{sym, ap, ◌∙◌, subst, arith, eq-eqb}
-use Rattle.std.proofs.lemmas.Bool.{eqb-true}
+use Rattle.std.proofs.Common.{sym, ap, ◌∙◌, arith}
 use Rattle.std.proofs.lemmas.List.Sums.{sum_by-cons, sum_by_push}
 use Rattle.chain_ids.specs.declared.chain.ChainId.{ChainId}
-use Rattle.chain_ids.specs.declared.chain.ChainId.TheVariants.{Relay, Para}
 use Rattle.chain_ids.specs.Chains.{same_chain}
-use Rattle.chain_ids.specs.Laws.{same_chain_told, same_chain_itself, different_chains}
+use Rattle.chain_ids.specs.Laws.{same_chain_told}
 use Rattle.conservation.specs.Parts.{Cargo, Channel, in_channels, in_channels_to}
 
 -- a channel leads there

@@ -1,33 +1,37 @@
--- The first world of a network in which no cause is found: it is backed, and no instance stands at two homes.
-use Rattle.std.specs.Prelude.{◌≡◌, ◌≢◌, ℕ, zero, suc, ◌+◌, ◌<◌, ◌≤◌, nat_lt, nat_eq, Bool, true, false, ◌&&◌, ◌||◌, if◌then◌else◌, List, [], ◌∷◌, map, Option, Some, None, find, slice_get, sum_by, refl}
-use Rattle.std.specs.List.{list_any}
-use Rattle.std.specs.Option.{option_cmp, option_or}
+-- The first world of a network in which no cause is found: it is backed, no instance stands at two homes, and its checking accounts cover what
+-- there is elsewhere.
+use Rattle.std.specs.Prelude.{◌≡◌, ℕ, zero, suc, ◌+◌, ◌^◌, ◌<◌, ◌≤◌, nat_lt, nat_eq, Bool, true, false, not, ◌&&◌, ◌||◌, if◌then◌else◌, List, [], ◌∷◌, map, Option, Some, None, slice_get, sum_by, refl}
+use Rattle.std.specs.Option.{option_cmp}
 use Rattle.std.specs.Ordering.{eq_by_cmp}
 use Rattle.std.proofs.Common.{sym, ap, ◌∙◌, subst, arith, true≢false, ltb-false, eq-eqb, inl, inr}
 use Rattle.std.proofs.lemmas.Bool.{and_parts, and_from, lt-ltb, cases_lt}
 use Rattle.std.proofs.lemmas.List.Sums.{sum_by-cons}
-use Rattle.amounts.specs.Rows.{IsKeyOrder, amount_if, sum_where}
-use Rattle.amounts.specs.Amounts.{amount, total, rows, empty, total-rows, total-empty}
-use Rattle.amounts.specs.Laws.{key_same, same_key}
+use Rattle.amounts.specs.Rows.{amount_if, sum_where}
+use Rattle.amounts.specs.Amounts.{amount, rows, empty, total-rows, total-empty}
+use Rattle.amounts.specs.Laws.{key_same}
 use Rattle.asset_lists.specs.declared.units.Instance.{Instance}
-use Rattle.asset_lists.specs.Units.{Unit, instance_cmp}
+use Rattle.asset_lists.specs.Units.{instance_cmp}
 use Rattle.asset_lists.specs.UnitLaws.{instance_total, instance_exact}
-use Rattle.asset_bundles.specs.Bundles.{Bundle, unit_keys}
+use Rattle.asset_bundles.specs.Bundles.{unit_keys}
 use Rattle.asset_bundles.specs.Laws.{burn_keys}
 use Rattle.ledgers.specs.Ledgers.{Holder}
 use Rattle.chain_ids.specs.declared.chain.ChainId.{ChainId}
 use Rattle.trust_tables.specs.declared.rows.AssetRow.{AssetRow}
-use Rattle.trust_tables.specs.declared.rows.AssetRole.TheVariants.{Native, Derivative}
+use Rattle.trust_tables.specs.declared.rows.AssetRole.TheVariants.{Derivative}
 use Rattle.chain_ids.specs.Chains.{same_chain}
 use Rattle.coherence.specs.UniversalAssets.{UniversalAsset, Choice, every, just, is_asset_at, is_unit_at}
-use Rattle.asset_lists.specs.Listed.{listed_of}
-use Rattle.coherence.specs.Networks.{Table, context_of, IsIn, path_of_row, asset_of_row, is_native_role, is_home, IsNetwork, Agrees}
-use Rattle.coherence.specs.Causes.{ChainEntry, Cause, Incoherent, first_some, when, amount_at, amount_for, any_instance, is_class_instance, shares_instance, instance_twice, is_short, entry_at, not_backed, table_cause, first_cause}
+use Rattle.asset_lists.specs.Listed.{listed_of, same_kind}
+use Rattle.asset_lists.specs.Laws.{same_kind_says}
+use Rattle.locations.specs.Order.{junctions_cmp}
+use Rattle.locations.specs.OrderLaws.{junctions_decides}
+use Rattle.coherence.specs.Networks.{Table, context_of, IsIn, path_of_row, asset_of_row, is_native_role, is_native_row, is_home, IsNetwork, Agrees}
+use Rattle.coherence.specs.Causes.{ChainEntry, Cause, Incoherent, first_some, when, amount_at, amount_for, any_instance, is_class_instance, shares_instance, instance_twice, is_short, entry_at, not_backed, elsewhere, checking_in, falls_short, table_cause, first_cause}
 use Rattle.coherence.specs.Causes as causes
 use Rattle.coherence.specs.CauseLaws.{or_none, first_none, any_in, agrees_of_no_cause}
 use Rattle.conservation.specs.Parts.{Cargo, Channel, Part, World, chain_of, Count, Whole, Only, choice_of, in_bundle, debt, stock, account_amount, held_for, burned, deposited, withdrawn, in_channels, in_channels_to, flight, deposits, withdrawals, alive, population, Backed}
 use Rattle.chain_ids.specs.Laws.{same_chain_itself, same_chain_told}
-use Rattle.conservation.specs.Cargoes.{HomeRow, row_of_home}
+use Rattle.conservation.specs.Cargoes.{row_of_home}
+use Rattle.conservation.specs.Checking.{account_in, checking_at, IsChecked, AllChecked, AllLow}
 use Rattle.conservation.specs.Receiving.{finds}
 use Rattle.conservation.specs.Steps as steps
 
@@ -37,7 +41,7 @@ empty_channels [] = []
 empty_channels (to ∷ rest) = record { to = to; queue = [] } ∷ empty_channels rest
 
 abbrev pub opened : (ChainEntry → List ChainId) → ChainEntry → Part
-opened links e = record { table = e.table; held = e.held; traps = []; fees = empty; parked = []; holding = empty; burns = empty; outgoing = empty_channels (links e) }
+opened links e = record { table = e.table; held = e.held; traps = []; fees = empty; parked = []; holding = empty; burns = empty; checking = map (λ (row : AssetRow). checking_in row.role) e.table.rows; outgoing = empty_channels (links e) }
 
 abbrev pub first_world : (ChainEntry → List ChainId) → List ChainEntry → World
 first_world links [] = []
@@ -46,6 +50,10 @@ first_world links (e ∷ es) = opened links e ∷ first_world links es
 -- an instance comes once within a chain
 abbrev pub HasInstancesOnce : ChainEntry → Type 0
 HasInstancesOnce e = (a : UniversalAsset) (instance : Instance) → amount_at a (just (Some instance)) e ≤ 1
+
+-- the checking accounts of a chain's rows are below 2^127
+abbrev pub HasLowAccounts : ChainEntry → Type 0
+HasLowAccounts e = (row : AssetRow) (amount : ℕ) → IsIn e.table.rows row → checking_in row.role ≡ Some amount → amount < 2 ^ 127
 
 module _ (links : ChainEntry → List ChainId) where
   none_queued : (f : Cargo → ℕ) (to : List ChainId) → in_channels f (empty_channels to) ≡ 0
@@ -248,11 +256,93 @@ module _ (links : ChainEntry → List ChainId) where
       let claim : steps.Covered e.table (causes.chain_of d) row count (opened links e) (opened links d) = omega (arith, le, debts, keeps, no_withdrawals, no_deposits) in
       subst (λ (q : Part). steps.Covered c.table (chain_of q) row count c q) to.2 (subst (λ (p : Part). steps.Covered p.table (causes.chain_of d) row count p (opened links d)) from.2 claim)
 
-  -- a network in which no cause is found begins backed, with its chains agreeing
+  -- ---- the checking accounts
+  -- the role of the row whose account it is
+  account_row : (t : Table) (a : UniversalAsset) (amount : ℕ) (rows : List AssetRow) → account_in t a rows (map (λ (row : AssetRow). checking_in row.role) rows) ≡ Some amount
+      → (row : AssetRow) × IsIn rows row × (is_native_row t a row ≡ true) × (checking_in row.role ≡ Some amount)
+  account_row t a amount [] e = absurd (cc)
+  account_row t a amount (row ∷ rows) e =
+      elim (is_native_row t a row) as (λ b. is_native_row t a row ≡ b → (if b then checking_in row.role else account_in t a rows (map (λ (row : AssetRow). checking_in row.role) rows)) ≡ Some amount
+      → (x : AssetRow) × IsIn (row ∷ rows) x × (is_native_row t a x ≡ true) × (checking_in x.role ≡ Some amount)) [
+        | true ↦ λ native h. (row, (0, refl), native, h)
+        | false ↦ λ native h. let rest = account_row t a amount rows h in (rest.0, (suc rest.1.0, rest.1.1), rest.2, rest.3)
+      ] refl e
+
+  asset_told : (t : Table) (a : UniversalAsset) (row : AssetRow) → is_native_row t a row ≡ true → ◌≡◌ {A = UniversalAsset} (asset_of_row t row) a
+  asset_told t a row native =
+      let parts = and_parts (is_native_role row.role) (eq_by_cmp junctions_cmp (path_of_row t row) a.0 && same_kind row.kind a.1) native in
+      let paths = and_parts (eq_by_cmp junctions_cmp (path_of_row t row) a.0) (same_kind row.kind a.1) parts.1 in
+      λ i. ((junctions_decides (path_of_row t row) a.0).0 paths.0 i, (same_kind_says row.kind a.1).0 paths.1 i)
+
+  elsewhere-cons : (a : UniversalAsset) (chain : ChainId) (d : ChainEntry) (ds : List ChainEntry) → elsewhere a chain (d ∷ ds) ≡ (if not (same_chain (causes.chain_of d) chain) && is_home a d.table then amount_at a every d else 0) + elsewhere a chain ds
+  elsewhere-cons a chain d ds = sum_by-cons (λ (d : ChainEntry). if not (same_chain (causes.chain_of d) chain) && is_home a d.table then amount_at a every d else 0) d ds
+
+  other_counted : (a : UniversalAsset) (chain : ChainId) (d : ChainEntry) → same_chain (causes.chain_of d) chain ≡ false → (if not (same_chain (causes.chain_of d) chain) && is_home a d.table then amount_at a every d else 0) ≡ (if is_home a d.table then amount_at a every d else 0)
+  other_counted a chain d other = ap (λ b. if not b && is_home a d.table then amount_at a every d else 0) other
+
+  all_others : (a : UniversalAsset) (chain : ChainId) (ds : List ChainEntry) → ((k : ℕ) (d : ChainEntry) → slice_get ds k ≡ Some d → same_chain (causes.chain_of d) chain ≡ false) → population a every (first_world links ds) ≤ elsewhere a chain ds
+  unfolding population
+  all_others a chain [] others = omega arith
+  all_others a chain (d ∷ ds) others =
+      let rest : population a every (first_world links ds) ≤ elsewhere a chain ds = all_others a chain ds (λ k x at. others (suc k) x at) in
+      let one = population-cons a every d ds in
+      let two = elsewhere-cons a chain d ds in
+      let same = other_counted a chain d (others 0 d refl) in
+      omega (arith, rest, one, two, same)
+
+  if_at_most : (b : Bool) (n : ℕ) → (if b then n else 0) ≤ n
+  if_at_most true n = omega arith
+  if_at_most false n = omega arith
+
+  -- but for one chain, all that there is is elsewhere
+  all_but_one : (a : UniversalAsset) (chain : ChainId) (ds : List ChainEntry) (k : ℕ) (e : ChainEntry) → slice_get ds k ≡ Some e → ((j : ℕ) (d : ChainEntry) → slice_get ds j ≡ Some d → (j ≡ k → ⊥) → same_chain (causes.chain_of d) chain ≡ false)
+      → population a every (first_world links ds) ≤ elsewhere a chain ds + amount_at a every e
+  unfolding population
+  all_but_one a chain [] k e at others = absurd (cc)
+  all_but_one a chain (d ∷ ds) zero e at others =
+      let same : d ≡ e = cc in
+      let rest = all_others a chain ds (λ j x at_j. others (suc j) x at_j (λ h. absurd (cc))) in
+      let one = population-cons a every d ds in
+      let two = elsewhere-cons a chain d ds in
+      let few = if_at_most (is_home a d.table) (amount_at a every d) in
+      let here = ap (amount_at a every) same in
+      omega (arith, rest, one, two, few, here)
+  all_but_one a chain (d ∷ ds) (suc k) e at others =
+      let rest = all_but_one a chain ds k e at (λ j x at_j n. others (suc j) x at_j (λ h. n (let s : suc j ≡ suc k = h in omega (arith, s)))) in
+      let one = population-cons a every d ds in
+      let two = elsewhere-cons a chain d ds in
+      let same = other_counted a chain d (others 0 d refl (λ h. absurd (cc))) in
+      omega (arith, rest, one, two, same)
+
+  pub first_checked : (n : List ChainEntry) → IsNetwork (causes.tables_of n) → first_some (λ (e : ChainEntry). first_some (λ (x : AssetRow). falls_short n e x (checking_in x.role)) e.table.rows) n ≡ None → AllChecked (first_world links n)
+  first_checked n network none k p a amount at is =
+      let from = entry_of n k p at in
+      let e = from.0 in
+      let row = account_row e.table a amount e.table.rows (ap (checking_at a) from.2 ∙ is) in
+      let each = first_none (λ (x : ChainEntry). first_some (λ (y : AssetRow). falls_short n x y (checking_in y.role)) x.table.rows) n k e none from.1 in
+      let this = first_none (λ (y : AssetRow). falls_short n e y (checking_in y.role)) e.table.rows row.1.0 row.0 each row.1.1 in
+      let tested : when {B = Incoherent} (nat_lt amount (elsewhere (asset_of_row e.table row.0) (causes.chain_of e) n)) (Cause.CheckingShort, causes.chain_of e, causes.chain_of e) ≡ None = sym (ap (falls_short n e row.0) row.3) ∙ this in
+      let le = ltb-false amount (elsewhere (asset_of_row e.table row.0) (causes.chain_of e) n) (when_none (nat_lt amount (elsewhere (asset_of_row e.table row.0) (causes.chain_of e) n)) _ tested) in
+      let asset = ap (λ (b : UniversalAsset). elsewhere b (causes.chain_of e) n) (asset_told e.table a row.0 row.2) in
+      let all = all_but_one a (causes.chain_of e) n k e from.1 (λ j d at_j differ. not_same (causes.chain_of d) (causes.chain_of e) (λ same. differ (network.apart j k d.table e.table (entry_table n j d at_j) (entry_table n k e from.1) same))) in
+      let here = stock-opened a every e in
+      subst (λ (x : Part). IsChecked (first_world links n) x a amount) from.2 (omega (arith, le, asset, all, here))
+    where
+      not_same : (c d : ChainId) → (c ≡ d → ⊥) → same_chain c d ≡ false
+      not_same c d differ = elim (same_chain c d) as (λ b. same_chain c d ≡ b → b ≡ false) [ true ↦ λ t. absurd (differ (same_chain_told c d t)) | false ↦ λ t. refl ] refl
+
+  pub first_low : (n : List ChainEntry) → ((k : ℕ) (e : ChainEntry) → slice_get n k ≡ Some e → HasLowAccounts e) → AllLow (first_world links n)
+  first_low n low k p a amount at is =
+      let from = entry_of n k p at in
+      let row = account_row from.0.table a amount from.0.table.rows (ap (checking_at a) from.2 ∙ is) in
+      low k from.0 from.1 row.0 amount row.1 row.3
+
+  -- a network in which no cause is found begins backed, with its chains agreeing and its checking accounts covering what there is elsewhere
   pub record IsSoundFirst (n : List ChainEntry) : Type 0 where
     pub agrees : Agrees (steps.tables_of (first_world links n))
     pub backed : Backed (first_world links n)
     pub once : (a : UniversalAsset) (instance : Instance) → population a (just (Some instance)) (first_world links n) ≤ 1
+    pub checked : AllChecked (first_world links n)
 
   pub sound_first : (n : List ChainEntry) → IsNetwork (causes.tables_of n) → ((k : ℕ) (e : ChainEntry) → slice_get n k ≡ Some e → HasInstancesOnce e) → first_cause n ≡ None → IsSoundFirst n
   sound_first n network once none =
@@ -263,4 +353,5 @@ module _ (links : ChainEntry → List ChainId) where
         agrees = subst Agrees (sym (tables_same n)) (agrees_of_no_cause (causes.tables_of n) network one.0);
         backed = first_backed n network once three.0;
         once = λ a instance. first_population n a instance once two.0;
+        checked = first_checked n network three.1;
       }

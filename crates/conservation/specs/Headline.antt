@@ -1,4 +1,4 @@
--- Where no cause is found, every world that safe changes lead to is conserved and backed.
+-- Where no cause is found, every world that safe changes lead to is conserved and backed, and its checking accounts are right.
 use Rattle.std.specs.Prelude.{◌≡◌, ℕ, ◌+◌, ◌<◌, ◌≤◌, ◌^◌, List, Some, None, slice_get}
 use Rattle.std.proofs.Common.{sym, subst, arith}
 use Rattle.asset_lists.specs.declared.units.Instance.{Instance}
@@ -8,10 +8,12 @@ use Rattle.coherence.specs.UniversalAssets.{UniversalAsset, every, just}
 use Rattle.coherence.specs.Networks.{IsIn, asset_of_row, IsNetwork, Agrees}
 use Rattle.coherence.specs.Causes.{ChainEntry, first_cause}
 use Rattle.coherence.specs.Causes as causes
-use Rattle.conservation.specs.Parts.{Part, World, stock, burned, supply, population, Conserved, Backed}
+use Rattle.conservation.specs.Parts.{Part, World, stock, burned, supply, Conserved, Backed}
+use Rattle.conservation.specs.Checking.{AllChecked, AllWithin, AllBounded, first_within}
+use Rattle.conservation.specs.CheckingLaws.{all_bounded}
 use Rattle.conservation.specs.Steps.{tables_of}
 use Rattle.conservation.specs.Bounds.{instances_at_most}
-use Rattle.conservation.specs.Genesis.{HasInstancesOnce, IsSoundFirst, first_world, sound_first}
+use Rattle.conservation.specs.Genesis.{HasInstancesOnce, HasLowAccounts, first_world, sound_first, first_low}
 use Rattle.conservation.specs.Histories.{History, safe_history, never_passes}
 
 -- what a network is sure of for ever
@@ -21,13 +23,20 @@ pub record IsKept (genesis w : World) : Type 0 where
   pub backed : Backed w
   pub small : (k : ℕ) (p : Part) (row : AssetRow) → slice_get w k ≡ Some p → IsIn p.table.rows row → stock (asset_of_row p.table row) every p + burned (asset_of_row p.table row) p < 2 ^ 127
   pub once : (k : ℕ) (p : Part) (row : AssetRow) (instance : Instance) → slice_get w k ≡ Some p → IsIn p.table.rows row → stock (asset_of_row p.table row) (just (Some instance)) p ≤ 1
+  -- each checking account is at least what there is of its asset at the other homes, and under way from any home
+  pub checked : AllChecked w
+  -- each is there where it was at first, and with what its chain has of the asset it is no more than then
+  pub within : AllWithin genesis w
+  -- and that stays below 2^128-1
+  pub bounded : AllBounded w
 
 pub headline : (links : ChainEntry → List ChainId) (n : List ChainEntry) → IsNetwork (causes.tables_of n) → ((k : ℕ) (e : ChainEntry) → slice_get n k ≡ Some e → HasInstancesOnce e)
-    → ((a : UniversalAsset) → supply a (first_world links n) < 2 ^ 127) → first_cause n ≡ None → (w : World) → History (first_world links n) w → IsKept (first_world links n) w
-headline links n network once small none w history =
+    → ((a : UniversalAsset) → supply a (first_world links n) < 2 ^ 127) → ((k : ℕ) (e : ChainEntry) → slice_get n k ≡ Some e → HasLowAccounts e) → first_cause n ≡ None → (w : World) → History (first_world links n) w → IsKept (first_world links n) w
+headline links n network once small low none w history =
     let first = sound_first links n network once none in
     let safe = safe_history (first_world links n) w first.agrees history in
     let agrees : Agrees (tables_of w) = subst Agrees (sym safe.tables) first.agrees in
+    let within = safe.within (first_world links n) (first_within (first_world links n)) in
     record {
       agrees = agrees;
       conserved = safe.supplied;
@@ -38,4 +47,7 @@ headline links n network once small none w history =
           let less = safe.rare (asset_of_row p.table row) (just (Some instance)) in
           let few = first.once (asset_of_row p.table row) instance in
           omega (arith, le, less, few);
+      checked = safe.checked first.checked;
+      within = within;
+      bounded = all_bounded (first_world links n) w first.agrees safe.tables small (first_low links n low) within;
     }

@@ -1,10 +1,10 @@
 -- Any number of safe changes, one after another.
-use Rattle.std.specs.Prelude.{◌≡◌, ℕ, ◌+◌, ◌<◌, ◌≤◌, ◌^◌, List, Some, slice_get, slice_set, refl}
-use Rattle.std.proofs.Common.{sym, ap, ◌∙◌, subst, arith}
+use Rattle.std.specs.Prelude.{◌≡◌, ℕ, ◌+◌, ◌<◌, ◌^◌, Some, slice_get, slice_set, refl}
+use Rattle.std.proofs.Common.{sym, ◌∙◌, subst, arith}
 use Rattle.trust_tables.specs.declared.rows.AssetRow.{AssetRow}
-use Rattle.coherence.specs.UniversalAssets.{UniversalAsset, Choice, every}
-use Rattle.coherence.specs.Networks.{Table, IsIn, asset_of_row, Agrees}
-use Rattle.conservation.specs.Parts.{Part, World, stock, burned, supply, population, Backed}
+use Rattle.coherence.specs.UniversalAssets.{UniversalAsset, every}
+use Rattle.coherence.specs.Networks.{IsIn, asset_of_row, Agrees}
+use Rattle.conservation.specs.Parts.{Part, World, stock, burned, supply, Backed}
 use Rattle.conservation.specs.Steps.{tables_of, IsSafe, IsExchange, SafeStep, safe_step, safe_exchange}
 use Rattle.conservation.specs.Bounds.{row_at_most}
 
@@ -14,7 +14,7 @@ pub data History (w : World) : World → Type 0 where
   Two : (v : World) (i j : ℕ) (p p' q q' : Part) → History w v → slice_get v i ≡ Some p → slice_get v j ≡ Some q → (i ≡ j → ⊥) → IsExchange p p' q q' → History w (slice_set (slice_set v i p') j q')
 
 pub safe_same : (w : World) → SafeStep w w
-safe_same w = record { tables = refl; supplied = λ a. refl; rare = λ a choice. omega arith; backed = λ b. b }
+safe_same w = record { tables = refl; supplied = λ a. refl; rare = λ a choice. omega arith; backed = λ b. b; checked = λ c. c; within = λ first c. c }
 
 pub safe_then : (w v u : World) → SafeStep w v → SafeStep v u → SafeStep w u
 safe_then w v u x y = record {
@@ -22,6 +22,8 @@ safe_then w v u x y = record {
   supplied = λ a. y.supplied a ∙ x.supplied a;
   rare = λ a choice. let one = x.rare a choice in let two = y.rare a choice in omega (arith, one, two);
   backed = λ b. y.backed (x.backed b);
+  checked = λ c. y.checked (x.checked c);
+  within = λ first c. y.within first (x.within first c);
 }
 
 pub safe_history : (w v : World) → Agrees (tables_of w) → History w v → SafeStep w v

@@ -1,5 +1,5 @@
 -- An instance that a chain has at most once by its id, it has at most once by its path.
-use Rattle.std.specs.Prelude.{◌≡◌, ℕ, ◌+◌, ◌<◌, ◌≤◌, Bool, true, false, ◌&&◌, List, [], ◌∷◌, Option, Some, None, slice_get, refl}
+use Rattle.std.specs.Prelude.{◌≡◌, ℕ, ◌+◌, ◌<◌, ◌≤◌, Bool, true, false, List, [], ◌∷◌, Option, Some, None, refl}
 use Rattle.std.specs.Ordering.{eq_by_cmp}
 use Rattle.std.specs.Option.{option_cmp}
 use Rattle.std.specs.declared.cmp.Ordering.{Ordering}
@@ -13,11 +13,10 @@ use Rattle.asset_lists.specs.declared.units.Instance.{Instance}
 use Rattle.asset_lists.specs.Units.{Unit, unit_cmp, instance_cmp}
 use Rattle.asset_lists.specs.UnitLaws.{instance_total, instance_exact}
 use Rattle.asset_lists.specs.Listed.{kind_of, listed_of}
-use Rattle.ledgers.specs.Ledgers.{Holder, Held, owners_of}
-use Rattle.trust_tables.specs.declared.rows.AssetRow.{AssetRow}
+use Rattle.ledgers.specs.Ledgers.{Holder, owners_of}
 use Rattle.amounts.specs.Laws.{total_alike_held}
-use Rattle.coherence.specs.UniversalAssets.{UniversalAsset, Choice, just, is_asset_at, is_unit_at}
-use Rattle.coherence.specs.Networks.{Table, context_of, IsIn, asset_of_row, Agrees, IsUnitOf}
+use Rattle.coherence.specs.UniversalAssets.{UniversalAsset, just, is_asset_at, is_unit_at}
+use Rattle.coherence.specs.Networks.{Table, context_of, IsIn, asset_of_row, Agrees}
 use Rattle.coherence.specs.Causes.{ChainEntry, amount_at}
 use Rattle.conservation.specs.Cargoes.{IsRowAsset, row_told}
 use Rattle.conservation.specs.Payments.{AreHeldListed, IsJust, only_unit}

@@ -1,6 +1,6 @@
 -- A delivery's first instruction as a move: the list of a teleport or of a deposit comes to the receiver's holding.
-use Rattle.std.specs.Prelude.{◌≡◌, ◌≢◌, ℕ, ◌+◌, ◌≤◌, Bool, true, false, ◌&&◌, List, Some, refl}
-use Rattle.std.proofs.Common.{sym, ap, ◌∙◌, subst, arith}
+use Rattle.std.specs.Prelude.{◌≡◌, ℕ, ◌+◌, Bool, true, false, ◌&&◌, List, Option, Some, refl}
+use Rattle.std.proofs.Common.{arith}
 use Rattle.amounts.specs.Amounts.{total, merge, total_alike}
 use Rattle.amounts.specs.Laws.{total-merge}
 use Rattle.asset_lists.specs.declared.units.Asset.{Asset}
@@ -12,16 +12,17 @@ use Rattle.asset_bundles.specs.Joins.{Joined, Excess}
 use Rattle.asset_bundles.specs.Laws.{burn_keys}
 use Rattle.coherence.specs.UniversalAssets.{UniversalAsset, Choice, every, is_asset_at, is_unit_at, is_burn_at}
 use Rattle.coherence.specs.Networks.{context_of}
-use Rattle.conservation.specs.Parts.{Cargo, Nothing, Deposit, Withdrawal, Teleport, Part, chain_of, Count, choice_of, stock, account_amount, held_for, burned, teleported, deposited, withdrawn}
+use Rattle.conservation.specs.Parts.{Cargo, Part, chain_of, stock, account_amount, burned, teleported, deposited}
 use Rattle.conservation.specs.Channels.{front, popped}
-use Rattle.conservation.specs.Moves.{IsReceived, for_chain}
+use Rattle.conservation.specs.Checking.{account_in, checking_at, risen}
+use Rattle.conservation.specs.Moves.{IsReceived}
 use Rattle.asset_bundles.specs.Laws.{given_up_total, joined_total}
 
 abbrev pub WithoutFront : Part → Part → Part
 WithoutFront q p = record p { outgoing = popped (chain_of q) p.outgoing }
 
-abbrev pub WithList : List Asset → Part → Part
-WithList new q = record q { holding = Joined q.holding (bundle_of new); burns = merge q.burns (given_up q.holding (bundle_of new)) }
+abbrev pub WithList : List Asset → List (Option ℕ) → Part → Part
+WithList new checking q = record q { holding = Joined q.holding (bundle_of new); burns = merge q.burns (given_up q.holding (bundle_of new)); checking = checking }
 
 every_or : (b : Bool) → (b && true) ≡ b
 every_or true = refl
@@ -31,10 +32,16 @@ every_or false = refl
 abbrev pub IsListFor : Cargo → List Asset → Part → Part → Type 0
 IsListFor cargo new p q = (a : UniversalAsset) (choice : Choice) → total (is_unit_at (context_of q.table) a choice) (bundle_of new) ≡ teleported p.table a choice cargo + deposited p.table a choice cargo
 
-pub list_received : (cargo : Cargo) (new : List Asset) (p q : Part) → front (chain_of q) p.outgoing ≡ Some cargo → IsListFor cargo new p q → IsReceived cargo p (WithoutFront q p) q (WithList new q)
+-- what is teleported is taken out of the checking accounts
+abbrev pub AreLowered : Cargo → List (Option ℕ) → Part → Part → Type 0
+AreLowered cargo checking p q = (a : UniversalAsset) → checking_at a q ≡ risen (teleported p.table a every cargo) (account_in q.table a q.table.rows checking)
+
+pub list_received : (cargo : Cargo) (new : List Asset) (checking : List (Option ℕ)) (p q : Part) → front (chain_of q) p.outgoing ≡ Some cargo → IsListFor cargo new p q → AreLowered cargo checking p q
+    → IsReceived cargo p (WithoutFront q p) q (WithList new checking q)
 unfolding stock burned account_amount
-list_received cargo new p q first same = record {
+list_received cargo new checking p q first same lowered = record {
   table = refl;
+  checking = refl;
   first = first;
   outgoing = refl;
   burns_now = λ a. refl;
@@ -55,4 +62,5 @@ list_received cargo new p q first same = record {
       let list = same a choice in
       omega (arith, got, list);
   covered = λ chain a count number foreign. omega arith;
+  lowered = lowered;
 }

@@ -1,6 +1,6 @@
 -- The moves that each instruction and each delivery is made of, and that all of them are safe.
-use Rattle.std.specs.Prelude.{◌≡◌, ◌≢◌, ℕ, ◌+◌, ◌≤◌, Bool, true, false, if◌then◌else◌, List, Option, Some, refl}
-use Rattle.std.proofs.Common.{sym, ap, ◌∙◌, subst, arith}
+use Rattle.std.specs.Prelude.{◌≡◌, ◌≢◌, ℕ, ◌+◌, ◌≤◌, Bool, true, false, if◌then◌else◌, Some, refl}
+use Rattle.std.proofs.Common.{sym, ap, ◌∙◌, arith}
 use Rattle.chain_ids.specs.declared.chain.ChainId.{ChainId}
 use Rattle.trust_tables.specs.declared.rows.AssetRow.{AssetRow}
 use Rattle.trust_tables.specs.declared.rows.AssetRole.TheVariants.{Derivative}
@@ -8,10 +8,11 @@ use Rattle.trust_tables.specs.Accounts.{IsChain}
 use Rattle.chain_ids.specs.Chains.{same_chain}
 use Rattle.coherence.specs.UniversalAssets.{UniversalAsset, Choice, every, just}
 use Rattle.coherence.specs.Networks.{Table, IsIn, asset_of_row, is_home}
-use Rattle.conservation.specs.Parts.{Cargo, Channel, Part, chain_of, Count, Whole, Only, choice_of, debt, stock, held_for, burned, teleported, deposited, withdrawn, in_channels, in_channels_to, flight, deposits, withdrawals, own, home, alive}
+use Rattle.conservation.specs.Parts.{Cargo, Part, chain_of, Count, Whole, Only, choice_of, debt, stock, held_for, burned, teleported, deposited, withdrawn, in_channels, in_channels_to, flight, deposits, withdrawals, own, home, alive}
 use Rattle.chain_ids.specs.Laws.{same_chain_itself, different_chains}
 use Rattle.conservation.specs.Channels.{has_channel, pushed, front, popped, in_channels-pushed, in_channels_to-pushed, in_channels-popped, in_channels_to-popped}
-use Rattle.conservation.specs.Steps.{KeepsBut, none_but, Keeps, IsSafe, Pays, IsExchange}
+use Rattle.conservation.specs.Checking.{checking_at, risen, same_accounts, account_rises, account_stays, account_falls, home_of_account}
+use Rattle.conservation.specs.Steps.{IsSafe, IsExchange}
 
 -- ---- tools
 home_kept : (a : UniversalAsset) (p q : Part) → q.table ≡ p.table → (is_home a p.table ≡ true → own a q ≡ own a p) → home a q ≡ home a p
@@ -59,6 +60,7 @@ nothing choice = 0
 -- ---- (a) a move inside one chain: what isn't there any more is in the book
 pub record IsInternal (p q : Part) : Type 0 where
   pub table : q.table ≡ p.table
+  pub checking : q.checking ≡ p.checking
   pub outgoing : q.outgoing ≡ p.outgoing
   pub kept : (a : UniversalAsset) → stock a every q + burned a q ≡ stock a every p + burned a p
   pub less : (a : UniversalAsset) (choice : Choice) → stock a choice q ≤ stock a choice p
@@ -87,9 +89,13 @@ internal_safe p q h = record {
       let same : flight a choice q ≡ flight a choice p = flight_at a choice p q h.table ∙ ap (in_channels (teleported p.table a choice)) h.outgoing in
       let less = h.less a choice in
       omega (arith, same, less));
+  accounted = λ a.
+      let same : flight a every q ≡ flight a every p = flight_at a every p q h.table ∙ ap (in_channels (teleported p.table a every)) h.outgoing in
+      account_stays (checking_at a p) (checking_at a q) (flight a every p) (flight a every q) (stock a every p) (stock a every q) (same_accounts a p q h.table h.checking) (omega (arith, same)) (h.less a every);
 }
 
--- ---- (b) a message is sent: a teleport or a withdrawal leaves the stock, a deposit goes to the account of the chain
+-- ---- (b) a message is sent: a teleport or a withdrawal leaves the stock, a deposit goes to the account of the chain, and a teleport is put into
+-- the checking account
 pub record IsSent (to : ChainId) (cargo : Cargo) (p q : Part) : Type 0 where
   pub table : q.table ≡ p.table
   pub linked : has_channel to p.outgoing ≡ true
@@ -98,6 +104,7 @@ pub record IsSent (to : ChainId) (cargo : Cargo) (p q : Part) : Type 0 where
   pub less : (a : UniversalAsset) (choice : Choice) → stock a choice q + (teleported p.table a choice cargo + withdrawn p.table a choice cargo) ≤ stock a choice p
   pub covered : (chain : ChainId) (a : UniversalAsset) (count : Count) → IsChain chain → chain ≢ chain_of p
       → held_for chain a count p + for_chain to chain (deposited p.table a (choice_of count) cargo) ≤ held_for chain a count q
+  pub raised : (a : UniversalAsset) → checking_at a q ≡ risen (teleported p.table a every cargo) (checking_at a p)
   -- what is at home here doesn't leave as a withdrawal
   pub foreign : (a : UniversalAsset) → is_home a p.table ≡ true → withdrawn p.table a every cargo ≡ 0
 
@@ -131,11 +138,17 @@ sent_safe to cargo p q h = record {
       flight_at a choice p q h.table ∙ ap (in_channels (teleported p.table a choice)) h.outgoing ∙ in_channels-pushed (teleported p.table a choice) to cargo p.outgoing h.linked in
       let less = h.less a choice in
       omega (arith, now, less));
+  accounted = λ a.
+      let now : flight a every q ≡ flight a every p + teleported p.table a every cargo =
+      flight_at a every p q h.table ∙ ap (in_channels (teleported p.table a every)) h.outgoing ∙ in_channels-pushed (teleported p.table a every) to cargo p.outgoing h.linked in
+      let less = h.less a every in
+      account_rises (teleported p.table a every cargo) (checking_at a p) (checking_at a q) (flight a every p) (flight a every q) (stock a every p) (stock a every q) (h.raised a) (omega (arith, now)) (omega (arith, less));
 }
 
 -- ---- (d) a message is lost: a teleport is burned at its sender, any other cargo just ends
 pub record IsLost (to : ChainId) (cargo : Cargo) (p q : Part) : Type 0 where
   pub table : q.table ≡ p.table
+  pub checking : q.checking ≡ p.checking
   pub first : front to p.outgoing ≡ Some cargo
   pub outgoing : q.outgoing ≡ popped to p.outgoing
   pub burns_now : (a : UniversalAsset) → burned a q ≡ burned a p + teleported p.table a every cargo
@@ -175,12 +188,18 @@ lost_safe to cargo p q h = record {
       let now = in_channels-popped (teleported p.table a choice) to cargo p.outgoing h.first in
       let same = h.stock_same a choice in
       omega (arith, at, now, same));
+  accounted = λ a.
+      let at = flight_at a every p q h.table ∙ ap (in_channels (teleported p.table a every)) h.outgoing in
+      let now = in_channels-popped (teleported p.table a every) to cargo p.outgoing h.first in
+      let same = h.stock_same a every in
+      account_stays (checking_at a p) (checking_at a q) (flight a every p) (flight a every q) (stock a every p) (stock a every q) (same_accounts a p q h.table h.checking) (omega (arith, at, now)) (omega (arith, same));
 }
 
 -- ---- (c) a message is received: its sender no longer has it under way, and the receiver has it. A teleport and a
--- deposit come to the stock, and a withdrawal leaves the account of its sender
+-- deposit come to the stock, and a withdrawal leaves the account of its sender. A teleport is taken out of the checking account
 pub record IsReceived (cargo : Cargo) (p p' q q' : Part) : Type 0 where
   pub table : p'.table ≡ p.table
+  pub checking : p'.checking ≡ p.checking
   pub first : front (chain_of q) p.outgoing ≡ Some cargo
   pub outgoing : p'.outgoing ≡ popped (chain_of q) p.outgoing
   pub burns_now : (a : UniversalAsset) → burned a p' ≡ burned a p
@@ -192,6 +211,7 @@ pub record IsReceived (cargo : Cargo) (p p' q q' : Part) : Type 0 where
   pub more : (a : UniversalAsset) (choice : Choice) → stock a choice q' ≤ stock a choice q + (teleported p.table a choice cargo + deposited p.table a choice cargo)
   pub covered : (chain : ChainId) (a : UniversalAsset) (count : Count) → IsChain chain → chain ≢ chain_of q
       → held_for chain a count q ≤ held_for chain a count q' + for_chain (chain_of p) chain (withdrawn p.table a (choice_of count) cargo)
+  pub lowered : (a : UniversalAsset) → checking_at a q ≡ risen (teleported p.table a every cargo) (checking_at a q')
 
 -- what is teleported is at home at both ends, and what is deposited is a derivative of the sender there
 pub record IsTrusted (cargo : Cargo) (p q : Part) : Type 0 where
@@ -232,6 +252,29 @@ both_alive a choice p p' q q' t pt qt none_p gone came =
     let at_q : (if is_home a q'.table then stock a choice q' + flight a choice q' else 0) ≡ (if is_home a q.table then stock a choice q' + flight a choice q' else 0) = ap (λ (x : Table). if is_home a x then stock a choice q' + flight a choice q' else 0) qt in
     let both = two_alive (is_home a p.table) (is_home a q.table) (stock a choice p + flight a choice p) (stock a choice p' + flight a choice p') (stock a choice q + flight a choice q) (stock a choice q' + flight a choice q') t none_p gone came in
     omega (arith, at_p, at_q, both)
+
+-- a chain that loses something has so much less, where it is at home, and one that it comes to has no more than that more
+less_alive : (a : UniversalAsset) (p p' : Part) (t : ℕ) → p'.table ≡ p.table → (is_home a p.table ≡ false → t ≡ 0) → (stock a every p' + flight a every p') + t ≤ stock a every p + flight a every p → alive a every p' + t ≤ alive a every p
+unfolding alive
+less_alive a p p' t table none gone =
+    let at : alive a every p' ≡ (if is_home a p.table then stock a every p' + flight a every p' else 0) = ap (λ (x : Table). if is_home a x then stock a every p' + flight a every p' else 0) table in
+    let le : (if is_home a p.table then stock a every p' + flight a every p' else 0) + t ≤ (if is_home a p.table then stock a every p + flight a every p else 0) =
+    elim (is_home a p.table) as (λ b. is_home a p.table ≡ b → (if b then stock a every p' + flight a every p' else 0) + t ≤ (if b then stock a every p + flight a every p else 0)) [
+      | true ↦ λ h. gone
+      | false ↦ λ h. let z = none h in omega (arith, z)
+    ] refl in
+    omega (arith, at, le)
+
+more_alive : (a : UniversalAsset) (q q' : Part) (t : ℕ) → q'.table ≡ q.table → (is_home a q.table ≡ true → stock a every q' + flight a every q' ≤ (stock a every q + flight a every q) + t) → alive a every q' ≤ alive a every q + t
+unfolding alive
+more_alive a q q' t table came =
+    let at : alive a every q' ≡ (if is_home a q.table then stock a every q' + flight a every q' else 0) = ap (λ (x : Table). if is_home a x then stock a every q' + flight a every q' else 0) table in
+    let le : (if is_home a q.table then stock a every q' + flight a every q' else 0) ≤ (if is_home a q.table then stock a every q + flight a every q else 0) + t =
+    elim (is_home a q.table) as (λ b. is_home a q.table ≡ b → (if b then stock a every q' + flight a every q' else 0) ≤ (if b then stock a every q + flight a every q else 0) + t) [
+      | true ↦ λ h. came h
+      | false ↦ λ h. omega arith
+    ] refl in
+    omega (arith, at, le)
 
 pub received_safe : (cargo : Cargo) (p p' q q' : Part) → chain_of p ≢ chain_of q → IsChain (chain_of p) → IsReceived cargo p p' q q' → IsTrusted cargo p q → IsExchange p p' q q'
 received_safe cargo p p' q q' apart number h trust =
@@ -322,4 +365,23 @@ received_safe cargo p p' q q' apart number h trust =
           both_alive a choice p p' q q' (teleported p.table a choice cargo) h.table h.there (trust.home_here a choice)
           (omega (arith, gone, stays))
           (λ t. let none = trust.foreign_there a choice t in omega (arith, same, more, none));
+      accounted = λ a.
+          let gone = own_flight a every in
+          let stays = h.stock_same a every in
+          let same = other_flight a every in
+          let more = h.more a every in
+          let away = less_alive a p p' (teleported p.table a every cargo) h.table (trust.home_here a every) (omega (arith, gone, stays)) in
+          account_falls (teleported p.table a every cargo) (checking_at a q) (checking_at a q') (flight a every q + alive a every p) (flight a every q' + alive a every p') (stock a every q) (stock a every q') (h.lowered a)
+          (omega (arith, away, same)) (λ n is.
+          let home : is_home a q.table ≡ true = ap (is_home a) (sym h.there) ∙ home_of_account a q' n is in
+          let none = trust.foreign_there a every home in
+          omega (arith, more, none));
+      accounted_back = λ a.
+          let gone = own_flight a every in
+          let stays = h.stock_same a every in
+          let same = other_flight a every in
+          let more = h.more a every in
+          let there = more_alive a q q' (teleported p.table a every cargo) h.there (λ t. let none = trust.foreign_there a every t in omega (arith, same, more, none)) in
+          account_stays (checking_at a p) (checking_at a p') (flight a every p + alive a every q) (flight a every p' + alive a every q') (stock a every p) (stock a every p') (same_accounts a p p' h.table h.checking)
+          (omega (arith, gone, there)) (omega (arith, stays));
     }

@@ -1,20 +1,14 @@
 -- What a chain has of each asset, and what a network has: every sum is a total over the one test on units.
-use Rattle.std.specs.Prelude.{◌≡◌, ℕ, ◌+◌, ◌==◌, ◌≤◌, Bool, true, false, if◌then◌else◌, ◌&&◌, List, Option, Some, slice_get, sum_by}
-use Rattle.std.specs.List.{list_any}
-use Rattle.std.specs.Ordering.{eq_by_cmp}
+use Rattle.std.specs.Prelude.{◌≡◌, ℕ, ◌+◌, ◌≤◌, if◌then◌else◌, ◌&&◌, List, Option, Some, slice_get, sum_by}
 use Rattle.amounts.specs.Amounts.{total}
-use Rattle.locations.specs.Order.{junctions_cmp}
 use Rattle.asset_bundles.specs.Bundles.{Bundle}
 use Rattle.asset_bundles.specs.Books.{Burns}
 use Rattle.ledgers.specs.Ledgers.{Holder, Held, is_account}
 use Rattle.trap_store.specs.declared.trap.Trap.{Trap}
 use Rattle.chain_ids.specs.declared.chain.ChainId.{ChainId}
-use Rattle.chain_ids.specs.declared.chain.ChainId.TheVariants.{Relay, Para}
 use Rattle.trust_tables.specs.declared.rows.AssetRow.{AssetRow}
-use Rattle.trust_tables.specs.declared.rows.AssetRole.{AssetRole}
-use Rattle.trust_tables.specs.declared.rows.AssetRole.TheVariants.{Native, Derivative}
+use Rattle.trust_tables.specs.declared.rows.AssetRole.TheVariants.{Derivative}
 use Rattle.trust_tables.specs.Accounts.{sovereign_account}
-use Rattle.asset_lists.specs.Listed.{same_kind}
 use Rattle.chain_ids.specs.Chains.{same_chain}
 use Rattle.coherence.specs.UniversalAssets.{UniversalAsset, Choice, every, just, is_unit_at, is_burn_at}
 use Rattle.coherence.specs.Networks.{Table, context_of, IsIn, asset_of_row, is_home}
@@ -39,6 +33,8 @@ pub record Part : Type 0 where
   pub parked : List Bundle
   pub holding : Bundle
   pub burns : Burns
+  -- for each row of the table, its checking account: it is a record, and no place
+  pub checking : List (Option ℕ)
   pub outgoing : List Channel
 
 abbrev pub chain_of : Part → ChainId

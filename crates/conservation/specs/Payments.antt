@@ -1,7 +1,6 @@
 -- An admitted withdrawal is paid: unit by unit, the account of its sender has what the message asks for.
-use Rattle.std.specs.Prelude.{◌≡◌, ◌≢◌, ℕ, ◌+◌, ◌<◌, ◌≤◌, Bool, true, false, IsTrue, ◌&&◌, if◌then◌else◌, List, Option, Some, None, slice_get, refl}
+use Rattle.std.specs.Prelude.{◌≡◌, ℕ, ◌<◌, ◌≤◌, Bool, true, false, ◌&&◌, if◌then◌else◌, List, Option, Some, slice_get, refl}
 use Rattle.std.specs.Ordering.{eq_by_cmp}
-use Rattle.std.specs.Option.{option_cmp}
 use Rattle.std.proofs.Common.{sym, ap, ◌∙◌, subst, arith}
 use Rattle.std.proofs.lemmas.Bool.{and_parts, and_from}
 use Rattle.amounts.specs.Amounts.{amount, total, amount-total}
@@ -11,28 +10,24 @@ use Rattle.locations.specs.OrderLaws.{junctions_decides}
 use Rattle.asset_lists.specs.declared.units.AssetId.TheVariants.{Concrete}
 use Rattle.asset_lists.specs.declared.units.Instance.{Instance}
 use Rattle.asset_lists.specs.declared.units.Kind.{Kind}
-use Rattle.asset_lists.specs.declared.units.Kind.TheVariants as kind
-use Rattle.asset_lists.specs.Units.{Unit, unit_cmp, instance_cmp}
-use Rattle.asset_lists.specs.UnitLaws.{instance_total, instance_exact}
+use Rattle.asset_lists.specs.Units.{Unit, unit_cmp}
 use Rattle.asset_bundles.specs.Bundles.{Bundle, unit_keys}
 use Rattle.asset_lists.specs.Listed.{kind_of}
 use Rattle.ledgers.specs.Ledgers.{Holder, Held, holder_cmp, is_account}
 use Rattle.ledgers.specs.Laws.{account_keys, holder_keys}
-use Rattle.chain_ids.specs.declared.chain.ChainId.{ChainId}
 use Rattle.trust_tables.specs.declared.rows.AssetRow.{AssetRow}
 use Rattle.trust_tables.specs.declared.rows.AssetRole.TheVariants.{Derivative}
 use Rattle.trust_tables.specs.Accounts.{sovereign_account}
 use Rattle.asset_lists.specs.Listed.{same_kind}
 use Rattle.asset_lists.specs.Laws.{same_kind_says}
 use Rattle.amounts.specs.Laws.{total_alike_held}
-use Rattle.chain_ids.specs.Chains.{same_chain}
-use Rattle.coherence.specs.UniversalAssets.{UniversalAsset, has_path, Choice, every, just, is_unit_at}
+use Rattle.coherence.specs.UniversalAssets.{UniversalAsset, has_path, Choice, is_unit_at}
 use Rattle.coherence.specs.Networks.{Table, context_of, IsIn, path_of_row, asset_of_row, AreTwins, Agrees, IsUnitOf}
-use Rattle.conservation.specs.Parts.{Cargo, Withdrawal, Part, World, chain_of, Count, choice_of, debt, account_amount, held_for, withdrawn, withdrawals, deposits, Backed}
+use Rattle.conservation.specs.Parts.{Withdrawal, Part, World, chain_of, Count, choice_of, account_amount, withdrawn, Backed}
 use Rattle.chain_ids.specs.Laws.{same_chain_itself}
-use Rattle.conservation.specs.Channels.{front, popped, in_channels_to-popped}
+use Rattle.conservation.specs.Channels.{front, in_channels_to-popped}
 use Rattle.conservation.specs.Steps.{tables_of, table_at}
-use Rattle.conservation.specs.Cargoes.{IsRowAsset, row_told}
+use Rattle.conservation.specs.Cargoes.{row_told}
 
 both_ways : (a b : Bool) → (a ≡ true → b ≡ true) → (b ≡ true → a ≡ true) → a ≡ b
 both_ways true b f g = sym (f refl)

@@ -1,6 +1,6 @@
 -- From the trust that a rule tests to what the moves need: a taken unit is shared, a deposited unit is owed, and what
 -- one end trusts the other end trusts too.
-use Rattle.std.specs.Prelude.{◌≡◌, ◌≢◌, ℕ, zero, suc, ◌+◌, ◌<◌, ◌≤◌, Bool, true, false, IsTrue, if◌then◌else◌, List, [], ◌∷◌, length, Option, Some, None, find, slice_get, slice_index_or, IsSomeAnd, Any, refl}
+use Rattle.std.specs.Prelude.{◌≡◌, ℕ, zero, suc, ◌+◌, ◌<◌, Bool, true, false, IsTrue, if◌then◌else◌, List, [], ◌∷◌, Some, find, slice_get, IsSomeAnd, refl}
 use Rattle.std.specs.Ordering.{eq_by_cmp}
 use Rattle.std.proofs.Common.{sym, ap, ◌∙◌, subst, arith}
 use Rattle.std.proofs.lemmas.Option.{slice_get_within, get_or_from_slice_get}
@@ -9,28 +9,25 @@ use Rattle.amounts.specs.Amounts.{amount, total}
 use Rattle.amounts.specs.Laws.{key_same, same_key, amount-map_keys, amount_at_most}
 use Rattle.locations.specs.declared.relative.Location.{Location}
 use Rattle.locations.specs.Chains.{path_of}
-use Rattle.asset_lists.specs.declared.units.AssetId.{AssetId}
-use Rattle.asset_lists.specs.declared.units.AssetId.TheVariants.{Concrete, Abstract}
+use Rattle.asset_lists.specs.declared.units.AssetId.TheVariants.{Concrete}
 use Rattle.asset_lists.specs.declared.units.Asset.{Asset}
-use Rattle.asset_lists.specs.Units.{Unit, unit_of, amount_of, unit_cmp, instance_in}
+use Rattle.asset_lists.specs.Units.{Unit, unit_of, amount_of, unit_cmp}
 use Rattle.asset_lists.specs.Moves.{all_moved}
 use Rattle.asset_lists.specs.Listed.{kind_of}
-use Rattle.asset_bundles.specs.Bundles.{Bundle, unit_keys, bundle_of, rows_of}
+use Rattle.asset_bundles.specs.Bundles.{unit_keys, bundle_of, rows_of}
 use Rattle.asset_bundles.specs.BundleLaws.{amount-bundle_of}
 use Rattle.asset_bundles.specs.Landing.{renamed, Renamed}
-use Rattle.chain_ids.specs.declared.chain.ChainId.{ChainId}
 use Rattle.trust_tables.specs.declared.rows.AssetRow.{AssetRow}
-use Rattle.trust_tables.specs.declared.rows.AssetRole.{AssetRole}
-use Rattle.trust_tables.specs.declared.rows.AssetRole.TheVariants.{Native, Derivative}
+use Rattle.trust_tables.specs.declared.rows.AssetRole.TheVariants.{Derivative}
 use Rattle.trust_tables.specs.Chains.{location_of}
 use Rattle.trust_tables.specs.ChainLaws.{chain_of_one}
-use Rattle.trust_tables.specs.Trust.{is_row_of, row_of, is_reserve, is_partner, IsRowOf, IsPartnerRole, IsPartner}
+use Rattle.trust_tables.specs.Trust.{is_row_of, is_reserve, is_partner, IsRowOf, IsPartnerRole}
 use Rattle.trust_tables.specs.TrustLaws.{is_row_of_says, is_partner_says}
 use Rattle.coherence.specs.UniversalAssets.{UniversalAsset, Choice, is_unit_at, IsPlaced}
 use Rattle.coherence.specs.Renaming.{AreNamed, unit_kept, moved_amount, all_named}
-use Rattle.coherence.specs.Networks.{Table, context_of, IsIn, path_of_row, AreTwins, IsNetwork, Agrees, IsUnitOf, HasTwin}
+use Rattle.coherence.specs.Networks.{Table, context_of, IsIn, Agrees, IsUnitOf}
 use Rattle.coherence.specs.Twins.{leads_to, near}
-use Rattle.coherence.specs.Trusting.{IsShared, IsOwed, IsAt, of_partner, of_reserve}
+use Rattle.coherence.specs.Trusting.{IsShared, IsOwed, of_partner, of_reserve}
 use Rattle.conservation.specs.Cargoes.{IsDepositFor}
 
 table_same : (x y : Table) → Some x ≡ Some y → x ≡ y

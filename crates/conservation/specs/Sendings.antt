@@ -1,12 +1,11 @@
 -- A teleport and a withdrawal leave the holding, and a lost teleport is booked.
-use Rattle.std.specs.Prelude.{◌≡◌, ℕ, ◌+◌, ◌≤◌, Bool, true, false, ◌&&◌, if◌then◌else◌, List, Some, refl}
-use Rattle.std.proofs.Common.{sym, ap, ◌∙◌, subst, arith}
+use Rattle.std.specs.Prelude.{◌≡◌, ℕ, ◌+◌, ◌≤◌, Bool, true, false, ◌&&◌, if◌then◌else◌, List, Option, Some, refl}
+use Rattle.std.proofs.Common.{sym, ap, ◌∙◌, arith}
 use Rattle.amounts.specs.Amounts.{total, merge, total_alike}
-use Rattle.amounts.specs.Laws.{total-merge, total-map_keys}
-use Rattle.asset_lists.specs.Units.{Unit, unit_cmp}
+use Rattle.amounts.specs.Laws.{total-merge}
 use Rattle.asset_bundles.specs.declared.book.Cause.{Cause}
 use Rattle.asset_bundles.specs.Bundles.{Bundle, unit_keys}
-use Rattle.asset_bundles.specs.Books.{Burn, burned_for}
+use Rattle.asset_bundles.specs.Books.{burned_for}
 use Rattle.asset_lists.specs.Listed.{listed_of}
 use Rattle.asset_bundles.specs.Laws.{burn_keys, burned_for_total}
 use Rattle.chain_ids.specs.declared.chain.ChainId.{ChainId}
@@ -15,12 +14,13 @@ use Rattle.trust_tables.specs.declared.rows.AssetRole.TheVariants.{Derivative}
 use Rattle.chain_ids.specs.Chains.{same_chain}
 use Rattle.coherence.specs.UniversalAssets.{UniversalAsset, Choice, every, is_asset_at, is_unit_at, is_burn_at}
 use Rattle.coherence.specs.Networks.{context_of, IsIn, asset_of_row, is_home}
-use Rattle.conservation.specs.Parts.{Cargo, Nothing, Deposit, Withdrawal, Teleport, Part, chain_of, Count, choice_of, stock, account_amount, held_for, burned, in_bundle, teleported, deposited, withdrawn}
+use Rattle.conservation.specs.Parts.{Cargo, Withdrawal, Teleport, Part, stock, account_amount, held_for, burned, in_bundle}
 use Rattle.conservation.specs.Channels.{has_channel, pushed, front, popped}
-use Rattle.conservation.specs.Moves.{IsSent, IsLost, for_chain}
+use Rattle.conservation.specs.Checking.{account_in, checking_at, risen, risen_by_none}
+use Rattle.conservation.specs.Moves.{IsSent, IsLost}
 
-abbrev pub GoodsSent : ChainId → Cargo → Bundle → Part → Part
-GoodsSent to cargo left p = record p { holding = left; outgoing = pushed to cargo p.outgoing }
+abbrev pub GoodsSent : ChainId → Cargo → Bundle → List (Option ℕ) → Part → Part
+GoodsSent to cargo left checking p = record p { holding = left; checking = checking; outgoing = pushed to cargo p.outgoing }
 
 nothing_more : (b : Bool) (n : ℕ) → n + (if b then 0 else 0) ≤ n
 nothing_more true n = omega arith
@@ -30,19 +30,21 @@ module _ (to : ChainId) (b left : Bundle) (p : Part) (linked : has_channel to p.
   given : (a : UniversalAsset) (choice : Choice) → in_bundle p.table a choice p.holding ≡ in_bundle p.table a choice left + in_bundle p.table a choice b
   given a choice = ap (total (is_unit_at (context_of p.table) a choice)) whole ∙ total-merge unit_keys (is_unit_at (context_of p.table) a choice) left b
 
-  pub teleport_sent : IsSent to (Teleport b) p (GoodsSent to (Teleport b) left p)
+  pub teleport_sent : (checking : List (Option ℕ)) → ((a : UniversalAsset) → account_in p.table a p.table.rows checking ≡ risen (in_bundle p.table a every b) (checking_at a p))
+      → IsSent to (Teleport b) p (GoodsSent to (Teleport b) left checking p)
   unfolding stock burned account_amount
-  teleport_sent = record {
+  teleport_sent checking raised = record {
     table = refl;
     linked = linked;
     outgoing = refl;
     kept = λ a. let x = given a every in omega (arith, x);
     less = λ a choice. let x = given a choice in omega (arith, x);
     covered = λ chain a count number foreign_chain. nothing_more (same_chain to chain) (held_for chain a count p);
+    raised = raised;
     foreign = λ a home. refl;
   }
 
-  pub withdrawal_sent : ((a : UniversalAsset) → is_home a p.table ≡ true → in_bundle p.table a every b ≡ 0) → IsSent to (Withdrawal b) p (GoodsSent to (Withdrawal b) left p)
+  pub withdrawal_sent : ((a : UniversalAsset) → is_home a p.table ≡ true → in_bundle p.table a every b ≡ 0) → IsSent to (Withdrawal b) p (GoodsSent to (Withdrawal b) left p.checking p)
   unfolding stock burned account_amount
   withdrawal_sent away = record {
     table = refl;
@@ -51,6 +53,7 @@ module _ (to : ChainId) (b left : Bundle) (p : Part) (linked : has_channel to p.
     kept = λ a. let x = given a every in omega (arith, x);
     less = λ a choice. let x = given a choice in omega (arith, x);
     covered = λ chain a count number foreign_chain. nothing_more (same_chain to chain) (held_for chain a count p);
+    raised = λ a. sym (risen_by_none (checking_at a p));
     foreign = away;
   }
 
@@ -67,6 +70,7 @@ pub teleport_lost : (to : ChainId) (b : Bundle) (p : Part) → front to p.outgoi
 unfolding stock burned account_amount
 teleport_lost to b p first native = record {
   table = refl;
+  checking = refl;
   first = first;
   outgoing = refl;
   burns_now = λ a.

@@ -1,16 +1,17 @@
--- The changes of one chain, and of two chains at once, that keep every asset conserved and every derivative backed.
-use Rattle.std.specs.Prelude.{◌≡◌, ◌≢◌, ℕ, zero, suc, ◌+◌, ◌<◌, ◌≤◌, Bool, true, false, if◌then◌else◌, List, [], ◌∷◌, map, Option, Some, None, slice_get, slice_set, sum_by, option_map, refl}
-use Rattle.std.proofs.Common.{sym, ap, ◌∙◌, subst, arith, ⊎_elim, inl, inr}
+-- The changes of one chain, and of two chains at once, that keep every asset conserved, every derivative backed and every checking account right.
+use Rattle.std.specs.Prelude.{◌≡◌, ◌≢◌, ℕ, zero, suc, ◌+◌, ◌≤◌, true, if◌then◌else◌, List, [], ◌∷◌, map, Option, Some, None, slice_get, slice_set, sum_by, option_map, refl}
+use Rattle.std.proofs.Common.{sym, ap, ◌∙◌, subst, arith, ⊎_elim}
 use Rattle.std.proofs.lemmas.Bool.{cases_eq}
 use Rattle.std.proofs.lemmas.Option.{slice_get_within, get_or_from_slice_get, slice_get-map}
 use Rattle.std.proofs.lemmas.List.Sums.{sum_by-set}
 use Rattle.chain_ids.specs.declared.chain.ChainId.{ChainId}
 use Rattle.trust_tables.specs.declared.rows.AssetRow.{AssetRow}
 use Rattle.trust_tables.specs.declared.rows.AssetRole.TheVariants.{Native, Derivative}
-use Rattle.trust_tables.specs.Accounts.{IsChain, sovereign_account}
+use Rattle.trust_tables.specs.Accounts.{IsChain}
 use Rattle.coherence.specs.UniversalAssets.{UniversalAsset, Choice, every}
-use Rattle.coherence.specs.Networks.{Table, IsIn, asset_of_row, AreTwins, HasReserve, IsNetwork, Agrees, is_home}
-use Rattle.conservation.specs.Parts.{Part, World, chain_of, Count, debt, held_for, burned, flight, deposits, withdrawals, own, home, supply, alive, population, owed, Backed}
+use Rattle.coherence.specs.Networks.{Table, IsIn, asset_of_row, AreTwins, HasReserve, Agrees, is_home}
+use Rattle.conservation.specs.Parts.{Part, World, chain_of, Count, debt, stock, held_for, flight, deposits, withdrawals, home, supply, alive, population, owed, Backed}
+use Rattle.conservation.specs.Checking.{checking_at, IsChecked, AllChecked, AllWithin, IsWithinStart, IsAccounted, NoAccount, Accounted, home_of_account, some_number, accounted_alone, within_then}
 
 -- the tables, which no step changes
 abbrev pub tables_of : World → List Table
@@ -37,11 +38,17 @@ pub record IsSafe (p q : Part) : Type 0 where
   pub keeps : Keeps p q
   pub owned : (a : UniversalAsset) → home a q ≡ home a p
   pub rare : (a : UniversalAsset) (choice : Choice) → alive a choice q ≤ alive a choice p
+  -- a checking account rises with what is teleported away, and it and the stock are together no more than before
+  pub accounted : (a : UniversalAsset) → IsAccounted (checking_at a p) (checking_at a q) (flight a every p) (flight a every q) (stock a every p) (stock a every q)
 
 -- the first chain's debt to the second rises by no more than what the second keeps for it
 abbrev pub Pays : (p p' q q' : Part) → Type 0
 Pays p p' q q' = (row : AssetRow) (count : Count) → IsIn p.table.rows row → row.role ≡ Derivative (chain_of q)
     → owed (asset_of_row p.table row) count p' q' + held_for (chain_of p) (asset_of_row p.table row) count q ≤ owed (asset_of_row p.table row) count p q + held_for (chain_of p) (asset_of_row p.table row) count q'
+
+-- the second chain's checking accounts fall by no more than what leaves the first and the channels
+abbrev pub Accounts : (p p' q q' : Part) → Type 0
+Accounts p p' q q' = (a : UniversalAsset) → IsAccounted (checking_at a q) (checking_at a q') (flight a every q + alive a every p) (flight a every q' + alive a every p') (stock a every q) (stock a every q')
 
 -- a change of two chains that is safe
 pub record IsExchange (p p' q q' : Part) : Type 0 where
@@ -51,6 +58,8 @@ pub record IsExchange (p p' q q' : Part) : Type 0 where
   pub back : Pays q q' p p'
   pub owned : (a : UniversalAsset) → home a p' + home a q' ≡ home a p + home a q
   pub rare : (a : UniversalAsset) (choice : Choice) → alive a choice p' + alive a choice q' ≤ alive a choice p + alive a choice q
+  pub accounted : Accounts p p' q q'
+  pub accounted_back : Accounts q q' p p'
 
 -- ---- places of a list after a write
 pub get_set_same : (w : World) (c : ℕ) (p q : Part) → slice_get w c ≡ Some p → slice_get (slice_set w c q) c ≡ Some q
@@ -97,6 +106,8 @@ pub record SafeStep (w v : World) : Type 0 where
   pub supplied : (a : UniversalAsset) → supply a v ≡ supply a w
   pub rare : (a : UniversalAsset) (choice : Choice) → population a choice v ≤ population a choice w
   pub backed : Backed w → Backed v
+  pub checked : AllChecked w → AllChecked v
+  pub within : (first : World) → AllWithin first w → AllWithin first v
 
 -- ---- a covered row
 abbrev pub Covered : Table → ChainId → AssetRow → Count → Part → Part → Type 0
@@ -118,6 +129,48 @@ keeps_itself but p = record { table = refl; owing = λ row chain count inside ro
 
 native_or_derivative : (row : AssetRow) (partners : List ChainId) (checking : Option ℕ) (chain : ChainId) → row.role ≡ Native partners checking → row.role ≡ Derivative chain → ⊥
 native_or_derivative row partners checking chain n d = absurd (cc)
+
+-- ---- checking accounts
+pub alive_here : (a : UniversalAsset) (p : Part) → is_home a p.table ≡ true → alive a every p ≡ stock a every p + flight a every p
+unfolding alive
+alive_here a p home = ap (λ b. if b then stock a every p + flight a every p else 0) home
+
+alive_now : (a : UniversalAsset) (p q : Part) → q.table ≡ p.table → is_home a q.table ≡ true → (alive a every q ≡ stock a every q + flight a every q) × (alive a every p ≡ stock a every p + flight a every p)
+alive_now a p q table home = (alive_here a q home, alive_here a p (ap (is_home a) (sym table) ∙ home))
+
+-- where the chain of the account changes, in worlds with so much of the asset
+account_covers : (a : UniversalAsset) (p q : Part) (amount away_before away all_before all : ℕ) → q.table ≡ p.table → IsAccounted (checking_at a p) (checking_at a q) (flight a every p + away_before) (flight a every q + away) (stock a every p) (stock a every q)
+    → checking_at a q ≡ Some amount → all + (away_before + alive a every p) ≤ all_before + (away + alive a every q) → ((m : ℕ) → checking_at a p ≡ Some m → all_before ≤ m + stock a every p) → all ≤ amount + stock a every q
+account_covers a p q amount away_before away all_before all table (NoAccount was now) is less covered = absurd (let e : None ≡ Some amount = sym now ∙ is in cc)
+account_covers a p q amount away_before away all_before all table (Accounted m n was now out in_all) is less covered =
+    let same = some_number n amount (sym now ∙ is) in
+    let lives = alive_now a p q table (home_of_account a q amount is) in
+    let before = covered m was in
+    omega (arith, same, lives.0, lives.1, before, out, less)
+
+module _ (w : World) (i : ℕ) (p q : Part) (at : slice_get w i ≡ Some p) (safe : IsSafe p q) where
+  all_checked : AllChecked w → AllChecked (slice_set w i q)
+  all_checked checked k x a amount at_k is = ⊎_elim
+      (λ (same : k ≡ i).
+      let there : q ≡ x = some_same q x (sym (get_set_same w i p q at) ∙ ap (slice_get (slice_set w i q)) (sym same) ∙ at_k) in
+      let set = population-set a every w i p q at in
+      subst (λ (y : Part). IsChecked (slice_set w i q) y a amount) there
+      (account_covers a p q amount 0 0 (population a every w) (population a every (slice_set w i q)) safe.keeps.table (accounted_alone (checking_at a p) (checking_at a q) (flight a every p) (flight a every q) (stock a every p) (stock a every q) (safe.accounted a)) (ap (checking_at a) there ∙ is) (omega (arith, set)) (λ m was. checked i p a m at was)))
+      (λ n.
+      let set = population-set a every w i p q at in
+      let less = safe.rare a every in
+      let before = checked k x a amount (sym (get_set_other w i k q n) ∙ at_k) is in
+      omega (arith, set, less, before))
+      (cases_eq k i)
+
+  all_within : (first : World) → AllWithin first w → AllWithin first (slice_set w i q)
+  all_within first within k g x a at_g at_k = ⊎_elim
+      (λ (same : k ≡ i).
+      let there : q ≡ x = some_same q x (sym (get_set_same w i p q at) ∙ ap (slice_get (slice_set w i q)) (sym same) ∙ at_k) in
+      subst (λ (y : Part). IsWithinStart (checking_at a g) (checking_at a y) (stock a every g) (stock a every y)) there
+      (within_then (checking_at a g) (checking_at a p) (checking_at a q) _ _ (stock a every g) (stock a every p) (stock a every q) (within k g p a at_g (ap (slice_get w) same ∙ at)) (safe.accounted a)))
+      (λ n. within k g x a at_g (sym (get_set_other w i k q n) ∙ at_k))
+      (cases_eq k i)
 
 module _ (w : World) (agrees : Agrees (tables_of w)) where
   in_tables : (k : ℕ) (p : Part) → slice_get w k ≡ Some p → IsIn (tables_of w) p.table
@@ -186,6 +239,8 @@ module _ (w : World) (agrees : Agrees (tables_of w)) where
     rare = λ a choice. let s = population-set a choice w i p q at in let h = safe.rare a choice in omega (arith, s, h);
     backed = λ b k l x z row count at_k at_l inside role.
         pair_covered b k l x z none_but none_but (was_here i k p q x at safe.keeps at_k) (was_here i l p q z at safe.keeps at_l) row count inside role (λ e. e) (λ e. e);
+    checked = all_checked w i p q at safe;
+    within = all_within w i p q at safe;
   }
 
 -- where a chain stands after two writes
@@ -249,6 +304,39 @@ module _ (w : World) (agrees : Agrees (tables_of w)) (i j : ℕ) (p p' q q' : Pa
   spots_covered k l x z (Elsewhere ni nj at) (Elsewhere mi mj has) row count inside role =
       pair_covered w agrees b k l x z none_but none_but (other_was k x at) (other_was l z has) row count inside role (λ h. h) (λ h. h)
 
+module _ (w : World) (i j : ℕ) (p p' q q' : Part) (at_i : slice_get w i ≡ Some p) (at_j : slice_get w j ≡ Some q) (apart : i ≡ j → ⊥) (e : IsExchange p p' q q') where
+  population-both : (a : UniversalAsset) → population a every (slice_set (slice_set w i p') j q') + (alive a every p + alive a every q) ≡ population a every w + (alive a every p' + alive a every q')
+  population-both a =
+      let one = population-set a every w i p p' at_i in
+      let two = population-set a every (slice_set w i p') j q q' (get_set_other w i j p' (λ h. apart (sym h)) ∙ at_j) in
+      omega (arith, one, two)
+
+  both_checked : AllChecked w → (k : ℕ) (x : Part) (a : UniversalAsset) (amount : ℕ) → Spot w i j p' q' k x → checking_at a x ≡ Some amount → IsChecked (slice_set (slice_set w i p') j q') x a amount
+  both_checked checked k x a amount (AtFirst ki px) is =
+      let both = population-both a in
+      subst (λ (y : Part). IsChecked (slice_set (slice_set w i p') j q') y a amount) px
+      (account_covers a p p' amount (alive a every q) (alive a every q') (population a every w) (population a every (slice_set (slice_set w i p') j q')) e.first.table (e.accounted_back a) (ap (checking_at a) px ∙ is)
+      (omega (arith, both)) (λ m was. checked i p a m at_i was))
+  both_checked checked k x a amount (AtSecond kj qx) is =
+      let both = population-both a in
+      subst (λ (y : Part). IsChecked (slice_set (slice_set w i p') j q') y a amount) qx
+      (account_covers a q q' amount (alive a every p) (alive a every p') (population a every w) (population a every (slice_set (slice_set w i p') j q')) e.second.table (e.accounted a) (ap (checking_at a) qx ∙ is)
+      (omega (arith, both)) (λ m was. checked j q a m at_j was))
+  both_checked checked k x a amount (Elsewhere ni nj at) is =
+      let both = population-both a in
+      let less = e.rare a every in
+      let before = checked k x a amount at is in
+      omega (arith, both, less, before)
+
+  both_within : (first : World) → AllWithin first w → (k : ℕ) (g x : Part) (a : UniversalAsset) → slice_get first k ≡ Some g → Spot w i j p' q' k x → IsWithinStart (checking_at a g) (checking_at a x) (stock a every g) (stock a every x)
+  both_within first within k g x a at_g (AtFirst ki px) =
+      subst (λ (y : Part). IsWithinStart (checking_at a g) (checking_at a y) (stock a every g) (stock a every y)) px
+      (within_then (checking_at a g) (checking_at a p) (checking_at a p') _ _ (stock a every g) (stock a every p) (stock a every p') (within k g p a at_g (ap (slice_get w) ki ∙ at_i)) (e.accounted_back a))
+  both_within first within k g x a at_g (AtSecond kj qx) =
+      subst (λ (y : Part). IsWithinStart (checking_at a g) (checking_at a y) (stock a every g) (stock a every y)) qx
+      (within_then (checking_at a g) (checking_at a q) (checking_at a q') _ _ (stock a every g) (stock a every q) (stock a every q') (within k g q a at_g (ap (slice_get w) kj ∙ at_j)) (e.accounted a))
+  both_within first within k g x a at_g (Elsewhere ni nj at) = within k g x a at_g at
+
 -- TWO CHAINS
 pub safe_exchange : (w : World) → Agrees (tables_of w) → (i j : ℕ) (p p' q q' : Part) → slice_get w i ≡ Some p → slice_get w j ≡ Some q → (i ≡ j → ⊥) → IsExchange p p' q q'
     → SafeStep w (slice_set (slice_set w i p') j q')
@@ -268,4 +356,6 @@ safe_exchange w agrees i j p p' q q' at_i at_j apart e =
           omega (arith, one, two, both);
       backed = λ b k l x z row count at_k at_l inside role.
           spots_covered w agrees i j p p' q q' at_i at_j apart e b k l x z (spot_of w i j p p' q q' at_i at_j apart k x at_k) (spot_of w i j p p' q q' at_i at_j apart l z at_l) row count inside role;
+      checked = λ checked k x a amount at_k is. both_checked w i j p p' q q' at_i at_j apart e checked k x a amount (spot_of w i j p p' q q' at_i at_j apart k x at_k) is;
+      within = λ first within k g x a at_g at_k. both_within w i j p p' q q' at_i at_j apart e first within k g x a at_g (spot_of w i j p p' q q' at_i at_j apart k x at_k);
     }

@@ -1,13 +1,12 @@
 -- One instruction as a move: a caller's assets go from an account to the holding, by the definitions of the landed crates.
-use Rattle.std.specs.Prelude.{◌≡◌, ◌≢◌, ℕ, ◌+◌, ◌<◌, ◌≤◌, Bool, true, false, ◌&&◌, List, refl}
+use Rattle.std.specs.Prelude.{◌≡◌, ◌≢◌, ℕ, ◌+◌, Bool, true, false, ◌&&◌, List, refl}
 use Rattle.std.specs.Ordering.{eq_by_cmp}
-use Rattle.std.proofs.Common.{sym, ap, ◌∙◌, subst, arith}
-use Rattle.amounts.specs.Amounts.{amount, total, merge, difference, map_keys, IsWithin, total_alike}
+use Rattle.std.proofs.Common.{sym, ap, ◌∙◌, arith}
+use Rattle.amounts.specs.Amounts.{total, merge, difference, IsWithin, total_alike}
 use Rattle.amounts.specs.Keys.{number_keys, list_keys}
-use Rattle.amounts.specs.Laws.{key_same, total-merge, total-difference, total-map_keys}
+use Rattle.amounts.specs.Laws.{key_same, total-merge, total-difference}
 use Rattle.asset_lists.specs.declared.units.Asset.{Asset}
-use Rattle.asset_lists.specs.Units.{Unit, unit_cmp}
-use Rattle.asset_bundles.specs.Bundles.{Bundle, unit_keys, bundle_of}
+use Rattle.asset_bundles.specs.Bundles.{unit_keys, bundle_of}
 use Rattle.asset_bundles.specs.Books.{given_up}
 use Rattle.asset_lists.specs.Listed.{listed_of}
 use Rattle.asset_bundles.specs.Joins.{Joined, Excess}
@@ -17,8 +16,8 @@ use Rattle.chain_ids.specs.declared.chain.ChainId.{ChainId}
 use Rattle.trust_tables.specs.Accounts.{IsChain, sovereign_account}
 use Rattle.amounts.specs.Laws.{total_none}
 use Rattle.coherence.specs.UniversalAssets.{UniversalAsset, Choice, every, is_asset_at, is_unit_at, is_burn_at}
-use Rattle.coherence.specs.Networks.{Table, context_of}
-use Rattle.conservation.specs.Parts.{Part, chain_of, Count, choice_of, stock, account_amount, held_for, burned}
+use Rattle.coherence.specs.Networks.{context_of}
+use Rattle.conservation.specs.Parts.{Part, chain_of, choice_of, stock, account_amount, burned}
 use Rattle.conservation.specs.Moves.{IsInternal}
 use Rattle.ledgers.specs.Laws.{holder_keys, held_by_total}
 
@@ -48,6 +47,7 @@ withdrawal_internal p who assets within user =
     ∙ total-difference holder_keys (λ (h : Holder). is_unit_at (context_of p.table) a choice h.1) p.held (held_by who (bundle_of assets)) within in
     record {
       table = refl;
+      checking = refl;
       outgoing = refl;
       kept = λ a.
           let gone = given a every in

@@ -21,20 +21,22 @@ use Rattle.ledgers.specs.Laws.{holder_keys}
 use Rattle.chain_ids.specs.declared.chain.ChainId.{ChainId}
 use Rattle.chain_ids.specs.Chains.{same_chain}
 use Rattle.chain_ids.specs.Laws.{same_chain_told, same_chain_itself}
+use Rattle.trust_tables.specs.declared.rows.AssetRow.{AssetRow}
+use Rattle.trust_tables.specs.declared.rows.AssetRole.{AssetRole}
 use Rattle.trust_tables.specs.Trust.{listing}
 use Rattle.weight_trader.specs.declared.rate.Rate.{Rate}
 use Rattle.weight_trader.specs.Purchases.{Line, coin_of, new_lines, paid_goods, AreRatesListed, AreWithinEnd}
 use Rattle.channel_parts.specs.declared.channel.Channel.{Channel}
 use Rattle.channel_parts.specs.Channels.{Outgoing, opened}
 use Rattle.exec_base.specs.Host.{is_price}
-use Rattle.coherence.specs.Causes.{ChainEntry}
+use Rattle.coherence.specs.Causes.{ChainEntry, checking_in}
 use Rattle.conservation.specs.Parts as sums
 use Rattle.conservation.specs.Parts.{Part, World}
 use Rattle.conservation.specs.Genesis as genesis
 use Rattle.network_spec.specs.declared.chain.ChainSpec.{ChainSpec}
 use Rattle.network_spec.specs.declared.network.ChannelSpec.{ChannelSpec}
 use Rattle.network_spec.specs.declared.network.NetworkSpec.{NetworkSpec}
-use Rattle.network_genesis.specs.Tests.{is_rate_listed, are_rates_listed, fee_is_price}
+use Rattle.network_genesis.specs.Tests.{role_checking, row_checking, is_rate_listed, are_rates_listed, fee_is_price}
 use Rattle.network_genesis.specs.Genesis.{site_of, channels_from, with_balances, part_at, member_of, first_world, entry_of, entries_of}
 use Rattle.network_genesis.specs.Openable.{IsOpenableChain, IsOpenableChannel}
 use Rattle.network_steps.specs.Worlds.{Member}
@@ -91,8 +93,16 @@ no_queues : (cs : List Channel) → map channel_of (map opened cs) ≡ genesis.e
 no_queues [] = refl
 no_queues (c ∷ cs) = ap (λ (ds : List sums.Channel). let d : sums.Channel = record { to = c.to; queue = [] } in d ∷ ds) (no_queues cs)
 
+pub same_role : (role : AssetRole) → role_checking role ≡ checking_in role
+same_role (AssetRole.Native partners checking) = refl
+same_role (AssetRole.Derivative reserve) = refl
+
+same_accounts : (rows : List AssetRow) → map row_checking rows ≡ map (λ (row : AssetRow). checking_in row.role) rows
+same_accounts [] = refl
+same_accounts (row ∷ rows) = λ i. same_role row.role i ∷ same_accounts rows i
+
 member_seen : (spec : NetworkSpec) (c : ChainSpec) → seen empty (part_at spec c) ≡ genesis.opened (links_in spec) (entry_of spec c)
-member_seen spec c = λ i. record (genesis.opened (links_in spec) (entry_of spec c)) { fees = no_fees c.rates i; outgoing = no_queues (channels_from c.chain spec.channels) i }
+member_seen spec c = λ i. record (genesis.opened (links_in spec) (entry_of spec c)) { fees = no_fees c.rates i; checking = same_accounts c.assets i; outgoing = no_queues (channels_from c.chain spec.channels) i }
 
 all_seen : (spec : NetworkSpec) (cs : List ChainSpec) → views (map (member_of spec) cs) ≡ genesis.first_world (links_in spec) (map (entry_of spec) cs)
 all_seen spec [] = refl

@@ -1,5 +1,5 @@
 -- What a network document gives: chains that stand apart, each instance once, and supplies below 2^127.
-use Rattle.std.proofs.Common.{◌≡◌, ℕ, zero, suc, ◌^◌, ◌<◌, ◌≤◌, Bool, true, false, List, [], ◌∷◌, length, Some, map, refl, sym, ap, ◌∙◌, subst, arith}
+use Rattle.std.proofs.Common.{◌≡◌, ℕ, zero, suc, ◌^◌, ◌<◌, ◌≤◌, Bool, true, false, List, [], ◌∷◌, length, Option, Some, map, refl, sym, ap, ◌∙◌, subst, arith}
 use Rattle.std.specs.Prelude.{⊤, not, nat_le, nat_lt, if◌then◌else◌, slice_get}
 use Rattle.std.specs.List.{All, sum_by}
 use Rattle.std.proofs.lemmas.Bool.{and_parts}
@@ -22,19 +22,20 @@ use Rattle.trust_tables.specs.Accounts.{IsChain}
 use Rattle.trust_tables.specs.Trust.{listing}
 use Rattle.coherence.specs.UniversalAssets.{UniversalAsset, every, just, is_unit_at}
 use Rattle.coherence.specs.Networks.{Table, context_of, IsIn, path_of_row, IsNetwork, Agrees, is_home}
-use Rattle.coherence.specs.Causes.{ChainEntry, amount_at, table_cause, first_cause}
+use Rattle.coherence.specs.Causes.{ChainEntry, amount_at, checking_in, table_cause, first_cause}
 use Rattle.coherence.specs.Causes as causes
 use Rattle.coherence.specs.CauseLaws.{or_none, agrees_of_no_cause}
 use Rattle.conservation.specs.Parts as sums
 use Rattle.conservation.specs.Parts.{Part, World, stock, burned, flight, own, home, supply, population, Backed, in_channels, teleported}
+use Rattle.conservation.specs.Checking.{AllChecked, AllLow}
 use Rattle.conservation.specs.Steps.{tables_of}
 use Rattle.conservation.specs.Genesis as genesis
-use Rattle.conservation.specs.Genesis.{HasInstancesOnce, sound_first}
+use Rattle.conservation.specs.Genesis.{HasInstancesOnce, HasLowAccounts, sound_first, first_low}
 use Rattle.conservation.specs.InstancesOnce.{instances_once}
 use Rattle.conservation.specs.Payments.{AreHeldListed}
 use Rattle.network_spec.specs.declared.chain.ChainSpec.{ChainSpec}
 use Rattle.network_spec.specs.declared.network.NetworkSpec.{NetworkSpec}
-use Rattle.network_genesis.specs.Tests.{has_path, have_paths, comes_before, rises, is_in_order}
+use Rattle.network_genesis.specs.Tests.{has_path, have_paths, past_amounts, role_checking, row_checking, is_low, have_low_checkings, comes_before, rises, is_in_order}
 use Rattle.network_genesis.specs.Genesis.{with_balances, first_world, entry_of, entries_of}
 use Rattle.network_genesis.specs.Openable.{IsOpenableChain, IsOpenable}
 use Rattle.network_steps.specs.Worlds as networks
@@ -43,7 +44,7 @@ use Rattle.conserved_steps.specs.Rooms.{listed_found, unit_of_row}
 use Rattle.conserved_steps.specs.Worlds.{IsFirst}
 use Rattle.conserved_networks.specs.Kept.{IsCoherent}
 use Rattle.conserved_networks.proofs.Balances.{of_unlisted, none_unlisted, one_owner}
-use Rattle.conserved_networks.proofs.Firsts.{all_spelled, all_recursive, links_in, world_seen, parts_sound, nothing_waits}
+use Rattle.conserved_networks.proofs.Firsts.{all_spelled, all_recursive, same_role, links_in, world_seen, parts_sound, nothing_waits}
 
 -- ---- chains in order
 below : (a b : ℕ) → nat_lt a b ≡ true → a < b
@@ -178,6 +179,26 @@ module _ (spec : NetworkSpec) (openable : IsOpenable spec) (agrees : Agrees (cau
       subst HasInstancesOnce found.2
       (chain_once found.0 (openable_at spec.network spec.chains openable.chains k found.0 found.1) (k, table_at_entry (entries_of spec) k (entry_of spec found.0) (at ∙ ap Some (sym found.2))))
 
+-- ---- checking accounts
+row_low : (rows : List AssetRow) (k : ℕ) (row : AssetRow) (amount : ℕ) → have_low_checkings rows ≡ true → slice_get rows k ≡ Some row → checking_in row.role ≡ Some amount → amount < 2 ^ 127
+row_low [] k row amount low at is = absurd cc
+row_low (x ∷ rows) zero row amount low at is =
+    let same : x ≡ row = cc in
+    let account : role_checking x.role ≡ Some amount = same_role x.role ∙ ap (λ (r : AssetRow). checking_in r.role) same ∙ is in
+    below (is_low_at (role_checking x.role) amount account (and_parts (is_low (row_checking x)) (have_low_checkings rows) low).0)
+  where
+    is_low_at : (o : Option ℕ) (amount : ℕ) → o ≡ Some amount → is_low o ≡ true → nat_lt amount past_amounts ≡ true
+    is_low_at o amount e h = sym (ap is_low e) ∙ h
+
+    below : nat_lt amount past_amounts ≡ true → amount < 2 ^ 127
+    below h = grind (arith, nat_tests, h)
+row_low (x ∷ rows) (suc k) row amount low at is = row_low rows k row amount (and_parts (is_low (row_checking x)) (have_low_checkings rows) low).1 at is
+
+accounts_are_low : (spec : NetworkSpec) → IsOpenable spec → (k : ℕ) (e : ChainEntry) → slice_get (entries_of spec) k ≡ Some e → HasLowAccounts e
+accounts_are_low spec openable k e at =
+    let found = entry_at_chain spec spec.chains k e at in
+    subst HasLowAccounts found.2 (λ row amount inside is. row_low found.0.assets inside.0 row amount (openable_at spec.network spec.chains openable.chains k found.0 found.1).low_checkings inside.1 is)
+
 -- ---- supplies
 no_channels : (f : sums.Cargo → ℕ) (to : List ChainId) → in_channels f (genesis.empty_channels to) ≡ 0
 unfolding in_channels
@@ -228,6 +249,8 @@ is_first shaped spec c =
       genesis = record {
         agrees = subst (λ (w : World). Agrees (tables_of w)) same sound.agrees;
         backed = subst Backed same sound.backed;
+        checked = subst AllChecked same sound.checked;
+        low = subst AllLow same (first_low (links_in spec) (entries_of spec) (accounts_are_low spec c.openable));
         small = λ a. subst (λ (w : World). supply a w < 2 ^ 127) same (let le = supply_first (links_in spec) a (entries_of spec) in let few = c.openable.small a in omega (arith, le, few));
       };
       once = λ a instance. subst (λ (w : World). population a (just (Some instance)) w ≤ 1) same (sound.once a instance);

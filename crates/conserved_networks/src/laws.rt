@@ -10,7 +10,8 @@ use conserved_steps::law_of_conserved_worlds;
 use message_shapes::law_of_shapes;
 
 /// A network that can be opened and in which no cause is found begins as the laws of conserved worlds ask; so every world is conserved and backed,
-/// whatever the steps; no chain has 2^127 or more of a listed asset, nor an instance twice.
+/// whatever the steps; no chain has 2^127 or more of a listed asset, nor an instance twice; each checking account is at least what there is at
+/// other homes and under way, and with what its chain has of the asset is no more than at first, and stays below 2^128-1.
 pub fn law_of_conserved_networks()
     ensures first { (spec : NetworkSpec) → IsCoherent spec → IsFirst (first_world spec) }
     ensures kept { (spec : NetworkSpec) (steps : List Step) → IsCoherent spec → NetworkKept spec steps }

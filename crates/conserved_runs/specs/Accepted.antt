@@ -38,7 +38,7 @@ use Rattle.exec_rules.specs.Instructions.{refused, done}
 use Rattle.exec_rules.specs.Readiness.{IsSteady}
 use Rattle.coherence.specs.Networks.{Table, Agrees}
 use Rattle.conserved_runs.specs.Sums.{sum_of, none, nobody, only, HasRoom}
-use Rattle.conserved_runs.specs.Calls.{Withdraws, total_nothing, call_with, call_by, receiving, answering, withdrawing, depositing, transferring, claiming, burn}
+use Rattle.conserved_runs.specs.Calls.{Withdraws, total_nothing, call_with, call_by, receiving_none, answering, withdrawing, depositing, transferring, claiming, burn}
 use Rattle.conserved_runs.specs.Safety.{origins, IsSpared, hold, Turn, Safely, IsFine, AreFees, HasList, AreLists, turn_safely, sends_safely, fee_in_order}
 use Rattle.conserved_runs.specs.Turns.{by_account, by_nobody, same_turn, part_turn, more_turn, left_turn, taken_room, by_origin, buying_by, refund_by, around}
 use Rattle.conserved_runs.specs.Shipping.{withdrawal_sends, teleport_sends, deposit_sends, transfer_sends, report_sends, holding_report_sends}
@@ -120,7 +120,7 @@ module _ (withdraws : Withdraws) (moves : MovesAreKept) (n : List Table) (agrees
   empty_received : (m : Machine) (list : List Asset) (teleport : Bool) → list ≡ [] → HasRoom (hold m) m.part → Turn m (holding_more m (received m.part list teleport) (bundle_of list))
   empty_received m list teleport none_of room =
       more_turn m (received m.part list teleport) (bundle_of list)
-      (call_with (origins m) none none none (sum_of (bundle_of list)) m.part (received m.part list teleport) (call_by nobody (origins m) none none m.part (received m.part list teleport) (receiving m.part list teleport) (by_nobody m))
+      (call_with (origins m) none none none (sum_of (bundle_of list)) m.part (received m.part list teleport) (call_by nobody (origins m) none none m.part (received m.part list teleport) (receiving_none m.part list teleport none_of) (by_nobody m))
       (λ t. let e = ap (λ (xs : List Asset). total t (bundle_of xs)) none_of in let z = total_nothing t in omega (arith, e, z))) room
 
   turned : (m k : Machine) → IsFine n m → Turn m k → Safely m k

@@ -58,6 +58,7 @@ call_then may a b c p q r x y = record {
   site = y.site ∙ x.site;
   rows = y.rows ∙ x.rows;
   channels = y.channels ∙ x.channels;
+  checking = y.checking ∙ x.checking;
   cargo = λ h. y.cargo (x.cargo h);
   gone = merge x.gone y.gone;
   amounts = λ t. let one = x.amounts t in let two = y.amounts t in let sum = total-merge unit_keys t x.gone y.gone in omega (arith, one, two, sum);
@@ -71,6 +72,7 @@ call_with may a b c d p q x same = record {
   site = x.site;
   rows = x.rows;
   channels = x.channels;
+  checking = x.checking;
   cargo = x.cargo;
   gone = x.gone;
   amounts = λ t. let one = x.amounts t in let hand = same t in omega (arith, one, hand);
@@ -83,6 +85,7 @@ call_by less more a b p q x wider = record {
   site = x.site;
   rows = x.rows;
   channels = x.channels;
+  checking = x.checking;
   cargo = x.cargo;
   gone = x.gone;
   amounts = x.amounts;
@@ -97,6 +100,7 @@ still_by p q same cargo = record {
   site = ap (λ (k : Kept). k.site) same;
   rows = ap (λ (k : Kept). k.rows) same;
   channels = ap (λ (k : Kept). k.channels) same;
+  checking = ap (λ (k : Kept). k.checking) same;
   cargo = cargo;
   gone = empty;
   amounts = λ t. let e : in_places t q ≡ in_places t p = ap (in_kept t) same in let n = nothing_gone t in omega (arith, e, n);
@@ -161,6 +165,10 @@ booked_channels : (p : ChainPart) (more : Burns) (lines : List Event) → (booke
 unfolding booked
 booked_channels p more lines = refl
 
+booked_checking : (p : ChainPart) (more : Burns) (lines : List Event) → (booked p more lines).checking ≡ p.checking
+unfolding booked
+booked_checking p more lines = refl
+
 booked_cargo : (p : ChainPart) (more : Burns) (lines : List Event) → (booked p more lines).cargo.cargo ≡ p.cargo.cargo
 unfolding booked
 booked_cargo p more lines = refl
@@ -173,6 +181,7 @@ burning p gone more lines room same =
       site = booked_site p more lines;
       rows = booked_rows p more lines;
       channels = booked_channels p more lines;
+      checking = booked_checking p more lines;
       cargo = λ h. booked_cargo p more lines ∙ h;
       gone = gone;
       amounts = λ t. let e = booked_kept t p more lines in omega (arith, e);
@@ -206,7 +215,8 @@ cargo_stays : (p : ChainPart) (arrival : Arrival) (list : List Asset) → p.carg
 unfolding cargo_after
 cargo_stays p arrival list h = ends_or_stays (is_cargo p arrival list) p.cargo.sender p.cargo h
 
-received_kept : (p : ChainPart) (list : List Asset) (teleport : Bool) → record (kept_of (received p list teleport)) { cargo = Nothing } ≡ record (kept_of p) { cargo = Nothing }
+-- but for the checking accounts
+received_kept : (p : ChainPart) (list : List Asset) (teleport : Bool) → record (kept_of (received p list teleport)) { cargo = Nothing } ≡ record (kept_of p) { cargo = Nothing; checking = (received p list teleport).checking }
 unfolding received
 received_kept p list teleport = refl
 
@@ -214,8 +224,19 @@ received_cargo : (p : ChainPart) (list : List Asset) (teleport : Bool) → p.car
 unfolding received
 received_cargo p list teleport h = cargo_stays p (arrival_of teleport) list h
 
-pub receiving : (p : ChainPart) (list : List Asset) (teleport : Bool) → Call nobody none none p (received p list teleport)
-receiving p list teleport = still_by p (received p list teleport) (received_kept p list teleport) (received_cargo p list teleport)
+pub receiving : (p : ChainPart) (list : List Asset) (teleport : Bool) → Call nobody none none (record p { checking = (received p list teleport).checking }) (received p list teleport)
+receiving p list teleport = still_by (record p { checking = (received p list teleport).checking }) (received p list teleport) (received_kept p list teleport) (received_cargo p list teleport)
+
+none_received : (p : ChainPart) (teleport : Bool) → (received p [] teleport).checking ≡ p.checking
+unfolding received
+none_received p true = refl
+none_received p false = refl
+
+-- where nothing comes, they stay
+pub receiving_none : (p : ChainPart) (list : List Asset) (teleport : Bool) → list ≡ [] → Call nobody none none p (received p list teleport)
+receiving_none p list teleport empty_list =
+    subst (λ (checking : List (Option ℕ)). Call nobody none none (record p { checking = checking }) (received p list teleport))
+    (ap (λ (xs : List Asset). (received p xs teleport).checking) empty_list ∙ none_received p teleport) (receiving p list teleport)
 
 answered_at : (p : ChainPart) (query : ℕ) (o : Option ℕ)
     → kept_of (option_map_or (λ (place : ℕ). record p { queries = remove p.queries place; kept_back = p.kept_back ++ Event.Answered query ∷ [] }) o (record p { kept_back = p.kept_back ++ Event.Ignored query ∷ [] })) ≡ kept_of p
@@ -299,6 +320,7 @@ module _ (withdraws : Withdraws) where
         site = refl;
         rows = refl;
         channels = refl;
+        checking = refl;
         cargo = λ h. h;
         gone = empty;
         amounts = λ t.
@@ -358,6 +380,7 @@ getting p goods who zero_of =
       site = refl;
       rows = refl;
       channels = refl;
+      checking = refl;
       cargo = λ h. h;
       gone = empty;
       amounts = λ t.
@@ -425,6 +448,7 @@ trapping_goods law p goods origin =
       site = refl;
       rows = refl;
       channels = refl;
+      checking = refl;
       cargo = λ h. h;
       gone = empty;
       amounts = λ t. let e = traps_more t p (with_trapped p.traps origin goods) (total t goods) (law t p.traps origin goods) in let n = nothing_gone t in omega (arith, e, n);
@@ -458,6 +482,7 @@ claiming_at p list origin (Some place) at some = record {
   site = refl;
   rows = refl;
   channels = refl;
+  checking = refl;
   cargo = λ h. h;
   gone = empty;
   amounts = λ t.
@@ -482,6 +507,7 @@ with_lines p lines a b same = record {
   site = refl;
   rows = refl;
   channels = refl;
+  checking = refl;
   cargo = λ h. h;
   gone = empty;
   amounts = λ t. let e = lines_kept t p lines in let s = same t in let n = nothing_gone t in omega (arith, e, s, n);
@@ -555,6 +581,7 @@ parking_goods p goods =
       site = ap (λ (k : Kept). k.site) same;
       rows = ap (λ (k : Kept). k.rows) same;
       channels = ap (λ (k : Kept). k.channels) same;
+      checking = ap (λ (k : Kept). k.checking) same;
       cargo = λ h. ap (λ (k : Kept). k.cargo) same ∙ h;
       gone = empty;
       amounts = λ t. let e = parked_more t p goods in let n = nothing_gone t in omega (arith, e, n);
@@ -578,6 +605,7 @@ holding_fee p goods slot =
       site = ap (λ (k : Kept). k.site) same;
       rows = ap (λ (k : Kept). k.rows) same;
       channels = ap (λ (k : Kept). k.channels) same;
+      checking = ap (λ (k : Kept). k.checking) same;
       cargo = λ h. ap (λ (k : Kept). k.cargo) same ∙ h;
       gone = empty;
       amounts = λ t. let e = slot_kept t p goods in let s = ap (total t) slot in let n = nothing_gone t in omega (arith, e, s, n);
@@ -628,6 +656,7 @@ keeping p room =
       site = ap (λ (k : Kept). k.site) same;
       rows = ap (λ (k : Kept). k.rows) same;
       channels = ap (λ (k : Kept). k.channels) same;
+      checking = ap (λ (k : Kept). k.checking) same;
       cargo = λ h. ap (λ (k : Kept). k.cargo) same ∙ h;
       gone = empty;
       amounts = λ t. let e = kept_places t p in let s = fees_total t p.fees p.fee_slot ends in let n = nothing_gone t in omega (arith, e, s, n);
@@ -686,6 +715,10 @@ settled_channels : (p : ChainPart) → (settled p).channels ≡ p.channels
 unfolding settled
 settled_channels p = refl
 
+settled_checking : (p : ChainPart) → (settled p).checking ≡ p.checking
+unfolding settled
+settled_checking p = refl
+
 settled_cargo : (p : ChainPart) → (settled p).cargo.cargo ≡ p.cargo.cargo
 unfolding settled
 settled_cargo p = refl
@@ -707,6 +740,7 @@ settling law p within room =
       site = settled_site p;
       rows = settled_rows p;
       channels = settled_channels p;
+      checking = settled_checking p;
       cargo = λ h. settled_cargo p ∙ h;
       gone = fees_above p;
       amounts = λ t.

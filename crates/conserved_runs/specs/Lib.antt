@@ -1,6 +1,7 @@
 pub mod Views
 pub mod Sums
 pub mod Calls
+pub mod Checks
 pub mod Posts
 pub mod Safety
 pub mod Turns
@@ -8,3 +9,4 @@ pub mod Shipping
 pub mod Accepted
 pub mod Runs
 pub mod Stopping
+pub mod Raising

@@ -43,6 +43,7 @@ use Rattle.coherence.specs.UniversalAssets.{UniversalAsset, Choice, every, is_as
 use Rattle.trust_tables.specs.declared.rows.AssetRole.TheVariants.{Derivative}
 use Rattle.coherence.specs.Networks.{Table, context_of, IsIn, asset_of_row, is_home}
 use Rattle.conservation.specs.Parts.{Cargo, Nothing, Deposit, Withdrawal, Teleport, Part, Count, choice_of, debt, withdrawals, stock, account_amount, held_for, burned, deposited, withdrawn, teleported}
+use Rattle.conservation.specs.Checking.{account_in, checking_at, risen, accounted_then}
 use Rattle.conservation.specs.Steps.{none_but, IsSafe}
 use Rattle.conservation.specs.Moves.{IsInternal, internal_safe, IsSent, sent_safe}
 use Rattle.conserved_runs.specs.Views.{table_of, cargo_of, channel_of, seen, view}
@@ -51,9 +52,10 @@ use Rattle.conserved_runs.specs.Posts.{on_its_way, put_there, Posted, same_some,
 
 -- ---- lists of instructions
 
--- the lists that leave accounts are in their order, as the type of lists says
+-- the lists that leave accounts, or are teleported in, are in their order, as the type of lists says
 abbrev pub HasList : (X : Type 0) → Instruction-F X → Type 0
 HasList X (Instruction-F.WithdrawAsset list) = IsAssetList list
+HasList X (Instruction-F.ReceiveTeleportedAsset list) = IsAssetList list
 HasList X (Instruction-F.TransferAsset list who) = IsAssetList list
 HasList X (Instruction-F.TransferReserveAsset list dest xcm) = IsAssetList list
 HasList X _ = ⊤
@@ -108,8 +110,10 @@ pub record Sends (m n : Machine) : Type 0 where
   pub program : List Instruction
   pub cargo : carried.Cargo
   pub queued : n.part.channels ≡ change_first (leads_to m.part name) (with_waiting program cargo) m.part.channels
-  pub call : Call (origins m) (hold m) (with (hold n) (on_its_way (cargo_of cargo))) m.part (record n.part { channels = m.part.channels })
+  pub call : Call (origins m) (hold m) (with (hold n) (on_its_way (cargo_of cargo))) m.part (record n.part { channels = m.part.channels; checking = m.part.checking })
   pub put : (who : List ℕ) (t : Unit → Bool) → account_of name m.part.site ≡ Some who → (origins m who → ⊥) → account_total who t m.part + put_there (cargo_of cargo) t ≤ account_total who t n.part
+  -- what is teleported is put into the checking accounts
+  pub raised : (a : UniversalAsset) → account_in (table_of m.part) a m.part.rows n.part.checking ≡ risen (teleported (table_of m.part) a every (cargo_of cargo)) (checking_at a (view m))
   -- what is at home here isn't withdrawn from here
   pub foreign : (a : UniversalAsset) → is_home a (table_of m.part) ≡ true → withdrawn (table_of m.part) a every (cargo_of cargo) ≡ 0
   pub trusted : IsTrusted m.part.site m.part.rows name cargo
@@ -248,6 +252,7 @@ module _ (may : List ℕ → Type 0) (m n : Machine) (spared : Spares may m.part
       let s = m.part.site in
       record {
         table = same_table m.part n.part x.site x.rows;
+        checking = x.checking;
         outgoing = ap (map channel_of) x.channels;
         kept = λ a.
             let before = stock_of a every m.regs.holding m.part s refl in
@@ -305,10 +310,7 @@ whole_way s a (Withdrawal b) = whole_units s a b
 whole_way s a (Teleport b) = whole_units s a b
 
 module _ (m n : Machine) (spared : IsSpared m) (x : Sends m n) where
-  muted : ChainPart
-  muted = record n.part { channels = m.part.channels }
-
-  places_muted : (t : Unit → Bool) → in_places t (record n.part { channels = m.part.channels }) ≡ in_places t n.part
+  places_muted : (t : Unit → Bool) → in_places t (record n.part { channels = m.part.channels; checking = m.part.checking }) ≡ in_places t n.part
   unfolding in_kept
   places_muted t = refl
 
@@ -354,6 +356,7 @@ module _ (m n : Machine) (spared : IsSpared m) (x : Sends m n) where
                   omega (arith, before, after, put, got)
               | false ↦ λ t. omega (arith, before, after, stays)
             ] refl;
+        raised = λ a. ap (λ (t : Table). account_in t a t.rows n.part.checking) (same_table m.part n.part x.call.site x.call.rows) ∙ x.raised a;
         foreign = x.foreign;
       }
 
@@ -386,6 +389,7 @@ safe_after p q r x y = record {
   };
   owned = λ a. y.owned a ∙ x.owned a;
   rare = λ a choice. let one = x.rare a choice in let two = y.rare a choice in omega (arith, one, two);
+  accounted = λ a. accounted_then (checking_at a p) (checking_at a q) (checking_at a r) _ _ _ _ _ _ (x.accounted a) (y.accounted a);
 }
   where
     second : (row : AssetRow) (chain : ChainId) (count : Count) → IsIn p.table.rows row → row.role ≡ Derivative chain → (none_but chain → ⊥)

@@ -46,18 +46,22 @@ use Rattle.channel_parts.specs.declared.cargo.Cargo.TheVariants as cargos
 use Rattle.channel_parts.specs.Channels.{Outgoing, with_waiting, away}
 use Rattle.exec_base.specs.Part.{ChainPart}
 use Rattle.exec_base.specs.Sending.{channel_to, leads_to, is_sendable, channel_refusal, send_refusal, sent, led_by, listed_refusal, listed_program, deposit_program, away_program}
-use Rattle.exec_base.specs.Host.{first_fault, give_fault, trust_fault, deposit_refusal, deposited, transfer_refusal, withdraw_refusal, transferred, transfer_out_refusal, transferred_out, deposit_out_refusal, deposited_out, is_teleport, ship_refusal, shipped, seen_from, querier_seen, report_program, report_refusal, respond_refusal, responded}
+use Rattle.exec_base.specs.Host.{first_fault, give_fault, trust_fault, deposit_refusal, deposited, transfer_refusal, withdraw_refusal, transferred, transfer_out_refusal, transferred_out, deposit_out_refusal, deposited_out, is_teleport, changed_all, ship_refusal, shipped, seen_from, querier_seen, report_program, report_refusal, respond_refusal, responded}
 use Rattle.exec_run.specs.Machine.{Machine, machine}
 use Rattle.exec_rules.specs.Holdings.{taken_of, holding_left}
 use Rattle.exec_rules.specs.Reports.{report_refused, report_done, too_many_refused, holding_report_refused, holding_report_done}
 use Rattle.exec_rules.specs.AnswerLaws.{unless_held, unless_next, none_first, none_next, withdrawn_is_listed}
+use Rattle.coherence.specs.UniversalAssets.{UniversalAsset, every}
 use Rattle.coherence.specs.Networks.{Table, IsIn, Agrees}
 use Rattle.coherence.specs.Trusting.{of_reserve}
 use Rattle.conservation.specs.Cargoes.{IsForeign, withdrawal_foreign}
+use Rattle.conservation.specs.Checking.{account_in, risen}
+use Rattle.conservation.specs.Parts.{in_bundle}
 use Rattle.conserved_runs.specs.Views.{table_of, view}
 use Rattle.conserved_runs.specs.Sums.{kept_of, account_total, sum_of, none, with, nobody, only}
 use Rattle.conserved_runs.specs.Calls.{Withdraws, call_then, call_with, call_by, still, depositing, transferring, got_at, put_by_transfer}
 use Rattle.conserved_runs.specs.Posts.{routed_send, routed_list}
+use Rattle.conserved_runs.specs.Checks.{same_checks, list_raises}
 use Rattle.conserved_runs.specs.Safety.{HasList, AreLists, origins, hold, IsRunnable, Sends, IsFine}
 
 -- ---- the assets of a bundle whose instances are held once
@@ -106,6 +110,7 @@ each_unit P b goods all u held = find_trusted P (held_assets b) u all (asset_of_
 -- ---- lists as the receiver names them
 pub HasList-IsOfLayer : IsOfLayer HasList
 HasList-IsOfLayer X Y f (Instruction-F.WithdrawAsset list) = refl
+HasList-IsOfLayer X Y f (Instruction-F.ReceiveTeleportedAsset list) = refl
 HasList-IsOfLayer X Y f (Instruction-F.TransferAsset list who) = refl
 HasList-IsOfLayer X Y f (Instruction-F.TransferReserveAsset list dest xcm) = refl
 HasList-IsOfLayer X Y f _ = refl
@@ -214,7 +219,7 @@ module _ (n : List Table) (agrees : Agrees n) where
 
   away_lists : (way : Way) (list : List Asset) → IsAssetList list → (xcm : List Instruction) → AllByRecursion AreLists xcm → AllByRecursion AreLists (away_program way list xcm)
   away_lists Way.Withdrawal list fits xcm nested = led (Instruction-F.WithdrawAsset list) fits refl xcm nested
-  away_lists Way.Teleport list fits xcm nested = led (Instruction-F.ReceiveTeleportedAsset list) tt refl xcm nested
+  away_lists Way.Teleport list fits xcm nested = led (Instruction-F.ReceiveTeleportedAsset list) fits refl xcm nested
 
   shipped_runs : (p : ChainPart) (goods : Bundle) (way : Way) (dest : Location) (xcm : List Instruction) → AllByRecursion AreLists xcm → (o : Option (List Asset)) → seen_from p dest (held_assets goods) ≡ o
       → listed_refusal p dest (λ a. away_program way a xcm) o ≡ None → IsRunnable (listed_program (λ a. away_program way a xcm) o)
@@ -237,7 +242,7 @@ module _ (n : List Table) (agrees : Agrees n) where
   reserves_hold p name [] h = tt
   reserves_hold p name (a ∷ list) h = (unless_held _ _ _ (none_first (trust_fault p name false a) (first_fault (trust_fault p name false) list) h), reserves_hold p name list (none_next (trust_fault p name false a) (first_fault (trust_fault p name false) list) h))
 
-  partners_hold : (p : ChainPart) (name : Location) (list : List Asset) → first_fault (trust_fault p name true) list ≡ None → AllByRecursion (λ (a : Asset). IsTrue (is_partner p.rows p.site a name)) list
+  pub partners_hold : (p : ChainPart) (name : Location) (list : List Asset) → first_fault (trust_fault p name true) list ≡ None → AllByRecursion (λ (a : Asset). IsTrue (is_partner p.rows p.site a name)) list
   partners_hold p name [] h = tt
   partners_hold p name (a ∷ list) h = (unless_held _ _ _ (none_first (trust_fault p name true a) (first_fault (trust_fault p name true) list) h), partners_hold p name list (none_next (trust_fault p name true a) (first_fault (trust_fault p name true) list) h))
 
@@ -246,13 +251,29 @@ module _ (n : List Table) (agrees : Agrees n) where
   unfolding shipped sent
   shipped_queued p goods way dest xcm = refl
 
-  shipped_kept : (p : ChainPart) (goods : Bundle) (way : Way) (dest : Location) (xcm : List Instruction) → kept_of (record (shipped p goods way dest xcm) { channels = p.channels }) ≡ kept_of p
+  shipped_kept : (p : ChainPart) (goods : Bundle) (way : Way) (dest : Location) (xcm : List Instruction) → kept_of (record (shipped p goods way dest xcm) { channels = p.channels; checking = p.checking }) ≡ kept_of p
   unfolding shipped sent
   shipped_kept p goods way dest xcm = refl
 
   shipped_accounts : (who : List ℕ) (t : Unit → Bool) (p : ChainPart) (goods : Bundle) (way : Way) (dest : Location) (xcm : List Instruction) → account_total who t (shipped p goods way dest xcm) ≡ account_total who t p
   unfolding shipped sent
   shipped_accounts who t p goods way dest xcm = refl
+
+  -- the checking accounts
+  withdrawal_checks : (p : ChainPart) (goods : Bundle) (dest : Location) (xcm : List Instruction) → (shipped p goods Way.Withdrawal dest xcm).checking ≡ p.checking
+  unfolding shipped sent
+  withdrawal_checks p goods dest xcm = refl
+
+  teleport_checks : (p : ChainPart) (goods : Bundle) (dest : Location) (xcm : List Instruction) → (shipped p goods Way.Teleport dest xcm).checking ≡ changed_all (λ n a. n + a) (held_assets goods) p.rows p.checking
+  unfolding shipped sent
+  teleport_checks p goods dest xcm = refl
+
+  accounts_raised : (p : ChainPart) → IsIn n (table_of p) → (name : Location) (goods : Bundle) → IsGoods goods → AllByRecursion (λ (a : Asset). IsTrue (is_partner p.rows p.site a name)) (held_assets goods) → (checking : List (Option ℕ))
+      → checking ≡ changed_all (λ n a. n + a) (held_assets goods) p.rows p.checking → (a : UniversalAsset) → account_in (table_of p) a p.rows checking ≡ risen (in_bundle (table_of p) a every goods) (account_in (table_of p) a p.rows p.checking)
+  accounts_raised p p_in name goods whole partners checking changed a =
+      ap (account_in (table_of p) a p.rows) changed
+      ∙ list_raises (table_of p) name a (λ x y x_in y_in path. agrees.paths_apart (table_of p) x y p_in x_in y_in path) (held_assets goods) p.checking partners
+      ∙ ap (λ (b : Bundle). risen (in_bundle (table_of p) a every b) (account_in (table_of p) a p.rows p.checking)) whole
 
   ship_faults : (p : ChainPart) (goods : Bundle) (way : Way) (dest : Location) (xcm : List Instruction) → ship_refusal p goods way dest xcm ≡ None
       → (first_fault (trust_fault p dest (is_teleport way)) (held_assets goods) ≡ None) × (listed_refusal p dest (λ a. away_program way a xcm) (seen_from p dest (held_assets goods)) ≡ None)
@@ -267,7 +288,7 @@ module _ (n : List Table) (agrees : Agrees n) where
       let routed = routed_list m.part dest (λ a. away_program Way.Withdrawal a xcm) (seen_from m.part dest (held_assets goods)) faults.1 in
       let whole = goods_back goods (taken_most m filter fine.within) in
       let reserves = reserves_hold m.part dest (held_assets goods) faults.0 in
-      let q : ChainPart = record (shipped m.part goods Way.Withdrawal dest xcm) { channels = m.part.channels } in
+      let q : ChainPart = record (shipped m.part goods Way.Withdrawal dest xcm) { channels = m.part.channels; checking = m.part.checking } in
       record {
         name = dest;
         channel = routed.0;
@@ -279,6 +300,7 @@ module _ (n : List Table) (agrees : Agrees n) where
             (call_by nobody (origins m) none none m.part q (still m.part q (shipped_kept m.part goods Way.Withdrawal dest xcm)) (λ who h. absurd h))
             (λ t. let e = taken_conserves t filter m.regs.holding in omega (arith, e));
         put = λ who t account others. let e = shipped_accounts who t m.part goods Way.Withdrawal dest xcm in omega (arith, e);
+        raised = λ a. same_checks m.part _ a (withdrawal_checks m.part goods dest xcm);
         foreign = λ a home. withdrawal_foreign n agrees (view m) goods fine.there (foreign_units (table_of m.part) fine.there dest goods whole reserves) a home;
         trusted = (whole, reserves);
         runnable = shipped_runs m.part goods Way.Withdrawal dest xcm nested (seen_from m.part dest (held_assets goods)) refl faults.1;
@@ -291,7 +313,7 @@ module _ (n : List Table) (agrees : Agrees n) where
       let faults = ship_faults m.part goods Way.Teleport dest xcm ok in
       let routed = routed_list m.part dest (λ a. away_program Way.Teleport a xcm) (seen_from m.part dest (held_assets goods)) faults.1 in
       let whole = goods_back goods (taken_most m filter fine.within) in
-      let q : ChainPart = record (shipped m.part goods Way.Teleport dest xcm) { channels = m.part.channels } in
+      let q : ChainPart = record (shipped m.part goods Way.Teleport dest xcm) { channels = m.part.channels; checking = m.part.checking } in
       record {
         name = dest;
         channel = routed.0;
@@ -303,6 +325,7 @@ module _ (n : List Table) (agrees : Agrees n) where
             (call_by nobody (origins m) none none m.part q (still m.part q (shipped_kept m.part goods Way.Teleport dest xcm)) (λ who h. absurd h))
             (λ t. let e = taken_conserves t filter m.regs.holding in omega (arith, e));
         put = λ who t account others. let e = shipped_accounts who t m.part goods Way.Teleport dest xcm in omega (arith, e);
+        raised = accounts_raised m.part fine.there dest goods whole (partners_hold m.part dest (held_assets goods) faults.0) _ (teleport_checks m.part goods dest xcm);
         foreign = λ a home. refl;
         trusted = (whole, partners_hold m.part dest (held_assets goods) faults.0);
         runnable = shipped_runs m.part goods Way.Teleport dest xcm nested (seen_from m.part dest (held_assets goods)) refl faults.1;
@@ -314,9 +337,13 @@ module _ (n : List Table) (agrees : Agrees n) where
   unfolding deposited_out deposited sent
   deposited_queued p goods dest xcm = refl
 
-  deposited_kept : (p : ChainPart) (goods : Bundle) (dest : Location) (xcm : List Instruction) → kept_of (record (deposited_out p goods dest xcm) { channels = p.channels }) ≡ kept_of (deposited p goods dest)
+  deposited_kept : (p : ChainPart) (goods : Bundle) (dest : Location) (xcm : List Instruction) → kept_of (record (deposited_out p goods dest xcm) { channels = p.channels; checking = p.checking }) ≡ kept_of (deposited p goods dest)
   unfolding deposited_out deposited sent
   deposited_kept p goods dest xcm = refl
+
+  deposited_checks : (p : ChainPart) (goods : Bundle) (dest : Location) (xcm : List Instruction) → (deposited_out p goods dest xcm).checking ≡ p.checking
+  unfolding deposited_out deposited sent
+  deposited_checks p goods dest xcm = refl
 
   deposit_put : (p : ChainPart) (goods : Bundle) (dest : Location) (xcm : List Instruction) (who : List ℕ) (t : Unit → Bool) → account_of dest p.site ≡ Some who → account_total who t p + total t goods ≤ account_total who t (deposited_out p goods dest xcm)
   unfolding deposited_out deposited sent
@@ -335,7 +362,7 @@ module _ (n : List Table) (agrees : Agrees n) where
       let routed = routed_list m.part dest (λ a. deposit_program a xcm) (seen_from m.part dest (held_assets goods)) faults.1 in
       let whole = goods_back goods (taken_most m filter fine.within) in
       let p = deposited m.part goods dest in
-      let q : ChainPart = record (deposited_out m.part goods dest xcm) { channels = m.part.channels } in
+      let q : ChainPart = record (deposited_out m.part goods dest xcm) { channels = m.part.channels; checking = m.part.checking } in
       record {
         name = dest;
         channel = routed.0;
@@ -351,6 +378,7 @@ module _ (n : List Table) (agrees : Agrees n) where
             let got = deposit_put m.part goods dest xcm who t account in
             let same = ap (total t) whole in
             omega (arith, got, same);
+        raised = λ a. same_checks m.part _ a (deposited_checks m.part goods dest xcm);
         foreign = λ a home. refl;
         trusted = subst (AreListed (listing m.part.rows)) (sym whole) (listed_taken (listing m.part.rows) filter m.regs.holding fine.listed);
         runnable = deposit_runs m.part dest xcm nested (seen_from m.part dest (held_assets goods)) faults.1;
@@ -362,13 +390,17 @@ module _ (n : List Table) (agrees : Agrees n) where
   unfolding transferred_out transferred sent
   transferred_queued p list from dest xcm = refl
 
-  transferred_kept : (p : ChainPart) (list : List Asset) (from dest : Location) (xcm : List Instruction) → kept_of (record (transferred_out p list from dest xcm) { channels = p.channels }) ≡ kept_of (transferred p list from dest)
+  transferred_kept : (p : ChainPart) (list : List Asset) (from dest : Location) (xcm : List Instruction) → kept_of (record (transferred_out p list from dest xcm) { channels = p.channels; checking = p.checking }) ≡ kept_of (transferred p list from dest)
   unfolding transferred_out transferred sent
   transferred_kept p list from dest xcm = refl
 
   transferred_accounts : (who : List ℕ) (t : Unit → Bool) (p : ChainPart) (list : List Asset) (from dest : Location) (xcm : List Instruction) → account_total who t (transferred_out p list from dest xcm) ≡ account_total who t (transferred p list from dest)
   unfolding transferred_out sent
   transferred_accounts who t p list from dest xcm = refl
+
+  transferred_checks : (p : ChainPart) (list : List Asset) (from dest : Location) (xcm : List Instruction) → (transferred_out p list from dest xcm).checking ≡ p.checking
+  unfolding transferred_out transferred sent
+  transferred_checks p list from dest xcm = refl
 
   transfer_faults : (p : ChainPart) (list : List Asset) (from dest : Location) (xcm : List Instruction) → transfer_out_refusal p list from dest xcm ≡ None
       → (transfer_refusal p list from dest ≡ None) × (listed_refusal p dest (λ a. deposit_program a xcm) (seen_from p dest list) ≡ None)
@@ -389,7 +421,7 @@ module _ (n : List Table) (agrees : Agrees n) where
       let faults = transfer_faults m.part list who dest xcm ok in
       let routed = routed_list m.part dest (λ a. deposit_program a xcm) (seen_from m.part dest list) faults.1 in
       let p = transferred m.part list who dest in
-      let q : ChainPart = record (transferred_out m.part list who dest xcm) { channels = m.part.channels } in
+      let q : ChainPart = record (transferred_out m.part list who dest xcm) { channels = m.part.channels; checking = m.part.checking } in
       record {
         name = dest;
         channel = routed.0;
@@ -406,6 +438,7 @@ module _ (n : List Table) (agrees : Agrees n) where
             let got = put_by_transfer law m.part list who dest in_order faults.0 account t there (λ e. others (who, is, e)) in
             let same = transferred_accounts account t m.part list who dest xcm in
             omega (arith, got, same);
+        raised = λ a. same_checks m.part _ a (transferred_checks m.part list who dest xcm);
         foreign = λ a home. refl;
         trusted = list_listed m.part list who dest faults.0;
         runnable = deposit_runs m.part dest xcm nested (seen_from m.part dest list) faults.1;
@@ -416,7 +449,7 @@ module _ (n : List Table) (agrees : Agrees n) where
   unfolding sent
   sent_queued p dest program cargo = refl
 
-  sent_kept : (p : ChainPart) (dest : Location) (program : List Instruction) (cargo : carried.Cargo) → kept_of (record (sent p dest program cargo) { channels = p.channels }) ≡ kept_of p
+  sent_kept : (p : ChainPart) (dest : Location) (program : List Instruction) (cargo : carried.Cargo) → kept_of (record (sent p dest program cargo) { channels = p.channels; checking = p.checking }) ≡ kept_of p
   unfolding sent
   sent_kept p dest program cargo = refl
 
@@ -424,9 +457,13 @@ module _ (n : List Table) (agrees : Agrees n) where
   unfolding sent
   sent_accounts who t p dest program cargo = refl
 
+  sent_checks : (p : ChainPart) (dest : Location) (program : List Instruction) (cargo : carried.Cargo) → (sent p dest program cargo).checking ≡ p.checking
+  unfolding sent
+  sent_checks p dest program cargo = refl
+
   pub nothing_sends : (m : Machine) (dest : Location) (program : List Instruction) (c : Outgoing) → channel_to m.part dest ≡ Some c → IsRunnable program → Sends m (machine m.regs (sent m.part dest program cargos.Nothing))
   nothing_sends m dest program c found runnable =
-      let q : ChainPart = record (sent m.part dest program cargos.Nothing) { channels = m.part.channels } in
+      let q : ChainPart = record (sent m.part dest program cargos.Nothing) { channels = m.part.channels; checking = m.part.checking } in
       record {
         name = dest;
         channel = c;
@@ -436,6 +473,7 @@ module _ (n : List Table) (agrees : Agrees n) where
         queued = sent_queued m.part dest program cargos.Nothing;
         call = call_with (origins m) none none (hold m) (with (hold m) none) m.part q (call_by nobody (origins m) none none m.part q (still m.part q (sent_kept m.part dest program cargos.Nothing)) (λ who h. absurd h)) (λ t. omega arith);
         put = λ who t account others. let e = sent_accounts who t m.part dest program cargos.Nothing in omega (arith, e);
+        raised = λ a. same_checks m.part _ a (sent_checks m.part dest program cargos.Nothing);
         foreign = λ a home. refl;
         trusted = tt;
         runnable = runnable;

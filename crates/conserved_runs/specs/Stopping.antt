@@ -30,7 +30,7 @@ use Rattle.exec_rules.specs.AnswerLaws.{unless_held, unless_next}
 use Rattle.exec_rules.specs.Stopping.{parking, NotJoined, NotPutBack, BuyingStops, RefundStops, fee_parked, StopsAround, Stops, Spilled}
 use Rattle.coherence.specs.Networks.{Table}
 use Rattle.conserved_runs.specs.Sums.{Kept, kept_of, in_kept, in_places, burned_where, account_total, sum_of, none, nobody, only, Call}
-use Rattle.conserved_runs.specs.Calls.{Withdraws, total_nothing, call_then, call_with, call_by, room_with, receiving, withdrawing, claiming, refunding, buying, parking_goods}
+use Rattle.conserved_runs.specs.Calls.{Withdraws, total_nothing, call_then, call_with, call_by, room_with, receiving_none, withdrawing, claiming, refunding, buying, parking_goods}
 use Rattle.conserved_runs.specs.Safety.{HasList, origins, hold, Turn, Safely, turn_safely, safely_then, fee_in_order}
 use Rattle.conserved_runs.specs.Turns.{by_account, by_nobody, same_turn, left_turn, paid_parts, charge_turn, spared_by, fee_origin}
 use Rattle.conserved_runs.specs.Accepted.{receive_by}
@@ -62,6 +62,7 @@ taking_fee p =
       site = ap (λ (k : Kept). k.site) same;
       rows = ap (λ (k : Kept). k.rows) same;
       channels = ap (λ (k : Kept). k.channels) same;
+      checking = ap (λ (k : Kept). k.checking) same;
       cargo = λ h. ap (λ (k : Kept). k.cargo) same ∙ h;
       gone = empty;
       amounts = λ t. let e = slot_left t p in let z = total-empty unit_keys t in omega (arith, e, z);
@@ -128,7 +129,7 @@ module _ (withdraws : Withdraws) (moves : MovesAreKept) (n : List Table) where
 
   received_none : (m : Machine) (list : List Asset) (teleport : Bool) → list ≡ [] → Call (origins m) none (sum_of (bundle_of list)) m.part (received m.part list teleport)
   received_none m list teleport none_of =
-      call_with (origins m) none none none (sum_of (bundle_of list)) m.part (received m.part list teleport) (call_by nobody (origins m) none none m.part (received m.part list teleport) (receiving m.part list teleport) (by_nobody m))
+      call_with (origins m) none none none (sum_of (bundle_of list)) m.part (received m.part list teleport) (call_by nobody (origins m) none none m.part (received m.part list teleport) (receiving_none m.part list teleport none_of) (by_nobody m))
       (λ t. let e = ap (λ (xs : List Asset). total t (bundle_of xs)) none_of in let z = total_nothing t in omega (arith, e, z))
 
   stops_safely : (l : Instruction-F Instruction) (m now : Machine) → IsSafeAt n m → HasList Instruction l → Stops l m now → Safely m now

@@ -37,6 +37,7 @@ pub record Kept : Type 0 where
   pub slot : Bundle
   pub parked : List Bundle
   pub burns : Burns
+  pub checking : List (Option ℕ)
   pub cargo : Cargo
 
 abbrev pub kept_of : ChainPart → Kept
@@ -51,6 +52,7 @@ kept_of p = record {
   slot = p.fee_slot;
   parked = p.parked;
   burns = p.burns;
+  checking = p.checking;
   cargo = p.cargo.cargo;
 }
 
@@ -99,6 +101,7 @@ pub record Call (may : List ℕ → Type 0) (ins outs : Sum) (p q : ChainPart) :
   pub site : q.site ≡ p.site
   pub rows : q.rows ≡ p.rows
   pub channels : q.channels ≡ p.channels
+  pub checking : q.checking ≡ p.checking
   pub cargo : p.cargo.cargo ≡ Nothing → q.cargo.cargo ≡ Nothing
   pub gone : Bundle
   pub amounts : (t : Unit → Bool) → in_places t q + (outs t + total t gone) ≡ in_places t p + ins t

@@ -45,6 +45,7 @@ seen holding p = record {
   parked = p.parked;
   holding = holding;
   burns = p.burns;
+  checking = p.checking;
   outgoing = map channel_of p.channels;
 }
 

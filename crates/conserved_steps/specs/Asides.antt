@@ -1,5 +1,5 @@
 -- Lemmas: a message's list that came, and that memory was refused to be joined with: it is among the parked bundles. A reader may skip this file.
-use Rattle.std.proofs.Common.{◌≡◌, ◌+◌, List, [], ◌∷◌, ◌++◌, Some, refl, sym, ap, ◌∙◌, arith}
+use Rattle.std.proofs.Common.{◌≡◌, ℕ, ◌+◌, List, [], ◌∷◌, ◌++◌, Option, Some, refl, sym, ap, ◌∙◌, arith}
 use Rattle.std.specs.Prelude.{◌≢◌}
 use Rattle.std.proofs.lemmas.List.Sums.{sum_by_push}
 use Rattle.amounts.specs.Amounts.{total, difference, IsWithin}
@@ -14,7 +14,7 @@ use Rattle.coherence.specs.Networks.{context_of}
 use Rattle.conservation.specs.Parts.{Cargo, Withdrawal, Part, chain_of, in_bundle, stock, account_amount, burned}
 use Rattle.conservation.specs.Channels.{front}
 use Rattle.conservation.specs.Moves.{IsReceived}
-use Rattle.conservation.specs.Landings.{WithoutFront, IsListFor}
+use Rattle.conservation.specs.Landings.{WithoutFront, IsListFor, AreLowered}
 use Rattle.conservation.specs.Accounts.{paid_received}
 
 -- goods are parked
@@ -25,10 +25,12 @@ Aside goods q = record q { parked = q.parked ++ goods ∷ [] }
 abbrev pub Drawn : Part → List Asset → Part → Part
 Drawn p assets q = record q { held = difference q.held (held_by (sovereign_account (chain_of q) (chain_of p)) (bundle_of assets)) }
 
-pub list_aside : (cargo : Cargo) (new : List Asset) (p q : Part) → front (chain_of q) p.outgoing ≡ Some cargo → IsListFor cargo new p q → IsReceived cargo p (WithoutFront q p) q (Aside (bundle_of new) q)
+pub list_aside : (cargo : Cargo) (new : List Asset) (checking : List (Option ℕ)) (p q : Part) → front (chain_of q) p.outgoing ≡ Some cargo → IsListFor cargo new p q → AreLowered cargo checking p q
+    → IsReceived cargo p (WithoutFront q p) q (Aside (bundle_of new) (record q { checking = checking }))
 unfolding stock burned account_amount
-list_aside cargo new p q first same = record {
+list_aside cargo new checking p q first same lowered = record {
   table = refl;
+  checking = refl;
   first = first;
   outgoing = refl;
   burns_now = λ a. refl;
@@ -39,6 +41,7 @@ list_aside cargo new p q first same = record {
   kept = λ a. let put = sum_by_push (in_bundle q.table a every) q.parked (bundle_of new) in let list = same a every in omega (arith, put, list);
   more = λ a choice. let put = sum_by_push (in_bundle q.table a choice) q.parked (bundle_of new) in let list = same a choice in omega (arith, put, list);
   covered = λ chain a count number foreign. omega arith;
+  lowered = lowered;
 }
 
 pub paid_aside : (goods : Bundle) (assets : List Asset) (p q : Part) → front (chain_of q) p.outgoing ≡ Some (Withdrawal goods) → IsChain (chain_of p) → chain_of p ≢ chain_of q
@@ -55,6 +58,7 @@ paid_aside goods assets p q first number_p apart within same_goods =
     let paid = paid_received goods assets p q first number_p apart within same_goods in
     record {
       table = refl;
+      checking = refl;
       first = first;
       outgoing = refl;
       burns_now = λ a. refl;
@@ -65,4 +69,5 @@ paid_aside goods assets p q first number_p apart within same_goods =
       kept = λ a. let put = sum_by_push (in_bundle q.table a every) q.parked (bundle_of assets) in let x = gone a every in omega (arith, put, x);
       more = λ a choice. let put = sum_by_push (in_bundle q.table a choice) q.parked (bundle_of assets) in let x = gone a choice in omega (arith, put, x);
       covered = paid.covered;
+      lowered = paid.lowered;
     }

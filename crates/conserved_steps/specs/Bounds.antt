@@ -1,5 +1,5 @@
 -- Lemmas: in every world that safe changes lead to, no listed asset of a chain passes 2^127. A reader may skip this file.
-use Rattle.std.proofs.Common.{◌≡◌, ℕ, ◌+◌, ◌^◌, ◌<◌, ◌≤◌, Bool, true, Some, map, refl, sym, subst, arith}
+use Rattle.std.proofs.Common.{◌≡◌, ℕ, ◌+◌, ◌^◌, ◌<◌, ◌≤◌, Bool, true, List, Option, Some, map, refl, sym, subst, arith}
 use Rattle.std.specs.Prelude.{slice_get}
 use Rattle.amounts.specs.Amounts.{empty, merge, total-empty}
 use Rattle.amounts.specs.Laws.{total-merge}
@@ -22,6 +22,7 @@ use Rattle.conservation.specs.Channels.{in_channels-popped}
 use Rattle.conservation.specs.Steps.{tables_of}
 use Rattle.conservation.specs.Cargoes.{home_of_row}
 use Rattle.conservation.specs.Bounds.{home_at_most}
+use Rattle.conservation.specs.Checking.{AllChecked, AllLow}
 use Rattle.conservation.specs.Histories.{History, safe_history, never_passes}
 use Rattle.conserved_runs.specs.Views.{table_of, channel_of, seen}
 use Rattle.conserved_runs.specs.Sums.{in_kept, in_places, sum_of, none, with, most}
@@ -34,14 +35,19 @@ pub record IsSoundGenesis (first : World) : Type 0 where
   pub agrees : Agrees (tables_of first)
   pub backed : Backed first
   pub small : (a : UniversalAsset) → supply a first < 2 ^ 127
+  pub checked : AllChecked first
+  pub low : AllLow first
 
-places_same : (t : Unit → Bool) (p : ChainPart) (goods : Bundle) → in_places t (record p { burns = merge p.burns (given_up empty goods) }) ≡ in_places t p
+places_same : (t : Unit → Bool) (p : ChainPart) (goods : Bundle) (checking : List (Option ℕ)) → in_places t (record p { burns = merge p.burns (given_up empty goods); checking = checking }) ≡ in_places t p
 unfolding in_kept
-places_same t p goods = refl
+places_same t p goods checking = refl
 
 module _ (first : World) (genesis : IsSoundGenesis first) (v : World) (history : History first v) where
   pub agrees_now : Agrees (tables_of v)
   agrees_now = subst Agrees (sym (safe_history first v genesis.agrees history).tables) genesis.agrees
+
+  pub checked_now : AllChecked v
+  checked_now = (safe_history first v genesis.agrees history).checked genesis.checked
 
   -- a chain of the world, with what it holds
   pub small_with : (k : ℕ) (h : Bundle) (p : ChainPart) → slice_get v k ≡ Some (seen h p) → IsSmall (sum_of h) p
@@ -60,13 +66,14 @@ module _ (first : World) (genesis : IsSoundGenesis first) (v : World) (history :
       omega (arith, le, z)
 
   -- a chain to which a list comes
-  pub small_more : (k : ℕ) (goods : Bundle) (p : ChainPart) → slice_get v k ≡ Some (seen (Joined empty goods) (record p { burns = merge p.burns (given_up empty goods) })) → IsSmall (with (sum_of empty) (sum_of goods)) p
-  small_more k goods p at row inside =
+  pub small_more : (k : ℕ) (goods : Bundle) (checking : List (Option ℕ)) (p : ChainPart) → slice_get v k ≡ Some (seen (Joined empty goods) (record p { burns = merge p.burns (given_up empty goods); checking = checking }))
+      → IsSmall (with (sum_of empty) (sum_of goods)) p
+  small_more k goods checking p at row inside =
       let a = asset_of_row (table_of p) row in
       let c = path_of_site p.site in
       let t = is_unit_at c a every in
-      let le = small_with k (Joined empty goods) (record p { burns = merge p.burns (given_up empty goods) }) at row inside in
-      let same = places_same t p goods in
+      let le = small_with k (Joined empty goods) (record p { burns = merge p.burns (given_up empty goods); checking = checking }) at row inside in
+      let same = places_same t p goods checking in
       let books = total-merge burn_keys (is_burn_where (is_asset_at c a)) p.burns (given_up empty goods) in
       let above = given_up_total (is_asset_at c a) empty goods in
       let whole = whole_units p.site a (Excess empty goods) in

@@ -16,3 +16,4 @@ pub mod Reading
 pub mod Worlds
 pub mod Stepping
 pub mod Insides
+pub mod Rising

@@ -24,6 +24,7 @@ use Rattle.conserved_runs.specs.Shipping.{HasList-IsOfLayer}
 -- ---- what is read
 head_list : (v : Version) (l : Instruction-F Instruction) → FitsHead v l → HasList Instruction l
 head_list v (Instruction-F.WithdrawAsset list) h = h.0
+head_list v (Instruction-F.ReceiveTeleportedAsset list) h = h.0
 head_list v (Instruction-F.TransferAsset list who) h = h.0.0
 head_list v (Instruction-F.TransferReserveAsset list dest xcm) h = h.0.0
 head_list v _ h = tt

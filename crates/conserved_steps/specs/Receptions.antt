@@ -1,5 +1,5 @@
 -- Lemmas: what a delivery does to its receiver. A reader may skip this file.
-use Rattle.std.proofs.Common.{◌≡◌, ◌⊎◌, ⊎_elim, ℕ, zero, suc, ◌+◌, ◌<◌, ◌≤◌, Bool, true, false, List, [], ◌∷◌, length, Option, Some, None, Ok, map, refl, sym, ap, ◌∙◌, subst, arith}
+use Rattle.std.proofs.Common.{◌≡◌, ◌⊎◌, ⊎_elim, ℕ, zero, suc, ◌+◌, ◌-◌, ◌<◌, ◌≤◌, Bool, true, false, List, [], ◌∷◌, length, Option, Some, None, Ok, map, refl, sym, ap, ◌∙◌, subst, arith}
 use Rattle.std.specs.Prelude.{IsTrue, ◌≢◌, ◌&&◌, if◌then◌else◌, slice_get, slice_set}
 use Rattle.std.specs.List.{AllByRecursion}
 use Rattle.std.specs.Ordering.{eq_by_cmp}
@@ -34,7 +34,7 @@ use Rattle.exec_base.specs.declared.event.Event.{Event}
 use Rattle.exec_base.specs.Arrivals.{arrived_list, is_this_list}
 use Rattle.exec_base.specs.Part.{Taken, ChainPart, accounts_of, book_of}
 use Rattle.exec_base.specs.Sending.{led_by}
-use Rattle.exec_base.specs.Host.{Arrival, ByWithdrawal, ByDeposit, ByTeleport, arrival_of, fits_call, cargo_list, is_cargo, cargo_after, first_fault, receive_refusal, withdraw_refusal, give_fault, at_account, withdrawn, received, joined, booked, claimed, answered, told, parked}
+use Rattle.exec_base.specs.Host.{Arrival, ByWithdrawal, ByDeposit, ByTeleport, arrival_of, fits_call, cargo_list, is_cargo, cargo_after, changed_all, first_fault, receive_refusal, withdraw_refusal, give_fault, at_account, withdrawn, received, joined, booked, claimed, answered, told, parked}
 use Rattle.exec_run.specs.Machine.{Machine}
 use Rattle.exec_run.specs.Run.{machine_of}
 use Rattle.exec_run.specs.Accounts.{IsBalanced}
@@ -50,17 +50,19 @@ use Rattle.exec_admission.specs.declared.admission.Admitted.{Admitted}
 use Rattle.exec_admission.specs.Admission.{admitted, IsWeighed}
 use Rattle.exec_admission.specs.Execution.{first_machine, first_stage, last_machine}
 use Rattle.network_steps.specs.Acting.{begun, ended}
-use Rattle.coherence.specs.UniversalAssets.{UniversalAsset, Choice, is_unit_at, IsPlaced}
-use Rattle.coherence.specs.Networks.{Table, context_of, IsIn, Agrees}
+use Rattle.coherence.specs.UniversalAssets.{UniversalAsset, Choice, every, is_unit_at, IsPlaced}
+use Rattle.coherence.specs.Networks.{Table, context_of, IsIn, Agrees, is_home}
 use Rattle.coherence.specs.Twins.{unit_placed}
 use Rattle.coherence.specs.Trusting.{IsShared}
-use Rattle.conservation.specs.Parts.{Cargo, Deposit, Withdrawal, Teleport, Part, World, chain_of}
+use Rattle.conservation.specs.Parts.{Cargo, Deposit, Withdrawal, Teleport, Part, World, chain_of, in_bundle, stock, flight}
 use Rattle.conservation.specs.Channels as queues
 use Rattle.conservation.specs.Steps.{tables_of, table_at, get_set_same, get_set_other, IsSafe, IsExchange}
 use Rattle.conservation.specs.Moves.{IsTrusted, received_safe}
 use Rattle.conservation.specs.Cargoes.{IsDepositFor, teleport_trusted, deposit_trusted, withdrawal_trusted}
 use Rattle.conservation.specs.Receiving.{shared_there, owed_there, deposit_for}
-use Rattle.conservation.specs.Landings.{WithoutFront, WithList, IsListFor, list_received}
+use Rattle.conservation.specs.Landings.{WithoutFront, WithList, IsListFor, AreLowered, list_received}
+use Rattle.conservation.specs.Checking.{account_in, checking_at, risen, risen_by_none, account_stays}
+use Rattle.conservation.specs.CheckingLaws.{covers_teleport}
 use Rattle.conservation.specs.Accounts.{Paid, paid_received}
 use Rattle.conservation.specs.Histories.{History, Two}
 use Rattle.conserved_runs.specs.Views.{table_of, cargo_of, channel_of, seen, view}
@@ -69,7 +71,8 @@ use Rattle.conserved_runs.specs.Calls.{call_then, call_with, room_kept, below, r
 use Rattle.conserved_runs.specs.Safety.{AreLists, HasFee, AreTrustedAt, AreTrusted, links_of, hold, Safely, moved_safely, safely_then, same_table}
 use Rattle.conserved_runs.specs.Safety as runs
 use Rattle.conserved_runs.specs.Turns.{more_call}
-use Rattle.conserved_runs.specs.Shipping.{HasList-IsOfLayer, each_unit, reserves_hold}
+use Rattle.conserved_runs.specs.Shipping.{HasList-IsOfLayer, each_unit, reserves_hold, partners_hold}
+use Rattle.conserved_runs.specs.Checks.{list_lowers}
 use Rattle.conserved_runs.specs.Runs.{emptied, held_done}
 use Rattle.conserved_steps.specs.Rooms.{unlisted, AllListed, IsSmall, small_room, sum_rises, none_rises, with_rises, goods_listed, listed_goods}
 use Rattle.conserved_steps.specs.Admitting.{admitted_lists}
@@ -79,7 +82,7 @@ use Rattle.conserved_steps.specs.Landing.{names, lands, found_there, same_amount
 use Rattle.conserved_steps.specs.Firsts.{IsSet, IsSetBehind, joined_cargo, stopped_steady, refused_safely, refused_inside, alone_safely, alone_inside, led_safely, led_inside}
 use Rattle.conserved_steps.specs.Stops.{ComesTo, AbandonedBehind, DoneFirst, StopsFirst, StandsAs, over, parked_cargo, same_front, parks, refused_stops, alone_stops, led_stops, done_stops}
 use Rattle.conserved_steps.specs.Asides.{Aside, Drawn, list_aside, paid_aside}
-use Rattle.conserved_steps.specs.Bounds.{IsSoundGenesis, agrees_now, small_now, small_more}
+use Rattle.conserved_steps.specs.Bounds.{IsSoundGenesis, agrees_now, checked_now, small_now, small_more}
 
 -- the receiver as the message begins
 abbrev pub taken : ChainId → carried.Cargo → Event → ChainPart → ChainPart
@@ -110,6 +113,7 @@ same_safe p = record {
   keeps = record { table = refl; owing = λ row chain count inside role other. omega arith; covering = λ chain a count number foreign other. omega arith };
   owned = λ a. refl;
   rare = λ a choice. omega arith;
+  accounted = λ a. account_stays (checking_at a p) (checking_at a p) (flight a every p) (flight a every p) (stock a every p) (stock a every p) refl (omega arith) (omega arith);
 }
 
 module _ (laws : LawsBelow) (first : World) (genesis : IsSoundGenesis first) (v : World) (history : History first v) (i j : ℕ) (ps pr : ChainPart) (at_i : slice_get v i ≡ Some (seen empty ps)) (at_j : slice_get v j ≡ Some (seen empty pr))
@@ -185,11 +189,18 @@ module _ (laws : LawsBelow) (first : World) (genesis : IsSoundGenesis first) (v 
   steady0 : IsSteady m0
   steady0 = record { rest = rest0; holding = none_listed (listing p0.rows) }
 
-  -- ---- a run behind an accepted first instruction
-  all_listed : (may : List ℕ → Type 0) (ins : Sum) (k : Machine) → Call may ins (hold k) p0 k.part → AllListed ins p0 → AllListed (hold k) k.part
-  all_listed may ins k x listed =
+  -- ---- a run behind an accepted first instruction, whatever the checking accounts are then
+  places_checks : (p : ChainPart) (checks : List (Option ℕ)) (t : Unit → Bool) → in_places t (record p { checking = checks }) ≡ in_places t p
+  unfolding in_kept
+  places_checks p checks t = refl
+
+  room_checks : (ins : Sum) (p : ChainPart) (checks : List (Option ℕ)) → HasRoom ins p → HasRoom ins (record p { checking = checks })
+  room_checks ins p checks room k = let le = room k in let same = places_checks p checks (is_unit_of k) in omega (arith, le, same)
+
+  all_listed : (checks : List (Option ℕ)) (may : List ℕ → Type 0) (ins : Sum) (k : Machine) → Call may ins (hold k) (record p0 { checking = checks }) k.part → AllListed ins p0 → AllListed (hold k) k.part
+  all_listed checks may ins k x listed =
       subst (λ (r : List AssetRow). burned_where (unlisted r) k.part + (in_places (is_unit_where (unlisted r)) k.part + hold k (is_unit_where (unlisted r))) ≡ 0) (sym x.rows)
-      (let one = x.amounts (is_unit_where (unlisted p0.rows)) in let two = x.books (unlisted p0.rows) in omega (arith, one, two, listed))
+      (let one = x.amounts (is_unit_where (unlisted p0.rows)) in let two = x.books (unlisted p0.rows) in let same = places_checks p0 checks (is_unit_where (unlisted p0.rows)) in omega (arith, one, two, same, listed))
 
   abbrev end_of : Admitted → ChainPart
   end_of a = finished xcm (last_machine rules origin a (taken ps.site.chain cargo e pr))
@@ -237,14 +248,14 @@ module _ (laws : LawsBelow) (first : World) (genesis : IsSoundGenesis first) (v 
       subst (Safely k) (sym s.2) (⊎_elim (λ (b : AbandonedBehind rules origin a p0 s.0). behind s.0 b) (λ (d : DoneFirst rules origin a p0 s.0). first s.0 d) s.1)) c
 
   led_through : (a : Admitted) → admitted rules origin no_weight p0.queries program ≡ Ok a → (l : Instruction-F Instruction) (behind : List Instruction) → a.program ≡ led_by l behind → refused l m0 ≡ None
-      → (may : List ℕ → Type 0) (ins : Sum) → Call may ins (hold (done l m0)) p0 (done l m0).part → HasRoom ins p0 → AllListed ins p0
+      → (checks : List (Option ℕ)) (may : List ℕ → Type 0) (ins : Sum) → Call may ins (hold (done l m0)) (record p0 { checking = checks }) (done l m0).part → HasRoom ins p0 → AllListed ins p0
       → Safely (done l m0) (emptied laws.withdraws laws.moves laws.stays (tables_of v) agrees (last_machine rules origin a p0)) × IsSoundPart (ended (end_of a)) × ((m : Machine) → StandsAs rules origin a (taken ps.site.chain cargo e pr) m → Safely (done l m0) m)
-  led_through a ok l behind is way may ins x room listed =
+  led_through a ok l behind is way checks may ins x room listed =
       let k = done l m0 in
       let same : xcm.done (roll-Instruction l) m0 ≡ k = ap (λ (f : Instruction-F Instruction). done f m0) (out-roll-Instruction l) in
-      let all = all_listed may ins k x listed in
+      let all = all_listed checks may ins k x listed in
       let set : IsSet (tables_of v) k = record {
-        room = room_kept may ins (hold k) p0 k.part x room;
+        room = room_kept may ins (hold k) (record p0 { checking = checks }) k.part x (room_checks ins p0 checks room);
         listed = listed_goods k.part.rows k.regs.holding (omega (arith, all));
         within = held_done l m0 none_above;
         there = subst (IsIn (tables_of v)) (sym (same_table p0 k.part x.site x.rows)) there0;
@@ -318,7 +329,7 @@ module _ (laws : LawsBelow) (first : World) (genesis : IsSoundGenesis first) (v 
       let r = claimed p0 list origin in
       let came = claim_call list ticket way in
       let x : Call nobody (hold m0) (hold (done l m0)) p0 (done l m0).part = more_call nobody m0 r goods came room0 in
-      let through = led_through a ok l behind is way nobody (hold m0) x room0 (nothing_listed p0 listed0 empty refl) in
+      let through = led_through a ok l behind is way p0.checking nobody (hold m0) x room0 (nothing_listed p0 listed0 empty refl) in
       nothing_fate a ok empty_handed (done l m0) (moved_safely nobody m0 (done l m0) (λ chain number foreign h. h) x) through.0 through.2
       (λ q s.
       let m = parking m0 r goods in
@@ -374,12 +385,13 @@ module _ (laws : LawsBelow) (first : World) (genesis : IsSoundGenesis first) (v 
 
   -- ---- a list comes: a teleport, or a deposit
   list_call : (teleport : Bool) (new : List Asset) → HasRoom (with (sum_of empty) (sum_of (bundle_of new))) p0
-      → Call nobody (with (sum_of empty) (sum_of (bundle_of new))) (hold (holding_more m0 (received p0 new teleport) (bundle_of new))) p0 (holding_more m0 (received p0 new teleport) (bundle_of new)).part
+      → Call nobody (with (sum_of empty) (sum_of (bundle_of new))) (hold (holding_more m0 (received p0 new teleport) (bundle_of new))) (record p0 { checking = (received p0 new teleport).checking }) (holding_more m0 (received p0 new teleport) (bundle_of new)).part
   list_call teleport new room =
       let r = received p0 new teleport in
       let both = with (sum_of empty) (sum_of (bundle_of new)) in
-      let one : Call nobody both both p0 r = call_with nobody none none both both p0 r (receiving p0 new teleport) (λ t. omega arith) in
-      call_then nobody both both (sum_of (Joined empty (bundle_of new))) p0 r (joined r empty (bundle_of new)) one (joining r empty (bundle_of new) (room_kept nobody both both p0 r one room))
+      let b : ChainPart = record p0 { checking = r.checking } in
+      let one : Call nobody both both b r = call_with nobody none none both both b r (receiving p0 new teleport) (λ t. omega arith) in
+      call_then nobody both both (sum_of (Joined empty (bundle_of new))) b r (joined r empty (bundle_of new)) one (joining r empty (bundle_of new) (room_kept nobody both both b r one (room_checks both p0 r.checking room)))
 
   given_part : (new : List Asset) (k : Listed) → total (is_burn_of k) (given_up empty (bundle_of new)) ≤ with (sum_of empty) (sum_of (bundle_of new)) (is_unit_of k)
   given_part new k =
@@ -391,11 +403,11 @@ module _ (laws : LawsBelow) (first : World) (genesis : IsSoundGenesis first) (v 
   unfolding told
   list_ends new room = below p0 (with (sum_of empty) (sum_of (bundle_of new))) (given_up empty (bundle_of new)) room (given_part new)
 
-  list_view : (teleport : Bool) (new : List Asset) → AreTotals (merge pr.burns (given_up empty (bundle_of new))) → view (holding_more m0 (received p0 new teleport) (bundle_of new)) ≡ WithList new (seen empty pr)
+  list_view : (teleport : Bool) (new : List Asset) → AreTotals (merge pr.burns (given_up empty (bundle_of new))) → view (holding_more m0 (received p0 new teleport) (bundle_of new)) ≡ WithList new (received p0 new teleport).checking (seen empty pr)
   unfolding joined booked received told
-  list_view teleport new ends = λ i. record (WithList new (seen empty pr)) { burns = booked_below (book_of pr) (given_up empty (bundle_of new)) ends i }
+  list_view teleport new ends = λ i. record (WithList new (received p0 new teleport).checking (seen empty pr)) { burns = booked_below (book_of pr) (given_up empty (bundle_of new)) ends i }
 
-  aside_view : (teleport : Bool) (new : List Asset) → view (parking m0 (received p0 new teleport) (bundle_of new)) ≡ Aside (bundle_of new) (seen empty pr)
+  aside_view : (teleport : Bool) (new : List Asset) → view (parking m0 (received p0 new teleport) (bundle_of new)) ≡ Aside (bundle_of new) (record (seen empty pr) { checking = (received p0 new teleport).checking })
   unfolding parked received told
   aside_view teleport new = refl
 
@@ -405,17 +417,19 @@ module _ (laws : LawsBelow) (first : World) (genesis : IsSoundGenesis first) (v 
 
   list_fate : (a : Admitted) → admitted rules origin no_weight p0.queries program ≡ Ok a → (l : Instruction-F Instruction) (behind : List Instruction) → a.program ≡ led_by l behind → refused l m0 ≡ None
       → (teleport : Bool) (new : List Asset) → ((m : Machine) → Stops l m0 m → m ≡ parking m0 (received p0 new teleport) (bundle_of new)) → done l m0 ≡ holding_more m0 (received p0 new teleport) (bundle_of new) → AreListed (listing p0.rows) (bundle_of new) → is_cargo p0 (arrival_of teleport) new ≡ true
-      → IsListFor (cargo_of cargo) new (seen empty ps) (seen empty pr) → IsTrusted (cargo_of cargo) (seen empty ps) (seen empty pr) → Ways a
-  list_fate a ok l behind is way teleport new parks_so does listed found same trusted =
+      → IsListFor (cargo_of cargo) new (seen empty ps) (seen empty pr) → AreLowered (cargo_of cargo) (received p0 new teleport).checking (seen empty ps) (seen empty pr)
+      → IsTrusted (cargo_of cargo) (seen empty ps) (seen empty pr) → Ways a
+  list_fate a ok l behind is way teleport new parks_so does listed found same lowered trusted =
       let p = seen empty ps in
       let q = seen empty pr in
-      let mid = WithList new q in
-      let exchange : IsExchange p (WithoutFront q p) q mid = received_safe (cargo_of cargo) p (WithoutFront q p) q mid chains_apart sender_number (list_received (cargo_of cargo) new p q front same) trusted in
+      let checks = (received p0 new teleport).checking in
+      let mid = WithList new checks q in
+      let exchange : IsExchange p (WithoutFront q p) q mid = received_safe (cargo_of cargo) p (WithoutFront q p) q mid chains_apart sender_number (list_received (cargo_of cargo) new checks p q front same lowered) trusted in
       let w = slice_set (slice_set v i (WithoutFront q p)) j mid in
       let after : History first w = Two v i j p (WithoutFront q p) q mid history at_i at_j apart exchange in
       let at : slice_get w j ≡ Some mid = get_set_same (slice_set v i (WithoutFront q p)) j q mid (get_set_other v i j (WithoutFront q p) (λ h. apart (sym h)) ∙ at_j) in
       let both = with (sum_of empty) (sum_of (bundle_of new)) in
-      let small : IsSmall both p0 = list_small new (small_more first genesis w after j (bundle_of new) pr at) in
+      let small : IsSmall both p0 = list_small new (small_more first genesis w after j (bundle_of new) checks pr at) in
       let none_out : AllListed both p0 =
       (let z = total-empty unit_keys (is_unit_where (unlisted p0.rows)) in
       let y = goods_listed p0.rows (bundle_of new) listed in
@@ -424,10 +438,12 @@ module _ (laws : LawsBelow) (first : World) (genesis : IsSoundGenesis first) (v 
       let room = small_room p0 both (with_rises (sum_of empty) (sum_of (bundle_of new)) (sum_rises empty) (sum_rises (bundle_of new))) none_out small in
       let k = holding_more m0 (received p0 new teleport) (bundle_of new) in
       let x = list_call teleport new room in
-      let through = led_through a ok l behind is way nobody both (subst (λ (z : Machine). Call nobody both (hold z) p0 z.part) (sym does) x) room none_out in
+      let through = led_through a ok l behind is way (received p0 new teleport).checking nobody both
+      (subst (λ (z : Machine). Call nobody both (hold z) (record p0 { checking = (received p0 new teleport).checking }) z.part) (sym does) x) room none_out in
       let final = emptied laws.withdraws laws.moves laws.stays (tables_of v) agrees (last_machine rules origin a p0) in
       let safely : Safely k final = subst (λ (z : Machine). Safely z final) does through.0 in
-      let aside : IsExchange p (WithoutFront q p) q (Aside (bundle_of new) q) = received_safe (cargo_of cargo) p (WithoutFront q p) q (Aside (bundle_of new) q) chains_apart sender_number (list_aside (cargo_of cargo) new p q front same) trusted in (
+      let put : Part = Aside (bundle_of new) (record q { checking = checks }) in
+      let aside : IsExchange p (WithoutFront q p) q put = received_safe (cargo_of cargo) p (WithoutFront q p) q put chains_apart sender_number (list_aside (cargo_of cargo) new checks p q front same lowered) trusted in (
         Landed mid (safely.cargo (more_gone (received p0 new teleport) (bundle_of new) (received_gone new teleport found))) exchange
             (subst (λ (z : Part). IsSafe z (seen empty (end_of a))) (list_view teleport new (list_ends new room)) safely.safe) through.1
             (λ m c.
@@ -436,7 +452,7 @@ module _ (laws : LawsBelow) (first : World) (genesis : IsSoundGenesis first) (v 
               subst (λ (z : Part). IsSafe z (view m)) (list_view teleport new (list_ends new room)) so_far.safe,
             )),
         λ z s. aside_passed z (received p0 new teleport) (bundle_of new) s.left (parks_so s.left (stop_of a l (roll-Instruction Instruction-F.ClearOrigin ∷ behind) is z s)) s.parks (received_gone new teleport found)
-            (Aside (bundle_of new) q) (aside_view teleport new) aside,
+            put (aside_view teleport new) aside,
       )
 
   -- ---- the list of the cargo
@@ -449,6 +465,37 @@ module _ (laws : LawsBelow) (first : World) (genesis : IsSoundGenesis first) (v 
     this_list = found_there (tables_of v) agrees (table_of ps) (table_of pr) s_in t_in name origin leads back xs new named
 
   -- ---- a teleport
+  -- the receiver's accounts, where it takes the list
+  partners_there : (new : List Asset) → receive_refusal p0 new origin true ≡ None → AllByRecursion (λ (a : Asset). IsTrue (is_partner pr.rows pr.site a origin)) new
+  unfolding receive_refusal told
+  partners_there new h = partners_hold (tables_of v) agrees p0 origin new (none_first _ _ h)
+
+  teleport_checks : (new : List Asset) → (received p0 new true).checking ≡ changed_all (λ n a. n - a) new pr.rows pr.checking
+  unfolding received told
+  teleport_checks new = refl
+
+  deposit_checks : (new : List Asset) → (received p0 new false).checking ≡ pr.checking
+  unfolding received told
+  deposit_checks new = refl
+
+  -- each has as much as is teleported
+  accounts_cover : (units : Bundle) → cargo_of cargo ≡ Teleport units → IsTrusted (Teleport units) (seen empty ps) (seen empty pr) → (b : UniversalAsset) (amount : ℕ) → checking_at b (seen empty pr) ≡ Some amount → in_bundle (table_of ps) b every units ≤ amount
+  accounts_cover units carries trusted b amount stands =
+      elim (is_home b (table_of ps)) as (λ h. is_home b (table_of ps) ≡ h → in_bundle (table_of ps) b every units ≤ amount) [
+        | true ↦ λ home. covers_teleport v i j (seen empty ps) (seen empty pr) b amount (Teleport units) at_i at_j apart home (front ∙ ap Some carries) (checked_now first genesis v history) stands
+        | false ↦ λ away. let z = trusted.home_here b every away in omega (arith, z)
+      ] refl
+
+  teleport_lowers : (units : Bundle) (new : List Asset) → cargo_of cargo ≡ Teleport units → receive_refusal p0 new origin true ≡ None → IsListFor (Teleport units) new (seen empty ps) (seen empty pr) → IsTrusted (Teleport units) (seen empty ps) (seen empty pr)
+      → AreLowered (Teleport units) (received p0 new true).checking (seen empty ps) (seen empty pr)
+  teleport_lowers units new carries accepted same trusted b =
+      let comes : total (is_unit_at (context_of (table_of pr)) b every) (bundle_of new) ≡ in_bundle (table_of ps) b every units = (let e = same b every in omega (arith, e)) in
+      let falls = list_lowers (table_of pr) origin b (λ x y x_in y_in path. agrees.paths_apart (table_of pr) x y t_in x_in y_in path) new pr.checking (partners_there new accepted)
+      (λ amount stands. let enough = accounts_cover units carries trusted b amount stands in omega (arith, comes, enough)) in
+      falls
+      ∙ ap (λ n. risen n (account_in (table_of pr) b pr.rows (changed_all (λ n a. n - a) new pr.rows pr.checking))) comes
+      ∙ ap (λ (checking : List (Option ℕ)). risen (in_bundle (table_of ps) b every units) (account_in (table_of pr) b pr.rows checking)) (sym (teleport_checks new))
+
   shared_units : (units : Bundle) → IsGoods units → AllByRecursion (λ (a : Asset). IsTrue (is_partner ps.rows ps.site a name)) (held_assets units) → (u : Unit) → 0 < amount units u → IsShared (table_of ps) (table_of pr) u
   shared_units units whole all u held =
       let found = each_unit (λ (a : Asset). IsTrue (is_partner ps.rows ps.site a name)) units whole all u held in
@@ -470,10 +517,12 @@ module _ (laws : LawsBelow) (first : World) (genesis : IsSoundGenesis first) (v 
       let y = ap (total (is_unit_at (context_of (table_of ps)) b choice)) whole in
       omega (arith, x, y) in
       let accepted = unless_next (has_room m0 (length new)) _ _ way in
+      let trusted = teleport_trusted (tables_of v) agrees (seen empty ps) (seen empty pr) units t_in shared in
       list_fate a ok (Instruction-F.ReceiveTeleportedAsset new) behind is way true new (λ m h. h.1) refl (received_listed new true accepted)
       (ends_here ByTeleport new fits (subst (λ (xs : List Asset). is_this_list new (arrived_list pr.site ps.site.chain xs) ≡ true) (sym list) (this_list (held_assets units) new named)))
       (subst (λ (c : Cargo). IsListFor c new (seen empty ps) (seen empty pr)) (sym carries) same)
-      (subst (λ (c : Cargo). IsTrusted c (seen empty ps) (seen empty pr)) (sym carries) (teleport_trusted (tables_of v) agrees (seen empty ps) (seen empty pr) units t_in shared))
+      (subst (λ (c : Cargo). AreLowered c (received p0 new true).checking (seen empty ps) (seen empty pr)) (sym carries) (teleport_lowers units new carries accepted same trusted))
+      (subst (λ (c : Cargo). IsTrusted c (seen empty ps) (seen empty pr)) (sym carries) trusted)
 
   -- ---- a deposit
   reserves_there : (new : List Asset) → receive_refusal p0 new origin false ≡ None → AllByRecursion (λ (a : Asset). IsTrue (is_reserve pr.rows pr.site a origin)) new
@@ -496,6 +545,8 @@ module _ (laws : LawsBelow) (first : World) (genesis : IsSoundGenesis first) (v 
       list_fate a ok (Instruction-F.ReserveAssetDeposited new) behind is way false new (λ m h. h.1) refl (received_listed new false accepted)
       (ends_here ByDeposit new (ap (fits_call ByDeposit) carries) (subst (λ (c : carried.Cargo). is_this_list new (arrived_list pr.site ps.site.chain (cargo_list c)) ≡ true) (sym carries) (this_list list new named)))
       (subst (λ (c : Cargo). IsListFor c new (seen empty ps) (seen empty pr)) (sym carried_list) same)
+      (subst (λ (c : Cargo). AreLowered c (received p0 new false).checking (seen empty ps) (seen empty pr)) (sym carried_list)
+      (λ b. sym (risen_by_none (checking_at b (seen empty pr))) ∙ ap (λ (checking : List (Option ℕ)). risen 0 (account_in (table_of pr) b pr.rows checking)) (sym (deposit_checks new))))
       (subst (λ (c : Cargo). IsTrusted c (seen empty ps) (seen empty pr)) (sym carried_list) (deposit_trusted (tables_of v) agrees (seen empty ps) (seen empty pr) (bundle_of list) t_in owed))
 
   -- ---- a withdrawal
@@ -559,7 +610,7 @@ module _ (laws : LawsBelow) (first : World) (genesis : IsSoundGenesis first) (v 
       let came : Call may (sum_of empty) (with (sum_of empty) goods) p0 r = call_with may none goods (sum_of empty) (with (sum_of empty) goods) p0 r gave (λ t. omega arith) in
       let room = room_kept may (sum_of empty) (with (sum_of empty) goods) p0 r came room0 in
       let x = more_call may m0 r (bundle_of new) gave room0 in
-      let through = led_through a ok (Instruction-F.WithdrawAsset new) behind is way may (hold m0) x room0 (nothing_listed p0 listed0 empty refl) in
+      let through = led_through a ok (Instruction-F.WithdrawAsset new) behind is way p0.checking may (hold m0) x room0 (nothing_listed p0 listed0 empty refl) in
       let same : (b : UniversalAsset) (choice : Choice) → total (is_unit_at (context_of q.table) b choice) (bundle_of new) ≡ total (is_unit_at (context_of p.table) b choice) units = λ b choice.
       same_list_there (held_assets units) new named (owed_placed units whole reserves) b choice ∙ ap (total (is_unit_at (context_of (table_of ps)) b choice)) whole in
       let front_is : queues.front (chain_of q) p.outgoing ≡ Some (Withdrawal units) = front ∙ ap Some carries in

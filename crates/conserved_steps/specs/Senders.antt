@@ -82,6 +82,7 @@ pub ended_lost : (to : ChainId) (cargo : Cargo) (p : Part) → queues.front to p
 unfolding stock burned account_amount
 ended_lost to cargo p first none_of = record {
   table = refl;
+  checking = refl;
   first = first;
   outgoing = refl;
   burns_now = λ a. let z = none_of a (λ o. true) in omega (arith, z);

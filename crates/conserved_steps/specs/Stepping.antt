@@ -48,6 +48,8 @@ use Rattle.conservation.specs.Steps.{tables_of, table_at, IsSafe}
 use Rattle.conservation.specs.Moves.{IsSent, sent_safe}
 use Rattle.conservation.specs.Bounds.{instances_at_most}
 use Rattle.conservation.specs.Histories.{History, Start, One, safe_history, never_passes}
+use Rattle.conservation.specs.Checking.{checking_at, risen_by_none, first_within}
+use Rattle.conservation.specs.CheckingLaws.{all_bounded}
 use Rattle.conservation.specs.Headline.{IsKept}
 use Rattle.conserved_runs.specs.Views.{cargo_of, channel_of, seen}
 use Rattle.conserved_runs.specs.Sums.{in_kept, none, HasRoom}
@@ -174,6 +176,7 @@ posted_safe to program p c found = record {
   kept = λ a. omega arith;
   less = λ a choice. omega arith;
   covered = λ chain a count number foreign. nothing_for (same_chain to chain) _;
+  raised = λ a. sym (risen_by_none (checking_at a (seen empty p)));
   foreign = λ a home. refl;
 }
   where
@@ -182,7 +185,7 @@ posted_safe to program p c found = record {
     nothing_for false k = omega arith
 
 -- what is known of the oldest message from a chain to another
-record Front (i j : ℕ) (s r : Member) (x : Waiting) : Type 0 where
+pub record Front (i j : ℕ) (s r : Member) (x : Waiting) : Type 0 where
   pub apart : i ≡ j → ⊥
   pub name : Location
   pub there : location_of (chain_of s) (chain_of r) ≡ Some name
@@ -267,7 +270,7 @@ module _ (laws : LawsBelow) (shapes : ShapeLaws) (decodes : Decodes) (first : Wo
     named_so : (here other : ChainId) (l : Location) → location_of here other ≡ Some l → location_of here other ≡ Some (name_at here other)
     named_so here other l e = e ∙ ap Some (sym (ap (λ (o : Option Location). option_map_or (λ (l : Location). l) o nowhere) e))
 
-    front_of : (i j : ℕ) (s r : Member) (c : Outgoing) (x : Waiting) → slice_get w i ≡ Some s → slice_get w j ≡ Some r → channel_to (chain_of r) s.part.channels ≡ Some c → oldest c ≡ Some x → Front i j s r x
+    pub front_of : (i j : ℕ) (s r : Member) (c : Outgoing) (x : Waiting) → slice_get w i ≡ Some s → slice_get w j ≡ Some r → channel_to (chain_of r) s.part.channels ≡ Some c → oldest c ≡ Some x → Front i j s r x
     front_of i j s r c x is_s is_r found at_front =
         let sound_s = reached.parts i s is_s in
         let link = found_link (chain_of s) (chain_of r) s.part.channels c found sound_s.links in
@@ -432,6 +435,9 @@ kept_by first genesis once v history =
           let less = safe.rare (asset_of_row p.table row) (just (Some instance)) in
           let few = once (asset_of_row p.table row) instance in
           omega (arith, le, less, few);
+      checked = safe.checked genesis.checked;
+      within = safe.within first (first_within first);
+      bounded = all_bounded first v genesis.agrees safe.tables genesis.small genesis.low (safe.within first (first_within first));
     }
 
 all_kept : (first : World) (genesis : IsSoundGenesis first) → ((a : UniversalAsset) (instance : Instance) → sums.population a (just (Some instance)) first ≤ 1) → (ws : List networks.World)

@@ -1,7 +1,12 @@
--- Every world of a coherent network keeps every asset and every backing. This project's own rule.
-use Rattle.std.specs.Prelude.{◌≡◌, ◌⊎◌, ℕ, ◌≤◌, false, List, Some, Ok, slice_get, slice_set}
+-- Every world of a coherent network keeps every asset and every backing, and its checking accounts cover what there is elsewhere. This project's own
+-- rule.
+use Rattle.std.specs.Prelude.{◌≡◌, ◌≢◌, ◌⊎◌, ℕ, ◌≤◌, false, List, Some, Ok, slice_get, slice_set}
 use Rattle.amounts.specs.Amounts.{empty}
+use Rattle.locations.specs.declared.relative.Location.{Location}
+use Rattle.message_parts.specs.declared.error.XcmError.TheVariants as error
+use Rattle.asset_lists.specs.declared.filters.Filter.{Filter}
 use Rattle.xcm_program.specs.declared.instruction.Instruction.{Instruction}
+use Rattle.xcm_program.specs.declared.instruction.Instruction.TheOpen.{Instruction-F}
 use Rattle.versioned_xcm.specs.Reading.{message_of}
 use Rattle.channel_parts.specs.declared.cargo.Cargo.TheVariants as cargos
 use Rattle.channel_parts.specs.Channels.{Waiting, Outgoing}
@@ -10,6 +15,7 @@ use Rattle.exec_base.specs.declared.event.Event.{Event}
 use Rattle.exec_base.specs.Host.{told}
 use Rattle.exec_base.specs.Part.{ChainPart}
 use Rattle.exec_run.specs.Machine.{Machine}
+use Rattle.exec_rules.specs.Instructions.{refused}
 use Rattle.exec_admission.specs.Execution.{executed, IsAbandoned}
 use Rattle.weight_trader.specs.Purchases.{no_weight}
 use Rattle.std.specs.List.{AllByRecursion}
@@ -32,8 +38,8 @@ use Rattle.conserved_steps.specs.Bounds.{IsSoundGenesis}
 abbrev pub AreSoundParts : networks.World → Type 0
 AreSoundParts w = (k : ℕ) (m : Member) → slice_get w k ≡ Some m → IsSoundPart m.part
 
--- a first world: its chains agree and it is backed, of no asset there is 2^127 or more, no instance stands at two homes, each message that
--- waits has a shape, and each chain is sound
+-- a first world: its chains agree and it is backed, of no asset there is 2^127 or more, its checking accounts cover what there is elsewhere and
+-- are below 2^127, no instance stands at two homes, each message that waits has a shape, and each chain is sound
 pub record IsFirst (w : networks.World) : Type 0 where
   pub genesis : IsSoundGenesis (views w)
   pub once : (a : UniversalAsset) (instance : Instance) → population a (just (Some instance)) (views w) ≤ 1
@@ -46,7 +52,7 @@ pub record IsReached (first : World) (w : networks.World) : Type 0 where
   pub shaped : AllShaped w
   pub parts : AreSoundParts w
 
--- conserved, backed, below 2^127 and with each instance once: so is every world, whatever the steps
+-- conserved, backed, below 2^127, with each instance once and with right checking accounts: so is every world, whatever the steps
 abbrev pub AllKept : List Link → networks.World → List Step → Type 0
 AllKept order w steps = AllByRecursion (λ (v : networks.World). IsKept (views w) (views v)) (worlds order w steps)
 
@@ -57,6 +63,10 @@ while_running w k m = slice_set (views w) k (view m)
 -- the network where memory was refused to a chain's run: its part is what then stands, with what is parked
 abbrev pub where_stopped : networks.World → ℕ → ChainPart → World
 where_stopped w k p = slice_set (views w) k (seen empty p)
+
+-- no teleport of what a run holds is refused because a checking account would pass its end; no other instruction asks for that
+abbrev pub AccountsMayRise : Machine → Type 0
+AccountsMayRise m = (filter : Filter) (dest : Location) (xcm : List Instruction) → refused (Instruction-F.InitiateTeleport filter dest xcm) m ≢ Some error.NotDepositable
 
 -- an account has a message executed on its chain, in one of the worlds
 pub record IsExecution (order : List Link) (w : networks.World) (steps : List Step) (account : List ℕ) (program : List Instruction) : Type 0 where

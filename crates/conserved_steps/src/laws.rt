@@ -13,7 +13,7 @@ ghost use Rattle.network_steps.specs.Acting.{caller};
 ghost use Rattle.network_steps.specs.Steps.{name_at, Link, Step};
 ghost use Rattle.conservation.specs.Headline.{IsKept};
 ghost use Rattle.conserved_steps.specs.Views.{views};
-ghost use Rattle.conserved_steps.specs.Worlds.{IsFirst, AllKept, IsExecution, begins, while_running, where_stopped, IsDelivery, arrives, while_delivered, StopsAt, where_delivery_stopped};
+ghost use Rattle.conserved_steps.specs.Worlds.{IsFirst, AllKept, IsExecution, begins, while_running, where_stopped, IsDelivery, arrives, while_delivered, StopsAt, where_delivery_stopped, AccountsMayRise};
 
 use exec_admission::law_of_admission;
 use exec_rules::{law_of_readiness, law_of_rules};
@@ -24,7 +24,9 @@ use versioned_xcm::law_of_messages;
 use weight_trader::law_of_trading;
 
 /// From a first world, whatever the steps, every world has each asset as before, at its homes, under way between them and burned there; every
-/// derivative is covered by what its reserve keeps; no chain has 2^127 or more of a listed asset, nor an instance twice.
+/// derivative is covered by what its reserve keeps; no chain has 2^127 or more of a listed asset, nor an instance twice; each checking account
+/// is at least what there is at other homes and under way, and with what its chain has of the asset is no more than at first, and stays below
+/// 2^128-1.
 pub fn law_of_conserved_worlds()
     ensures kept { (order : List Link) (w : World) (steps : List Step) → IsFirst w → AllKept order w steps }
 {
@@ -79,4 +81,19 @@ pub fn law_of_conserved_deliveries()
     law_of_shapes();
     law_of_admitted_messages();
     law_of_messages();
+}
+
+/// So no teleport of what a run holds is refused because a checking account would pass its end, in a local execution or in a delivery:
+/// `NotDepositable` never comes.
+pub fn law_of_rising_accounts()
+    ensures executions { (order : List Link) (w : World) (steps : List Step) (account : List ℕ) (program : List Instruction) (x : IsExecution order w steps account program) (a : Admitted) (g : Stage) → IsFirst w
+        → admitted x.member.rules (caller account) x.member.rules.limit (begins x.member).queries program ≡ Ok a
+        → Reaches xcm (first_stage x.member.rules (caller account) a (begins x.member)) g → AccountsMayRise (machine_of g) }
+    ensures deliveries { (order : List Link) (w : World) (steps : List Step) (d : IsDelivery order w steps) (a : Admitted) (g : Stage) → IsFirst w
+        → admitted d.receiver.rules (name_at (chain_of d.receiver) (chain_of d.sender)) no_weight (arrives d.sender d.receiver d.message).queries d.message.program ≡ Ok a
+        → Reaches xcm (first_stage d.receiver.rules (name_at (chain_of d.receiver) (chain_of d.sender)) a (arrives d.sender d.receiver d.message)) g → AccountsMayRise (machine_of g) }
+{
+    law_of_conserved_worlds();
+    law_of_conserved_executions();
+    law_of_conserved_deliveries();
 }

@@ -3,4 +3,7 @@
 
 mod laws;
 
-pub use laws::{law_of_conserved_deliveries, law_of_conserved_executions, law_of_conserved_worlds};
+pub use laws::{
+    law_of_conserved_deliveries, law_of_conserved_executions, law_of_conserved_worlds,
+    law_of_rising_accounts,
+};

@@ -15,21 +15,24 @@ use Rattle.network_spec.specs.declared.chain.ChainSpec.{ChainSpec}
 use Rattle.network_spec.specs.declared.network.ChannelSpec.{ChannelSpec}
 use Rattle.network_spec.specs.declared.network.NetworkSpec.{NetworkSpec}
 use Rattle.network_spec.specs.Networks.{same_holding, is_in_order, has_chain}
-use Rattle.network_genesis.specs.Tests.{have_paths, may_have_checkings, are_rates_listed, past_amounts, is_balance, fee_is_price, lists_fee, same_link}
+use Rattle.network_genesis.specs.Tests.{have_paths, may_have_checkings, have_low_checkings, are_rates_listed, past_amounts, is_balance, fee_is_price, lists_fee, same_link}
 use Rattle.network_genesis.specs.Genesis.{entries_of}
 
--- a chain: its rows list each asset once, under ids that have a path; a rate's asset is listed and has one rate; balances are of listed
--- assets, above 0 and below 2^127, each account with each asset once and each instance once
+-- a chain: its rows list each asset once, under ids that have a path; an execution may hold all that one list names; a rate's asset is
+-- listed and has one rate; balances are of listed assets, above 0 and below 2^127, each account with each asset once and each instance once
 pub record IsOpenableChain (network : NetworkId) (c : ChainSpec) : Type 0 where
   pub named : IsChain c.chain
   pub listed_once : IsDistinct (eq_by_cmp listed_cmp) (listing c.assets)
   pub few_assets : length c.assets ≤ 128
   pub paths : IsTrue (have_paths (path_of_site (record { network = network; chain = c.chain })) c.assets)
   pub checkings : IsTrue (may_have_checkings c.assets)
+  pub room : 20 ≤ c.max_holding
   pub priced_once : NameEachOnce c.rates
   pub rates : IsTrue (are_rates_listed (listing c.assets) (new_lines c.rates))
   pub few_pallets : length c.pallets ≤ 64
   pub balances : IsTrue (list_all (is_balance c.assets) c.accounts)
+  -- checking accounts begin below 2^127 too
+  pub low_checkings : IsTrue (have_low_checkings c.assets)
   pub held_once : IsDistinct same_holding c.accounts
 
 -- a channel: it leads from one chain of the network to another, and its fee, where it has one, is a price in a listed asset of the sender

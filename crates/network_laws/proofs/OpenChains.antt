@@ -37,8 +37,8 @@ use Rattle.network_spec.specs.declared.chain.ChainSpec.{ChainSpec}
 use Rattle.network_spec.specs.Networks.{same_holding}
 use Rattle.document_entries.specs.Entries.{amount_limit}
 use Rattle.network_config.specs.References.{same_location, lists_fungible, names_others, rate_flaws, asset_flaws, account_flaws}
-use Rattle.network_config.specs.Valid.{fits_role, fits_fun, fits_asset, fits_lists, fits_entries, fits_rules, fits_chain}
-use Rattle.network_genesis.specs.Tests.{have_paths, role_checking, may_check, may_have_checkings, are_rates_listed, past_amounts, is_balance}
+use Rattle.network_config.specs.Valid.{is_within, fits_role, fits_fun, fits_asset, fits_lists, fits_entries, fits_rules, fits_chain}
+use Rattle.network_genesis.specs.Tests.{have_paths, role_checking, may_check, may_have_checkings, is_low, have_low_checkings, are_rates_listed, past_amounts, is_balance}
 use Rattle.network_genesis.specs.Openable.{IsOpenableChain}
 use Rattle.network_config.specs.Faultless.{all_sound, alone, apart, chain_sound}
 
@@ -85,6 +85,17 @@ may_check_role Class (Native partners (Some checking)) h = absurd (false≢true 
 may_have : (rows : List AssetRow) → list_all (λ (row : AssetRow). fits_role row.kind row.role) rows ≡ true → may_have_checkings rows ≡ true
 may_have [] h = refl
 may_have (row ∷ rows) h = let parts = and_parts _ _ h in and_from _ _ (may_check_role row.kind row.role parts.0) (may_have rows parts.1)
+
+low_role : (kind : Kind) (role : AssetRole) → fits_role kind role ≡ true → is_low (role_checking role) ≡ true
+unfolding amount_limit
+low_role kind (Derivative reserve) h = refl
+low_role kind (Native partners None) h = refl
+low_role Fungible (Native partners (Some checking)) h = h
+low_role Class (Native partners (Some checking)) h = absurd (false≢true h)
+
+all_low : (rows : List AssetRow) → list_all (λ (row : AssetRow). fits_role row.kind row.role) rows ≡ true → have_low_checkings rows ≡ true
+all_low [] h = refl
+all_low (row ∷ rows) h = let parts = and_parts _ _ h in and_from _ _ (low_role row.kind row.role parts.0) (all_low rows parts.1)
 
 -- ---- rates
 
@@ -188,6 +199,7 @@ pub chain_opens : (chains : List ChainSpec) (network : NetworkId) (c : ChainSpec
 chain_opens chains network c named fits h =
     let sound = sound_parts chains network c h in
     let fitting = and_parts (fits_rules c) (fits_lists c && fits_entries c) fits in
+    let held_most = and_parts (nat_le 20 c.max_holding) _ (and_parts (is_within 1 100 c.rules.max_instructions) (is_within 20 64 c.max_holding) fitting.0).1 in
     let lists_and_entries = and_parts (fits_lists c) (fits_entries c) fitting.1 in
     let few = and_parts (nat_le (length c.assets) 128) (nat_le (length c.pallets) 64) lists_and_entries.0 in
     let entries = and_parts _ _ lists_and_entries.1 in
@@ -199,9 +211,11 @@ chain_opens chains network c named fits h =
       few_assets = leb-true (length c.assets) 128 few.0;
       paths = rows_alone chains network c h;
       checkings = may_have c.assets roles.0;
+      room = leb-true 20 c.max_holding held_most.0;
       priced_once = named_once c.rates (apart same_rate (λ (rate : Rate). not (list_any (lists_fungible rate.asset) c.assets)) (λ rate. false) [] c.rates sound.rates);
       rates = rates_listed c.assets c.rates (alone same_rate (λ (rate : Rate). not (list_any (lists_fungible rate.asset) c.assets)) (λ rate. false) [] c.rates sound.rates);
       few_pallets = leb-true (length c.pallets) 64 few.1;
       balances = are_balances c.assets c.accounts (alone same_holding (λ (b : Balance). not (list_any (is_row_of b.asset) c.assets)) (λ b. false) [] c.accounts sound.accounts) held.0;
+      low_checkings = all_low c.assets roles.0;
       held_once = apart same_holding (λ (b : Balance). not (list_any (is_row_of b.asset) c.assets)) (λ b. false) [] c.accounts sound.accounts;
     }
