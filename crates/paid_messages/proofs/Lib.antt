@@ -1,0 +1,10 @@
+mod Lists
+mod Payments
+mod Receipts
+mod Losses
+mod Messages
+mod Rooms
+mod Deliveries
+mod Networks
+mod Refusals
+mod Covering
