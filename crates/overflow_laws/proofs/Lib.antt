@@ -1,0 +1,13 @@
+mod Fitting
+mod BarringLaws
+mod Standing
+mod Calls
+mod Instructions
+mod Runs
+mod Stopping
+mod Stages
+mod Firsts
+mod Arriving
+mod Deliveries
+mod Executions
+mod Worlds

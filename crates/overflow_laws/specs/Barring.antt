@@ -1,0 +1,26 @@
+-- That an account takes in whatever is held or given: no sum passes 2^128-1, and no instance has another owner. This project's own rule.
+use Rattle.std.specs.Prelude.{◌≡◌, ℕ, List, Some, None}
+use Rattle.amounts.specs.Amounts.{IsWithin}
+use Rattle.locations.specs.declared.relative.Location.{Location}
+use Rattle.asset_lists.specs.declared.units.Asset.{Asset}
+use Rattle.asset_lists.specs.Lists.{IsAssetList}
+use Rattle.asset_bundles.specs.Bundles.{Bundle, held_assets}
+use Rattle.trust_tables.specs.Accounts.{account_of}
+use Rattle.ledgers.specs.Ledgers.{barred}
+use Rattle.exec_base.specs.Host.{given, withdraw_refusal, deposit_refusal, transfer_refusal}
+use Rattle.exec_run.specs.Machine.{Machine}
+use Rattle.exec_rules.specs.Fees.{after_fee}
+
+-- what every account can take in
+pub record TakesAll (m : Machine) : Type 0 where
+  -- what is held or a part of it, and what another account gives
+  pub held : (who : List ℕ) (goods : Bundle) → IsWithin goods m.regs.holding → barred m.part.held who (held_assets goods) ≡ None
+  pub given : (who : List ℕ) (list : List Asset) (from : Location) → IsAssetList list → withdraw_refusal m.part list from ≡ None → barred (given m.part list from).held who list ≡ None
+  -- so where the location has an account a deposit isn't refused, and a transfer only where the giver can't give
+  pub deposits : (who : Location) (account : List ℕ) (goods : Bundle) → account_of who m.part.site ≡ Some account → IsWithin goods m.regs.holding → deposit_refusal m.part goods who ≡ None
+  pub transfers : (from to : Location) (account : List ℕ) (list : List Asset) → account_of to m.part.site ≡ Some account → IsAssetList list → transfer_refusal m.part list from to ≡ withdraw_refusal m.part list from
+
+-- as an instruction begins, and once it has set a delivery fee aside
+pub record NothingBarred (m : Machine) : Type 0 where
+  pub now : TakesAll m
+  pub behind_fee : (fee : Asset) → TakesAll (after_fee m fee)
