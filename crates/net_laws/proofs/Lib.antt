@@ -1,3 +1,4 @@
 pub mod Lasts
+pub mod Nexts
 pub mod Stopped
 pub mod StoppedShapes

@@ -8,6 +8,8 @@ ghost use Rattle.authority.specs.Speakers.{HasAuthority, IsAuthorized};
 ghost use Rattle.conservation.specs.Headline.{IsKept};
 ghost use Rattle.conserved_steps.specs.Views.{views};
 ghost use Rattle.conserved_networks.specs.Kept.{IsCoherent};
+ghost use Rattle.paid_messages.specs.Paid.{WithdrawalsPaid, TeleportsReceived, NoneLost};
+ghost use Rattle.overflow_laws.specs.Excess.{NoExcessIn};
 ghost use Rattle.chain_net.specs.declared.net.Net.{Net};
 ghost use Rattle.chain_net.specs.Nets.{world_of, spec_of};
 ghost use Rattle.chain_net.specs.Stops.{ExecStops, DeliverStops, DrainStops};
@@ -17,6 +19,8 @@ use authority::{law_of_authority, law_of_executions};
 use conserved_networks::{law_of_conserved_networks, law_of_shaped_networks};
 use conserved_steps::{law_of_conserved_deliveries, law_of_conserved_executions};
 use message_shapes::{law_of_delivered_messages, law_of_runs_that_send};
+use overflow_laws::law_of_unsaturated_worlds;
+use paid_messages::law_of_paid_messages;
 
 /// A network that was just opened has run no steps, and each call that answers has run one step more: what `Net::open`, `exec`, `deliver`,
 /// `claim` and `drain` ensure of the world is what these clauses ask for.
@@ -31,6 +35,27 @@ pub fn law_of_kept_nets()
     ensures { (n : Net) (steps : List Step) → IsCoherent (spec_of n) → HasRun n steps → IsKept (views (first_world (spec_of n))) (views (world_of n)) }
 {
     law_of_conserved_networks();
+}
+
+/// In a coherent network, whatever steps it has run, and behind any number of the deliveries of its next drain (of which none is now), what a delivery
+/// would take is paid where its receiver admits it: a withdrawal from its sender's account (`withdrawal`), a teleport by taking it in
+/// (`teleport`); so where memory isn't refused only a teleport that isn't admitted is lost (`lost`).
+pub fn law_of_paid_nets()
+    ensures withdrawal { (n : Net) (steps : List Step) (made : ℕ) → IsCoherent (spec_of n) → HasRun n steps
+        → WithdrawalsPaid (order_of (spec_of n)) (world_behind (world_of n) (deliveries made (order_of (spec_of n)) (world_of n))) [] }
+    ensures teleport { (n : Net) (steps : List Step) (made : ℕ) → IsCoherent (spec_of n) → HasRun n steps
+        → TeleportsReceived (order_of (spec_of n)) (world_behind (world_of n) (deliveries made (order_of (spec_of n)) (world_of n))) [] }
+    ensures lost { (n : Net) (steps : List Step) (made : ℕ) → IsCoherent (spec_of n) → HasRun n steps
+        → NoneLost (order_of (spec_of n)) (world_behind (world_of n) (deliveries made (order_of (spec_of n)) (world_of n))) [] }
+{
+    law_of_paid_messages();
+}
+
+/// A coherent network has burned nothing because an amount passed its end or an instance was there already, whatever steps it has run.
+pub fn law_of_unsaturated_nets()
+    ensures { (n : Net) (steps : List Step) → IsCoherent (spec_of n) → HasRun n steps → NoExcessIn (world_of n) }
+{
+    law_of_unsaturated_worlds();
 }
 
 /// In every network each message that waits has one of the five shapes, whatever steps it has run.

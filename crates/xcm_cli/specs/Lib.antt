@@ -1,4 +1,5 @@
 pub mod Words
+pub mod Promise
 pub mod Report
 pub mod Session
 pub mod Feeding

@@ -8,9 +8,9 @@ ghost use Rattle.network_spec.specs.declared.network.NetworkSpec.{NetworkSpec};
 ghost use Rattle.network_config.specs.Network.{network_of};
 ghost use Rattle.network_genesis.specs.Genesis.{entries_of};
 ghost use Rattle.coherence.specs.Causes.{first_cause};
-ghost use Rattle.conserved_networks.specs.Kept.{NetworkKept};
 ghost use Rattle.xcm_cli.specs.Report.{report, fate, ends, usage_reply, generated_reply, network_bytes, steps_of};
 ghost use Rattle.generator.specs.Generated.{generated};
+ghost use Rattle.xcm_cli.specs.Promise.{IsSecure};
 ghost use Rattle.xcm_cli.specs.Words.{task_of, reads};
 ghost use Rattle.xcm_cli.specs.declared.words.Task.TheVariants.{Usage};
 ghost use Rattle.xcm_cli.specs.Session.{IsFault, Finishes};
@@ -23,6 +23,8 @@ use crate::words::{Task, task_of};
 use conserved_networks::law_of_conserved_networks;
 use generator::generate;
 use network_laws::law_of_read_networks;
+use overflow_laws::law_of_unsaturated_worlds;
+use paid_messages::law_of_paid_messages;
 use std::alloc::{AllocError, Global};
 use step_text::network_refused_line;
 use xcm_io::{Sink, Source, write_whole};
@@ -54,12 +56,14 @@ pub fn run<I: Source, O: Sink>(
     ensures usage { task_of words.now ≡ Usage → IfOk result (λ status. (status ≡ Status.Usage) ⊎ (status ≡ Status.WriteFault)) }
     ensures other { result ≡ Ok Status.Usage → task_of words.now ≡ Usage }
 
-    // Where the input's network is read and none of the seven causes is found in it, every world of its run keeps each asset
-    // and backs each derivative.
-    ensures kept { IfSome (I.left input.old) (λ bytes. (spec : NetworkSpec) → network_of (network_bytes bytes) ≡ Ok spec → first_cause (entries_of spec) ≡ None → NetworkKept spec (steps_of bytes)) }
+    // Where the input's network is read and none of the seven causes is found in it, every world of its run keeps each asset, backs
+    // each derivative and has right checking accounts; what is admitted is paid and received; and nothing is burned for want of room.
+    ensures kept { IfSome (I.left input.old) (λ bytes. (spec : NetworkSpec) → network_of (network_bytes bytes) ≡ Ok spec → first_cause (entries_of spec) ≡ None → IsSecure spec (steps_of bytes)) }
 {
-    law_of_read_networks(); // For the prover alone, as the next.
+    law_of_read_networks(); // For the prover alone, as the next three.
     law_of_conserved_networks();
+    law_of_paid_messages();
+    law_of_unsaturated_worlds();
     match task_of(alloc, words)? {
         Task::Run { audit } => serve(alloc, audit, input, out),
         Task::Generate { number, steps } => write_generated(alloc, number, steps, out),
