@@ -98,7 +98,8 @@ fn refund<H: Host>(alloc: Global, r: &mut Registers, h: &mut H) -> Result<(), Al
     ensures ok { OnOk result (machine r.new (H.part h.new) ≡ refunded_last xcm (machine r.old (H.part h.old))) }
     ensures err { OnErr result (spills refund_surplus (machine r.old (H.part h.old)) (machine r.new (H.part h.new))) }
 {
-    match perform(alloc, Instruction::RefundSurplus, r, h)? {
+    let mut refund = Instruction::RefundSurplus;
+    match perform(alloc, &mut refund, r, h)? {
         Ok(()) | Err(_) => Ok(()),
     }
 }

@@ -5,6 +5,7 @@ ghost use Rattle.exec_rules.specs.Instructions.{xcm};
 ghost use Rattle.exec_rules.specs.Readiness.{IsReady};
 ghost use Rattle.exec_rules.specs.Stopping.{spills};
 
+use crate::taking::no_program;
 use exec_assets::{
     burn_asset, buy_execution, claim_asset, deposit_asset, exchange_asset, expect_asset,
     receive_teleported_asset, refund_surplus, reserve_asset_deposited, transfer_asset,
@@ -25,99 +26,108 @@ use exec_transfers::{
 };
 use message_parts::XcmError;
 use std::alloc::{AllocError, Global};
+use std::mem;
 use xcm_program::Instruction;
 
-/// Executes an instruction. Nested programs are moved.
+/// Executes an instruction, lent since it is more than 1,600 bytes. A program that becomes a register is moved out of it.
 pub(crate) fn perform<H: Host>(
     alloc: Global,
-    instruction: Instruction,
+    instruction: &mut Instruction,
     r: &mut Registers,
     h: &mut H,
 ) -> Result<Result<(), XcmError>, AllocError>
-    requires ready { IsReady instruction (machine r.old (H.part h.old)) }
-    ensures ok { IfOk result (λ answer. Performed xcm instruction (machine r.old (H.part h.old)) answer (machine r.new (H.part h.new))) }
-    ensures err { OnErr result (spills instruction (machine r.old (H.part h.old)) (machine r.new (H.part h.new))) }
+    requires ready { IsReady instruction.old (machine r.old (H.part h.old)) }
+    ensures ok { IfOk result (λ answer. Performed xcm instruction.old (machine r.old (H.part h.old)) answer (machine r.new (H.part h.new))) }
+    ensures err { OnErr result (spills instruction.old (machine r.old (H.part h.old)) (machine r.new (H.part h.new))) }
 {
     match instruction {
-        Instruction::WithdrawAsset { assets } => withdraw_asset(r, h, &assets),
-        Instruction::ReserveAssetDeposited { assets } => reserve_asset_deposited(r, h, &assets),
-        Instruction::ReceiveTeleportedAsset { assets } => receive_teleported_asset(r, h, &assets),
+        Instruction::WithdrawAsset { assets } => withdraw_asset(r, h, assets),
+        Instruction::ReserveAssetDeposited { assets } => reserve_asset_deposited(r, h, assets),
+        Instruction::ReceiveTeleportedAsset { assets } => receive_teleported_asset(r, h, assets),
         Instruction::QueryResponse {
             query_id,
             response,
             max_weight,
             querier,
-        } => query_response(r, h, query_id, &response, max_weight, &querier),
+        } => query_response(r, h, *query_id, response, *max_weight, querier),
         Instruction::TransferAsset {
             assets,
             beneficiary,
-        } => transfer_asset(r, h, &assets, &beneficiary),
+        } => transfer_asset(r, h, assets, beneficiary),
         Instruction::TransferReserveAsset { assets, dest, xcm } => transfer_reserve_asset(
-            alloc, r, h, &assets, &dest, &xcm,
+            alloc, r, h, assets, dest, xcm,
         ),
         Instruction::Transact {
             origin_kind,
             require_weight_at_most,
             call,
-        } => transact(r, h, origin_kind, require_weight_at_most, &call),
+        } => transact(r, h, *origin_kind, *require_weight_at_most, call),
         Instruction::HrmpNewChannelOpenRequest {
             sender,
             max_message_size,
             max_capacity,
-        } => hrmp_new_channel_open_request(r, h, sender, max_message_size, max_capacity),
-        Instruction::HrmpChannelAccepted { recipient } => hrmp_channel_accepted(r, h, recipient),
+        } => hrmp_new_channel_open_request(r, h, *sender, *max_message_size, *max_capacity),
+        Instruction::HrmpChannelAccepted { recipient } => hrmp_channel_accepted(r, h, *recipient),
         Instruction::HrmpChannelClosing {
             initiator,
             sender,
             recipient,
-        } => hrmp_channel_closing(r, h, initiator, sender, recipient),
+        } => hrmp_channel_closing(r, h, *initiator, *sender, *recipient),
         Instruction::ClearOrigin => clear_origin(r, h),
-        Instruction::DescendOrigin { interior } => descend_origin(r, h, &interior),
-        Instruction::ReportError { info } => report_error(alloc, r, h, &info),
+        Instruction::DescendOrigin { interior } => descend_origin(r, h, interior),
+        Instruction::ReportError { info } => report_error(alloc, r, h, info),
         Instruction::DepositAsset {
             assets,
             beneficiary,
-        } => deposit_asset(r, h, &assets, &beneficiary),
+        } => deposit_asset(r, h, assets, beneficiary),
         Instruction::DepositReserveAsset { assets, dest, xcm } => deposit_reserve_asset(
-            alloc, r, h, &assets, &dest, &xcm,
+            alloc, r, h, assets, dest, xcm,
         ),
         Instruction::ExchangeAsset {
             give,
             want,
             maximal,
-        } => exchange_asset(r, h, &give, &want, maximal),
+        } => exchange_asset(r, h, give, want, *maximal),
         Instruction::InitiateReserveWithdraw {
             assets,
             reserve,
             xcm,
-        } => initiate_reserve_withdraw(alloc, r, h, &assets, &reserve, &xcm),
+        } => initiate_reserve_withdraw(alloc, r, h, assets, reserve, xcm),
         Instruction::InitiateTeleport { assets, dest, xcm } => initiate_teleport(
-            alloc, r, h, &assets, &dest, &xcm,
+            alloc, r, h, assets, dest, xcm,
         ),
-        Instruction::ReportHolding { info, assets } => report_holding(alloc, r, h, &info, &assets),
-        Instruction::BuyExecution { fees, limit } => buy_execution(alloc, r, h, &fees, limit),
+        Instruction::ReportHolding { info, assets } => report_holding(alloc, r, h, info, assets),
+        Instruction::BuyExecution { fees, limit } => buy_execution(alloc, r, h, fees, *limit),
         Instruction::RefundSurplus => refund_surplus(r, h),
-        Instruction::SetErrorHandler { xcm } => set_error_handler(r, h, xcm),
-        Instruction::SetAppendix { xcm } => set_appendix(r, h, xcm),
+        Instruction::SetErrorHandler { xcm } => set_error_handler(
+            r,
+            h,
+            mem::replace(xcm, no_program(alloc)),
+        ),
+        Instruction::SetAppendix { xcm } => set_appendix(
+            r,
+            h,
+            mem::replace(xcm, no_program(alloc)),
+        ),
         Instruction::ClearError => clear_error(r, h),
-        Instruction::ClaimAsset { assets, ticket } => claim_asset(r, h, &assets, &ticket),
-        Instruction::Trap { code } => trap(r, h, code),
+        Instruction::ClaimAsset { assets, ticket } => claim_asset(r, h, assets, ticket),
+        Instruction::Trap { code } => trap(r, h, *code),
         Instruction::SubscribeVersion {
             query_id,
             max_response_weight,
-        } => subscribe_version(r, h, query_id, max_response_weight),
+        } => subscribe_version(r, h, *query_id, *max_response_weight),
         Instruction::UnsubscribeVersion => unsubscribe_version(r, h),
-        Instruction::BurnAsset { assets } => burn_asset(r, h, &assets),
-        Instruction::ExpectAsset { assets } => expect_asset(r, h, &assets),
-        Instruction::ExpectOrigin { origin } => expect_origin(r, h, &origin),
-        Instruction::ExpectError { error } => expect_error(r, h, &error),
-        Instruction::ExpectTransactStatus { status } => expect_transact_status(r, h, &status),
+        Instruction::BurnAsset { assets } => burn_asset(r, h, assets),
+        Instruction::ExpectAsset { assets } => expect_asset(r, h, assets),
+        Instruction::ExpectOrigin { origin } => expect_origin(r, h, origin),
+        Instruction::ExpectError { error } => expect_error(r, h, error),
+        Instruction::ExpectTransactStatus { status } => expect_transact_status(r, h, status),
         Instruction::QueryPallet { module_name, info } => query_pallet(
             alloc,
             r,
             h,
-            &module_name,
-            &info,
+            module_name,
+            info,
         ),
         Instruction::ExpectPallet {
             index,
@@ -128,31 +138,31 @@ pub(crate) fn perform<H: Host>(
         } => expect_pallet(
             r,
             h,
-            index,
-            &name,
-            &module_name,
-            crate_major,
-            min_crate_minor,
+            *index,
+            name,
+            module_name,
+            *crate_major,
+            *min_crate_minor,
         ),
-        Instruction::ReportTransactStatus { info } => report_transact_status(alloc, r, h, &info),
+        Instruction::ReportTransactStatus { info } => report_transact_status(alloc, r, h, info),
         Instruction::ClearTransactStatus => clear_transact_status(r, h),
-        Instruction::UniversalOrigin { junction } => universal_origin(r, h, &junction),
+        Instruction::UniversalOrigin { junction } => universal_origin(r, h, junction),
         Instruction::ExportMessage {
             network,
             destination,
             xcm,
-        } => export_message(r, h, &network, &destination, &xcm),
-        Instruction::LockAsset { asset, unlocker } => lock_asset(r, h, &asset, &unlocker),
-        Instruction::UnlockAsset { asset, target } => unlock_asset(r, h, &asset, &target),
-        Instruction::NoteUnlockable { asset, owner } => note_unlockable(r, h, &asset, &owner),
-        Instruction::RequestUnlock { asset, locker } => request_unlock(r, h, &asset, &locker),
-        Instruction::SetFeesMode { jit_withdraw } => set_fees_mode(r, h, jit_withdraw),
-        Instruction::SetTopic { topic } => set_topic(r, h, &topic),
+        } => export_message(r, h, network, destination, xcm),
+        Instruction::LockAsset { asset, unlocker } => lock_asset(r, h, asset, unlocker),
+        Instruction::UnlockAsset { asset, target } => unlock_asset(r, h, asset, target),
+        Instruction::NoteUnlockable { asset, owner } => note_unlockable(r, h, asset, owner),
+        Instruction::RequestUnlock { asset, locker } => request_unlock(r, h, asset, locker),
+        Instruction::SetFeesMode { jit_withdraw } => set_fees_mode(r, h, *jit_withdraw),
+        Instruction::SetTopic { topic } => set_topic(r, h, topic),
         Instruction::ClearTopic => clear_topic(r, h),
-        Instruction::AliasOrigin { target } => alias_origin(r, h, &target),
+        Instruction::AliasOrigin { target } => alias_origin(r, h, target),
         Instruction::UnpaidExecution {
             limit,
             check_origin,
-        } => unpaid_execution(r, h, limit, &check_origin),
+        } => unpaid_execution(r, h, *limit, check_origin),
     }
 }

@@ -79,7 +79,7 @@ fn take<H: Host>(
     alloc: Global,
     part: Part,
     place: u32,
-    instruction: Instruction,
+    mut instruction: Instruction,
     r: &mut Registers,
     h: &mut H,
 ) -> Result<Option<XcmError>, AllocError>
@@ -88,7 +88,7 @@ fn take<H: Host>(
     ensures err { OnErr result (Halted xcm spills instruction (machine r.old (H.part h.old)) (machine r.new (H.part h.new))) }
 {
     let number = instruction.index();
-    let error = match perform(alloc, instruction, r, h)? {
+    let error = match perform(alloc, &mut instruction, r, h)? {
         Ok(()) => None,
         Err(error) => Some(error),
     };
