@@ -14,8 +14,14 @@ fn weight(ref_time: u64, proof_size: u64) -> Weight {
     }
 }
 
-fn limited(ref_time: u64, proof_size: u64) -> WeightLimit {
-    WeightLimit::Limited(weight(ref_time, proof_size))
+/// So much time and so much of proofs, or no limit.
+type Most = Option<(u64, u64)>;
+
+fn limit_of(most: Most) -> WeightLimit {
+    match most {
+        Some((ref_time, proof_size)) => WeightLimit::Limited(weight(ref_time, proof_size)),
+        None => WeightLimit::Unlimited,
+    }
 }
 
 const WEIGHT: Weight = Weight {
@@ -64,135 +70,166 @@ fn bringing(alloc: Global, index: u8, count: u8) -> Result<Instruction, Fail> {
     })
 }
 
-/// Assets, ClearOrigins and a purchase.
+/// So many assets, ClearOrigins and a purchase.
 fn paying(
     alloc: Global,
-    first: Instruction,
+    (index, count): (u8, u8),
     clears: usize,
-    limit: WeightLimit,
-) -> Result<Program, AllocError> {
-    let mut list = vec![in alloc; first]?;
+    most: Most,
+) -> Result<Program, Fail> {
+    let mut list = vec![in alloc; bringing(alloc, index, count)?]?;
     for _ in 0..clears {
         list.push(Instruction::ClearOrigin)?;
     }
-    let fees = asset(0);
+    let (fees, limit) = (asset(0), limit_of(most));
     list.push(Instruction::BuyExecution { fees, limit })?;
     Ok(Program::from_vec(list))
 }
 
+/// The first instruction and its assets, ClearOrigins, the limit, and whether the paid barrier allows.
+const PAYING: &[((u8, u8), usize, Most, bool)] = &[
+    ((0, 1), 0, None, true),
+    ((0, 1), 1, Some((5000, 500)), true),
+    ((0, 1), 3, Some((4000, 400)), true),
+    ((0, 1), 4, Some((4000, 400)), false),
+    ((0, 0), 0, Some((4000, 400)), true),
+    ((0, 2), 1, Some((4000, 400)), true),
+    ((0, 3), 1, Some((4000, 400)), false),
+    ((0, 1), 1, Some((9000, 399)), false),
+    ((0, 1), 1, Some((3999, 900)), false),
+    ((1, 2), 1, None, true),
+    ((2, 2), 1, None, true),
+    ((24, 2), 1, None, true),
+    ((28, 2), 1, None, false),
+];
+
+/// Whether the program is answered so, and leaves the barrier with its weight as the limit, or as it was.
+fn pays(
+    alloc: Global,
+    first: (u8, u8),
+    clears: usize,
+    most: Most,
+    wanted: bool,
+) -> Result<bool, Fail> {
+    let mut program = paying(alloc, first, clears, most)?;
+    let barriers = [Barrier::Credit, Barrier::Paid];
+    let answer = allow(&barriers, &para(1), &mut program, WEIGHT, NOTHING, &[]);
+    let after = if wanted { Some((4000, 400)) } else { most };
+    Ok(answer == wanted && program == paying(alloc, first, clears, after)?)
+}
+
 #[test]
 fn programs_that_pay(rt: HostRuntime) -> Result<(), Fail> {
-    let alloc = rt.alloc();
-    // the first instruction, its assets, ClearOrigins, the limit, and whether the paid barrier allows
-    let cases = [
-        (0, 1, 0, WeightLimit::Unlimited, true),
-        (0, 1, 1, limited(5000, 500), true),
-        (0, 1, 3, limited(4000, 400), true),
-        (0, 1, 4, limited(4000, 400), false),
-        (0, 0, 0, limited(4000, 400), true),
-        (0, 2, 1, limited(4000, 400), true),
-        (0, 3, 1, limited(4000, 400), false),
-        (0, 1, 1, limited(9000, 399), false),
-        (0, 1, 1, limited(3999, 900), false),
-        (1, 2, 1, WeightLimit::Unlimited, true),
-        (2, 2, 1, WeightLimit::Unlimited, true),
-        (24, 2, 1, WeightLimit::Unlimited, true),
-        (28, 2, 1, WeightLimit::Unlimited, false),
-    ];
-    let paid = Barrier::Paid.copy(alloc)?;
-    for (index, count, clears, limit, wanted) in cases {
-        let mut program = paying(alloc, bringing(alloc, index, count)?, clears, limit)?;
-        let answer = allow(
-            &[Barrier::Credit, Barrier::Paid],
-            &para(1),
-            &mut program,
-            WEIGHT,
-            NOTHING,
-            &[],
+    for (first, clears, most, wanted) in PAYING {
+        assert!(rt;
+            pays(rt.alloc(), *first, *clears, *most, *wanted)?,
+            "instruction {} with {} assets and {clears} ClearOrigins",
+            first.0,
+            first.1
         );
-        assert_eq!(rt; answer, wanted, "{index}, {count} assets, {clears}");
-        let after = if wanted { limited(4000, 400) } else { limit };
-        assert!(rt; program == paying(alloc, bringing(alloc, index, count)?, clears, after)?);
     }
-    assert!(rt; paid == Barrier::Paid);
     Ok(())
+}
+
+/// The first two parachains.
+fn origins(alloc: Global) -> Result<Origins, AllocError> {
+    Ok(Origins::from_vec(vec![in alloc; para(1), para(2)]?))
+}
+
+#[test]
+fn copies_of_barriers_are_the_same(rt: HostRuntime) -> Result<(), Fail> {
+    let paid = Barrier::Paid.copy(rt.alloc())?;
+    assert!(rt; paid == Barrier::Paid);
+    let explicit = Barrier::Explicit(origins(rt.alloc())?);
+    assert!(rt; explicit.copy(rt.alloc())? == explicit);
+    Ok(())
+}
+
+/// The origin, the limit that the program names, the credit, and the answers where the first two parachains need not pay, where their
+/// messages that say so need not, and where credit is taken.
+const NOT_PAYING: &[(u32, Most, (u64, u64), [bool; 3])] = &[
+    (2, None, (0, 0), [true, true, false]),
+    (1, Some((4000, 400)), (4000, 400), [true, true, true]),
+    (1, Some((4000, 399)), (9000, 900), [false, true, true]),
+    (1, Some((3999, 400)), (3999, 900), [false, true, false]),
+    (3, None, (9000, 399), [false, false, false]),
+];
+
+/// Whether the barrier allows a program that doesn't pay.
+fn allows(
+    alloc: Global,
+    barriers: &[Barrier],
+    number: u32,
+    most: Most,
+    (ref_time, proof_size): (u64, u64),
+) -> Result<bool, AllocError> {
+    let first = Instruction::UnpaidExecution {
+        limit: limit_of(most),
+        check_origin: None,
+    };
+    let mut program = Program::from_vec(vec![in alloc; first]?);
+    let credit = weight(ref_time, proof_size);
+    Ok(allow(barriers, &para(number), &mut program, WEIGHT, credit, &[]))
 }
 
 #[test]
 fn origins_that_do_not_pay(rt: HostRuntime) -> Result<(), Fail> {
     let alloc = rt.alloc();
-    let explicit = Barrier::Explicit(Origins::from_vec(vec![in alloc; para(1), para(2)]?));
-    let unpaid = Barrier::Unpaid(Origins::from_vec(vec![in alloc; para(1), para(2)]?));
-    assert!(rt; explicit.copy(alloc)? == explicit);
-    let lists = [[explicit], [unpaid], [Barrier::Credit]];
-    // the origin, the limit that the program names, the credit, and the answers of the three lists
-    let cases = [
-        (2, WeightLimit::Unlimited, NOTHING, [true, true, false]),
-        (1, limited(4000, 400), WEIGHT, [true, true, true]),
-        (
-            1,
-            limited(4000, 399),
-            weight(9000, 900),
-            [false, true, true],
-        ),
-        (
-            1,
-            limited(3999, 400),
-            weight(3999, 900),
-            [false, true, false],
-        ),
-        (
-            3,
-            WeightLimit::Unlimited,
-            weight(9000, 399),
-            [false, false, false],
-        ),
-    ];
-    for (number, limit, credit, wanted) in cases {
-        for (list, answer) in lists.iter().zip(wanted) {
-            let first = Instruction::UnpaidExecution {
-                limit,
-                check_origin: None,
-            };
-            let mut program = Program::from_vec(vec![in alloc; first]?);
-            let allowed = allow(list, &para(number), &mut program, WEIGHT, credit, &[]);
-            assert_eq!(rt; allowed, answer, "from {number}");
-        }
+    let explicit = [Barrier::Explicit(origins(alloc)?)];
+    let unpaid = [Barrier::Unpaid(origins(alloc)?)];
+    for (number, most, credit, wanted) in NOT_PAYING {
+        let found = [
+            allows(alloc, &explicit, *number, *most, *credit)?,
+            allows(alloc, &unpaid, *number, *most, *credit)?,
+            allows(alloc, &[Barrier::Credit], *number, *most, *credit)?,
+        ];
+        assert!(rt; found == *wanted, "from {number}");
     }
     Ok(())
 }
 
-#[test]
-fn responses_to_open_queries(rt: HostRuntime) -> Result<(), Fail> {
-    let alloc = rt.alloc();
+/// The query, the origin, the responses, and the answer where parachain 1 may answer query 7.
+const RESPONSES: &[(u64, u32, u8, bool)] = &[
+    (7, 1, 1, true),
+    (7, 2, 1, false),
+    (9, 1, 1, false),
+    (7, 1, 2, false),
+    (7, 1, 0, false),
+];
+
+/// An empty response.
+fn response(query_id: u64) -> Instruction {
+    Instruction::QueryResponse {
+        query_id,
+        response: Response::Null,
+        max_weight: NOTHING,
+        querier: Some(para(9)),
+    }
+}
+
+/// Whether so many responses are let in.
+fn responds(alloc: Global, query_id: u64, number: u32, count: u8) -> Result<bool, AllocError> {
+    let mut list = Vec::new(alloc);
+    for _ in 0..count {
+        list.push(response(query_id))?;
+    }
+    let mut program = Program::from_vec(list);
     let open = OpenQuery {
         id: 7,
         from: para(1),
     };
-    let queries = [open];
-    // the query, the origin, the responses, and the answer
-    let cases = [
-        (7, 1, 1, true),
-        (7, 2, 1, false),
-        (9, 1, 1, false),
-        (7, 1, 2, false),
-        (7, 1, 0, false),
-    ];
-    for (query_id, number, count, wanted) in cases {
-        let mut list = Vec::new(alloc);
-        for _ in 0..count {
-            list.push(Instruction::QueryResponse {
-                query_id,
-                response: Response::Null,
-                max_weight: NOTHING,
-                querier: Some(para(9)),
-            })?;
-        }
-        let mut program = Program::from_vec(list);
-        let barriers = [Barrier::Responses];
-        let origin = para(number);
-        let answer = allow(&barriers, &origin, &mut program, WEIGHT, NOTHING, &queries);
-        assert_eq!(rt; answer, wanted, "query {query_id} from {number}");
+    let barriers = [Barrier::Responses];
+    let origin = para(number);
+    Ok(allow(&barriers, &origin, &mut program, WEIGHT, NOTHING, &[open]))
+}
+
+#[test]
+fn responses_to_open_queries(rt: HostRuntime) -> Result<(), Fail> {
+    for (query_id, number, count, wanted) in RESPONSES {
+        assert!(rt;
+            responds(rt.alloc(), *query_id, *number, *count)? == *wanted,
+            "query {query_id} from {number}"
+        );
     }
     law_of_barriers();
     Ok(())

@@ -3,8 +3,9 @@ ghost use Rattle.std.specs.Prelude.{◌≡◌, IfOk};
 ghost use Rattle.asset_bundles.specs.Bundles.{bundle_of};
 
 use asset_bundles::{
-    AssetBundle, BurnBook, Cause, TakeFault, Total, Way, law_of_books, law_of_bundles,
-    law_of_conservation, law_of_filters, law_of_joins, law_of_landing, law_of_listed_assets,
+    AssetBundle, BurnBook, Cause, Shipment, TakeFault, Total, Units, Way, law_of_books,
+    law_of_bundles, law_of_conservation, law_of_filters, law_of_joins, law_of_landing,
+    law_of_listed_assets,
 };
 use asset_lists::{Asset, AssetId, Assets, Filter, Fun, Instance, Kind, Wild, WildFun};
 use locations::{Junction, Junctions, Location, NetworkId};
@@ -75,103 +76,156 @@ fn filter(alloc: Global, number: u8) -> Result<Filter, Fail> {
     })
 }
 
+/// Filters by their number, and what each takes of 7 of the fungible asset and the instances 1 and 2, and what it leaves: an amount, and
+/// the instances from one to before another.
+const FILTERS: &[(u8, [u128; 3], [u128; 3])] = &[
+    (0, [7, 1, 2], [0, 2, 3]),
+    (1, [0, 1, 1], [7, 1, 3]),
+    (2, [0, 1, 3], [7, 3, 3]),
+    (3, [7, 1, 3], [0, 3, 3]),
+    (4, [7, 1, 2], [0, 2, 3]),
+];
+
+/// Whether the items are so much of the fungible asset and these instances.
+fn is_listed(alloc: Global, items: Vec<Asset>, want: [u128; 3]) -> Result<bool, Fail> {
+    let list = Assets::from_sorted(items)?;
+    Ok(list == listed(alloc, want[0], want[1], want[2])?)
+}
+
+/// Takes by the filter and puts back: what was told, what was taken and what was left; nothing where the goods weren't put back.
+fn parted(
+    holding: &mut AssetBundle,
+    filter: &Filter,
+) -> Result<Option<(Vec<Asset>, Vec<Asset>, Vec<Asset>)>, AllocError> {
+    let told = holding.min(filter)?;
+    let goods = holding.take(filter)?;
+    let left = holding.list();
+    let taken = goods.list();
+    match holding.put_back(goods) {
+        Ok(()) => Ok(Some((told, taken?, left?))),
+        Err(goods) => {
+            goods.melt();
+            Ok(None)
+        }
+    }
+}
+
+/// Whether the filter is told to take and takes so much, and leaves so much.
+fn parts(
+    alloc: Global,
+    holding: &mut AssetBundle,
+    filter: &Filter,
+    want: ([u128; 3], [u128; 3]),
+) -> Result<bool, Fail> {
+    let Some((told, taken, left)) = parted(holding, filter)? else {
+        return Ok(false);
+    };
+    Ok(
+        is_listed(alloc, told, want.0)?
+            && is_listed(alloc, taken, want.0)?
+            && is_listed(alloc, left, want.1)?,
+    )
+}
+
+/// Whether 7 of the fungible asset and the two listed instances are held.
+fn has_all(holding: &AssetBundle, all: &Assets) -> bool {
+    holding.contains(all)
+        && holding.kinds() == 3
+        && holding.amount(&coin()) == 7
+        && holding.total(&class(), Kind::Class) == 2
+}
+
+/// Whether the filter of this number takes and leaves so much of all that is held, and all is held again behind it.
+fn takes(alloc: Global, number: u8, taken: [u128; 3], left: [u128; 3]) -> Result<bool, Fail> {
+    let all = listed(alloc, 7, 1, 3)?;
+    let filter = filter(alloc, number)?;
+    let mut holding = minted(alloc, &all)?;
+    let right = parts(alloc, &mut holding, &filter, (taken, left));
+    let whole = has_all(&holding, &all);
+    holding.melt();
+    Ok(right? && whole)
+}
+
 #[test]
 fn filters_take_in_holding_order_and_all_is_put_back(rt: HostRuntime) -> Result<(), Fail> {
-    let alloc = rt.alloc();
-    // the filter, and what it takes of 7 of the fungible asset and the instances 1 and 2, and what it leaves
-    let cases = [
-        (0, [7, 1, 2], [0, 2, 3]),
-        (1, [0, 1, 1], [7, 1, 3]),
-        (2, [0, 1, 3], [7, 3, 3]),
-        (3, [7, 1, 3], [0, 3, 3]),
-        (4, [7, 1, 2], [0, 2, 3]),
-    ];
-    let all = listed(alloc, 7, 1, 3)?;
-    for (number, taken, left) in cases {
-        let filter = filter(alloc, number)?;
-        let mut holding = minted(alloc, &all)?;
-        let told = holding.min(&filter);
-        let goods = match holding.take(&filter) {
-            Ok(goods) => goods,
-            Err(fault) => {
-                holding.melt();
-                return Err(fault.into());
-            }
-        };
-        let rest = holding.list();
-        let some = goods.list();
-        let whole = match holding.put_back(goods) {
-            Ok(()) => true,
-            Err(goods) => {
-                goods.melt();
-                false
-            }
-        };
-        let back = holding.contains(&all);
-        let kinds = holding.kinds();
-        let amount = holding.amount(&coin());
-        let pieces = holding.total(&class(), Kind::Class);
-        holding.melt();
-        let some = Assets::from_sorted(some?)?;
-        assert_eq!(rt; some, listed(alloc, taken[0], taken[1], taken[2])?);
-        assert_eq!(rt; Assets::from_sorted(told?)?, some);
-        let rest = Assets::from_sorted(rest?)?;
-        assert_eq!(rt; rest, listed(alloc, left[0], left[1], left[2])?);
-        assert!(rt; whole && back);
-        assert_eq!(rt; (kinds, amount, pieces), (3, 7, 2));
+    for (number, taken, left) in FILTERS {
+        assert!(rt;
+            takes(rt.alloc(), *number, *taken, *left)?,
+            "filter {number}"
+        );
     }
     Ok(())
 }
 
+/// Whether the listed assets are taken of 7 of the fungible asset and the instances 1 and 2, and how many kinds are left then.
+fn tried(alloc: Global, asked: &Assets) -> Result<(bool, usize), Fail> {
+    let all = listed(alloc, 7, 1, 3)?;
+    let mut holding = minted(alloc, &all)?;
+    let held = match holding.try_take(asked) {
+        Ok(goods) => {
+            goods.melt();
+            true
+        }
+        Err(fault) => fault == TakeFault::Memory,
+    };
+    let kinds = holding.kinds();
+    holding.melt();
+    Ok((held, kinds))
+}
+
+/// What is asked for, an amount and the instances from 1 to before another; whether it is taken, and how many kinds are left.
+const TRIES: &[(u128, u128, bool, usize)] = &[(7, 3, true, 0), (8, 3, false, 3), (7, 4, false, 3)];
+
 #[test]
 fn all_or_nothing_is_taken(rt: HostRuntime) -> Result<(), Fail> {
-    let alloc = rt.alloc();
-    let all = listed(alloc, 7, 1, 3)?;
-    // what is asked for, and whether it is held
-    for (number, to, wanted) in [(7, 3, true), (8, 3, false), (7, 4, false)] {
-        let asked = listed(alloc, number, 1, to)?;
-        let mut holding = minted(alloc, &all)?;
-        let held = match holding.try_take(&asked) {
-            Ok(goods) => {
-                goods.melt();
-                true
-            }
-            Err(fault) => fault == TakeFault::Memory,
-        };
-        let kinds = holding.kinds();
-        holding.melt();
-        assert_eq!(rt; held, wanted);
-        assert_eq!(rt; kinds, if wanted { 0 } else { 3 });
+    for (number, to, held, kinds) in TRIES {
+        let asked = listed(rt.alloc(), *number, 1, *to)?;
+        assert!(rt; tried(rt.alloc(), &asked)? == (*held, *kinds));
     }
     Ok(())
+}
+
+/// What a join of the two lists, as bundles, would give up.
+fn excess(alloc: Global, first: &Assets, second: &Assets) -> Result<Vec<Asset>, AllocError> {
+    let holding = minted(alloc, first)?;
+    let other = match minted(alloc, second) {
+        Ok(other) => other,
+        Err(fault) => {
+            holding.melt();
+            return Err(fault);
+        }
+    };
+    let excess = holding.excess(&other);
+    holding.melt();
+    other.melt();
+    excess
+}
+
+const MOST: u128 = u128::MAX;
+
+/// Two bundles, each an amount and instances, and what a join would give up.
+const JOINS: &[([u128; 3], [u128; 3], [u128; 3])] = &[
+    ([MOST, 1, 1], [1, 1, 1], [1, 1, 1]),
+    ([5, 1, 3], [2, 3, 5], [0, 1, 1]),
+    ([MOST, 1, 3], [MOST, 2, 4], [MOST, 2, 3]),
+];
+
+/// Whether a join of the two would give up so much.
+fn exceeds(
+    alloc: Global,
+    first: [u128; 3],
+    second: [u128; 3],
+    above: [u128; 3],
+) -> Result<bool, Fail> {
+    let first = listed(alloc, first[0], first[1], first[2])?;
+    let second = listed(alloc, second[0], second[1], second[2])?;
+    is_listed(alloc, excess(alloc, &first, &second)?, above)
 }
 
 #[test]
 fn joins_tell_what_they_would_give_up(rt: HostRuntime) -> Result<(), Fail> {
-    let alloc = rt.alloc();
-    let max = u128::MAX;
-    // two bundles, each an amount and instances, and what a join would give up
-    let cases = [
-        ([max, 1, 1], [1, 1, 1], [1, 1, 1]),
-        ([5, 1, 3], [2, 3, 5], [0, 1, 1]),
-        ([max, 1, 3], [max, 2, 4], [max, 2, 3]),
-    ];
-    for (first, second, above) in cases {
-        let first = listed(alloc, first[0], first[1], first[2])?;
-        let second = listed(alloc, second[0], second[1], second[2])?;
-        let holding = minted(alloc, &first)?;
-        let other = match minted(alloc, &second) {
-            Ok(other) => other,
-            Err(fault) => {
-                holding.melt();
-                return Err(fault.into());
-            }
-        };
-        let excess = holding.excess(&other);
-        holding.melt();
-        other.melt();
-        let excess = Assets::from_sorted(excess?)?;
-        assert_eq!(rt; excess, listed(alloc, above[0], above[1], above[2])?);
+    for (first, second, above) in JOINS {
+        assert!(rt; exceeds(rt.alloc(), *first, *second, *above)?);
     }
     Ok(())
 }
@@ -194,44 +248,65 @@ fn give_up_nothing(alloc: Global, book: &mut BurnBook) -> bool {
     lost
 }
 
+const NONE: Total = Total { high: 0, low: 0 };
+
+/// 2^128.
+const ABOVE: Total = Total { high: 1, low: 0 };
+
+const GREATEST: Total = Total {
+    high: u32::MAX,
+    low: u128::MAX,
+};
+
+#[test]
+fn totals_are_added_and_saturate(rt: HostRuntime) {
+    assert!(rt; NONE.plus(u128::MAX).plus(1) == ABOVE);
+    assert!(rt; ABOVE.sum(ABOVE) == Total { high: 2, low: 0 });
+    assert!(rt; GREATEST.sum(ABOVE) == GREATEST);
+    assert!(rt; GREATEST.sum(GREATEST) == GREATEST);
+    assert!(rt; GREATEST.plus(1) == GREATEST);
+    assert!(rt; NONE.plus(u128::MAX) < ABOVE);
+    assert!(rt; ABOVE < GREATEST);
+}
+
 #[test]
 fn burns_are_added_up(rt: HostRuntime) -> Result<(), Fail> {
-    let alloc = rt.alloc();
-    let most = Total {
-        high: u32::MAX,
-        low: u128::MAX,
-    };
-    let none = Total { high: 0, low: 0 };
-    let above = none.plus(u128::MAX).plus(1);
-    assert_eq!(rt; above, Total { high: 1, low: 0 });
-    assert_eq!(rt; above.sum(above), Total { high: 2, low: 0 });
-    assert_eq!(rt; most.sum(above), most);
-    assert_eq!(rt; most.plus(1), most);
-    assert!(rt; none.plus(u128::MAX) < above);
-    assert!(rt; above < most);
-
     let assets = [(coin(), Kind::Fungible), (class(), Kind::Class)];
-    let mut book = BurnBook::new(alloc, &assets)?;
-    let lost = give_up_nothing(alloc, &mut book);
-    assert!(rt; !lost);
-    let burned = book.total(&coin(), Kind::Fungible, Cause::BurnAsset);
-    let unlisted = book.total(&coin(), Kind::Class, Cause::LostTeleport);
-    assert_eq!(rt; (burned, unlisted), (none, none));
+    let mut book = BurnBook::new(rt.alloc(), &assets)?;
+    assert!(rt; !give_up_nothing(rt.alloc(), &mut book));
+    assert!(rt; book.total(&coin(), Kind::Fungible, Cause::BurnAsset) == NONE);
+    assert!(rt; book.total(&coin(), Kind::Class, Cause::LostTeleport) == NONE);
     Ok(())
+}
+
+/// Whether the units are those of the list, 7 of the fungible asset among them, in so many kinds.
+fn rests(units: &Units, list: &Assets, kinds: usize) -> Result<bool, AllocError> {
+    let items = units.list()?;
+    Ok(units.is_list(list) && units.total(&coin(), Kind::Fungible) == 7 && items.len() == kinds)
+}
+
+/// Whether a withdrawal of two instances is under way, in so many kinds.
+fn is_under_way(shipment: &Shipment, kinds: usize) -> Result<bool, AllocError> {
+    let items = shipment.list()?;
+    Ok(
+        shipment.way() == Way::Withdrawal
+            && shipment.total(&class(), Kind::Class) == 2
+            && items.len() == kinds,
+    )
 }
 
 #[test]
 fn units_rest_and_are_shipped(rt: HostRuntime) -> Result<(), Fail> {
-    let alloc = rt.alloc();
-    let list = listed(alloc, 7, 1, 3)?;
-    let units = minted(alloc, &list)?.set_down();
-    assert!(rt; units.is_list(&list));
-    assert_eq!(rt; units.total(&coin(), Kind::Fungible), 7);
-    assert_eq!(rt; units.list()?.len(), 3);
+    let list = listed(rt.alloc(), 7, 1, 3)?;
+    let units = minted(rt.alloc(), &list)?.set_down();
+    assert!(rt; rests(&units, &list, 3)?);
     let shipment = AssetBundle::take_up(units).ship(Way::Withdrawal);
-    assert_eq!(rt; shipment.way(), Way::Withdrawal);
-    assert_eq!(rt; shipment.total(&class(), Kind::Class), 2);
-    assert_eq!(rt; shipment.list()?.len(), 3);
+    assert!(rt; is_under_way(&shipment, 3)?);
+    Ok(())
+}
+
+#[test]
+fn the_laws_of_bundles_can_be_called() {
     law_of_bundles();
     law_of_filters();
     law_of_joins();
@@ -239,7 +314,6 @@ fn units_rest_and_are_shipped(rt: HostRuntime) -> Result<(), Fail> {
     law_of_landing();
     law_of_books();
     law_of_conservation();
-    Ok(())
 }
 
 /// Ships the listed assets, and lands them as the target names them: what has arrived, in holding order.
@@ -300,6 +374,6 @@ fn shipments_land_under_the_names_of_the_target(rt: HostRuntime) -> Result<(), F
             fun: Fun::NonFungible(Instance::Index(3)),
         },
     ]?;
-    assert_eq!(rt; arrived.as_slice(), wanted.as_slice());
+    assert!(rt; arrived.as_slice() == wanted.as_slice());
     Ok(())
 }

@@ -20,7 +20,7 @@ const A2: [u8; 32] = [2; 32];
 const A3: [u8; 32] = [3; 32];
 
 /// Why a move is refused.
-#[derive(Clone, Copy, Debug, PartialEq, Eq)]
+#[derive(Clone, Copy, PartialEq, Eq)]
 enum Refusal {
     Less(u128),
     Over(u128),
@@ -149,7 +149,7 @@ struct Row {
 
 const MOST: u128 = u128::MAX;
 
-const ROWS: [Row; 14] = [
+const ROWS: &[Row] = &[
     Row {
         from: None,
         to: Some(A1),
@@ -319,7 +319,7 @@ fn goes(ledger: &mut Ledger, alloc: Global, row: &Row) -> Result<bool, AllocErro
 fn moves_and_sums(rt: HostRuntime) -> Result<(), Fail> {
     let alloc = rt.alloc();
     let mut ledger = opened(alloc)?;
-    for row in &ROWS {
+    for row in ROWS {
         assert!(rt; goes(&mut ledger, alloc, row)?);
     }
     law_of_ledgers();
@@ -356,19 +356,43 @@ fn refuses_right(ledger: &Ledger, list: &Assets) -> bool {
         && ledger.transfer_fault(&A2, &A1, list) == Some(TransferFault::NotEnough { have: 0 })
 }
 
+/// Whether the first account holds just an amount of 9 and the instance 4.
+fn holds_right(ledger: &Ledger) -> Result<bool, AllocError> {
+    let held = ledger.held(&A1)?;
+    Ok(match held.as_slice() {
+        [coins, piece] => *coins == asset(9, 0) && *piece == asset(0, 4),
+        _ => false,
+    })
+}
+
+/// Deposits in three accounts: whether all are taken.
+fn all_put(ledger: &mut Ledger, alloc: Global) -> Result<bool, AllocError>
+    requires { ledger.old.listed ≡ (Concrete (record { parents = 0; interior = [] }), Kind.Fungible) ∷ (Concrete (record { parents = 0; interior = [] }), Kind.Class) ∷ [] }
+{
+    let of_third = put(ledger, alloc, &A3, 5, 0)?;
+    let of_second = put(ledger, alloc, &A2, 0, 1)?;
+    let piece = put(ledger, alloc, &A1, 0, 4)?;
+    let coins = put(ledger, alloc, &A1, 9, 0)?;
+    Ok(of_third.is_none() && of_second.is_none() && piece.is_none() && coins.is_none())
+}
+
+/// Whether the ledger answers each question as its deposits say.
+fn answers_right(ledger: &Ledger, list: &Assets) -> Result<bool, AllocError> {
+    let id = AssetId::Concrete(here());
+    Ok(
+        in_order(ledger)
+            && reads_right(ledger, &id)
+            && refuses_right(ledger, list)
+            && holds_right(ledger)?,
+    )
+}
+
 #[test]
 fn what_accounts_hold(rt: HostRuntime) -> Result<(), Fail> {
     let alloc = rt.alloc();
+    let nine = Assets::one(alloc, asset(9, 0))?;
     let mut ledger = opened(alloc)?;
-    let id = AssetId::Concrete(here());
-    assert_eq!(rt; put(&mut ledger, alloc, &A3, 5, 0)?, None);
-    assert_eq!(rt; put(&mut ledger, alloc, &A2, 0, 1)?, None);
-    assert_eq!(rt; put(&mut ledger, alloc, &A1, 0, 4)?, None);
-    assert_eq!(rt; put(&mut ledger, alloc, &A1, 9, 0)?, None);
-    assert!(rt; in_order(&ledger));
-    assert!(rt; reads_right(&ledger, &id));
-    assert!(rt; refuses_right(&ledger, &Assets::one(alloc, asset(9, 0))?));
-    let held = ledger.held(&A1)?;
-    assert!(rt; held.as_slice() == [asset(9, 0), asset(0, 4)].as_slice());
+    assert!(rt; all_put(&mut ledger, alloc)?);
+    assert!(rt; answers_right(&ledger, &nine)?);
     Ok(())
 }

@@ -31,6 +31,21 @@ fn instance(instance: Instance, id: Location) -> Asset {
     }
 }
 
+/// So much of the chain's own asset.
+fn own(number: u128) -> Asset {
+    amount(number, place(0, &[]))
+}
+
+/// So much of the asset of the chain above.
+fn above(number: u128) -> Asset {
+    amount(number, place(1, &[]))
+}
+
+/// An instance of the chain's own class.
+fn piece(name: Instance) -> Asset {
+    instance(name, place(0, &[]))
+}
+
 /// Amounts of this many assets, each of another pallet.
 fn many(alloc: Global, count: u8) -> Result<Vec<Asset>, AllocError> {
     let mut items = Vec::new(alloc);
@@ -40,18 +55,27 @@ fn many(alloc: Global, count: u8) -> Result<Vec<Asset>, AllocError> {
     Ok(items)
 }
 
+/// Amounts of two assets and three instances, in order.
+fn five(alloc: Global) -> Result<Vec<Asset>, AllocError> {
+    let mut items = many(alloc, 2)?;
+    items.push(piece(Instance::Undefined))?;
+    items.push(piece(Instance::Index(7)))?;
+    items.push(piece(Instance::Array4([9; 4])))?;
+    Ok(items)
+}
+
 #[test]
 fn a_sorted_list_is_taken(rt: HostRuntime) -> Result<(), Fail> {
-    let alloc = rt.alloc();
-    let mut items = many(alloc, 2)?;
-    items.push(instance(Instance::Undefined, place(0, &[])))?;
-    items.push(instance(Instance::Index(7), place(0, &[])))?;
-    items.push(instance(Instance::Array4([9; 4]), place(0, &[])))?;
-    let list = Assets::from_sorted(items)?;
-    assert_eq!(rt; list.items().len(), 5);
-    assert_eq!(rt; list.copy()?, list);
-    let full = Assets::from_sorted(many(alloc, 20)?)?;
-    assert_eq!(rt; full.items().len(), 20);
+    let list = Assets::from_sorted(five(rt.alloc())?)?;
+    assert!(rt; list.items().len() == 5);
+    assert!(rt; list.copy()? == list);
+    Ok(())
+}
+
+#[test]
+fn a_list_may_have_twenty_items(rt: HostRuntime) -> Result<(), Fail> {
+    let full = Assets::from_sorted(many(rt.alloc(), 20)?)?;
+    assert!(rt; full.items().len() == 20);
     Ok(())
 }
 
@@ -63,120 +87,161 @@ fn a_list_of_one(rt: HostRuntime) -> Result<(), Fail> {
         fun: Fun::Fungible(3),
     };
     let one = Assets::one(alloc, asset)?;
-    let alone = vec![in alloc; amount(3, place(1, &[]))]?;
-    assert_eq!(rt; one, Assets::from_sorted(alone)?);
+    assert!(rt; one == Assets::from_sorted(vec![in alloc; above(3)]?)?);
     Ok(())
+}
+
+/// Two items, in this order.
+fn pair(alloc: Global, first: Asset, second: Asset) -> Result<Vec<Asset>, AllocError> {
+    let mut items = Vec::new(alloc);
+    items.push(first)?;
+    items.push(second)?;
+    Ok(items)
+}
+
+/// Why these two items, in this order, are no list.
+fn fault_of_two(
+    alloc: Global,
+    first: Asset,
+    second: Asset,
+) -> Result<Option<ListFault>, AllocError> {
+    Ok(Assets::from_sorted(pair(alloc, first, second)?).err())
 }
 
 #[test]
 fn other_items_are_no_list(rt: HostRuntime) -> Result<(), Fail> {
     let alloc = rt.alloc();
-    let too_many = Assets::from_sorted(many(alloc, 21)?);
-    assert_eq!(rt; too_many, Err(ListFault::TooMany));
-    let zero = vec![in alloc; amount(0, place(0, &[]))]?;
-    assert_eq!(rt; Assets::from_sorted(zero), Err(ListFault::Zero));
-    let twice = vec![in alloc; amount(1, place(0, &[])), amount(2, place(0, &[]))]?;
-    assert_eq!(rt; Assets::from_sorted(twice), Err(ListFault::OutOfOrder));
-    let mixed = vec![in alloc;
-        instance(Instance::Undefined, place(0, &[])),
-        amount(2, place(0, &[])),
-    ]?;
-    assert_eq!(rt; Assets::from_sorted(mixed), Err(ListFault::OutOfOrder));
+    assert!(rt; Assets::from_sorted(many(alloc, 21)?) == Err(ListFault::TooMany));
+    assert!(rt; Assets::from_sorted(vec![in alloc; own(0)]?) == Err(ListFault::Zero));
+    assert!(rt; fault_of_two(alloc, own(1), own(2))? == Some(ListFault::OutOfOrder));
+    let mixed = fault_of_two(alloc, piece(Instance::Undefined), own(2))?;
+    assert!(rt; mixed == Some(ListFault::OutOfOrder));
     Ok(())
 }
 
 #[test]
 fn an_asset_goes_to_its_place(rt: HostRuntime) -> Result<(), Fail> {
-    let alloc = rt.alloc();
-    let mut list = Assets::from_sorted(many(alloc, 2)?)?;
-    list.insert(instance(Instance::Index(1), place(0, &[])))?;
-    list.insert(amount(5, place(0, &[])))?;
-    let first = amount(5, place(0, &[]));
-    let last = instance(Instance::Index(1), place(0, &[]));
-    assert_eq!(rt; list.items().len(), 4);
-    assert_eq!(rt; list.items()[0], first);
-    assert_eq!(rt; list.items()[3], last);
-    assert_eq!(rt; list.insert(amount(0, place(1, &[]))), Err(ListFault::Zero));
-    let again = list.insert(amount(9, place(0, &[])));
-    assert_eq!(rt; again, Err(ListFault::OutOfOrder));
-    let mut full = Assets::from_sorted(many(alloc, 20)?)?;
-    let refused = full.insert(amount(1, place(1, &[])));
-    assert_eq!(rt; refused, Err(ListFault::TooMany));
+    let mut list = Assets::from_sorted(many(rt.alloc(), 2)?)?;
+    list.insert(piece(Instance::Index(1)))?;
+    list.insert(own(5))?;
+    assert!(rt; list.items().len() == 4);
+    assert!(rt; list.items()[0] == own(5));
+    assert!(rt; list.items()[3] == piece(Instance::Index(1)));
+    assert!(rt; list.insert(above(0)) == Err(ListFault::Zero));
+    assert!(rt; list.insert(own(9)) == Err(ListFault::OutOfOrder));
     Ok(())
+}
+
+#[test]
+fn no_asset_goes_into_a_full_list(rt: HostRuntime) -> Result<(), Fail> {
+    let mut full = Assets::from_sorted(many(rt.alloc(), 20)?)?;
+    assert!(rt; full.insert(above(1)) == Err(ListFault::TooMany));
+    Ok(())
+}
+
+/// Parachain 2000 of Polkadot.
+fn context() -> Junctions {
+    let polkadot = Junction::GlobalConsensus(NetworkId::Polkadot);
+    Junctions::from_few(&[polkadot, Junction::Parachain(2000)])
+}
+
+/// Two items as a list.
+fn two(alloc: Global, first: Asset, second: Asset) -> Result<Assets, Fail> {
+    Ok(Assets::from_sorted(pair(alloc, first, second)?)?)
 }
 
 #[test]
 fn a_list_is_reanchored(rt: HostRuntime) -> Result<(), Fail> {
     let alloc = rt.alloc();
-    let polkadot = Junction::GlobalConsensus(NetworkId::Polkadot);
-    let context = Junctions::from_few(&[polkadot, Junction::Parachain(2000)]);
+    let seen = two(alloc, own(3), above(4))?.reanchored(&place(1, &[]), &context())?;
+    let child = amount(3, place(0, &[Junction::Parachain(2000)]));
+    assert!(rt; seen == two(alloc, own(4), child)?);
+    Ok(())
+}
+
+#[test]
+fn other_lists_are_not_reanchored(rt: HostRuntime) -> Result<(), Fail> {
+    let alloc = rt.alloc();
     let relay = place(1, &[]);
-    let own = amount(1, place(0, &[]));
-    let named = amount(1, place(1, &[Junction::Parachain(2000)]));
-    let alike = Assets::from_sorted(vec![in alloc; own, named]?)?;
-    assert_eq!(rt;
-        alike.reanchored(&relay, &context),
-        Err(ReanchorFault::Same)
-    );
-    let two = vec![in alloc; amount(3, place(0, &[])), amount(4, place(1, &[]))]?;
-    let seen = Assets::from_sorted(two)?.reanchored(&relay, &context)?;
-    let wanted = vec![in alloc;
-        amount(4, place(0, &[])),
-        amount(3, place(0, &[Junction::Parachain(2000)])),
-    ]?;
-    assert_eq!(rt; seen, Assets::from_sorted(wanted)?);
+    let alike = two(
+        alloc,
+        own(1),
+        amount(1, place(1, &[Junction::Parachain(2000)])),
+    )?;
+    assert!(rt; alike.reanchored(&relay, &context()) == Err(ReanchorFault::Same));
     let bytes = Asset {
         id: AssetId::Abstract([1; 32]),
         fun: Fun::Fungible(1),
     };
     let unnamed = Assets::from_sorted(vec![in alloc; bytes]?)?;
-    let refused = unnamed.reanchored(&relay, &context);
-    assert_eq!(rt; refused, Err(ReanchorFault::NotReanchored));
+    assert!(rt; unnamed.reanchored(&relay, &context()) == Err(ReanchorFault::NotReanchored));
     Ok(())
 }
 
+/// The network of Kusama.
+fn kusama() -> Junctions {
+    Junctions::from_few(&[Junction::GlobalConsensus(NetworkId::Kusama)])
+}
+
 #[test]
-fn ids_and_units_are_compared(rt: HostRuntime) -> Result<(), Fail> {
-    let own = AssetId::Concrete(place(0, &[]));
+fn ids_are_compared(rt: HostRuntime) {
+    let concrete = AssetId::Concrete(place(0, &[]));
     let bytes = AssetId::Abstract([0; 32]);
-    assert_eq!(rt; own.cmp(&bytes), Ordering::Less);
-    assert_eq!(rt; own.copy(), own);
-    let context = Junctions::from_few(&[Junction::GlobalConsensus(NetworkId::Kusama)]);
-    let seen = bytes.reanchored(&place(0, &[]), &context);
-    assert_eq!(rt; seen, None);
-    let few = amount(1, place(0, &[]));
-    let more = amount(2, place(0, &[]));
-    assert_eq!(rt; few.unit_cmp(&more), Ordering::Equal);
-    assert_eq!(rt; few.cmp(&more), Ordering::Less);
-    assert_eq!(rt; few.copy(), few);
-    assert!(rt; !few.is_zero());
-    let one = instance(Instance::Index(1), place(0, &[]));
-    assert_eq!(rt; (few.kind(), few.amount()), (Kind::Fungible, 1));
-    assert_eq!(rt; (more.kind(), more.amount()), (Kind::Fungible, 2));
-    assert_eq!(rt; (one.kind(), one.amount()), (Kind::Class, 1));
-    let same = few.reanchored(&place(0, &[]), &context);
-    assert_eq!(rt; same, Some(few));
-    Ok(())
+    assert!(rt; concrete.cmp(&bytes) == Ordering::Less);
+    assert!(rt; concrete.copy() == concrete);
+    assert!(rt; bytes.reanchored(&place(0, &[]), &kusama()).is_none());
 }
 
 #[test]
-fn filters_and_refusals(rt: HostRuntime) -> Result<(), Fail> {
+fn units_are_compared(rt: HostRuntime) {
+    let few = own(1);
+    let more = own(2);
+    assert!(rt; few.unit_cmp(&more) == Ordering::Equal);
+    assert!(rt; few.cmp(&more) == Ordering::Less);
+    assert!(rt; few.copy() == few);
+    assert!(rt; !few.is_zero());
+    assert!(rt; few.reanchored(&place(0, &[]), &kusama()) == Some(few));
+}
+
+/// Whether this is the kind of the asset, and its amount.
+fn is_amount(asset: &Asset, kind: Kind, amount: u128) -> bool {
+    asset.kind() == kind && asset.amount() == amount
+}
+
+#[test]
+fn assets_have_a_kind_and_an_amount(rt: HostRuntime) {
+    assert!(rt; is_amount(&own(1), Kind::Fungible, 1));
+    assert!(rt; is_amount(&own(2), Kind::Fungible, 2));
+    assert!(rt; is_amount(&piece(Instance::Index(1)), Kind::Class, 1));
+    assert!(rt; Kind::Fungible < Kind::Class);
+}
+
+#[test]
+fn filters_differ(rt: HostRuntime) -> Result<(), Fail> {
     let list = Assets::from_sorted(Vec::new(rt.alloc()))?;
-    assert_ne!(rt; Filter::Definite(list), Filter::Wild(Wild::All));
+    assert!(rt; Filter::Definite(list) != Filter::Wild(Wild::All));
     let of = Wild::AllOf {
         id: AssetId::Concrete(place(0, &[])),
         fun: WildFun::Fungible,
     };
-    assert_ne!(rt; of, Wild::AllCounted(1));
-    assert!(rt; Kind::Fungible < Kind::Class);
-    let fault = ListFault::Zero.to_string(rt.alloc())?;
-    assert_eq!(rt; fault.as_str(), "an amount of 0");
-    let fault = ReanchorFault::Same.to_string(rt.alloc())?;
-    assert_eq!(rt; fault.as_str(), "two assets that the target names alike");
+    assert!(rt; of != Wild::AllCounted(1));
+    Ok(())
+}
+
+#[test]
+fn refusals_have_texts(rt: HostRuntime) -> Result<(), Fail> {
+    let zero = ListFault::Zero.to_string(rt.alloc())?;
+    assert!(rt; zero.as_str() == "an amount of 0");
+    let same = ReanchorFault::Same.to_string(rt.alloc())?;
+    assert!(rt; same.as_str() == "two assets that the target names alike");
+    Ok(())
+}
+
+#[test]
+fn the_laws_of_lists_can_be_called() {
     law_of_order();
     law_of_lists();
     law_of_rising();
     law_of_insertion();
     law_of_reanchored_lists();
-    Ok(())
 }

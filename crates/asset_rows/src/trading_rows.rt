@@ -54,7 +54,7 @@ fn prices_are_rounded_down_in_each_dimension(rt: HostRuntime) -> Result<(), Fail
     ];
     for (per_second, per_mb, ref_time, proof_size, wanted) in cases {
         let rate = rate(0, per_second, per_mb).copy();
-        assert_eq!(rt; price(&rate, weight(ref_time, proof_size)), wanted);
+        assert!(rt; price(&rate, weight(ref_time, proof_size)) == wanted);
     }
     Ok(())
 }
@@ -131,7 +131,7 @@ fn programs_are_weighed(rt: HostRuntime) -> Result<(), Fail> {
         ];
         for (found, wanted) in weights {
             let wanted = wanted.map(|w| weight(w.0, w.1)).ok_or(NotComputable);
-            assert_eq!(rt; found, wanted);
+            assert!(rt; found == wanted);
         }
     }
     Ok(())
@@ -154,9 +154,9 @@ fn what_is_left_is_weighed(rt: HostRuntime) -> Result<(), Fail> {
     let alloc = rt.alloc();
     // the most instructions of the rule are counted on admission alone
     let appendix = with_appendix(alloc)?;
-    assert_eq!(rt; weighed(&appendix), weight(3000, 300));
+    assert!(rt; weighed(&appendix) == weight(3000, 300));
     let call = with_call(alloc)?;
-    assert_eq!(rt; weighed(&call), weight(1005, 107));
+    assert!(rt; weighed(&call) == weight(1005, 107));
     Ok(())
 }
 
@@ -202,7 +202,7 @@ fn buy(shop: &mut Shop, weight: Weight, payment: AssetBundle) -> (bool, AssetBun
 }
 
 /// What a purchase leaves, and what is given back for a second and handed out at the end.
-#[derive(Debug, PartialEq, Eq, Drop)]
+#[derive(PartialEq, Eq, Drop)]
 struct Trade {
     too_expensive: bool,
     left: u128,
@@ -256,7 +256,7 @@ fn weight_is_bought_and_given_back(rt: HostRuntime) -> Result<(), Fail> {
             given,
             closed,
         };
-        assert_eq!(rt; found, want);
+        assert!(rt; found == want);
     }
     law_of_trading();
     Ok(())
@@ -275,15 +275,12 @@ fn what_is_told_is_given_back(rt: HostRuntime) -> Result<(), Fail> {
     let (too_expensive, rest) = buy(&mut shop, weight(SECOND, 0), payment);
     let left = held(rest, 1);
     assert!(rt; !too_expensive);
-    assert_eq!(rt; (excess, left), (None, 5));
-    assert_eq!(rt;
-        shop.trader.refund_of(weight(SECOND, 0)),
-        Some((place(1), 2))
-    );
-    assert_eq!(rt; shop.trader.refund_of(weight(0, 0)), None);
+    assert!(rt; (excess, left) == (None, 5));
+    assert!(rt; shop.trader.refund_of(weight(SECOND, 0)) == Some((place(1), 2)));
+    assert!(rt; shop.trader.refund_of(weight(0, 0)) == None);
     let id = AssetId::Concrete(place(1));
     let saturated = shop.book.total(&id, Kind::Fungible, Cause::Saturated);
-    assert_eq!(rt; saturated, Total { high: 0, low: 0 });
+    assert!(rt; saturated == Total { high: 0, low: 0 });
     Ok(())
 }
 
@@ -307,7 +304,7 @@ fn what_is_paid_saturates(rt: HostRuntime) -> Result<(), Fail> {
     let alloc = rt.alloc();
     let most = weight(u64::MAX, u64::MAX);
     let dear = rate(0, u64::MAX, u64::MAX);
-    assert_eq!(rt; price(&dear, most), DEAR);
+    assert!(rt; price(&dear, most) == DEAR);
     let mut shop = opened(alloc, dear, rate(1, 2, 0))?;
     let whole = Asset {
         id: AssetId::Concrete(place(0)),
@@ -318,8 +315,8 @@ fn what_is_paid_saturates(rt: HostRuntime) -> Result<(), Fail> {
         payment = buy_more(&mut shop, most, payment);
     }
     let left = held(payment, 0);
-    assert_eq!(rt; left, 292_225_864_705_134_218_635_131_703_203_773);
-    assert_eq!(rt; shop.trader.paid(&place(0)), u128::MAX - left);
+    assert!(rt; left == 292_225_864_705_134_218_635_131_703_203_773);
+    assert!(rt; shop.trader.paid(&place(0)) == u128::MAX - left);
     // once more: so much passes 2^128-1
     let above = 32_293_029_235_659_429_051_303_371_764_770;
     let price = Asset {
@@ -329,20 +326,20 @@ fn what_is_paid_saturates(rt: HostRuntime) -> Result<(), Fail> {
     let payment = AssetBundle::mint(alloc, &[price])?;
     let told = shop.trader.excess_of(most, &payment);
     let left = held(buy_more(&mut shop, most, payment), 0);
-    assert_eq!(rt; told, Some((place(0), above)));
-    assert_eq!(rt; left, 0);
-    assert_eq!(rt; shop.trader.paid(&place(0)), u128::MAX);
+    assert!(rt; told == Some((place(0), above)));
+    assert!(rt; left == 0);
+    assert!(rt; shop.trader.paid(&place(0)) == u128::MAX);
     let saturated = shop.book.total(
         &AssetId::Concrete(place(0)),
         Kind::Fungible,
         Cause::Saturated,
     );
-    assert_eq!(rt;
-        saturated,
-        Total {
-            high: 0,
-            low: above
-        }
+    assert!(rt;
+        saturated
+            == Total {
+                high: 0,
+                low: above
+            }
     );
     Ok(())
 }

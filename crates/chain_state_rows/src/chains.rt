@@ -20,14 +20,14 @@ use std::test::Fail;
 use trust_tables::ChainId;
 
 /// Who has what at the relay chain.
-pub const A1: [u8; 32] = [1; 32];
+pub(crate) const A1: [u8; 32] = [1; 32];
 
-pub const A2: [u8; 32] = [2; 32];
+pub(crate) const A2: [u8; 32] = [2; 32];
 
 /// The relay chain's fee account.
-pub const A9: [u8; 32] = [9; 32];
+pub(crate) const A9: [u8; 32] = [9; 32];
 
-pub const PARA: ChainId = ChainId::Para(1000);
+pub(crate) const PARA: ChainId = ChainId::Para(1000);
 
 /// A relay chain with an asset at home, which has a partner and a checking account, a class, and the asset of a parachain; the parachain;
 /// and a channel to it, whose messages cost 2.
@@ -44,7 +44,7 @@ const NETWORK: &str = r#"{"format":2,"chains":[
 "channels":[{"from":"relay","to":1000,"fee_asset":"0","fee":"2"}]}"#;
 
 /// The relay chain, as the network opens.
-pub fn relay(alloc: Global) -> Result<ChainState, Fail>
+pub(crate) fn relay(alloc: Global) -> Result<ChainState, Fail>
     ensures slot { IfOk result (λ chain. (part_of chain).fee_slot ≡ empty) }
     ensures cargo { IfOk result (λ chain. (part_of chain).cargo.cargo ≡ Cargo.Nothing) }
     ensures parked { IfOk result (λ chain. (part_of chain).parked ≡ []) }
@@ -56,7 +56,7 @@ pub fn relay(alloc: Global) -> Result<ChainState, Fail>
 }
 
 /// All chains, as the network opens.
-pub fn all_chains(alloc: Global) -> Result<Vec<ChainState>, Fail> {
+pub(crate) fn all_chains(alloc: Global) -> Result<Vec<ChainState>, Fail> {
     law_of_valid_networks();
     let spec = read_network(alloc, NETWORK.as_bytes())?;
     let mut list = Vec::new(alloc);
@@ -67,7 +67,7 @@ pub fn all_chains(alloc: Global) -> Result<Vec<ChainState>, Fail> {
 }
 
 /// The chain itself.
-pub fn here() -> Location {
+pub(crate) fn here() -> Location {
     Location {
         parents: 0,
         interior: Junctions::empty(),
@@ -75,7 +75,7 @@ pub fn here() -> Location {
 }
 
 /// The place behind a junction.
-pub fn at(junction: Junction) -> Location {
+pub(crate) fn at(junction: Junction) -> Location {
     let mut interior = Junctions::empty();
     match interior.push(junction) {
         Ok(()) => Location {
@@ -87,7 +87,7 @@ pub fn at(junction: Junction) -> Location {
 }
 
 /// The account's place.
-pub fn of(account: [u8; 32]) -> Location {
+pub(crate) fn of(account: [u8; 32]) -> Location {
     at(Junction::AccountId32 {
         network: None,
         id: account,
@@ -95,12 +95,12 @@ pub fn of(account: [u8; 32]) -> Location {
 }
 
 /// The parachain's place, which is also the id of its asset.
-pub fn para() -> Location {
+pub(crate) fn para() -> Location {
     at(Junction::Parachain(1000))
 }
 
 /// So much of the asset that this place defines.
-pub fn coins(place: Location, amount: u128) -> Asset
+pub(crate) fn coins(place: Location, amount: u128) -> Asset
     requires { 0 < amount }
     ensures some { IsFalse (is_zero result) }
 {
@@ -111,26 +111,26 @@ pub fn coins(place: Location, amount: u128) -> Asset
 }
 
 /// So much of it, as a list.
-pub fn list(alloc: Global, place: Location, amount: u128) -> Result<Assets, AllocError>
+pub(crate) fn list(alloc: Global, place: Location, amount: u128) -> Result<Assets, AllocError>
     requires { 0 < amount }
 {
     Assets::one(alloc, coins(place, amount))
 }
 
 /// What an account has of the chain's own asset.
-pub fn held(chain: &ChainState, who: &[u8; 32]) -> u128 {
+pub(crate) fn held(chain: &ChainState, who: &[u8; 32]) -> u128 {
     chain.ledger().amount(who, &AssetId::Concrete(here()))
 }
 
 /// What the first account gives, which is listed.
-pub fn taken(chain: &mut ChainState, assets: &Assets) -> Result<AssetBundle, HostFault>
+pub(crate) fn taken(chain: &mut ChainState, assets: &Assets) -> Result<AssetBundle, HostFault>
     ensures listed { IfOk result (λ goods. AreListed (listing (part_of chain.new).rows) goods) }
 {
     chain.withdraw(assets, &of(A1))
 }
 
 /// Puts goods into an account: why it is refused. Then they are gone.
-pub fn put(chain: &mut ChainState, goods: AssetBundle, who: &Location) -> Option<HostFault> {
+pub(crate) fn put(chain: &mut ChainState, goods: AssetBundle, who: &Location) -> Option<HostFault> {
     match chain.deposit(goods, who) {
         Ok(()) => None,
         Err((goods, fault)) => {

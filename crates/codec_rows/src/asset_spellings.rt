@@ -2,7 +2,7 @@
 ghost use Rattle.std.specs.Prelude.{◌≤◌};
 ghost use Rattle.asset_wire.specs.Spelling.{IsNamed};
 
-use crate::values::place;
+use crate::values::{place, unhex};
 use asset_lists::{Asset, AssetId, Assets, Filter, Fun, Instance, Wild, WildFun};
 use asset_wire::{
     Version, WireFault, law_of_no_prefix, law_of_one_spelling, law_of_readers, law_of_versions,
@@ -47,7 +47,7 @@ const INSTANCES: &[(Instance, &str)] = &[
 
 /// Whether the bytes of the hex are what is written for the instance, and are read as it.
 fn spells_instance(alloc: Global, instance: &Instance, hex: &str) -> Result<bool, Fail> {
-    let bytes = hex::decode(alloc, hex)?;
+    let bytes = unhex(alloc, hex)?;
     let mut out = Out::new(alloc);
     write_instance(&mut out, instance)?;
     let mut cursor = Cursor::new(bytes.as_slice());
@@ -86,7 +86,7 @@ fn spells_id(alloc: Global, id: &AssetId, v: Version, hex: &str) -> Result<bool,
 {
     let mut out = Out::new(alloc);
     write_asset_id(&mut out, id, v)?;
-    let bytes = hex::decode(alloc, hex)?;
+    let bytes = unhex(alloc, hex)?;
     let mut cursor = Cursor::new(bytes.as_slice());
     let read = read_asset_id(&mut cursor, v)?;
     Ok(out.bytes() == bytes.as_slice() && read == *id && cursor.rest().is_empty())
@@ -122,7 +122,7 @@ fn version_3_has_ids_of_bytes(rt: HostRuntime) -> Result<(), Fail> {
 /// Whether the hex is read as the asset, and is what is written for it.
 #[tactic(auto, using(asset_wire::specs::Laws::Written::asset_writable))]
 fn spells_asset(alloc: Global, asset: &Asset, v: Version, hex: &str) -> Result<bool, Fail> {
-    let bytes = hex::decode(alloc, hex)?;
+    let bytes = unhex(alloc, hex)?;
     let mut cursor = Cursor::new(bytes.as_slice());
     let read = read_asset(&mut cursor, v)?;
     let mut out = Out::new(alloc);
@@ -180,7 +180,7 @@ fn other_bytes_are_no_asset(rt: HostRuntime) {
 /// Whether the hex is read as the list, and is what is written for it.
 #[tactic(auto, using(asset_wire::specs::Laws::Written::assets_named))]
 fn spells_list(alloc: Global, list: &Assets, v: Version, hex: &str) -> Result<bool, Fail> {
-    let bytes = hex::decode(alloc, hex)?;
+    let bytes = unhex(alloc, hex)?;
     let mut cursor = Cursor::new(bytes.as_slice());
     let read = read_assets(alloc, &mut cursor, v)?;
     let mut out = Out::new(alloc);
@@ -235,7 +235,7 @@ fn bytes_as_an_id_are_of_version_3(rt: HostRuntime) -> Result<(), Fail> {
 
 /// Whether no front of what the hex says is a list, and the cursor stays.
 fn is_no_list(alloc: Global, v: Version, hex: &str) -> Result<bool, Fail> {
-    let bytes = hex::decode(alloc, hex)?;
+    let bytes = unhex(alloc, hex)?;
     let mut cursor = Cursor::new(bytes.as_slice());
     let read = read_assets(alloc, &mut cursor, v);
     Ok(read == Err(WireFault::NoSpelling) && cursor.rest() == bytes.as_slice())
@@ -304,7 +304,7 @@ fn a_list_has_at_most_twenty_items(rt: HostRuntime) -> Result<(), Fail> {
 /// Whether the hex is read as the filter, and is what is written for it.
 #[tactic(auto, using(asset_wire::specs::Laws::Written::filter_named))]
 fn spells_filter(alloc: Global, filter: &Filter, v: Version, hex: &str) -> Result<bool, Fail> {
-    let bytes = hex::decode(alloc, hex)?;
+    let bytes = unhex(alloc, hex)?;
     let mut cursor = Cursor::new(bytes.as_slice());
     let read = read_filter(alloc, &mut cursor, v)?;
     let mut out = Out::new(alloc);
@@ -370,7 +370,7 @@ const NO_FILTERS: &[&str] = &["02", "0104", "0101010002", "000400000000", "01"];
 
 /// Whether no front of what the hex says is a filter of version 4, and the cursor stays.
 fn is_no_filter(alloc: Global, hex: &str) -> Result<bool, Fail> {
-    let bytes = hex::decode(alloc, hex)?;
+    let bytes = unhex(alloc, hex)?;
     let mut cursor = Cursor::new(bytes.as_slice());
     let read = read_filter(alloc, &mut cursor, Version::V4);
     Ok(read == Err(WireFault::NoSpelling) && cursor.rest() == bytes.as_slice())

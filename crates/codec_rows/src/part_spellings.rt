@@ -1,7 +1,7 @@
 //! Weights, limits, errors, queries and responses.
 ghost use Rattle.std.specs.Prelude.{◌≤◌, length};
 
-use crate::values::{filled, place};
+use crate::values::{filled, place, unhex};
 use asset_lists::{Asset, AssetId, Assets, Fun};
 use asset_wire::{Version, WireFault};
 use locations::{Junction, Location};
@@ -38,7 +38,7 @@ const WEIGHTS: &[(u64, u64, &str)] = &[
 
 /// Whether the bytes of the hex are what is written for the weight, and are read as it.
 fn spells_weight(alloc: Global, value: &Weight, hex: &str) -> Result<bool, Fail> {
-    let bytes = hex::decode(alloc, hex)?;
+    let bytes = unhex(alloc, hex)?;
     let mut out = Out::new(alloc);
     write_weight(&mut out, value)?;
     let mut cursor = Cursor::new(bytes.as_slice());
@@ -62,7 +62,7 @@ const NO_WEIGHTS: &[&str] = &["", "00", "010000", "1700000000000000000100"];
 
 /// Whether no front of what the hex says is a weight, and the cursor stays.
 fn is_no_weight(alloc: Global, hex: &str) -> Result<bool, Fail> {
-    let bytes = hex::decode(alloc, hex)?;
+    let bytes = unhex(alloc, hex)?;
     let mut cursor = Cursor::new(bytes.as_slice());
     let read = read_weight(&mut cursor);
     Ok(read == Err(NoSpelling) && cursor.rest() == bytes.as_slice())
@@ -223,7 +223,7 @@ fn other_bytes_are_no_error(rt: HostRuntime) {
 
 /// Whether the bytes of the hex are what is written for the failure, and are read as it.
 fn spells_failure(alloc: Global, failure: &(u32, XcmError), hex: &str) -> Result<bool, Fail> {
-    let bytes = hex::decode(alloc, hex)?;
+    let bytes = unhex(alloc, hex)?;
     let mut out = Out::new(alloc);
     write_failure(&mut out, failure)?;
     let mut cursor = Cursor::new(bytes.as_slice());
@@ -294,7 +294,7 @@ fn a_failure_that_may_be_left_out_has_a_flag(rt: HostRuntime) {
 
 /// Whether the bytes of the hex are what is written for a location that may be left out, and are read as it.
 fn spells_maybe_place(alloc: Global, value: &Option<Location>, hex: &str) -> Result<bool, Fail> {
-    let bytes = hex::decode(alloc, hex)?;
+    let bytes = unhex(alloc, hex)?;
     let mut out = Out::new(alloc);
     write_optional_location(&mut out, value)?;
     let mut cursor = Cursor::new(bytes.as_slice());
@@ -451,7 +451,7 @@ const BALANCES: &str = "102042616c616e6365733c70616c6c65745f62616c616e6365730101
 
 /// Whether the bytes of the hex are what is written for the pallet, and are read as it.
 fn spells_pallet(alloc: Global, pallet: &PalletInfo, hex: &str) -> Result<bool, Fail> {
-    let bytes = hex::decode(alloc, hex)?;
+    let bytes = unhex(alloc, hex)?;
     let mut out = Out::new(alloc);
     write_pallet_info(&mut out, pallet)?;
     let mut cursor = Cursor::new(bytes.as_slice());
@@ -479,7 +479,7 @@ fn a_pallet_is_its_fields_in_order(rt: HostRuntime) -> Result<(), Fail> {
 
 /// Whether the bytes of the hex are what is written for the query, and are read as it.
 fn spells_query(alloc: Global, info: &QueryInfo, hex: &str) -> Result<bool, Fail> {
-    let bytes = hex::decode(alloc, hex)?;
+    let bytes = unhex(alloc, hex)?;
     let mut out = Out::new(alloc);
     write_query_info(&mut out, info)?;
     let mut cursor = Cursor::new(bytes.as_slice());
@@ -509,7 +509,7 @@ fn what_a_response_answers(rt: HostRuntime) -> Result<(), Fail> {
 /// Whether the hex is read as the response, and is what is written for it.
 #[tactic(auto, using(part_wire::specs::Laws::Written::response_named))]
 fn spells_response(alloc: Global, answer: &Response, v: Version, hex: &str) -> Result<bool, Fail> {
-    let bytes = hex::decode(alloc, hex)?;
+    let bytes = unhex(alloc, hex)?;
     let mut cursor = Cursor::new(bytes.as_slice());
     let read = read_response(alloc, &mut cursor, v)?;
     let mut out = Out::new(alloc);
@@ -591,7 +591,7 @@ fn is_no_response(alloc: Global, bytes: &[u8]) -> bool {
 #[test]
 fn other_bytes_are_no_response(rt: HostRuntime) -> Result<(), Fail> {
     for hex in NO_RESPONSES {
-        let bytes = hex::decode(rt.alloc(), hex)?;
+        let bytes = unhex(rt.alloc(), hex)?;
         assert!(rt; is_no_response(rt.alloc(), bytes.as_slice()), "{hex}");
     }
     Ok(())

@@ -75,7 +75,7 @@ fn weights_show_both_dimensions(rt: HostRuntime) -> Result<(), Fail> {
         proof_size: 5_242_880,
     };
     let text = format!(in rt.alloc(); "{weight}")?;
-    assert_eq!(rt; text.as_str(), "1000000000000 5242880");
+    assert!(rt; text.as_str() == "1000000000000 5242880");
     assert!(rt; WeightLimit::Limited(weight) != WeightLimit::Unlimited);
     Ok(())
 }

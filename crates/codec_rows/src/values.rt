@@ -1,8 +1,9 @@
-//! Places and bytes that several tables speak of.
+//! Places and bytes that several tables speak of, and how hex is read.
 ghost use Rattle.std.specs.Prelude.{◌≤◌, length};
 
 use locations::{Junction, Junctions, Location};
 use std::alloc::{AllocError, Global};
+use std::test::Fail;
 
 /// The place behind these junctions, so many levels up.
 pub(crate) fn place(parents: u8, items: &[Junction]) -> Location
@@ -25,4 +26,9 @@ pub(crate) fn filled(
         bytes.push(byte)?;
     }
     Ok(bytes)
+}
+
+/// The bytes of the hex.
+pub(crate) fn unhex(alloc: Global, hex: &str) -> Result<Vec<u8>, Fail> {
+    Ok(hex::decode(alloc, hex)?)
 }

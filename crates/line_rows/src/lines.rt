@@ -4,12 +4,13 @@ use chain_ids::ChainId;
 use input_lines::{
     Line, ends_network, law_of_lines, law_of_step_lines, line_len, read_line, text_of, without_feed,
 };
+use std::alloc::Global;
 use std::test::Fail;
 
 const ACCOUNT: &str = "00ff01AbaB0101010101010101010101010101010101010101010101010101aa";
 
 /// Words of chains, and what they name.
-const CHAINS: [(&str, Option<ChainId>); 14] = [
+const CHAINS: &[(&str, Option<ChainId>)] = &[
     ("relay", Some(ChainId::Relay)),
     ("0", Some(ChainId::Para(0))),
     ("9", Some(ChainId::Para(9))),
@@ -27,7 +28,7 @@ const CHAINS: [(&str, Option<ChainId>); 14] = [
 ];
 
 /// Words of messages, and their bytes.
-const MESSAGES: [(&str, Option<&[u8]>); 14] = [
+const MESSAGES: &[(&str, Option<&[u8]>)] = &[
     ("04041914", Some(&[4, 4, 25, 20])),
     ("0x04041914", Some(&[4, 4, 25, 20])),
     ("aBFf", Some(&[171, 255])),
@@ -45,7 +46,7 @@ const MESSAGES: [(&str, Option<&[u8]>); 14] = [
 ];
 
 /// Words of accounts, none of them one.
-const NO_ACCOUNTS: [&str; 7] = [
+const NO_ACCOUNTS: &[&str] = &[
     "",
     "0x",
     "0101010101010101010101010101010101010101010101010101010101010101010",
@@ -56,7 +57,7 @@ const NO_ACCOUNTS: [&str; 7] = [
 ];
 
 /// Whole lines, and whether they ask for nothing: the others are refused.
-const OTHER_LINES: [(&str, bool); 26] = [
+const OTHER_LINES: &[(&str, bool)] = &[
     ("Drain", false),
     ("drain ", false),
     (" drain", false),
@@ -100,139 +101,192 @@ const OTHER_LINES: [(&str, bool); 26] = [
     ),
 ];
 
+/// Whether the word of the chain in a step that runs a message names this chain, or has the step refused.
+fn runs_at(alloc: Global, word: &str, want: Option<ChainId>) -> Result<bool, Fail> {
+    let line = format!(in alloc; "exec {word} {ACCOUNT} 0x")?;
+    Ok(match read_line(alloc, line.as_bytes())? {
+        Line::Exec { chain, .. } => Some(chain) == want,
+        Line::Refused => want.is_none(),
+        _ => false,
+    })
+}
+
 #[test]
 fn chains_are_relay_or_a_number(rt: HostRuntime) -> Result<(), Fail> {
     for (word, want) in CHAINS {
-        let line = format!(in rt.alloc(); "exec {word} {ACCOUNT} 0x")?;
-        match read_line(rt.alloc(), line.as_bytes())? {
-            Line::Exec { chain, .. } => assert_eq!(rt; Some(chain), want, "of {word}"),
-            _ => assert_eq!(rt; None, want, "of {word}"),
-        }
+        assert!(rt; runs_at(rt.alloc(), word, *want)?, "of {word}");
     }
     Ok(())
+}
+
+/// Whether the word of the message in a step that runs one spells these bytes, or has the step refused.
+fn runs(alloc: Global, word: &str, want: Option<&[u8]>) -> Result<bool, Fail> {
+    let line = format!(in alloc; "exec relay 0x{ACCOUNT} {word}")?;
+    Ok(match read_line(alloc, line.as_bytes())? {
+        Line::Exec { message, .. } => Some(message.items()) == want,
+        Line::Refused => want.is_none(),
+        _ => false,
+    })
 }
 
 #[test]
 fn messages_are_pairs_of_digits(rt: HostRuntime) -> Result<(), Fail> {
     for (word, want) in MESSAGES {
-        let line = format!(in rt.alloc(); "exec relay 0x{ACCOUNT} {word}")?;
-        match read_line(rt.alloc(), line.as_bytes())? {
-            Line::Exec { message, .. } => assert_eq!(rt; Some(message.items()), want, "of {word}"),
-            _ => assert!(rt; want.is_none(), "of {word}"),
-        }
+        assert!(rt; runs(rt.alloc(), word, *want)?, "of {word}");
     }
     Ok(())
 }
 
+/// The bytes of `ACCOUNT`.
+const ACCOUNT_BYTES: [u8; 32] = [
+    0, 255, 1, 171, 171, 1, 1, 1, 1, 1, 1, 1, 1, 1, 1, 1, 1, 1, 1, 1, 1, 1, 1, 1, 1, 1, 1, 1, 1, 1,
+    1, 170,
+];
+
+/// Whether the word of the account, in a step that runs a message, spells the bytes of `ACCOUNT`, or, where it is to be none, has the
+/// step refused.
+fn runs_as(alloc: Global, word: &str, is_account: bool) -> Result<bool, Fail> {
+    let line = format!(in alloc; "exec 7 {word} 0x")?;
+    Ok(match read_line(alloc, line.as_bytes())? {
+        Line::Exec { account, .. } => is_account && account == ACCOUNT_BYTES,
+        Line::Refused => !is_account,
+        _ => false,
+    })
+}
+
 #[test]
 fn accounts_are_64_digits(rt: HostRuntime) -> Result<(), Fail> {
-    let mut account = [1u8; 32];
-    account[0] = 0;
-    account[1] = 255;
-    account[3] = 171;
-    account[4] = 171;
-    account[31] = 170;
-    for prefix in ["", "0x"] {
-        let line = format!(in rt.alloc(); "exec 7 {prefix}{ACCOUNT} 0x")?;
-        match read_line(rt.alloc(), line.as_bytes())? {
-            Line::Exec { account: seen, .. } => assert_eq!(rt; seen, account),
-            _ => assert!(rt; false, "refused"),
-        }
-    }
+    let prefixed = format!(in rt.alloc(); "0x{ACCOUNT}")?;
+    assert!(rt; runs_as(rt.alloc(), ACCOUNT, true)?);
+    assert!(rt; runs_as(rt.alloc(), prefixed.as_str(), true)?);
     for word in NO_ACCOUNTS {
-        let line = format!(in rt.alloc(); "exec relay {word} 0x")?;
-        let refused = matches!(&read_line(rt.alloc(), line.as_bytes())?, Line::Refused);
-        assert!(rt; refused, "of {word}");
+        assert!(rt; runs_as(rt.alloc(), word, false)?, "of {word}");
     }
     Ok(())
+}
+
+/// Whether the line asks for nothing, where that is wanted, and is refused otherwise.
+fn asks_nothing(alloc: Global, text: &str, empty: bool) -> Result<bool, Fail> {
+    Ok(match read_line(alloc, text.as_bytes())? {
+        Line::NoStep => empty,
+        Line::Refused => !empty,
+        _ => false,
+    })
 }
 
 #[test]
 fn other_lines_ask_for_nothing_or_are_refused(rt: HostRuntime) -> Result<(), Fail> {
     for (text, empty) in OTHER_LINES {
-        match read_line(rt.alloc(), text.as_bytes())? {
-            Line::NoStep => assert!(rt; empty, "of {text}"),
-            Line::Refused => assert!(rt; !empty, "of {text}"),
-            _ => assert!(rt; false, "of {text}"),
-        }
+        assert!(rt; asks_nothing(rt.alloc(), text, *empty)?, "of {text}");
     }
     Ok(())
+}
+
+/// Whether the word in a delivery from the relay chain names this chain, or has the step refused.
+fn delivers_to(alloc: Global, word: &str, want: Option<ChainId>) -> Result<bool, Fail> {
+    let line = format!(in alloc; "deliver relay {word}")?;
+    Ok(match read_line(alloc, line.as_bytes())? {
+        Line::Deliver { from, to } => from == ChainId::Relay && Some(to) == want,
+        Line::Refused => want.is_none(),
+        _ => false,
+    })
 }
 
 #[test]
 fn deliveries_name_two_chains(rt: HostRuntime) -> Result<(), Fail> {
     for (word, want) in CHAINS {
-        let line = format!(in rt.alloc(); "deliver relay {word}")?;
-        match read_line(rt.alloc(), line.as_bytes())? {
-            Line::Deliver { from, to } => {
-                assert_eq!(rt; from, ChainId::Relay);
-                assert_eq!(rt; Some(to), want, "of {word}");
-            }
-            _ => assert_eq!(rt; None, want, "of {word}"),
-        }
+        assert!(rt; delivers_to(rt.alloc(), word, *want)?, "of {word}");
     }
     Ok(())
+}
+
+/// Whether the word in a claim of what parachain 2000 sent to the relay chain spells these bytes, or has the step refused.
+fn claims(alloc: Global, word: &str, want: Option<&[u8]>) -> Result<bool, Fail> {
+    let line = format!(in alloc; "claim 2000 relay {word}")?;
+    Ok(match read_line(alloc, line.as_bytes())? {
+        Line::Claim { from, to, message } => from == ChainId::Para(2000)
+            && to == ChainId::Relay
+            && Some(message.items()) == want,
+        Line::Refused => want.is_none(),
+        _ => false,
+    })
 }
 
 #[test]
 fn claims_name_two_chains_and_a_message(rt: HostRuntime) -> Result<(), Fail> {
     for (word, want) in MESSAGES {
-        let line = format!(in rt.alloc(); "claim 2000 relay {word}")?;
-        match read_line(rt.alloc(), line.as_bytes())? {
-            Line::Claim { from, to, message } => {
-                assert_eq!(rt; (from, to), (ChainId::Para(2000), ChainId::Relay));
-                assert_eq!(rt; Some(message.items()), want, "of {word}");
-            }
-            _ => assert!(rt; want.is_none(), "of {word}"),
-        }
+        assert!(rt; claims(rt.alloc(), word, *want)?, "of {word}");
     }
     Ok(())
+}
+
+/// Steps of one word.
+const ONE_WORD: &[&str] = &["drain", "balances", "traps", "queues", "supply"];
+
+/// The one word of such a step.
+fn word_of(line: &Line) -> &'static str {
+    match line {
+        Line::Drain => "drain",
+        Line::Balances => "balances",
+        Line::Traps => "traps",
+        Line::Queues => "queues",
+        Line::Supply => "supply",
+        _ => "",
+    }
 }
 
 #[test]
 fn other_steps_are_one_word(rt: HostRuntime) -> Result<(), Fail> {
-    let alloc = rt.alloc();
-    assert!(rt; matches!(&read_line(alloc, b"drain")?, Line::Drain));
-    assert!(rt; matches!(&read_line(alloc, b"balances")?, Line::Balances));
-    assert!(rt; matches!(&read_line(alloc, b"traps")?, Line::Traps));
-    assert!(rt; matches!(&read_line(alloc, b"queues")?, Line::Queues));
-    assert!(rt; matches!(&read_line(alloc, b"supply")?, Line::Supply));
+    for word in ONE_WORD {
+        let line = read_line(rt.alloc(), word.as_bytes())?;
+        assert!(rt; word_of(&line) == *word, "of {word}");
+    }
     Ok(())
+}
+
+/// Lines, their texts, and whether they end a network.
+const LINES: &[(&str, &str, bool)] = &[
+    ("drain\n", "drain", false),
+    ("drain\r\n", "drain", false),
+    ("drain\r\r\n", "drain\r", false),
+    ("drain\r", "drain\r", false),
+    ("\r\n", "", false),
+    ("\n", "", false),
+    ("", "", false),
+    ("---\n", "---", true),
+    ("---\r\n", "---", true),
+    ("---", "---", true),
+    ("---\r", "---\r", false),
+    ("--- \n", "--- ", false),
+    ("----\n", "----", false),
+];
+
+/// Whether the line has this text, and ends a network as it should.
+fn says(line: &[u8], text: &str, mark: bool) -> bool {
+    text_of(line) == text.as_bytes() && ends_network(line) == mark
 }
 
 #[test]
 fn a_line_says_what_stands_before_its_end(rt: HostRuntime) {
-    for (line, text, mark) in [
-        ("drain\n", "drain", false),
-        ("drain\r\n", "drain", false),
-        ("drain\r\r\n", "drain\r", false),
-        ("drain\r", "drain\r", false),
-        ("\r\n", "", false),
-        ("\n", "", false),
-        ("", "", false),
-        ("---\n", "---", true),
-        ("---\r\n", "---", true),
-        ("---", "---", true),
-        ("---\r", "---\r", false),
-        ("--- \n", "--- ", false),
-        ("----\n", "----", false),
-    ] {
-        assert_eq!(rt; text_of(line.as_bytes()), text.as_bytes(), "of {line}");
-        assert_eq!(rt; ends_network(line.as_bytes()), mark, "of {line}");
+    for (line, text, mark) in LINES {
+        assert!(rt; says(line.as_bytes(), text, *mark), "of {line}");
     }
-    assert_eq!(rt; without_feed(b"drain\r\n"), b"drain\r".as_slice());
-    assert_eq!(rt; without_feed(b"drain\r"), b"drain\r".as_slice());
+    assert!(rt; without_feed(b"drain\r\n") == b"drain\r".as_slice());
+    assert!(rt; without_feed(b"drain\r") == b"drain\r".as_slice());
 }
+
+/// Texts, and the length of their first line with its feed.
+const FIRST_LINES: &[(&str, Option<usize>)] = &[
+    ("{}\n---\nexec", Some(3)),
+    ("\n\n", Some(1)),
+    ("exec\r", None),
+    ("", None),
+];
 
 #[test]
 fn the_first_line_ends_with_the_first_feed(rt: HostRuntime) {
-    for (bytes, len) in [
-        ("{}\n---\nexec", Some(3)),
-        ("\n\n", Some(1)),
-        ("exec\r", None),
-        ("", None),
-    ] {
-        assert_eq!(rt; line_len(bytes.as_bytes()), len, "of {bytes}");
+    for (bytes, len) in FIRST_LINES {
+        assert!(rt; line_len(bytes.as_bytes()) == *len, "of {bytes}");
     }
     law_of_lines();
     law_of_step_lines();

@@ -1,5 +1,6 @@
 //! A head of each instruction: its index and its fields without the program inside.
 
+use crate::values::unhex;
 use asset_wire::{Version, WireFault};
 use head_wire::{law_of_heads, law_of_no_prefix, law_of_writable, read_head, write_head};
 use message_parts::{BoundedVec, Response, Weight};
@@ -118,7 +119,7 @@ const BY_VERSION: &[(&str, &str, &str)] = &[
 /// Whether the hex is read to its end as an instruction of this name, and is what is written for that.
 #[tactic(auto, using(head_wire::specs::Laws::Written::head_named, head_wire::specs::Laws::Written::head_amount))]
 fn spells(alloc: Global, name: &str, v: Version, hex: &str) -> Result<bool, Fail> {
-    let bytes = hex::decode(alloc, hex)?;
+    let bytes = unhex(alloc, hex)?;
     let mut cursor = Cursor::new(bytes.as_slice());
     let read = read_head(alloc, &mut cursor, v)?;
     let mut out = Out::new(alloc);
@@ -141,7 +142,7 @@ fn each_instruction_has_a_head(rt: HostRuntime) -> Result<(), Fail> {
 
 /// Whether version 4 reads the hex as the instruction.
 fn says(alloc: Global, hex: &str, instruction: &Instruction) -> Result<bool, Fail> {
-    let bytes = hex::decode(alloc, hex)?;
+    let bytes = unhex(alloc, hex)?;
     let mut cursor = Cursor::new(bytes.as_slice());
     let read = read_head(alloc, &mut cursor, Version::V4)?;
     Ok(read == *instruction)
@@ -204,7 +205,7 @@ fn fields_of_an_answer_stand_in_order(rt: HostRuntime) -> Result<(), Fail> {
 
 /// Whether version 4 reads the hex as an instruction with an empty program inside, and leaves what stands behind.
 fn leaves_the_program(alloc: Global, hex: &str) -> Result<bool, Fail> {
-    let mut bytes = hex::decode(alloc, hex)?;
+    let mut bytes = unhex(alloc, hex)?;
     bytes.extend_from_slice(&[4, 10])?;
     let mut cursor = Cursor::new(bytes.as_slice());
     let read = read_head(alloc, &mut cursor, Version::V4)?;
@@ -236,7 +237,7 @@ fn the_program_inside_stands_behind(rt: HostRuntime) -> Result<(), Fail> {
 
 /// Whether no front of what the hex says is a head, and the cursor stays.
 fn is_no_head(alloc: Global, v: Version, hex: &str) -> Result<bool, Fail> {
-    let bytes = hex::decode(alloc, hex)?;
+    let bytes = unhex(alloc, hex)?;
     let mut cursor = Cursor::new(bytes.as_slice());
     let refused = match read_head(alloc, &mut cursor, v) {
         Ok(_) => false,

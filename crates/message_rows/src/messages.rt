@@ -3,7 +3,7 @@ ghost use Rattle.std.specs.Prelude.{◌≡◌, IfOk, [], ◌∷◌, length};
 ghost use Rattle.xcm_program.specs.declared.instruction.Instruction.{Trap};
 ghost use Rattle.message_rows.specs.Examples.{AreClears};
 
-use crate::values::filled;
+use crate::values::{filled, unhex};
 use std::alloc::{AllocError, Global};
 use std::test::Fail;
 use versioned_xcm::{
@@ -145,7 +145,7 @@ const BY_VERSION: &[(&str, &str, &str)] = &[
 
 /// Whether the hex is the message of one instruction of this name, and what is encoded for it in the version is the other hex.
 fn goes_over(alloc: Global, hex: &str, name: &str, v: Version, want: &str) -> Result<bool, Fail> {
-    let bytes = hex::decode(alloc, hex)?;
+    let bytes = unhex(alloc, hex)?;
     let program = decode_message(alloc, bytes.as_slice())?;
     let is_named = match program.items() {
         [only] => only.name() == name,
@@ -233,7 +233,7 @@ fn is_refused(alloc: Global, bytes: &[u8], want: MessageFault) -> bool {
 #[test]
 fn refusals_have_their_cause(rt: HostRuntime) -> Result<(), Fail> {
     for (hex, want) in REFUSED {
-        let bytes = hex::decode(rt.alloc(), hex)?;
+        let bytes = unhex(rt.alloc(), hex)?;
         assert!(rt; is_refused(rt.alloc(), bytes.as_slice(), *want), "{hex}");
     }
     Ok(())
@@ -245,7 +245,7 @@ const TRANSFER: &str =
 
 #[test]
 fn no_proper_prefix_of_a_message_is_one(rt: HostRuntime) -> Result<(), Fail> {
-    let bytes = hex::decode(rt.alloc(), TRANSFER)?;
+    let bytes = unhex(rt.alloc(), TRANSFER)?;
     let bytes = bytes.as_slice();
     for len in 2..bytes.len() {
         assert!(rt;
@@ -280,7 +280,7 @@ const WHOLE: &[&str] = &[
 
 /// Whether the hex is a message, and is what is encoded for the program in its version.
 fn is_written_back(alloc: Global, hex: &str) -> Result<bool, Fail> {
-    let bytes = hex::decode(alloc, hex)?;
+    let bytes = unhex(alloc, hex)?;
     let program = decode_message(alloc, bytes.as_slice())?;
     let v = if bytes.as_slice().first() == Some(&3) {
         Version::V3
@@ -441,7 +441,7 @@ const SENT: &str =
 #[test]
 fn a_notice_stands_in_front_of_what_is_sent_on(rt: HostRuntime) -> Result<(), Fail> {
     let alloc = rt.alloc();
-    let rest = hex::decode(alloc, REST)?;
+    let rest = unhex(alloc, REST)?;
     let sent = forwarded(alloc, rest.as_slice(), Version::V4)??;
     let text = hex::encode(alloc, sent.as_slice())?;
     assert!(rt; text.as_str() == SENT);

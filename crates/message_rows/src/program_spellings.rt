@@ -1,5 +1,6 @@
 //! Programs, their limits and their counts.
 
+use crate::values::unhex;
 use asset_lists::Instance;
 use program_wire::{
     MAX_DEPTH, MAX_INSTRUCTIONS, WireFault, law_of_no_prefix, law_of_one_spelling, law_of_readers,
@@ -42,7 +43,7 @@ const PROGRAMS: &[(&str, u32, u32, u32, bool)] = &[
 
 /// The counts of the program that the hex spells in version 3, if the hex is what is written for it.
 fn measured(alloc: Global, hex: &str) -> Result<Option<(u32, u32, u32, bool)>, Fail> {
-    let bytes = hex::decode(alloc, hex)?;
+    let bytes = unhex(alloc, hex)?;
     let mut cursor = Cursor::new(bytes.as_slice());
     let program = read_program(alloc, &mut cursor, Version::V3)?;
     let mut out = Out::new(alloc);
@@ -86,7 +87,7 @@ const REFUSED: &[&str] = &[
 
 /// Whether no front of what the hex says is a program, and the cursor stays.
 fn is_no_program(alloc: Global, hex: &str) -> Result<bool, Fail> {
-    let bytes = hex::decode(alloc, hex)?;
+    let bytes = unhex(alloc, hex)?;
     let mut cursor = Cursor::new(bytes.as_slice());
     let fault = read_program(alloc, &mut cursor, Version::V4).err();
     Ok(fault == Some(WireFault::NoSpelling) && cursor.rest() == bytes.as_slice())

@@ -1,6 +1,7 @@
-//! Bytes that several tables speak of.
+//! Bytes that several tables speak of, and how hex is read.
 
 use std::alloc::{AllocError, Global};
+use std::test::Fail;
 
 /// The bytes of the front, and behind them a byte so many times.
 pub(crate) fn filled(
@@ -15,4 +16,9 @@ pub(crate) fn filled(
         bytes.push(byte)?;
     }
     Ok(bytes)
+}
+
+/// The bytes of the hex.
+pub(crate) fn unhex(alloc: Global, hex: &str) -> Result<Vec<u8>, Fail> {
+    Ok(hex::decode(alloc, hex)?)
 }

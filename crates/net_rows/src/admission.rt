@@ -11,7 +11,7 @@ const DEAR: &str = r#"{"chains":[
  "accounts":[{"who":"A1","asset":"0","amount":"10"}]}]}"#;
 
 /// Two purchases cost 1 each, and 2 come back, though what is given back is worth 3.
-const REFUNDED: [(&str, &str); 4] = [
+const REFUNDED: &[(&str, &str)] = &[
     (
         "exec relay A1 04180004000000081300000004010b0098f73e5d01001300000004010b0098f73e5d010019000a0a",
         "  p0 WithdrawAsset ok
@@ -34,11 +34,11 @@ const REFUNDED: [(&str, &str); 4] = [
 
 #[test]
 fn no_more_is_refunded_than_was_paid(rt: HostRuntime) -> Result<(), Fail> {
-    check(&rt, rt.alloc(), DEAR, COHERENT, &REFUNDED)
+    check(&rt, rt.alloc(), DEAR, COHERENT, REFUNDED)
 }
 
 /// What was paid for weight that isn't used comes back within the run.
-const GIVEN_BACK: [(&str, &str); 2] = [
+const GIVEN_BACK: &[(&str, &str)] = &[
     (
         "exec relay A1 04240004000000910113000000910101419c001508140d010000010100B319000a0a0a0a0a",
         "  p0 WithdrawAsset ok
@@ -62,7 +62,7 @@ const GIVEN_BACK: [(&str, &str); 2] = [
 
 #[test]
 fn what_is_not_used_is_given_back_when_asked_for(rt: HostRuntime) -> Result<(), Fail> {
-    check(&rt, rt.alloc(), RESERVE, COHERENT, &GIVEN_BACK)
+    check(&rt, rt.alloc(), RESERVE, COHERENT, GIVEN_BACK)
 }
 
 /// A relay chain where two instructions weigh more than can be computed.
@@ -73,7 +73,7 @@ const HEAVY: &str = r#"{"chains":[
 const LIMITED: &str = r#"{"chains":[{"max_weight":[2000,200]}]}"#;
 
 /// One instruction has a weight, two haven't.
-const WEIGHED: [(&str, &str); 2] = [
+const WEIGHED: &[(&str, &str)] = &[
     (
         "exec relay A1 04040a",
         "  p0 ClearOrigin ok
@@ -85,7 +85,7 @@ const WEIGHED: [(&str, &str); 2] = [
 ];
 
 /// Two instructions are within the limit, three aren't.
-const LIMITS: [(&str, &str); 2] = [
+const LIMITS: &[(&str, &str)] = &[
     (
         "exec relay A1 04080a0a",
         "  p0 ClearOrigin ok
@@ -99,8 +99,8 @@ const LIMITS: [(&str, &str); 2] = [
 
 #[test]
 fn a_program_has_a_weight_within_the_limit(rt: HostRuntime) -> Result<(), Fail> {
-    check(&rt, rt.alloc(), HEAVY, COHERENT, &WEIGHED)?;
-    check(&rt, rt.alloc(), LIMITED, COHERENT, &LIMITS)
+    check(&rt, rt.alloc(), HEAVY, COHERENT, WEIGHED)?;
+    check(&rt, rt.alloc(), LIMITED, COHERENT, LIMITS)
 }
 
 /// A parachain with 1000 of an asset of the relay chain, and channels both ways.
@@ -114,7 +114,7 @@ const BACKED: &str = r#"{"chains":[
 
 /// A message that pays for more than it weighs is let in and pays for its weight; one that pays for less isn't let in, and what it was to
 /// withdraw stays at the reserve.
-const PAID: [(&str, &str); 6] = [
+const PAID: &[(&str, &str)] = &[
     (
         "exec 2000 A2 04080004010000410610010001000813000000910101214ed1070d01020400010100B3",
         "  p0 WithdrawAsset ok
@@ -168,14 +168,14 @@ const PAID: [(&str, &str); 6] = [
 
 #[test]
 fn a_message_pays_for_its_weight(rt: HostRuntime) -> Result<(), Fail> {
-    check(&rt, rt.alloc(), BACKED, COHERENT, &PAID)
+    check(&rt, rt.alloc(), BACKED, COHERENT, PAID)
 }
 
 /// A relay chain that lets in one account, which has to say that it doesn't pay.
 const EXPLICIT: &str = r#"{"chains":[{"barriers":[{"explicit":["0/AccountId32(A1)"]}]}]}"#;
 
 /// Who says so and is listed is let in.
-const UNPAID: [(&str, &str); 3] = [
+const UNPAID: &[(&str, &str)] = &[
     (
         "exec relay A1 04042f0000",
         "  p0 UnpaidExecution ok
@@ -192,5 +192,5 @@ const UNPAID: [(&str, &str); 3] = [
 
 #[test]
 fn an_account_may_say_that_it_does_not_pay(rt: HostRuntime) -> Result<(), Fail> {
-    check(&rt, rt.alloc(), EXPLICIT, COHERENT, &UNPAID)
+    check(&rt, rt.alloc(), EXPLICIT, COHERENT, UNPAID)
 }

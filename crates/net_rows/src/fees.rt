@@ -16,7 +16,7 @@ const CHARGED: &str = r#"{"chains":[
 {"from":"relay","to":2001},{"from":2001,"to":"relay"}],"format":2}"#;
 
 /// Without anything held the fee can't be paid; from the account it can.
-const DRAWN: [(&str, &str); 5] = [
+const DRAWN: &[(&str, &str)] = &[
     (
         "exec relay A1 04040504000000a10f000100411f08130100009101000d01020400010100B2",
         "  p0 TransferReserveAsset NotHoldingFees
@@ -52,11 +52,11 @@ const DRAWN: [(&str, &str); 5] = [
 
 #[test]
 fn a_channels_fee_is_drawn_from_the_account(rt: HostRuntime) -> Result<(), Fail> {
-    check(&rt, rt.alloc(), CHARGED, COHERENT, &DRAWN)
+    check(&rt, rt.alloc(), CHARGED, COHERENT, DRAWN)
 }
 
 /// From what is held it is paid first.
-const HELD: [(&str, &str); 3] = [
+const HELD: &[(&str, &str)] = &[
     (
         "exec relay A1 04080004000000a10f0e0100000100411f00",
         "  p0 WithdrawAsset ok
@@ -84,11 +84,11 @@ const HELD: [(&str, &str); 3] = [
 
 #[test]
 fn a_channels_fee_is_taken_from_what_is_held(rt: HostRuntime) -> Result<(), Fail> {
-    check(&rt, rt.alloc(), CHARGED, COHERENT, &HELD)
+    check(&rt, rt.alloc(), CHARGED, COHERENT, HELD)
 }
 
 /// The fee comes before what else is refused, and goes back where the rest is refused.
-const PUT_BACK: [(&str, &str); 5] = [
+const PUT_BACK: &[(&str, &str)] = &[
     (
         "exec relay A1 040c2b010a23000100411f1c0000",
         "  p0 SetFeesMode ok
@@ -127,5 +127,5 @@ const PUT_BACK: [(&str, &str); 5] = [
 
 #[test]
 fn a_fee_goes_back_where_the_rest_is_refused(rt: HostRuntime) -> Result<(), Fail> {
-    check(&rt, rt.alloc(), CHARGED, COHERENT, &PUT_BACK)
+    check(&rt, rt.alloc(), CHARGED, COHERENT, PUT_BACK)
 }

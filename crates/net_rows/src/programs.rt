@@ -4,7 +4,7 @@ use crate::stepping::check;
 use std::test::Fail;
 
 /// A withdrawal and a deposit, spelled in version 4 and in version 3.
-const MOVED: [(&str, &str); 4] = [
+const MOVED: &[(&str, &str)] = &[
     (
         "exec relay A1 04080004000000a10f0d01020400010100B2",
         "  p0 WithdrawAsset ok
@@ -37,11 +37,11 @@ const MOVED: [(&str, &str); 4] = [
 
 #[test]
 fn assets_move_in_both_versions(rt: HostRuntime) -> Result<(), Fail> {
-    check(&rt, rt.alloc(), RESERVE, COHERENT, &MOVED)
+    check(&rt, rt.alloc(), RESERVE, COHERENT, MOVED)
 }
 
 /// A burn is booked, what is left is trapped, and who has nothing gives nothing.
-const BURNED: [(&str, &str); 4] = [
+const BURNED: &[(&str, &str)] = &[
     (
         "exec relay A1 0408000400000091011c04000000a0",
         "  p0 WithdrawAsset ok
@@ -71,11 +71,11 @@ const BURNED: [(&str, &str); 4] = [
 
 #[test]
 fn a_burn_is_booked(rt: HostRuntime) -> Result<(), Fail> {
-    check(&rt, rt.alloc(), RESERVE, COHERENT, &BURNED)
+    check(&rt, rt.alloc(), RESERVE, COHERENT, BURNED)
 }
 
 /// A handler and an appendix run behind an error, and appendices within appendices down to the last level.
-const HANDLED: [(&str, &str); 2] = [
+const HANDLED: &[(&str, &str)] = &[
     (
         "exec relay A1 041415041716040a191c2d2d",
         "  p0 SetErrorHandler ok
@@ -105,7 +105,7 @@ const HANDLED: [(&str, &str); 2] = [
 
 #[test]
 fn handlers_and_appendices_run(rt: HostRuntime) -> Result<(), Fail> {
-    check(&rt, rt.alloc(), RESERVE, COHERENT, &HANDLED)
+    check(&rt, rt.alloc(), RESERVE, COHERENT, HANDLED)
 }
 
 /// A parachain with two pallets.
@@ -114,7 +114,7 @@ const PALLETS: &str = r#"{"chains":[{"para":2000,"pallets":[
 {"index":51,"name":"Assets","module_name":"pallet_assets","major":1,"minor":0,"patch":0}]}]}"#;
 
 /// A pallet of the wrong index, names and versions isn't the one that is expected.
-const EXPECTED: [(&str, &str); 5] = [
+const EXPECTED: &[(&str, &str)] = &[
     (
         "exec 2000 A1 040422c82042616c616e6365733c70616c6c65745f62616c616e6365731004",
         "  p0 ExpectPallet ok
@@ -154,5 +154,5 @@ const EXPECTED: [(&str, &str); 5] = [
 
 #[test]
 fn a_pallet_is_the_expected_one(rt: HostRuntime) -> Result<(), Fail> {
-    check(&rt, rt.alloc(), PALLETS, COHERENT, &EXPECTED)
+    check(&rt, rt.alloc(), PALLETS, COHERENT, EXPECTED)
 }

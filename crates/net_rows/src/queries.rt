@@ -19,7 +19,7 @@ const ASKING: &str = r#"{"chains":[
 {"from":"relay","to":2001},{"from":2001,"to":"relay"}]}"#;
 
 /// The status is reported, which answers the query; the same report once more isn't let in.
-const ANSWERED: [(&str, &str); 5] = [
+const ANSWERED: &[(&str, &str)] = &[
     (
         "exec 2000 A2 04042301001c0000",
         "  p0 ReportTransactStatus ok
@@ -60,7 +60,7 @@ const ANSWERED: [(&str, &str); 5] = [
 
 #[test]
 fn a_report_answers_an_open_query_once(rt: HostRuntime) -> Result<(), Fail> {
-    check(&rt, rt.alloc(), ASKING, COHERENT, &ANSWERED)
+    check(&rt, rt.alloc(), ASKING, COHERENT, ANSWERED)
 }
 
 /// Delivers until no message waits.
@@ -99,7 +99,7 @@ const KNOWING: &str = r#"{"chains":[
 "channels":[{"from":2000,"to":"relay"}]}"#;
 
 /// An error, what is held and a pallet are reported.
-const REPORTED: [(&str, &str); 5] = [
+const REPORTED: &[(&str, &str)] = &[
     (
         "exec 2000 A2 040815040c01001c00001914",
         "  p0 SetErrorHandler ok
@@ -140,5 +140,5 @@ const REPORTED: [(&str, &str); 5] = [
 
 #[test]
 fn reports_say_what_is_there(rt: HostRuntime) -> Result<(), Fail> {
-    check(&rt, rt.alloc(), KNOWING, COHERENT, &REPORTED)
+    check(&rt, rt.alloc(), KNOWING, COHERENT, REPORTED)
 }

@@ -4,7 +4,7 @@ use crate::stepping::check;
 use std::test::Fail;
 
 /// No program runs.
-const REFUSED: [(&str, &str); 13] = [
+const REFUSED: &[(&str, &str)] = &[
     ("exec relay PARA 04041914", "  = sovereign caller\n"),
     ("exec 9 A1 04041914", "  = no such chain\n"),
     ("exec 9 PARA 05", "  = no such chain\n"),
@@ -28,11 +28,11 @@ const REFUSED: [(&str, &str); 13] = [
 
 #[test]
 fn steps_are_refused_before_a_program_runs(rt: HostRuntime) -> Result<(), Fail> {
-    check(&rt, rt.alloc(), RESERVE, COHERENT, &REFUSED)
+    check(&rt, rt.alloc(), RESERVE, COHERENT, REFUSED)
 }
 
 /// Networks that aren't coherent, and what is said of them.
-const INCOHERENT: [(&str, &str); 2] = [
+const INCOHERENT: &[(&str, &str)] = &[
     (
         r#"{"chains":[
 {"assets":[{"id":"0","native":[]}],

@@ -18,7 +18,7 @@ const ONE_SIDED: &str = r#"{"chains":[
 "channels":[{"from":"relay","to":1000}]}"#;
 
 /// What isn't let in is lost, and booked at the chain that sent it.
-const LOST: [(&str, &str); 3] = [
+const LOST: &[(&str, &str)] = &[
     (
         "exec relay A1 040800040000009101110100000100a10f00",
         "  p0 WithdrawAsset ok
@@ -44,13 +44,13 @@ const LOST: [(&str, &str); 3] = [
 
 #[test]
 fn a_teleport_that_is_not_let_in_is_lost(rt: HostRuntime) -> Result<(), Fail> {
-    check(&rt, rt.alloc(), SHUT, COHERENT, &LOST)
+    check(&rt, rt.alloc(), SHUT, COHERENT, LOST)
 }
 
 #[test]
 fn a_network_that_is_not_coherent_takes_steps(rt: HostRuntime) -> Result<(), Fail> {
     let opening = "not coherent: PartnerUnlisted relay 1000\n";
-    check(&rt, rt.alloc(), ONE_SIDED, opening, &LOST)
+    check(&rt, rt.alloc(), ONE_SIDED, opening, LOST)
 }
 
 /// A relay chain without partner, and a channel to a parachain.
@@ -61,7 +61,7 @@ const ALONE: &str = r#"{"chains":[
 "channels":[{"from":"relay","to":1000}]}"#;
 
 /// What can't leave is trapped.
-const UNTRUSTED: [(&str, &str); 4] = [
+const UNTRUSTED: &[(&str, &str)] = &[
     (
         "exec relay A1 040800040000009101110100000100a10f00",
         "  p0 WithdrawAsset ok
@@ -82,7 +82,7 @@ const UNTRUSTED: [(&str, &str); 4] = [
 
 #[test]
 fn a_teleport_goes_to_partners_alone(rt: HostRuntime) -> Result<(), Fail> {
-    check(&rt, rt.alloc(), ALONE, COHERENT, &UNTRUSTED)
+    check(&rt, rt.alloc(), ALONE, COHERENT, UNTRUSTED)
 }
 
 /// Partners that let each other in; the relay chain keeps a checking account.
@@ -95,7 +95,7 @@ const CHECKED: &str = r#"{"chains":[
 "channels":[{"from":"relay","to":1000},{"from":1000,"to":"relay"}]}"#;
 
 /// The checking account has what is at the other home.
-const COUNTED: [(&str, &str); 7] = [
+const COUNTED: &[(&str, &str)] = &[
     (
         "exec relay A1 040800040000009101110100000100a10f040d010000010100B2",
         "  p0 WithdrawAsset ok
@@ -158,7 +158,7 @@ const COUNTED: [(&str, &str); 7] = [
 
 #[test]
 fn a_checking_account_has_what_left(rt: HostRuntime) -> Result<(), Fail> {
-    check(&rt, rt.alloc(), CHECKED, COHERENT, &COUNTED)
+    check(&rt, rt.alloc(), CHECKED, COHERENT, COUNTED)
 }
 
 /// The same partners, where the parachain has more than the relay chain's checking account.
@@ -171,7 +171,7 @@ const SHORT: &str = r#"{"chains":[
 "channels":[{"from":"relay","to":1000},{"from":1000,"to":"relay"}]}"#;
 
 /// What the checking account doesn't cover isn't received, and is lost.
-const UNCOVERED: [(&str, &str); 4] = [
+const UNCOVERED: &[(&str, &str)] = &[
     (
         "exec 1000 A2 04080004010000781101000100040d010000010100B3",
         "  p0 WithdrawAsset ok
@@ -206,5 +206,5 @@ const UNCOVERED: [(&str, &str); 4] = [
 #[test]
 fn a_checking_account_that_is_short_refuses(rt: HostRuntime) -> Result<(), Fail> {
     let opening = "not coherent: CheckingShort relay relay\n";
-    check(&rt, rt.alloc(), SHORT, opening, &UNCOVERED)
+    check(&rt, rt.alloc(), SHORT, opening, UNCOVERED)
 }

@@ -7,7 +7,7 @@ use std::test::Fail;
 use supply_audit::supply;
 
 /// An account sends 1000 from the relay chain to parachain 2000, where weight is paid of it; and 500 of it come back.
-const THERE_AND_BACK: [(&str, &str); 9] = [
+const THERE_AND_BACK: &[(&str, &str)] = &[
     (
         "exec relay A1 04040504000000a10f000100411f08130100009101000d01020400010100B2",
         "  p0 TransferReserveAsset ok
@@ -87,7 +87,7 @@ const THERE_AND_BACK: [(&str, &str); 9] = [
 
 #[test]
 fn a_reserve_transfer_and_its_way_back(rt: HostRuntime) -> Result<(), Fail> {
-    check(&rt, rt.alloc(), RESERVE, COHERENT, &THERE_AND_BACK)
+    check(&rt, rt.alloc(), RESERVE, COHERENT, THERE_AND_BACK)
 }
 
 /// The supply block once 1000 have been sent.
@@ -97,7 +97,7 @@ const BACKED: &str = "  supply fungible /GlobalConsensus(Polkadot) home 1000000 
 ";
 
 /// What is sent is backed while it is in flight and once it has come.
-const AUDITED: [(&str, &str); 7] = [
+const AUDITED: &[(&str, &str)] = &[
     (
         "supply",
         "  supply fungible /GlobalConsensus(Polkadot) home 1000000 flight 0 burned 0
@@ -137,7 +137,7 @@ const AUDITED: [(&str, &str); 7] = [
 
 #[test]
 fn derivatives_are_backed_behind_each_step(rt: HostRuntime) -> Result<(), Fail> {
-    check(&rt, rt.alloc(), RESERVE, COHERENT, &AUDITED)
+    check(&rt, rt.alloc(), RESERVE, COHERENT, AUDITED)
 }
 
 #[test]
@@ -149,7 +149,7 @@ fn an_asset_is_summed_at_its_home_alone(rt: HostRuntime) -> Result<(), Fail> {
             ChainId::Relay => 1_000_000,
             ChainId::Para(_) => 0,
         };
-        assert_eq!(rt; found.home.low, wanted);
+        assert!(rt; found.home.low == wanted);
     }
     Ok(())
 }
@@ -167,7 +167,7 @@ const NARROW: &str = r#"{"chains":[
 {"from":"relay","to":2001,"max_size":50},{"from":2001,"to":"relay"}]}"#;
 
 /// A second message, a claim and a message that is too long find no room, and what they were to carry stays.
-const TWICE: [(&str, &str); 7] = [
+const TWICE: &[(&str, &str)] = &[
     (
         "exec relay A1 04040504000000a10f000100411f08130100009101000d01020400010100B2",
         "  p0 TransferReserveAsset ok
@@ -220,7 +220,7 @@ const TWICE: [(&str, &str); 7] = [
 
 #[test]
 fn a_channel_takes_what_fits(rt: HostRuntime) -> Result<(), Fail> {
-    check(&rt, rt.alloc(), NARROW, COHERENT, &TWICE)
+    check(&rt, rt.alloc(), NARROW, COHERENT, TWICE)
 }
 
 /// A relay chain with an instance of a class, and a parachain that counts on the class; they let each other in.
@@ -239,7 +239,7 @@ const COVERED: &str =
 ";
 
 /// The instance goes to the parachain and comes back.
-const INSTANCE: [(&str, &str); 8] = [
+const INSTANCE: &[(&str, &str)] = &[
     (
         "exec relay A1 0404050400010409010110000100411f040d010000010100B2",
         "  p0 TransferReserveAsset ok
@@ -294,5 +294,5 @@ const INSTANCE: [(&str, &str); 8] = [
 
 #[test]
 fn an_instance_goes_and_comes_back(rt: HostRuntime) -> Result<(), Fail> {
-    check(&rt, rt.alloc(), CLASS, COHERENT, &INSTANCE)
+    check(&rt, rt.alloc(), CLASS, COHERENT, INSTANCE)
 }

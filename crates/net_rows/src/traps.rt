@@ -11,7 +11,7 @@ const THREE: &str = r#"{"chains":[
   {"who":"A1","asset":"0/GeneralIndex(2)","amount":"5"}]}]}"#;
 
 /// A place without account takes nothing, what was to go there is trapped, and is claimed once.
-const CLAIMED: [(&str, &str); 7] = [
+const CLAIMED: &[(&str, &str)] = &[
     (
         "exec relay A1 0408000c000000140001050400140001050800140d01020c00010409",
         "  p0 WithdrawAsset ok
@@ -54,7 +54,7 @@ const CLAIMED: [(&str, &str); 7] = [
 
 #[test]
 fn what_no_account_takes_is_trapped_and_claimed(rt: HostRuntime) -> Result<(), Fail> {
-    check(&rt, rt.alloc(), THREE, COHERENT, &CLAIMED)
+    check(&rt, rt.alloc(), THREE, COHERENT, CLAIMED)
 }
 
 /// A relay chain with 21 assets, of each of which an account has 1, and a channel to a parachain.
@@ -105,7 +105,7 @@ const MANY: &str = r#"{"chains":[
 "channels":[{"from":"relay","to":2000}]}"#;
 
 /// A message carries at most 20 assets, and so does a trap.
-const PIECES: [(&str, &str); 4] = [
+const PIECES: &[(&str, &str)] = &[
     (
         "exec relay A1 040c00500001050000040001050400040001050800040001050c00040001051000040001051400040001051800040001051c00040001052000040001052400040001052800040001052c00040001053000040001053400040001053800040001053c00040001054000040001054400040001054800040001054c000400040001055000040e0100000100411f00",
         "  p0 WithdrawAsset ok
@@ -129,11 +129,11 @@ const PIECES: [(&str, &str); 4] = [
 
 #[test]
 fn a_message_carries_at_most_20_assets(rt: HostRuntime) -> Result<(), Fail> {
-    check(&rt, rt.alloc(), MANY, COHERENT, &PIECES)
+    check(&rt, rt.alloc(), MANY, COHERENT, PIECES)
 }
 
 /// A chain sends a claim in its own name, which pays nothing and isn't let in.
-const CLAIMS: [(&str, &str); 4] = [
+const CLAIMS: &[(&str, &str)] = &[
     ("claim 2000 relay 04041914", "  = not a claim\n"),
     ("claim 2000 relay 0408180000000a", "  = sent 1\n"),
     (
@@ -151,11 +151,11 @@ const CLAIMS: [(&str, &str); 4] = [
 
 #[test]
 fn a_chain_sends_claims_alone(rt: HostRuntime) -> Result<(), Fail> {
-    check(&rt, rt.alloc(), RESERVE, COHERENT, &CLAIMS)
+    check(&rt, rt.alloc(), RESERVE, COHERENT, CLAIMS)
 }
 
 /// What a chain's message left is claimed by that chain, and pays for the claim.
-const LEFT: [(&str, &str); 6] = [
+const LEFT: &[(&str, &str)] = &[
     (
         "exec relay A1 04040504000000a10f000100411f0413010000910100",
         "  p0 TransferReserveAsset ok
@@ -203,5 +203,5 @@ const LEFT: [(&str, &str); 6] = [
 
 #[test]
 fn a_chain_claims_what_its_message_left(rt: HostRuntime) -> Result<(), Fail> {
-    check(&rt, rt.alloc(), RESERVE, COHERENT, &LEFT)
+    check(&rt, rt.alloc(), RESERVE, COHERENT, LEFT)
 }

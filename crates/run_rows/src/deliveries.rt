@@ -6,7 +6,7 @@ use std::test::Fail;
 use xcm_cli::Status;
 
 /// Deliveries without a message, and messages of claims.
-const DELIVERIES: [Row; 3] = [
+const DELIVERIES: &[Row] = &[
     Row {
         name: "a delivery without a message",
         network: THREE_CHAINS,
@@ -66,11 +66,11 @@ deliver 2000 relay
 
 #[test]
 fn deliveries_have_their_reports(rt: HostRuntime) -> Result<(), Fail> {
-    check_rows(&rt, rt.alloc(), RUN, &DELIVERIES)
+    check_rows(&rt, rt.alloc(), RUN, DELIVERIES)
 }
 
 /// Answers to a query.
-const QUERIES: [Row; 2] = [
+const QUERIES: &[Row] = &[
     Row {
         name: "a query is answered once",
         network: r#"{"chains":[
@@ -168,11 +168,11 @@ drain
 
 #[test]
 fn queries_have_their_reports(rt: HostRuntime) -> Result<(), Fail> {
-    check_rows(&rt, rt.alloc(), RUN, &QUERIES)
+    check_rows(&rt, rt.alloc(), RUN, QUERIES)
 }
 
 /// Sending through a channel that has a fee.
-const DELIVERY_FEES: [Row; 2] = [
+const DELIVERY_FEES: &[Row] = &[
     Row {
         name: "a delivery fee that is drawn from the account",
         network: r#"{"format":2,"chains":[
@@ -249,5 +249,5 @@ balances
 
 #[test]
 fn delivery_fees_have_their_reports(rt: HostRuntime) -> Result<(), Fail> {
-    check_rows(&rt, rt.alloc(), RUN, &DELIVERY_FEES)
+    check_rows(&rt, rt.alloc(), RUN, DELIVERY_FEES)
 }

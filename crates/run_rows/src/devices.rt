@@ -9,7 +9,7 @@ use std::test::Fail;
 use xcm_cli::Status;
 
 /// The lines behind the network document, and what is written for each.
-const LINES: [(&str, &str); 9] = [
+const LINES: &[(&str, &str)] = &[
     (
         "\n---\n",
         "coherent
@@ -142,8 +142,10 @@ fn a_source_that_fails_leaves_the_reports_of_the_lines_before(rt: HostRuntime) -
                 Status::Done
             };
             let report = report_of(alloc, (failing - 1).saturating_mul(piece))?;
-            assert_eq!(&rt; ran.status, status, "at read {failing} by {piece} bytes");
-            assert_eq!(&rt; ran.bytes.as_slice(), report.as_bytes());
+            assert!(&rt;
+                ran.has(status, report.as_bytes()),
+                "at read {failing} by {piece} bytes"
+            );
         }
     }
     Ok(())
@@ -178,8 +180,10 @@ fn a_sink_that_fails_leaves_what_was_written_before(rt: HostRuntime) -> Result<(
         for failing in 1usize..21 {
             let ran = run_of(alloc, RUN, input.as_bytes(), piece, &[], &[failing as u64])?;
             let (status, front) = front_of(alloc, failing, piece)?;
-            assert_eq!(&rt; ran.status, status, "at write {failing} by {piece} bytes");
-            assert_eq!(&rt; ran.bytes.as_slice(), front.as_slice());
+            assert!(&rt;
+                ran.has(status, front.as_slice()),
+                "at write {failing} by {piece} bytes"
+            );
         }
     }
     Ok(())

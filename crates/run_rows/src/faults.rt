@@ -1,6 +1,6 @@
 //! Limits, and sources and sinks that fail.
 
-use crate::running::{RUN, exec_input, run_of};
+use crate::running::{RUN, Ran, exec_input, run_of};
 use std::alloc::Global;
 use std::test::Fail;
 use xcm_cli::Status;
@@ -17,43 +17,76 @@ fn long_network(alloc: Global, bytes: usize, behind: &[u8]) -> Result<Vec<u8>, F
     Ok(input)
 }
 
+/// The bytes of the network part, what stands behind it, the answer and the report.
+const NETWORKS: &[(usize, &[u8], Status, &str)] = &[
+    (1_048_576, b"---\n", Status::Done, "coherent\n"),
+    (1_048_576, b"---", Status::Done, "coherent\n"),
+    (1_048_576, b"", Status::Done, "coherent\n"),
+    (1_048_576, b"-", Status::TooLong, ""),
+    (1_048_577, b"---\n", Status::TooLong, ""),
+    (1_048_577, b"", Status::TooLong, ""),
+];
+
 #[test]
-fn limits_are_passed_at_their_first_byte(rt: HostRuntime) -> Result<(), Fail> {
-    let alloc = rt.alloc();
-    for (bytes, behind, status, report) in [
-        (
-            1_048_576usize,
-            b"---\n".as_slice(),
-            Status::Done,
-            "coherent\n",
-        ),
-        (1_048_576, b"---", Status::Done, "coherent\n"),
-        (1_048_576, b"", Status::Done, "coherent\n"),
-        (1_048_576, b"-", Status::TooLong, ""),
-        (1_048_577, b"---\n", Status::TooLong, ""),
-        (1_048_577, b"", Status::TooLong, ""),
-    ] {
-        let input = long_network(alloc, bytes, behind)?;
-        let ran = run_of(alloc, RUN, &input, 65_536, &[], &[])?;
-        assert_eq!(&rt; ran.status, status);
-        assert_eq!(&rt; ran.bytes.as_slice(), report.as_bytes());
-    }
-    for (bytes, end, status) in [
-        (262_144usize, b"\n".as_slice(), Status::Done),
-        (262_143, b"\r\n", Status::Done),
-        (262_144, b"\r\n", Status::TooLong),
-        (262_144, b"", Status::Done),
-        (262_145, b"", Status::TooLong),
-        (262_145, b"\n", Status::TooLong),
-    ] {
-        let mut input = b"{}\n---\n".to_vec(alloc)?;
-        input.extend_from_slice(&vec![in alloc; b'#'; bytes]?)?;
-        input.extend_from_slice(end)?;
-        let ran = run_of(alloc, RUN, &input, 65_536, &[], &[])?;
-        assert_eq!(&rt; ran.status, status);
-        assert_eq!(&rt; ran.bytes.as_slice(), b"coherent\n".as_slice());
+fn a_network_part_has_at_most_a_mebibyte(rt: HostRuntime) -> Result<(), Fail> {
+    for (bytes, behind, status, report) in NETWORKS {
+        let input = long_network(rt.alloc(), *bytes, behind)?;
+        let ran = run_of(rt.alloc(), RUN, &input, 65_536, &[], &[])?;
+        assert!(&rt;
+            ran.has(*status, report.as_bytes()),
+            "{bytes} bytes and {} behind",
+            behind.len()
+        );
     }
     Ok(())
+}
+
+/// The bytes of a comment line, its end, and the answer.
+const LONG_LINES: &[(usize, &[u8], Status)] = &[
+    (262_144, b"\n", Status::Done),
+    (262_143, b"\r\n", Status::Done),
+    (262_144, b"\r\n", Status::TooLong),
+    (262_144, b"", Status::Done),
+    (262_145, b"", Status::TooLong),
+    (262_145, b"\n", Status::TooLong),
+];
+
+/// A network without chains and a comment line of so many bytes behind it.
+fn long_line(alloc: Global, bytes: usize, end: &[u8]) -> Result<Vec<u8>, Fail> {
+    let mut input = b"{}\n---\n".to_vec(alloc)?;
+    input.extend_from_slice(&vec![in alloc; b'#'; bytes]?)?;
+    input.extend_from_slice(end)?;
+    Ok(input)
+}
+
+#[test]
+fn a_line_has_at_most_a_quarter_of_a_mebibyte(rt: HostRuntime) -> Result<(), Fail> {
+    for (bytes, end, status) in LONG_LINES {
+        let input = long_line(rt.alloc(), *bytes, end)?;
+        let ran = run_of(rt.alloc(), RUN, &input, 65_536, &[], &[])?;
+        assert!(&rt;
+            ran.has(*status, b"coherent\n"),
+            "{bytes} bytes and {} behind",
+            end.len()
+        );
+    }
+    Ok(())
+}
+
+/// Whether a run, read by pieces of so many bytes, ends at the read of this number with this report.
+fn ends_at(
+    alloc: Global,
+    input: &[u8],
+    piece: usize,
+    failing: u64,
+    report: &[u8],
+) -> Result<bool, Fail> {
+    // for the prover: each piece has at least one byte
+    if piece == 0 {
+        return Ok(false);
+    }
+    let ran = run_of(alloc, RUN, input, piece, &[failing], &[])?;
+    Ok(ran.has(Status::ReadFault, report))
 }
 
 #[test]
@@ -61,21 +94,21 @@ fn a_failing_source_leaves_the_report_of_the_whole_lines(rt: HostRuntime) -> Res
     let alloc = rt.alloc();
     let input = exec_input(alloc, "04041914")?;
     let whole = run_of(alloc, RUN, input.as_bytes(), 4096, &[], &[])?;
-    let len = input.len();
-    if len == 0 {
-        return Ok(());
-    }
-    let ran_2 = run_of(alloc, RUN, input.as_bytes(), len, &[2], &[])?;
-    assert_eq!(&rt; ran_2.status, Status::ReadFault);
-    assert_eq!(&rt; ran_2.bytes.as_slice(), whole.bytes.as_slice());
-    let ran_1 = run_of(alloc, RUN, input.as_bytes(), len, &[1], &[])?;
-    assert_eq!(&rt; ran_1.status, Status::ReadFault);
-    assert_eq!(&rt; ran_1.bytes.len(), 0);
+    assert!(&rt; ends_at(alloc, input.as_bytes(), input.len(), 2, &whole.bytes)?);
+    assert!(&rt; ends_at(alloc, input.as_bytes(), input.len(), 1, b"")?);
     // the eighth byte is the first one behind the line `---`
-    let ran_8 = run_of(alloc, RUN, input.as_bytes(), 1, &[8], &[])?;
-    assert_eq!(&rt; ran_8.status, Status::ReadFault);
-    assert_eq!(&rt; ran_8.bytes.as_slice(), b"coherent\n".as_slice());
+    assert!(&rt; ends_at(alloc, input.as_bytes(), 1, 8, b"coherent\n")?);
     Ok(())
+}
+
+/// Whether a run is done, with the whole report, or ends in a failing write, with a shorter front of it.
+fn is_cut(ran: &Ran, whole: &[u8]) -> bool {
+    if ran.status == Status::Done {
+        return ran.bytes.as_slice() == whole;
+    }
+    ran.status == Status::WriteFault
+        && ran.bytes.len() < whole.len()
+        && whole.starts_with(&ran.bytes)
 }
 
 #[test]
@@ -85,13 +118,7 @@ fn a_failing_sink_leaves_a_front_of_the_report(rt: HostRuntime) -> Result<(), Fa
     let whole = run_of(alloc, RUN, input.as_bytes(), 16, &[], &[])?;
     for failing in 1u64..20 {
         let ran = run_of(alloc, RUN, input.as_bytes(), 16, &[], &[failing])?;
-        if ran.status == Status::Done {
-            assert_eq!(&rt; ran.bytes.as_slice(), whole.bytes.as_slice());
-        } else {
-            assert_eq!(&rt; ran.status, Status::WriteFault);
-            assert!(&rt; ran.bytes.len() < whole.bytes.len());
-            assert!(&rt; whole.bytes.starts_with(&ran.bytes));
-        }
+        assert!(&rt; is_cut(&ran, &whole.bytes), "at write {failing}");
     }
     Ok(())
 }

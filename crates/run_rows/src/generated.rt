@@ -7,7 +7,7 @@ use std::test::Fail;
 use xcm_cli::Status;
 
 /// The words that ask for so many steps behind a number, and the report.
-const GENERATED: [(&str, &str, &str); 3] = [
+const GENERATED: &[(&str, &str, &str)] = &[
     (
         "0",
         "0",
@@ -49,8 +49,7 @@ fn check_words(
     report: &str,
 ) -> Result<(), Fail> {
     let ran = run_of(alloc, words, b"{}", 4096, &[1], &[])?;
-    assert_eq!(rt; ran.status, status);
-    assert_eq!(rt; ran.bytes.as_slice(), report.as_bytes());
+    assert!(rt; ran.has(status, report.as_bytes()), "{report}");
     Ok(())
 }
 
@@ -69,7 +68,7 @@ fn drawn_steps_are_run_and_counted(rt: HostRuntime) -> Result<(), Fail> {
 }
 
 /// Numbers and steps that there aren't.
-const NONE: [(&str, &str); 9] = [
+const NONE: &[(&str, &str)] = &[
     ("1", ""),
     ("", "1"),
     ("1", "100001"),

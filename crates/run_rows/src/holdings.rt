@@ -6,7 +6,7 @@ use std::test::Fail;
 use xcm_cli::Status;
 
 /// Fees, traps, claims and burns at the relay chain.
-const HOLDINGS: [Row; 4] = [
+const HOLDINGS: &[Row] = &[
     Row {
         name: "two purchases and their refund",
         network: r#"{"chains":[{"unit_weight":[1500000000000,0],"max_weight":[10000000000000,0],
@@ -107,5 +107,5 @@ supply
 
 #[test]
 fn what_is_held_has_its_reports(rt: HostRuntime) -> Result<(), Fail> {
-    check_rows(&rt, rt.alloc(), RUN, &HOLDINGS)
+    check_rows(&rt, rt.alloc(), RUN, HOLDINGS)
 }

@@ -9,7 +9,7 @@ use std::test::Fail;
 use xcm_cli::Status;
 
 /// What is counted, and a message in which it is 2^32-1; no byte comes behind the count.
-const COUNTS: [(&str, &str); 34] = [
+const COUNTS: &[(&str, &str)] = &[
     ("a program", "0403ffffffff"),
     ("a withdrawal", "04040003ffffffff"),
     ("a deposit in reserve", "04040103ffffffff"),
@@ -62,7 +62,7 @@ const COUNTS: [(&str, &str); 34] = [
 ];
 
 /// What passes a limit or has no meaning, and its message.
-const PAST_LIMITS: [(&str, &str); 20] = [
+const PAST_LIMITS: &[(&str, &str)] = &[
     (
         "255 junctions",
         "0404040000ff070707070707070707070707070707070707070707070707070707070707070707070707070707070707070707070707070707070707070707070707070707070707070707070707070707070707070707070707070707070707070707070707070707070707070707070707070707070707070707070707070707070707070707070707070707070707070707070707070707070707070707070707070707070707070707070707070707070707070707070707070707070707070707070707070707070707070707070707070707070707070707070707070707070707070707070707070707070707070707070707070707070707070707070707070707",
@@ -110,7 +110,7 @@ const PAST_LIMITS: [(&str, &str); 20] = [
 ];
 
 /// What is at a limit, its message, and what is written below its heading.
-const AT_LIMITS: [(&str, &str, &str); 18] = [
+const AT_LIMITS: &[(&str, &str, &str)] = &[
     (
         "2^32-1 kinds",
         "04040d010203ffffffff000101000202020202020202020202020202020202020202020202020202020202020202",
@@ -258,7 +258,7 @@ const AT_LIMITS: [(&str, &str, &str); 18] = [
 ];
 
 /// Instructions with a program inside, how a program of one of them begins, and what is written where eight levels are nested.
-const NESTED: [(&str, &str, &str); 7] = [
+const NESTED: &[(&str, &str, &str)] = &[
     (
         "TransferReserveAsset",
         "0405000100",
@@ -325,7 +325,7 @@ const NESTED: [(&str, &str, &str); 7] = [
 ];
 
 /// What is asked of an account that has 1,000,000, its message, and what is written below its heading.
-const HELD: [(&str, &str, &str); 6] = [
+const HELD: &[(&str, &str, &str)] = &[
     (
         "more than all that an account has",
         "0404000400000033ffffffffffffffffffffffffffffffff",
@@ -379,7 +379,7 @@ const HELD: [(&str, &str, &str); 6] = [
 ];
 
 /// Lines that are none.
-const NO_LINES: [&str; 30] = [
+const NO_LINES: &[&str] = &[
     "exec",
     "exec relay",
     "exec relay 0x0101010101010101010101010101010101010101010101010101010101010101",
@@ -416,7 +416,7 @@ const NO_LINES: [&str; 30] = [
 fn check_none(rt: &impl Abort, alloc: Global, message: &str) -> Result<(), Fail> {
     let input = exec_input(alloc, message)?;
     let report = exec_report(alloc, "  = message refused: not a message\n")?;
-    check(rt, alloc, RUN, input.as_bytes(), Status::Done, &report)
+    check(rt, alloc, RUN, &input, Status::Done, &report)
 }
 
 #[test]
@@ -441,7 +441,7 @@ fn what_is_at_a_limit_is_executed(rt: HostRuntime) -> Result<(), Fail> {
     for (_, message, lines) in AT_LIMITS {
         let input = exec_input(alloc, message)?;
         let report = exec_report(alloc, lines)?;
-        check(&rt, alloc, RUN, input.as_bytes(), Status::Done, &report)?;
+        check(&rt, alloc, RUN, &input, Status::Done, &report)?;
     }
     Ok(())
 }
@@ -463,7 +463,7 @@ fn eight_levels_are_executed_and_nine_are_no_message(rt: HostRuntime) -> Result<
         let most = nested(alloc, front, 8)?;
         let input = exec_input(alloc, &most)?;
         let report = exec_report(alloc, lines)?;
-        check(&rt, alloc, RUN, input.as_bytes(), Status::Done, &report)?;
+        check(&rt, alloc, RUN, &input, Status::Done, &report)?;
         let more = nested(alloc, front, 9)?;
         check_none(&rt, alloc, &more)?;
     }
@@ -488,7 +488,7 @@ fn nobody_takes_what_is_not_there(rt: HostRuntime) -> Result<(), Fail> {
             "{ONE_ACCOUNT}\n---\nexec relay 0x0101010101010101010101010101010101010101010101010101010101010101 {message}\n"
         )?;
         let report = held_report(alloc, lines)?;
-        check(&rt, alloc, RUN, input.as_bytes(), Status::Done, &report)?;
+        check(&rt, alloc, RUN, &input, Status::Done, &report)?;
     }
     Ok(())
 }
@@ -502,7 +502,7 @@ fn what_is_no_line_is_refused(rt: HostRuntime) -> Result<(), Fail> {
             &rt,
             alloc,
             RUN,
-            input.as_bytes(),
+            &input,
             Status::LineRefused,
             "coherent\nline 3 refused\n",
         )?;

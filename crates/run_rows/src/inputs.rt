@@ -5,7 +5,7 @@ use std::test::Fail;
 use xcm_cli::Status;
 
 /// Inputs, with their answer and report.
-const INPUTS: [(&str, Status, &str); 9] = [
+const INPUTS: &[(&str, Status, &str)] = &[
     ("{}", Status::Done, "coherent\n"),
     (" { }\n---", Status::Done, "coherent\n"),
     ("{}\r\n---\r\n# no step\r\n\r\n", Status::Done, "coherent\n"),
@@ -40,7 +40,7 @@ const INPUTS: [(&str, Status, &str); 9] = [
 ];
 
 /// Lines behind a relay chain without assets, with their answer and report.
-const LINES: [(&str, Status, &str); 12] = [
+const LINES: &[(&str, Status, &str)] = &[
     (
         "exec relay zz 04\n",
         Status::LineRefused,
@@ -98,7 +98,7 @@ const LINES: [(&str, Status, &str); 12] = [
 #[test]
 fn inputs_have_their_reports(rt: HostRuntime) -> Result<(), Fail> {
     for (input, status, report) in INPUTS {
-        check(&rt, rt.alloc(), RUN, input.as_bytes(), status, report)?;
+        check(&rt, rt.alloc(), RUN, input, *status, report)?;
     }
     Ok(())
 }
@@ -108,14 +108,14 @@ fn lines_have_their_reports(rt: HostRuntime) -> Result<(), Fail> {
     let alloc = rt.alloc();
     for (lines, status, report) in LINES {
         let input = format!(in alloc; "{{}}\n---\n{lines}")?;
-        check(&rt, alloc, RUN, input.as_bytes(), status, report)?;
-        check(&rt, alloc, AUDIT, input.as_bytes(), status, report)?;
+        check(&rt, alloc, RUN, &input, *status, report)?;
+        check(&rt, alloc, AUDIT, &input, *status, report)?;
     }
     Ok(())
 }
 
 /// Words that the program doesn't have.
-const OTHER_WORDS: [&[&str]; 12] = [
+const OTHER_WORDS: &[&[&str]] = &[
     &["run", "now"],
     &["run", "--audit", "now"],
     &["--audit", "run"],
@@ -135,23 +135,25 @@ fn other_words_are_answered_by_the_usage(rt: HostRuntime) -> Result<(), Fail> {
     let usage = "usage: run | run --audit | gen NUMBER STEPS\n";
     for words in OTHER_WORDS {
         let ran = run_of(rt.alloc(), words, b"{}", 4096, &[1], &[])?;
-        assert_eq!(&rt; ran.status, Status::Usage);
-        assert_eq!(&rt; ran.bytes.as_slice(), usage.as_bytes());
+        assert!(&rt; ran.has(Status::Usage, usage.as_bytes()));
     }
     Ok(())
 }
 
+/// The statuses, and their numbers.
+const STATUSES: &[(Status, u8)] = &[
+    (Status::Done, 0),
+    (Status::Usage, 2),
+    (Status::NetworkRefused, 3),
+    (Status::LineRefused, 4),
+    (Status::ReadFault, 5),
+    (Status::WriteFault, 6),
+    (Status::TooLong, 7),
+];
+
 #[test]
 fn statuses_have_their_numbers(rt: HostRuntime) {
-    for (status, code) in [
-        (Status::Done, 0),
-        (Status::Usage, 2),
-        (Status::NetworkRefused, 3),
-        (Status::LineRefused, 4),
-        (Status::ReadFault, 5),
-        (Status::WriteFault, 6),
-        (Status::TooLong, 7),
-    ] {
-        assert_eq!(&rt; status.code(), code);
+    for (status, code) in STATUSES {
+        assert!(&rt; status.code() == *code, "{code}");
     }
 }

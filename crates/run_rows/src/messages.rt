@@ -8,7 +8,7 @@ use std::test::Fail;
 use xcm_cli::Status;
 
 /// Messages of traps, in both versions, and what is written below their heading.
-const TRAPS: [(&str, &str); 6] = [
+const TRAPS: &[(&str, &str)] = &[
     (
         "03041914",
         "  p0 Trap Trap(5)
@@ -54,7 +54,7 @@ const TRAPS: [(&str, &str); 6] = [
 ];
 
 /// Programs with handlers and appendices, and what stands behind an error.
-const PROGRAMS: [(&str, &str); 6] = [
+const PROGRAMS: &[(&str, &str)] = &[
     (
         "04100a191c0a1914",
         "  p0 ClearOrigin ok
@@ -113,7 +113,7 @@ const PROGRAMS: [(&str, &str); 6] = [
 ];
 
 /// What is no message, and why.
-const NO_MESSAGES: [(&str, &str); 18] = [
+const NO_MESSAGES: &[(&str, &str)] = &[
     ("5 in two bytes", "0404191500"),
     ("a byte left over", "04041901010a"),
     ("2^30-1 in the longer form", "04041903ffffff3f"),
@@ -141,7 +141,7 @@ const NO_MESSAGES: [(&str, &str); 18] = [
 ];
 
 /// Messages that are refused for another cause.
-const OTHER_CAUSES: [(&str, &str); 3] = [
+const OTHER_CAUSES: &[(&str, &str)] = &[
     ("unknown version", "05"),
     ("unknown version", "00"),
     (
@@ -154,7 +154,7 @@ const OTHER_CAUSES: [(&str, &str); 3] = [
 fn check_message(rt: &impl Abort, alloc: Global, message: &str, lines: &str) -> Result<(), Fail> {
     let input = exec_input(alloc, message)?;
     let report = exec_report(alloc, lines)?;
-    check(rt, alloc, RUN, input.as_bytes(), Status::Done, &report)
+    check(rt, alloc, RUN, &input, Status::Done, &report)
 }
 
 /// The message is refused for this cause.
@@ -225,18 +225,22 @@ fn a_message_has_at_most_100_instructions(rt: HostRuntime) -> Result<(), Fail> {
     check_refused(&rt, alloc, &more, "not a message")
 }
 
+/// Whether a message of a version and so many bytes of 0 is refused for this cause.
+fn zeros_are_refused(alloc: Global, zeros: u32, cause: &str) -> Result<bool, Fail> {
+    let rest = repeated(alloc, "00", zeros)?;
+    let message = format!(in alloc; "04{rest}")?;
+    let input = exec_input(alloc, &message)?;
+    let ran = run_of(alloc, RUN, input.as_bytes(), 65_536, &[], &[])?;
+    let lines = format!(in alloc; "  = message refused: {cause}\n")?;
+    let report = exec_report(alloc, &lines)?;
+    Ok(ran.has(Status::Done, report.as_bytes()))
+}
+
 #[test]
 fn a_message_has_at_most_65536_bytes(rt: HostRuntime) -> Result<(), Fail> {
     let alloc = rt.alloc();
-    for (zeros, cause) in [(65_535u32, "not a message"), (65_536, "too long")] {
-        let rest = repeated(alloc, "00", zeros)?;
-        let message = format!(in alloc; "04{rest}")?;
-        let input = exec_input(alloc, &message)?;
-        let ran = run_of(alloc, RUN, input.as_bytes(), 65_536, &[], &[])?;
-        let lines = format!(in alloc; "  = message refused: {cause}\n")?;
-        let report = exec_report(alloc, &lines)?;
-        assert_eq!(&rt; ran.bytes.as_slice(), report.as_bytes());
-    }
+    assert!(&rt; zeros_are_refused(alloc, 65_535, "not a message")?);
+    assert!(&rt; zeros_are_refused(alloc, 65_536, "too long")?);
     Ok(())
 }
 
@@ -265,5 +269,5 @@ fn no_front_of_a_message_is_one(rt: HostRuntime) -> Result<(), Fail> {
             "#{number} exec relay\n  = message refused: not a message\n"
         )?;
     }
-    check(&rt, alloc, RUN, input.as_bytes(), Status::Done, &report)
+    check(&rt, alloc, RUN, &input, Status::Done, &report)
 }

@@ -6,7 +6,7 @@ use std::test::Fail;
 use xcm_cli::Status;
 
 /// Networks that open.
-const OPENINGS: [Row; 3] = [
+const OPENINGS: &[Row] = &[
     Row {
         name: "a network of three chains opens",
         network: THREE_CHAINS,
@@ -62,11 +62,11 @@ const OPENINGS: [Row; 3] = [
 
 #[test]
 fn openings_have_their_reports(rt: HostRuntime) -> Result<(), Fail> {
-    check_rows(&rt, rt.alloc(), RUN, &OPENINGS)
+    check_rows(&rt, rt.alloc(), RUN, OPENINGS)
 }
 
 /// Documents that are refused.
-const REFUSED: [Row; 5] = [
+const REFUSED: &[Row] = &[
     Row {
         name: "a holding that is too small",
         network: r#"{"chains":[{"max_holding":19}]}"#,
@@ -120,5 +120,5 @@ const REFUSED: [Row; 5] = [
 
 #[test]
 fn documents_are_refused_by_their_first_fault(rt: HostRuntime) -> Result<(), Fail> {
-    check_rows(&rt, rt.alloc(), RUN, &REFUSED)
+    check_rows(&rt, rt.alloc(), RUN, REFUSED)
 }

@@ -36,6 +36,13 @@ pub(crate) struct Ran {
     pub(crate) bytes: Vec<u8>,
 }
 
+impl Ran {
+    /// Whether this is what it answers and writes.
+    pub(crate) fn has(&self, status: Status, report: &[u8]) -> bool {
+        self.status == status && self.bytes.as_slice() == report
+    }
+}
+
 /// The words of the command line.
 fn words_of(alloc: Global, words: &[&str]) -> Result<Vec<String>, Fail> {
     let mut list = Vec::new(alloc);
@@ -66,24 +73,55 @@ pub(crate) fn run_of(
     })
 }
 
+/// How many bytes are read and written at once.
+const PIECES: &[usize] = &[1, 2, 3, 7, 64, 65_535, 65_536];
+
+/// Whether the input has this answer and this report where so many bytes are read and written at once.
+fn answers_by(
+    alloc: Global,
+    words: &[&str],
+    input: &[u8],
+    piece: usize,
+    status: Status,
+    report: &[u8],
+) -> Result<bool, Fail> {
+    // for the prover: each piece has at least one byte
+    if piece == 0 {
+        return Ok(false);
+    }
+    let ran = run_of(alloc, words, input, piece, &[], &[])?;
+    Ok(ran.has(status, report))
+}
+
+/// Whether the input has this answer and this report, however its bytes are cut.
+fn answers(
+    alloc: Global,
+    words: &[&str],
+    input: &[u8],
+    status: Status,
+    report: &[u8],
+) -> Result<bool, Fail> {
+    for piece in PIECES {
+        if !answers_by(alloc, words, input, *piece, status, report)? {
+            return Ok(false);
+        }
+    }
+    Ok(true)
+}
+
 /// The input has this answer and this report, however its bytes are cut.
 pub(crate) fn check(
     rt: &impl Abort,
     alloc: Global,
     words: &[&str],
-    input: &[u8],
+    input: &str,
     status: Status,
     report: &str,
 ) -> Result<(), Fail> {
-    for piece in [1usize, 2, 3, 7, 64, 65_535, 65_536] {
-        let ran = run_of(alloc, words, input, piece, &[], &[])?;
-        assert_eq!(rt; ran.status, status, "status by pieces of {piece}");
-        assert_eq!(rt;
-            ran.bytes.as_slice(),
-            report.as_bytes(),
-            "report by pieces of {piece}"
-        );
-    }
+    assert!(rt;
+        answers(alloc, words, input.as_bytes(), status, report.as_bytes())?,
+        "{input}"
+    );
     Ok(())
 }
 
@@ -96,7 +134,9 @@ pub(crate) fn check_rows(
 ) -> Result<(), Fail> {
     for row in rows {
         let input = input_of(alloc, row.network, row.steps)?;
-        check(rt, alloc, words, input.as_bytes(), row.status, row.report)?;
+        let report = row.report.as_bytes();
+        let right = answers(alloc, words, input.as_bytes(), row.status, report)?;
+        assert!(rt; right, "{}", row.name);
     }
     Ok(())
 }

@@ -5,7 +5,7 @@ use std::test::Fail;
 use xcm_cli::Status;
 
 /// Teleports that aren't received.
-const LOST: [Row; 3] = [
+const LOST: &[Row] = &[
     Row {
         name: "a teleport that isn't let in is lost",
         network: r#"{"chains":[{"assets":[{"id":"0","native":[1000]}],
@@ -82,11 +82,11 @@ supply
 
 #[test]
 fn teleports_that_are_not_received_are_burned(rt: HostRuntime) -> Result<(), Fail> {
-    check_rows(&rt, rt.alloc(), RUN, &LOST)
+    check_rows(&rt, rt.alloc(), RUN, LOST)
 }
 
 /// Teleports that a checking account counts.
-const CHECKED: [Row; 2] = [
+const CHECKED: &[Row] = &[
     Row {
         name: "a teleport and back, with a checking account",
         network: r#"{"chains":[{"barriers":["credit",{"unpaid":["0/Parachain(1000)"]}],
@@ -172,5 +172,5 @@ deliver 1000 relay
 
 #[test]
 fn checking_accounts_count_teleports(rt: HostRuntime) -> Result<(), Fail> {
-    check_rows(&rt, rt.alloc(), RUN, &CHECKED)
+    check_rows(&rt, rt.alloc(), RUN, CHECKED)
 }

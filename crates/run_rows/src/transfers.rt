@@ -6,7 +6,7 @@ use std::test::Fail;
 use xcm_cli::Status;
 
 /// Payments at the relay chain.
-const PAYMENTS: [Row; 2] = [
+const PAYMENTS: &[Row] = &[
     Row {
         name: "a payment",
         network: THREE_CHAINS,
@@ -53,47 +53,11 @@ balances
 
 #[test]
 fn payments_have_their_reports(rt: HostRuntime) -> Result<(), Fail> {
-    check_rows(&rt, rt.alloc(), RUN, &PAYMENTS)
+    check_rows(&rt, rt.alloc(), RUN, PAYMENTS)
 }
 
 /// Transfers to a parachain and back.
-const TRANSFERS: [Row; 3] = [
-    Row {
-        name: "a reserve transfer",
-        network: THREE_CHAINS,
-        steps: "exec relay 0x0101010101010101010101010101010101010101010101010101010101010101 04040504000000a10f000100411f08130100009101000d010204000101000202020202020202020202020202020202020202020202020202020202020202
-balances
-deliver relay 2000
-balances
-",
-        status: Status::Done,
-        report: "coherent
-  supply fungible /GlobalConsensus(Polkadot) home 1000000 flight 0 burned 0
-  backing 2000 fungible /GlobalConsensus(Polkadot) held 0 owed 0
-  backing 2001 fungible /GlobalConsensus(Polkadot) held 0 owed 0
-#1 exec relay
-  p0 TransferReserveAsset ok
-  sent relay 2000 1
-  end origin 0/AccountId32(0x0101010101010101010101010101010101010101010101010101010101010101) topic - surplus 0 0 refunded 0 0
-  = complete 1000 100
-#2 balances
-  balance relay 0x0101010101010101010101010101010101010101010101010101010101010101 0 999000
-  balance relay 0x70617261d0070000000000000000000000000000000000000000000000000000 0 1000
-#3 deliver relay 2000
-  message relay 2000 1
-  p0 ReserveAssetDeposited ok
-  p1 ClearOrigin ok
-  p2 BuyExecution ok
-  p3 DepositAsset ok
-  end origin - topic - surplus 0 0 refunded 0 0
-  = complete 4000 400
-#4 balances
-  balance relay 0x0101010101010101010101010101010101010101010101010101010101010101 0 999000
-  balance relay 0x70617261d0070000000000000000000000000000000000000000000000000000 0 1000
-  balance 2000 0x0000000000000000000000000000000000000000000000000000000000000000 1 4
-  balance 2000 0x0202020202020202020202020202020202020202020202020202020202020202 1 996
-",
-    },
+const TRANSFERS: &[Row] = &[
     Row {
         name: "what waits in a channel",
         network: THREE_CHAINS,
@@ -183,11 +147,11 @@ balances
 
 #[test]
 fn transfers_have_their_reports(rt: HostRuntime) -> Result<(), Fail> {
-    check_rows(&rt, rt.alloc(), RUN, &TRANSFERS)
+    check_rows(&rt, rt.alloc(), RUN, TRANSFERS)
 }
 
 /// A transfer with the sums behind each step.
-const AUDITED: [Row; 1] = [Row {
+const AUDITED: &[Row] = &[Row {
     name: "a reserve transfer, audited",
     network: THREE_CHAINS,
     steps: "exec relay 0x0101010101010101010101010101010101010101010101010101010101010101 04040504000000a10f000100411f08130100009101000d010204000101000202020202020202020202020202020202020202020202020202020202020202
@@ -238,11 +202,11 @@ balances
 
 #[test]
 fn an_audit_stands_behind_each_step(rt: HostRuntime) -> Result<(), Fail> {
-    check_rows(&rt, rt.alloc(), AUDIT, &AUDITED)
+    check_rows(&rt, rt.alloc(), AUDIT, AUDITED)
 }
 
 /// Transfers that a channel refuses.
-const UNSENT: [Row; 2] = [
+const UNSENT: &[Row] = &[
     Row {
         name: "a channel that is full",
         network: r#"{"chains":[
@@ -368,5 +332,5 @@ traps
 
 #[test]
 fn what_a_channel_refuses_is_not_sent(rt: HostRuntime) -> Result<(), Fail> {
-    check_rows(&rt, rt.alloc(), RUN, &UNSENT)
+    check_rows(&rt, rt.alloc(), RUN, UNSENT)
 }
