@@ -92,7 +92,7 @@ pub enum BodyPart {
 }
 
 /// One step of a location, from a chain or a place on it to a place inside.
-#[derive(Clone, Copy, Debug, Default, PartialEq, Eq, PartialOrd, Ord)]
+#[derive(Clone, Copy, Debug, PartialEq, Eq, PartialOrd, Ord)]
 pub enum Junction {
     /// A parachain of the relay chain, by its number.
     Parachain(u32),
@@ -129,7 +129,6 @@ pub enum Junction {
         key: [u8; 32],
     },
     /// The one child that a place is taken to have where its name isn't known.
-    #[default]
     OnlyChild,
     /// A part of a body.
     Plurality {

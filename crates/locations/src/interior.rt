@@ -9,28 +9,28 @@ ghost use Rattle.locations.specs.Order.{junctions_cmp};
 ghost use Rattle.locations.specs.OrderLaws.{junctions_total};
 
 use crate::{Full, Junction};
-use arrayvec::ArrayVec;
 use std::cmp::Ordering;
 use std::marker::Model;
 
 /// How many junctions a location holds at most, by the XCM format.
 pub const MAX_JUNCTIONS: usize = 8;
 
-/// At most eight junctions, from the outer to the inner. It takes no memory.
+/// At most eight junctions, from the outer to the inner. It takes no memory. The junctions behind the first `count` stand for none.
 #[derive(Debug, Drop)]
 pub struct Junctions {
-    items: ArrayVec<Junction, MAX_JUNCTIONS>,
+    count: usize,
+    items: [Junction; MAX_JUNCTIONS],
 }
 
 impl Model for Junctions {
-    ghost use Rattle.std.specs.Prelude.{◌≤◌, List, length};
+    ghost use Rattle.std.specs.Prelude.{◌≤◌, List, take};
     ghost use Rattle.locations.specs.declared.grammar.Junction.{Junction};
 
     ghost Value = { List Junction };
 
-    ghost view = { λ j. j.items.items };
+    ghost view = { λ j. take j.count j.items };
 
-    ghost invariant = { λ j. length j.items.items ≤ 8 };
+    ghost invariant = { λ j. j.count ≤ 8 };
 }
 
 impl Junctions {
@@ -39,7 +39,8 @@ impl Junctions {
         ensures { result ≡ [] }
     {
         Junctions {
-            items: ArrayVec::new(),
+            count: 0,
+            items: [Junction::Parachain(0); MAX_JUNCTIONS],
         }
     }
 
@@ -48,7 +49,7 @@ impl Junctions {
         ensures value { result.now ≡ self.now }
         ensures bound { length self.now ≤ 8 }
     {
-        self.items.as_slice()
+        &self.items[..self.count]
     }
 
     /// The same junctions.
@@ -56,7 +57,10 @@ impl Junctions {
         ensures same { result ≡ self.now }
         ensures bound { length self.now ≤ 8 }
     {
-        Self::from_few(self.items())
+        Junctions {
+            count: self.count,
+            items: self.items,
+        }
     }
 
     /// The junctions of a slice, of which there must be at most eight.
@@ -64,11 +68,9 @@ impl Junctions {
         requires { length junctions.now ≤ 8 }
         ensures { result ≡ junctions.now }
     {
-        let mut items = ArrayVec::new();
-        for junction in junctions {
-            items.push(*junction);
-        }
-        Junctions { items }
+        let mut copies = Junctions::empty();
+        let _ = copies.extend(junctions);
+        copies
     }
 
     /// Appends a junction, or `Full` where there are eight.
@@ -77,7 +79,12 @@ impl Junctions {
         ensures ok { OnOk result (self.new ≡ self.old ++ junction ∷ []) }
         ensures err { OnErr result (self.new ≡ self.old) }
     {
-        self.items.try_push(junction).map_err(|_| Full)
+        if self.count == MAX_JUNCTIONS {
+            return Err(Full);
+        }
+        self.items[self.count] = junction;
+        self.count += 1;
+        Ok(())
     }
 
     /// Appends the other junctions, or `Full` where the two are more than eight.
@@ -86,8 +93,22 @@ impl Junctions {
         ensures ok { OnOk result (self.new ≡ self.old ++ other.now) }
         ensures err { OnErr result (self.new ≡ self.old) }
     {
-        let more = other.items();
-        self.items.try_extend_from_slice(more).map_err(|_| Full)
+        self.extend(other.items())
+    }
+
+    /// Appends the junctions of a slice, or `Full` where there would be more than eight.
+    fn extend(&mut self, more: &[Junction]) -> Result<(), Full>
+        ensures room { IsOk result ↔ (length self.old + length more.now ≤ 8) }
+        ensures ok { OnOk result (self.new ≡ self.old ++ more.now) }
+        ensures err { OnErr result (self.new ≡ self.old) }
+    {
+        if more.len() > MAX_JUNCTIONS - self.count {
+            return Err(Full);
+        }
+        let end = self.count + more.len();
+        self.items[self.count..end].copy_from_slice(more);
+        self.count = end;
+        Ok(())
     }
 
     /// The first junctions and then the others, or `Full` where they are more than eight.
@@ -95,10 +116,10 @@ impl Junctions {
         ensures room { IsOk result ↔ (length front.now + length back.now ≤ 8) }
         ensures ok { IfOk result (λ both. both ≡ front.now ++ back.now) }
     {
-        let mut items = ArrayVec::new();
-        items.try_extend_from_slice(front).map_err(|_| Full)?;
-        items.try_extend_from_slice(back).map_err(|_| Full)?;
-        Ok(Junctions { items })
+        let mut both = Junctions::empty();
+        both.extend(front)?;
+        both.extend(back)?;
+        Ok(both)
     }
 }
 
