@@ -1,10 +1,10 @@
 //! The readers behind the public ones. Where they leave the cursor after a refusal isn't said.
 
 ghost use Rattle.std.specs.Prelude.{◌≡◌, [], ◌≤◌};
-ghost use Rattle.scale_codec.specs.Reading.{made1, repeated};
+ghost use Rattle.scale_codec.specs.Reading.{made1, take_at, repeated};
 ghost use Rattle.scale_codec.specs.Answers.{Got, Filled, GotOrFails};
 ghost use Rattle.location_wire.specs.Reading.{location_at};
-ghost use Rattle.asset_lists.specs.declared.units.AssetId.TheVariants.{Concrete};
+ghost use Rattle.asset_lists.specs.declared.units.AssetId.TheVariants.{Concrete, Abstract};
 ghost use Rattle.asset_wire.specs.Blanks.{IsBlank};
 ghost use Rattle.asset_wire.specs.Reading.{asset_id_at, instance_at, amount_at, fun_at, asset_at, assets_at, wild_fun_at, wild_at, filter_at};
 
@@ -26,6 +26,14 @@ fn fill_place(c: &mut Cursor<'_>, id: &mut AssetId) -> Result<(), NoSpelling>
     }
 }
 
+/// 32 bytes that name no place.
+fn fill_bytes(c: &mut Cursor<'_>, id: &mut AssetId) -> Result<(), NoSpelling>
+    ensures { Filled result (made1 (take_at 32) Abstract c.old) id.new c.new }
+{
+    *id = AssetId::Abstract(c.take_array()?);
+    Ok(())
+}
+
 /// The id as the version spells it, into a blank one.
 #[tactic(auto, unfolding(crate::specs::Reading::asset_id_at))]
 pub fn fill_asset_id(c: &mut Cursor<'_>, id: &mut AssetId, v: Version) -> Result<(), NoSpelling>
@@ -35,10 +43,7 @@ pub fn fill_asset_id(c: &mut Cursor<'_>, id: &mut AssetId, v: Version) -> Result
     match v {
         Version::V3 => match c.u8()? {
             0 => fill_place(c, id),
-            1 => {
-                *id = AssetId::Abstract(c.take_array()?);
-                Ok(())
-            }
+            1 => fill_bytes(c, id),
             _ => Err(NoSpelling),
         },
         Version::V4 => fill_place(c, id),
@@ -140,7 +145,7 @@ fn take_several(
 ) -> Result<Vec<Asset>, WireFault>
     ensures { GotOrFails (λ items. items.items) result (repeated (asset_at v) count c.old) c.new }
 {
-    let mut items = Vec::new(alloc);
+    let mut items = Vec::with_capacity(alloc, count as usize)?;
     for _ in 0..count {
         let last = items.len();
         items.push(blank_asset())?;

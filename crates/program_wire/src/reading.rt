@@ -45,7 +45,7 @@ fn fill_instruction(
 }
 
 /// A program to a depth, and how many instructions there may still be. Each instruction is read where it is in the list; memory is taken
-/// as they are read, and not by their number.
+/// once, for no more of them than there may still be.
 #[cycle(program)]
 fn take_to_depth(
     alloc: Global,
@@ -60,7 +60,7 @@ fn take_to_depth(
         return Err(WireFault::NoSpelling);
     }
     let count = c.compact_u32()?;
-    let mut items = Vec::new(alloc);
+    let mut items = Vec::with_capacity(alloc, count.min(most) as usize)?;
     let mut left = most;
     for _ in 0..count {
         let last = items.len();

@@ -17,7 +17,7 @@ take_to_depth-returns-in_err-count t c =
 
 pub take_to_depth-loop-init : goal.take_to_depth-loop-init
 take_to_depth-loop-init t c =
-    rw c.new-items.ensures.items (begins (instruction_step c.args.v (program_at c.args.v (c.args.depth - 1))) c.in_ok-count.count (c.args.most, c.compact_u32.new.self)
+    rw c.in_ok-items.ensures.items (begins (instruction_step c.args.v (program_at c.args.v (c.args.depth - 1))) c.in_ok-count.count (c.args.most, c.compact_u32.new.self)
     ∙ program_at_counts _ _ _ _ _ _ c.if-depth-eq0.false c.in_ok-count.ensures.read)
 
 pub take_to_depth-returns-in_err-left : goal.take_to_depth-returns-in_err-left
