@@ -80,7 +80,7 @@ fn a_list_may_have_twenty_items(rt: HostRuntime) -> Result<(), Fail> {
 }
 
 #[test]
-fn a_list_of_one(rt: HostRuntime) -> Result<(), Fail> {
+fn lists_of_one_and_of_none(rt: HostRuntime) -> Result<(), Fail> {
     let alloc = rt.alloc();
     let asset = Asset {
         id: AssetId::Concrete(place(1, &[])),
@@ -88,6 +88,7 @@ fn a_list_of_one(rt: HostRuntime) -> Result<(), Fail> {
     };
     let one = Assets::one(alloc, asset)?;
     assert!(rt; one == Assets::from_sorted(vec![in alloc; above(3)]?)?);
+    assert!(rt; Assets::empty(alloc).items().is_empty());
     Ok(())
 }
 
