@@ -7,7 +7,8 @@ use std::alloc::Global;
 use std::test::Fail;
 use trust_tables::{
     AssetRole, AssetRow, ChainId, Site, account_of, find_row, is_partner, is_reserve, is_sovereign,
-    law_of_chain_locations, law_of_listings, law_of_sovereign_accounts, law_of_trust, location_of,
+    law_of_chain_locations, law_of_listings, law_of_sovereign_accounts, law_of_trust, lies_at,
+    location_of,
 };
 
 const RELAY: Site = Site {
@@ -102,6 +103,9 @@ const LOCATIONS: &[(ChainId, ChainId, Place)] = &[
 fn chains_and_their_locations(rt: HostRuntime) -> Result<(), Fail> {
     for (from, to, wanted) in LOCATIONS {
         assert!(rt; location_of(*from, *to) == location(*wanted)?);
+        assert!(rt; lies_at(*to, *from, &location(*wanted)?));
+        assert!(rt; !lies_at(*from, *from, &location(*wanted)?));
+        assert!(rt; !lies_at(ChainId::Para(9), *from, &location(*wanted)?));
     }
     Ok(())
 }

@@ -13,14 +13,7 @@ use asset_lists::Asset;
 use chain_ids::ChainId;
 use chain_queues::Queue;
 use locations::Location;
-use trust_tables::location_of;
-
-/// Whether the location is how the chain `here` names the other.
-pub(crate) fn lies_at(chain: ChainId, here: ChainId, l: &Location) -> bool
-    ensures { result ≡ is_location_of here chain l.now }
-{
-    here != chain && location_of(here, chain) == *l
-}
+use trust_tables::lies_at;
 
 /// The first channel that leads to just that location.
 fn queue_at<'a>(queues: &'a [Queue], here: ChainId, dest: &Location) -> Option<&'a Queue>

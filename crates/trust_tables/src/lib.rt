@@ -12,4 +12,4 @@ pub use chain_ids::ChainId;
 pub use chains::{Site, location_of};
 pub use laws::{law_of_chain_locations, law_of_listings, law_of_sovereign_accounts, law_of_trust};
 pub use rows::{AssetRole, AssetRow};
-pub use trust::{find_row, is_partner, is_reserve};
+pub use trust::{find_row, is_partner, is_reserve, lies_at};

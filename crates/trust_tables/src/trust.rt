@@ -1,13 +1,14 @@
 //! Which row of a chain's table an asset has, and which chains are believed about it.
-ghost use Rattle.std.specs.Prelude.{◌≡◌, position};
+ghost use Rattle.std.specs.Prelude.{◌≡◌, ◌↔◌, [], ◌∷◌, IsTrue, position};
 ghost use Rattle.std.specs.List.{list_any};
 ghost use Rattle.std.specs.Option.{option_copied};
+ghost use Rattle.locations.specs.declared.grammar.Junction.TheVariants.{Parachain};
 ghost use Rattle.trust_tables.specs.Trust as trust;
 ghost use Rattle.trust_tables.specs.Trust.{is_row_of, is_reserve_role, is_partner_role};
 
-use crate::{AssetRole, AssetRow, ChainId, Site, location_of};
+use crate::{AssetRole, AssetRow, ChainId, Site};
 use asset_lists::{Asset, AssetId};
-use locations::Location;
+use locations::{Junction, Junctions, Location};
 
 /// The place of the first row whose id is the asset's and whose kind fits. It takes no memory.
 pub fn find_row(rows: &[AssetRow], a: &Asset) -> Option<usize>
@@ -82,9 +83,26 @@ fn any_lies_at(chains: &[ChainId], here: ChainId, l: &Location) -> bool
     chains.iter().any(|chain| lies_at(*chain, here, l))
 }
 
-/// Whether the location is how the chain `here` names the other.
-fn lies_at(chain: ChainId, here: ChainId, l: &Location) -> bool
+/// Whether the location is how the chain `here` names the other, which must be another one. It takes no memory.
+pub fn lies_at(chain: ChainId, here: ChainId, l: &Location) -> bool
     ensures { result ≡ trust.is_location_of here chain l.now }
 {
-    here != chain && location_of(here, chain) == *l
+    match (here, chain) {
+        (ChainId::Relay, ChainId::Relay) => false,
+        (ChainId::Relay, ChainId::Para(number)) => l.parents == 0 && is_para(&l.interior, number),
+        (ChainId::Para(_), ChainId::Relay) => l.parents == 1 && l.interior.items().is_empty(),
+        (ChainId::Para(own), ChainId::Para(number)) => {
+            own != number && l.parents == 1 && is_para(&l.interior, number)
+        }
+    }
+}
+
+/// Whether it is a parachain's number alone.
+fn is_para(junctions: &Junctions, number: u32) -> bool
+    ensures { IsTrue result ↔ (junctions.now ≡ Parachain number ∷ []) }
+{
+    match junctions.items() {
+        [Junction::Parachain(other)] => *other == number,
+        _ => false,
+    }
 }
