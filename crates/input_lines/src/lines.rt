@@ -3,6 +3,8 @@
 ghost use Rattle.std.specs.Prelude.{◌≡◌, ◌+◌, ◌<◌, ◌≤◌, ℕ, List, [], ◌∷◌, ◌++◌, length, take, drop, true, IfSome, IfNone};
 ghost use Rattle.input_lines.specs.Lines.{HasNoFeed, lines_of, text_of, ends_network, ends_with, without_feed};
 
+use memchr::memchr;
+
 /// The length in bytes of the first line with its line feed, or `None` where no line feed stands.
 pub fn line_len(bytes: &[u8]) -> Option<usize>
     ensures none { IfNone result (0 < length bytes.now → lines_of bytes.now ≡ bytes.now ∷ []) }
@@ -12,12 +14,10 @@ pub fn line_len(bytes: &[u8]) -> Option<usize>
     ensures feed { IfSome result (λ n. ends_with 10 (take n bytes.now) ≡ true) }
     ensures line { IfSome result (λ n. (more : List ℕ) → lines_of (bytes.now ++ more) ≡ take n bytes.now ∷ lines_of (drop n bytes.now ++ more)) }
 {
-    for (at, byte) in bytes.iter().enumerate() {
-        if *byte == b'\n' {
-            return Some(at + 1);
-        }
+    match memchr(b'\n', bytes) {
+        Some(at) => Some(at + 1),
+        None => None,
     }
-    None
 }
 
 /// Whether the last byte is `last`.

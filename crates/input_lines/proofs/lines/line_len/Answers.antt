@@ -1,11 +1,12 @@
-use Rattle.std.proofs.Common.{arith}
+use Rattle.std.proofs.Common.{arith, eq-eqb}
+use Rattle.std.proofs.lemmas.Bool.{eqb-true}
 use Rattle.input_lines.specs.Laws.{only_line}
 use Rattle.input_lines.proofs.FirstLine.{first_line}
 use Rattle.input_lines.proofs.lines.line_len.Goals as goal
 
-pub returns-then-byte-eq10-clause-line : goal.returns-then-byte-eq10-clause-line
-returns-then-byte-eq10-clause-line c more =
-    first_line c.args.bytes.now more c.loop-at.at c.loop-at-test.true c.if-byte-eq10.true c.loop-at.invariant
+pub returns-in-Some-clause-line : goal.returns-in-Some-clause-line
+returns-in-Some-clause-line c more =
+    first_line c.args.bytes.now more c.in-Some.at c.in-Some.ensures.0.high (eqb-true _ _ c.in-Some.ensures.1) (λ k h e. c.in-Some.ensures.0.before k (omega arith) h (eq-eqb _ _ e))
 
-pub returns-clause-none : goal.returns-clause-none
-returns-clause-none c l = only_line c.args.bytes.now l (λ k h. c.loop-at.invariant k (omega arith))
+pub returns-in-None-clause-none : goal.returns-in-None-clause-none
+returns-in-None-clause-none c l = only_line c.args.bytes.now l (λ k h e. c.in-None.ensures k (omega arith) h (eq-eqb _ _ e))
