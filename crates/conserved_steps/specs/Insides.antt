@@ -82,7 +82,7 @@ module _ (laws : LawsBelow) (n : List Table) (agrees : Agrees n) (rules : ChainR
       safely.safe
 
 -- ---- in a world
-pub all_at : (P : networks.World → Type 0) (ws : List networks.World) (k : ℕ) (w : networks.World) → AllByRecursion P ws → slice_get ws k ≡ Some w → P w
+pub all_at : {A : Type 0} (P : A → Type 0) (ws : List A) (k : ℕ) (w : A) → AllByRecursion P ws → slice_get ws k ≡ Some w → P w
 all_at P [] k w all e = absurd cc
 all_at P (x ∷ ws) zero w all e = let same : x ≡ w = cc in subst P same all.0
 all_at P (x ∷ ws) (suc k) w all e = all_at P ws k w all.1 e

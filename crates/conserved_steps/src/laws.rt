@@ -12,6 +12,9 @@ ghost use Rattle.network_steps.specs.Worlds.{World, chain_of};
 ghost use Rattle.network_steps.specs.Acting.{caller};
 ghost use Rattle.network_steps.specs.Steps.{name_at, Link, Step};
 ghost use Rattle.conservation.specs.Headline.{IsKept};
+ghost use Rattle.conserved_steps.specs.Soundness.{LawsBelow};
+ghost use Rattle.conserved_steps.specs.Stepping.{ShapeLaws};
+ghost use Rattle.conserved_steps.specs.Reading.{Decodes};
 ghost use Rattle.conserved_steps.specs.Views.{views};
 ghost use Rattle.conserved_steps.specs.Worlds.{IsFirst, AllKept, IsExecution, begins, while_running, where_stopped, IsDelivery, arrives, while_delivered, StopsAt, where_delivery_stopped, AccountsMayRise};
 
@@ -23,12 +26,12 @@ use trap_store::law_of_traps;
 use versioned_xcm::law_of_messages;
 use weight_trader::law_of_trading;
 
-/// From a first world, whatever the steps, every world has each asset as before, at its homes, under way between them and burned there; every
-/// derivative is covered by what its reserve keeps; no chain has 2^127 or more of a listed asset, nor an instance twice; each checking account
-/// is at least what there is at other homes and under way, and with what its chain has of the asset is no more than at first, and stays below
-/// 2^128-1.
-pub fn law_of_conserved_worlds()
-    ensures kept { (order : List Link) (w : World) (steps : List Step) → IsFirst w → AllKept order w steps }
+/// What the laws of the crates below say together: what calls of a chain, instructions, purchases and claims move, what admission and the end
+/// of a run keep, what shape the messages of a step have, and that what is sent is read again. The laws of coherent networks stand on it.
+pub fn law_of_foundations()
+    ensures below { LawsBelow }
+    ensures shapes { ShapeLaws }
+    ensures decodes { Decodes }
 {
     law_of_ledgers();
     law_of_trading();
@@ -41,6 +44,16 @@ pub fn law_of_conserved_worlds()
     law_of_messages();
 }
 
+/// From a first world, whatever the steps, every world has each asset as before, at its homes, under way between them and burned there; every
+/// derivative is covered by what its reserve keeps; no chain has 2^127 or more of a listed asset, nor an instance twice; each checking account
+/// is at least what there is at other homes and under way, and with what its chain has of the asset is no more than at first, and stays below
+/// 2^128-1.
+pub fn law_of_conserved_worlds()
+    ensures kept { (order : List Link) (w : World) (steps : List Step) → IsFirst w → AllKept order w steps }
+{
+    law_of_foundations();
+}
+
 /// So it is inside a local execution, wherever its run comes, with what the run holds counted; and where memory is refused to it, with what is
 /// parked counted.
 pub fn law_of_conserved_executions()
@@ -50,15 +63,7 @@ pub fn law_of_conserved_executions()
     ensures stopped { (order : List Link) (w : World) (steps : List Step) (account : List ℕ) (program : List Instruction) (x : IsExecution order w steps account program) (now : ChainPart) → IsFirst w
         → IsAbandoned x.member.rules (caller account) x.member.rules.limit program (begins x.member) now → IsKept (views w) (where_stopped x.world x.place now) }
 {
-    law_of_ledgers();
-    law_of_trading();
-    law_of_traps();
-    law_of_readiness();
-    law_of_rules();
-    law_of_admission();
-    law_of_shapes();
-    law_of_admitted_messages();
-    law_of_messages();
+    law_of_foundations();
 }
 
 /// So it is inside a delivery, wherever its run comes behind its first instruction: the message is out of its channel, what the run holds is
@@ -72,15 +77,7 @@ pub fn law_of_conserved_deliveries()
     ensures stopped { (order : List Link) (w : World) (steps : List Step) (d : IsDelivery order w steps) (now : ChainPart) → IsFirst w → StopsAt d.sender d.receiver d.message now
         → IsKept (views w) (where_delivery_stopped d.world d.from d.sender d.to d.receiver now) }
 {
-    law_of_ledgers();
-    law_of_trading();
-    law_of_traps();
-    law_of_readiness();
-    law_of_rules();
-    law_of_admission();
-    law_of_shapes();
-    law_of_admitted_messages();
-    law_of_messages();
+    law_of_foundations();
 }
 
 /// So no teleport of what a run holds is refused because a checking account would pass its end, in a local execution or in a delivery:

@@ -75,10 +75,11 @@ use Rattle.conserved_steps.specs.Firsts.{step_on, stays_here, second, IsSet, IsS
 use Rattle.conserved_steps.specs.Bounds.{IsSoundGenesis, agrees_now}
 use Rattle.conserved_steps.specs.Deliveries.{trusted_front, has_name}
 use Rattle.conserved_steps.specs.Reading.{Decodes}
+use Rattle.conserved_steps.specs.Insides.{all_at}
 use Rattle.conserved_steps.specs.Worlds.{IsReached, arrives, while_delivered, StopsAt}
 use Rattle.conserved_steps.specs.Stepping.{ShapeLaws, seen_at, own_room, kept_by, delivered_inside}
 use Rattle.overflow_laws.proofs.Fitting.{just_unit, FitsBundle, kept_fits, kept_room, kept_held, fits_all}
-use Rattle.overflow_laws.proofs.Standing.{all_at, view_delivered, arriving_fits}
+use Rattle.overflow_laws.proofs.Standing.{view_delivered, arriving_fits}
 use Rattle.overflow_laws.proofs.Calls.{BurnsNoExcess, FitTogether, same_burns, no_excess_then, joined_no_excess, withdrawn_burns, claimed_burns, received_burns, answered_burns}
 use Rattle.overflow_laws.proofs.Instructions.{more_no_excess}
 use Rattle.overflow_laws.proofs.Firsts.{refused_stands, alone_stands, led_stands}

@@ -1,8 +1,7 @@
 -- Lemmas: a machine in a world, and the receiver of a message as it begins. A reader may skip
 -- this file.
-use Rattle.std.proofs.Common.{◌≡◌, ℕ, zero, suc, List, [], ◌∷◌, Some, refl, sym, ap, ◌∙◌, subst}
+use Rattle.std.proofs.Common.{◌≡◌, ℕ, zero, suc, [], ◌∷◌, Some, refl, sym, ap, ◌∙◌}
 use Rattle.std.specs.Prelude.{slice_get, slice_set}
-use Rattle.std.specs.List.{AllByRecursion}
 use Rattle.amounts.specs.Amounts.{empty}
 use Rattle.locations.specs.declared.relative.Location.{Location}
 use Rattle.channel_parts.specs.Channels.{Waiting}
@@ -22,11 +21,6 @@ use Rattle.conserved_steps.specs.Stepping.{seen_at}
 use Rattle.overflow_laws.proofs.Fitting.{FitsBundleListed, kept_fits}
 
 -- ---- places of a world
-pub all_at : {A : Type 0} (P : A → Type 0) (ws : List A) (k : ℕ) (w : A) → AllByRecursion P ws → slice_get ws k ≡ Some w → P w
-all_at P [] k w all e = absurd cc
-all_at P (x ∷ ws) zero w all e = let same : x ≡ w = cc in subst P same all.0
-all_at P (x ∷ ws) (suc k) w all e = all_at P ws k w all.1 e
-
 still_there : (w : World) (j k : ℕ) (q p : Part) → slice_get w k ≡ Some p → (r : Part) × (slice_get (slice_set w j q) k ≡ Some r)
 still_there [] j k q p at = absurd cc
 still_there (x ∷ w) zero zero q p at = (q, refl)

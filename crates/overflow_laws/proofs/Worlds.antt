@@ -41,11 +41,11 @@ use Rattle.conserved_steps.specs.Views.{views}
 use Rattle.conserved_steps.specs.Soundness.{LawsBelow}
 use Rattle.conserved_steps.specs.Bounds.{IsSoundGenesis}
 use Rattle.conserved_steps.specs.Reading.{Decodes, decoded_runs}
+use Rattle.conserved_steps.specs.Insides.{all_at}
 use Rattle.conserved_steps.specs.Worlds.{IsFirst, IsReached, IsExecution, begins, IsDelivery, arrives, StopsAt}
 use Rattle.conserved_steps.specs.Stepping.{ShapeLaws, deliver_reaches, step_reaches, worlds_reached, first_reached}
 use Rattle.overflow_laws.specs.Barring.{NothingBarred}
 use Rattle.overflow_laws.specs.Excess.{NoExcess, NoExcessIn, NoExcessEver}
-use Rattle.overflow_laws.proofs.Standing.{all_at}
 use Rattle.overflow_laws.proofs.BarringLaws.{nothing_barred}
 use Rattle.overflow_laws.proofs.Stages.{StandsWell}
 use Rattle.overflow_laws.proofs.Calls.{BurnsNoExcess, other_cause}

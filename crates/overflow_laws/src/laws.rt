@@ -19,13 +19,7 @@ ghost use Rattle.overflow_laws.specs.Barring.{NothingBarred};
 ghost use Rattle.overflow_laws.specs.Excess.{NoExcess, NoExcessIn, NoExcessEver};
 
 use conserved_networks::law_of_conserved_networks;
-use exec_admission::law_of_admission;
-use exec_rules::{law_of_readiness, law_of_rules};
-use ledgers::law_of_ledgers;
-use message_shapes::{law_of_admitted_messages, law_of_shapes};
-use trap_store::law_of_traps;
-use versioned_xcm::law_of_messages;
-use weight_trader::law_of_trading;
+use conserved_steps::law_of_foundations;
 
 /// From a first world, whatever the steps, wherever the run of a local execution or of a delivered message stands, every account can take in what is
 /// held and what another account gives. So no deposit passes 2^128-1, none is of an instance that has an owner, and none is refused where the
@@ -38,15 +32,7 @@ pub fn law_of_unbarred_deposits()
         → admitted d.receiver.rules (name_at (chain_of d.receiver) (chain_of d.sender)) no_weight (arrives d.sender d.receiver d.message).queries d.message.program ≡ Ok a
         → Reaches xcm (first_stage d.receiver.rules (name_at (chain_of d.receiver) (chain_of d.sender)) a (arrives d.sender d.receiver d.message)) g → NothingBarred (machine_of g) }
 {
-    law_of_ledgers();
-    law_of_trading();
-    law_of_traps();
-    law_of_readiness();
-    law_of_rules();
-    law_of_admission();
-    law_of_shapes();
-    law_of_admitted_messages();
-    law_of_messages();
+    law_of_foundations();
 }
 
 /// No burn is ever booked because an amount passes its end or because an instance is there already: in no world that any steps lead to, from a first
@@ -55,15 +41,7 @@ pub fn law_of_unsaturated_worlds()
     ensures worlds { (order : List Link) (w : World) (steps : List Step) → IsFirst w → NoExcessIn w → NoExcessEver order w steps }
     ensures networks { (spec : NetworkSpec) (steps : List Step) → IsCoherent spec → NoExcessEver (order_of spec) (first_world spec) steps }
 {
-    law_of_ledgers();
-    law_of_trading();
-    law_of_traps();
-    law_of_readiness();
-    law_of_rules();
-    law_of_admission();
-    law_of_shapes();
-    law_of_admitted_messages();
-    law_of_messages();
+    law_of_foundations();
     law_of_conserved_networks();
 }
 
@@ -79,13 +57,5 @@ pub fn law_of_unsaturated_runs()
         → Reaches xcm (first_stage d.receiver.rules (name_at (chain_of d.receiver) (chain_of d.sender)) a (arrives d.sender d.receiver d.message)) g → NoExcess (machine_of g).part.burns }
     ensures stopped_deliveries { (order : List Link) (w : World) (steps : List Step) (d : IsDelivery order w steps) (now : ChainPart) → IsFirst w → NoExcessIn w → StopsAt d.sender d.receiver d.message now → NoExcess now.burns }
 {
-    law_of_ledgers();
-    law_of_trading();
-    law_of_traps();
-    law_of_readiness();
-    law_of_rules();
-    law_of_admission();
-    law_of_shapes();
-    law_of_admitted_messages();
-    law_of_messages();
+    law_of_foundations();
 }

@@ -10,14 +10,9 @@ ghost use Rattle.paid_messages.specs.Paid.{HaveRoom, WithdrawalsPaid, TeleportsR
 ghost use Rattle.paid_messages.specs.Covered.{ExecutionsCovered, DeliveriesCovered, AllCovered};
 
 use conserved_networks::law_of_conserved_networks;
-use exec_admission::law_of_admission;
-use exec_rules::{law_of_readiness, law_of_rules};
-use ledgers::law_of_ledgers;
-use message_shapes::{law_of_admitted_messages, law_of_matched_cargoes, law_of_shapes};
+use conserved_steps::law_of_foundations;
+use message_shapes::law_of_matched_cargoes;
 use network_steps::law_of_settings;
-use trap_store::law_of_traps;
-use versioned_xcm::law_of_messages;
-use weight_trader::law_of_trading;
 
 /// From a first world whose chains have room for a message's list, whatever the steps, each withdrawal that its reserve admits is paid from its
 /// sender's account, and each teleport that its receiver admits is received, so that nothing of it is lost.
@@ -26,16 +21,8 @@ pub fn law_of_paid_deliveries()
     ensures teleport { (order : List Link) (w : World) (steps : List Step) → IsFirst w → HaveRoom w → TeleportsReceived order w steps }
     ensures lost { (order : List Link) (w : World) (steps : List Step) → IsFirst w → HaveRoom w → NoneLost order w steps }
 {
-    law_of_ledgers();
-    law_of_trading();
-    law_of_traps();
-    law_of_readiness();
-    law_of_rules();
-    law_of_admission();
-    law_of_shapes();
-    law_of_admitted_messages();
+    law_of_foundations();
     law_of_matched_cargoes();
-    law_of_messages();
     law_of_settings();
 }
 
@@ -60,14 +47,6 @@ pub fn law_of_lowered_accounts()
     ensures deliveries { (order : List Link) (w : World) (steps : List Step) → IsFirst w → DeliveriesCovered order w steps }
     ensures networks { (spec : NetworkSpec) (steps : List Step) → IsCoherent spec → AllCovered (order_of spec) (first_world spec) steps }
 {
-    law_of_ledgers();
-    law_of_trading();
-    law_of_traps();
-    law_of_readiness();
-    law_of_rules();
-    law_of_admission();
-    law_of_shapes();
-    law_of_admitted_messages();
-    law_of_messages();
+    law_of_foundations();
     law_of_conserved_networks();
 }

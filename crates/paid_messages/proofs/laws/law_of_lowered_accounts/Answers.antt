@@ -1,33 +1,15 @@
 use Rattle.network_genesis.specs.Genesis.{first_world, order_of}
-use Rattle.conserved_steps.specs.Soundness.{LawsBelow}
-use Rattle.conserved_steps.specs.Stepping.{ShapeLaws}
 use Rattle.paid_messages.proofs.Covering.{executions_covered, delivery_covered}
 use Rattle.paid_messages.proofs.laws.law_of_lowered_accounts.Goals as goal
 
 pub returns : goal.returns
 returns c =
-    let laws : LawsBelow = record {
-      withdraws = c.law_of_ledgers.ensures.withdrawn;
-      moves = c.law_of_trading.ensures.moves;
-      trapping = c.law_of_traps.ensures.kept;
-      stays = c.law_of_readiness.ensures.done;
-      orderly = c.law_of_rules.ensures.steers;
-      weighs = c.law_of_admission.ensures.weighed;
-      balances = c.law_of_admission.ensures.balanced;
-      rests = c.law_of_admission.ensures.rests;
-    } in
-    let shapes : ShapeLaws = record {
-      admits = c.law_of_admitted_messages.ensures;
-      exec = c.law_of_shapes.ensures.exec;
-      deliver = c.law_of_shapes.ensures.deliver;
-      claim = c.law_of_shapes.ensures.claim;
-    } in
-    let decodes = c.law_of_messages.ensures in
+    let below = c.law_of_foundations.ensures in
     record {
       executions = executions_covered;
-      deliveries = λ order w steps first d a g ok reach. delivery_covered laws shapes decodes order w steps first d a g ok reach;
+      deliveries = λ order w steps first d a g ok reach. delivery_covered below.below below.shapes below.decodes order w steps first d a g ok reach;
       networks = λ spec steps coherent. record {
         executions = executions_covered (order_of spec) (first_world spec) steps;
-        deliveries = λ d a g ok reach. delivery_covered laws shapes decodes (order_of spec) (first_world spec) steps (c.law_of_conserved_networks.ensures.first spec coherent) d a g ok reach;
+        deliveries = λ d a g ok reach. delivery_covered below.below below.shapes below.decodes (order_of spec) (first_world spec) steps (c.law_of_conserved_networks.ensures.first spec coherent) d a g ok reach;
       };
     }
