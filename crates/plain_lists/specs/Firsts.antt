@@ -1,7 +1,7 @@
 -- The first element of a list that passes a test, changed; the laws below are for proofs alone, and a reader may skip them.
 use Rattle.std.specs.Prelude.{◌≡◌, ℕ, zero, suc, ◌+◌, ◌<◌, ◌≤◌, Bool, true, false, cond, not, if◌then◌else◌, List, [], ◌∷◌, length, Some, None, refl}
 use Rattle.std.specs.List.{find, position, position_or_len, AllByRecursion}
-use Rattle.std.proofs.Common.{get_or, set, sym, ap, ◌∙◌, subst, arith}
+use Rattle.std.proofs.Common.{get_or, set, sym, ap, ◌∙◌, arith}
 use Rattle.std.proofs.lemmas.Grind.{common_steps}
 use Rattle.std.proofs.lemmas.List.Quantifiers.{position-Some}
 

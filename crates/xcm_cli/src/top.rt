@@ -57,7 +57,8 @@ pub fn run<I: Source, O: Sink>(
     ensures other { result ≡ Ok Status.Usage → task_of words.now ≡ Usage }
 
     // Where the input's network is read and none of the seven causes is found in it, every world of its run keeps each asset, backs
-    // each derivative and has right checking accounts; what is admitted is paid and received; and nothing is burned for want of room.
+    // each derivative and has right checking accounts; what is admitted is paid and received; and no joining of bundles burns what
+    // would pass an amount's end or is there already.
     ensures kept { IfSome (I.left input.old) (λ bytes. (spec : NetworkSpec) → network_of (network_bytes bytes) ≡ Ok spec → first_cause (entries_of spec) ≡ None → IsSecure spec (steps_of bytes)) }
 {
     law_of_read_networks(); // For the prover alone, as the next three.
