@@ -136,7 +136,7 @@ pub fn take_asset(c: &mut Cursor<'_>, v: Version) -> Result<Asset, NoSpelling>
     Ok(asset)
 }
 
-/// So many assets, each read where it is in the list. Memory is taken as they are read, and not by their number.
+/// So many assets, each read where it is in the list. Memory is taken once.
 fn take_several(
     alloc: Global,
     c: &mut Cursor<'_>,
