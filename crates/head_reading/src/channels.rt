@@ -5,6 +5,7 @@ ghost use Rattle.scale_codec.specs.Reading.{below_at, made1, made3};
 ghost use Rattle.xcm_program.specs.declared.instruction.Instruction.TheOpen.{Instruction-F};
 ghost use Rattle.head_reading.specs.Answers.{FilledHead};
 
+use crate::inside::put;
 use asset_wire::WireFault;
 use scale_codec::Cursor;
 use xcm_program::Instruction;
@@ -19,11 +20,14 @@ pub fn fill_hrmp_new_channel_open_request(
     let sender = c.compact_u32()?;
     let max_message_size = c.compact_u32()?;
     let max_capacity = c.compact_u32()?;
-    *slot = Instruction::HrmpNewChannelOpenRequest {
-        sender,
-        max_message_size,
-        max_capacity,
-    };
+    put(
+        slot,
+        Instruction::HrmpNewChannelOpenRequest {
+            sender,
+            max_message_size,
+            max_capacity,
+        },
+    );
     Ok(())
 }
 
@@ -35,7 +39,7 @@ pub fn fill_hrmp_channel_accepted(
     ensures { FilledHead result (made1 (below_at (2 ^ 32)) Instruction-F.HrmpChannelAccepted c.old) slot.new c.new }
 {
     let recipient = c.compact_u32()?;
-    *slot = Instruction::HrmpChannelAccepted { recipient };
+    put(slot, Instruction::HrmpChannelAccepted { recipient });
     Ok(())
 }
 
@@ -49,10 +53,13 @@ pub fn fill_hrmp_channel_closing(
     let initiator = c.compact_u32()?;
     let sender = c.compact_u32()?;
     let recipient = c.compact_u32()?;
-    *slot = Instruction::HrmpChannelClosing {
-        initiator,
-        sender,
-        recipient,
-    };
+    put(
+        slot,
+        Instruction::HrmpChannelClosing {
+            initiator,
+            sender,
+            recipient,
+        },
+    );
     Ok(())
 }

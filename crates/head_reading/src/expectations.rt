@@ -7,6 +7,7 @@ ghost use Rattle.part_wire.specs.Reading.{failure_at, bytes_at, maybe_error_at};
 ghost use Rattle.xcm_program.specs.declared.instruction.Instruction.TheOpen.{Instruction-F};
 ghost use Rattle.head_reading.specs.Answers.{FilledHead};
 
+use crate::inside::put;
 use asset_wire::{Version, WireFault, take_assets};
 use part_wire::{take_bytes, take_maybe_error, take_optional_failure};
 use scale_codec::Cursor;
@@ -23,7 +24,7 @@ pub fn fill_expect_asset(
     ensures { FilledHead result (made1 (assets_at v) Instruction-F.ExpectAsset c.old) slot.new c.new }
 {
     let assets = take_assets(alloc, c, v)?;
-    *slot = Instruction::ExpectAsset { assets };
+    put(slot, Instruction::ExpectAsset { assets });
     Ok(())
 }
 
@@ -32,7 +33,7 @@ pub fn fill_expect_error(c: &mut Cursor<'_>, slot: &mut Instruction) -> Result<(
     ensures { FilledHead result (made1 (optional_at failure_at) Instruction-F.ExpectError c.old) slot.new c.new }
 {
     let error = take_optional_failure(c)?;
-    *slot = Instruction::ExpectError { error };
+    put(slot, Instruction::ExpectError { error });
     Ok(())
 }
 
@@ -45,7 +46,7 @@ pub fn fill_expect_transact_status(
     ensures { FilledHead result (made1 maybe_error_at Instruction-F.ExpectTransactStatus c.old) slot.new c.new }
 {
     let status = take_maybe_error(alloc, c)?;
-    *slot = Instruction::ExpectTransactStatus { status };
+    put(slot, Instruction::ExpectTransactStatus { status });
     Ok(())
 }
 
@@ -62,12 +63,15 @@ pub fn fill_expect_pallet(
     let module_name = take_bytes(alloc, c)?;
     let crate_major = c.compact_u32()?;
     let min_crate_minor = c.compact_u32()?;
-    *slot = Instruction::ExpectPallet {
-        index,
-        name,
-        module_name,
-        crate_major,
-        min_crate_minor,
-    };
+    put(
+        slot,
+        Instruction::ExpectPallet {
+            index,
+            name,
+            module_name,
+            crate_major,
+            min_crate_minor,
+        },
+    );
     Ok(())
 }

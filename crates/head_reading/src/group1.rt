@@ -6,6 +6,7 @@ ghost use Rattle.head_reading.specs.Answers.{FilledHead};
 
 use crate::channels::{fill_hrmp_channel_accepted, fill_hrmp_channel_closing};
 use crate::holding::fill_exchange_asset;
+use crate::inside::put;
 use crate::origin::fill_descend_origin;
 use crate::queries::fill_report_error;
 use crate::transfers::{fill_deposit_asset, fill_deposit_reserve_asset};
@@ -31,7 +32,7 @@ pub fn fill_group1(
         8 => fill_hrmp_channel_accepted(c, slot),
         9 => fill_hrmp_channel_closing(c, slot),
         10 => {
-            *slot = Instruction::ClearOrigin;
+            put(slot, Instruction::ClearOrigin);
             Ok(())
         }
         11 => fill_descend_origin(c, slot),

@@ -5,6 +5,7 @@ ghost use Rattle.head_reading.specs.Reading.{group2_at};
 ghost use Rattle.head_reading.specs.Answers.{FilledHead};
 
 use crate::holding::fill_buy_execution;
+use crate::inside::put;
 use crate::programs::{fill_set_appendix, fill_set_error_handler};
 use crate::queries::fill_report_holding;
 use crate::transfers::{fill_initiate_reserve_withdraw, fill_initiate_teleport};
@@ -32,13 +33,13 @@ pub fn fill_group2(
         18 => fill_report_holding(alloc, c, v, slot),
         19 => fill_buy_execution(c, v, slot),
         20 => {
-            *slot = Instruction::RefundSurplus;
+            put(slot, Instruction::RefundSurplus);
             Ok(())
         }
         21 => fill_set_error_handler(alloc, c, slot),
         22 => fill_set_appendix(alloc, c, slot),
         23 => {
-            *slot = Instruction::ClearError;
+            put(slot, Instruction::ClearError);
             Ok(())
         }
         _ => unreachable!(),

@@ -6,6 +6,7 @@ ghost use Rattle.head_reading.specs.Answers.{FilledHead};
 
 use crate::expectations::{fill_expect_asset, fill_expect_error};
 use crate::holding::{fill_burn_asset, fill_claim_asset};
+use crate::inside::put;
 use crate::origin::fill_expect_origin;
 use crate::programs::fill_trap;
 use crate::queries::fill_subscribe_version;
@@ -32,7 +33,7 @@ pub fn fill_group3(
         25 => fill_trap(c, slot),
         26 => fill_subscribe_version(c, slot),
         27 => {
-            *slot = Instruction::UnsubscribeVersion;
+            put(slot, Instruction::UnsubscribeVersion);
             Ok(())
         }
         28 => fill_burn_asset(alloc, c, v, slot),

@@ -5,6 +5,7 @@ ghost use Rattle.head_reading.specs.Reading.{group4_at};
 ghost use Rattle.head_reading.specs.Answers.{FilledHead};
 
 use crate::expectations::{fill_expect_pallet, fill_expect_transact_status};
+use crate::inside::put;
 use crate::locks::fill_lock_asset;
 use crate::origin::{fill_export_message, fill_universal_origin};
 use crate::queries::{fill_query_pallet, fill_report_transact_status};
@@ -32,7 +33,7 @@ pub fn fill_group4(
         34 => fill_expect_pallet(alloc, c, slot),
         35 => fill_report_transact_status(c, slot),
         36 => {
-            *slot = Instruction::ClearTransactStatus;
+            put(slot, Instruction::ClearTransactStatus);
             Ok(())
         }
         37 => fill_universal_origin(c, slot),

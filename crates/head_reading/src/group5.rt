@@ -4,6 +4,7 @@ ghost use Rattle.std.specs.Prelude.{◌≤◌, ◌<◌};
 ghost use Rattle.head_reading.specs.Reading.{group5_at};
 ghost use Rattle.head_reading.specs.Answers.{FilledHead};
 
+use crate::inside::put;
 use crate::locks::{fill_note_unlockable, fill_request_unlock, fill_unlock_asset};
 use crate::origin::{fill_alias_origin, fill_unpaid_execution};
 use crate::programs::{fill_set_fees_mode, fill_set_topic};
@@ -32,7 +33,7 @@ pub fn fill_group5(
         43 => fill_set_fees_mode(c, slot),
         44 => fill_set_topic(c, slot),
         45 => {
-            *slot = Instruction::ClearTopic;
+            put(slot, Instruction::ClearTopic);
             Ok(())
         }
         46 => fill_alias_origin(c, slot),

@@ -8,7 +8,7 @@ ghost use Rattle.part_wire.specs.Reading.{weight_limit_at};
 ghost use Rattle.xcm_program.specs.declared.instruction.Instruction.TheOpen.{Instruction-F};
 ghost use Rattle.head_reading.specs.Answers.{FilledHead};
 
-use crate::inside::empty_place;
+use crate::inside::{empty_place, put};
 use asset_wire::{Version, WireFault, take_asset, take_assets, take_filter};
 use location_wire::fill_location;
 use part_wire::take_weight_limit;
@@ -28,11 +28,14 @@ pub fn fill_exchange_asset(
     let give = take_filter(alloc, c, v)?;
     let want = take_assets(alloc, c, v)?;
     let maximal = c.flag()?;
-    *slot = Instruction::ExchangeAsset {
-        give,
-        want,
-        maximal,
-    };
+    put(
+        slot,
+        Instruction::ExchangeAsset {
+            give,
+            want,
+            maximal,
+        },
+    );
     Ok(())
 }
 
@@ -46,7 +49,7 @@ pub fn fill_buy_execution(
 {
     let fees = take_asset(c, v)?;
     let limit = take_weight_limit(c)?;
-    *slot = Instruction::BuyExecution { fees, limit };
+    put(slot, Instruction::BuyExecution { fees, limit });
     Ok(())
 }
 
@@ -62,7 +65,7 @@ pub fn fill_claim_asset(
     let assets = take_assets(alloc, c, v)?;
     let mut ticket = empty_place();
     fill_location(c, &mut ticket)?;
-    *slot = Instruction::ClaimAsset { assets, ticket };
+    put(slot, Instruction::ClaimAsset { assets, ticket });
     Ok(())
 }
 
@@ -76,7 +79,7 @@ pub fn fill_withdraw_asset(
     ensures { FilledHead result (made1 (assets_at v) Instruction-F.WithdrawAsset c.old) slot.new c.new }
 {
     let assets = take_assets(alloc, c, v)?;
-    *slot = Instruction::WithdrawAsset { assets };
+    put(slot, Instruction::WithdrawAsset { assets });
     Ok(())
 }
 
@@ -90,7 +93,7 @@ pub fn fill_reserve_asset_deposited(
     ensures { FilledHead result (made1 (assets_at v) Instruction-F.ReserveAssetDeposited c.old) slot.new c.new }
 {
     let assets = take_assets(alloc, c, v)?;
-    *slot = Instruction::ReserveAssetDeposited { assets };
+    put(slot, Instruction::ReserveAssetDeposited { assets });
     Ok(())
 }
 
@@ -104,7 +107,7 @@ pub fn fill_receive_teleported_asset(
     ensures { FilledHead result (made1 (assets_at v) Instruction-F.ReceiveTeleportedAsset c.old) slot.new c.new }
 {
     let assets = take_assets(alloc, c, v)?;
-    *slot = Instruction::ReceiveTeleportedAsset { assets };
+    put(slot, Instruction::ReceiveTeleportedAsset { assets });
     Ok(())
 }
 
@@ -118,6 +121,6 @@ pub fn fill_burn_asset(
     ensures { FilledHead result (made1 (assets_at v) Instruction-F.BurnAsset c.old) slot.new c.new }
 {
     let assets = take_assets(alloc, c, v)?;
-    *slot = Instruction::BurnAsset { assets };
+    put(slot, Instruction::BurnAsset { assets });
     Ok(())
 }

@@ -4,7 +4,7 @@ ghost use Rattle.std.specs.Prelude.{◌≡◌, []};
 
 use locations::{Junctions, Location};
 use std::alloc::Global;
-use xcm_program::Program;
+use xcm_program::{Instruction, Program};
 
 /// The empty program. It takes no memory.
 pub fn nothing_inside(alloc: Global) -> Program
@@ -21,4 +21,12 @@ pub fn empty_place() -> Location
         parents: 0,
         interior: Junctions::empty(),
     }
+}
+
+/// Puts an instruction into its place. What stood there is dropped here alone, so that no reader has to look through all that an
+/// instruction may keep.
+pub fn put(slot: &mut Instruction, instruction: Instruction)
+    ensures { slot.new ≡ instruction }
+{
+    *slot = instruction;
 }

@@ -7,7 +7,7 @@ ghost use Rattle.asset_wire.specs.Reading.{asset_at};
 ghost use Rattle.xcm_program.specs.declared.instruction.Instruction.TheOpen.{Instruction-F};
 ghost use Rattle.head_reading.specs.Answers.{FilledHead};
 
-use crate::inside::empty_place;
+use crate::inside::{empty_place, put};
 use asset_wire::{Version, WireFault, take_asset};
 use location_wire::fill_location;
 use scale_codec::Cursor;
@@ -24,7 +24,7 @@ pub fn fill_lock_asset(
     let asset = take_asset(c, v)?;
     let mut unlocker = empty_place();
     fill_location(c, &mut unlocker)?;
-    *slot = Instruction::LockAsset { asset, unlocker };
+    put(slot, Instruction::LockAsset { asset, unlocker });
     Ok(())
 }
 
@@ -39,7 +39,7 @@ pub fn fill_unlock_asset(
     let asset = take_asset(c, v)?;
     let mut target = empty_place();
     fill_location(c, &mut target)?;
-    *slot = Instruction::UnlockAsset { asset, target };
+    put(slot, Instruction::UnlockAsset { asset, target });
     Ok(())
 }
 
@@ -54,7 +54,7 @@ pub fn fill_note_unlockable(
     let asset = take_asset(c, v)?;
     let mut owner = empty_place();
     fill_location(c, &mut owner)?;
-    *slot = Instruction::NoteUnlockable { asset, owner };
+    put(slot, Instruction::NoteUnlockable { asset, owner });
     Ok(())
 }
 
@@ -69,6 +69,6 @@ pub fn fill_request_unlock(
     let asset = take_asset(c, v)?;
     let mut locker = empty_place();
     fill_location(c, &mut locker)?;
-    *slot = Instruction::RequestUnlock { asset, locker };
+    put(slot, Instruction::RequestUnlock { asset, locker });
     Ok(())
 }

@@ -7,7 +7,7 @@ ghost use Rattle.part_wire.specs.Reading.{weight_limit_at};
 ghost use Rattle.xcm_program.specs.declared.instruction.Instruction.TheOpen.{Instruction-F};
 ghost use Rattle.head_reading.specs.Answers.{FilledHead};
 
-use crate::inside::{empty_place, nothing_inside};
+use crate::inside::{empty_place, nothing_inside, put};
 use asset_wire::WireFault;
 use location_wire::{fill_junctions, fill_location, take_junction, take_network};
 use locations::Junctions;
@@ -22,7 +22,7 @@ pub fn fill_descend_origin(c: &mut Cursor<'_>, slot: &mut Instruction) -> Result
 {
     let mut interior = Junctions::empty();
     fill_junctions(c, &mut interior)?;
-    *slot = Instruction::DescendOrigin { interior };
+    put(slot, Instruction::DescendOrigin { interior });
     Ok(())
 }
 
@@ -31,7 +31,7 @@ pub fn fill_expect_origin(c: &mut Cursor<'_>, slot: &mut Instruction) -> Result<
     ensures { FilledHead result (made1 (optional_at location_at) Instruction-F.ExpectOrigin c.old) slot.new c.new }
 {
     let origin = take_optional_location(c)?;
-    *slot = Instruction::ExpectOrigin { origin };
+    put(slot, Instruction::ExpectOrigin { origin });
     Ok(())
 }
 
@@ -41,7 +41,7 @@ pub fn fill_alias_origin(c: &mut Cursor<'_>, slot: &mut Instruction) -> Result<(
 {
     let mut target = empty_place();
     fill_location(c, &mut target)?;
-    *slot = Instruction::AliasOrigin { target };
+    put(slot, Instruction::AliasOrigin { target });
     Ok(())
 }
 
@@ -51,10 +51,13 @@ pub fn fill_unpaid_execution(c: &mut Cursor<'_>, slot: &mut Instruction) -> Resu
 {
     let limit = take_weight_limit(c)?;
     let check_origin = take_optional_location(c)?;
-    *slot = Instruction::UnpaidExecution {
-        limit,
-        check_origin,
-    };
+    put(
+        slot,
+        Instruction::UnpaidExecution {
+            limit,
+            check_origin,
+        },
+    );
     Ok(())
 }
 
@@ -70,11 +73,14 @@ pub fn fill_export_message(
     let mut destination = Junctions::empty();
     fill_junctions(c, &mut destination)?;
     let xcm = nothing_inside(alloc);
-    *slot = Instruction::ExportMessage {
-        network,
-        destination,
-        xcm,
-    };
+    put(
+        slot,
+        Instruction::ExportMessage {
+            network,
+            destination,
+            xcm,
+        },
+    );
     Ok(())
 }
 
@@ -83,6 +89,6 @@ pub fn fill_universal_origin(c: &mut Cursor<'_>, slot: &mut Instruction) -> Resu
     ensures { FilledHead result (made1 junction_at Instruction-F.UniversalOrigin c.old) slot.new c.new }
 {
     let junction = take_junction(c)?;
-    *slot = Instruction::UniversalOrigin { junction };
+    put(slot, Instruction::UniversalOrigin { junction });
     Ok(())
 }

@@ -6,7 +6,7 @@ ghost use Rattle.part_wire.specs.Reading.{weight_at, origin_kind_at, bytes_at};
 ghost use Rattle.xcm_program.specs.declared.instruction.Instruction.TheOpen.{Instruction-F};
 ghost use Rattle.head_reading.specs.Answers.{FilledHead};
 
-use crate::inside::nothing_inside;
+use crate::inside::{nothing_inside, put};
 use asset_wire::WireFault;
 use part_wire::{take_bytes, take_origin_kind, take_weight};
 use scale_codec::Cursor;
@@ -24,11 +24,14 @@ pub fn fill_transact(
     let origin_kind = take_origin_kind(c)?;
     let require_weight_at_most = take_weight(c)?;
     let call = take_bytes(alloc, c)?;
-    *slot = Instruction::Transact {
-        origin_kind,
-        require_weight_at_most,
-        call,
-    };
+    put(
+        slot,
+        Instruction::Transact {
+            origin_kind,
+            require_weight_at_most,
+            call,
+        },
+    );
     Ok(())
 }
 
@@ -37,7 +40,7 @@ pub fn fill_trap(c: &mut Cursor<'_>, slot: &mut Instruction) -> Result<(), WireF
     ensures { FilledHead result (made1 (below_at (2 ^ 64)) Instruction-F.Trap c.old) slot.new c.new }
 {
     let code = c.compact_u64()?;
-    *slot = Instruction::Trap { code };
+    put(slot, Instruction::Trap { code });
     Ok(())
 }
 
@@ -50,7 +53,7 @@ pub fn fill_set_error_handler(
     ensures { FilledHead result (done (Instruction-F.SetErrorHandler []) c.old) slot.new c.new }
 {
     let xcm = nothing_inside(alloc);
-    *slot = Instruction::SetErrorHandler { xcm };
+    put(slot, Instruction::SetErrorHandler { xcm });
     Ok(())
 }
 
@@ -63,7 +66,7 @@ pub fn fill_set_appendix(
     ensures { FilledHead result (done (Instruction-F.SetAppendix []) c.old) slot.new c.new }
 {
     let xcm = nothing_inside(alloc);
-    *slot = Instruction::SetAppendix { xcm };
+    put(slot, Instruction::SetAppendix { xcm });
     Ok(())
 }
 
@@ -72,7 +75,7 @@ pub fn fill_set_fees_mode(c: &mut Cursor<'_>, slot: &mut Instruction) -> Result<
     ensures { FilledHead result (made1 flag_at Instruction-F.SetFeesMode c.old) slot.new c.new }
 {
     let jit_withdraw = c.flag()?;
-    *slot = Instruction::SetFeesMode { jit_withdraw };
+    put(slot, Instruction::SetFeesMode { jit_withdraw });
     Ok(())
 }
 
@@ -81,6 +84,6 @@ pub fn fill_set_topic(c: &mut Cursor<'_>, slot: &mut Instruction) -> Result<(), 
     ensures { FilledHead result (made1 (take_at 32) Instruction-F.SetTopic c.old) slot.new c.new }
 {
     let topic = c.take_array()?;
-    *slot = Instruction::SetTopic { topic };
+    put(slot, Instruction::SetTopic { topic });
     Ok(())
 }

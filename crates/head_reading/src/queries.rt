@@ -8,6 +8,7 @@ ghost use Rattle.part_wire.specs.Reading.{weight_at, bytes_at, query_info_at, re
 ghost use Rattle.xcm_program.specs.declared.instruction.Instruction.TheOpen.{Instruction-F};
 ghost use Rattle.head_reading.specs.Answers.{FilledHead};
 
+use crate::inside::put;
 use asset_wire::{Version, WireFault, take_filter};
 use part_wire::{take_bytes, take_optional_location, take_query_info, take_response, take_weight};
 use scale_codec::Cursor;
@@ -27,12 +28,15 @@ pub fn fill_query_response(
     let response = take_response(alloc, c, v)?;
     let max_weight = take_weight(c)?;
     let querier = take_optional_location(c)?;
-    *slot = Instruction::QueryResponse {
-        query_id,
-        response,
-        max_weight,
-        querier,
-    };
+    put(
+        slot,
+        Instruction::QueryResponse {
+            query_id,
+            response,
+            max_weight,
+            querier,
+        },
+    );
     Ok(())
 }
 
@@ -41,7 +45,7 @@ pub fn fill_report_error(c: &mut Cursor<'_>, slot: &mut Instruction) -> Result<(
     ensures { FilledHead result (made1 query_info_at Instruction-F.ReportError c.old) slot.new c.new }
 {
     let info = take_query_info(c)?;
-    *slot = Instruction::ReportError { info };
+    put(slot, Instruction::ReportError { info });
     Ok(())
 }
 
@@ -56,7 +60,7 @@ pub fn fill_report_holding(
 {
     let info = take_query_info(c)?;
     let assets = take_filter(alloc, c, v)?;
-    *slot = Instruction::ReportHolding { info, assets };
+    put(slot, Instruction::ReportHolding { info, assets });
     Ok(())
 }
 
@@ -70,7 +74,7 @@ pub fn fill_query_pallet(
 {
     let module_name = take_bytes(alloc, c)?;
     let info = take_query_info(c)?;
-    *slot = Instruction::QueryPallet { module_name, info };
+    put(slot, Instruction::QueryPallet { module_name, info });
     Ok(())
 }
 
@@ -82,7 +86,7 @@ pub fn fill_report_transact_status(
     ensures { FilledHead result (made1 query_info_at Instruction-F.ReportTransactStatus c.old) slot.new c.new }
 {
     let info = take_query_info(c)?;
-    *slot = Instruction::ReportTransactStatus { info };
+    put(slot, Instruction::ReportTransactStatus { info });
     Ok(())
 }
 
@@ -92,9 +96,12 @@ pub fn fill_subscribe_version(c: &mut Cursor<'_>, slot: &mut Instruction) -> Res
 {
     let query_id = c.compact_u64()?;
     let max_response_weight = take_weight(c)?;
-    *slot = Instruction::SubscribeVersion {
-        query_id,
-        max_response_weight,
-    };
+    put(
+        slot,
+        Instruction::SubscribeVersion {
+            query_id,
+            max_response_weight,
+        },
+    );
     Ok(())
 }

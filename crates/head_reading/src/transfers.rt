@@ -7,7 +7,7 @@ ghost use Rattle.asset_wire.specs.Reading.{assets_at, filter_at};
 ghost use Rattle.xcm_program.specs.declared.instruction.Instruction.TheOpen.{Instruction-F};
 ghost use Rattle.head_reading.specs.Answers.{FilledHead};
 
-use crate::inside::{empty_place, nothing_inside};
+use crate::inside::{empty_place, nothing_inside, put};
 use asset_wire::{Version, WireFault, take_assets, take_filter};
 use location_wire::fill_location;
 use scale_codec::Cursor;
@@ -26,10 +26,13 @@ pub fn fill_transfer_asset(
     let assets = take_assets(alloc, c, v)?;
     let mut beneficiary = empty_place();
     fill_location(c, &mut beneficiary)?;
-    *slot = Instruction::TransferAsset {
-        assets,
-        beneficiary,
-    };
+    put(
+        slot,
+        Instruction::TransferAsset {
+            assets,
+            beneficiary,
+        },
+    );
     Ok(())
 }
 
@@ -46,7 +49,10 @@ pub fn fill_transfer_reserve_asset(
     let mut dest = empty_place();
     fill_location(c, &mut dest)?;
     let xcm = nothing_inside(alloc);
-    *slot = Instruction::TransferReserveAsset { assets, dest, xcm };
+    put(
+        slot,
+        Instruction::TransferReserveAsset { assets, dest, xcm },
+    );
     Ok(())
 }
 
@@ -62,10 +68,13 @@ pub fn fill_deposit_asset(
     let assets = take_filter(alloc, c, v)?;
     let mut beneficiary = empty_place();
     fill_location(c, &mut beneficiary)?;
-    *slot = Instruction::DepositAsset {
-        assets,
-        beneficiary,
-    };
+    put(
+        slot,
+        Instruction::DepositAsset {
+            assets,
+            beneficiary,
+        },
+    );
     Ok(())
 }
 
@@ -82,7 +91,7 @@ pub fn fill_deposit_reserve_asset(
     let mut dest = empty_place();
     fill_location(c, &mut dest)?;
     let xcm = nothing_inside(alloc);
-    *slot = Instruction::DepositReserveAsset { assets, dest, xcm };
+    put(slot, Instruction::DepositReserveAsset { assets, dest, xcm });
     Ok(())
 }
 
@@ -99,11 +108,14 @@ pub fn fill_initiate_reserve_withdraw(
     let mut reserve = empty_place();
     fill_location(c, &mut reserve)?;
     let xcm = nothing_inside(alloc);
-    *slot = Instruction::InitiateReserveWithdraw {
-        assets,
-        reserve,
-        xcm,
-    };
+    put(
+        slot,
+        Instruction::InitiateReserveWithdraw {
+            assets,
+            reserve,
+            xcm,
+        },
+    );
     Ok(())
 }
 
@@ -120,6 +132,6 @@ pub fn fill_initiate_teleport(
     let mut dest = empty_place();
     fill_location(c, &mut dest)?;
     let xcm = nothing_inside(alloc);
-    *slot = Instruction::InitiateTeleport { assets, dest, xcm };
+    put(slot, Instruction::InitiateTeleport { assets, dest, xcm });
     Ok(())
 }
