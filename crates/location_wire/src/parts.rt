@@ -1,7 +1,8 @@
 //! The readers behind the public ones. Where they leave the cursor after a refusal isn't said.
 
-ghost use Rattle.std.specs.Prelude.{◌≡◌, [], ◌≤◌};
-ghost use Rattle.scale_codec.specs.Reading.{optional_at, repeated};
+ghost use Rattle.std.specs.Prelude.{◌≡◌, [], ◌≤◌, ◌^◌};
+ghost use Rattle.locations.specs.declared.grammar.Junction.TheVariants.{AccountId32, AccountIndex64, AccountKey20, GeneralKey, Plurality, GlobalConsensus};
+ghost use Rattle.scale_codec.specs.Reading.{u8_at, below_at, take_at, made1, made2, optional_at, repeated};
 ghost use Rattle.scale_codec.specs.Answers.{Got, Filled};
 ghost use Rattle.location_wire.specs.Reading.{network_at, body_at, part_at, junction_at, junctions_at, location_at};
 
@@ -96,42 +97,74 @@ fn take_part(c: &mut Cursor<'_>) -> Result<BodyPart, NoSpelling>
     }
 }
 
+/// An account of 32 bytes, behind its network.
+fn take_account32(c: &mut Cursor<'_>) -> Result<Junction, NoSpelling>
+    ensures { Got result (made2 (optional_at network_at) (take_at 32) AccountId32 c.old) c.new }
+{
+    let network = take_optional_network(c)?;
+    let id = c.take_array()?;
+    Ok(Junction::AccountId32 { network, id })
+}
+
+/// An account by its number, behind its network.
+fn take_account_index(c: &mut Cursor<'_>) -> Result<Junction, NoSpelling>
+    ensures { Got result (made2 (optional_at network_at) (below_at (2 ^ 64)) AccountIndex64 c.old) c.new }
+{
+    let network = take_optional_network(c)?;
+    let index = c.compact_u64()?;
+    Ok(Junction::AccountIndex64 { network, index })
+}
+
+/// An account of 20 bytes, behind its network.
+fn take_account20(c: &mut Cursor<'_>) -> Result<Junction, NoSpelling>
+    ensures { Got result (made2 (optional_at network_at) (take_at 20) AccountKey20 c.old) c.new }
+{
+    let network = take_optional_network(c)?;
+    let key = c.take_array()?;
+    Ok(Junction::AccountKey20 { network, key })
+}
+
+/// A key of 32 bytes, behind its length.
+fn take_general_key(c: &mut Cursor<'_>) -> Result<Junction, NoSpelling>
+    ensures { Got result (made2 u8_at (take_at 32) GeneralKey c.old) c.new }
+{
+    let length = c.u8()?;
+    let key = c.take_array()?;
+    Ok(Junction::GeneralKey { length, key })
+}
+
+/// A body, and the part of it.
+fn take_plurality(c: &mut Cursor<'_>) -> Result<Junction, NoSpelling>
+    ensures { Got result (made2 body_at part_at Plurality c.old) c.new }
+{
+    let id = take_body(c)?;
+    let part = take_part(c)?;
+    Ok(Junction::Plurality { id, part })
+}
+
+/// A network.
+fn take_consensus(c: &mut Cursor<'_>) -> Result<Junction, NoSpelling>
+    ensures { Got result (made1 network_at GlobalConsensus c.old) c.new }
+{
+    Ok(Junction::GlobalConsensus(take_network(c)?))
+}
+
+/// The junction at the front. A function pays for its locals when it is called, so those with more than a number have one each.
 #[tactic(auto, unfolding(crate::specs::Reading::junction_at))]
-/// The junction at the front.
 pub fn take_junction(c: &mut Cursor<'_>) -> Result<Junction, NoSpelling>
     ensures { Got result (junction_at c.old) c.new }
 {
     match c.u8()? {
         0 => Ok(Junction::Parachain(c.compact_u32()?)),
-        1 => {
-            let network = take_optional_network(c)?;
-            let id = c.take_array()?;
-            Ok(Junction::AccountId32 { network, id })
-        }
-        2 => {
-            let network = take_optional_network(c)?;
-            let index = c.compact_u64()?;
-            Ok(Junction::AccountIndex64 { network, index })
-        }
-        3 => {
-            let network = take_optional_network(c)?;
-            let key = c.take_array()?;
-            Ok(Junction::AccountKey20 { network, key })
-        }
+        1 => take_account32(c),
+        2 => take_account_index(c),
+        3 => take_account20(c),
         4 => Ok(Junction::PalletInstance(c.u8()?)),
         5 => Ok(Junction::GeneralIndex(c.compact_u128()?)),
-        6 => {
-            let length = c.u8()?;
-            let key = c.take_array()?;
-            Ok(Junction::GeneralKey { length, key })
-        }
+        6 => take_general_key(c),
         7 => Ok(Junction::OnlyChild),
-        8 => {
-            let id = take_body(c)?;
-            let part = take_part(c)?;
-            Ok(Junction::Plurality { id, part })
-        }
-        9 => Ok(Junction::GlobalConsensus(take_network(c)?)),
+        8 => take_plurality(c),
+        9 => take_consensus(c),
         _ => Err(NoSpelling),
     }
 }
