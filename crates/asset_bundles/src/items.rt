@@ -77,7 +77,7 @@ pub(crate) fn copied(alloc: Global, items: &[Asset]) -> Result<Vec<Asset>, Alloc
 {
     let mut copies = Vec::with_capacity(alloc, items.len())?;
     for item in items {
-        copies.push(item.copy())?;
+        copies.push_reserved(item.copy());
     }
     Ok(copies)
 }

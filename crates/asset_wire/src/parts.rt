@@ -148,7 +148,7 @@ fn take_several(
     let mut items = Vec::with_capacity(alloc, count as usize)?;
     for _ in 0..count {
         let last = items.len();
-        items.push(blank_asset())?;
+        items.push_reserved(blank_asset());
         fill_asset(c, &mut items[last], v)?;
     }
     Ok(items)
