@@ -8,14 +8,14 @@ ghost use Rattle.exec_rules.specs.Readiness.{IsReady};
 ghost use Rattle.exec_rules.specs.Stopping.{spills};
 ghost use Rattle.xcm_executor.specs.Running.{wound_up, HaltedBefore};
 
-use crate::performing::perform;
 use asset_bundles::AssetBundle;
+use exec_assets::refund_surplus;
 use exec_base::{Event, Host, Registers};
 use exec_rules::law_of_readiness;
 use locations::Location;
 use message_parts::Weight;
-use std::alloc::{AllocError, Global};
-use xcm_program::{Instruction, Outcome, OutcomeError};
+use std::alloc::AllocError;
+use xcm_program::{Outcome, OutcomeError};
 
 /// How a run of a program of this weight ended.
 fn outcome(weight: Weight, r: &Registers) -> Outcome
@@ -93,13 +93,12 @@ fn trap_rest<H: Host>(r: Registers, h: &mut H) -> Result<(), AllocError>
 }
 
 /// Tries to refund the surplus, and ignores a refusal.
-fn refund<H: Host>(alloc: Global, r: &mut Registers, h: &mut H) -> Result<(), AllocError>
+fn refund<H: Host>(r: &mut Registers, h: &mut H) -> Result<(), AllocError>
     requires ready { IsReady refund_surplus (machine r.old (H.part h.old)) }
     ensures ok { OnOk result (machine r.new (H.part h.new) ≡ refunded_last xcm (machine r.old (H.part h.old))) }
     ensures err { OnErr result (spills refund_surplus (machine r.old (H.part h.old)) (machine r.new (H.part h.new))) }
 {
-    let mut refund = Instruction::RefundSurplus;
-    match perform(alloc, &mut refund, r, h)? {
+    match refund_surplus(r, h)? {
         Ok(()) | Err(_) => Ok(()),
     }
 }
@@ -115,12 +114,12 @@ fn same(origin: &Option<Location>) -> Option<Location>
 }
 
 /// Refunds what is left of the surplus, tells of the end, and settles the fees.
-fn wind_up<H: Host>(alloc: Global, r: &mut Registers, h: &mut H) -> Result<(), AllocError>
+fn wind_up<H: Host>(r: &mut Registers, h: &mut H) -> Result<(), AllocError>
     requires ready { IsReady refund_surplus (machine r.old (H.part h.old)) }
     ensures ok { OnOk result (machine r.new (H.part h.new) ≡ wound_up (machine r.old (H.part h.old))) }
     ensures err { OnErr result (HaltedBefore (machine r.old (H.part h.old)) (machine r.new (H.part h.new))) }
 {
-    refund(alloc, r, h)?;
+    refund(r, h)?;
     h.event(Event::End {
         origin: same(&r.origin),
         topic: r.topic,
@@ -133,7 +132,6 @@ fn wind_up<H: Host>(alloc: Global, r: &mut Registers, h: &mut H) -> Result<(), A
 
 /// Ends a run of a program of this weight, and tells its outcome.
 pub(crate) fn close<H: Host>(
-    alloc: Global,
     weight: Weight,
     mut r: Registers,
     h: &mut H,
@@ -145,7 +143,7 @@ pub(crate) fn close<H: Host>(
     ensures err { OnErr result (HaltedAtEnd xcm spills (machine r (H.part h.old)) (H.part h.new)) }
 {
     law_of_readiness(); // For the prover alone.
-    match wind_up(alloc, &mut r, h) {
+    match wind_up(&mut r, h) {
         Ok(()) => {
             let ended = outcome(weight, &r);
             trap_rest(r, h)?;

@@ -63,7 +63,7 @@ fn run_admitted<H: Host>(
     let mut registers = start(alloc, rules, origin);
     match run_all(alloc, program, &mut registers, h) {
         Ok(began) => {
-            let outcome = close(alloc, weight, registers, h)?;
+            let outcome = close(weight, registers, h)?;
             Ok((outcome, began))
         }
         Err(fault) => {

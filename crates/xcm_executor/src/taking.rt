@@ -88,7 +88,9 @@ fn take<H: Host>(
     ensures err { OnErr result (Halted xcm spills instruction (machine r.old (H.part h.old)) (machine r.new (H.part h.new))) }
 {
     let number = instruction.index();
-    let error = match perform(alloc, &mut instruction, r, h)? {
+    let answer = perform(alloc, &mut instruction, r, h);
+    drop(instruction);
+    let error = match answer? {
         Ok(()) => None,
         Err(error) => Some(error),
     };
