@@ -72,8 +72,8 @@ fn sent(
 #[test]
 fn assets_leave_for_chains_that_are_trusted(rt: HostRuntime) -> Result<(), Fail> {
     let alloc = rt.alloc();
-    let mut chain = relay(alloc)?;
     let own = list(alloc, here(), 3)?;
+    let mut chain = relay(alloc)?;
     let near = para();
     let distrust = XcmError::UntrustedReserveLocation;
     for (leave, answer) in [
@@ -92,8 +92,8 @@ fn assets_leave_for_chains_that_are_trusted(rt: HostRuntime) -> Result<(), Fail>
 #[test]
 fn a_derivative_leaves_for_its_reserve(rt: HostRuntime) -> Result<(), Fail> {
     let alloc = rt.alloc();
-    let mut chain = relay(alloc)?;
     let foreign = list(alloc, para(), 1)?;
+    let mut chain = relay(alloc)?;
     let near = para();
     let distrust = XcmError::UntrustedTeleportLocation;
     for (leave, answer) in [
@@ -115,8 +115,8 @@ fn a_derivative_leaves_for_its_reserve(rt: HostRuntime) -> Result<(), Fail> {
 #[test]
 fn what_has_no_route_keeps_its_goods(rt: HostRuntime) -> Result<(), Fail> {
     let alloc = rt.alloc();
-    let mut chain = relay(alloc)?;
     let own = list(alloc, here(), 3)?;
+    let mut chain = relay(alloc)?;
     let elsewhere = at(Junction::Parachain(7));
     for leave in [Leave::Transfer, Leave::Deposit] {
         assert!(rt;
@@ -155,8 +155,8 @@ fn report(chain: &mut ChainState) -> Result<u64, HostFault> {
 #[test]
 fn messages_wait_with_what_they_carry(rt: HostRuntime) -> Result<(), Fail> {
     let alloc = rt.alloc();
-    let mut chain = relay(alloc)?;
     let own = list(alloc, here(), 3)?;
+    let mut chain = relay(alloc)?;
     assert!(rt; chain.send(PARA, &nothing(alloc)) == Ok(1));
     assert!(rt; report(&mut chain) == Ok(2));
     assert!(rt; sent(&mut chain, alloc, Leave::Deposit, &own, &para()) == Ok(3));

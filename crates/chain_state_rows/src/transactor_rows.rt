@@ -164,17 +164,17 @@ fn deposits_are_refused_in_order(rt: HostRuntime) -> Result<(), Fail> {
     let elsewhere = at(Junction::GeneralIndex(7));
     let nobody = at(Junction::OnlyChild);
     assert!(rt;
-        deposited(alloc, rows, &mut ledger, instance(elsewhere, 1), &of(A1))?
-            == Some(MoveFault::NotHandled)
+        deposited(alloc, rows, &mut ledger, instance(elsewhere, 1), &of(A1))
+            == Ok(Some(MoveFault::NotHandled))
     );
     assert!(rt;
-        deposited(alloc, rows, &mut ledger, instance(here(), 1), &nobody)?
-            == Some(MoveFault::NoAccount)
+        deposited(alloc, rows, &mut ledger, instance(here(), 1), &nobody)
+            == Ok(Some(MoveFault::NoAccount))
     );
-    assert!(rt; deposited(alloc, rows, &mut ledger, instance(here(), 1), &of(A1))?.is_none());
+    assert!(rt; deposited(alloc, rows, &mut ledger, instance(here(), 1), &of(A1)) == Ok(None));
     assert!(rt;
-        deposited(alloc, rows, &mut ledger, instance(here(), 1), &of(A2))?
-            == Some(MoveFault::Refused)
+        deposited(alloc, rows, &mut ledger, instance(here(), 1), &of(A2))
+            == Ok(Some(MoveFault::Refused))
     );
     assert!(rt; ledger.owner(&AssetId::Concrete(here()), &Instance::Index(1)) == Some(A1));
     Ok(())
@@ -185,9 +185,9 @@ fn assets_move_by_location(rt: HostRuntime) -> Result<(), Fail> {
     let alloc = rt.alloc();
     let rows = rows(alloc)?;
     let rows = rows.as_slice();
-    let mut ledger = opened(alloc)?;
-    assert!(rt; deposited(alloc, rows, &mut ledger, coins(5), &of(A1))?.is_none());
     let three = Assets::one(alloc, coins(3))?;
+    let mut ledger = opened(alloc)?;
+    assert!(rt; deposited(alloc, rows, &mut ledger, coins(5), &of(A1)) == Ok(None));
     let t = FirstThat {
         first: Fungibles { rows, site: &RELAY },
         second: Instances { rows, site: &RELAY },

@@ -123,8 +123,11 @@ fn spells(alloc: Global, name: &str, v: Version, hex: &str) -> Result<bool, Fail
     let mut cursor = Cursor::new(bytes.as_slice());
     let read = read_head(alloc, &mut cursor, v)?;
     let mut out = Out::new(alloc);
-    write_head(&mut out, &read, v)?;
-    Ok(read.name() == name && out.bytes() == bytes.as_slice() && cursor.rest().is_empty())
+    let written = write_head(&mut out, &read, v);
+    let is_named = read.name() == name;
+    drop(read);
+    written?;
+    Ok(is_named && out.bytes() == bytes.as_slice() && cursor.rest().is_empty())
 }
 
 #[test]
@@ -140,56 +143,62 @@ fn each_instruction_has_a_head(rt: HostRuntime) -> Result<(), Fail> {
     Ok(())
 }
 
-/// Whether version 4 reads the hex as the instruction.
-fn says(alloc: Global, hex: &str, instruction: &Instruction) -> Result<bool, Fail> {
+/// The instruction that version 4 reads from the hex.
+fn read(alloc: Global, hex: &str) -> Result<Instruction, Fail> {
     let bytes = unhex(alloc, hex)?;
     let mut cursor = Cursor::new(bytes.as_slice());
-    let read = read_head(alloc, &mut cursor, Version::V4)?;
-    Ok(read == *instruction)
+    Ok(read_head(alloc, &mut cursor, Version::V4)?)
+}
+
+/// Whether both are the same. Both end here, so that each test need not drop them.
+fn are_same(one: Instruction, other: Instruction) -> bool {
+    one == other
 }
 
 #[test]
 fn fields_of_a_channel_request_stand_in_order(rt: HostRuntime) -> Result<(), Fail> {
+    let read = read(rt.alloc(), "07411f011020")?;
     let opened = Instruction::HrmpNewChannelOpenRequest {
         sender: 2000,
         max_message_size: 1024,
         max_capacity: 8,
     };
-    assert!(rt; says(rt.alloc(), "07411f011020", &opened)?);
+    assert!(rt; are_same(read, opened));
     Ok(())
 }
 
 #[test]
 fn fields_of_a_closing_channel_stand_in_order(rt: HostRuntime) -> Result<(), Fail> {
+    let read = read(rt.alloc(), "09411f451f491f")?;
     let closed = Instruction::HrmpChannelClosing {
         initiator: 2000,
         sender: 2001,
         recipient: 2002,
     };
-    assert!(rt; says(rt.alloc(), "09411f451f491f", &closed)?);
+    assert!(rt; are_same(read, closed));
     Ok(())
-}
-
-/// What expects a pallet of the index 5 and version 6.3.
-fn expected_pallet(alloc: Global) -> Result<Instruction, Fail> {
-    Ok(Instruction::ExpectPallet {
-        index: 5,
-        name: BoundedVec::from_vec(vec![in alloc; b'a', b'b']?),
-        module_name: BoundedVec::from_vec(vec![in alloc; b'c']?),
-        crate_major: 6,
-        min_crate_minor: 3,
-    })
 }
 
 #[test]
 fn fields_of_a_pallet_stand_in_order(rt: HostRuntime) -> Result<(), Fail> {
-    let pallet = expected_pallet(rt.alloc())?;
-    assert!(rt; says(rt.alloc(), "22140861620463180c", &pallet)?);
+    let alloc = rt.alloc();
+    let name = vec![in alloc; b'a', b'b']?;
+    let module_name = vec![in alloc; b'c']?;
+    let read = read(alloc, "22140861620463180c")?;
+    let pallet = Instruction::ExpectPallet {
+        index: 5,
+        name: BoundedVec::from_vec(name),
+        module_name: BoundedVec::from_vec(module_name),
+        crate_major: 6,
+        min_crate_minor: 3,
+    };
+    assert!(rt; are_same(read, pallet));
     Ok(())
 }
 
 #[test]
 fn fields_of_an_answer_stand_in_order(rt: HostRuntime) -> Result<(), Fail> {
+    let read = read(rt.alloc(), "031c0309000000a10f910100")?;
     let answer = Instruction::QueryResponse {
         query_id: 7,
         response: Response::Version(9),
@@ -199,7 +208,7 @@ fn fields_of_an_answer_stand_in_order(rt: HostRuntime) -> Result<(), Fail> {
         },
         querier: None,
     };
-    assert!(rt; says(rt.alloc(), "031c0309000000a10f910100", &answer)?);
+    assert!(rt; are_same(read, answer));
     Ok(())
 }
 

@@ -37,29 +37,28 @@ fn trap(alloc: Global, code: u64) -> Result<Program, AllocError> {
 }
 
 /// Whether the instruction has this index and this name.
-fn is_named(instruction: &Instruction, index: u8, name: &str) -> bool {
+fn is_named(instruction: Instruction, index: u8, name: &str) -> bool {
     instruction.index() == index && instruction.name() == name
 }
 
 #[test]
 fn instructions_have_their_indices_and_names(rt: HostRuntime) {
-    assert!(rt; is_named(&Instruction::ClearOrigin, 10, "ClearOrigin"));
-    assert!(rt; is_named(&Instruction::RefundSurplus, 20, "RefundSurplus"));
-    assert!(rt; is_named(&Instruction::UnsubscribeVersion, 27, "UnsubscribeVersion"));
+    assert!(rt; is_named(Instruction::ClearOrigin, 10, "ClearOrigin"));
+    assert!(rt; is_named(Instruction::RefundSurplus, 20, "RefundSurplus"));
+    assert!(rt; is_named(Instruction::UnsubscribeVersion, 27, "UnsubscribeVersion"));
 }
 
 #[test]
 fn instructions_with_fields_have_their_indices_and_names(rt: HostRuntime) {
     let trap = Instruction::Trap { code: 5 };
-    assert!(rt; is_named(&trap, 25, "Trap"));
+    assert!(rt; is_named(trap, 25, "Trap"));
     let topic = Instruction::SetTopic { topic: [7; 32] };
-    assert!(rt; is_named(&topic, 44, "SetTopic"));
+    assert!(rt; is_named(topic, 44, "SetTopic"));
 }
 
-/// A handler of one trap.
-fn handler(alloc: Global, code: u64) -> Result<Instruction, AllocError> {
-    let xcm = trap(alloc, code)?;
-    Ok(Instruction::SetErrorHandler { xcm })
+/// The instruction that sets a handler.
+fn handler(xcm: Program) -> Instruction {
+    Instruction::SetErrorHandler { xcm }
 }
 
 /// Whether a program stands inside, and is one that a run keeps.
@@ -67,32 +66,33 @@ fn has_program(instruction: &Instruction) -> bool {
     inner(instruction).is_some() && kept(instruction).is_some()
 }
 
-/// Whether the instruction is the handler of one trap with this code.
-fn is_handler(alloc: Global, instruction: &Instruction, code: u64) -> Result<bool, AllocError> {
-    let wanted = handler(alloc, code)?;
-    Ok(*instruction == wanted)
-}
-
-#[test]
-fn the_program_inside_is_replaced(rt: HostRuntime) -> Result<(), Fail> {
-    let mut instruction = handler(rt.alloc(), 1)?;
-    assert!(rt; has_program(&instruction));
-    set_program(&mut instruction, trap(rt.alloc(), 2)?);
-    assert!(rt; is_handler(rt.alloc(), &instruction, 2)?);
-    Ok(())
-}
-
 /// Whether no program stands inside.
 fn has_none(instruction: &Instruction) -> bool {
     inner(instruction).is_none() && kept(instruction).is_none()
 }
 
+/// Whether the instruction is another with this program inside. Both end here, so that each test need not drop them.
+fn becomes(mut instruction: Instruction, xcm: Program, other: Instruction) -> bool {
+    set_program(&mut instruction, xcm);
+    instruction == other
+}
+
+#[test]
+fn the_program_inside_is_replaced(rt: HostRuntime) -> Result<(), Fail> {
+    let alloc = rt.alloc();
+    let (one, two) = (trap(alloc, 1)?, trap(alloc, 2)?);
+    let xcm = trap(alloc, 2)?;
+    let first = handler(one);
+    assert!(rt; has_program(&first));
+    assert!(rt; becomes(first, xcm, handler(two)));
+    Ok(())
+}
+
 #[test]
 fn an_instruction_without_a_program_stays(rt: HostRuntime) -> Result<(), Fail> {
-    let mut clear = Instruction::ClearTopic;
-    assert!(rt; has_none(&clear));
-    set_program(&mut clear, trap(rt.alloc(), 1)?);
-    assert!(rt; clear == Instruction::ClearTopic);
+    let xcm = trap(rt.alloc(), 1)?;
+    assert!(rt; has_none(&Instruction::ClearTopic));
+    assert!(rt; becomes(Instruction::ClearTopic, xcm, Instruction::ClearTopic));
     Ok(())
 }
 
