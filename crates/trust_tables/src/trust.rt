@@ -83,7 +83,7 @@ fn any_lies_at(chains: &[ChainId], here: ChainId, l: &Location) -> bool
     chains.iter().any(|chain| lies_at(*chain, here, l))
 }
 
-/// Whether the location is how the chain `here` names the other, which must be another one. It takes no memory.
+/// Whether the location is how the chain `here` names the other; no location is how it names itself. It takes no memory.
 pub fn lies_at(chain: ChainId, here: ChainId, l: &Location) -> bool
     ensures { result ≡ trust.is_location_of here chain l.now }
 {
