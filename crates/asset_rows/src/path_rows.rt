@@ -44,6 +44,15 @@ fn junctions_are_at_most_eight(rt: HostRuntime) -> Result<(), Fail> {
 }
 
 #[test]
+fn what_is_written_behind_the_list_counts_for_nothing(rt: HostRuntime) -> Result<(), Fail> {
+    let mut two = chain(&[POLKADOT, PALLET])?;
+    two.places()[1] = INDEX;
+    two.places()[2] = PARA_2;
+    assert!(rt; two == chain(&[POLKADOT, INDEX])?);
+    Ok(())
+}
+
+#[test]
 fn the_way_back_is_of_the_junctions_above(rt: HostRuntime) -> Result<(), Fail> {
     // the target, seen from a chain right under the root, and the way back
     let context = chain(&[POLKADOT])?;

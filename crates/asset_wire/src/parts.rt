@@ -8,6 +8,8 @@ ghost use Rattle.asset_lists.specs.declared.units.AssetId.TheVariants.{Concrete,
 ghost use Rattle.asset_wire.specs.Blanks.{IsBlank};
 ghost use Rattle.asset_wire.specs.Reading.{asset_id_at, instance_at, amount_at, fun_at, asset_at, assets_at, wild_fun_at, wild_at, filter_at};
 
+// As in location_wire: places and amounts are read in line, bytes and instances aren't.
+
 use crate::{Version, WireFault};
 use asset_lists::{Asset, AssetId, Assets, Filter, Fun, Instance, MAX_ASSETS, Wild, WildFun};
 use location_wire::fill_location;
@@ -16,6 +18,7 @@ use scale_codec::{Cursor, NoSpelling};
 use std::alloc::Global;
 
 /// A place, into an id that has one with no junctions.
+#[inline(always)]
 fn fill_place(c: &mut Cursor<'_>, id: &mut AssetId) -> Result<(), NoSpelling>
     requires { IsBlank id.old }
     ensures { Filled result (made1 location_at Concrete c.old) id.new c.new }
@@ -27,6 +30,7 @@ fn fill_place(c: &mut Cursor<'_>, id: &mut AssetId) -> Result<(), NoSpelling>
 }
 
 /// 32 bytes that name no place.
+#[inline(never)]
 fn fill_bytes(c: &mut Cursor<'_>, id: &mut AssetId) -> Result<(), NoSpelling>
     ensures { Filled result (made1 (take_at 32) Abstract c.old) id.new c.new }
 {
@@ -36,6 +40,7 @@ fn fill_bytes(c: &mut Cursor<'_>, id: &mut AssetId) -> Result<(), NoSpelling>
 
 /// The id as the version spells it, into a blank one.
 #[tactic(auto, unfolding(crate::specs::Reading::asset_id_at))]
+#[inline(always)]
 pub fn fill_asset_id(c: &mut Cursor<'_>, id: &mut AssetId, v: Version) -> Result<(), NoSpelling>
     requires { IsBlank id.old }
     ensures { Filled result (asset_id_at v c.old) id.new c.new }
@@ -69,7 +74,9 @@ pub fn take_asset_id(c: &mut Cursor<'_>, v: Version) -> Result<AssetId, NoSpelli
     Ok(id)
 }
 
+/// Which instance it is, at the front.
 #[tactic(auto, unfolding(crate::specs::Reading::instance_at))]
+#[inline(never)]
 pub fn take_instance(c: &mut Cursor<'_>) -> Result<Instance, NoSpelling>
     ensures { Got result (instance_at c.old) c.new }
 {
@@ -95,26 +102,29 @@ fn take_amount(c: &mut Cursor<'_>) -> Result<u128, NoSpelling>
     Ok(amount)
 }
 
+/// An amount or an instance, into its place.
 #[tactic(auto, unfolding(crate::specs::Reading::fun_at))]
-fn take_fun(c: &mut Cursor<'_>) -> Result<Fun, NoSpelling>
-    ensures { Got result (fun_at c.old) c.new }
+#[inline(always)]
+fn fill_fun(c: &mut Cursor<'_>, fun: &mut Fun) -> Result<(), NoSpelling>
+    ensures { Filled result (fun_at c.old) fun.new c.new }
 {
     match c.u8()? {
-        0 => Ok(Fun::Fungible(take_amount(c)?)),
-        1 => Ok(Fun::NonFungible(take_instance(c)?)),
-        _ => Err(NoSpelling),
+        0 => *fun = Fun::Fungible(take_amount(c)?),
+        1 => *fun = Fun::NonFungible(take_instance(c)?),
+        _ => return Err(NoSpelling),
     }
+    Ok(())
 }
 
 /// The asset as the version spells it, into one with a blank id.
 #[tactic(auto, unfolding(crate::specs::Reading::asset_at))]
+#[inline(always)]
 fn fill_asset(c: &mut Cursor<'_>, asset: &mut Asset, v: Version) -> Result<(), NoSpelling>
     requires { IsBlank asset.old.id }
     ensures { Filled result (asset_at v c.old) asset.new c.new }
 {
     fill_asset_id(c, &mut asset.id, v)?;
-    asset.fun = take_fun(c)?;
-    Ok(())
+    fill_fun(c, &mut asset.fun)
 }
 
 /// An asset to be filled.
@@ -154,6 +164,7 @@ fn take_several(
     Ok(items)
 }
 
+/// The list as the version spells it: at most 20 assets, in order.
 #[tactic(auto, unfolding(crate::specs::Reading::assets_at))]
 pub fn take_assets(alloc: Global, c: &mut Cursor<'_>, v: Version) -> Result<Assets, WireFault>
     ensures { GotOrFails (λ list. list) result (assets_at v c.old) c.new }
@@ -202,6 +213,7 @@ fn take_wild(c: &mut Cursor<'_>, v: Version) -> Result<Wild, NoSpelling>
     }
 }
 
+/// The filter as the version spells it.
 #[tactic(auto, unfolding(crate::specs::Reading::filter_at))]
 pub fn take_filter(alloc: Global, c: &mut Cursor<'_>, v: Version) -> Result<Filter, WireFault>
     ensures { GotOrFails (λ filter. filter) result (filter_at v c.old) c.new }

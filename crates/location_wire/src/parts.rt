@@ -1,15 +1,19 @@
 //! The readers behind the public ones. Where they leave the cursor after a refusal isn't said.
 
 ghost use Rattle.std.specs.Prelude.{◌≡◌, [], ◌≤◌, ◌^◌};
-ghost use Rattle.locations.specs.declared.grammar.Junction.TheVariants.{AccountId32, AccountIndex64, AccountKey20, GeneralKey, Plurality, GlobalConsensus};
+ghost use Rattle.locations.specs.declared.grammar.Junction.TheVariants.{Parachain, AccountId32, AccountIndex64, AccountKey20, PalletInstance, GeneralIndex, GeneralKey, Plurality, GlobalConsensus};
 ghost use Rattle.scale_codec.specs.Reading.{u8_at, below_at, take_at, made1, made2, optional_at, repeated};
 ghost use Rattle.scale_codec.specs.Answers.{Got, Filled};
 ghost use Rattle.location_wire.specs.Reading.{network_at, body_at, part_at, junction_at, junctions_at, location_at};
 
+// What is read most, a few numbers, is compiled into its caller; what is longer and rarer isn't, so that its locals cost nothing there.
+
 use locations::{BodyId, BodyPart, Junction, Junctions, Location, NetworkId};
 use scale_codec::{Cursor, NoSpelling};
 
+/// The network at the front.
 #[tactic(auto, unfolding(crate::specs::Reading::network_at))]
+#[inline(never)]
 pub fn take_network(c: &mut Cursor<'_>) -> Result<NetworkId, NoSpelling>
     ensures { Got result (network_at c.old) c.new }
 {
@@ -97,93 +101,144 @@ fn take_part(c: &mut Cursor<'_>) -> Result<BodyPart, NoSpelling>
     }
 }
 
+/// A parachain.
+fn fill_parachain(c: &mut Cursor<'_>, slot: &mut Junction) -> Result<(), NoSpelling>
+    ensures { Filled result (made1 (below_at (2 ^ 32)) Parachain c.old) slot.new c.new }
+{
+    *slot = Junction::Parachain(c.compact_u32()?);
+    Ok(())
+}
+
 /// An account of 32 bytes, behind its network.
-fn take_account32(c: &mut Cursor<'_>) -> Result<Junction, NoSpelling>
-    ensures { Got result (made2 (optional_at network_at) (take_at 32) AccountId32 c.old) c.new }
+#[inline(never)]
+fn fill_account32(c: &mut Cursor<'_>, slot: &mut Junction) -> Result<(), NoSpelling>
+    ensures { Filled result (made2 (optional_at network_at) (take_at 32) AccountId32 c.old) slot.new c.new }
 {
     let network = take_optional_network(c)?;
     let id = c.take_array()?;
-    Ok(Junction::AccountId32 { network, id })
+    *slot = Junction::AccountId32 { network, id };
+    Ok(())
 }
 
 /// An account by its number, behind its network.
-fn take_account_index(c: &mut Cursor<'_>) -> Result<Junction, NoSpelling>
-    ensures { Got result (made2 (optional_at network_at) (below_at (2 ^ 64)) AccountIndex64 c.old) c.new }
+#[inline(never)]
+fn fill_account_index(c: &mut Cursor<'_>, slot: &mut Junction) -> Result<(), NoSpelling>
+    ensures { Filled result (made2 (optional_at network_at) (below_at (2 ^ 64)) AccountIndex64 c.old) slot.new c.new }
 {
     let network = take_optional_network(c)?;
     let index = c.compact_u64()?;
-    Ok(Junction::AccountIndex64 { network, index })
+    *slot = Junction::AccountIndex64 { network, index };
+    Ok(())
 }
 
 /// An account of 20 bytes, behind its network.
-fn take_account20(c: &mut Cursor<'_>) -> Result<Junction, NoSpelling>
-    ensures { Got result (made2 (optional_at network_at) (take_at 20) AccountKey20 c.old) c.new }
+#[inline(never)]
+fn fill_account20(c: &mut Cursor<'_>, slot: &mut Junction) -> Result<(), NoSpelling>
+    ensures { Filled result (made2 (optional_at network_at) (take_at 20) AccountKey20 c.old) slot.new c.new }
 {
     let network = take_optional_network(c)?;
     let key = c.take_array()?;
-    Ok(Junction::AccountKey20 { network, key })
+    *slot = Junction::AccountKey20 { network, key };
+    Ok(())
+}
+
+/// A pallet by its number.
+fn fill_pallet(c: &mut Cursor<'_>, slot: &mut Junction) -> Result<(), NoSpelling>
+    ensures { Filled result (made1 u8_at PalletInstance c.old) slot.new c.new }
+{
+    *slot = Junction::PalletInstance(c.u8()?);
+    Ok(())
+}
+
+/// An index.
+fn fill_general_index(c: &mut Cursor<'_>, slot: &mut Junction) -> Result<(), NoSpelling>
+    ensures { Filled result (made1 (below_at (2 ^ 128)) GeneralIndex c.old) slot.new c.new }
+{
+    *slot = Junction::GeneralIndex(c.compact_u128()?);
+    Ok(())
 }
 
 /// A key of 32 bytes, behind its length.
-fn take_general_key(c: &mut Cursor<'_>) -> Result<Junction, NoSpelling>
-    ensures { Got result (made2 u8_at (take_at 32) GeneralKey c.old) c.new }
+#[inline(never)]
+fn fill_general_key(c: &mut Cursor<'_>, slot: &mut Junction) -> Result<(), NoSpelling>
+    ensures { Filled result (made2 u8_at (take_at 32) GeneralKey c.old) slot.new c.new }
 {
     let length = c.u8()?;
     let key = c.take_array()?;
-    Ok(Junction::GeneralKey { length, key })
+    *slot = Junction::GeneralKey { length, key };
+    Ok(())
 }
 
 /// A body, and the part of it.
-fn take_plurality(c: &mut Cursor<'_>) -> Result<Junction, NoSpelling>
-    ensures { Got result (made2 body_at part_at Plurality c.old) c.new }
+#[inline(never)]
+fn fill_plurality(c: &mut Cursor<'_>, slot: &mut Junction) -> Result<(), NoSpelling>
+    ensures { Filled result (made2 body_at part_at Plurality c.old) slot.new c.new }
 {
     let id = take_body(c)?;
     let part = take_part(c)?;
-    Ok(Junction::Plurality { id, part })
+    *slot = Junction::Plurality { id, part };
+    Ok(())
 }
 
 /// A network.
-fn take_consensus(c: &mut Cursor<'_>) -> Result<Junction, NoSpelling>
-    ensures { Got result (made1 network_at GlobalConsensus c.old) c.new }
+#[inline(never)]
+fn fill_consensus(c: &mut Cursor<'_>, slot: &mut Junction) -> Result<(), NoSpelling>
+    ensures { Filled result (made1 network_at GlobalConsensus c.old) slot.new c.new }
 {
-    Ok(Junction::GlobalConsensus(take_network(c)?))
+    *slot = Junction::GlobalConsensus(take_network(c)?);
+    Ok(())
 }
 
-/// The junction at the front. A function pays for its locals when it is called, so those with more than a number have one each.
+/// The junction at the front, into its place.
 #[tactic(auto, unfolding(crate::specs::Reading::junction_at))]
-pub fn take_junction(c: &mut Cursor<'_>) -> Result<Junction, NoSpelling>
-    ensures { Got result (junction_at c.old) c.new }
+#[inline(always)]
+fn fill_junction(c: &mut Cursor<'_>, slot: &mut Junction) -> Result<(), NoSpelling>
+    ensures { Filled result (junction_at c.old) slot.new c.new }
 {
     match c.u8()? {
-        0 => Ok(Junction::Parachain(c.compact_u32()?)),
-        1 => take_account32(c),
-        2 => take_account_index(c),
-        3 => take_account20(c),
-        4 => Ok(Junction::PalletInstance(c.u8()?)),
-        5 => Ok(Junction::GeneralIndex(c.compact_u128()?)),
-        6 => take_general_key(c),
-        7 => Ok(Junction::OnlyChild),
-        8 => take_plurality(c),
-        9 => take_consensus(c),
+        0 => fill_parachain(c, slot),
+        1 => fill_account32(c, slot),
+        2 => fill_account_index(c, slot),
+        3 => fill_account20(c, slot),
+        4 => fill_pallet(c, slot),
+        5 => fill_general_index(c, slot),
+        6 => fill_general_key(c, slot),
+        7 => {
+            *slot = Junction::OnlyChild;
+            Ok(())
+        }
+        8 => fill_plurality(c, slot),
+        9 => fill_consensus(c, slot),
         _ => Err(NoSpelling),
     }
 }
 
-/// So many junctions, at most eight, into an empty list.
+/// The junction at the front.
+pub fn take_junction(c: &mut Cursor<'_>) -> Result<Junction, NoSpelling>
+    ensures { Got result (junction_at c.old) c.new }
+{
+    let mut junction = Junction::OnlyChild;
+    fill_junction(c, &mut junction)?;
+    Ok(junction)
+}
+
+/// So many junctions, at most eight, into an empty list. Each is read where it will be.
+#[inline(always)]
 fn fill_several(c: &mut Cursor<'_>, count: u8, junctions: &mut Junctions) -> Result<(), NoSpelling>
     requires few { count ≤ 8 }
     requires empty { junctions.old ≡ [] }
     ensures { Filled result (repeated junction_at count c.old) junctions.new c.new }
 {
-    for _ in 0..count {
-        let junction = take_junction(c)?;
-        junctions.push(junction).unwrap();
+    for i in 0..count {
+        junctions.push(Junction::Parachain(0)).unwrap();
+        fill_junction(c, &mut junctions.places()[i as usize])?;
     }
     Ok(())
 }
 
 /// The junctions behind their number, into an empty list.
 #[tactic(auto, unfolding(crate::specs::Reading::junctions_at))]
+#[inline(always)]
 pub fn fill_junctions(c: &mut Cursor<'_>, junctions: &mut Junctions) -> Result<(), NoSpelling>
     requires { junctions.old ≡ [] }
     ensures { Filled result (junctions_at c.old) junctions.new c.new }
@@ -197,6 +252,7 @@ pub fn fill_junctions(c: &mut Cursor<'_>, junctions: &mut Junctions) -> Result<(
 
 /// The location, into one with no junctions.
 #[tactic(auto, unfolding(crate::specs::Reading::location_at))]
+#[inline(always)]
 pub fn fill_location(c: &mut Cursor<'_>, place: &mut Location) -> Result<(), NoSpelling>
     requires { place.old.interior ≡ [] }
     ensures { Filled result (location_at c.old) place.new c.new }

@@ -6,3 +6,4 @@ pub mod Steps
 pub mod Reanchoring
 pub mod PathLaw
 pub mod Laws
+pub mod Lending

@@ -1,6 +1,8 @@
 //! The list of junctions of a location.
-ghost use Rattle.std.specs.Prelude.{◌≡◌, [], ◌∷◌, ◌++◌, ◌+◌, length, ◌<◌, ◌≤◌, ◌↔◌, IsTrue, IsOk, IfOk, OnOk, OnErr, refl};
+ghost use Rattle.std.specs.Prelude.{◌≡◌, [], ◌∷◌, ◌++◌, ◌+◌, length, take, ◌<◌, ◌≤◌, ◌↔◌, IsTrue, IsOk, IfOk, OnOk, OnErr, refl};
 ghost use Rattle.std.specs.List.{common_prefix_len};
+ghost use Rattle.std.specs.Borrow.{sem};
+ghost use Rattle.locations.specs.Lending.{LendsPlaces};
 ghost use Rattle.locations.specs.Chains;
 ghost use Rattle.locations.specs.Chains.{same_junction};
 ghost use Rattle.std.specs.Cmp.{partial_equiv_from_equiv, eq_by_cmp_equiv, po};
@@ -85,6 +87,15 @@ impl Junctions {
         self.items[self.count] = junction;
         self.count += 1;
         Ok(())
+    }
+
+    /// The places of the junctions, for writing. The list stays as long as it is; what is written behind it counts for nothing.
+    pub fn places(&mut self) -> &mut [Junction; MAX_JUNCTIONS]
+        ensures* writes_back { sem 𝓛 (LendsPlaces self.entry result) }
+        ensures value { take (length self.old) result.now ≡ self.old }
+        ensures bound { length self.old ≤ 8 }
+    {
+        &mut self.items
     }
 
     /// Appends the other junctions, or `Full` where the two are more than eight.

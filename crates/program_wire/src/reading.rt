@@ -63,8 +63,11 @@ fn take_to_depth(
     let mut items = Vec::with_capacity(alloc, count.min(most) as usize)?;
     let mut left = most;
     for _ in 0..count {
+        if left == 0 {
+            return Err(WireFault::NoSpelling);
+        }
         let last = items.len();
-        items.push(Instruction::ClearOrigin)?;
+        items.push_reserved(Instruction::ClearOrigin);
         left = fill_instruction(alloc, c, v, depth - 1, left, &mut items[last])?;
     }
     Ok((Program::from_vec(items), left))

@@ -133,6 +133,15 @@ program_takes v (suc d) b bytes x e =
       depth = omega (arith, t.depth);
     }
 
+-- an instruction is one of those that there might be
+pub one_less : (v : Version) (d b : ℕ) (bytes : List ℕ) (x : Found Instruction) → instruction_at v (program_at v d) b bytes ≡ Some x → x.1.0 + 1 ≤ b
+one_less v d b bytes x e = omega (arith, (instruction_takes v d (program_at v d) (program_takes v d) b bytes x e).count, deep_count_one-is x.0)
+
+-- and there is none where there may be no more
+pub none_left : (v : Version) (nested : Nested) (b : ℕ) (bytes : List ℕ) → b ≡ 0 → instruction_at v nested b bytes ≡ None
+unfolding instruction_at
+none_left v nested b bytes e = rw e refl
+
 -- ---- what is spelled so is read
 
 abbrev Again : Version → ℕ → Nested → Type 0

@@ -1,21 +1,27 @@
-use Rattle.std.proofs.Common.{◌≡◌, [], ◌∷◌, ◌++◌, length-append, arith}
+use Rattle.std.proofs.Common.{◌≡◌, [], ◌∷◌, ◌++◌, length, length-append, take, slice_set, arith}
 use Rattle.std.proofs.lemmas.Result.{err_from_is_err_and}
 use Rattle.scale_codec.specs.Laws.Loops.{goes_on, fails, ends}
+use Rattle.locations.specs.declared.grammar.Junction.TheVariants.{Parachain}
 use Rattle.location_wire.specs.Reading.{junction_at}
+use Rattle.location_wire.proofs.Places.{written_last}
 use Rattle.location_wire.proofs.parts.fill_several.Goals as goal
 
-pub returns-in_err-junction : goal.returns-in_err-junction
-returns-in_err-junction c =
+pub returns-in_err-fill_junction : goal.returns-in_err-fill_junction
+returns-in_err-fill_junction c =
     let p = err_from_is_err_and c.from_residual.result c.from_residual.ensures.1 in
-    rw p.1 (fails junction_at c.loop.junctions c.args.count c.loop.counter c.loop.c _ c.loop-test.true c.in_err-junction.ensures c.loop.invariant.read)
-
-pub loop-preserved : goal.loop-preserved
-loop-preserved c =
-    let pushed : c.push.new.self ≡ c.loop.junctions ++ c.in_ok-junction.junction ∷ [] = rw c.unwrap.ensures at c.push.ensures.ok in
-    record {
-      read = rw pushed (goes_on junction_at c.loop.junctions c.args.count c.loop.counter c.loop.c _ c.in_ok-junction.junction _ c.loop-test.true c.in_ok-junction.ensures c.loop.invariant.read);
-      number = rw pushed (omega (arith, length-append c.loop.junctions (c.in_ok-junction.junction ∷ []), c.loop.invariant.number));
-    }
+    rw p.1 (fails junction_at c.loop-i.junctions c.args.count c.loop-i.i c.loop-i.c _ c.loop-i-test.true c.in_err-fill_junction.ensures c.loop-i.invariant.read)
 
 pub returns : goal.returns
-returns c = ends junction_at c.loop.junctions c.args.count c.loop.counter c.loop.c _ c.loop-test.false c.loop.invariant.read
+returns c = ends junction_at c.loop-i.junctions c.args.count c.loop-i.i c.loop-i.c _ c.loop-i-test.false c.loop-i.invariant.read
+
+pub loop-i-preserved : goal.loop-i-preserved
+loop-i-preserved c =
+    let pushed : c.push.new.self ≡ c.loop-i.junctions ++ Parachain 0 ∷ [] = rw c.unwrap.ensures at c.push.ensures.ok in
+    let slot = c.fill_junction.new.slot in
+    let written : take (length c.push.new.self) (slice_set c.places.result.now c.loop-i.i slot) ≡ c.loop-i.junctions ++ slot ∷ [] =
+    rw (pushed, ← c.loop-i.invariant.number)
+    (written_last c.loop-i.junctions (Parachain 0) slot c.places.result.now (rw pushed at c.places.ensures.value)) in
+    record {
+      read = rw written (goes_on junction_at c.loop-i.junctions c.args.count c.loop-i.i c.loop-i.c _ slot _ c.loop-i-test.true c.in_ok-fill_junction.ensures c.loop-i.invariant.read);
+      number = rw written (omega (arith, length-append c.loop-i.junctions (slot ∷ []), c.loop-i.invariant.number));
+    }

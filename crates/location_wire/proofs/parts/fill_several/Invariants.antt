@@ -4,8 +4,8 @@ use Rattle.scale_codec.specs.Laws.Loops.{with_front}
 use Rattle.location_wire.specs.Reading.{junction_at}
 use Rattle.location_wire.proofs.parts.fill_several.Given as goal
 
-abbrev pub invariant-loop : goal.invariant-loop
-invariant-loop l = record {
-  read : with_front l.junctions (repeated junction_at (l.count - l.counter) l.c) ≡ repeated junction_at l.count l.initial.c;
-  number : length l.junctions ≡ l.counter;
+abbrev pub invariant-loop-i : goal.invariant-loop-i
+invariant-loop-i l = record {
+  read : with_front l.junctions (repeated junction_at (l.count - l.i) l.c) ≡ repeated junction_at l.count l.initial.c;
+  number : length l.junctions ≡ l.i;
 }

@@ -1,4 +1,5 @@
-use Rattle.std.proofs.Common.{◌≡◌, ◌-◌, ◌+◌, ◌*◌}
+use Rattle.std.proofs.Common.{◌≡◌, ◌-◌, ◌+◌, ◌*◌, ◌≤◌, min}
+use Rattle.std.specs.Prelude.{vec_len, vec_capacity}
 use Rattle.scale_codec.specs.Reading.{repeated}
 use Rattle.scale_codec.specs.Laws.Loops.{with_front}
 use Rattle.program_wire.specs.Reading.{instruction_step, program_at}
@@ -11,4 +12,9 @@ abbrev pub decreases-take_to_depth : goal.decreases-take_to_depth
 decreases-take_to_depth l = 2 * l.depth
 
 abbrev pub invariant-take_to_depth-loop : goal.invariant-take_to_depth-loop
-invariant-take_to_depth-loop l = with_front l.items.items (repeated (instruction_step l.v (program_at l.v (l.depth - 1))) (l.count - l.counter) (l.left, l.c)) ≡ program_at l.v l.depth l.most l.fn.c
+invariant-take_to_depth-loop l = record {
+  read : with_front l.items.items (repeated (instruction_step l.v (program_at l.v (l.depth - 1))) (l.count - l.counter) (l.left, l.c)) ≡ program_at l.v l.depth l.most l.fn.c;
+  filled : vec_len l.items ≡ l.counter;
+  spare : l.counter + l.left ≤ l.most;
+  room : vec_capacity l.items ≡ min l.count l.most;
+}
