@@ -10,10 +10,10 @@ ghost use Rattle.asset_bundles.specs.Joins.{IsWithinMost};
 ghost use Rattle.asset_bundles.specs.Taking.{IsTakeFault};
 
 use crate::TakeFault;
-use crate::items::{amounts_fit, copied, held, holds, total};
+use crate::items::{amounts_fit, held, holds, total};
 use crate::portions::{chosen, cut, parted};
 use crate::spending::give_up;
-use asset_lists::{Asset, AssetId, Assets, Filter, Fun, Kind};
+use asset_lists::{Asset, AssetId, Assets, Filter, Fun, Kind, copied};
 use std::alloc::{AllocError, Global};
 use std::marker::Model;
 

@@ -1,5 +1,5 @@
 //! Lists of assets in holding order.
-ghost use Rattle.std.specs.Prelude.{◌≡◌, nat_le, IfOk};
+ghost use Rattle.std.specs.Prelude.{◌≡◌, nat_le};
 ghost use Rattle.std.specs.List.{list_all};
 ghost use Rattle.std.specs.Ordering.{eq_by_cmp};
 ghost use Rattle.amounts.specs.Rows.{sum_where};
@@ -10,7 +10,6 @@ ghost use Rattle.asset_bundles.specs.Bundles.{rows_of, found, is_asset, bundle_o
 ghost use Rattle.asset_bundles.specs.Portions.{AreWithinMost};
 
 use asset_lists::{Asset, AssetId, Fun, Kind};
-use std::alloc::{AllocError, Global};
 
 /// For the prover alone: no amount is above the most of its type. Nothing is done.
 pub(crate) fn amounts_fit(items: &[Asset])
@@ -69,17 +68,6 @@ fn count(items: &[Asset], class: &AssetId) -> usize
         }
     }
     number
-}
-
-/// The same assets.
-pub(crate) fn copied(alloc: Global, items: &[Asset]) -> Result<Vec<Asset>, AllocError>
-    ensures { IfOk result (λ copies. copies.items ≡ items.now) }
-{
-    let mut copies = Vec::with_capacity(alloc, items.len())?;
-    for item in items {
-        copies.push_reserved(item.copy());
-    }
-    Ok(copies)
 }
 
 /// The amount of a fungible asset, or the number of instances of a class.

@@ -7,8 +7,8 @@ ghost use Rattle.asset_bundles.specs.Joins.{IsListOf};
 ghost use Rattle.asset_bundles.specs.Filters.{is_fun, is_all_of, Taken, Left};
 ghost use Rattle.asset_bundles.specs.Portions.{asset_with, kept, changed, left_of, common_with, wanted_wild, count_wild, at_most, chosen, IsListed};
 
-use crate::items::{copied, held};
-use asset_lists::{Asset, AssetId, Filter, Fun, Wild, WildFun};
+use crate::items::held;
+use asset_lists::{Asset, AssetId, Filter, Fun, Wild, WildFun, copied};
 use std::alloc::{AllocError, Global};
 
 /// The same asset with this amount; an instance stays as it is.

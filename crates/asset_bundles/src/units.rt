@@ -4,8 +4,8 @@ ghost use Rattle.amounts.specs.Amounts.{total};
 ghost use Rattle.asset_bundles.specs.Bundles.{bundle_of, held_assets, is_asset};
 
 use crate::AssetBundle;
-use crate::items::{are_same, copied, total};
-use asset_lists::{Asset, AssetId, Assets, Kind};
+use crate::items::{are_same, total};
+use asset_lists::{Asset, AssetId, Assets, Kind, copied};
 use std::alloc::AllocError;
 use std::marker::Model;
 

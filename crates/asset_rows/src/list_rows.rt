@@ -3,7 +3,8 @@ ghost use Rattle.std.specs.Prelude.{◌≤◌, length};
 
 use asset_lists::{
     Asset, AssetId, Assets, Filter, Fun, Instance, Kind, ListFault, ReanchorFault, Wild, WildFun,
-    law_of_insertion, law_of_lists, law_of_order, law_of_reanchored_lists, law_of_rising,
+    copied, is_rising, law_of_insertion, law_of_lists, law_of_order, law_of_reanchored_lists,
+    law_of_rising,
 };
 use locations::{Junction, Junctions, Location, NetworkId};
 use std::alloc::{AllocError, Global};
@@ -69,6 +70,8 @@ fn a_sorted_list_is_taken(rt: HostRuntime) -> Result<(), Fail> {
     let list = Assets::from_sorted(five(rt.alloc())?)?;
     assert!(rt; list.items().len() == 5);
     assert!(rt; list.copy()? == list);
+    assert!(rt; is_rising(list.items()));
+    assert!(rt; Assets::from_sorted(copied(rt.alloc(), list.items())?)? == list);
     Ok(())
 }
 

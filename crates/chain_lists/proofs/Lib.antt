@@ -1,6 +1,5 @@
 pub mod Queries
 pub mod Rows
 pub mod NamedLists
-pub mod Rising
 pub mod Listings
 pub mod CheckingRows

@@ -1,10 +1,9 @@
 //! Lists as another chain names them.
 ghost use Rattle.std.specs.Prelude.{◌≡◌, None, Some, MatchOption, IfOk};
-ghost use Rattle.asset_lists.specs.Lists.{is_rising};
 ghost use Rattle.asset_lists.specs.Moves.{all_moved, reanchored_list};
 ghost use Rattle.trust_tables.specs.Chains as chains;
 
-use asset_lists::Asset;
+use asset_lists::{Asset, is_rising};
 use chain_ids::ChainId;
 use locations::{Junctions, Location};
 use std::alloc::{AllocError, Global};
@@ -42,18 +41,6 @@ fn all_moved(
     Ok(Some(all))
 }
 
-/// Whether each unit stands before the next.
-fn is_rising(list: &[Asset]) -> bool
-    ensures { result ≡ is_rising list.now }
-{
-    for i in 1..list.len() {
-        if !list[i - 1].unit_cmp(&list[i]).is_lt() {
-            return false;
-        }
-    }
-    true
-}
-
 /// The list as the target names it, in its order; none where it can't name an asset, or where two become the same.
 pub fn named(
     alloc: Global,
@@ -73,15 +60,4 @@ pub fn named(
         return Ok(Some(all));
     }
     Ok(None)
-}
-
-/// The same assets.
-pub fn copied(alloc: Global, list: &[Asset]) -> Result<Vec<Asset>, AllocError>
-    ensures { IfOk result (λ copy. copy.items ≡ list.now) }
-{
-    let mut items = Vec::with_capacity(alloc, list.len())?;
-    for asset in list {
-        items.push(asset.copy())?;
-    }
-    Ok(items)
 }
