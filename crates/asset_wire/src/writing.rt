@@ -11,6 +11,7 @@ use location_wire::put_location;
 use scale_codec::{Draft, Out};
 use std::alloc::AllocError;
 
+/// Appends the id as the version spells it. Version 4 has no ids of bytes.
 pub fn put_asset_id(o: &mut Draft, id: &AssetId, v: Version) -> Result<(), AllocError>
     requires { IsNamed v id.now }
     ensures { Puts (asset_id v) (FitsId v) id.now result o.old o.new }
@@ -29,6 +30,7 @@ pub fn put_asset_id(o: &mut Draft, id: &AssetId, v: Version) -> Result<(), Alloc
     }
 }
 
+/// Appends which instance it is.
 pub fn put_instance(o: &mut Draft, which: &Instance) -> Result<(), AllocError>
     ensures { Puts instance FitsInstance which.now result o.old o.new }
 {
@@ -73,6 +75,7 @@ fn put_fun(o: &mut Draft, a: &Fun) -> Result<(), AllocError>
     }
 }
 
+/// Appends the asset as the version spells it.
 #[tactic(auto, unfolding(crate::specs::Spelling::asset))]
 pub fn put_asset(o: &mut Draft, a: &Asset, v: Version) -> Result<(), AllocError>
     requires { IsWritableAsset v a.now }
@@ -82,6 +85,7 @@ pub fn put_asset(o: &mut Draft, a: &Asset, v: Version) -> Result<(), AllocError>
     put_fun(o, &a.fun)
 }
 
+/// Appends the list as the version spells it.
 pub fn put_assets(o: &mut Draft, list: &Assets, v: Version) -> Result<(), AllocError>
     requires { AreNamed v list.now }
     ensures { Puts (assets v) (FitsAssets v) list.now result o.old o.new }
@@ -127,6 +131,7 @@ fn put_wild(o: &mut Draft, which: &Wild, v: Version) -> Result<(), AllocError>
     }
 }
 
+/// Appends the filter as the version spells it.
 pub fn put_filter(o: &mut Draft, which: &Filter, v: Version) -> Result<(), AllocError>
     requires { IsFilterNamed v which.now }
     ensures { Puts (filter v) (FitsFilter v) which.now result o.old o.new }

@@ -17,7 +17,7 @@ fn said(alloc: Global, document: &str) -> Result<String, Fail> {
 }
 
 /// Asserts what is said of each network.
-pub fn all_are(rt: &impl Abort, alloc: Global, rows: &[(&str, &str)]) -> Result<(), Fail> {
+pub(crate) fn all_are(rt: &impl Abort, alloc: Global, rows: &[(&str, &str)]) -> Result<(), Fail> {
     for (document, expected) in rows {
         let text = said(alloc, document)?;
         assert_eq!(rt; text.as_str(), *expected, "{document}");

@@ -38,7 +38,7 @@ use Rattle.exec_base.specs.declared.event.Part.TheVariants.{Appendix}
 use Rattle.exec_base.specs.declared.registers.Registers.{Registers}
 use Rattle.exec_base.specs.Part.{ChainPart, Taken}
 use Rattle.exec_base.specs.Sending as sending_to
-use Rattle.exec_base.specs.Sending.{sent, deposit_program, away_program, listed_program}
+use Rattle.exec_base.specs.Sending.{sent, deposit_program, listed_program}
 use Rattle.exec_base.specs.Host.{withdrawn, received, deposited, transferred, transferred_out, deposited_out, raised_for, shipped, seen_from, querier_seen, report_program, responded, answered, is_query, bought, refunded, joined, booked, burnt, is_trap, claimed, trapped, settled, fee_to, fee_held, fee_kept, fee_drawn, fee_taken, parked, told, Arrival, ByWithdrawal, arrival_of, cargo_after, is_cargo}
 use Rattle.exec_run.specs.Machine.{Machine, machine, Performed}
 use Rattle.exec_run.specs.Run.{Stage, At, Ended, begin, to_appendix, to_handler, go_on, failed, without_handler, without_appendix, handler_dropped, traced, by_answer, next, steps, machine_of, left_after, still_to_run, StoppedIn}

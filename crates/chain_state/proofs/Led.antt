@@ -18,7 +18,7 @@ use Rattle.channel_parts.specs.Channels.{Outgoing, with_waiting}
 use Rattle.versioned_xcm.specs.Reading.{message_of}
 use Rattle.chain_queues.specs.Decoded.{decodes, program_read}
 use Rattle.chain_queues.specs.Queues as queues
-use Rattle.chain_queues.specs.Queues.{outgoing_of, is_spelled_for, push_refusal, pushed}
+use Rattle.chain_queues.specs.Queues.{is_spelled_for, push_refusal, pushed}
 use Rattle.exec_base.specs.declared.event.Event.{Event}
 use Rattle.exec_base.specs.Part.{ChainPart}
 use Rattle.exec_base.specs.Sending.{leads_to, channel_to, number_to, sent_event, sent}

@@ -2,7 +2,7 @@
 use Rattle.std.proofs.Common.{◌≡◌, ℕ, Bool, true, false, List, [], ◌∷◌, refl, sym, ap, ◌∙◌, subst}
 use Rattle.std.specs.Prelude.{Option, None, Some, Result, Ok, Err, IfOk, is_some}
 use Rattle.std.specs.List.{list_all}
-use Rattle.std.proofs.lemmas.Bool.{and_parts, and_from}
+use Rattle.std.proofs.lemmas.Bool.{and_from}
 use Rattle.locations.specs.declared.relative.Location.{Location}
 use Rattle.message_parts.specs.declared.error.XcmError.{XcmError}
 use Rattle.message_parts.specs.declared.error.XcmError.TheVariants as error
@@ -17,11 +17,10 @@ use Rattle.trust_tables.specs.Accounts.{account_of}
 use Rattle.trust_tables.specs.Trust.{row_of, listing}
 use Rattle.trust_tables.specs.TrustLaws.{listing_says}
 use Rattle.exec_base.specs.declared.faults.HostFault.{HostFault}
-use Rattle.exec_base.specs.declared.faults.HostFault.TheVariants.{Xcm, Memory}
 use Rattle.exec_base.specs.Answers.{Answers}
 use Rattle.exec_base.specs.Part.{ChainPart}
 use Rattle.exec_base.specs.Sending.{unless, or_else}
-use Rattle.exec_base.specs.Host.{first_fault, give_fault, with_account, withdraw_refusal, withdrawn}
+use Rattle.exec_base.specs.Host.{first_fault, give_fault, withdraw_refusal, withdrawn}
 
 passes : (b : Bool) (e : XcmError) (next : Option XcmError) → unless b e next ≡ None → b ≡ true
 passes true e next h = refl

@@ -1,6 +1,6 @@
 -- The relay chain, as the network opens.
-use Rattle.std.proofs.Common.{◌≡◌, Bool, true, false, if◌then◌else◌, List, [], ◌∷◌, refl, ap, ◌∙◌}
-use Rattle.std.specs.Prelude.{Option, None, Some, IsSomeAnd}
+use Rattle.std.proofs.Common.{◌≡◌, true, false, if◌then◌else◌, List, [], ◌∷◌, refl, ap, ◌∙◌}
+use Rattle.std.specs.Prelude.{Some, IsSomeAnd}
 use Rattle.std.specs.List.{find}
 use Rattle.chain_ids.specs.declared.chain.ChainId.TheVariants.{Relay}
 use Rattle.chain_ids.specs.Chains.{same_chain}

@@ -1,5 +1,5 @@
 -- A report of nothing can be sent.
-use Rattle.std.proofs.Common.{◌≡◌, ◌+◌, ◌&&◌, true, List, [], ◌∷◌, refl, sym, ap, ◌∙◌, subst, arith}
+use Rattle.std.proofs.Common.{◌≡◌, ◌+◌, ◌&&◌, true, [], sym, ap, ◌∙◌, subst, arith}
 use Rattle.std.specs.Prelude.{None}
 use Rattle.message_parts.specs.declared.query.QueryInfo.{QueryInfo}
 use Rattle.message_parts.specs.declared.query.Response.{Response}

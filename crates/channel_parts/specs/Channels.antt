@@ -2,7 +2,6 @@
 use Rattle.std.specs.Prelude.{ℕ, ◌+◌, ◌-◌, ◌^◌, min, List, [], ◌∷◌, ◌++◌}
 use Rattle.asset_bundles.specs.Bundles.{Bundle}
 use Rattle.asset_bundles.specs.declared.shipment.Way.{Way}
-use Rattle.asset_bundles.specs.declared.shipment.Shipment.{Shipment}
 use Rattle.xcm_program.specs.declared.instruction.Instruction.{Instruction}
 use Rattle.channel_parts.specs.declared.cargo.Cargo.{Cargo}
 use Rattle.channel_parts.specs.declared.channel.Channel.{Channel}

@@ -31,7 +31,6 @@ use Rattle.channel_parts.specs.Channels.{Outgoing, opened}
 use Rattle.exec_base.specs.Host.{is_price}
 use Rattle.coherence.specs.Causes.{ChainEntry, checking_in}
 use Rattle.conservation.specs.Parts as sums
-use Rattle.conservation.specs.Parts.{Part, World}
 use Rattle.conservation.specs.Genesis as genesis
 use Rattle.network_spec.specs.declared.chain.ChainSpec.{ChainSpec}
 use Rattle.network_spec.specs.declared.network.ChannelSpec.{ChannelSpec}

@@ -22,11 +22,11 @@ use Rattle.trust_tables.specs.Accounts.{IsChain}
 use Rattle.trust_tables.specs.Trust.{listing}
 use Rattle.coherence.specs.UniversalAssets.{UniversalAsset, every, just, is_unit_at}
 use Rattle.coherence.specs.Networks.{Table, context_of, IsIn, path_of_row, IsNetwork, Agrees, is_home}
-use Rattle.coherence.specs.Causes.{ChainEntry, amount_at, checking_in, table_cause, first_cause}
+use Rattle.coherence.specs.Causes.{ChainEntry, amount_at, checking_in, table_cause}
 use Rattle.coherence.specs.Causes as causes
 use Rattle.coherence.specs.CauseLaws.{or_none, agrees_of_no_cause}
 use Rattle.conservation.specs.Parts as sums
-use Rattle.conservation.specs.Parts.{Part, World, stock, burned, flight, own, home, supply, population, Backed, in_channels, teleported}
+use Rattle.conservation.specs.Parts.{World, stock, burned, own, home, supply, population, Backed, in_channels, teleported}
 use Rattle.conservation.specs.Checking.{AllChecked, AllLow}
 use Rattle.conservation.specs.Steps.{tables_of}
 use Rattle.conservation.specs.Genesis as genesis

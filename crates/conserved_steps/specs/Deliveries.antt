@@ -34,7 +34,7 @@ use Rattle.channel_parts.specs.Channels.{Waiting, Outgoing}
 use Rattle.chain_queues.specs.Queues.{leads_to, channel_to, oldest, first_of, without_oldest, popped}
 use Rattle.exec_base.specs.Part.{ChainPart, book_of}
 use Rattle.network_steps.specs.Worlds as networks
-use Rattle.network_steps.specs.Worlds.{Member, with_part}
+use Rattle.network_steps.specs.Worlds.{Member}
 use Rattle.exec_run.specs.Machine.{Machine}
 use Rattle.network_steps.specs.Acting.{lost_by, lost_of, booking_lost}
 use Rattle.network_steps.specs.Steps.{without_message}

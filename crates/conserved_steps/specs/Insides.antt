@@ -21,7 +21,7 @@ use Rattle.exec_admission.specs.declared.admission.Admitted.{Admitted}
 use Rattle.exec_admission.specs.Admission.{admitted}
 use Rattle.exec_admission.specs.Execution.{first_machine, first_stage, last_machine, AbandonedIn, IsAbandoned}
 use Rattle.network_steps.specs.Worlds as networks
-use Rattle.network_steps.specs.Worlds.{Member, chain_of}
+use Rattle.network_steps.specs.Worlds.{chain_of}
 use Rattle.network_steps.specs.Acting.{begun, caller}
 use Rattle.network_steps.specs.Steps.{name_at, Link, Step, worlds}
 use Rattle.channel_parts.specs.declared.cargo.Cargo.TheVariants as cargos

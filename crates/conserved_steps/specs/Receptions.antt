@@ -68,7 +68,7 @@ use Rattle.conservation.specs.Histories.{History, Two}
 use Rattle.conserved_runs.specs.Views.{table_of, cargo_of, channel_of, seen, view}
 use Rattle.conserved_runs.specs.Sums.{kept_of, in_kept, in_places, burned_where, Sum, sum_of, none, with, nobody, only, Call, HasRoom}
 use Rattle.conserved_runs.specs.Calls.{call_then, call_with, room_kept, below, receiving, joining, withdrawing, claiming, answering, no_shortage, parking_goods}
-use Rattle.conserved_runs.specs.Safety.{AreLists, HasFee, AreTrustedAt, AreTrusted, links_of, hold, Safely, moved_safely, safely_then, same_table}
+use Rattle.conserved_runs.specs.Safety.{AreLists, HasFee, AreTrustedAt, links_of, hold, Safely, moved_safely, safely_then, same_table}
 use Rattle.conserved_runs.specs.Safety as runs
 use Rattle.conserved_runs.specs.Turns.{more_call}
 use Rattle.conserved_runs.specs.Shipping.{HasList-IsOfLayer, each_unit, reserves_hold, partners_hold}

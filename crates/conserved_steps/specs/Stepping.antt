@@ -33,7 +33,7 @@ use Rattle.exec_admission.specs.Admission.{admitted}
 use Rattle.exec_admission.specs.Execution.{first_stage, executed_by, executed, IsAbandoned}
 use Rattle.network_steps.specs.declared.step_result.StepResult.{StepResult}
 use Rattle.network_steps.specs.Worlds as networks
-use Rattle.network_steps.specs.Worlds.{Member, chain_of, place_of, with_part, Stepped, unchanged}
+use Rattle.network_steps.specs.Worlds.{Member, chain_of, place_of, with_part, unchanged}
 use Rattle.network_steps.specs.Acting.{begun, ended, acted, caller}
 use Rattle.network_steps.specs.Steps.{is_sovereign, exec_by, exec_at, exec, nowhere, name_at, run_for, sender_after, receiver_after, delivered, delivery_of, deliver, is_claim, posted, posting, claim_by, claim_on, claim, Link, next_channel, deliveries, world_behind, Step, Exec, Deliver, Claim, Drain, Balances, Traps, Queues, Supply, after, worlds}
 use Rattle.network_steps.specs.Sends.{deliveries_left}
@@ -41,7 +41,7 @@ use Rattle.message_shapes.specs.Shapes.{IsShaped, AreShapedIn, AreShapedAt, AllS
 use Rattle.message_shapes.specs.StepLaws.{between_says, set_read}
 use Rattle.coherence.specs.UniversalAssets.{UniversalAsset, just}
 use Rattle.coherence.specs.Networks.{asset_of_row, Agrees}
-use Rattle.conservation.specs.Parts.{Cargo, Nothing, Part, World, stock, account_amount, burned, supply}
+use Rattle.conservation.specs.Parts.{Cargo, Nothing, World, stock, account_amount, burned}
 use Rattle.conservation.specs.Parts as sums
 use Rattle.conservation.specs.Channels as queues
 use Rattle.conservation.specs.Steps.{tables_of, table_at, IsSafe}

@@ -1,5 +1,5 @@
 -- Two fields that are both there.
-use Rattle.std.proofs.Common.{◌≡◌, ◌∙◌, ℕ, List, ap, sym, refl, Option, Some, None, Result, Ok, Err}
+use Rattle.std.proofs.Common.{◌≡◌, ◌∙◌, ℕ, List, ap, refl, Some, Result, Ok, Err}
 use Rattle.serde_json.specs.Data.{Data}
 use Rattle.serde_json.specs.Find.{get}
 use Rattle.document_forms.specs.declared.fault.NetworkFault.{NetworkFault}
@@ -8,7 +8,7 @@ use Rattle.document_forms.specs.declared.stop.Stop.{Stop}
 use Rattle.document_forms.specs.declared.stop.Stop.TheVariants.{Fault, Memory}
 use Rattle.document_forms.specs.Answers.{Stops}
 use Rattle.document_forms.specs.Forms.{Form, ◌>>=◌}
-use Rattle.document_entries.specs.Entries.{both_fault, one_of, either, made}
+use Rattle.document_entries.specs.Entries.{both_fault, either, made}
 use Rattle.document_entries.specs.Alternatives.{Refuses}
 
 both_made : {X Y Z : Type 0} (place : Place) (f : X → Z) (g : Y → Z) (r : Result X NetworkFault) (s : Result Y NetworkFault)

@@ -1,7 +1,6 @@
 -- The location that a text is of: the function that computes it finds it, and finds no other.
-use Rattle.std.proofs.Common.{◌≡◌, ◌∙◌, ℕ, ◌+◌, ◌-◌, ◌<◌, ◌≤◌, ◌^◌, List, [], ◌∷◌, ◌++◌, length, take, drop, map, Bool, true, false, ◌&&◌, cond, not, eqb, Option, Some, None, refl, ap, sym, subst, arith, length-append, rules, codes}
+use Rattle.std.proofs.Common.{◌≡◌, ◌∙◌, ℕ, ◌+◌, ◌-◌, ◌<◌, ◌≤◌, ◌^◌, List, [], ◌∷◌, ◌++◌, length, drop, map, Bool, true, false, ◌&&◌, cond, eqb, Option, Some, None, refl, ap, sym, subst, arith, length-append, rules, codes}
 use Rattle.std.specs.Prelude.{bytes_eq, nat_lt, nat_le, decimal}
-use Rattle.std.specs.Option.{option_and_then}
 use Rattle.std.specs.Result.{result_ok}
 use Rattle.std.specs.List.{AllByRecursion, list_all, slice_split, find}
 use Rattle.std.specs.Str.Parse.{digits_value}
@@ -11,20 +10,18 @@ use Rattle.std.proofs.lemmas.Slice.Eq.{bytes_eq-Decides}
 use Rattle.std.proofs.lemmas.List.{append-nil}
 use Rattle.std.proofs.lemmas.Fmt.{decimal_is_IsNumeral_wide}
 use Rattle.std.proofs.Math.Seq.{take-append_seam, drop-append_seam}
-use Rattle.hex.specs.Hex.{encode_lower, decode_of}
-use Rattle.locations.specs.declared.grammar.NetworkId.{NetworkId}
+use Rattle.hex.specs.Hex.{encode_lower}
 use Rattle.locations.specs.declared.grammar.NetworkId.TheVariants.{ByGenesis, ByFork, Polkadot, Kusama, Westend, Rococo, Wococo, Ethereum, BitcoinCore, BitcoinCash}
 use Rattle.locations.specs.declared.grammar.Junction.{Junction}
 use Rattle.locations.specs.declared.grammar.Junction.TheVariants.{Parachain, AccountId32, AccountIndex64, AccountKey20, PalletInstance, GeneralIndex, GeneralKey, OnlyChild, Plurality, GlobalConsensus}
 use Rattle.locations.specs.declared.relative.Location.{Location}
-use Rattle.locations.specs.Chains.{same_junction}
 use Rattle.locations.specs.OrderLaws.{junction_decides}
 use Rattle.location_wire.specs.Spelling.{junction, FitsJunction}
 use Rattle.location_wire.specs.Reading.{junction_at}
 use Rattle.location_wire.specs.Laws.FieldLaws.{junction_reads}
-use Rattle.location_wire.specs.Texts.{hex_text, junction_text, location_text, IsJunction, IsLocation, IsTextOf}
-use Rattle.document_entries.specs.LocationTexts.{inside, number_inside, bytes_or_none, hex_bytes, spelled_one, candidates, is_again, is_junction, junction_of, with_first, before, junctions_of, placed, location_of_parts, is_text_of, where_text, location_of}
-use Rattle.document_entries.proofs.Slashes.{AreBytes, decode_spelled, location_parts}
+use Rattle.location_wire.specs.Texts.{hex_text, junction_text, location_text, IsJunction, IsTextOf}
+use Rattle.document_entries.specs.LocationTexts.{inside, number_inside, bytes_or_none, hex_bytes, spelled_one, candidates, is_again, is_junction, junction_of, before, junctions_of, placed, location_of_parts, is_text_of, where_text, location_of}
+use Rattle.document_entries.proofs.Slashes.{decode_spelled, location_parts}
 
 -- ---- the first of a list that passes
 

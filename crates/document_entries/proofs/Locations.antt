@@ -1,5 +1,5 @@
 -- A location of a document, as its text is read.
-use Rattle.std.proofs.Common.{◌≡◌, ◌∙◌, ℕ, List, ap, refl, Option, Some, None, Result, Ok, Err}
+use Rattle.std.proofs.Common.{◌≡◌, ℕ, List, refl, Some, None, Ok, Err}
 use Rattle.serde_json.specs.Data.{Data}
 use Rattle.locations.specs.declared.relative.Location.{Location}
 use Rattle.document_forms.specs.declared.fault.NetworkFault.TheVariants.{BadValue}

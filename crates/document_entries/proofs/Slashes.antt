@@ -1,33 +1,22 @@
 -- The parts of a location's text between its slashes.
-use Rattle.std.proofs.Common.{◌≡◌, ℕ, zero, suc, ◌+◌, ◌*◌, ◌/◌, ◌%◌, ◌^◌, ◌<◌, ◌≤◌, Bool, true, false, cond, not, eqb, ltb, List, [], ◌∷◌, ◌++◌, length, get_or, map, Option, Some, None, ◌⊎◌, inl, inr, Result, Ok, Err, refl, take, drop, lit<, sym, ap, subst, ◌∙◌, append_assoc, arith}
-use Rattle.std.specs.Prelude.{codes, IfSome}
-use Rattle.std.specs.Option.{MatchOption, option_map}
-use Rattle.std.specs.Result.{result_ok}
+use Rattle.std.proofs.Common.{◌≡◌, ℕ, zero, suc, ◌+◌, ◌/◌, ◌%◌, ◌^◌, ◌<◌, true, false, not, eqb, List, [], ◌∷◌, ◌++◌, get_or, map, Some, None, Ok, refl, lit<, sym, ap, ◌∙◌, arith}
+use Rattle.std.specs.Prelude.{codes}
 use Rattle.std.specs.List.{AllByRecursion, slice_split}
 use Rattle.std.specs.Fmt.{decimal}
-use Rattle.std.specs.Str.Parse.{ParsesUnsigned, digits_value}
-use Rattle.std.specs.Borrow.{Bor}
-use Rattle.std.proofs.lemmas.Bool.{and_parts, and_from, ne_eqb, eqb-false}
-use Rattle.std.proofs.lemmas.List.{append-nil, append_cancel_right}
+use Rattle.std.proofs.lemmas.Bool.{and_parts, and_from, ne_eqb}
+use Rattle.std.proofs.lemmas.List.{append-nil}
 use Rattle.std.proofs.lemmas.List.Elements.{All-from_recursion}
 use Rattle.std.proofs.lemmas.List.Splits.{slice_split_at, slice_split_none}
-use Rattle.std.proofs.lemmas.Fmt.{decimal_by_steps_wide, decimal_is_IsNumeral_wide, parse-decimal_wide}
-use Rattle.hex.specs.Hex.{encode_lower, encode_with, lower_digits, hex_digit_value, IsBytes, decode_of, decode_sized}
-use Rattle.hex.proofs.HexLemmas.{IsDigits-lower_digits, length-encode_with, decode_of-encode_lower, decode_of-ok, decode_sized-ok, decode_sized-twice}
-use Rattle.std.proofs.lemmas.Str.Pattern.{IsSplitOnceResult, split_after}
-use Rattle.scale_codec.specs.declared.faults.NoSpelling.{NoSpelling}
-use Rattle.scale_codec.specs.Spelling.{fixed, size, long, compact, joined}
-use Rattle.scale_codec.specs.Answers.{Got}
-use Rattle.scale_codec.specs.Laws.Steps.{same_some}
-use Rattle.locations.specs.declared.grammar.NetworkId.{NetworkId}
+use Rattle.std.proofs.lemmas.Fmt.{decimal_by_steps_wide}
+use Rattle.hex.specs.Hex.{encode_lower, encode_with, lower_digits, hex_digit_value, IsBytes, decode_of}
+use Rattle.hex.proofs.HexLemmas.{IsDigits-lower_digits, decode_of-encode_lower}
+use Rattle.scale_codec.specs.Spelling.{joined}
 use Rattle.locations.specs.declared.grammar.NetworkId.TheVariants.{ByGenesis, ByFork, Polkadot, Kusama, Westend, Rococo, Wococo, Ethereum, BitcoinCore, BitcoinCash}
 use Rattle.locations.specs.declared.grammar.Junction.{Junction}
 use Rattle.locations.specs.declared.grammar.Junction.TheVariants.{Parachain, AccountId32, AccountIndex64, AccountKey20, PalletInstance, GeneralIndex, GeneralKey, OnlyChild, Plurality, GlobalConsensus}
-use Rattle.location_wire.specs.Spelling.{junction, FitsJunction}
-use Rattle.location_wire.specs.Reading.{junction_at}
-use Rattle.location_wire.specs.Laws.FieldLaws.{junction_reads}
+use Rattle.location_wire.specs.Spelling.{junction}
 use Rattle.locations.specs.declared.relative.Location.{Location}
-use Rattle.location_wire.specs.Texts.{hex_text, network_name, named, shown, junction_text, step_text, location_text, lacks, IsJunction, IsLocation, IsTextOf}
+use Rattle.location_wire.specs.Texts.{hex_text, shown, junction_text, step_text, location_text, lacks, IsJunction, IsLocation}
 
 -- ---- bytes that a text lacks
 

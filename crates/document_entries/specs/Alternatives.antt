@@ -1,9 +1,8 @@
 -- What a reader of two alternative fields answers where both are there.
-use Rattle.std.specs.Prelude.{◌≡◌, ⊤, Result, Ok, Err}
+use Rattle.std.specs.Prelude.{◌≡◌, ⊤, Result}
 use Rattle.document_forms.specs.declared.fault.NetworkFault.{NetworkFault}
 use Rattle.document_forms.specs.declared.stop.Stop.{Stop}
 use Rattle.document_forms.specs.declared.stop.Stop.TheVariants.{Fault, Memory}
-use Rattle.document_forms.specs.Answers.{Answers}
 use Rattle.document_entries.specs.Entries.{refused_for, is_wrong_kind, is_limit_passed}
 use Rattle.document_entries.specs.declared.alternatives.Causes.{Causes}
 

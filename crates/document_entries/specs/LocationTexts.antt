@@ -1,7 +1,6 @@
 -- The location that a text is of, as a function that computes: what each part between the slashes may be of, and of these the one
 -- whose text it is. Source: this project's own rule for texts of locations.
-use Rattle.std.specs.Prelude.{ℕ, ◌-◌, List, [], ◌∷◌, ◌++◌, length, take, drop, Bool, true, false, ◌&&◌, ◌==◌, nat_lt, nat_le, bytes_eq, codes, Option, Some, None, option_and_then, if◌then◌else◌}
-use Rattle.std.specs.Option.{option_map}
+use Rattle.std.specs.Prelude.{ℕ, ◌-◌, List, [], ◌∷◌, length, take, drop, Bool, false, ◌&&◌, ◌==◌, nat_lt, nat_le, bytes_eq, Option, Some, None, if◌then◌else◌}
 use Rattle.std.specs.Result.{result_ok}
 use Rattle.std.specs.List.{list_all, slice_split, find}
 use Rattle.std.specs.Str.Parse.{digits_value}

@@ -108,7 +108,7 @@ pub fn texts_of(place: Place, value: &Value) -> Result<&[Value], Stop>
 
 /// The elements of a list of what may be chains.
 #[tactic(auto, unfolding(crate::specs::Forms::passing))]
-pub fn chain_kinds_of(place: Place, value: &Value) -> Result<&[Value], Stop>
+pub(crate) fn chain_kinds_of(place: Place, value: &Value) -> Result<&[Value], Stop>
     ensures { AnswersAs (λ items. items_view items.now) result (passing forms.is_chain_kind place (view value.now)) }
 {
     let items = list_of(place, value)?;

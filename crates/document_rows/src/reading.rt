@@ -5,7 +5,7 @@ use std::process::Abort;
 use std::test::Fail;
 
 /// The text of the fault of a document, or `read`.
-pub fn said(alloc: Global, document: &[u8]) -> Result<String, Fail> {
+pub(crate) fn said(alloc: Global, document: &[u8]) -> Result<String, Fail> {
     match read_network(alloc, document) {
         Ok(_) => Ok(String::from_str(alloc, "read")?),
         Err(fault) => Ok(format!(in alloc; "{fault}")?),
@@ -13,7 +13,7 @@ pub fn said(alloc: Global, document: &[u8]) -> Result<String, Fail> {
 }
 
 /// Asserts what each document is read as.
-pub fn all_are(rt: &impl Abort, alloc: Global, rows: &[(&str, &str)]) -> Result<(), Fail> {
+pub(crate) fn all_are(rt: &impl Abort, alloc: Global, rows: &[(&str, &str)]) -> Result<(), Fail> {
     for (document, expected) in rows {
         let text = said(alloc, document.as_bytes())?;
         assert_eq!(rt; text.as_str(), *expected, "{document}");

@@ -1,7 +1,7 @@
 -- What each call of a host refuses, in the written order of the rules, and the part that it leaves where it refuses nothing.
-use Rattle.std.specs.Prelude.{◌≡◌, ◌⊎◌, ℕ, ◌+◌, ◌-◌, ◌*◌, ◌/◌, ◌%◌, ◌^◌, ◌==◌, min, nat_lt, nat_le, not, IsTrue, ◌&&◌, Bool, true, false, is_some, if◌then◌else◌, List, [], ◌∷◌, ◌++◌, length, map, position, remove, slice_get, Option, Some, None, option_and_then, Result, Ok, Err}
+use Rattle.std.specs.Prelude.{◌≡◌, ◌⊎◌, ℕ, ◌+◌, ◌-◌, ◌/◌, ◌%◌, ◌^◌, ◌==◌, min, nat_lt, nat_le, not, IsTrue, ◌&&◌, Bool, true, false, is_some, if◌then◌else◌, List, [], ◌∷◌, ◌++◌, map, position, remove, slice_get, Option, Some, None, option_and_then, Result, Ok, Err}
 use Rattle.std.specs.Option.{option_map, option_map_or}
-use Rattle.std.specs.List.{list_all, list_any}
+use Rattle.std.specs.List.{list_any}
 use Rattle.std.specs.Ordering.{eq_by_cmp, nat_cmp, on, then_cmp}
 use Rattle.std.specs.declared.cmp.Ordering.{Ordering}
 use Rattle.std.specs.Cmp.Lexicographic.{slice_cmp}
@@ -35,20 +35,20 @@ use Rattle.trust_tables.specs.declared.rows.AssetRow.{AssetRow}
 use Rattle.trust_tables.specs.Trust.{row_of, is_row_of, is_reserve, is_partner}
 use Rattle.trust_tables.specs.Accounts.{account_of}
 use Rattle.trust_tables.specs.Chains.{path_of_site}
-use Rattle.ledgers.specs.Ledgers.{Held, Accounts, Withdrawn, Deposited, is_barred}
-use Rattle.trap_store.specs.Traps.{Store, with_trapped, pieces_of}
+use Rattle.ledgers.specs.Ledgers.{Held, Withdrawn, Deposited, is_barred}
+use Rattle.trap_store.specs.Traps.{with_trapped, pieces_of}
 use Rattle.trap_store.specs.declared.trap.Trap.{Trap}
 use Rattle.channel_parts.specs.declared.cargo.Cargo.{Cargo}
 use Rattle.channel_parts.specs.declared.cargo.Cargo.TheVariants.{Nothing, Deposit, Away}
 use Rattle.channel_parts.specs.Channels.{Outgoing, away}
-use Rattle.weight_trader.specs.Purchases.{Line, coin_of, paying, unspent_at, excess, Bought, with_saturated, paid_goods}
+use Rattle.weight_trader.specs.Purchases.{Line, coin_of, paying, unspent_at, excess, Bought, paid_goods}
 use Rattle.weight_trader.specs.Refunds.{refund_of, goods_of, Refunded, Closed}
 use Rattle.xcm_program.specs.declared.instruction.Instruction.{Instruction, roll-Instruction}
 use Rattle.xcm_program.specs.declared.instruction.Instruction.TheOpen.{Instruction-F}
 use Rattle.exec_base.specs.declared.event.Event.{Event}
 use Rattle.exec_base.specs.Part.{Taken, ChainPart, accounts_of, book_of}
 use Rattle.exec_base.specs.Arrivals.{arrived_list, is_this_list}
-use Rattle.exec_base.specs.Sending.{unless, or_else, channel_to, send_refusal, number_to, sent, deposit_program, away_program, listed_refusal, listed_program}
+use Rattle.exec_base.specs.Sending.{unless, or_else, channel_to, send_refusal, sent, deposit_program, away_program, listed_refusal, listed_program}
 
 -- the first asset in order that is refused decides
 abbrev pub first_fault : (Asset → Option XcmError) → List Asset → Option XcmError

@@ -1,6 +1,5 @@
 -- A chain's part of the world, as contracts see it: what it lists, what stands where, what it sends, and what is told.
 use Rattle.std.specs.Prelude.{ℕ, List, Option}
-use Rattle.locations.specs.declared.relative.Location.{Location}
 use Rattle.chain_ids.specs.declared.chain.ChainId.{ChainId}
 use Rattle.message_parts.specs.declared.pallet.PalletInfo.{PalletInfo}
 use Rattle.message_parts.specs.declared.query.OpenQuery.{OpenQuery}

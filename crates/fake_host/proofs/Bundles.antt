@@ -1,5 +1,5 @@
 -- What a bundle holds is listed, asset by asset.
-use Rattle.std.proofs.Common.{◌≡◌, ℕ, ◌+◌, ◌<◌, ◌≤◌, Bool, true, false, List, [], ◌∷◌, refl, sym, ap, ◌∙◌, subst, arith, true≢false}
+use Rattle.std.proofs.Common.{◌≡◌, ℕ, ◌+◌, ◌<◌, ◌≤◌, Bool, true, false, List, [], ◌∷◌, refl, sym, ap, ◌∙◌, arith, true≢false}
 use Rattle.std.specs.Prelude.{Option, None, Some}
 use Rattle.std.specs.Ordering.{eq_by_cmp}
 use Rattle.std.specs.List.{list_all}
@@ -8,8 +8,6 @@ use Rattle.amounts.specs.Rows.{IsPositive, sum_where, amount_if}
 use Rattle.amounts.specs.Amounts.{amount, rows, rows_positive, total-rows, amount-total}
 use Rattle.amounts.specs.Laws.{same_key}
 use Rattle.asset_lists.specs.declared.units.Instance.{Instance}
-use Rattle.asset_lists.specs.declared.units.Fun.{Fun}
-use Rattle.asset_lists.specs.declared.units.Asset.{Asset}
 use Rattle.asset_lists.specs.Units.{Unit, unit_of, unit_cmp, instance_in}
 use Rattle.asset_lists.specs.Listed.{Listed, listed_of, lists}
 use Rattle.asset_bundles.specs.Bundles.{Bundle, unit_keys, fun_of, assets_at, held_assets}

@@ -1,5 +1,5 @@
 -- The lines of assets that are burned.
-use Rattle.std.proofs.Common.{◌≡◌, ℕ, ◌+◌, ◌-◌, ◌*◌, ◌/◌, ◌%◌, ◌^◌, ◌<◌, ◌≤◌, ◌&&◌, Bool, true, false, List, [], ◌∷◌, length, get_or, drop, min, refl, sym, ap, ◌∙◌, subst, arith, zero, suc, true≢false}
+use Rattle.std.proofs.Common.{◌≡◌, ℕ, ◌+◌, ◌-◌, ◌/◌, ◌%◌, ◌^◌, ◌<◌, Bool, true, List, [], ◌∷◌, length, get_or, drop, min, refl, sym, ap, ◌∙◌, subst, arith, zero, suc}
 use Rattle.std.specs.Prelude.{Option, None, Some, is_some, slice_get, nat_le}
 use Rattle.std.specs.List.{list_all}
 use Rattle.std.proofs.lemmas.Bool.{and_parts}
@@ -12,7 +12,6 @@ use Rattle.asset_lists.specs.declared.units.AssetId.TheVariants.{Concrete, Abstr
 use Rattle.asset_lists.specs.declared.units.Asset.{Asset}
 use Rattle.asset_lists.specs.Units.{Unit, unit_of}
 use Rattle.asset_lists.specs.Listed.{Listed, listed_of, lists}
-use Rattle.asset_bundles.specs.declared.totals.Total.{Total}
 use Rattle.asset_bundles.specs.Books.{Book}
 use Rattle.trap_store.specs.Traps.{number_after, traps_of}
 use Rattle.trust_tables.specs.declared.rows.AssetRow.{AssetRow}

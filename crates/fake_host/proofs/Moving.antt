@@ -1,6 +1,6 @@
 -- What is refused to an account, and where there is none.
-use Rattle.std.proofs.Common.{◌≡◌, ℕ, ◌+◌, ◌<◌, ◌≤◌, Bool, true, false, ◌&&◌, not, if◌then◌else◌, List, [], ◌∷◌, length, refl, sym, ap, ◌∙◌, subst, arith, true≢false}
-use Rattle.std.specs.Prelude.{Option, None, Some, is_some, nat_lt, nat_le, IsSomeAnd, MatchOption}
+use Rattle.std.proofs.Common.{◌≡◌, ℕ, Bool, true, false, not, if◌then◌else◌, List, [], ◌∷◌, refl, sym, ap, ◌∙◌, arith, true≢false}
+use Rattle.std.specs.Prelude.{Option, None, Some, is_some, nat_lt, nat_le, IsSomeAnd}
 use Rattle.std.specs.List.{list_all}
 use Rattle.std.proofs.lemmas.Bool.{and_from, and_parts}
 use Rattle.message_parts.specs.declared.error.XcmError.{XcmError}
@@ -18,9 +18,9 @@ use Rattle.ledgers.specs.Ledgers.{Held, Accounts, shortage, barred, is_barred, W
 use Rattle.ledgers.specs.LedgerFaults.{IsBarred, IsTransferBar}
 use Rattle.ledgers.specs.declared.faults.DepositFault.{DepositFault}
 use Rattle.ledgers.specs.declared.faults.TransferFault.{TransferFault}
-use Rattle.exec_base.specs.Part.{ChainPart, accounts_of}
+use Rattle.exec_base.specs.Part.{ChainPart}
 use Rattle.exec_base.specs.Sending.{unless, or_else}
-use Rattle.exec_base.specs.Host.{first_fault, with_account, give_fault, take_fault, given, transfer_refusal}
+use Rattle.exec_base.specs.Host.{first_fault, give_fault, take_fault, given, transfer_refusal}
 
 both_none : (x rest : Option XcmError) → or_else x rest ≡ None → (x ≡ None) × (rest ≡ None)
 both_none None rest h = (refl, h)

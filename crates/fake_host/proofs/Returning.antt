@@ -1,5 +1,5 @@
 -- An account can take back a fee that it gave.
-use Rattle.std.proofs.Common.{◌≡◌, ℕ, ◌+◌, ◌-◌, ◌^◌, ◌<◌, ◌≤◌, Bool, true, false, not, if◌then◌else◌, List, [], ◌∷◌, refl, sym, ap, ◌∙◌, subst, arith}
+use Rattle.std.proofs.Common.{◌≡◌, ℕ, ◌+◌, ◌-◌, ◌^◌, ◌<◌, ◌≤◌, Bool, true, false, not, List, [], ◌∷◌, refl, ap, ◌∙◌, arith}
 use Rattle.std.specs.Prelude.{Option, None, Some, is_some, nat_lt, nat_le}
 use Rattle.std.specs.Ordering.{eq_by_cmp}
 use Rattle.std.specs.List.Sorted.{IsStrictlySortedBy}
@@ -13,11 +13,11 @@ use Rattle.message_parts.specs.declared.error.XcmError.TheVariants as error
 use Rattle.asset_lists.specs.declared.units.Asset.{Asset}
 use Rattle.asset_lists.specs.declared.units.Fun.{Fun}
 use Rattle.asset_lists.specs.Units.{Unit, unit_of, unit_cmp, amount_of, amount_in}
-use Rattle.asset_bundles.specs.Bundles.{bundle_of, held_assets, IsHolding}
+use Rattle.asset_bundles.specs.Bundles.{bundle_of, IsHolding}
 use Rattle.asset_bundles.specs.BundleLaws.{total-bundle_of, held_assets-holding}
 use Rattle.trust_tables.specs.Accounts.{account_of}
 use Rattle.trust_tables.specs.Trust.{row_of}
-use Rattle.ledgers.specs.Ledgers.{Held, Holder, holder_cmp, held_by, is_barred_fun, is_barred, owners_of}
+use Rattle.ledgers.specs.Ledgers.{Held, Holder, holder_cmp, held_by, is_barred_fun, is_barred}
 use Rattle.ledgers.specs.Laws.{holder_keys}
 use Rattle.exec_base.specs.Part.{ChainPart}
 use Rattle.exec_base.specs.Sending.{unless, or_else}

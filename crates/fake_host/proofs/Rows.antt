@@ -1,9 +1,8 @@
 -- Rows that are found.
-use Rattle.std.proofs.Common.{◌≡◌, ℕ, ◌<◌, ◌≤◌, Bool, true, false, List, [], ◌∷◌, length, get_or, refl, sym, ap, ◌∙◌, subst, arith}
+use Rattle.std.proofs.Common.{◌≡◌, ℕ, List, [], refl, sym, ap, ◌∙◌}
 use Rattle.std.specs.Prelude.{Option, None, Some, is_some, slice_get, position, option_and_then}
 use Rattle.std.proofs.lemmas.List.Quantifiers.{position-Some}
 use Rattle.std.proofs.lemmas.Option.{slice_get-get_or}
-use Rattle.locations.specs.declared.relative.Location.{Location}
 use Rattle.asset_lists.specs.declared.units.Asset.{Asset}
 use Rattle.asset_lists.specs.declared.units.Kind.{Kind}
 use Rattle.chain_ids.specs.declared.chain.ChainId.{ChainId}

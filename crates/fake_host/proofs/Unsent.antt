@@ -1,5 +1,5 @@
 -- What is refused where no channel leads anywhere and there is no checking account.
-use Rattle.std.proofs.Common.{◌≡◌, ℕ, ◌+◌, ◌-◌, ◌^◌, Bool, true, false, if◌then◌else◌, List, [], ◌∷◌, refl, sym, ap, ◌∙◌}
+use Rattle.std.proofs.Common.{◌≡◌, ℕ, ◌+◌, ◌-◌, ◌^◌, Bool, true, false, if◌then◌else◌, List, [], ◌∷◌, refl, ap, ◌∙◌}
 use Rattle.std.specs.Prelude.{Option, None, Some, Err, is_some, nat_le, find, position, slice_get, option_and_then}
 use Rattle.std.specs.Option.{option_map_or}
 use Rattle.locations.specs.declared.relative.Location.{Location}

@@ -11,7 +11,7 @@ use scale_codec::Cursor;
 use xcm_program::Instruction;
 
 /// Who wants the channel, its greatest message, and how many may wait.
-pub fn fill_hrmp_new_channel_open_request(
+pub(crate) fn fill_hrmp_new_channel_open_request(
     c: &mut Cursor<'_>,
     slot: &mut Instruction,
 ) -> Result<(), WireFault>
@@ -32,7 +32,7 @@ pub fn fill_hrmp_new_channel_open_request(
 }
 
 /// Who accepted it.
-pub fn fill_hrmp_channel_accepted(
+pub(crate) fn fill_hrmp_channel_accepted(
     c: &mut Cursor<'_>,
     slot: &mut Instruction,
 ) -> Result<(), WireFault>
@@ -44,7 +44,7 @@ pub fn fill_hrmp_channel_accepted(
 }
 
 /// Who closes it, its front and its end.
-pub fn fill_hrmp_channel_closing(
+pub(crate) fn fill_hrmp_channel_closing(
     c: &mut Cursor<'_>,
     slot: &mut Instruction,
 ) -> Result<(), WireFault>

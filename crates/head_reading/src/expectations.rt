@@ -15,7 +15,7 @@ use std::alloc::Global;
 use xcm_program::Instruction;
 
 /// Assets.
-pub fn fill_expect_asset(
+pub(crate) fn fill_expect_asset(
     alloc: Global,
     c: &mut Cursor<'_>,
     v: Version,
@@ -29,7 +29,7 @@ pub fn fill_expect_asset(
 }
 
 /// The instruction and its error, or none.
-pub fn fill_expect_error(c: &mut Cursor<'_>, slot: &mut Instruction) -> Result<(), WireFault>
+pub(crate) fn fill_expect_error(c: &mut Cursor<'_>, slot: &mut Instruction) -> Result<(), WireFault>
     ensures { FilledHead result (made1 (optional_at failure_at) Instruction-F.ExpectError c.old) slot.new c.new }
 {
     let error = take_optional_failure(c)?;
@@ -38,7 +38,7 @@ pub fn fill_expect_error(c: &mut Cursor<'_>, slot: &mut Instruction) -> Result<(
 }
 
 /// The status.
-pub fn fill_expect_transact_status(
+pub(crate) fn fill_expect_transact_status(
     alloc: Global,
     c: &mut Cursor<'_>,
     slot: &mut Instruction,
@@ -51,7 +51,7 @@ pub fn fill_expect_transact_status(
 }
 
 /// The index, both names and the version of the pallet.
-pub fn fill_expect_pallet(
+pub(crate) fn fill_expect_pallet(
     alloc: Global,
     c: &mut Cursor<'_>,
     slot: &mut Instruction,

@@ -17,7 +17,7 @@ use xcm_program::Instruction;
 
 /// The fields behind the number, and an empty program inside, into the place for the instruction.
 #[tactic(auto, unfolding(crate::specs::Reading::group3_at))]
-pub fn fill_group3(
+pub(crate) fn fill_group3(
     alloc: Global,
     c: &mut Cursor<'_>,
     v: Version,

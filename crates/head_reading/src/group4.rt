@@ -16,7 +16,7 @@ use xcm_program::Instruction;
 
 /// The fields behind the number, and an empty program inside, into the place for the instruction.
 #[tactic(auto, unfolding(crate::specs::Reading::group4_at))]
-pub fn fill_group4(
+pub(crate) fn fill_group4(
     alloc: Global,
     c: &mut Cursor<'_>,
     v: Version,

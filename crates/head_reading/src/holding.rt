@@ -17,7 +17,7 @@ use std::alloc::Global;
 use xcm_program::Instruction;
 
 /// What may be given, what is wanted, and whether as much as can be had.
-pub fn fill_exchange_asset(
+pub(crate) fn fill_exchange_asset(
     alloc: Global,
     c: &mut Cursor<'_>,
     v: Version,
@@ -40,7 +40,7 @@ pub fn fill_exchange_asset(
 }
 
 /// The fees, and how much weight they buy.
-pub fn fill_buy_execution(
+pub(crate) fn fill_buy_execution(
     c: &mut Cursor<'_>,
     v: Version,
     slot: &mut Instruction,
@@ -54,7 +54,7 @@ pub fn fill_buy_execution(
 }
 
 /// The trapped assets, and the ticket.
-pub fn fill_claim_asset(
+pub(crate) fn fill_claim_asset(
     alloc: Global,
     c: &mut Cursor<'_>,
     v: Version,
@@ -70,7 +70,7 @@ pub fn fill_claim_asset(
 }
 
 /// Assets.
-pub fn fill_withdraw_asset(
+pub(crate) fn fill_withdraw_asset(
     alloc: Global,
     c: &mut Cursor<'_>,
     v: Version,
@@ -84,7 +84,7 @@ pub fn fill_withdraw_asset(
 }
 
 /// Assets.
-pub fn fill_reserve_asset_deposited(
+pub(crate) fn fill_reserve_asset_deposited(
     alloc: Global,
     c: &mut Cursor<'_>,
     v: Version,
@@ -98,7 +98,7 @@ pub fn fill_reserve_asset_deposited(
 }
 
 /// Assets.
-pub fn fill_receive_teleported_asset(
+pub(crate) fn fill_receive_teleported_asset(
     alloc: Global,
     c: &mut Cursor<'_>,
     v: Version,
@@ -112,7 +112,7 @@ pub fn fill_receive_teleported_asset(
 }
 
 /// Assets.
-pub fn fill_burn_asset(
+pub(crate) fn fill_burn_asset(
     alloc: Global,
     c: &mut Cursor<'_>,
     v: Version,

@@ -7,14 +7,14 @@ use std::alloc::Global;
 use xcm_program::{Instruction, Program};
 
 /// The empty program. It takes no memory.
-pub fn nothing_inside(alloc: Global) -> Program
+pub(crate) fn nothing_inside(alloc: Global) -> Program
     ensures { result ≡ [] }
 {
     Program::from_vec(Vec::new(alloc))
 }
 
 /// A location to be filled.
-pub fn empty_place() -> Location
+pub(crate) fn empty_place() -> Location
     ensures { result.interior ≡ [] }
 {
     Location {
@@ -25,7 +25,7 @@ pub fn empty_place() -> Location
 
 /// Puts an instruction into its place. What stood there is dropped here alone, so that no reader has to look through all that an
 /// instruction may keep.
-pub fn put(slot: &mut Instruction, instruction: Instruction)
+pub(crate) fn put(slot: &mut Instruction, instruction: Instruction)
     ensures { slot.new ≡ instruction }
 {
     *slot = instruction;

@@ -14,7 +14,7 @@ use scale_codec::Cursor;
 use xcm_program::Instruction;
 
 /// The asset, and who may unlock it.
-pub fn fill_lock_asset(
+pub(crate) fn fill_lock_asset(
     c: &mut Cursor<'_>,
     v: Version,
     slot: &mut Instruction,
@@ -29,7 +29,7 @@ pub fn fill_lock_asset(
 }
 
 /// The asset, and whose it is.
-pub fn fill_unlock_asset(
+pub(crate) fn fill_unlock_asset(
     c: &mut Cursor<'_>,
     v: Version,
     slot: &mut Instruction,
@@ -44,7 +44,7 @@ pub fn fill_unlock_asset(
 }
 
 /// The asset, and whose it is.
-pub fn fill_note_unlockable(
+pub(crate) fn fill_note_unlockable(
     c: &mut Cursor<'_>,
     v: Version,
     slot: &mut Instruction,
@@ -59,7 +59,7 @@ pub fn fill_note_unlockable(
 }
 
 /// The asset, and where it is locked.
-pub fn fill_request_unlock(
+pub(crate) fn fill_request_unlock(
     c: &mut Cursor<'_>,
     v: Version,
     slot: &mut Instruction,

@@ -17,7 +17,10 @@ use std::alloc::Global;
 use xcm_program::Instruction;
 
 /// The junctions.
-pub fn fill_descend_origin(c: &mut Cursor<'_>, slot: &mut Instruction) -> Result<(), WireFault>
+pub(crate) fn fill_descend_origin(
+    c: &mut Cursor<'_>,
+    slot: &mut Instruction,
+) -> Result<(), WireFault>
     ensures { FilledHead result (made1 junctions_at Instruction-F.DescendOrigin c.old) slot.new c.new }
 {
     let mut interior = Junctions::empty();
@@ -27,7 +30,10 @@ pub fn fill_descend_origin(c: &mut Cursor<'_>, slot: &mut Instruction) -> Result
 }
 
 /// The origin, or none.
-pub fn fill_expect_origin(c: &mut Cursor<'_>, slot: &mut Instruction) -> Result<(), WireFault>
+pub(crate) fn fill_expect_origin(
+    c: &mut Cursor<'_>,
+    slot: &mut Instruction,
+) -> Result<(), WireFault>
     ensures { FilledHead result (made1 (optional_at location_at) Instruction-F.ExpectOrigin c.old) slot.new c.new }
 {
     let origin = take_optional_location(c)?;
@@ -36,7 +42,7 @@ pub fn fill_expect_origin(c: &mut Cursor<'_>, slot: &mut Instruction) -> Result<
 }
 
 /// The origin that is set.
-pub fn fill_alias_origin(c: &mut Cursor<'_>, slot: &mut Instruction) -> Result<(), WireFault>
+pub(crate) fn fill_alias_origin(c: &mut Cursor<'_>, slot: &mut Instruction) -> Result<(), WireFault>
     ensures { FilledHead result (made1 location_at Instruction-F.AliasOrigin c.old) slot.new c.new }
 {
     let mut target = empty_place();
@@ -46,7 +52,10 @@ pub fn fill_alias_origin(c: &mut Cursor<'_>, slot: &mut Instruction) -> Result<(
 }
 
 /// The most weight, and the origin, or none.
-pub fn fill_unpaid_execution(c: &mut Cursor<'_>, slot: &mut Instruction) -> Result<(), WireFault>
+pub(crate) fn fill_unpaid_execution(
+    c: &mut Cursor<'_>,
+    slot: &mut Instruction,
+) -> Result<(), WireFault>
     ensures { FilledHead result (made2 weight_limit_at (optional_at location_at) Instruction-F.UnpaidExecution c.old) slot.new c.new }
 {
     let limit = take_weight_limit(c)?;
@@ -62,7 +71,7 @@ pub fn fill_unpaid_execution(c: &mut Cursor<'_>, slot: &mut Instruction) -> Resu
 }
 
 /// The system, and the place in it.
-pub fn fill_export_message(
+pub(crate) fn fill_export_message(
     alloc: Global,
     c: &mut Cursor<'_>,
     slot: &mut Instruction,
@@ -85,7 +94,10 @@ pub fn fill_export_message(
 }
 
 /// The junction of the system.
-pub fn fill_universal_origin(c: &mut Cursor<'_>, slot: &mut Instruction) -> Result<(), WireFault>
+pub(crate) fn fill_universal_origin(
+    c: &mut Cursor<'_>,
+    slot: &mut Instruction,
+) -> Result<(), WireFault>
     ensures { FilledHead result (made1 junction_at Instruction-F.UniversalOrigin c.old) slot.new c.new }
 {
     let junction = take_junction(c)?;

@@ -14,7 +14,7 @@ use std::alloc::Global;
 use xcm_program::Instruction;
 
 /// The right, the most weight, and the call.
-pub fn fill_transact(
+pub(crate) fn fill_transact(
     alloc: Global,
     c: &mut Cursor<'_>,
     slot: &mut Instruction,
@@ -36,7 +36,7 @@ pub fn fill_transact(
 }
 
 /// The code.
-pub fn fill_trap(c: &mut Cursor<'_>, slot: &mut Instruction) -> Result<(), WireFault>
+pub(crate) fn fill_trap(c: &mut Cursor<'_>, slot: &mut Instruction) -> Result<(), WireFault>
     ensures { FilledHead result (made1 (below_at (2 ^ 64)) Instruction-F.Trap c.old) slot.new c.new }
 {
     let code = c.compact_u64()?;
@@ -45,7 +45,7 @@ pub fn fill_trap(c: &mut Cursor<'_>, slot: &mut Instruction) -> Result<(), WireF
 }
 
 /// No field in front of the program.
-pub fn fill_set_error_handler(
+pub(crate) fn fill_set_error_handler(
     alloc: Global,
     c: &mut Cursor<'_>,
     slot: &mut Instruction,
@@ -58,7 +58,7 @@ pub fn fill_set_error_handler(
 }
 
 /// No field in front of the program.
-pub fn fill_set_appendix(
+pub(crate) fn fill_set_appendix(
     alloc: Global,
     c: &mut Cursor<'_>,
     slot: &mut Instruction,
@@ -71,7 +71,10 @@ pub fn fill_set_appendix(
 }
 
 /// Whether fees come from the account of the origin.
-pub fn fill_set_fees_mode(c: &mut Cursor<'_>, slot: &mut Instruction) -> Result<(), WireFault>
+pub(crate) fn fill_set_fees_mode(
+    c: &mut Cursor<'_>,
+    slot: &mut Instruction,
+) -> Result<(), WireFault>
     ensures { FilledHead result (made1 flag_at Instruction-F.SetFeesMode c.old) slot.new c.new }
 {
     let jit_withdraw = c.flag()?;
@@ -80,7 +83,7 @@ pub fn fill_set_fees_mode(c: &mut Cursor<'_>, slot: &mut Instruction) -> Result<
 }
 
 /// The topic.
-pub fn fill_set_topic(c: &mut Cursor<'_>, slot: &mut Instruction) -> Result<(), WireFault>
+pub(crate) fn fill_set_topic(c: &mut Cursor<'_>, slot: &mut Instruction) -> Result<(), WireFault>
     ensures { FilledHead result (made1 (take_at 32) Instruction-F.SetTopic c.old) slot.new c.new }
 {
     let topic = c.take_array()?;

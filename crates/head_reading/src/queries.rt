@@ -16,7 +16,7 @@ use std::alloc::Global;
 use xcm_program::Instruction;
 
 /// The number of the query, its response, the most weight, and who asked.
-pub fn fill_query_response(
+pub(crate) fn fill_query_response(
     alloc: Global,
     c: &mut Cursor<'_>,
     v: Version,
@@ -41,7 +41,7 @@ pub fn fill_query_response(
 }
 
 /// Where to.
-pub fn fill_report_error(c: &mut Cursor<'_>, slot: &mut Instruction) -> Result<(), WireFault>
+pub(crate) fn fill_report_error(c: &mut Cursor<'_>, slot: &mut Instruction) -> Result<(), WireFault>
     ensures { FilledHead result (made1 query_info_at Instruction-F.ReportError c.old) slot.new c.new }
 {
     let info = take_query_info(c)?;
@@ -50,7 +50,7 @@ pub fn fill_report_error(c: &mut Cursor<'_>, slot: &mut Instruction) -> Result<(
 }
 
 /// Where to, and which assets.
-pub fn fill_report_holding(
+pub(crate) fn fill_report_holding(
     alloc: Global,
     c: &mut Cursor<'_>,
     v: Version,
@@ -65,7 +65,7 @@ pub fn fill_report_holding(
 }
 
 /// The name of the module, and where to.
-pub fn fill_query_pallet(
+pub(crate) fn fill_query_pallet(
     alloc: Global,
     c: &mut Cursor<'_>,
     slot: &mut Instruction,
@@ -79,7 +79,7 @@ pub fn fill_query_pallet(
 }
 
 /// Where to.
-pub fn fill_report_transact_status(
+pub(crate) fn fill_report_transact_status(
     c: &mut Cursor<'_>,
     slot: &mut Instruction,
 ) -> Result<(), WireFault>
@@ -91,7 +91,10 @@ pub fn fill_report_transact_status(
 }
 
 /// The number of the query, and the most weight.
-pub fn fill_subscribe_version(c: &mut Cursor<'_>, slot: &mut Instruction) -> Result<(), WireFault>
+pub(crate) fn fill_subscribe_version(
+    c: &mut Cursor<'_>,
+    slot: &mut Instruction,
+) -> Result<(), WireFault>
     ensures { FilledHead result (made2 (below_at (2 ^ 64)) weight_at Instruction-F.SubscribeVersion c.old) slot.new c.new }
 {
     let query_id = c.compact_u64()?;

@@ -15,7 +15,7 @@ use std::alloc::Global;
 use xcm_program::Instruction;
 
 /// Assets, and whose account takes them.
-pub fn fill_transfer_asset(
+pub(crate) fn fill_transfer_asset(
     alloc: Global,
     c: &mut Cursor<'_>,
     v: Version,
@@ -37,7 +37,7 @@ pub fn fill_transfer_asset(
 }
 
 /// Assets, and the other chain.
-pub fn fill_transfer_reserve_asset(
+pub(crate) fn fill_transfer_reserve_asset(
     alloc: Global,
     c: &mut Cursor<'_>,
     v: Version,
@@ -57,7 +57,7 @@ pub fn fill_transfer_reserve_asset(
 }
 
 /// Which assets, and whose account takes them.
-pub fn fill_deposit_asset(
+pub(crate) fn fill_deposit_asset(
     alloc: Global,
     c: &mut Cursor<'_>,
     v: Version,
@@ -79,7 +79,7 @@ pub fn fill_deposit_asset(
 }
 
 /// Which assets, and the other chain.
-pub fn fill_deposit_reserve_asset(
+pub(crate) fn fill_deposit_reserve_asset(
     alloc: Global,
     c: &mut Cursor<'_>,
     v: Version,
@@ -96,7 +96,7 @@ pub fn fill_deposit_reserve_asset(
 }
 
 /// Which assets, and their reserve.
-pub fn fill_initiate_reserve_withdraw(
+pub(crate) fn fill_initiate_reserve_withdraw(
     alloc: Global,
     c: &mut Cursor<'_>,
     v: Version,
@@ -120,7 +120,7 @@ pub fn fill_initiate_reserve_withdraw(
 }
 
 /// Which assets, and the other chain.
-pub fn fill_initiate_teleport(
+pub(crate) fn fill_initiate_teleport(
     alloc: Global,
     c: &mut Cursor<'_>,
     v: Version,

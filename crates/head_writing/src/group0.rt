@@ -17,7 +17,7 @@ use xcm_program::Instruction;
 
 /// What stands behind the index, up to the program inside.
 #[tactic(auto, unfolding(xcm_format::specs::Programs::head))]
-pub fn put_group0(o: &mut Draft, i: &Instruction, v: Version) -> Result<(), AllocError>
+pub(crate) fn put_group0(o: &mut Draft, i: &Instruction, v: Version) -> Result<(), AllocError>
     requires high { index (out-Instruction i.now) < 8 }
     requires named { IsNamedHead v Instruction (out-Instruction i.now) }
     ensures { Appends result o.old o.new (fields v (out-Instruction i.now)) (FitsHead v (out-Instruction i.now)) }

@@ -18,7 +18,7 @@ use xcm_program::Instruction;
 
 /// What stands behind the index, up to the program inside.
 #[tactic(auto, unfolding(xcm_format::specs::Programs::head))]
-pub fn put_group2(o: &mut Draft, i: &Instruction, v: Version) -> Result<(), AllocError>
+pub(crate) fn put_group2(o: &mut Draft, i: &Instruction, v: Version) -> Result<(), AllocError>
     requires low { 16 ≤ index (out-Instruction i.now) }
     requires high { index (out-Instruction i.now) < 24 }
     requires named { IsNamedHead v Instruction (out-Instruction i.now) }

@@ -19,7 +19,7 @@ use xcm_program::Instruction;
 
 /// What stands behind the index, up to the program inside.
 #[tactic(auto, unfolding(xcm_format::specs::Programs::head))]
-pub fn put_group4(o: &mut Draft, i: &Instruction, v: Version) -> Result<(), AllocError>
+pub(crate) fn put_group4(o: &mut Draft, i: &Instruction, v: Version) -> Result<(), AllocError>
     requires low { 32 ≤ index (out-Instruction i.now) }
     requires high { index (out-Instruction i.now) < 40 }
     requires named { IsNamedHead v Instruction (out-Instruction i.now) }

@@ -14,14 +14,14 @@ use scale_codec::Draft;
 use std::alloc::AllocError;
 
 /// A flag.
-pub fn put_flag(o: &mut Draft, value: bool) -> Result<(), AllocError>
+pub(crate) fn put_flag(o: &mut Draft, value: bool) -> Result<(), AllocError>
     ensures { Appends result o.old o.new (flag value) ⊤ }
 {
     o.put_u8(u8::from(value))
 }
 
 /// Assets, and whose they become.
-pub fn put_assets_for(
+pub(crate) fn put_assets_for(
     o: &mut Draft,
     list: &Assets,
     place: &Location,
@@ -35,7 +35,7 @@ pub fn put_assets_for(
 }
 
 /// A filter, and whose the taken assets become.
-pub fn put_filter_for(
+pub(crate) fn put_filter_for(
     o: &mut Draft,
     taken: &Filter,
     place: &Location,
@@ -49,7 +49,7 @@ pub fn put_filter_for(
 }
 
 /// An asset, and whom its lock concerns.
-pub fn put_asset_for(
+pub(crate) fn put_asset_for(
     o: &mut Draft,
     goods: &Asset,
     place: &Location,
@@ -63,7 +63,12 @@ pub fn put_asset_for(
 }
 
 /// Three compact numbers.
-pub fn put_numbers(o: &mut Draft, first: u32, second: u32, third: u32) -> Result<(), AllocError>
+pub(crate) fn put_numbers(
+    o: &mut Draft,
+    first: u32,
+    second: u32,
+    third: u32,
+) -> Result<(), AllocError>
     ensures { Appends result o.old o.new (compact first ++ compact second ++ compact third) ((first < 2 ^ 32) × (second < 2 ^ 32) × (third < 2 ^ 32)) }
 {
     o.put_compact(u128::from(first))?;

@@ -9,6 +9,7 @@ use locations::{BodyId, BodyPart, Junction, Junctions, Location, NetworkId};
 use scale_codec::{Draft, Out};
 use std::alloc::AllocError;
 
+/// Appends the network.
 pub fn put_network(o: &mut Draft, net: &NetworkId) -> Result<(), AllocError>
     ensures { Puts network FitsNetwork net.now result o.old o.new }
 {
@@ -98,6 +99,7 @@ fn put_part(o: &mut Draft, share: &BodyPart) -> Result<(), AllocError>
     }
 }
 
+/// Appends the junction.
 #[tactic(auto, unfolding(crate::specs::Spelling::junction))]
 pub fn put_junction(o: &mut Draft, step: &Junction) -> Result<(), AllocError>
     ensures { Puts junction FitsJunction step.now result o.old o.new }
@@ -148,6 +150,7 @@ pub fn put_junction(o: &mut Draft, step: &Junction) -> Result<(), AllocError>
     }
 }
 
+/// Appends the junctions behind their number.
 pub fn put_junctions(o: &mut Draft, interior: &Junctions) -> Result<(), AllocError>
     ensures { Puts junctions FitsJunctions interior.now result o.old o.new }
 {
@@ -159,6 +162,7 @@ pub fn put_junctions(o: &mut Draft, interior: &Junctions) -> Result<(), AllocErr
     Ok(())
 }
 
+/// Appends the location.
 pub fn put_location(o: &mut Draft, place: &Location) -> Result<(), AllocError>
     ensures { Puts location FitsLocation place.now result o.old o.new }
 {

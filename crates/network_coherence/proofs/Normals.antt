@@ -1,11 +1,11 @@
 -- The shortest name of a place passes the test.
-use Rattle.std.specs.Prelude.{◌≡◌, ◌≢◌, ℕ, suc, ◌-◌, ◌<◌, ◌≤◌, ◌↔◌, nat_lt, nat_le, Bool, true, false, not, ◌&&◌, IsTrue, List, [], ◌∷◌, length, Option, Some, None, slice_get, refl}
+use Rattle.std.specs.Prelude.{◌≡◌, ◌≢◌, suc, ◌-◌, ◌↔◌, nat_lt, nat_le, Bool, true, false, not, ◌&&◌, IsTrue, List, [], ◌∷◌, length, Option, Some, None, slice_get, refl}
 use Rattle.std.specs.List.{All, list_all}
 use Rattle.std.specs.Cmp.{both_ways}
-use Rattle.std.proofs.Common.{sym, ap, ◌∙◌, arith, le-leb, true≢false}
+use Rattle.std.proofs.Common.{sym, ap, arith, le-leb}
 use Rattle.std.proofs.lemmas.Bool.{and_parts, and_from, ltb-true}
 use Rattle.locations.specs.declared.grammar.Junction.{Junction}
-use Rattle.locations.specs.declared.grammar.Junction.TheVariants.{OnlyChild, Parachain}
+use Rattle.locations.specs.declared.grammar.Junction.TheVariants.{OnlyChild}
 use Rattle.locations.specs.declared.relative.Location.{Location}
 use Rattle.locations.specs.Chains.{same_junction, same_first, turns_back, is_normal, IsNormal, TurnsAway}
 use Rattle.locations.specs.Laws.{normal_told}

@@ -7,7 +7,7 @@ use Rattle.locations.specs.Chains.{path_of}
 use Rattle.trust_tables.specs.declared.rows.AssetRow.{AssetRow}
 use Rattle.coherence.specs.UniversalAssets.{UniversalAsset, every, just}
 use Rattle.coherence.specs.Networks.{context_of, asset_of_row, is_home}
-use Rattle.coherence.specs.Causes.{ChainEntry, amount_at, amount_for, any_instance, is_class_instance, shares_instance, is_short}
+use Rattle.coherence.specs.Causes.{amount_at, amount_for, any_instance, is_class_instance, shares_instance, is_short}
 use Rattle.network_spec.specs.declared.chain.Balance.{Balance}
 use Rattle.network_spec.specs.declared.chain.ChainSpec.{ChainSpec}
 use Rattle.network_spec.specs.declared.network.NetworkSpec.{NetworkSpec}

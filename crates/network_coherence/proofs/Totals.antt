@@ -1,11 +1,11 @@
 -- What the balances of a document add up to.
-use Rattle.std.specs.Prelude.{◌≡◌, ℕ, zero, suc, ◌+◌, ◌<◌, ◌≤◌, nat_lt, Bool, true, false, ◌&&◌, ◌||◌, List, [], ◌∷◌, ◌++◌, length, take, Option, None, Some, refl}
+use Rattle.std.specs.Prelude.{◌≡◌, ℕ, zero, suc, ◌+◌, ◌<◌, nat_lt, Bool, true, false, ◌&&◌, ◌||◌, List, [], ◌∷◌, ◌++◌, length, take, None, Some, refl}
 use Rattle.std.specs.List.{list_any}
 use Rattle.std.proofs.Common.{get_or, sym, ap, ◌∙◌, arith, zero-add}
 use Rattle.std.proofs.lemmas.Bool.{lt-ltb}
 use Rattle.std.proofs.lemmas.List.{take_more}
-use Rattle.amounts.specs.Rows.{IsPositive, amount_if, sum_where, amount_if-zero}
-use Rattle.amounts.specs.Amounts.{empty, rows, total, merge, total-empty, total-rows, rows_positive}
+use Rattle.amounts.specs.Rows.{IsPositive, amount_if, sum_where}
+use Rattle.amounts.specs.Amounts.{empty, rows, total, total-empty, total-rows, rows_positive}
 use Rattle.amounts.specs.Laws.{total-merge, total-from_rows}
 use Rattle.asset_lists.specs.declared.units.Asset.{Asset}
 use Rattle.asset_lists.specs.Units.{Unit, unit_of, amount_of}

@@ -1,6 +1,6 @@
 -- Each cause by itself, as `coherence` looks for it: over chains in order, their rows in listed order and a row's partners in listed
 -- order. The first cause is the first of these. This project's own rule.
-use Rattle.std.specs.Prelude.{Bool, not, ◌&&◌, List, Option, Some, None, if◌then◌else◌}
+use Rattle.std.specs.Prelude.{Bool, not, ◌&&◌, List, Option, None, if◌then◌else◌}
 use Rattle.std.specs.List.{list_any}
 use Rattle.locations.specs.Chains.{is_normal}
 use Rattle.chain_ids.specs.declared.chain.ChainId.{ChainId}

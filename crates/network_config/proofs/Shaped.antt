@@ -22,7 +22,7 @@ use Rattle.message_parts.specs.declared.pallet.PalletInfo.{PalletInfo}
 use Rattle.network_spec.specs.declared.chain.Balance.{Balance}
 use Rattle.network_spec.specs.declared.network.ChannelSpec.{ChannelSpec}
 use Rattle.document_forms.specs.declared.fault.NetworkFault.{NetworkFault}
-use Rattle.document_forms.specs.declared.fault.NetworkFault.TheVariants.{MissingField, WrongKind, BadValue, LimitPassed}
+use Rattle.document_forms.specs.declared.fault.NetworkFault.TheVariants.{MissingField, BadValue, LimitPassed}
 use Rattle.document_forms.specs.declared.fault.Place.{Place}
 use Rattle.document_forms.specs.Forms.{Form, ◌>>=◌, ◌>>◌, or_fault, where_true, fields, is_decimal, field, needed, of_optional, defaulted, some_of, optional, whole, number_within, text, bytes, chain, each, is_chain_kind, decimal_below}
 use Rattle.document_entries.specs.Entries.{both_fault, one_of, either, made, rate_limit, amount_limit, amount, location, instance, rate, kind, native, with_checking, asset_row, account, u32, pallet_name, pallet, fee, version, channel_fields, channel_entry}

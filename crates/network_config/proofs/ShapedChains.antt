@@ -4,7 +4,7 @@ use Rattle.std.specs.List.{list_any, list_all, AllByRecursion}
 use Rattle.std.proofs.Common.{◌≡◌, ◌∙◌, refl, sym, ap, subst, arith}
 use Rattle.std.proofs.lemmas.Bool.{and_parts, and_from, leb-true, false≢true}
 use Rattle.serde_json.specs.Data.{Data, null, boolean, number, string, array, object, Items, no_items, item}
-use Rattle.serde_json.specs.Find.{as_object, as_array, get}
+use Rattle.serde_json.specs.Find.{as_object, get}
 use Rattle.locations.specs.declared.grammar.NetworkId.TheVariants.{Polkadot}
 use Rattle.chain_ids.specs.declared.chain.ChainId.{ChainId}
 use Rattle.chain_ids.specs.declared.chain.ChainId.TheVariants.{Relay, Para}
@@ -15,11 +15,11 @@ use Rattle.network_spec.specs.declared.chain.Balance.{Balance}
 use Rattle.network_spec.specs.declared.chain.ChainSpec.{ChainSpec}
 use Rattle.network_spec.specs.declared.network.NetworkSpec.{NetworkSpec}
 use Rattle.document_forms.specs.declared.fault.NetworkFault.{NetworkFault}
-use Rattle.document_forms.specs.declared.fault.NetworkFault.TheVariants.{WrongKind, LimitPassed}
+use Rattle.document_forms.specs.declared.fault.NetworkFault.TheVariants.{LimitPassed}
 use Rattle.document_forms.specs.declared.fault.Place.{Place}
 use Rattle.document_forms.specs.declared.fault.Section.{Section}
 use Rattle.document_forms.specs.declared.fault.Section.TheVariants.{Rates, Assets, Accounts, Pallets, Queries}
-use Rattle.document_forms.specs.Forms.{Form, ◌>>=◌, ◌>>◌, or_fault, where_true, fields, of_optional, defaulted, number_within, bytes, onto, next_index, entries, count, list, list_field}
+use Rattle.document_forms.specs.Forms.{Form, ◌>>=◌, ◌>>◌, where_true, fields, of_optional, defaulted, number_within, bytes, onto, next_index, entries, count, list_field}
 use Rattle.document_entries.specs.Entries.{made, u32, rate, asset_row, account, pallet, query, channel_entry}
 use Rattle.network_config.specs.declared.head.ChainHead.{ChainHead}
 use Rattle.network_config.specs.Chains.{top, fields_of, in_chain, channel_at, para_field, weight_field, no_account, head, short_list, lists, entries_field, barriers_field, chain_fields, with_head, own_fields, chain_entry}

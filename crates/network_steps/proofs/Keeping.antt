@@ -3,7 +3,6 @@ use Rattle.std.proofs.Common.{◌≡◌, ℕ, zero, suc, Bool, true, false, List
 use Rattle.std.specs.Prelude.{if◌then◌else◌, slice_get, slice_set}
 use Rattle.std.specs.Option.{option_map_or}
 use Rattle.chain_ids.specs.declared.chain.ChainId.{ChainId}
-use Rattle.asset_bundles.specs.Bundles.{Bundle}
 use Rattle.locations.specs.declared.relative.Location.{Location}
 use Rattle.message_parts.specs.declared.error.XcmError.{XcmError}
 use Rattle.message_parts.specs.declared.weight.Weight.{Weight}
@@ -22,8 +21,8 @@ use Rattle.exec_base.specs.Sending.{channel_refusal}
 use Rattle.exec_base.specs.Host.{told}
 use Rattle.exec_admission.specs.declared.rules.ChainRules.{ChainRules}
 use Rattle.network_steps.specs.declared.step_result.StepResult.{StepResult}
-use Rattle.network_steps.specs.Worlds.{Member, chain_of, World, place_of, with_part, Stepped, unchanged}
-use Rattle.network_steps.specs.Acting.{begun, Acted, acted, caller, lost_of}
+use Rattle.network_steps.specs.Worlds.{Member, chain_of, World, place_of, with_part, unchanged}
+use Rattle.network_steps.specs.Acting.{begun, Acted, acted, caller}
 use Rattle.network_steps.specs.Steps.{is_sovereign, exec_by, exec_at, exec, name_at, run_for, sender_after, receiver_after, delivered, delivery_of, deliver, is_claim, posted, posting, claim_by, claim_on, claim}
 use Rattle.network_steps.specs.Settings.{Settings, settings_of, all_settings}
 use Rattle.network_steps.proofs.Stillness.{between_says}

@@ -1,10 +1,8 @@
 -- No step changes what the document says of a chain.
-use Rattle.std.proofs.Common.{◌≡◌, ℕ, zero, suc, ◌+◌, Bool, true, false, List, [], ◌∷◌, ◌++◌, Option, Some, None, Result, Ok, Err, refl, sym, ap, ◌∙◌, map}
-use Rattle.std.specs.Prelude.{if◌then◌else◌, nat_eq, length, position, remove, slice_get, slice_set}
+use Rattle.std.proofs.Common.{◌≡◌, ℕ, zero, suc, ◌+◌, Bool, true, false, List, [], ◌∷◌, ◌++◌, Option, Some, None, Result, Ok, Err, refl, ap, ◌∙◌, map}
+use Rattle.std.specs.Prelude.{if◌then◌else◌, nat_eq, length, position, remove}
 use Rattle.std.specs.Option.{option_map_or}
 use Rattle.amounts.specs.Amounts.{rows}
-use Rattle.chain_ids.specs.declared.chain.ChainId.{ChainId}
-use Rattle.chain_ids.specs.Chains.{same_chain}
 use Rattle.locations.specs.declared.relative.Location.{Location}
 use Rattle.message_parts.specs.declared.error.XcmError.{XcmError}
 use Rattle.message_parts.specs.declared.weight.Weight.{Weight}
@@ -16,7 +14,7 @@ use Rattle.asset_lists.specs.declared.units.Asset.{Asset}
 use Rattle.asset_bundles.specs.Bundles.{Bundle, bundle_of, held_assets}
 use Rattle.asset_bundles.specs.declared.shipment.Way.{Way}
 use Rattle.weight_trader.specs.Purchases.{paying}
-use Rattle.xcm_program.specs.declared.instruction.Instruction.{Instruction, out-Instruction, out-roll-Instruction}
+use Rattle.xcm_program.specs.declared.instruction.Instruction.{Instruction, out-Instruction}
 use Rattle.xcm_program.specs.declared.instruction.Instruction.TheOpen.{Instruction-F}
 use Rattle.xcm_program.specs.Indices.{index}
 use Rattle.xcm_program.specs.declared.outcome.Outcome.{Outcome}
@@ -24,7 +22,7 @@ use Rattle.plain_lists.specs.Firsts.{change_first}
 use Rattle.channel_parts.specs.declared.cargo.Cargo.{Cargo}
 use Rattle.channel_parts.specs.declared.cargo.Cargo.TheVariants.{Nothing, Deposit}
 use Rattle.channel_parts.specs.declared.channel.Channel.{Channel}
-use Rattle.channel_parts.specs.Channels.{Waiting, Outgoing, with_waiting, away}
+use Rattle.channel_parts.specs.Channels.{Outgoing, with_waiting, away}
 use Rattle.exec_base.specs.declared.event.Event.{Event}
 use Rattle.exec_base.specs.declared.event.Part.{Part}
 use Rattle.exec_base.specs.declared.event.Part.TheVariants.{Appendix}
@@ -34,7 +32,7 @@ use Rattle.exec_base.specs.Sending as sending_to
 use Rattle.exec_base.specs.Sending.{sent, deposit_program, away_program, listed_program}
 use Rattle.exec_base.specs.Host.{withdrawn, received, deposited, transferred, transferred_out, deposited_out, raised_for, shipped, seen_from, querier_seen, report_program, responded, answered, is_query, bought, refunded, joined, booked, burnt, is_trap, claimed, trapped, settled, fee_to, fee_held, fee_kept, fee_drawn, told}
 use Rattle.exec_run.specs.Machine.{Machine, machine}
-use Rattle.exec_run.specs.Run.{Stage, At, Ended, begin, to_appendix, to_handler, go_on, failed, without_handler, without_appendix, handler_dropped, traced, by_answer, next, steps, machine_of, left_after, run, still_to_run}
+use Rattle.exec_run.specs.Run.{Stage, At, Ended, begin, to_appendix, to_handler, go_on, failed, without_appendix, handler_dropped, traced, by_answer, next, steps, machine_of, left_after, still_to_run}
 use Rattle.exec_run.specs.Outcome.{owner_of, end_event, end_told, refund_surplus, refunded_last, finished}
 use Rattle.exec_rules.specs.Holdings.{at_origin, holding_more, holding_left, taken_of, payment_of, buying_done, refund_now, refund_done}
 use Rattle.exec_rules.specs.Fees.{after_fee, done_around}

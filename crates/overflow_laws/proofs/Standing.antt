@@ -10,7 +10,7 @@ use Rattle.exec_run.specs.Machine.{Machine}
 use Rattle.exec_admission.specs.declared.rules.ChainRules.{ChainRules}
 use Rattle.exec_admission.specs.Execution.{first_machine}
 use Rattle.network_steps.specs.Worlds as networks
-use Rattle.network_steps.specs.Worlds.{Member, chain_of}
+use Rattle.network_steps.specs.Worlds.{Member}
 use Rattle.conservation.specs.Parts.{Part, World}
 use Rattle.conservation.specs.Steps.{get_set_same}
 use Rattle.conservation.specs.Headline.{IsKept}

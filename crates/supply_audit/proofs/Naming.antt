@@ -1,12 +1,12 @@
 -- Chains by their names, paths of locations that are seen from the root, and units by their holders.
-use Rattle.std.specs.Prelude.{◌≡◌, ℕ, ◌+◌, ◌-◌, ◌&&◌, Bool, true, false, List, [], ◌∷◌, Option, None, Some, option_map, find, map, sum_by, refl}
+use Rattle.std.specs.Prelude.{◌≡◌, ℕ, ◌-◌, ◌&&◌, Bool, true, false, List, [], ◌∷◌, Option, None, Some, option_map, find, map, sum_by, refl}
 use Rattle.std.specs.Ordering.{eq_by_cmp}
 use Rattle.std.specs.Cmp.{both_ways}
-use Rattle.std.proofs.Common.{sym, ap, ◌∙◌, subst, arith, cond}
+use Rattle.std.proofs.Common.{sym, ◌∙◌, subst, arith, cond}
 use Rattle.std.proofs.lemmas.Bool.{and_parts, and_from}
 use Rattle.std.proofs.lemmas.List.Sums.{sum_by-cons}
-use Rattle.amounts.specs.Rows.{amount_if, sum_where}
-use Rattle.amounts.specs.Amounts.{amount, total, total_alike, amount-total}
+use Rattle.amounts.specs.Rows.{sum_where}
+use Rattle.amounts.specs.Amounts.{amount, total_alike, amount-total}
 use Rattle.amounts.specs.Laws.{same_key, key_same, total-from_rows}
 use Rattle.locations.specs.declared.grammar.Junction.{Junction}
 use Rattle.locations.specs.declared.relative.Location.{Location}
@@ -15,7 +15,7 @@ use Rattle.asset_lists.specs.declared.units.Asset.{Asset}
 use Rattle.asset_lists.specs.declared.units.AssetId.{AssetId}
 use Rattle.asset_lists.specs.declared.units.Instance.{Instance}
 use Rattle.asset_lists.specs.declared.units.Kind.{Kind}
-use Rattle.asset_lists.specs.Units.{Unit, unit_of, amount_of, asset_id_cmp}
+use Rattle.asset_lists.specs.Units.{asset_id_cmp}
 use Rattle.asset_lists.specs.UnitLaws.{asset_id_decides}
 use Rattle.asset_bundles.specs.Bundles.{bundle_of, unit_keys, rows_of, is_asset, is_kind}
 use Rattle.ledgers.specs.Ledgers.{Holder, Held, account_cmp, holder_cmp, is_account, is_holding_of, account_sum_of}

@@ -1,7 +1,7 @@
 -- Sums that saturate, element by element.
-use Rattle.std.specs.Prelude.{◌≡◌, ℕ, ◌+◌, ◌-◌, ◌<◌, ◌≤◌, ◌&&◌, Bool, true, false, Option, None, Some, option_map, find, min, List, [], ◌∷◌, ◌++◌, length, take, map, sum_by, refl}
-use Rattle.std.proofs.Common.{get_or, sym, ap, ◌∙◌, arith, cond}
-use Rattle.std.proofs.lemmas.List.{take_more, take_all}
+use Rattle.std.specs.Prelude.{◌≡◌, ℕ, ◌+◌, ◌-◌, ◌<◌, min, List, [], ◌∷◌, ◌++◌, length, take, map, sum_by}
+use Rattle.std.proofs.Common.{get_or, sym, ap, ◌∙◌, arith}
+use Rattle.std.proofs.lemmas.List.{take_more}
 use Rattle.std.proofs.lemmas.List.Sums.{sum_by-append}
 
 -- sums of what saturates saturate as the whole does

@@ -1,7 +1,6 @@
 -- What a network has of an asset over all its homes, and what covers a derivative. A home is a chain that lists the asset as native. This
 -- project's own rule.
 use Rattle.std.specs.Prelude.{ℕ, ◌+◌, if◌then◌else◌, List, Option, Some, None, find, slice_get, sum_by}
-use Rattle.std.specs.Option.{option_and_then}
 use Rattle.chain_ids.specs.declared.chain.ChainId.{ChainId}
 use Rattle.chain_ids.specs.Chains.{same_chain}
 use Rattle.trust_tables.specs.declared.rows.AssetRow.{AssetRow}

@@ -1,5 +1,5 @@
 -- The lines of the block, from sums and from totals.
-use Rattle.std.proofs.Common.{◌≡◌, ◌∙◌, ℕ, List, ◌++◌}
+use Rattle.std.proofs.Common.{◌≡◌, ℕ, List, ◌++◌}
 use Rattle.std.specs.Prelude.{codes}
 use Rattle.locations.specs.declared.grammar.Junction.{Junction}
 use Rattle.location_wire.specs.Texts.{path_text}

@@ -1,5 +1,5 @@
 -- Whether both versions can say an instruction, by its head and the program inside.
-use Rattle.std.proofs.Common.{◌≡◌, ℕ, suc, ◌+◌, ◌<◌, Bool, true, false, ◌&&◌, List, length, get_or, drop, Option, refl, sym, ap, ◌∙◌, add-one, drop-cons}
+use Rattle.std.proofs.Common.{◌≡◌, ℕ, suc, ◌+◌, ◌<◌, Bool, true, false, ◌&&◌, List, length, get_or, drop, Option, sym, ap, ◌∙◌, add-one, drop-cons}
 use Rattle.xcm_program.specs.declared.instruction.Instruction.{Instruction, out-Instruction}
 use Rattle.xcm_program.specs.Measure.{inner_of}
 use Rattle.xcm_program.specs.Conversions.{names_places, is_convertible_one, is_convertible}

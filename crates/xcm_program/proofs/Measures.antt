@@ -1,5 +1,5 @@
 -- The measures of an instruction, by the program that was found inside.
-use Rattle.std.proofs.Common.{◌≡◌, ℕ, ◌+◌, List, Option, ap, ◌∙◌}
+use Rattle.std.proofs.Common.{◌≡◌, ◌+◌, List, Option, ap, ◌∙◌}
 use Rattle.xcm_program.specs.declared.instruction.Instruction.{Instruction, out-Instruction}
 use Rattle.xcm_program.specs.Measure.{inner_of, deep_count_one, depth_one, sending, sends_one}
 use Rattle.xcm_program.specs.Laws.{deep_count_inside, deep_count_one-is, depth_inside, depth_one-is, sends_inside, sends_one-is}

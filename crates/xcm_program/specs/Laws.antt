@@ -6,9 +6,9 @@ use Rattle.std.specs.List.{AllByRecursion}
 use Rattle.message_parts.specs.declared.weight.Weight.{Weight}
 use Rattle.xcm_program.specs.declared.instruction.Instruction.{Instruction, out-Instruction, roll-Instruction, roll-out-Instruction, fold-Instruction, fold_out-Instruction, map-Instruction, rec-roll-Instruction}
 use Rattle.xcm_program.specs.declared.instruction.Instruction.TheOpen.{Instruction-F}
-use Rattle.xcm_program.specs.Measure.{inner, with_inner, inner_of, total, sum_inside, greatest, greatest_inside, deep_count_one, deep_count, depth_one, depth, sending, sends_one, sends}
+use Rattle.xcm_program.specs.Measure.{inner, with_inner, inner_of, total, sum_inside, greatest, greatest_inside, deep_count_one, deep_count, depth_one, depth, sending, sends_one}
 use Rattle.xcm_program.specs.Everywhere.{AllInside, Everywhere}
-use Rattle.xcm_program.specs.Weights.{kept, required, kept_one, kept_count, weight_one, weight_in}
+use Rattle.xcm_program.specs.Weights.{kept, required, kept_one, weight_one}
 use Rattle.xcm_program.specs.Conversions.{names_places, all_true_inside, is_convertible_one, is_convertible, HasAmount, HasAmounts}
 
 -- ---- parts of a layer, with f of each instruction in it

@@ -1,4 +1,4 @@
-use Rattle.std.proofs.Common.{[], ◌∷◌, sym, ap, ◌∙◌, inr}
+use Rattle.std.proofs.Common.{sym, ap, ◌∙◌, inr}
 use Rattle.exec_base.specs.Part.{ChainPart}
 use Rattle.exec_base.specs.Host.{fee_to, fee_drawn}
 use Rattle.chain_state_rows.proofs.host_rows.charge.Goals as goal

@@ -1,8 +1,6 @@
 use Rattle.serde_json.specs.View.{view}
-use Rattle.std.proofs.Common.{◌∙◌}
 use Rattle.std.specs.Prelude.{codes}
 use Rattle.barriers.specs.declared.barrier.Barrier.TheVariants.{Explicit, Unpaid}
-use Rattle.document_forms.specs.Answers.{Stops}
 use Rattle.document_entries.specs.Entries.{locations}
 use Rattle.document_entries.proofs.BothFields.{both}
 use Rattle.document_entries.proofs.barrier.barrier_of_object.Goals as goal

@@ -1,6 +1,6 @@
 use Rattle.std.proofs.Common.{sym, ◌∙◌}
 use Rattle.fake_host.proofs.Queries.{none_if}
-use Rattle.fake_host.proofs.NamedLists.{goes_on, stops, ends, begins}
+use Rattle.fake_host.proofs.NamedLists.{goes_on, stops}
 use Rattle.fake_host.proofs.naming.all_moved.Goals as goal
 
 pub loop-asset-preserved : goal.loop-asset-preserved

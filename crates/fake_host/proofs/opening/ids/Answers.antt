@@ -1,7 +1,5 @@
-use Rattle.std.proofs.Common.{◌++◌, [], ◌∷◌, sym, ap, ◌∙◌}
-use Rattle.locations.specs.declared.relative.Location.{Location}
+use Rattle.std.proofs.Common.{◌++◌, [], ◌∷◌, sym, ◌∙◌}
 use Rattle.asset_lists.specs.declared.units.AssetId.TheVariants.{Concrete}
-use Rattle.trust_tables.specs.Trust.{listing}
 use Rattle.fake_host.proofs.Listings.{one_more}
 use Rattle.fake_host.proofs.opening.ids.Goals as goal
 

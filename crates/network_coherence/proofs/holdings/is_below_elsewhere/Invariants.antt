@@ -1,5 +1,5 @@
 use Rattle.std.proofs.Common.{◌≡◌, drop}
-use Rattle.std.specs.Prelude.{nat_lt, sum_by}
+use Rattle.std.specs.Prelude.{nat_lt}
 use Rattle.coherence.specs.Networks.{asset_of_row}
 use Rattle.coherence.specs.Causes.{elsewhere}
 use Rattle.network_genesis.specs.Genesis.{entries_of}

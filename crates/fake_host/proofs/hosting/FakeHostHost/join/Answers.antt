@@ -1,4 +1,4 @@
-use Rattle.std.proofs.Common.{◌++◌, sym, ap, ◌∙◌}
+use Rattle.std.proofs.Common.{◌++◌, ap, ◌∙◌}
 use Rattle.asset_bundles.specs.Books.{Book, Booked, given_up}
 use Rattle.asset_bundles.specs.Laws.{listed-Booked}
 use Rattle.trust_tables.specs.Trust.{listing}

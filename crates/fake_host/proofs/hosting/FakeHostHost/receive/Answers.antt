@@ -1,5 +1,5 @@
 use Rattle.std.proofs.Common.{◌≡◌, ◌-◌, true, refl, sym, ap, ◌∙◌, subst, if◌then◌else◌}
-use Rattle.std.specs.Prelude.{None, Some}
+use Rattle.std.specs.Prelude.{None}
 use Rattle.asset_lists.specs.Lists.{is_rising}
 use Rattle.asset_lists.specs.Laws.{once_each}
 use Rattle.asset_bundles.specs.Bundles.{bundle_of}

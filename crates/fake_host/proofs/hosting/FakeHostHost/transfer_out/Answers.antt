@@ -1,5 +1,4 @@
-use Rattle.std.proofs.Common.{◌≡◌, refl, sym, ap, ◌∙◌, subst}
-use Rattle.std.specs.Prelude.{None, Some}
+use Rattle.std.proofs.Common.{refl, sym, ◌∙◌, subst}
 use Rattle.exec_base.specs.Sending.{deposit_program, listed_refusal, number_to}
 use Rattle.exec_base.specs.Host.{seen_from, transfer_refusal, transfer_out_refusal, transferred_out}
 use Rattle.fake_host.specs.PartOf.{part_of}

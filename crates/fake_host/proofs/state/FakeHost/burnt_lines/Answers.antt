@@ -1,10 +1,9 @@
-use Rattle.std.proofs.Common.{◌≡◌, true, Vec, Global, map, sym, ap, ◌∙◌, subst}
-use Rattle.std.specs.Prelude.{None, Some, IfOk}
+use Rattle.std.proofs.Common.{◌≡◌, true, Vec, Global, map, sym, ◌∙◌, subst}
+use Rattle.std.specs.Prelude.{Some, IfOk}
 use Rattle.std.specs.List.{list_all}
 use Rattle.asset_lists.specs.Units.{unit_of}
 use Rattle.asset_lists.specs.Listed.{listed_of, lists}
 use Rattle.asset_bundles.specs.declared.book.Cause.{Cause}
-use Rattle.asset_bundles.specs.Joins.{Excess}
 use Rattle.trust_tables.specs.Trust.{listing}
 use Rattle.exec_base.specs.declared.event.Event.{Event}
 use Rattle.exec_base.specs.Host.{burned_line, burned_lines}

@@ -1,4 +1,4 @@
-use Rattle.std.proofs.Common.{◌≡◌, refl, sym, ap, ◌∙◌, subst, if◌then◌else◌}
+use Rattle.std.proofs.Common.{◌≡◌, refl, sym, ◌∙◌, subst, if◌then◌else◌}
 use Rattle.std.specs.Prelude.{None, Some}
 use Rattle.asset_bundles.specs.Bundles.{held_assets}
 use Rattle.exec_base.specs.Sending.{or_else, away_program, listed_refusal}

@@ -1,5 +1,4 @@
-use Rattle.std.proofs.Common.{sym, ap, ◌∙◌, subst}
-use Rattle.std.specs.Prelude.{None}
+use Rattle.std.proofs.Common.{sym, ap, ◌∙◌}
 use Rattle.asset_bundles.specs.Bundles.{bundle_of}
 use Rattle.asset_bundles.specs.BundleLaws.{bundle_of-none}
 use Rattle.ledgers.specs.Ledgers.{Withdrawn}
