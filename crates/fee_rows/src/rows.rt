@@ -18,6 +18,8 @@ use std::marker::Model;
 #[derive(Drop)]
 pub struct FeeRows {
     rows: Vec<FeeRow>,
+    // Whether it is known that nothing is kept.
+    is_clear: bool,
 }
 
 impl Model for FeeRows {
@@ -31,8 +33,11 @@ impl Model for FeeRows {
     ghost use Rattle.std.specs.List.Sorted.{IsStrictlySortedBy};
     ghost use Rattle.std.specs.Map.{keys_of};
     ghost use Rattle.asset_lists.specs.Units.{unit_cmp};
+    ghost use Rattle.std.specs.Prelude.{IsTrue, ◌≡◌};
+    ghost use Rattle.amounts.specs.Amounts.{empty};
+    ghost use Rattle.fee_rows.specs.Fees.{kept_goods};
 
-    ghost invariant = { λ f. IsStrictlySortedBy unit_cmp (keys_of f.rows.items) };
+    ghost invariant = { λ f. IsStrictlySortedBy unit_cmp (keys_of f.rows.items) × (IsTrue f.is_clear → kept_goods f.rows.items ≡ empty) };
 }
 
 /// A row for each id, with nothing in it.
@@ -74,7 +79,10 @@ impl FeeRows {
         ids.sort_unstable();
         ids.dedup();
         let rows = new_rows(alloc, ids.as_slice())?;
-        Ok(FeeRows { rows })
+        Ok(FeeRows {
+            rows,
+            is_clear: true,
+        })
     }
 
     /// The rows, by the ids of their assets.
@@ -85,10 +93,14 @@ impl FeeRows {
         self.rows.as_slice()
     }
 
-    /// What is kept of a fungible asset, in its smallest unit; 0 where it has no row.
+    /// What is kept of a fungible asset, in its smallest unit; 0 where it has no row. It takes no time in proportion to the rows where
+    /// nothing is kept.
     pub fn total(&self, id: &AssetId) -> Total
         ensures total { total_value result ≡ amount (kept_goods self.now) (id.now, None) }
     {
+        if self.is_clear {
+            return Total { low: 0, high: 0 };
+        }
         for row in self.rows.as_slice() {
             if row.is_of(id) {
                 return row.sum();
@@ -103,6 +115,7 @@ impl FeeRows {
         ensures kept { kept_goods self.new ≡ Kept (kept_goods self.old) goods }
         ensures rows { (unit : Unit) → has_row self.new unit ≡ has_row self.old unit }
     {
+        self.is_clear = false;
         raise_all(self.rows.as_mut_slice(), &goods);
         goods.melt();
     }
@@ -112,6 +125,10 @@ impl FeeRows {
         ensures none { kept_goods self.new ≡ empty }
         ensures rows { (unit : Unit) → has_row self.new unit ≡ has_row self.old unit }
     {
+        if self.is_clear {
+            return;
+        }
         clear_all(self.rows.as_mut_slice());
+        self.is_clear = true;
     }
 }

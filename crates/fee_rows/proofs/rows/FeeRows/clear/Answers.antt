@@ -11,13 +11,13 @@ pub invariant_of-self : goal.invariant_of-self
 invariant_of-self c =
     let size = sym c.as_mut_slice.ensures.len ∙ ap length c.as_mut_slice.ensures.value in
     let whole = whole_mapped cleared c.self.inside.rows.items c.clear_all.new.rows _ (c.clear_all.ensures ∙ ap (map cleared) c.as_mut_slice.ensures.value) size in
-    subst (λ (fees : List Fee). IsStrictlySortedBy unit_cmp (keys_of fees)) (sym whole) (rising_changed (λ (unit : Unit) n. zero) c.self.inside.rows.items c.self.invariant)
+    (subst (λ (fees : List Fee). IsStrictlySortedBy unit_cmp (keys_of fees)) (sym whole) (rising_changed (λ (unit : Unit) n. zero) c.self.inside.rows.items c.self.invariant.0), λ clear. ap kept_goods whole ∙ kept_cleared c.self.inside.rows.items c.self.invariant.0)
 
 pub returns-clause-none : goal.returns-clause-none
 returns-clause-none c =
     let size = sym c.as_mut_slice.ensures.len ∙ ap length c.as_mut_slice.ensures.value in
     let whole = whole_mapped cleared c.self.inside.rows.items c.clear_all.new.rows _ (c.clear_all.ensures ∙ ap (map cleared) c.as_mut_slice.ensures.value) size in
-    ap kept_goods whole ∙ kept_cleared c.self.inside.rows.items c.self.invariant
+    ap kept_goods whole ∙ kept_cleared c.self.inside.rows.items c.self.invariant.0
 
 pub returns-clause-rows : goal.returns-clause-rows
 returns-clause-rows c = λ u.

@@ -1,4 +1,4 @@
-use Rattle.std.proofs.Common.{◌+◌, ◌-◌, min, List, length, map, sym, ap, ◌∙◌, subst}
+use Rattle.std.proofs.Common.{true≢false, ◌+◌, ◌-◌, min, List, length, map, sym, ap, ◌∙◌, subst}
 use Rattle.std.specs.List.Sorted.{IsStrictlySortedBy}
 use Rattle.std.specs.Map.{keys_of}
 use Rattle.amounts.specs.Amounts.{amount}
@@ -14,7 +14,7 @@ invariant_of-self c =
     let goods = c.args.goods in
     let size = sym c.as_mut_slice.ensures.len ∙ ap length c.as_mut_slice.ensures.value in
     let whole = whole_mapped (raised goods) c.self.inside.rows.items c.raise_all.new.rows _ (c.raise_all.ensures ∙ ap (map (raised goods)) c.as_mut_slice.ensures.value) size in
-    subst (λ (fees : List Fee). IsStrictlySortedBy unit_cmp (keys_of fees)) (sym whole) (rising_changed (λ (unit : Unit) n. n + min (amount goods unit) (most_burned - n)) c.self.inside.rows.items c.self.invariant)
+    (subst (λ (fees : List Fee). IsStrictlySortedBy unit_cmp (keys_of fees)) (sym whole) (rising_changed (λ (unit : Unit) n. n + min (amount goods unit) (most_burned - n)) c.self.inside.rows.items c.self.invariant.0), λ clear. absurd (true≢false (sym clear)))
 
 pub returns-clause-kept : goal.returns-clause-kept
 returns-clause-kept c =
@@ -22,7 +22,7 @@ returns-clause-kept c =
     let size = sym c.as_mut_slice.ensures.len ∙ ap length c.as_mut_slice.ensures.value in
     let whole = whole_mapped (raised goods) c.self.inside.rows.items c.raise_all.new.rows _ (c.raise_all.ensures ∙ ap (map (raised goods)) c.as_mut_slice.ensures.value) size in
     ap kept_goods whole
-    ∙ kept_raised c.self.inside.rows.items goods c.self.invariant (subst (λ (fees : List Fee). HaveRowsFor fees goods) (sym c.self.view_is) c.requires.rows)
+    ∙ kept_raised c.self.inside.rows.items goods c.self.invariant.0 (subst (λ (fees : List Fee). HaveRowsFor fees goods) (sym c.self.view_is) c.requires.rows)
     ∙ ap (λ (fees : List Fee). Kept (kept_goods fees) goods) c.self.view_is
 
 pub returns-clause-rows : goal.returns-clause-rows

@@ -15,8 +15,8 @@ pub invariant_of-result : goal.invariant_of-result
 invariant_of-result c =
     let left = dedup_is (eq_by_cmp asset_id_cmp) _ _ c.dedup.ensures.filtered in
     let rows = c.in_ok-rows.ensures ∙ ap (map no_fee) (c.as_slice.ensures.value ∙ left) in
-    subst (λ (fees : List Fee). IsStrictlySortedBy unit_cmp (keys_of fees)) (sym rows)
-    (rising_opened _ (IsStrictlySortedBy-dedup asset_id_total (λ x y. refl) _ c.sort_unstable.ensures.sorted))
+    let rising = IsStrictlySortedBy-dedup asset_id_total (λ x y. refl) _ c.sort_unstable.ensures.sorted in
+    (subst (λ (fees : List Fee). IsStrictlySortedBy unit_cmp (keys_of fees)) (sym rows) (rising_opened _ rising), λ clear. ap kept_goods rows ∙ nothing_opened _ rising)
 
 pub returns-clause-rows : goal.returns-clause-rows
 returns-clause-rows c =

@@ -2,7 +2,8 @@ use Rattle.std.proofs.Common.{List, None, refl, sym, ap, ◌∙◌}
 use Rattle.std.specs.Prelude.{unwrap_or}
 use Rattle.std.specs.FinMap.{find}
 use Rattle.asset_lists.specs.Units.{Unit, unit_cmp}
-use Rattle.amounts.specs.Amounts.{amount}
+use Rattle.amounts.specs.Amounts.{amount, amount-empty}
+use Rattle.asset_bundles.specs.Bundles.{Bundle, unit_keys}
 use Rattle.fee_rows.specs.Fees.{Fee, kept_goods}
 use Rattle.fee_rows.specs.Laws.{kept_at}
 use Rattle.fee_rows.proofs.Reading.{next_row, here_row, no_row}
@@ -17,7 +18,14 @@ returns-then-is_of c =
     let found = here_row u _ c.loop-row.row-index _ c.loop-row-test.true c.row-item.is (sym c.is_of.ensures ∙ c.if-is_of.true) c.loop-row.invariant in
     record {
       total = c.sum.ensures ∙ sym found ∙ ap (λ (fees : List Fee). unwrap_or (find unit_cmp u fees) 0) c.as_slice-row-items.ensures.value
-          ∙ sym (kept_at c.self.inside.rows.items u c.self.invariant) ∙ ap (λ (fees : List Fee). amount (kept_goods fees) u) c.self.view_is;
+          ∙ sym (kept_at c.self.inside.rows.items u c.self.invariant.0) ∙ ap (λ (fees : List Fee). amount (kept_goods fees) u) c.self.view_is;
+    }
+
+pub returns-then-self : goal.returns-then-self
+returns-then-self c =
+    let u : Unit = (c.args.id.now, None) in
+    record {
+      total = sym (ap (λ (goods : Bundle). amount goods u) (c.self.invariant.1 c.if-self.true) ∙ amount-empty unit_keys u) ∙ ap (λ (fees : List Fee). amount (kept_goods fees) u) c.self.view_is;
     }
 
 pub loop-row-preserved : goal.loop-row-preserved
@@ -29,5 +37,5 @@ returns c =
     let none = no_row u _ c.loop-row.row-index c.loop-row-test.false c.loop-row.invariant in
     record {
       total = sym none ∙ ap (λ (fees : List Fee). unwrap_or (find unit_cmp u fees) 0) c.as_slice-row-items.ensures.value
-          ∙ sym (kept_at c.self.inside.rows.items u c.self.invariant) ∙ ap (λ (fees : List Fee). amount (kept_goods fees) u) c.self.view_is;
+          ∙ sym (kept_at c.self.inside.rows.items u c.self.invariant.0) ∙ ap (λ (fees : List Fee). amount (kept_goods fees) u) c.self.view_is;
     }
