@@ -2,4 +2,5 @@ pub mod Listing
 pub mod Splits
 pub mod Normals
 pub mod Totals
+pub mod Ends
 pub mod Shares

@@ -1,5 +1,5 @@
 -- Two lists, each in two parts.
-use Rattle.std.specs.Prelude.{◌≡◌, ℕ, ◌+◌, ◌-◌, ◌<◌, ◌≤◌, ◌↔◌, Bool, true, false, IsTrue, refl, List, [], ◌∷◌, ◌++◌, length, take, drop}
+use Rattle.std.specs.Prelude.{◌≡◌, ◌≢◌, ℕ, ◌+◌, ◌-◌, ◌<◌, ◌≤◌, ◌↔◌, Bool, true, false, IsTrue, refl, List, [], ◌∷◌, ◌++◌, length, take, drop}
 use Rattle.std.specs.Ordering.{eq_by_cmp}
 use Rattle.std.specs.Cmp.{both_ways}
 use Rattle.std.proofs.Common.{get_or, true≢false, sym, ap, ◌∙◌, arith, append_assoc, length-append, length-drop}
@@ -91,3 +91,12 @@ path_answer answer context other_context front back other_front other_back id ot
     let decides = junctions_decides (path_of context id) (path_of other_context other_id) in
     both_ways answer (eq_by_cmp junctions_cmp (path_of context id) (path_of other_context other_id))
     (λ e. decides.1 (sym first ∙ says.0 e ∙ second)) (λ e. says.1 (first ∙ decides.0 e ∙ sym second))
+
+-- ends that differ make two paths differ
+pub paths_apart : (context other_context back other_back : List Junction) (id other_id : Location) → back ≡ id.interior → other_back ≡ other_id.interior
+    → ((front other_front : List Junction) → front ++ back ≢ other_front ++ other_back) → false ≡ eq_by_cmp junctions_cmp (path_of context id) (path_of other_context other_id)
+paths_apart context other_context back other_back id other_id is_back is_other_back apart =
+    let front = without_last id.parents context in
+    let other_front = without_last other_id.parents other_context in
+    path_answer false context other_context front back other_front other_back id other_id refl is_back refl is_other_back
+    (never (front ++ back ≡ other_front ++ other_back) (apart front other_front))

@@ -1,6 +1,10 @@
 //! What chains list: rows of one path, ids that aren't normal, and rows that a partner or a reserve doesn't list.
 ghost use Rattle.std.specs.Prelude.{◌≡◌, ◌&&◌};
 ghost use Rattle.std.specs.List.{list_any};
+ghost use Rattle.std.specs.Ordering.{eq_by_cmp};
+ghost use Rattle.locations.specs.Order.{junctions_cmp};
+ghost use Rattle.locations.specs.Chains.{path_of};
+ghost use Rattle.asset_lists.specs.Listed.{same_kind};
 ghost use Rattle.chain_ids.specs.Chains as chain_ids;
 ghost use Rattle.coherence.specs.Networks.{is_native_role};
 ghost use Rattle.coherence.specs.Causes as causes;
@@ -118,45 +122,28 @@ pub(crate) fn is_native(role: &AssetRole) -> bool
     }
 }
 
-/// Whether a row of the second chain is of the asset of a row of the first.
-fn is_twin(
-    spec: &NetworkSpec,
-    here: &ChainSpec,
-    row: &AssetRow,
-    there: &ChainSpec,
-    other: &AssetRow,
-) -> bool
-    ensures { result ≡ causes.is_twin (table_of spec.now here.now) row.now (table_of spec.now there.now) other.now }
-{
-    is_asset(
-        &context_of(spec, there),
-        &other.id,
-        other.kind,
-        &context_of(spec, here),
-        row,
-    )
-}
-
-/// Whether a row of the second chain is of the row's asset, native, with the first chain as partner.
+/// Whether a row of another chain is of the row's asset, native, with the row's chain as partner.
 fn is_back(
-    spec: &NetworkSpec,
-    here: &ChainSpec,
+    home: &Junctions,
+    chain: ChainId,
     row: &AssetRow,
-    there: &ChainSpec,
+    context: &Junctions,
     other: &AssetRow,
 ) -> bool
-    ensures { result ≡ (causes.is_twin (table_of spec.now here.now) row.now (table_of spec.now there.now) other.now && causes.has_partner here.now.chain other.now.role) }
+    ensures { result ≡ ((eq_by_cmp junctions_cmp (path_of context.now other.now.id) (path_of home.now row.now.id) && same_kind other.now.kind row.now.kind) && causes.has_partner chain other.now.role) }
 {
-    has_partner(here.chain, &other.role) && is_twin(spec, here, row, there, other)
+    is_asset(context, &other.id, other.kind, home, row) && has_partner(chain, &other.role)
 }
 
 /// Whether the second chain lists the row's asset as native with the first chain as partner.
 fn has_back(spec: &NetworkSpec, here: &ChainSpec, row: &AssetRow, there: &ChainSpec) -> bool
     ensures { result ≡ parts.has_back (table_of spec.now here.now) row.now (table_of spec.now there.now) }
 {
+    let home = context_of(spec, here);
+    let context = context_of(spec, there);
     let rows = there.assets.items();
     rows.iter()
-        .any(|other| is_back(spec, here, row, there, other))
+        .any(|other| is_back(&home, here.chain, row, &context, other))
 }
 
 /// Whether the second chain is this one, and lists the row's asset as native with the first chain as partner.
@@ -251,26 +238,22 @@ pub(crate) fn partner_unlisted(spec: &NetworkSpec) -> Option<Incoherent>
     None
 }
 
-/// Whether a row of the second chain is of the row's asset, and native.
-fn is_source(
-    spec: &NetworkSpec,
-    here: &ChainSpec,
-    row: &AssetRow,
-    there: &ChainSpec,
-    other: &AssetRow,
-) -> bool
-    ensures { result ≡ (causes.is_twin (table_of spec.now here.now) row.now (table_of spec.now there.now) other.now && is_native_role other.now.role) }
+/// Whether a row of another chain is of the row's asset, and native.
+fn is_source(home: &Junctions, row: &AssetRow, context: &Junctions, other: &AssetRow) -> bool
+    ensures { result ≡ ((eq_by_cmp junctions_cmp (path_of context.now other.now.id) (path_of home.now row.now.id) && same_kind other.now.kind row.now.kind) && is_native_role other.now.role) }
 {
-    is_native(&other.role) && is_twin(spec, here, row, there, other)
+    is_native(&other.role) && is_asset(context, &other.id, other.kind, home, row)
 }
 
 /// Whether the second chain lists the row's asset as native.
 fn has_source(spec: &NetworkSpec, here: &ChainSpec, row: &AssetRow, there: &ChainSpec) -> bool
     ensures { result ≡ parts.has_source (table_of spec.now here.now) row.now (table_of spec.now there.now) }
 {
+    let home = context_of(spec, here);
+    let context = context_of(spec, there);
     let rows = there.assets.items();
     rows.iter()
-        .any(|other| is_source(spec, here, row, there, other))
+        .any(|other| is_source(&home, row, &context, other))
 }
 
 /// Whether the second chain is this one, and lists the row's asset as native.

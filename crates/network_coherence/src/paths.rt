@@ -1,5 +1,6 @@
 //! Paths of ids, and when two rows are of one asset.
-ghost use Rattle.std.specs.Prelude.{◌≡◌, ◌++◌, ◌&&◌, ◌↔◌, ◌≤◌, length, IsTrue};
+ghost use Rattle.std.specs.Prelude.{List, ◌≡◌, ◌≢◌, ◌++◌, ◌&&◌, ◌↔◌, ◌≤◌, length, IsTrue};
+ghost use Rattle.locations.specs.declared.grammar.Junction.{Junction};
 ghost use Rattle.std.specs.Ordering.{eq_by_cmp};
 ghost use Rattle.locations.specs.Order.{junctions_cmp};
 ghost use Rattle.locations.specs.Chains as locations;
@@ -27,7 +28,7 @@ pub(crate) fn same_chain(a: ChainId, b: ChainId) -> bool
 }
 
 /// Whether two kinds are one.
-fn same_kind(a: Kind, b: Kind) -> bool
+pub(crate) fn same_kind(a: Kind, b: Kind) -> bool
     ensures { result ≡ same_kind a b }
 {
     a == b
@@ -90,7 +91,31 @@ fn is_same_split(
     are_same(end, short_back)
 }
 
+/// Whether two junctions are of one kind that is a number, and of different numbers.
+fn are_apart(a: &Junction, b: &Junction) -> bool
+    ensures { IsTrue result → a.now ≢ b.now }
+{
+    match (a, b) {
+        (Junction::Parachain(a), Junction::Parachain(b)) => a != b,
+        (Junction::PalletInstance(a), Junction::PalletInstance(b)) => a != b,
+        (Junction::GeneralIndex(a), Junction::GeneralIndex(b)) => a != b,
+        _ => false,
+    }
+}
+
+/// Whether two lists end with different numbers: whatever stands before them, the lists are then different. That is what paths differ in
+/// most often.
+fn ends_apart(a: &[Junction], b: &[Junction]) -> bool
+    ensures { IsTrue result → (front other_front : List Junction) → front ++ a.now ≢ other_front ++ b.now }
+{
+    if a.is_empty() || b.is_empty() {
+        return false;
+    }
+    are_apart(&a[a.len() - 1], &b[b.len() - 1])
+}
+
 /// Whether two lists are the same, each in two parts.
+#[inline(never)]
 fn is_same_list(
     front: &[Junction],
     back: &[Junction],
@@ -123,10 +148,13 @@ pub fn same_path(
 ) -> bool
     ensures { result ≡ eq_by_cmp junctions_cmp (path_of context.now id.now) (path_of other_context.now other_id.now) }
 {
-    let front = kept(context, id);
     let back = id.interior.items();
-    let other_front = kept(other_context, other_id);
     let other_back = other_id.interior.items();
+    if ends_apart(back, other_back) {
+        return false;
+    }
+    let front = kept(context, id);
+    let other_front = kept(other_context, other_id);
     is_same_list(front, back, other_front, other_back)
 }
 
