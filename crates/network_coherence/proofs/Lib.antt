@@ -3,4 +3,5 @@ pub mod Splits
 pub mod Normals
 pub mod Totals
 pub mod Ends
+pub mod Coins
 pub mod Shares

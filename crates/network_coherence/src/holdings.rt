@@ -22,10 +22,10 @@ ghost use Rattle.network_coherence.specs.Parts.{chain_sharing, row_sharing, unba
 
 use crate::balances::{amount_at, amount_for, has_account, has_owner, is_of};
 use crate::listings::is_native;
-use crate::paths::{context_of, is_asset, same_chain};
+use crate::paths::{context_of, is_asset, same_chain, same_kind};
 use crate::sums::Sum;
 use crate::{Incoherent, IncoherentCause};
-use asset_lists::Fun;
+use asset_lists::{Fun, Kind};
 use chain_ids::ChainId;
 use locations::Junctions;
 use network_spec::{Balance, ChainSpec, NetworkSpec};
@@ -121,7 +121,7 @@ fn first_sharing(
     None
 }
 
-/// The same, where the row is native.
+/// The same, where the row is native. What has amounts has no instances.
 fn row_sharing(
     spec: &NetworkSpec,
     here: &ChainSpec,
@@ -130,6 +130,9 @@ fn row_sharing(
 ) -> Option<Incoherent>
     ensures { finding_of result ≡ row_sharing (entry_of spec.now here.now) (entries_in spec.now later.now) row.now }
 {
+    if same_kind(row.kind, Kind::Fungible) {
+        return None;
+    }
     if is_native(&row.role) {
         return first_sharing(spec, here, row, later);
     }
@@ -197,14 +200,23 @@ fn has_uncovered(
 }
 
 /// Whether the chain's account at the reserve has less than the chain's accounts have of the row's asset, or lacks one of its units.
+/// Where they have nothing there is no unit, and what has amounts is one unit.
 fn is_short(spec: &NetworkSpec, here: &ChainSpec, row: &AssetRow, reserve: &ChainSpec) -> bool
     ensures { result ≡ causes.is_short (asset_of_row (table_of spec.now here.now) row.now) (entry_of spec.now here.now) (Some (entry_of spec.now reserve.now)) }
 {
     let home = context_of(spec, here);
-    let kept = amount_for(spec, here.chain, &home, row, reserve);
     let owed = amount_at(spec, &home, row, here);
-    let accounts = here.accounts.items();
-    kept.is_below(owed) || has_uncovered(spec, here.chain, &home, row, accounts, reserve)
+    if owed.is_zero() {
+        return false;
+    }
+    let kept = amount_for(spec, here.chain, &home, row, reserve);
+    if kept.is_below(owed) {
+        return true;
+    }
+    if same_kind(row.kind, Kind::Fungible) {
+        return false;
+    }
+    has_uncovered(spec, here.chain, &home, row, here.accounts.items(), reserve)
 }
 
 /// The chain of this name.

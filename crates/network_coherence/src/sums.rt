@@ -1,5 +1,5 @@
 //! Sums of amounts that saturate nowhere.
-ghost use Rattle.std.specs.Prelude.{◌≡◌, ◌+◌, ◌-◌, ◌^◌, ◌<◌, ◌≤◌, nat_lt, if◌then◌else◌, None, Some};
+ghost use Rattle.std.specs.Prelude.{◌≡◌, ◌+◌, ◌-◌, ◌^◌, ◌<◌, ◌≤◌, nat_lt, if◌then◌else◌, None, Some, ◌↔◌, IsTrue};
 ghost use Rattle.network_coherence.specs.Balances.{sum_value};
 
 /// A sum of amounts, `high * 2^128 + low`: wide enough for as many amounts as a slice may have.
@@ -34,6 +34,13 @@ impl Sum {
             low: amount - (u128::MAX - self.low) - 1,
             high: self.high + 1,
         }
+    }
+
+    /// Whether it is 0.
+    pub(crate) fn is_zero(self) -> bool
+        ensures { IsTrue result ↔ (sum_value self ≡ 0) }
+    {
+        self.high == 0 && self.low == 0
     }
 
     /// Whether it is less than another sum.
