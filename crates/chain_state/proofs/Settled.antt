@@ -163,17 +163,28 @@ coins_more (x ∷ xs) id n = ap (λ es. (unit_of x, amount_of x) ∷ es) (coins_
 not_above : (n most : ℕ) → n ≤ most → nat_lt most n ≡ false
 not_above n most small = grind (arith, small)
 
-pub barred_more : (held : Held) (who : List ℕ) (xs : List Asset) (id : AssetId) (n : ℕ) → amount held (who, (id, None)) + n ≤ 2 ^ 128 - 1 → barred held who xs ≡ None → barred held who (xs ++ some_coins id n) ≡ None
-barred_more held who [] id n small free =
+pub barred_coins : (held : Held) (who : List ℕ) (id : AssetId) (n : ℕ) → amount held (who, (id, None)) + n ≤ 2 ^ 128 - 1 → barred held who (some_coins id n) ≡ None
+barred_coins held who id n small =
     elim (nat_lt 0 n) as (λ b. barred held who (if b then (record { id = id; fun = Fun.Fungible n }) ∷ [] else []) ≡ None) [
       | true ↦ ap (λ c. if c then Some (record { id = id; fun = Fun.Fungible n }) else None) (not_above (amount held (who, (id, None)) + n) (2 ^ 128 - 1) small)
       | false ↦ refl
     ]
-barred_more held who (x ∷ xs) id n small free =
-    elim (is_barred held who x) as (λ b. (if b then Some x else barred held who xs) ≡ None → (if b then Some x else barred held who (xs ++ some_coins id n)) ≡ None) [
+
+pub barred_more : (held : Held) (who : List ℕ) (xs more : List Asset) → barred held who more ≡ None → barred held who xs ≡ None → barred held who (xs ++ more) ≡ None
+barred_more held who [] more fits free = fits
+barred_more held who (x ∷ xs) more fits free =
+    elim (is_barred held who x) as (λ b. (if b then Some x else barred held who xs) ≡ None → (if b then Some x else barred held who (xs ++ more)) ≡ None) [
       | true ↦ λ h. absurd (cc)
-      | false ↦ λ h. barred_more held who xs id n small h
+      | false ↦ λ h. barred_more held who xs more fits h
     ] free
+
+-- ---- nothing came in of an asset
+pub none_in : (p : ChainPart) (u : Unit) (paid kept : ℕ) → paid ≡ amount (paid_goods p.lines) u → kept ≡ amount p.fees u → paid ≡ 0 → kept ≡ 0 → (0 ≡ amount (fees_within p) u) × (0 ≡ amount (fees_above p) u)
+none_in p u paid kept paid_is kept_is no_paid no_kept =
+    let whole = all_at p u in
+    let none : amount (all_fees p) u ≡ 0 = omega (arith, whole, paid_is, kept_is, no_paid, no_kept) in
+    let within = within_at p u in
+    (omega (arith, within, none), sym (nothing_above p u none))
 
 -- the rows of a bundle are assets in holding order
 pub rows_holding : (xs : List Asset) (goods : Bundle) → rows_of xs ≡ rows goods → IsHolding xs

@@ -58,16 +58,22 @@ impl ChainState {
         }
     }
 
-    /// What the fee account gets of a row's asset, and what would pass 2^128-1 there.
+    /// What the fee account gets of a row's asset, which it takes in, and what would pass 2^128-1 there. Where nothing came in, what the
+    /// account has isn't looked up.
     fn share(&self, row: &FeeRow) -> (u128, Wide)
         requires kept { row.now.1 ≡ amount (part_of self.now).fees row.now.0 }
         ensures within { result.0 ≡ amount (fees_within (part_of self.now)) row.now.0 }
         ensures above { wide_value result.1 ≡ amount (fees_above (part_of self.now)) row.now.0 }
-        ensures free { amount (part_of self.now).held ((part_of self.now).fee_account, row.now.0) + result.0 ≤ 2 ^ 128 - 1 }
+        ensures free { barred (part_of self.now).held (part_of self.now).fee_account (some_coins row.now.0.0 result.0) ≡ None }
     {
         let id = row.id();
+        let paid = self.paid_in(id);
+        let kept = row.sum();
+        if paid == 0 && kept.high == 0 && kept.low == 0 {
+            return (0, Wide { high: 0, low: 0 });
+        }
         let held = self.ledger.amount(&self.fee_account, id);
-        parted(held, self.paid_in(id), row.sum())
+        parted(held, paid, kept)
     }
 
     /// What the fee account gets, and what would pass 2^128-1 there, in holding order.

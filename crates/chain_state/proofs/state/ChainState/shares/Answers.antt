@@ -1,4 +1,4 @@
-use Rattle.std.proofs.Common.{◌≡◌, ◌+◌, ◌-◌, ◌≤◌, ◌^◌, ◌++◌, List, refl, sym, ap, ◌∙◌, subst}
+use Rattle.std.proofs.Common.{◌≡◌, ◌++◌, List, refl, sym, ap, ◌∙◌, subst}
 use Rattle.std.specs.Prelude.{None}
 use Rattle.std.specs.List.Sorted.{IsStrictlySortedBy}
 use Rattle.std.specs.Map.{keys_of}
@@ -11,6 +11,7 @@ use Rattle.fee_rows.specs.Fees.{Fee, kept_goods, some_row, some_rows}
 use Rattle.fee_rows.specs.Laws.{row_kept, rows_are}
 use Rattle.exec_base.specs.Host.{fees_within, fees_above}
 use Rattle.chain_state.specs.PartOf.{part_of}
+use Rattle.chain_state.specs.Settling.{some_coins}
 use Rattle.chain_state.proofs.Settled.{coins_more, barred_more, row_next, rows_end, within_rowed, above_rowed}
 use Rattle.chain_state.proofs.state.ChainState.shares.Goals as goal
 
@@ -31,10 +32,10 @@ loop-row-preserved c =
     let id = c.id.result.now in
     let n = c.share-fits.result.0 in
     let grown = ap rows_of c.in_ok-push_coins.ensures ∙ coins_more old id n ∙ (λ j. rows_of old ++ some_row (sym c.id.ensures j) (c.share-fits.ensures.within j)) in
-    let small = subst (λ (u : Unit). amount p.held (p.fee_account, u) + n ≤ 2 ^ 128 - 1) c.id.ensures c.share-fits.ensures.free in
+    let taken_in = subst (λ (u : Unit). barred p.held p.fee_account (some_coins u.0 n) ≡ None) c.id.ensures c.share-fits.ensures.free in
     record {
       within = row_next (amount (fees_within p)) items i fee (rows_of old) _ _ c.loop-row-test.true c.row-item.is grown c.loop-row.invariant.within;
-      free = subst (λ (xs : List Asset). barred p.held p.fee_account xs ≡ None) (sym c.in_ok-push_coins.ensures) (barred_more p.held p.fee_account old id n small c.loop-row.invariant.free);
+      free = subst (λ (xs : List Asset). barred p.held p.fee_account xs ≡ None) (sym c.in_ok-push_coins.ensures) (barred_more p.held p.fee_account old (some_coins id n) taken_in c.loop-row.invariant.free);
       above = row_next (amount (fees_above p)) items i fee c.loop-row.above.items _ _ c.loop-row-test.true c.row-item.is
           (c.in_ok-push_above.ensures ∙ (λ j. c.loop-row.above.items ++ some_row (sym c.id-in-loop-row.ensures j) (c.share-fits.ensures.above j))) c.loop-row.invariant.above;
     }
