@@ -1,3 +1,4 @@
 pub mod Saturating
 pub mod Naming
 pub mod Tables
+pub mod Quiet

@@ -6,7 +6,7 @@
 --   account_at      what one account has
 --   teleports_at    what is on its way as teleports that the chain sent
 --   deposits_to, withdrawals_to      what is on its way to one chain as deposits and as withdrawals that the chain sent
-use Rattle.std.specs.Prelude.{ℕ, ◌+◌, Bool, true, ◌&&◌, if◌then◌else◌, List, Option, Some, None, sum_by}
+use Rattle.std.specs.Prelude.{ℕ, ◌+◌, nat_eq, Bool, true, not, ◌&&◌, ◌||◌, if◌then◌else◌, List, length, Option, Some, None, sum_by}
 use Rattle.std.specs.Ordering.{eq_by_cmp}
 use Rattle.amounts.specs.Amounts.{amount, total}
 use Rattle.amounts.specs.Rows.{amount_if}
@@ -94,6 +94,10 @@ carried Deposits id kind Nothing = 0
 abbrev pub is_towards : Option ChainId → Outgoing → Bool
 is_towards None c = true
 is_towards (Some chain) c = same_chain c.channel.to chain
+
+-- no message waits in the channel, or it doesn't lead there
+abbrev pub is_quiet : Option ChainId → Outgoing → Bool
+is_quiet to c = not (is_towards to c) || nat_eq (length c.queue) 0
 
 -- what the messages of a channel carry, and those of all channels that lead there
 abbrev pub in_channel : Carried → AssetId → Kind → Outgoing → ℕ

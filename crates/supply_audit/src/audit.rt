@@ -7,12 +7,12 @@ ghost use Rattle.locations.specs.Chains.{path_of};
 ghost use Rattle.chain_ids.specs.Chains.{same_chain};
 ghost use Rattle.chain_state.specs.PartOf.{part_of};
 ghost use Rattle.coherence.specs.Networks.{asset_of_row};
-ghost use Rattle.supply_audit.specs.Places.{figure, over_rows, table_of};
+ghost use Rattle.supply_audit.specs.Places.{figure, over_rows, sent, table_of};
 ghost use Rattle.supply_audit.specs.Supply.{home, flight, burned, at_homes, chain_at, debt_at, debt_by, debt_of_row, held_for, owed_by, of_debt};
 ghost use Rattle.supply_audit.specs.Covering.{CoversBy};
 
 use crate::figures::{Carried, Figure};
-use crate::messages::same_chain;
+use crate::messages::{are_quiet, same_chain};
 use crate::places::{if_home, over_rows};
 use crate::totals::none;
 use crate::{Backing, Supply};
@@ -92,6 +92,22 @@ fn of_row(which: Figure, at: &ChainState, here: &ChainState, row: &AssetRow) -> 
     over_rows(which, at, &here.site().path(), &row.id, row.kind)
 }
 
+/// What a chain has sent to another of the asset in a row. Where no message waits, the rows aren't looked at.
+fn sent_of_row(
+    what: Carried,
+    to: ChainId,
+    at: &ChainState,
+    here: &ChainState,
+    row: &AssetRow,
+) -> Total
+    ensures { total_value result ≡ min (over_rows (part_of at.now) (asset_of_row (table_of (part_of here.now)) row.now) (sent what (Some to) (part_of at.now).channels)) most_burned }
+{
+    if are_quiet(Some(to), at.queues()) {
+        return none();
+    }
+    of_row(Figure::Sent(what, Some(to)), at, here, row)
+}
+
 /// What the account of a derivative's chain has at the reserve.
 fn held(here: &ChainState, there: &ChainState, row: &AssetRow) -> Total
     ensures { total_value result ≡ min (held_for (record { here = part_of here.now; there = part_of there.now; row = row.now })) most_burned }
@@ -104,11 +120,9 @@ fn held(here: &ChainState, there: &ChainState, row: &AssetRow) -> Total
 fn owed(here: &ChainState, there: &ChainState, row: &AssetRow) -> Total
     ensures { total_value result ≡ min (owed_by (record { here = part_of here.now; there = part_of there.now; row = row.now })) most_burned }
 {
-    let deposits = Figure::Sent(Carried::Deposits, Some(name_of(here)));
-    let withdrawals = Figure::Sent(Carried::Withdrawals, Some(name_of(there)));
     let placed = of_row(Figure::Placed, here, here, row);
-    let coming = of_row(deposits, there, here, row);
-    let leaving = of_row(withdrawals, here, here, row);
+    let coming = sent_of_row(Carried::Deposits, name_of(here), there, here, row);
+    let leaving = sent_of_row(Carried::Withdrawals, name_of(there), here, here, row);
     placed.sum(coming).sum(leaving)
 }
 
