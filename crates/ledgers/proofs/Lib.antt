@@ -14,6 +14,7 @@ pub mod Reading
 pub mod Opening
 pub mod Transferring
 pub mod LedgerLaws
+pub mod AccountOrders
 pub mod AccountGoods
 pub mod NextAccounts
 pub mod NextRows

@@ -1,5 +1,6 @@
 pub mod Ledgers
 pub mod Laws
+pub mod AccountKeys
 pub mod AssetHash
 pub mod AssetTable
 pub mod AssetKeys

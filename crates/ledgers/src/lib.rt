@@ -2,6 +2,7 @@
 #![tactic(auto)]
 
 mod account_goods;
+mod account_key;
 mod asset_table;
 mod faults;
 mod laws;

@@ -4,6 +4,7 @@ ghost use Rattle.std.specs.declared.cmp.Ordering.TheVariants.{Less};
 ghost use Rattle.ledgers.specs.Ledgers.{account_cmp, IsAfter};
 ghost use Rattle.ledgers.specs.LedgerRows.{AmountKey, amount_in_row, IsBefore, IsNextRow, IsNextOf};
 
+use crate::account_key::AccountKey;
 use crate::row_writes::AmountRows;
 
 /// The least account after another of which a row says more than 0. All such rows have numbers below `numbers`.
@@ -31,8 +32,9 @@ fn first_holder(rows: &AmountRows) -> Option<[u8; 32]>
 {
     let mut next = None;
     for (key, amount) in rows.iter() {
-        if *amount > 0 && is_before(&key.1, &next) {
-            next = Some(key.1);
+        let who = key.1.account();
+        if *amount > 0 && is_before(&who, &next) {
+            next = Some(who);
         }
     }
     next
@@ -62,12 +64,13 @@ fn holder_of(rows: &AmountRows, number: u32, after: &[u8; 32]) -> Option<[u8; 32
         ((w : List ℕ) → account_cmp after.now w ≡ Less → amount_in_row rows.now.entries (number, w) ≡ 0)
         (IsNextOf rows.now.entries number after.now) }
 {
-    for (key, amount) in rows.range((number, *after)..) {
+    for (key, amount) in rows.range((number, AccountKey::of(after))..) {
         if key.0 != number {
             return None;
         }
-        if *amount > 0 && after.cmp(&key.1).is_lt() {
-            return Some(key.1);
+        let who = key.1.account();
+        if *amount > 0 && after.cmp(&who).is_lt() {
+            return Some(who);
         }
     }
     None

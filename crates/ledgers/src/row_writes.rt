@@ -5,12 +5,13 @@ ghost use Rattle.std.specs.Map.{keys_of};
 ghost use Rattle.std.specs.List.Sorted.{IsStrictlySortedBy};
 ghost use Rattle.ledgers.specs.LedgerRows.{AmountKey, amount_key_cmp, OwnerKey, owner_key_cmp, amount_in_row, owner_at, AreSmall, HasAmountRow, HasOwnerRow};
 
+use crate::account_key::AccountKey;
 use asset_lists::Instance;
 use std::alloc::AllocError;
 use std::collections::BTreeMap;
 
 /// What each account has of each asset, by the asset's number and the account. A row may say 0.
-pub(crate) type AmountRows = BTreeMap<(u32, [u8; 32]), u128>;
+pub(crate) type AmountRows = BTreeMap<(u32, AccountKey), u128>;
 
 /// Who owns each instance, by its class's number and the instance. A row may name nobody.
 pub(crate) type OwnerRows = BTreeMap<(u32, Instance), Option<[u8; 32]>>;
@@ -19,7 +20,9 @@ pub(crate) type OwnerRows = BTreeMap<(u32, Instance), Option<[u8; 32]>>;
 pub(crate) fn amount_in(rows: &AmountRows, number: u32, who: &[u8; 32]) -> u128
     ensures { result ≡ amount_in_row rows.now.entries (number, who.now) }
 {
-    rows.get(&(number, *who)).copied().unwrap_or(0)
+    rows.get(&(number, AccountKey::of(who)))
+        .copied()
+        .unwrap_or(0)
 }
 
 /// Makes a row that says 0 where there is none.
@@ -33,7 +36,7 @@ pub(crate) fn make_amount_row(
     ensures made { OnOk result (HasAmountRow rows.new.entries (number, who.now)) }
     ensures small { AreSmall rows.old.entries → AreSmall rows.new.entries }
 {
-    let key = (number, *who);
+    let key = (number, AccountKey::of(who));
     if rows.contains_key(&key) {
         return Ok(());
     }
@@ -48,7 +51,7 @@ pub(crate) fn write_amount(rows: &mut AmountRows, number: u32, who: &[u8; 32], a
     ensures stay { (q : AmountKey) → HasAmountRow rows.old.entries q → HasAmountRow rows.new.entries q }
     ensures small { AreSmall rows.old.entries → AreSmall rows.new.entries }
 {
-    match rows.insert((number, *who), amount) {
+    match rows.insert((number, AccountKey::of(who)), amount) {
         Ok(_) => {}
         Err(_) => unreachable!(),
     }
@@ -62,7 +65,7 @@ pub(crate) fn sweep_amount(rows: &mut AmountRows, number: u32, who: &[u8; 32])
     if amount_in(rows, number, who) > 0 {
         return;
     }
-    rows.remove(&(number, *who));
+    rows.remove(&(number, AccountKey::of(who)));
 }
 
 /// The owner of an instance.

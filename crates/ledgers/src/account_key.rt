@@ -1,0 +1,125 @@
+//! An account as a key of rows.
+ghost use Rattle.std.specs.Prelude.{◌≡◌, ◌+◌, ◌<◌, ◌≤◌, refl, take, drop, length};
+ghost use Rattle.std.specs.List.{AllByRecursion};
+ghost use Rattle.std.specs.Slice.Scan.{big_endian};
+ghost use Rattle.std.specs.Ordering.{eq_by_cmp, as_partial_cmp};
+ghost use Rattle.std.specs.Cmp.{partial_equiv_from_equiv, eq_by_cmp_equiv, po};
+ghost use Rattle.ledgers.specs.Ledgers.{account_cmp};
+ghost use Rattle.ledgers.specs.AccountKeys.{accounts_total};
+
+use std::cmp::Ordering;
+use std::marker::Model;
+
+/// The 32 bytes of an account, compared eight at a time.
+#[derive(Drop)]
+pub(crate) struct AccountKey {
+    bytes: [u8; 32],
+}
+
+impl Model for AccountKey {
+    ghost use Rattle.std.specs.Prelude.{ℕ, List};
+
+    ghost Value = { List ℕ };
+
+    ghost view = { λ k. k.bytes };
+}
+
+impl AccountKey {
+    /// The key of an account.
+    pub(crate) fn of(who: &[u8; 32]) -> AccountKey
+        ensures { result ≡ who.now }
+    {
+        AccountKey { bytes: *who }
+    }
+
+    /// The account's bytes.
+    pub(crate) fn account(&self) -> [u8; 32]
+        ensures { result ≡ self.now }
+    {
+        self.bytes
+    }
+}
+
+impl PartialEq for AccountKey {
+    ghost eq = { eq_by_cmp account_cmp };
+
+    ghost laws = { partial_equiv_from_equiv (eq_by_cmp_equiv accounts_total) };
+
+    fn eq(&self, other: &AccountKey) -> bool {
+        self.cmp(other).is_eq()
+    }
+}
+
+impl Eq for AccountKey {
+    ghost laws = { eq_by_cmp_equiv accounts_total };
+}
+
+impl PartialOrd for AccountKey {
+    ghost partial_cmp = { as_partial_cmp account_cmp };
+
+    ghost laws = { po accounts_total (λ _ _. refl) };
+
+    fn partial_cmp(&self, other: &AccountKey) -> Option<Ordering> {
+        Some(self.cmp(other))
+    }
+}
+
+impl Ord for AccountKey {
+    ghost cmp = { account_cmp };
+
+    ghost total = { accounts_total };
+
+    ghost matches_partial_cmp = { λ _ _. refl };
+
+    ghost matches_eq = { λ _ _. refl };
+
+    fn cmp(&self, other: &AccountKey) -> Ordering {
+        order(&self.bytes, &other.bytes)
+    }
+}
+
+/// How two accounts stand by their bytes.
+fn order(a: &[u8; 32], b: &[u8; 32]) -> Ordering
+    ensures { result ≡ account_cmp a.now b.now }
+{
+    let first = part_order(a, b, 0);
+    if first.is_ne() {
+        return first;
+    }
+    let second = part_order(a, b, 8);
+    if second.is_ne() {
+        return second;
+    }
+    let third = part_order(a, b, 16);
+    if third.is_ne() {
+        return third;
+    }
+    part_order(a, b, 24)
+}
+
+/// How the eight bytes from a place on stand.
+fn part_order(a: &[u8; 32], b: &[u8; 32], at: usize) -> Ordering
+    requires { at + 8 ≤ 32 }
+    ensures { result ≡ account_cmp (take 8 (drop at a.now)) (take 8 (drop at b.now)) }
+{
+    word(a, at).cmp(&word(b, at))
+}
+
+/// The number of the eight bytes from a place on, the high one first.
+fn word(bytes: &[u8; 32], at: usize) -> u64
+    requires { at + 8 ≤ 32 }
+    ensures value { result ≡ big_endian 0 (take 8 (drop at bytes.now)) }
+    ensures eight { length (take 8 (drop at bytes.now)) ≡ 8 }
+    ensures bytes { AllByRecursion (λ b. b < 256) (take 8 (drop at bytes.now)) }
+{
+    u64::from_be_bytes([
+        bytes[at],
+        bytes[at + 1],
+        bytes[at + 2],
+        bytes[at + 3],
+        bytes[at + 4],
+        bytes[at + 5],
+        bytes[at + 6],
+        bytes[at + 7],
+    ])
+}
