@@ -4,7 +4,9 @@ use Rattle.std.specs.Ordering.{on}
 use Rattle.std.specs.declared.cmp.Ordering.{Ordering}
 use Rattle.std.specs.Cmp.{IsTotalOrder, on_total}
 use Rattle.std.specs.Coded.{Coded, coded_list}
+use Rattle.locations.specs.declared.relative.Location.{Location}
 use Rattle.asset_lists.specs.declared.units.AssetId.TheVariants.{Concrete}
+use Rattle.asset_lists.specs.declared.units.Kind.{Kind}
 use Rattle.asset_lists.specs.Listed.{Listed, listed_cmp}
 use Rattle.asset_bundles.specs.BookCode.{listed_code}
 use Rattle.asset_bundles.specs.Laws.{listed_keys}
@@ -12,6 +14,9 @@ use Rattle.ledgers.specs.declared.listed_asset.ListedAsset.{ListedAsset}
 
 abbrev pub key_of : ListedAsset → Listed
 key_of a = (Concrete a.id, a.kind)
+
+abbrev pub asset_at : Location → Kind → ListedAsset
+asset_at id kind = record { id = id; kind = kind }
 
 abbrev pub row_cmp : ListedAsset → ListedAsset → Ordering
 row_cmp = on key_of listed_cmp

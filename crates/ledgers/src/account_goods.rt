@@ -56,13 +56,13 @@ impl Rows {
     fn fungible(&self, who: &[u8; 32], number: u32) -> Option<Asset>
         ensures { result ≡ fungible_held_at (slice_get self.now.assets number) (amount_in_row self.now.amounts.entries (number, who.now)) }
     {
-        let (id, kind) = self.assets.get(number)?;
         let amount = amount_in(&self.amounts, number, who);
+        if amount == 0 {
+            return None;
+        }
+        let (id, kind) = self.assets.get(number)?;
         match kind {
             Kind::Fungible => {
-                if amount == 0 {
-                    return None;
-                }
                 let fun = Fun::Fungible(amount);
                 Some(Asset { id, fun })
             }
@@ -79,13 +79,13 @@ impl Rows {
     ) -> Option<Asset>
         ensures { result ≡ instance_held_at (slice_get self.now.assets key.now.0) key.now.1 (owned who.now owner.now) }
     {
+        if owned(*owner, who) == 0 {
+            return None;
+        }
         let (id, kind) = self.assets.get(key.0)?;
         match kind {
             Kind::Fungible => None,
             Kind::Class => {
-                if owned(*owner, who) == 0 {
-                    return None;
-                }
                 let fun = Fun::NonFungible(key.1);
                 Some(Asset { id, fun })
             }

@@ -5,7 +5,7 @@ ghost use Rattle.std.specs.List.{IsDistinct};
 ghost use Rattle.asset_lists.specs.Listed.{listed_cmp};
 ghost use Rattle.ledgers.specs.Ledgers.{listed_pair, number_in};
 
-use crate::listed_asset::ListedAsset;
+use crate::listed_asset::{ListedAsset, Sought};
 use asset_lists::{AssetId, Kind};
 use indexmap::IndexSet;
 use locations::Location;
@@ -69,11 +69,8 @@ impl AssetTable {
     {
         match id {
             AssetId::Concrete(place) => {
-                let asset = ListedAsset {
-                    id: place.copy(),
-                    kind,
-                };
-                match self.assets.get_index_of(&asset) {
+                let asset = Sought { id: place, kind };
+                match self.assets.get_index_of(asset) {
                     Some(number) => Some(number as u32),
                     None => None,
                 }

@@ -5,6 +5,7 @@ ghost use Rattle.asset_lists.specs.Listed.{kind_number};
 ghost use Rattle.ledgers.specs.AssetHash.{junction_input, location_input};
 
 use asset_lists::Kind;
+use indexmap::Equivalent;
 use locations::{Junction, Location};
 use std::hash::{Hash, Hasher};
 
@@ -46,6 +47,65 @@ impl Hash for ListedAsset {
 
     fn hash<H: Hasher>(&self, state: &mut H) {
         hash_location(&self.id, state);
+    }
+}
+
+/// An asset that is looked up in a list, with its place lent.
+#[derive(Clone, Copy)]
+pub(crate) struct Sought<'a> {
+    pub(crate) id: &'a Location,
+    pub(crate) kind: Kind,
+}
+
+impl PartialEq for Sought<'_> {
+    ghost use Rattle.std.specs.Cmp.{partial_equiv_from_equiv, eq_by_cmp_equiv, on_equiv};
+    ghost use Rattle.std.specs.Ordering.{eq_by_cmp};
+    ghost use Rattle.ledgers.specs.AssetTable.{row_cmp, rows_total, asset_at};
+
+    ghost eq = { λ a b. eq_by_cmp row_cmp (asset_at a.id.now a.kind) (asset_at b.id.now b.kind) };
+
+    ghost laws = { partial_equiv_from_equiv (on_equiv (λ a. asset_at a.id.now a.kind) (eq_by_cmp_equiv rows_total)) };
+
+    fn eq(&self, other: &Self) -> bool {
+        *self.id == *other.id && is_same_kind(self.kind, other.kind)
+    }
+}
+
+impl Eq for Sought<'_> {
+    ghost use Rattle.std.specs.Cmp.{eq_by_cmp_equiv, on_equiv};
+    ghost use Rattle.ledgers.specs.AssetTable.{rows_total, asset_at};
+
+    ghost laws = { on_equiv (λ a. asset_at a.id.now a.kind) (eq_by_cmp_equiv rows_total) };
+}
+
+impl Hash for Sought<'_> {
+    ghost use Rattle.ledgers.specs.AssetHash.{location_input};
+    ghost use Rattle.ledgers.specs.AssetTable.{asset_at};
+    ghost use Rattle.ledgers.specs.AssetKeys.{hashed_alike};
+
+    ghost hash_input = { λ a. location_input a.id.now };
+
+    ghost respects_eq = { λ a b. hashed_alike (asset_at a.id.now a.kind) (asset_at b.id.now b.kind) };
+
+    fn hash<H: Hasher>(&self, state: &mut H) {
+        hash_location(self.id, state);
+    }
+}
+
+impl Equivalent<ListedAsset> for Sought<'_> {
+    ghost use Rattle.std.specs.Cmp.{eq_by_cmp_equiv};
+    ghost use Rattle.std.specs.Ordering.{eq_by_cmp};
+    ghost use Rattle.ledgers.specs.AssetTable.{row_cmp, rows_total, asset_at};
+    ghost use Rattle.ledgers.specs.AssetKeys.{hashed_alike};
+
+    ghost equivalent = { λ q k. eq_by_cmp row_cmp (asset_at q.id.now q.kind) k };
+
+    ghost respects_hash = { λ q k. hashed_alike (asset_at q.id.now q.kind) k };
+
+    ghost respects_eq = { λ q. (eq_by_cmp_equiv rows_total).congr (asset_at q.id.now q.kind) };
+
+    fn equivalent(&self, key: &ListedAsset) -> bool {
+        *self.id == key.id && is_same_kind(self.kind, key.kind)
     }
 }
 
