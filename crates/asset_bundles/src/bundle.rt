@@ -114,6 +114,14 @@ impl AssetBundle {
         Ok(assets)
     }
 
+    /// The same, lent.
+    pub fn items(&self) -> &[Asset]
+        ensures listed { result.now ≡ held_assets self.now }
+        ensures bundle { bundle_of result.now ≡ self.now }
+    {
+        self.items.as_slice()
+    }
+
     /// What `take` would take, in holding order.
     pub fn min(&self, filter: &Filter) -> Result<Vec<Asset>, AllocError>
         ensures listed { IfOk result (λ assets. assets.items ≡ held_assets (Taken filter.now self.now)) }

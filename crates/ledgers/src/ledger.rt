@@ -208,16 +208,13 @@ impl Ledger {
         ensures fault { IfErr result (λ refusal. IsDepositFault self.old.held who.now (held_assets goods) refusal.1) }
         ensures kept { OnErr result (self.new ≡ self.old) }
     {
-        let Ok(assets) = goods.list() else {
-            return Err((goods, DepositFault::Memory));
-        };
-        if let Some(fault) = barred(&self.rows, who, assets.as_slice()) {
+        if let Some(fault) = barred(&self.rows, who, goods.items()) {
             return Err((goods, fault));
         }
-        let Ok(()) = make_all_room(&mut self.rows, who, assets.as_slice()) else {
+        let Ok(()) = make_all_room(&mut self.rows, who, goods.items()) else {
             return Err((goods, DepositFault::Memory));
         };
-        give_all(&mut self.rows, who, assets.as_slice());
+        give_all(&mut self.rows, who, goods.items());
         goods.melt();
         Ok(())
     }
