@@ -4,11 +4,11 @@ use Rattle.std.specs.Prelude.{Option, None, Some, unwrap_or, IsSome, is_some, if
 use Rattle.std.specs.Ordering.{eq_by_cmp, match_ordering}
 use Rattle.std.specs.declared.cmp.Ordering.{Ordering}
 use Rattle.std.specs.declared.cmp.Ordering.TheVariants.{Less, Equal, Greater}
-use Rattle.std.specs.Map.{lookup, remove_entry}
+use Rattle.std.specs.Map.{lookup, remove_entry, set_value}
 use Rattle.std.specs.BTreeMap.{insert_entry}
 use Rattle.amounts.specs.Rows.{IsKeyOrder}
 use Rattle.amounts.specs.Laws.{key_same}
-use Rattle.ledgers.specs.LedgerRows.{AmountKey, amount_key_cmp, AreSmall}
+use Rattle.ledgers.specs.LedgerRows.{AmountKey, amount_key_cmp, amount_in_row, AreSmall}
 
 module _ {K X : Type 0} (R : K → K → Ordering) (k : K) (v : X) (es fs : List (K × X)) (wrote : (q : K) → lookup (eq_by_cmp R q) fs ≡ (if eq_by_cmp R k q then Some v else lookup (eq_by_cmp R q) es)) where
   -- rows stay
@@ -40,6 +40,18 @@ small_insert k v (e ∷ es) h small =
 pub small_remove : (test : AmountKey → Bool) (es : List (AmountKey × ℕ)) → AreSmall es → AreSmall (remove_entry test es)
 small_remove test [] small = small
 small_remove test (e ∷ es) small = elim (test e.0) as (λ b. AreSmall (if b then es else e ∷ remove_entry test es)) [ true ↦ small.1 | false ↦ (small.0, small_remove test es small.1) ]
+
+pub small_set : (test : AmountKey → Bool) (v : ℕ) (es : List (AmountKey × ℕ)) → v ≤ 2 ^ 128 - 1 → AreSmall es → AreSmall (set_value test es v)
+small_set test v [] h small = small
+small_set test v (e ∷ es) h small =
+    elim (test e.0) as (λ b. AreSmall (if b then (e.0, v) ∷ es else e ∷ set_value test es v)) [ true ↦ (h, small.1) | false ↦ (small.0, small_set test v es h small.1) ]
+
+-- what stands in a row of small ones is small
+pub small_at : (rows : List (AmountKey × ℕ)) (k : AmountKey) → AreSmall rows → amount_in_row rows k ≤ 2 ^ 128 - 1
+small_at [] k small = omega arith
+small_at (row ∷ rows) k small =
+    let rest = small_at rows k small.1 in
+    elim (eq_by_cmp amount_key_cmp k row.0) as (λ b. unwrap_or (if b then Some row.1 else lookup (eq_by_cmp amount_key_cmp k) rows) 0 ≤ 2 ^ 128 - 1) [ true ↦ small.0 | false ↦ rest ]
 
 pub small_zero : 0 ≤ 2 ^ 128 - 1
 small_zero = omega arith

@@ -1,9 +1,8 @@
 -- What one account gives and another gets.
 use Rattle.std.proofs.Common.{◌≡◌, ℕ, ◌+◌, ◌-◌, ◌^◌, ◌<◌, ◌≤◌, Bool, true, false, if◌then◌else◌, List, [], ◌∷◌, refl, sym, ap, ◌∙◌, subst, arith, true≢false, inl, inr}
-use Rattle.std.specs.Prelude.{Option, None, Some, nat_lt, unwrap_or, MatchOption, IsSomeAnd}
+use Rattle.std.specs.Prelude.{Option, None, Some, nat_lt, MatchOption, IsSomeAnd}
 use Rattle.std.specs.Ordering.{eq_by_cmp}
 use Rattle.std.specs.List.{list_all}
-use Rattle.std.specs.Map.{lookup}
 use Rattle.std.proofs.lemmas.Bool.{and_from, cases_Bool}
 use Rattle.amounts.specs.Rows.{sum_where, amount_if}
 use Rattle.amounts.specs.Amounts.{amount, difference, IsWithin}
@@ -22,11 +21,12 @@ use Rattle.ledgers.specs.Ledgers.{Holder, account_cmp, holder_cmp, Held, Account
 use Rattle.ledgers.specs.LedgerFaults.{IsBarred, IsTransferBar, IsTransferFault}
 use Rattle.ledgers.specs.declared.faults.DepositFault.{DepositFault}
 use Rattle.ledgers.specs.declared.faults.TransferFault.{TransferFault}
-use Rattle.ledgers.specs.LedgerRows.{AmountKey, amount_key_cmp, OwnerKey, amount_in_row, owner_at, owned, held_in, AreSmall, IsSound}
+use Rattle.ledgers.specs.LedgerRows.{AmountKey, OwnerKey, owner_at, owned, held_in, IsSound}
 use Rattle.ledgers.specs.AccountRows.{account_rows, HasAll}
 use Rattle.ledgers.specs.Laws.{holder_keys, account_keys}
 use Rattle.ledgers.proofs.RowLookups.{apart}
 use Rattle.ledgers.proofs.RowAmounts.{held-fungible, held-instance}
+use Rattle.ledgers.proofs.RowWriting.{small_at}
 use Rattle.ledgers.proofs.Numbers.{number_at}
 use Rattle.ledgers.proofs.RowChanges.{held_listed}
 use Rattle.ledgers.proofs.AccountMoves.{none_zero, held_by_rows}
@@ -52,12 +52,6 @@ not_more : (n m : ℕ) → m ≤ n → nat_lt n m ≡ false
 not_more n m h = grind (arith, h)
 
 -- ---- how much may be held
-small_at : (rows : List (AmountKey × ℕ)) (k : AmountKey) → AreSmall rows → amount_in_row rows k ≤ 2 ^ 128 - 1
-small_at [] k small = omega arith
-small_at (row ∷ rows) k small =
-    let rest = small_at rows k small.1 in
-    elim (eq_by_cmp amount_key_cmp k row.0) as (λ b. unwrap_or (if b then Some row.1 else lookup (eq_by_cmp amount_key_cmp k) rows) 0 ≤ 2 ^ 128 - 1) [ true ↦ small.0 | false ↦ rest ]
-
 owned_one : (who : List ℕ) (o : Option (List ℕ)) → owned who o ≤ 1
 owned_one who None = omega arith
 owned_one who (Some w) = elim (eq_by_cmp account_cmp who w) as (λ b. (if b then 1 else 0) ≤ 1) [ true ↦ omega arith | false ↦ omega arith ]

@@ -3,7 +3,9 @@ use crate::DepositFault;
 use crate::row_moves::{
     amount_of, kind_of, lower_sum, make_instance_row, owned, raise_sum, set_owner, sweep_instance,
 };
-use crate::row_writes::{amount_in, make_amount_row, owner_in, sweep_amount, write_amount};
+use crate::row_writes::{
+    amount_in, lower_amount, make_amount_row, owner_in, raise_amount, sweep_amount,
+};
 use crate::rows::Rows;
 use crate::sums::Sum;
 use asset_lists::{Asset, AssetId, Fun, Instance, Kind};
@@ -113,8 +115,7 @@ impl Rows {
             unreachable!();
         };
         let amount = amount_of(asset);
-        let have = amount_in(&self.amounts, number, who);
-        write_amount(&mut self.amounts, number, who, have - amount);
+        lower_amount(&mut self.amounts, number, who, amount);
         set_owner(&mut self.owners, number, asset, None);
         lower_sum(&mut self.sums, number, amount);
     }
@@ -166,8 +167,7 @@ impl Rows {
         let _ = self.amounts.len();
         let _ = self.owners.len();
         let amount = amount_of(asset);
-        let have = amount_in(&self.amounts, number, who);
-        write_amount(&mut self.amounts, number, who, have + amount);
+        raise_amount(&mut self.amounts, number, who, amount);
         set_owner(&mut self.owners, number, asset, Some(*who));
         raise_sum(&mut self.sums, number, amount);
     }

@@ -1,5 +1,5 @@
 //! Rows read and written, one at a time. A row is made before it is written, so that writing takes no memory.
-ghost use Rattle.std.specs.Prelude.{◌≡◌, OnOk, if◌then◌else◌};
+ghost use Rattle.std.specs.Prelude.{◌≡◌, ◌+◌, ◌-◌, ◌^◌, ◌≤◌, OnOk, if◌then◌else◌};
 ghost use Rattle.std.specs.Ordering.{eq_by_cmp};
 ghost use Rattle.std.specs.Map.{keys_of};
 ghost use Rattle.std.specs.List.Sorted.{IsStrictlySortedBy};
@@ -44,16 +44,31 @@ pub(crate) fn make_amount_row(
     Ok(())
 }
 
-/// Writes an amount into a row that is there.
-pub(crate) fn write_amount(rows: &mut AmountRows, number: u32, who: &[u8; 32], amount: u128)
-    requires { HasAmountRow rows.old.entries (number, who.now) }
-    ensures wrote { (q : AmountKey) → amount_in_row rows.new.entries q ≡ (if eq_by_cmp amount_key_cmp (number, who.now) q then amount else amount_in_row rows.old.entries q) }
+/// Lowers the amount of a row that has as much.
+pub(crate) fn lower_amount(rows: &mut AmountRows, number: u32, who: &[u8; 32], amount: u128)
+    requires there { HasAmountRow rows.old.entries (number, who.now) }
+    requires enough { amount ≤ amount_in_row rows.old.entries (number, who.now) }
+    ensures wrote { (q : AmountKey) → amount_in_row rows.new.entries q ≡ (if eq_by_cmp amount_key_cmp (number, who.now) q then amount_in_row rows.old.entries (number, who.now) - amount else amount_in_row rows.old.entries q) }
     ensures stay { (q : AmountKey) → HasAmountRow rows.old.entries q → HasAmountRow rows.new.entries q }
     ensures small { AreSmall rows.old.entries → AreSmall rows.new.entries }
 {
-    match rows.insert((number, AccountKey::of(who)), amount) {
-        Ok(_) => {}
-        Err(_) => unreachable!(),
+    match rows.get_mut(&(number, AccountKey::of(who))) {
+        Some(have) => *have -= amount,
+        None => unreachable!(),
+    }
+}
+
+/// Raises the amount of a row that is there.
+pub(crate) fn raise_amount(rows: &mut AmountRows, number: u32, who: &[u8; 32], amount: u128)
+    requires there { HasAmountRow rows.old.entries (number, who.now) }
+    requires room { amount_in_row rows.old.entries (number, who.now) + amount ≤ 2 ^ 128 - 1 }
+    ensures wrote { (q : AmountKey) → amount_in_row rows.new.entries q ≡ (if eq_by_cmp amount_key_cmp (number, who.now) q then amount_in_row rows.old.entries (number, who.now) + amount else amount_in_row rows.old.entries q) }
+    ensures stay { (q : AmountKey) → HasAmountRow rows.old.entries q → HasAmountRow rows.new.entries q }
+    ensures small { AreSmall rows.old.entries → AreSmall rows.new.entries }
+{
+    match rows.get_mut(&(number, AccountKey::of(who))) {
+        Some(have) => *have += amount,
+        None => unreachable!(),
     }
 }
 

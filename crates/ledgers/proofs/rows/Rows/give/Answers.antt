@@ -1,16 +1,17 @@
 use Rattle.std.proofs.Common.{◌+◌, ◌^◌, ◌<◌, refl, sym, ap, ◌∙◌, subst, arith}
 use Rattle.asset_lists.specs.Units.{instance_in}
 use Rattle.ledgers.specs.Sums.{sum_value}
+use Rattle.ledgers.specs.LedgerRows.{amount_in_row}
 use Rattle.ledgers.proofs.RowChanges.{row_room, sum_room, given, wrote_as}
 use Rattle.ledgers.proofs.rows.Rows.give.Goals as goal
 
-pub overflow_add-have : goal.overflow_add-have
-overflow_add-have c =
+pub raise_amount-requires-clause-room : goal.raise_amount-requires-clause-room
+raise_amount-requires-clause-room c =
     let r = c.args.self.now in
     let a = c.args.asset.now in
     let room = row_room r.assets r.amounts.entries r.owners.entries r.sums.items c.requires.sound r.amounts.entries r.owners.entries c.requires.sound.sorted c.in-Some.number c.args.who.now a.id a.fun
     (sym c.in-Some.ensures) c.requires.may (subst (λ n. n < 2 ^ 63) c.len-2.ensures.len c.len-2.ensures.small) in
-    omega (arith, room, c.amount_in-have.ensures, c.amount_of-amount.ensures)
+    omega (arith, room, c.amount_of-amount.ensures)
 
 pub raise_sum-requires-clause-room : goal.raise_sum-requires-clause-room
 raise_sum-requires-clause-room c =
@@ -24,9 +25,9 @@ returns c =
     let r = c.args.self.now in
     let a = c.args.asset.now in
     let sum = c.raise_sum.ensures in
-    let whole = given r.assets r.amounts.entries r.owners.entries r.sums.items c.requires.sound c.write_amount.new.rows.entries c.set_owner.new.rows.entries
+    let whole = given r.assets r.amounts.entries r.owners.entries r.sums.items c.requires.sound c.raise_amount.new.rows.entries c.set_owner.new.rows.entries
     (c.set_owner.ensures.sorted c.requires.sound.sorted) c.in-Some.number c.args.who.now a.id a.fun (sym c.in-Some.ensures) c.requires.may
-    (wrote_as r.amounts.entries c.write_amount.new.rows.entries (c.in-Some.number, c.args.who.now) _ _ (λ i. c.amount_in-have.ensures i + c.amount_of-amount.ensures i) c.write_amount.ensures.wrote)
-    c.set_owner.ensures.wrote (c.write_amount.ensures.small c.requires.sound.small)
+    (wrote_as r.amounts.entries c.raise_amount.new.rows.entries (c.in-Some.number, c.args.who.now) _ _ (ap (λ n. amount_in_row r.amounts.entries (c.in-Some.number, c.args.who.now) + n) c.amount_of-amount.ensures) c.raise_amount.ensures.wrote)
+    c.set_owner.ensures.wrote (c.raise_amount.ensures.small c.requires.sound.small)
     c.raise_sum.new.sums.items (sum.0, sum.1, sum.2, sum.3 ∙ ap (λ n. sum_value sum.0 + n) c.amount_of-amount.ensures) in
-    record { sound = whole.1; stay = record { assets = refl; amounts = c.write_amount.ensures.stay; owners = c.set_owner.ensures.stay }; held = whole.0 }
+    record { sound = whole.1; stay = record { assets = refl; amounts = c.raise_amount.ensures.stay; owners = c.set_owner.ensures.stay }; held = whole.0 }
