@@ -1,5 +1,5 @@
 //! What is bought at one rate.
-ghost use Rattle.std.specs.Prelude.{◌≡◌, ◌≤◌, min};
+ghost use Rattle.std.specs.Prelude.{◌≡◌, ◌≤◌, ◌&&◌, min};
 ghost use Rattle.amounts.specs.Amounts.{amount};
 ghost use Rattle.weight_trader.specs.Prices.{price};
 ghost use Rattle.weight_trader.specs.Purchases.{new_line, coin_of, is_in, is_covered, with_purchase, excess, unspent_at};
@@ -73,6 +73,13 @@ impl Purchases {
         ensures { result ≡ is_in asset.now self.now.rate }
     {
         self.rate.asset == *asset
+    }
+
+    /// Whether something is still paid in this asset.
+    pub(crate) fn is_paid_in(&self, asset: &Location) -> bool
+        ensures { result ≡ (is_paid self.now && is_in asset.now self.now.rate) }
+    {
+        self.is_paid() && self.is_in(asset)
     }
 
     /// So much of the asset that is paid with.

@@ -231,7 +231,7 @@ impl Trader {
         ensures { result ≡ amount (paid_goods self.now) (Concrete asset.now, None) }
     {
         for line in self.lines.as_slice() {
-            if line.is_in(asset) {
+            if line.is_paid_in(asset) {
                 return line.paid();
             }
         }
