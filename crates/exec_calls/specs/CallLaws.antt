@@ -1,0 +1,303 @@
+-- Lemmas that proofs cite, in this crate and above it: an instruction refuses what its calls refuse, and leaves what they leave. A reader of
+-- the contracts may skip this file.
+use Rattle.std.proofs.Common.{◌≡◌, ℕ, Bool, true, false, List, [], ◌∷◌, ◌++◌, Option, Some, None, refl, sym, ap, ◌∙◌}
+use Rattle.std.specs.Prelude.{if◌then◌else◌, nat_le, is_some, not, length}
+use Rattle.locations.specs.declared.grammar.Junction.{Junction}
+use Rattle.locations.specs.declared.relative.Location.{Location}
+use Rattle.message_parts.specs.declared.error.XcmError.{XcmError}
+use Rattle.message_parts.specs.declared.error.XcmError.TheVariants as error
+use Rattle.message_parts.specs.declared.pallet.PalletInfo.{PalletInfo}
+use Rattle.message_parts.specs.declared.query.QueryInfo.{QueryInfo}
+use Rattle.message_parts.specs.declared.query.Response.{Response}
+use Rattle.message_parts.specs.declared.query.Response.TheVariants as response
+use Rattle.message_parts.specs.declared.weight.WeightLimit.{WeightLimit}
+use Rattle.message_parts.specs.declared.weight.WeightLimit.TheVariants.{Unlimited, Limited}
+use Rattle.asset_lists.specs.declared.units.Asset.{Asset}
+use Rattle.asset_lists.specs.declared.filters.Filter.{Filter}
+use Rattle.asset_lists.specs.declared.filters.Filter.TheVariants.{Definite}
+use Rattle.asset_bundles.specs.Bundles.{Bundle, bundle_of}
+use Rattle.asset_bundles.specs.Joins.{Joined}
+use Rattle.asset_bundles.specs.declared.shipment.Way.{Way}
+use Rattle.xcm_program.specs.declared.instruction.Instruction.{Instruction}
+use Rattle.xcm_program.specs.declared.instruction.Instruction.TheOpen.{Instruction-F}
+use Rattle.exec_base.specs.declared.registers.Registers.{Registers}
+use Rattle.exec_base.specs.Part.{ChainPart}
+use Rattle.exec_base.specs.Sending.{unless, or_else, channel_to}
+use Rattle.exec_base.specs.Host.{transfer_out_refusal, transferred_out, deposit_out_refusal, deposited_out, ship_refusal, shipped, querier_seen, fee_to, fee_held, receive_refusal, received, joined, refund_goods}
+use Rattle.exec_run.specs.Machine.{Machine, machine}
+use Rattle.exec_rules.specs.Holdings.{with_origin, at_origin, with_holding, holding_paid, payment_of, with_room, has_room, holding_more, taken_of, holding_left, buying_refusal, buying_done, not_refunded, refund_now, refund_refusal, refund_done}
+use Rattle.exec_rules.specs.Fees.{fee_refusal, after_fee, keeping_fee, refused_around, done_around}
+use Rattle.exec_rules.specs.Reports.{report_refused, report_done, pallets_of, reported_list, too_many_refused, holding_report_refused, holding_report_done}
+use Rattle.exec_rules.specs.Origins.{is_original, fits_below, descended, is_own_network}
+use Rattle.exec_rules.specs.Programs.{with_registers}
+use Rattle.exec_rules.specs.Expectations.{pallet_refusal, pallet_at}
+use Rattle.exec_rules.specs.Instructions.{refused, done}
+use Rattle.exec_calls.specs.Calls.{room, refund_noted, below_origin, Midway, between, here, HostCall, why_not, after, effect, after_all, refusal_along, never, for_origin, charge, around, buying, refunding, report, holding_report, pallet_tests, calls, turned, turned_at, through}
+use Rattle.exec_calls.specs.Footprints.{part_is}
+
+-- ---- refusals
+or_none : (o : Option XcmError) → or_else o None ≡ o
+or_none None = refl
+or_none (Some e) = refl
+
+test_first : (ok : Bool) (e : XcmError) (next : Option XcmError) → unless ok e next ≡ or_else (unless ok e None) next
+test_first true e next = refl
+test_first false e next = refl
+
+test_then : (ok : Bool) (e : XcmError) (next rest : Option XcmError) → next ≡ rest → unless ok e next ≡ or_else (unless ok e None) rest
+test_then ok e next rest same = test_first ok e next ∙ ap (or_else (unless ok e None)) same
+
+two_tests : (a b : Bool) (e f : XcmError) (last : Option XcmError) → unless a e (unless b f last) ≡ or_else (unless a e None) (or_else (unless b f None) last)
+two_tests a b e f last = test_then a e (unless b f last) _ (test_first b f last)
+
+one_is : (o : Option XcmError) → o ≡ or_else o None
+one_is o = sym (or_none o)
+
+two_is : (a b : Option XcmError) → or_else a b ≡ or_else a (or_else b None)
+two_is a b = ap (or_else a) (one_is b)
+
+pub along_both : (xs ys : List HostCall) (t : Midway) → refusal_along (xs ++ ys) t ≡ or_else (refusal_along xs t) (refusal_along ys (after_all xs t))
+along_both [] ys t = refl
+along_both (c ∷ xs) ys t = ap (or_else (why_not c t)) (along_both xs ys (after c t)) ∙ or_assoc (why_not c t) (refusal_along xs (after c t)) _
+  where
+    or_assoc : (a b c : Option XcmError) → or_else a (or_else b c) ≡ or_else (or_else a b) c
+    or_assoc None b c = refl
+    or_assoc (Some e) b c = refl
+
+pub after_both : (xs ys : List HostCall) (t : Midway) → after_all (xs ++ ys) t ≡ after_all ys (after_all xs t)
+after_both [] ys t = refl
+after_both (c ∷ xs) ys t = after_both xs ys (after c t)
+
+by_origin : (o : Option Location) (rule : Location → Option XcmError) (calls : Location → List HostCall) (t : Midway) → ((who : Location) → rule who ≡ refusal_along (calls who) t) → with_origin o rule ≡ refusal_along (for_origin o calls) t
+by_origin None rule calls t same = refl
+by_origin (Some who) rule calls t same = same who
+
+-- ---- the fee
+held_is : (r : Registers) (p : ChainPart) (goods : Bundle) → after HostCall.HoldFee (record { regs = r; part = p; goods = goods }) ≡ between (machine r (effect HostCall.HoldFee (record { regs = r; part = p; goods = goods })))
+held_is r p goods = ap (λ (q : ChainPart). between (machine r q)) (part_is HostCall.HoldFee (record { regs = r; part = p; goods = goods }))
+
+pub charge_refused : (m : Machine) (fee : Asset) → fee_refusal m fee ≡ refusal_along (charge m fee) (between m)
+charge_refused m fee = by_mode m.regs.fees_mode
+  where
+    by_mode : (b : Bool) → (if b then with_origin m.regs.origin (λ who. why_not (HostCall.Draw fee who) (between m)) else why_not (HostCall.Pay fee) (between m))
+        ≡ refusal_along (if b then for_origin m.regs.origin (λ who. HostCall.Draw fee who ∷ HostCall.HoldFee ∷ []) else HostCall.Pay fee ∷ HostCall.HoldFee ∷ []) (between m)
+    by_mode true = by_origin m.regs.origin _ _ (between m) (λ who. one_is _)
+    by_mode false = one_is _
+
+-- the fee is in the slot
+charged : (r : Registers) (p q : ChainPart) (goods : Bundle) → p ≡ q → after HostCall.HoldFee (record { regs = r; part = p; goods = goods }) ≡ between (machine r (fee_held q goods))
+charged r p q goods same = held_is r p goods ∙ ap (λ (x : ChainPart). between (machine r (fee_held x goods))) same
+
+pub charge_after : (m : Machine) (fee : Asset) → after_all (charge m fee) (between m) ≡ between (after_fee m fee)
+charge_after m fee = by_mode m.regs.fees_mode
+  where
+    by_account : (o : Option Location) → after_all (for_origin o (λ who. HostCall.Draw fee who ∷ HostCall.HoldFee ∷ [])) (between m)
+        ≡ between (at_origin o (λ who. machine m.regs (fee_held (effect (HostCall.Draw fee who) (between m)) (payment_of fee))) m)
+    by_account None = refl
+    by_account (Some who) = charged m.regs (after (HostCall.Draw fee who) (between m)).part (effect (HostCall.Draw fee who) (between m)) (payment_of fee) (part_is (HostCall.Draw fee who) (between m))
+
+    by_mode : (b : Bool) → after_all (if b then for_origin m.regs.origin (λ who. HostCall.Draw fee who ∷ HostCall.HoldFee ∷ []) else HostCall.Pay fee ∷ HostCall.HoldFee ∷ []) (between m)
+        ≡ between (if b then at_origin m.regs.origin (λ who. machine m.regs (fee_held (effect (HostCall.Draw fee who) (between m)) (payment_of fee))) m else machine (holding_paid m fee).regs (fee_held m.part (payment_of fee)))
+    by_mode true = by_account m.regs.origin
+    by_mode false = charged (holding_paid m fee).regs m.part m.part (payment_of fee) refl
+
+around_refused : (o : Option Asset) (m : Machine) (rule : Machine → Option XcmError) (inside : Machine → List HostCall) → ((n : Machine) → rule n ≡ refusal_along (inside n) (between n)) → refused_around o m rule ≡ refusal_along (around o m inside) (between m)
+around_refused None m rule inside same = same m
+around_refused (Some fee) m rule inside same =
+    let n = after_fee m fee in
+    ap (λ (x : Option XcmError). or_else x (rule n)) (charge_refused m fee)
+    ∙ ap (or_else (refusal_along (charge m fee) (between m))) (same n ∙ last_free (inside n) (between n) ∙ ap (refusal_along (inside n ++ HostCall.KeepFee ∷ [])) (sym (charge_after m fee)))
+    ∙ sym (along_both (charge m fee) (inside n ++ HostCall.KeepFee ∷ []) (between m))
+  where
+    last_free : (cs : List HostCall) (t : Midway) → refusal_along cs t ≡ refusal_along (cs ++ HostCall.KeepFee ∷ []) t
+    last_free cs t = one_is (refusal_along cs t) ∙ sym (along_both cs (HostCall.KeepFee ∷ []) t)
+
+-- ---- each instruction
+buying_refused : (m : Machine) (fees : Asset) (limit : WeightLimit) → buying_refusal m fees limit ≡ refusal_along (buying fees limit) (between m)
+buying_refused m fees Unlimited = refl
+buying_refused m fees (Limited w) = test_then _ error.NotHoldingFees _ _ (one_is _)
+
+refunding_refused : (m : Machine) (o : Option (Location × ℕ)) → refund_refusal m o ≡ refusal_along (refunding m o) (between m)
+refunding_refused m None = refl
+refunding_refused m (Some given) = one_is _
+
+report_answer : (n : Machine) (info : QueryInfo) (answer : Response) → report_refused n info answer ≡ refusal_along (report n info answer) (between n)
+report_answer n info answer = one_is _
+
+holding_answer : (n : Machine) (info : QueryInfo) (o : Option (List Asset)) → holding_report_refused n info o ≡ refusal_along (holding_report n info o) (between n)
+holding_answer n info None = refl
+holding_answer n info (Some list) = by_length (nat_le (length list) 20)
+  where
+    by_length : (b : Bool) → (if b then report_refused n info (response.Assets list) else too_many_refused n info)
+        ≡ refusal_along (if b then report n info (response.Assets list) else HostCall.Check (is_some (querier_seen n.part info.destination n.regs.origin)) error.ReanchorFailed
+        ∷ HostCall.Check (is_some (channel_to n.part info.destination)) error.Unroutable ∷ never error.ExceedsMaxMessageSize) (between n)
+    by_length true = report_answer n info (response.Assets list)
+    by_length false = two_tests (is_some (querier_seen n.part info.destination n.regs.origin)) (is_some (channel_to n.part info.destination)) error.ReanchorFailed error.Unroutable (Some error.ExceedsMaxMessageSize)
+
+pallet_answer : (m : Machine) (o : Option PalletInfo) (name module_name : List ℕ) (major least_minor : ℕ) → pallet_refusal o name module_name major least_minor ≡ refusal_along (pallet_tests o name module_name major least_minor) (between m)
+pallet_answer m None name module_name major least_minor = refl
+pallet_answer m (Some info) name module_name major least_minor = test_then _ error.NameMismatch _ _ (one_is _)
+
+pub refused_is : (l : Instruction-F Instruction) (m : Machine) → refused l m ≡ refusal_along (calls l m) (between m)
+refused_is (Instruction-F.WithdrawAsset list) m = by_origin m.regs.origin _ _ (between m) (λ who. test_then _ error.HoldingWouldOverflow _ _ (one_is _))
+refused_is (Instruction-F.ReserveAssetDeposited list) m = by_origin m.regs.origin _ _ (between m) (λ who. test_then _ error.HoldingWouldOverflow _ _ (one_is _))
+refused_is (Instruction-F.ReceiveTeleportedAsset list) m = by_origin m.regs.origin _ _ (between m) (λ who. test_then _ error.HoldingWouldOverflow _ _ (one_is _))
+refused_is (Instruction-F.ClaimAsset list ticket) m = by_origin m.regs.origin _ _ (between m) (λ who. test_then _ error.HoldingWouldOverflow _ _ (test_then _ error.UnknownClaim _ _ (one_is _)))
+refused_is (Instruction-F.DepositAsset filter who) m = one_is _
+refused_is (Instruction-F.BuyExecution fees limit) m = buying_refused m fees limit
+refused_is Instruction-F.RefundSurplus m = refunding_refused m (refund_now m)
+refused_is (Instruction-F.TransferAsset list who) m = by_origin m.regs.origin _ _ (between m) (λ from. one_is _)
+refused_is (Instruction-F.TransferReserveAsset list dest xcm) m = by_origin m.regs.origin _ _ (between m) (λ who. around_refused (fee_to m.part dest) m _ _ (λ n. one_is _))
+refused_is (Instruction-F.DepositReserveAsset filter dest xcm) m = around_refused (fee_to m.part dest) m _ _ (λ n. one_is _)
+refused_is (Instruction-F.InitiateReserveWithdraw filter dest xcm) m = around_refused (fee_to m.part dest) m _ _ (λ n. one_is _)
+refused_is (Instruction-F.InitiateTeleport filter dest xcm) m = around_refused (fee_to m.part dest) m _ _ (λ n. one_is _)
+refused_is (Instruction-F.ReportError info) m = around_refused (fee_to m.part info.destination) m _ _ (λ n. one_is _)
+refused_is (Instruction-F.ReportHolding info filter) m = around_refused (fee_to m.part info.destination) m _ _ (λ n. holding_answer n info (reported_list n info filter))
+refused_is (Instruction-F.QueryPallet name info) m = around_refused (fee_to m.part info.destination) m _ _ (λ n. one_is _)
+refused_is (Instruction-F.ReportTransactStatus info) m = around_refused (fee_to m.part info.destination) m _ _ (λ n. one_is _)
+refused_is (Instruction-F.QueryResponse query answer weight querier) m = by_origin m.regs.origin _ _ (between m) (λ who. refl)
+refused_is (Instruction-F.DescendOrigin path) m = by_origin m.regs.origin _ _ (between m) (λ who. one_is _)
+refused_is (Instruction-F.ExpectAsset list) m = one_is _
+refused_is (Instruction-F.ExpectOrigin origin) m = one_is _
+refused_is (Instruction-F.ExpectError failure) m = one_is _
+refused_is (Instruction-F.ExpectTransactStatus status) m = one_is _
+refused_is (Instruction-F.ExpectPallet place name module_name major least_minor) m = pallet_answer m (pallet_at m place) name module_name major least_minor
+refused_is (Instruction-F.UnpaidExecution limit origin) m = one_is _
+refused_is (Instruction-F.Transact kind most call) m = by_origin m.regs.origin _ _ (between m) (λ who. refl)
+refused_is (Instruction-F.ExchangeAsset filter list maximal) m = test_first (has_room m (length list)) error.HoldingWouldOverflow (Some error.NoDeal)
+refused_is (Instruction-F.SubscribeVersion query weight) m = test_first (is_original m) error.BadOrigin (Some error.Unimplemented)
+refused_is Instruction-F.UnsubscribeVersion m = test_first (is_original m) error.BadOrigin (Some error.Unimplemented)
+refused_is (Instruction-F.UniversalOrigin junction) m = test_then _ error.InvalidLocation _ _ (by_origin m.regs.origin _ _ (between m) (λ who. refl))
+refused_is (Instruction-F.ExportMessage network path xcm) m = by_origin m.regs.origin _ _ (between m) (λ who. refl)
+refused_is (Instruction-F.LockAsset asset unlocker) m = by_origin m.regs.origin _ _ (between m) (λ who. refl)
+refused_is (Instruction-F.UnlockAsset asset target) m = by_origin m.regs.origin _ _ (between m) (λ who. refl)
+refused_is (Instruction-F.NoteUnlockable asset owner) m = by_origin m.regs.origin _ _ (between m) (λ who. refl)
+refused_is (Instruction-F.RequestUnlock asset locker) m = by_origin m.regs.origin _ _ (between m) (λ who. refl)
+refused_is (Instruction-F.AliasOrigin target) m = by_origin m.regs.origin _ _ (between m) (λ who. refl)
+refused_is _ m = refl
+
+-- ---- what is left
+none_first : (a b : Option XcmError) → or_else a b ≡ None → a ≡ None
+none_first None b h = refl
+none_first (Some e) b h = absurd cc
+
+none_next : (a b : Option XcmError) → or_else a b ≡ None → b ≡ None
+none_next None b h = h
+none_next (Some e) b h = absurd cc
+
+-- goods are joined to what is held
+pub more_is : (r : Registers) (p q : ChainPart) (goods : Bundle) → p ≡ q → after HostCall.Join (record { regs = r; part = p; goods = goods }) ≡ between (holding_more (machine r q) q goods)
+more_is r p q goods same =
+    ap (λ (x : ChainPart). between (machine (with_holding r (Joined r.holding goods)) x)) (part_is HostCall.Join (record { regs = r; part = p; goods = goods }))
+    ∙ ap (λ (x : ChainPart). between (machine (with_holding r (Joined r.holding goods)) (joined x r.holding goods))) same
+
+-- goods were put somewhere, or none were in hand
+put_is : (r : Registers) (c : HostCall) (t : Midway) → between (machine r (after c t).part) ≡ between (machine r (effect c t))
+put_is r c t = ap (λ (x : ChainPart). between (machine r x)) (part_is c t)
+
+at_origin_is : (o : Option Location) (rule : Location → Option XcmError) (change : Location → Machine) (calls : Location → List HostCall) (m : Machine)
+    → ((who : Location) → rule who ≡ None → between (change who) ≡ after_all (calls who) (between m)) → with_origin o rule ≡ None → between (at_origin o change m) ≡ after_all (for_origin o calls) (between m)
+at_origin_is None rule change calls m same ok = absurd cc
+at_origin_is (Some who) rule change calls m same ok = same who ok
+
+keeping_is : (k : Machine) → after HostCall.KeepFee (between k) ≡ between (keeping_fee k)
+keeping_is k = put_is k.regs HostCall.KeepFee (between k)
+
+around_is : (o : Option Asset) (m : Machine) (rule : Machine → Option XcmError) (change : Machine → Machine) (inside : Machine → List HostCall)
+    → ((n : Machine) → rule n ≡ None → between (change n) ≡ after_all (inside n) (between n)) → refused_around o m rule ≡ None → between (done_around o m change) ≡ after_all (around o m inside) (between m)
+around_is None m rule change inside same ok = same m ok
+around_is (Some fee) m rule change inside same ok =
+    let n = after_fee m fee in
+    sym (keeping_is (change n))
+    ∙ ap (after HostCall.KeepFee) (same n (none_next (fee_refusal m fee) (rule n) ok))
+    ∙ sym (after_both (inside n) (HostCall.KeepFee ∷ []) (between n))
+    ∙ ap (after_all (inside n ++ HostCall.KeepFee ∷ [])) (sym (charge_after m fee))
+    ∙ sym (after_both (charge m fee) (inside n ++ HostCall.KeepFee ∷ []) (between m))
+
+-- a filter took goods, and they were put somewhere
+left_is : (m : Machine) (filter : Filter) (c : HostCall) → (let t = after (HostCall.Take filter) (between m) in between (holding_left m filter (effect c t)) ≡ between (machine t.regs (after c t).part))
+left_is m filter c = let t = after (HostCall.Take filter) (between m) in sym (put_is t.regs c t)
+
+buying_is : (m : Machine) (fees : Asset) (limit : WeightLimit) → between (buying_done m fees limit) ≡ after_all (buying fees limit) (between m)
+buying_is m fees Unlimited = refl
+buying_is m fees (Limited w) =
+    let t = after (HostCall.Pay fees) (between m) in
+    sym (more_is t.regs (after (HostCall.Buy w) t).part (effect (HostCall.Buy w) t) (after (HostCall.Buy w) t).goods (part_is (HostCall.Buy w) t))
+
+refunding_is : (m : Machine) (o : Option (Location × ℕ)) → between (refund_done m o) ≡ (let t = after_all (refunding m o) (between m) in record t { regs = refund_noted m o t.regs })
+refunding_is m None = refl
+refunding_is m (Some given) =
+    let c : HostCall = HostCall.Refund (not_refunded m) in
+    ap (λ (t : Midway). record t { regs = refund_noted m (Some given) t.regs }) (sym (more_is m.regs (after c (between m)).part (effect c (between m)) (refund_goods m.part (not_refunded m)) (part_is c (between m))))
+
+report_is : (n : Machine) (info : QueryInfo) (answer : Response) → between (report_done n info answer) ≡ after_all (report n info answer) (between n)
+report_is n info answer = sym (put_is n.regs (HostCall.Respond info answer n.regs.origin) (between n))
+
+holding_is : (n : Machine) (info : QueryInfo) (o : Option (List Asset)) → holding_report_refused n info o ≡ None → between (holding_report_done n info o) ≡ after_all (holding_report n info o) (between n)
+holding_is n info None ok = absurd cc
+holding_is n info (Some list) ok = by_length (nat_le (length list) 20) ok
+  where
+    by_length : (b : Bool) → (if b then report_refused n info (response.Assets list) else too_many_refused n info) ≡ None
+        → between (report_done n info (response.Assets list)) ≡ after_all (if b then report n info (response.Assets list) else HostCall.Check (is_some (querier_seen n.part info.destination n.regs.origin)) error.ReanchorFailed
+        ∷ HostCall.Check (is_some (channel_to n.part info.destination)) error.Unroutable ∷ never error.ExceedsMaxMessageSize) (between n)
+    by_length true ok = report_is n info (response.Assets list)
+    by_length false ok = absurd (too_many (is_some (querier_seen n.part info.destination n.regs.origin)) (is_some (channel_to n.part info.destination)) ok)
+      where
+        too_many : (a b : Bool) → unless a error.ReanchorFailed (unless b error.Unroutable (Some error.ExceedsMaxMessageSize)) ≡ None → ⊥
+        too_many true true h = absurd cc
+        too_many true false h = absurd cc
+        too_many false b h = absurd cc
+
+pallet_is : (m : Machine) (o : Option PalletInfo) (name module_name : List ℕ) (major least_minor : ℕ) → between m ≡ after_all (pallet_tests o name module_name major least_minor) (between m)
+pallet_is m None name module_name major least_minor = refl
+pallet_is m (Some info) name module_name major least_minor = refl
+
+received_is : (o : Option Location) (m : Machine) (list : List Asset) (teleport : Bool) → with_origin o (λ who. with_room m (length list) (receive_refusal m.part list who teleport)) ≡ None
+    → between (holding_more m (received m.part list teleport) (bundle_of list)) ≡ after_all (for_origin o (λ who. room m (length list) ∷ HostCall.Receive list who teleport ∷ HostCall.Join ∷ [])) (between m)
+received_is None m list teleport ok = absurd cc
+received_is (Some who) m list teleport ok =
+    let c : HostCall = HostCall.Receive list who teleport in sym (more_is m.regs (after c (between m)).part (effect c (between m)) (bundle_of list) (part_is c (between m)))
+
+descended_is : (o : Option Location) (m : Machine) (path : List Junction) → with_origin o (λ who. unless (fits_below who path) error.LocationFull None) ≡ None
+    → between (at_origin o (λ who. with_registers m (record m.regs { origin = Some (descended who path) })) m)
+    ≡ (let t = after_all (for_origin o (λ who. HostCall.Check (fits_below who path) error.LocationFull ∷ [])) (between m) in record t { regs = below_origin o path t.regs })
+descended_is None m path ok = absurd cc
+descended_is (Some who) m path ok = refl
+
+never_done : (o : Option Location) (e : XcmError) → with_origin o (λ who. Some e) ≡ None → ⊥
+never_done None e h = absurd cc
+never_done (Some who) e h = absurd cc
+
+pub done_is : (l : Instruction-F Instruction) (m : Machine) → refused l m ≡ None → between (done l m) ≡ through l m
+done_is (Instruction-F.WithdrawAsset list) m ok = at_origin_is m.regs.origin _ _ _ m
+    (λ who h. let c : HostCall = HostCall.Withdraw list who in sym (more_is m.regs (after c (between m)).part (effect c (between m)) (bundle_of list) (part_is c (between m)))) ok
+done_is (Instruction-F.ReserveAssetDeposited list) m ok = received_is m.regs.origin m list false ok
+done_is (Instruction-F.ReceiveTeleportedAsset list) m ok = received_is m.regs.origin m list true ok
+done_is (Instruction-F.ClaimAsset list ticket) m ok = at_origin_is m.regs.origin _ _ _ m
+    (λ who h. let c : HostCall = HostCall.Claim list who in sym (more_is m.regs (after c (between m)).part (effect c (between m)) (bundle_of list) (part_is c (between m)))) ok
+done_is (Instruction-F.DepositAsset filter who) m ok = left_is m filter (HostCall.Deposit who)
+done_is (Instruction-F.BurnAsset list) m ok = left_is m (Definite list) HostCall.Burn
+done_is (Instruction-F.BuyExecution fees limit) m ok = buying_is m fees limit
+done_is Instruction-F.RefundSurplus m ok = refunding_is m (refund_now m)
+done_is (Instruction-F.TransferAsset list who) m ok = at_origin_is m.regs.origin _ _ _ m (λ from h. sym (put_is m.regs (HostCall.Transfer list from who) (between m))) ok
+done_is (Instruction-F.TransferReserveAsset list dest xcm) m ok = at_origin_is m.regs.origin _ _ _ m
+    (λ who h. around_is (fee_to m.part dest) m _ _ _ (λ n k. sym (put_is n.regs (HostCall.TransferOut list who dest xcm) (between n))) h) ok
+done_is (Instruction-F.DepositReserveAsset filter dest xcm) m ok = around_is (fee_to m.part dest) m _ _ _ (λ n k. left_is n filter (HostCall.DepositOut dest xcm)) ok
+done_is (Instruction-F.InitiateReserveWithdraw filter dest xcm) m ok = around_is (fee_to m.part dest) m _ _ _ (λ n k. left_is n filter (HostCall.Ship Way.Withdrawal dest xcm)) ok
+done_is (Instruction-F.InitiateTeleport filter dest xcm) m ok = around_is (fee_to m.part dest) m _ _ _ (λ n k. left_is n filter (HostCall.Ship Way.Teleport dest xcm)) ok
+done_is (Instruction-F.ReportError info) m ok = around_is (fee_to m.part info.destination) m _ _ _ (λ n k. report_is n info (response.ExecutionResult n.regs.error)) ok
+done_is (Instruction-F.ReportHolding info filter) m ok = around_is (fee_to m.part info.destination) m _ _ _ (λ n k. holding_is n info (reported_list n info filter) k) ok
+done_is (Instruction-F.QueryPallet name info) m ok = around_is (fee_to m.part info.destination) m _ _ _ (λ n k. report_is n info (response.PalletsInfo (pallets_of n.part name))) ok
+done_is (Instruction-F.ReportTransactStatus info) m ok = around_is (fee_to m.part info.destination) m _ _ _ (λ n k. report_is n info (response.DispatchResult n.regs.status)) ok
+done_is (Instruction-F.QueryResponse query answer weight querier) m ok = at_origin_is m.regs.origin _ _ _ m (λ who h. sym (put_is m.regs (HostCall.Answer who query) (between m))) ok
+done_is (Instruction-F.DescendOrigin path) m ok = descended_is m.regs.origin m path ok
+done_is (Instruction-F.ExpectPallet place name module_name major least_minor) m ok = pallet_is m (pallet_at m place) name module_name major least_minor
+done_is (Instruction-F.Transact kind most call) m ok = absurd (never_done m.regs.origin error.FailedToDecode ok)
+done_is (Instruction-F.UniversalOrigin junction) m ok = absurd (never_done m.regs.origin error.InvalidLocation (none_next _ _ (sym (test_first (not (is_own_network m junction)) error.InvalidLocation (with_origin m.regs.origin (λ who. Some error.InvalidLocation))) ∙ ok)))
+done_is (Instruction-F.ExportMessage network path xcm) m ok = absurd (never_done m.regs.origin error.Unroutable ok)
+done_is (Instruction-F.LockAsset asset unlocker) m ok = absurd (never_done m.regs.origin error.LockError ok)
+done_is (Instruction-F.UnlockAsset asset target) m ok = absurd (never_done m.regs.origin error.LockError ok)
+done_is (Instruction-F.NoteUnlockable asset owner) m ok = absurd (never_done m.regs.origin error.LockError ok)
+done_is (Instruction-F.RequestUnlock asset locker) m ok = absurd (never_done m.regs.origin error.LockError ok)
+done_is (Instruction-F.AliasOrigin target) m ok = absurd (never_done m.regs.origin error.NoPermission ok)
+done_is _ m ok = refl

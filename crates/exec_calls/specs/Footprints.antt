@@ -1,0 +1,35 @@
+-- Lemmas that proofs cite, in this crate and above it: a call leaves the part that the host's rule says. A reader of the contracts may skip
+-- this file.
+use Rattle.std.proofs.Common.{◌≡◌, ℕ, List, [], ◌∷◌, ◌++◌, Option, Some, None, refl}
+use Rattle.std.specs.Prelude.{position, remove}
+use Rattle.std.specs.Option.{option_map_or}
+use Rattle.locations.specs.declared.relative.Location.{Location}
+use Rattle.message_parts.specs.declared.query.QueryInfo.{QueryInfo}
+use Rattle.message_parts.specs.declared.query.Response.{Response}
+use Rattle.channel_parts.specs.declared.cargo.Cargo.TheVariants.{Nothing}
+use Rattle.weight_trader.specs.Purchases.{paying}
+use Rattle.exec_base.specs.declared.event.Event.{Event}
+use Rattle.exec_base.specs.Part.{ChainPart}
+use Rattle.exec_base.specs.Sending.{sent}
+use Rattle.exec_base.specs.Host.{withdrawn, deposited, transferred, received, transferred_out, deposited_out, shipped, querier_seen, report_program, responded, is_query, answered, booked, bought, refunded, joined, burnt, is_trap, claimed, trapped, parked, settled, fee_held, fee_taken, fee_kept, fee_drawn, told}
+use Rattle.exec_calls.specs.Calls.{Midway, HostCall, after, effect}
+
+option_is : {A : Type 0} (shape : ChainPart → ChainPart) (o : Option A) (f : A → ChainPart) (p : ChainPart) → shape p ≡ p → ((x : A) → shape (f x) ≡ f x) → shape (option_map_or f o p) ≡ option_map_or f o p
+option_is shape None f p none some = none
+option_is shape (Some x) f p none some = some x
+
+answer_is : (p : ChainPart) (query : ℕ) (o : Option ℕ)
+    → (let q = option_map_or (λ (place : ℕ). let n : ChainPart = record p { queries = remove p.queries place; kept_back = p.kept_back ++ Event.Answered query ∷ [] } in n) o (record p { kept_back = p.kept_back ++ Event.Ignored query ∷ [] }) in
+    let r : ChainPart = record p { queries = q.queries; kept_back = q.kept_back } in r)
+    ≡ option_map_or (λ (place : ℕ). record p { queries = remove p.queries place; kept_back = p.kept_back ++ Event.Answered query ∷ [] }) o (record p { kept_back = p.kept_back ++ Event.Ignored query ∷ [] })
+answer_is p query None = refl
+answer_is p query (Some place) = refl
+
+pub part_is : (c : HostCall) (t : Midway) → (after c t).part ≡ effect c t
+unfolding withdrawn deposited transferred received transferred_out deposited_out shipped responded answered bought refunded joined burnt claimed trapped parked settled fee_held fee_taken fee_kept fee_drawn told booked sent
+part_is (HostCall.Respond info answer querier) t =
+    option_is (λ (q : ChainPart). record t.part { channels = q.channels; kept_back = q.kept_back }) (querier_seen t.part info.destination querier) (λ (seen : Option Location). sent t.part info.destination (report_program info answer seen) Nothing) t.part refl (λ seen. refl)
+part_is (HostCall.Answer from query) t = answer_is t.part query (position (is_query query from) t.part.queries)
+part_is (HostCall.Buy w) t = option_is (λ (q : ChainPart). record t.part { lines = q.lines; burns = q.burns; kept_back = q.kept_back }) (paying w t.goods t.part.lines) _ t.part refl (λ line. refl)
+part_is (HostCall.Claim list who) t = option_is (λ (q : ChainPart). record t.part { traps = q.traps }) (position (is_trap list who) t.part.traps.traps) _ t.part refl (λ place. refl)
+part_is _ t = refl

@@ -1,0 +1,6 @@
+pub mod Calls
+pub mod Reasons
+pub mod Footprints
+pub mod CallLaws
+pub mod ReasonLaws
+pub mod StopLaws

@@ -1,0 +1,185 @@
+-- Lemmas that proofs cite, in this crate and above it: each call of an instruction has its reason. A reader of the contracts may skip this
+-- file.
+use Rattle.std.proofs.Common.{◌≡◌, ◌⊎◌, ℕ, Bool, true, false, List, [], ◌∷◌, ◌++◌, Option, Some, None, inl, inr, refl, sym, ap, ◌∙◌, subst}
+use Rattle.std.specs.Prelude.{⊤, if◌then◌else◌, nat_le, is_some, length}
+use Rattle.locations.specs.declared.relative.Location.{Location}
+use Rattle.message_parts.specs.declared.error.XcmError.{XcmError}
+use Rattle.message_parts.specs.declared.error.XcmError.TheVariants as error
+use Rattle.message_parts.specs.declared.pallet.PalletInfo.{PalletInfo}
+use Rattle.message_parts.specs.declared.query.QueryInfo.{QueryInfo}
+use Rattle.message_parts.specs.declared.query.Response.{Response}
+use Rattle.message_parts.specs.declared.query.Response.TheVariants as response
+use Rattle.message_parts.specs.declared.weight.WeightLimit.{WeightLimit}
+use Rattle.message_parts.specs.declared.weight.WeightLimit.TheVariants.{Unlimited, Limited}
+use Rattle.asset_lists.specs.declared.units.Asset.{Asset}
+use Rattle.asset_lists.specs.declared.filters.Filter.{Filter}
+use Rattle.asset_lists.specs.declared.filters.Filter.TheVariants.{Definite}
+use Rattle.asset_bundles.specs.Bundles.{Bundle}
+use Rattle.asset_bundles.specs.declared.shipment.Way.{Way}
+use Rattle.xcm_program.specs.declared.instruction.Instruction.{Instruction}
+use Rattle.xcm_program.specs.declared.instruction.Instruction.TheOpen.{Instruction-F}
+use Rattle.exec_base.specs.declared.registers.Registers.{Registers}
+use Rattle.exec_base.specs.Sending.{or_else, channel_to}
+use Rattle.exec_base.specs.Host.{querier_seen, fee_to, fee_held, fee_drawn}
+use Rattle.exec_run.specs.Machine.{Machine, machine}
+use Rattle.exec_rules.specs.AnswerLaws.{none_first, none_next}
+use Rattle.exec_rules.specs.Holdings.{at_origin, with_holding, holding_paid, payment_of, refund_now}
+use Rattle.exec_rules.specs.Fees.{after_fee}
+use Rattle.exec_rules.specs.Reports.{pallets_of, reported_list}
+use Rattle.exec_rules.specs.Expectations.{pallet_at}
+use Rattle.exec_rules.specs.Instructions.{refused, done}
+use Rattle.exec_calls.specs.Calls.{Midway, between, HostCall, why_not, after, after_all, refusal_along, never, for_origin, charge, around, buying, refunding, report, holding_report, pallet_tests, calls, turned, turned_at}
+use Rattle.exec_calls.specs.CallLaws.{along_both, after_both, charge_after, refused_is, done_is}
+use Rattle.exec_calls.specs.Reasons.{IsFrom, IsFee, IsReport, shipping, Asks, AreAsked, LeadTo}
+
+-- ---- no call changes other registers, or what the document says
+pub from_itself : (m : Machine) → IsFrom m (between m)
+from_itself m = record { regs = refl; site = refl; rows = refl; pallets = refl; fee_account = refl }
+
+other_holding : (m : Machine) (r : Registers) (b : Bundle) → r ≡ with_holding m.regs r.holding → with_holding r b ≡ with_holding m.regs b
+other_holding m r b e = ap (λ (r : Registers). with_holding r b) e
+
+pub from_after : (c : HostCall) (m : Machine) (t : Midway) → IsFrom m t → IsFrom m (after c t)
+from_after (HostCall.Take filter) m t f = record { regs = other_holding m t.regs _ f.regs; site = f.site; rows = f.rows; pallets = f.pallets; fee_account = f.fee_account }
+from_after (HostCall.Pay a) m t f = record { regs = other_holding m t.regs _ f.regs; site = f.site; rows = f.rows; pallets = f.pallets; fee_account = f.fee_account }
+from_after HostCall.Join m t f = record { regs = other_holding m t.regs _ f.regs; site = f.site; rows = f.rows; pallets = f.pallets; fee_account = f.fee_account }
+from_after HostCall.Empty m t f = record { regs = other_holding m t.regs _ f.regs; site = f.site; rows = f.rows; pallets = f.pallets; fee_account = f.fee_account }
+from_after _ m t f = record { regs = f.regs; site = f.site; rows = f.rows; pallets = f.pallets; fee_account = f.fee_account }
+
+-- ---- some calls and then others
+pub asked_both : (l : Instruction-F Instruction) (m : Machine) (xs ys : List HostCall) (t : Midway) → AreAsked l m xs t → AreAsked l m ys (after_all xs t) → AreAsked l m (xs ++ ys) t
+asked_both l m [] ys t a b = b
+asked_both l m (c ∷ xs) ys t a b = (a.0, asked_both l m xs ys (after c t) a.1 b)
+
+module _ (l : Instruction-F Instruction) (m : Machine) where
+  for_origin_asked : (o : Option Location) (made : Location → List HostCall) (t : Midway) → m.regs.origin ≡ o → ((who : Location) → m.regs.origin ≡ Some who → AreAsked l m (made who) t) → AreAsked l m (for_origin o made) t
+  for_origin_asked None made t is asked = (refl, tt)
+  for_origin_asked (Some who) made t is asked = asked who is
+
+  -- ---- the fee
+  pub charge_asked : (fee : Asset) → IsFee m fee → AreAsked l m (charge m fee) (between m)
+  charge_asked fee is = by_mode m.regs.fees_mode
+    where
+      by_mode : (b : Bool) → AreAsked l m (if b then for_origin m.regs.origin (λ who. HostCall.Draw fee who ∷ HostCall.HoldFee ∷ []) else HostCall.Pay fee ∷ HostCall.HoldFee ∷ []) (between m)
+      by_mode true = for_origin_asked m.regs.origin _ (between m) refl (λ who speaks. ((refl, speaks, is), ((fee, is, refl, refl), tt)))
+      by_mode false = ((refl, inl is), ((fee, is, refl, refl), tt))
+
+  charge_channels : (fee : Asset) → (after_fee m fee).part.channels ≡ m.part.channels
+  unfolding fee_held fee_drawn
+  charge_channels fee = by_mode m.regs.fees_mode
+    where
+      by_account : (o : Option Location) → (at_origin o (λ who. machine m.regs (fee_held (fee_drawn m.part (fee ∷ []) who) (payment_of fee))) m).part.channels ≡ m.part.channels
+      by_account None = refl
+      by_account (Some who) = refl
+
+      by_mode : (b : Bool) → (if b then at_origin m.regs.origin (λ who. machine m.regs (fee_held (fee_drawn m.part (fee ∷ []) who) (payment_of fee))) m else machine (holding_paid m fee).regs (fee_held m.part (payment_of fee))).part.channels ≡ m.part.channels
+      by_mode true = by_account m.regs.origin
+      by_mode false = refl
+
+  charge_origin : (fee : Asset) → (after_fee m fee).regs.origin ≡ m.regs.origin
+  charge_origin fee = by_mode m.regs.fees_mode
+    where
+      by_account : (o : Option Location) → (at_origin o (λ who. machine m.regs (fee_held (fee_drawn m.part (fee ∷ []) who) (payment_of fee))) m).regs.origin ≡ m.regs.origin
+      by_account None = refl
+      by_account (Some who) = refl
+
+      by_mode : (b : Bool) → (if b then at_origin m.regs.origin (λ who. machine m.regs (fee_held (fee_drawn m.part (fee ∷ []) who) (payment_of fee))) m else machine (holding_paid m fee).regs (fee_held m.part (payment_of fee))).regs.origin ≡ m.regs.origin
+      by_mode true = by_account m.regs.origin
+      by_mode false = refl
+
+  around_asked : (dest : Location) (o : Option Asset) (inside : Machine → List HostCall) → fee_to m.part dest ≡ o
+      → ((n : Machine) → n.part.channels ≡ m.part.channels → n.regs.origin ≡ m.regs.origin → AreAsked l m (inside n) (between n)) → AreAsked l m (around o m inside) (between m)
+  around_asked dest None inside is asked = asked m refl refl
+  around_asked dest (Some fee) inside is asked =
+      let n = after_fee m fee in
+      asked_both l m (charge m fee) (inside n ++ HostCall.KeepFee ∷ []) (between m) (charge_asked fee (dest, is))
+      (subst (AreAsked l m (inside n ++ HostCall.KeepFee ∷ [])) (sym (charge_after m fee))
+      (asked_both l m (inside n) (HostCall.KeepFee ∷ []) (between n) (asked n (charge_channels fee) (charge_origin fee)) (tt, tt)))
+
+  holding_asked : (n : Machine) (info : QueryInfo) (o : Option (List Asset)) → IsReport l info → n.part.channels ≡ m.part.channels → n.regs.origin ≡ m.regs.origin → AreAsked l m (holding_report n info o) (between n)
+  holding_asked n info None reports unsent same = (refl, tt)
+  holding_asked n info (Some list) reports unsent same = by_length (nat_le (length list) 20)
+    where
+      by_length : (b : Bool) → AreAsked l m (if b then report n info (response.Assets list) else HostCall.Check (is_some (querier_seen n.part info.destination n.regs.origin)) error.ReanchorFailed
+          ∷ HostCall.Check (is_some (channel_to n.part info.destination)) error.Unroutable ∷ never error.ExceedsMaxMessageSize) (between n)
+      by_length true = ((unsent, same, reports), tt)
+      by_length false = (refl, (refl, (refl, tt)))
+
+-- ---- each instruction
+pallet_asked : (l : Instruction-F Instruction) (m : Machine) (o : Option PalletInfo) (name module_name : List ℕ) (major least_minor : ℕ) → AreAsked l m (pallet_tests o name module_name major least_minor) (between m)
+pallet_asked l m None name module_name major least_minor = (refl, tt)
+pallet_asked l m (Some info) name module_name major least_minor = (refl, (refl, tt))
+
+buying_asked : (m : Machine) (fees : Asset) (limit : WeightLimit) → AreAsked (Instruction-F.BuyExecution fees limit) m (buying fees limit) (between m)
+buying_asked m fees Unlimited = tt
+buying_asked m fees (Limited w) = ((refl, inr (w, refl)), ((fees, refl, refl), (tt, tt)))
+
+refunding_asked : (m : Machine) (o : Option (Location × ℕ)) → AreAsked Instruction-F.RefundSurplus m (refunding m o) (between m)
+refunding_asked m None = tt
+refunding_asked m (Some given) = (refl, ((refl, refl), (tt, tt)))
+
+pub asked : (l : Instruction-F Instruction) (m : Machine) → AreAsked l m (calls l m) (between m)
+asked (Instruction-F.WithdrawAsset list) m = for_origin_asked _ m m.regs.origin _ (between m) refl (λ who is. (refl, ((refl, is, refl), (tt, tt))))
+asked (Instruction-F.ReserveAssetDeposited list) m = for_origin_asked _ m m.regs.origin _ (between m) refl (λ who is. (refl, ((refl, is, refl), (tt, tt))))
+asked (Instruction-F.ReceiveTeleportedAsset list) m = for_origin_asked _ m m.regs.origin _ (between m) refl (λ who is. (refl, ((refl, is, refl), (tt, tt))))
+asked (Instruction-F.ClaimAsset list ticket) m = for_origin_asked _ m m.regs.origin _ (between m) refl (λ who is. (refl, (refl, ((refl, is, (ticket, refl)), (tt, tt)))))
+asked (Instruction-F.DepositAsset filter who) m = (refl, ((filter, refl), tt))
+asked (Instruction-F.BurnAsset list) m = (refl, ((list, refl), tt))
+asked (Instruction-F.BuyExecution fees limit) m = buying_asked m fees limit
+asked Instruction-F.RefundSurplus m = refunding_asked m (refund_now m)
+asked (Instruction-F.TransferAsset list who) m = for_origin_asked _ m m.regs.origin _ (between m) refl (λ from is. ((is, refl), tt))
+asked (Instruction-F.TransferReserveAsset list dest xcm) m = for_origin_asked _ m m.regs.origin _ (between m) refl (λ who is. around_asked _ m dest (fee_to m.part dest) _ refl (λ n unsent same. ((unsent, is, refl), tt)))
+asked (Instruction-F.DepositReserveAsset filter dest xcm) m = around_asked _ m dest (fee_to m.part dest) _ refl (λ n unsent same. (refl, ((unsent, (filter, refl)), tt)))
+asked (Instruction-F.InitiateReserveWithdraw filter dest xcm) m = around_asked _ m dest (fee_to m.part dest) _ refl (λ n unsent same. (refl, ((unsent, (filter, refl)), tt)))
+asked (Instruction-F.InitiateTeleport filter dest xcm) m = around_asked _ m dest (fee_to m.part dest) _ refl (λ n unsent same. (refl, ((unsent, (filter, refl)), tt)))
+asked (Instruction-F.ReportError info) m = around_asked _ m info.destination (fee_to m.part info.destination) _ refl (λ n unsent same. ((unsent, same, refl), tt))
+asked (Instruction-F.ReportHolding info filter) m = around_asked _ m info.destination (fee_to m.part info.destination) _ refl (λ n unsent same. holding_asked _ m n info (reported_list n info filter) refl unsent same)
+asked (Instruction-F.QueryPallet name info) m = around_asked _ m info.destination (fee_to m.part info.destination) _ refl (λ n unsent same. ((unsent, same, refl), tt))
+asked (Instruction-F.ReportTransactStatus info) m = around_asked _ m info.destination (fee_to m.part info.destination) _ refl (λ n unsent same. ((unsent, same, refl), tt))
+asked (Instruction-F.QueryResponse query answer weight querier) m = for_origin_asked _ m m.regs.origin _ (between m) refl (λ who is. (is, tt))
+asked (Instruction-F.DescendOrigin path) m = for_origin_asked _ m m.regs.origin _ (between m) refl (λ who is. (refl, tt))
+asked (Instruction-F.Trap code) m = (refl, tt)
+asked (Instruction-F.ExpectAsset list) m = (refl, tt)
+asked (Instruction-F.ExpectOrigin origin) m = (refl, tt)
+asked (Instruction-F.ExpectError failure) m = (refl, tt)
+asked (Instruction-F.ExpectTransactStatus status) m = (refl, tt)
+asked (Instruction-F.ExpectPallet place name module_name major least_minor) m = pallet_asked _ m (pallet_at m place) name module_name major least_minor
+asked (Instruction-F.UnpaidExecution limit origin) m = (refl, tt)
+asked (Instruction-F.Transact kind most call) m = for_origin_asked _ m m.regs.origin _ (between m) refl (λ who is. (refl, tt))
+asked (Instruction-F.HrmpNewChannelOpenRequest sender size capacity) m = (refl, tt)
+asked (Instruction-F.HrmpChannelAccepted recipient) m = (refl, tt)
+asked (Instruction-F.HrmpChannelClosing initiator sender recipient) m = (refl, tt)
+asked (Instruction-F.ExchangeAsset filter list maximal) m = (refl, (refl, tt))
+asked (Instruction-F.SubscribeVersion query weight) m = (refl, (refl, tt))
+asked Instruction-F.UnsubscribeVersion m = (refl, (refl, tt))
+asked (Instruction-F.UniversalOrigin junction) m = (refl, for_origin_asked _ m m.regs.origin _ (between m) refl (λ who is. (refl, tt)))
+asked (Instruction-F.ExportMessage network path xcm) m = for_origin_asked _ m m.regs.origin _ (between m) refl (λ who is. (refl, tt))
+asked (Instruction-F.LockAsset asset unlocker) m = for_origin_asked _ m m.regs.origin _ (between m) refl (λ who is. (refl, tt))
+asked (Instruction-F.UnlockAsset asset target) m = for_origin_asked _ m m.regs.origin _ (between m) refl (λ who is. (refl, tt))
+asked (Instruction-F.NoteUnlockable asset owner) m = for_origin_asked _ m m.regs.origin _ (between m) refl (λ who is. (refl, tt))
+asked (Instruction-F.RequestUnlock asset locker) m = for_origin_asked _ m m.regs.origin _ (between m) refl (λ who is. (refl, tt))
+asked (Instruction-F.AliasOrigin target) m = for_origin_asked _ m m.regs.origin _ (between m) refl (λ who is. (refl, tt))
+asked _ m = tt
+
+-- ---- what each call keeps, all calls keep
+module _ (l : Instruction-F Instruction) (m : Machine) (K : Midway → Type 0) (step : (c : HostCall) (t : Midway) → Asks l m t c → IsFrom m t → why_not c t ≡ None → K t → K (after c t)) where
+  pub kept_along : (cs : List HostCall) (t : Midway) → AreAsked l m cs t → IsFrom m t → refusal_along cs t ≡ None → K t → K (after_all cs t)
+  kept_along [] t a from free k = k
+  kept_along (c ∷ cs) t a from free k =
+      kept_along cs (after c t) a.1 (from_after c m t from) (none_next (why_not c t) (refusal_along cs (after c t)) free) (step c t a.0 from (none_first (why_not c t) (refusal_along cs (after c t)) free) k)
+
+  -- an accepted instruction, up to its registers
+  pub calls_keep : refused l m ≡ None → K (between m) → K (after_all (calls l m) (between m))
+  calls_keep free k = kept_along (calls l m) (between m) (asked l m) (from_itself m) (sym (refused_is l m) ∙ free) k
+
+  -- and with them
+  pub done_keeps : ((t : Midway) → IsFrom m t → K t → K (turned_at l m t)) → refused l m ≡ None → K (between m) → K (between (done l m))
+  done_keeps turn free k = subst K (sym (done_is l m free)) (turn (after_all (calls l m) (between m)) (from_all (calls l m) (between m) (from_itself m)) (calls_keep free k))
+    where
+      from_all : (cs : List HostCall) (t : Midway) → IsFrom m t → IsFrom m (after_all cs t)
+      from_all [] t f = f
+      from_all (c ∷ cs) t f = from_all cs (after c t) (from_after c m t f)
+
+  -- wherever accepted calls lead
+  pub lead_keeps : (now : Machine) → LeadTo l m now → K (between m) → K (between now)
+  lead_keeps now led k = subst K (sym led.there) (kept_along led.made (between m) led.asked (from_itself m) led.free k)

@@ -1,0 +1,129 @@
+-- Why an instruction makes a call where it does, and what stands between two machines that calls lead from and to. This project's own
+-- vocabulary.
+use Rattle.std.specs.Prelude.{◌≡◌, ◌⊎◌, ⊤, ℕ, Bool, true, false, IsTrue, List, [], ◌∷◌, Option, Some, None}
+use Rattle.amounts.specs.Amounts.{empty}
+use Rattle.locations.specs.declared.relative.Location.{Location}
+use Rattle.message_parts.specs.declared.error.XcmError.{XcmError}
+use Rattle.message_parts.specs.declared.error.XcmError.TheVariants as error
+use Rattle.message_parts.specs.declared.pallet.PalletInfo.{PalletInfo}
+use Rattle.message_parts.specs.declared.query.QueryInfo.{QueryInfo}
+use Rattle.message_parts.specs.declared.query.Response.{Response}
+use Rattle.message_parts.specs.declared.weight.Weight.{Weight}
+use Rattle.message_parts.specs.declared.weight.WeightLimit.TheVariants.{Limited}
+use Rattle.asset_lists.specs.declared.units.Asset.{Asset}
+use Rattle.asset_lists.specs.declared.filters.Filter.{Filter}
+use Rattle.asset_bundles.specs.Bundles.{Bundle}
+use Rattle.asset_bundles.specs.declared.shipment.Way.{Way}
+use Rattle.trust_tables.specs.declared.chains.Site.{Site}
+use Rattle.trust_tables.specs.declared.rows.AssetRow.{AssetRow}
+use Rattle.xcm_program.specs.declared.instruction.Instruction.{Instruction}
+use Rattle.xcm_program.specs.declared.instruction.Instruction.TheOpen.{Instruction-F}
+use Rattle.exec_base.specs.Host.{fee_to}
+use Rattle.exec_run.specs.Machine.{Machine}
+use Rattle.exec_rules.specs.Holdings.{with_holding, payment_of, not_refunded}
+use Rattle.exec_calls.specs.Calls.{Midway, between, HostCall, after, after_all, refusal_along}
+
+-- what no call of an instruction changes: the registers, but for the holding, and what the network document says of the chain
+pub record IsFrom (m : Machine) (t : Midway) : Type 0 where
+  pub regs : t.regs ≡ with_holding m.regs t.regs.holding
+  pub site : t.part.site ≡ m.part.site
+  pub rows : t.part.rows ≡ m.part.rows
+  pub pallets : t.part.pallets ≡ m.part.pallets
+  pub fee_account : t.part.fee_account ≡ m.part.fee_account
+
+-- the errors that instructions answer by tests of their own
+abbrev pub is_own : XcmError → Bool
+is_own error.Unimplemented = true
+is_own error.LocationFull = true
+is_own error.BadOrigin = true
+is_own error.InvalidLocation = true
+is_own error.ExceedsMaxMessageSize = true
+is_own error.Unroutable = true
+is_own error.UnknownClaim = true
+is_own error.FailedToDecode = true
+is_own (error.Trap code) = true
+is_own error.ExpectationFalse = true
+is_own error.PalletNotFound = true
+is_own error.NameMismatch = true
+is_own error.VersionIncompatible = true
+is_own error.HoldingWouldOverflow = true
+is_own error.ReanchorFailed = true
+is_own error.NoDeal = true
+is_own error.LockError = true
+is_own error.NoPermission = true
+is_own _ = false
+
+abbrev pub HasNone : Midway → Type 0
+HasNone t = t.goods ≡ empty
+
+-- for whom the instruction speaks
+abbrev pub Speaks : Machine → Location → Type 0
+Speaks m who = m.regs.origin ≡ Some who
+
+-- nothing was sent before
+abbrev pub IsUnsent : Machine → Midway → Type 0
+IsUnsent m t = t.part.channels ≡ m.part.channels
+
+-- the delivery fee of one of the chain's channels
+abbrev pub IsFee : Machine → Asset → Type 0
+IsFee m a = (dest : Location) × (fee_to m.part dest ≡ Some a)
+
+abbrev pub arriving : List Asset → Bool → Instruction-F Instruction
+arriving list false = Instruction-F.ReserveAssetDeposited list
+arriving list true = Instruction-F.ReceiveTeleportedAsset list
+
+abbrev pub shipping : Way → Filter → Location → List Instruction → Instruction-F Instruction
+shipping Way.Withdrawal filter dest xcm = Instruction-F.InitiateReserveWithdraw filter dest xcm
+shipping Way.Teleport filter dest xcm = Instruction-F.InitiateTeleport filter dest xcm
+
+-- it reports where that info says
+abbrev pub IsReport : Instruction-F Instruction → QueryInfo → Type 0
+IsReport (Instruction-F.ReportError to) info = to ≡ info
+IsReport (Instruction-F.ReportHolding to filter) info = to ≡ info
+IsReport (Instruction-F.QueryPallet name to) info = to ≡ info
+IsReport (Instruction-F.ReportTransactStatus to) info = to ≡ info
+IsReport l info = ⊥
+
+-- an instruction that began at the machine asks for the call where it has come to
+abbrev pub Asks : Instruction-F Instruction → Machine → Midway → HostCall → Type 0
+Asks l m t (HostCall.Check ok e) = IsTrue (is_own e)
+Asks l m t (HostCall.Take filter) = HasNone t
+Asks l m t (HostCall.Pay a) = HasNone t × (IsFee m a ⊎ ((w : Weight) × (l ≡ Instruction-F.BuyExecution a (Limited w))))
+Asks l m t HostCall.Join = ⊤
+Asks l m t (HostCall.Withdraw list who) = HasNone t × Speaks m who × (l ≡ Instruction-F.WithdrawAsset list)
+Asks l m t (HostCall.Draw fee who) = HasNone t × Speaks m who × IsFee m fee
+Asks l m t (HostCall.Receive list who teleport) = HasNone t × Speaks m who × (l ≡ arriving list teleport)
+Asks l m t (HostCall.Claim list who) = HasNone t × Speaks m who × ((ticket : Location) × (l ≡ Instruction-F.ClaimAsset list ticket))
+Asks l m t (HostCall.Refund w) = HasNone t × (w ≡ not_refunded m)
+Asks l m t (HostCall.Deposit who) = (filter : Filter) × (l ≡ Instruction-F.DepositAsset filter who)
+Asks l m t HostCall.Burn = (list : List Asset) × (l ≡ Instruction-F.BurnAsset list)
+Asks l m t (HostCall.Buy w) = (fees : Asset) × (l ≡ Instruction-F.BuyExecution fees (Limited w)) × (t.goods ≡ payment_of fees)
+Asks l m t (HostCall.DepositOut dest xcm) = IsUnsent m t × ((filter : Filter) × (l ≡ Instruction-F.DepositReserveAsset filter dest xcm))
+Asks l m t (HostCall.Ship way dest xcm) = IsUnsent m t × ((filter : Filter) × (l ≡ shipping way filter dest xcm))
+Asks l m t (HostCall.Transfer list from to) = Speaks m from × (l ≡ Instruction-F.TransferAsset list to)
+Asks l m t (HostCall.TransferOut list from dest xcm) = IsUnsent m t × Speaks m from × (l ≡ Instruction-F.TransferReserveAsset list dest xcm)
+Asks l m t (HostCall.Respond info answer querier) = IsUnsent m t × (querier ≡ m.regs.origin) × IsReport l info
+Asks l m t (HostCall.Answer from query) = Speaks m from
+Asks l m t HostCall.HoldFee = (fee : Asset) × IsFee m fee × (t.goods ≡ payment_of fee) × (t.part.fee_slot ≡ m.part.fee_slot)
+Asks l m t HostCall.TakeFee = HasNone t
+Asks l m t HostCall.KeepFee = ⊤
+Asks l m t HostCall.Park = t.part.parked ≡ m.part.parked
+Asks l m t HostCall.Empty = HasNone t
+Asks l m t (HostCall.Tell e) = HasNone t
+Asks l m t HostCall.Settle = HasNone t
+Asks l m t (HostCall.Trap who) = ⊤
+
+-- each of some calls, one after the other
+abbrev pub AreAsked : Instruction-F Instruction → Machine → List HostCall → Midway → Type 0
+AreAsked l m [] t = ⊤
+AreAsked l m (c ∷ cs) t = Asks l m t c × AreAsked l m cs (after c t)
+
+-- accepted calls of an instruction that began at the first machine lead from where it has come to, to another machine
+pub record LeadFrom (l : Instruction-F Instruction) (m : Machine) (t : Midway) (now : Machine) : Type 0 where
+  pub made : List HostCall
+  pub asked : AreAsked l m made t
+  pub free : refusal_along made t ≡ None
+  pub there : between now ≡ after_all made t
+
+abbrev pub LeadTo : Instruction-F Instruction → Machine → Machine → Type 0
+LeadTo l m now = LeadFrom l m (between m) now

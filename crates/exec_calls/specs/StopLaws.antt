@@ -1,0 +1,178 @@
+-- Lemmas that proofs cite, in this crate and above it: where memory stops an instruction, accepted calls led there. A reader of the contracts
+-- may skip this file.
+use Rattle.std.proofs.Common.{◌≡◌, ◌⊎◌, ℕ, Bool, true, false, List, [], ◌∷◌, ◌++◌, Option, Some, None, ⊎_elim, inl, inr, refl, sym, ap, ◌∙◌, subst}
+use Rattle.std.specs.Prelude.{⊤, if◌then◌else◌, length}
+use Rattle.amounts.specs.Amounts.{empty}
+use Rattle.locations.specs.declared.relative.Location.{Location}
+use Rattle.message_parts.specs.declared.error.XcmError.{XcmError}
+use Rattle.message_parts.specs.declared.error.XcmError.TheVariants as error
+use Rattle.message_parts.specs.declared.weight.WeightLimit.{WeightLimit}
+use Rattle.message_parts.specs.declared.weight.WeightLimit.TheVariants.{Unlimited, Limited}
+use Rattle.asset_lists.specs.declared.units.Asset.{Asset}
+use Rattle.asset_lists.specs.declared.filters.Filter.{Filter}
+use Rattle.asset_lists.specs.declared.filters.Filter.TheVariants.{Definite}
+use Rattle.asset_bundles.specs.Bundles.{Bundle, bundle_of}
+use Rattle.xcm_program.specs.declared.instruction.Instruction.{Instruction, out-Instruction}
+use Rattle.xcm_program.specs.declared.instruction.Instruction.TheOpen.{Instruction-F}
+use Rattle.exec_base.specs.declared.registers.Registers.{Registers}
+use Rattle.exec_base.specs.Part.{ChainPart}
+use Rattle.exec_base.specs.Sending.{unless, or_else}
+use Rattle.exec_base.specs.Host.{withdraw_refusal, receive_refusal, claim_refusal, buy_refusal, withdrawn, received, claimed, unspent, bought, refund_goods, refunded, parked, fee_to, fee_taken}
+use Rattle.exec_run.specs.Machine.{Machine, machine}
+use Rattle.exec_rules.specs.AnswerLaws.{unless_held, unless_next}
+use Rattle.exec_rules.specs.Holdings.{with_origin, at_origin, has_room, holds_asset, taken_of, holding_left, holding_paid, payment_of, is_ticket, not_refunded, buying_refusal}
+use Rattle.exec_rules.specs.Fees.{fee_refusal, after_fee}
+use Rattle.exec_rules.specs.Instructions.{refused}
+use Rattle.exec_rules.specs.Stopping.{parking, NotJoined, NotPutBack, BuyingStops, RefundStops, fee_parked, StopsAround, Stops, Spilled}
+use Rattle.exec_calls.specs.Calls.{Midway, between, HostCall, why_not, after, effect, after_all, refusal_along, for_origin, charge}
+use Rattle.exec_calls.specs.Footprints.{part_is}
+use Rattle.exec_calls.specs.CallLaws.{along_both, after_both, charge_refused, charge_after}
+use Rattle.exec_calls.specs.Reasons.{IsFee, Asks, AreAsked, LeadFrom, LeadTo}
+use Rattle.exec_calls.specs.ReasonLaws.{asked_both, charge_asked}
+
+-- ---- what is in hand is parked
+pub parked_is : (r : Registers) (p q : ChainPart) (goods : Bundle) → p ≡ q → after HostCall.Park (record { regs = r; part = p; goods = goods }) ≡ between (machine r (parked q goods))
+parked_is r p q goods same =
+    ap (λ (x : ChainPart). between (machine r x)) (part_is HostCall.Park (record { regs = r; part = p; goods = goods }))
+    ∙ ap (λ (x : ChainPart). between (machine r (parked x goods))) same
+
+none_else : (o : Option XcmError) → o ≡ None → or_else o None ≡ None
+none_else None e = refl
+none_else (Some x) e = absurd cc
+
+two_none : (a b : Option XcmError) → a ≡ None → b ≡ None → or_else a b ≡ None
+two_none None b e f = f
+two_none (Some x) b e f = absurd cc
+
+held_none : (ok : Bool) (e : XcmError) → ok ≡ true → unless ok e None ≡ None
+held_none true e h = refl
+held_none false e h = absurd cc
+
+module _ (l : Instruction-F Instruction) (m : Machine) where
+  lead_as : (t : Midway) (now k : Machine) → now ≡ k → LeadFrom l m t k → LeadFrom l m t now
+  lead_as t now k e led = record { made = led.made; asked = led.asked; free = led.free; there = ap (λ (x : Machine). between x) e ∙ led.there }
+
+  lead_nowhere : (k : Machine) → LeadFrom l m (between k) k
+  lead_nowhere k = record { made = []; asked = tt; free = refl; there = refl }
+
+  -- some accepted calls first
+  lead_before : (cs : List HostCall) (t u : Midway) (now : Machine) → AreAsked l m cs t → refusal_along cs t ≡ None → after_all cs t ≡ u → LeadFrom l m u now → LeadFrom l m t now
+  lead_before cs t u now asks free there led =
+      let next : LeadFrom l m (after_all cs t) now = subst (λ (x : Midway). LeadFrom l m x now) (sym there) led in
+      record {
+        made = cs ++ next.made;
+        asked = asked_both l m cs next.made t asks next.asked;
+        free = along_both cs next.made t ∙ two_none _ _ free next.free;
+        there = next.there ∙ sym (after_both cs next.made t);
+      }
+
+  -- ---- goods had come, and weren't joined
+  came : (c : HostCall) (goods : Bundle) → Asks l m (between m) c → why_not c (between m) ≡ None → (let t = after c (between m) in (t.regs ≡ m.regs) × (t.goods ≡ goods) × (t.part.parked ≡ m.part.parked)) → LeadTo l m (parking m (effect c (between m)) goods)
+  came c goods asks free is = record {
+    made = c ∷ HostCall.Park ∷ [];
+    asked = (asks, (is.2, tt));
+    free = none_else (why_not c (between m)) free;
+    there = sym (ap (λ (t : Midway). after HostCall.Park t) (same_midway (after c (between m)) goods is) ∙ parked_is m.regs (after c (between m)).part (effect c (between m)) goods (part_is c (between m)));
+  }
+    where
+      same_midway : (t : Midway) (goods : Bundle) → (t.regs ≡ m.regs) × (t.goods ≡ goods) × (t.part.parked ≡ m.part.parked) → ◌≡◌ {A = Midway} t (record { regs = m.regs; part = t.part; goods = goods })
+      same_midway t goods is = λ i. record { regs = is.0 i; part = t.part; goods = is.1 i }
+
+  came_by : (o : Option Location) (rule : Location → Option XcmError) (change : Location → ChainPart) (goods : Bundle) → m.regs.origin ≡ o → with_origin o rule ≡ None
+      → ((who : Location) → m.regs.origin ≡ Some who → rule who ≡ None → LeadTo l m (parking m (change who) goods)) → LeadTo l m (at_origin o (λ who. parking m (change who) goods) m)
+  came_by None rule change goods is ok led = absurd cc
+  came_by (Some who) rule change goods is ok led = led who is ok
+
+  -- ---- what a filter took
+  not_put_back : (k : Machine) (filter : Filter) → k.part.parked ≡ m.part.parked → LeadFrom l m (between k) (holding_left k filter (parked k.part (taken_of k filter)))
+  not_put_back k filter none = record {
+    made = HostCall.Take filter ∷ HostCall.Park ∷ [];
+    asked = (refl, (none, tt));
+    free = refl;
+    there = sym (let t = after (HostCall.Take filter) (between k) in parked_is t.regs k.part k.part t.goods refl);
+  }
+
+  -- ---- around a fee
+  fee_aside : (k : Machine) → k.part.parked ≡ m.part.parked → LeadFrom l m (between k) (fee_parked k)
+  fee_aside k none = record {
+    made = HostCall.TakeFee ∷ HostCall.Park ∷ [];
+    asked = (refl, (none, tt));
+    free = refl;
+    there = sym (parked_is k.regs (after HostCall.TakeFee (between k)).part (fee_taken k.part) k.part.fee_slot (part_is HostCall.TakeFee (between k)));
+  }
+
+  charge_parks : (fee : Asset) → (after_fee m fee).part.parked ≡ m.part.parked
+  charge_parks fee = sym (ap (λ (t : Midway). t.part.parked) (charge_after m fee)) ∙ by_mode m.regs.fees_mode
+    where
+      by_account : (o : Option Location) → (after_all (for_origin o (λ who. HostCall.Draw fee who ∷ HostCall.HoldFee ∷ [])) (between m)).part.parked ≡ m.part.parked
+      by_account None = refl
+      by_account (Some who) = refl
+
+      by_mode : (b : Bool) → (after_all (if b then for_origin m.regs.origin (λ who. HostCall.Draw fee who ∷ HostCall.HoldFee ∷ []) else HostCall.Pay fee ∷ HostCall.HoldFee ∷ []) (between m)).part.parked ≡ m.part.parked
+      by_mode true = by_account m.regs.origin
+      by_mode false = refl
+
+  around_stops : (dest : Location) (o : Option Asset) (inside : Machine → Machine → Type 0) (now : Machine) → fee_to m.part dest ≡ o
+      → ((k : Machine) → k.part.parked ≡ m.part.parked → inside k now → LeadFrom l m (between k) now) → StopsAround o m inside now → LeadTo l m now
+  around_stops dest None inside now is led stops = led m refl stops
+  around_stops dest (Some fee) inside now is led stops =
+      let n = after_fee m fee in
+      let first : LeadFrom l m (between n) now → LeadTo l m now = lead_before (charge m fee) (between m) (between n) now (charge_asked l m fee (dest, is)) (sym (charge_refused m fee) ∙ stops.0) (charge_after m fee) in
+      first (⊎_elim (λ (e : now ≡ n). lead_as (between n) now n e (lead_nowhere n))
+      (λ (e : inside n now ⊎ (now ≡ fee_parked n)).
+      ⊎_elim (λ (i : inside n now). led n (charge_parks fee) i) (λ (i : now ≡ fee_parked n). lead_as (between n) now (fee_parked n) i (fee_aside n (charge_parks fee))) e) stops.1)
+
+-- ---- purchases
+buying_stops : (m : Machine) (fees : Asset) (limit : WeightLimit) (now : Machine) → BuyingStops m fees limit now → LeadTo (Instruction-F.BuyExecution fees limit) m now
+buying_stops m fees Unlimited now stops = absurd stops
+buying_stops m fees (Limited w) now stops =
+    let l = Instruction-F.BuyExecution fees (Limited w) in
+    let t = after (HostCall.Pay fees) (between m) in
+    ⊎_elim
+    (λ (e : (holds_asset m fees ≡ true) × (now ≡ parking (holding_paid m fees) m.part (payment_of fees))). lead_as l m (between m) now _ e.1 (record {
+      made = HostCall.Pay fees ∷ HostCall.Park ∷ [];
+      asked = ((refl, inr (w, refl)), (refl, tt));
+      free = none_else _ (held_none (holds_asset m fees) error.NotHoldingFees e.0);
+      there = sym (parked_is t.regs m.part m.part (payment_of fees) refl);
+    }))
+    (λ (e : (buying_refusal m fees (Limited w) ≡ None) × (now ≡ parking (holding_paid m fees) (bought m.part w (payment_of fees)) (unspent m.part w (payment_of fees)))). lead_as l m (between m) now _ e.1 (record {
+      made = HostCall.Pay fees ∷ HostCall.Buy w ∷ HostCall.Park ∷ [];
+      asked = ((refl, inr (w, refl)), ((fees, refl, refl), (refl, tt)));
+      free = two_none _ _ (held_none (holds_asset m fees) error.NotHoldingFees (unless_held _ error.NotHoldingFees _ e.0)) (none_else _ (unless_next (holds_asset m fees) error.NotHoldingFees _ e.0));
+      there = sym (parked_is t.regs (after (HostCall.Buy w) t).part (effect (HostCall.Buy w) t) (unspent m.part w (payment_of fees)) (part_is (HostCall.Buy w) t));
+    })) stops
+
+-- ---- each instruction
+not_joined : (l : Instruction-F Instruction) (m : Machine) (rule : Location → Option XcmError) (change : Location → ChainPart) (goods : Bundle) (now : Machine) → refused l m ≡ with_origin m.regs.origin rule → NotJoined l m change goods now
+    → ((who : Location) → m.regs.origin ≡ Some who → rule who ≡ None → LeadTo l m (parking m (change who) goods)) → LeadTo l m now
+not_joined l m rule change goods now is stops led = lead_as l m (between m) now _ stops.1 (came_by l m m.regs.origin rule change goods refl (sym is ∙ stops.0) led)
+
+pub stops_lead : (l : Instruction-F Instruction) (m now : Machine) → Stops l m now → LeadTo l m now
+stops_lead (Instruction-F.WithdrawAsset list) m now stops = not_joined _ m _ _ (bundle_of list) now refl stops
+    (λ who is ok. came _ m (HostCall.Withdraw list who) (bundle_of list) (refl, is, refl) (unless_next (has_room m (length list)) _ _ ok) (refl, refl, refl))
+stops_lead (Instruction-F.ReserveAssetDeposited list) m now stops = not_joined _ m _ _ (bundle_of list) now refl stops
+    (λ who is ok. came _ m (HostCall.Receive list who false) (bundle_of list) (refl, is, refl) (unless_next (has_room m (length list)) _ _ ok) (refl, refl, refl))
+stops_lead (Instruction-F.ReceiveTeleportedAsset list) m now stops = not_joined _ m _ _ (bundle_of list) now refl stops
+    (λ who is ok. came _ m (HostCall.Receive list who true) (bundle_of list) (refl, is, refl) (unless_next (has_room m (length list)) _ _ ok) (refl, refl, refl))
+stops_lead (Instruction-F.ClaimAsset list ticket) m now stops = not_joined _ m _ _ (bundle_of list) now refl stops
+    (λ who is ok. came _ m (HostCall.Claim list who) (bundle_of list) (refl, is, (ticket, refl)) (unless_next (is_ticket ticket) _ _ (unless_next (has_room m (length list)) _ _ ok)) (refl, refl, refl))
+stops_lead (Instruction-F.DepositAsset filter who) m now stops = lead_as _ m (between m) now _ stops (not_put_back _ m m filter refl)
+stops_lead (Instruction-F.BurnAsset list) m now stops = lead_as _ m (between m) now _ stops (not_put_back _ m m (Definite list) refl)
+stops_lead (Instruction-F.BuyExecution fees limit) m now stops = buying_stops m fees limit now stops
+stops_lead Instruction-F.RefundSurplus m now stops = lead_as _ m (between m) now _ stops.1 (came _ m (HostCall.Refund (not_refunded m)) (refund_goods m.part (not_refunded m)) (refl, refl) refl (refl, refl, refl))
+stops_lead (Instruction-F.TransferReserveAsset list dest xcm) m now stops = around_stops _ m dest (fee_to m.part dest) (λ n left. ⊥) now refl (λ n none i. absurd i) stops
+stops_lead (Instruction-F.DepositReserveAsset filter dest xcm) m now stops =
+    around_stops _ m dest (fee_to m.part dest) (λ n left. NotPutBack n filter left) now refl (λ n none i. lead_as _ m (between n) now _ i (not_put_back _ m n filter none)) stops
+stops_lead (Instruction-F.InitiateReserveWithdraw filter dest xcm) m now stops =
+    around_stops _ m dest (fee_to m.part dest) (λ n left. NotPutBack n filter left) now refl (λ n none i. lead_as _ m (between n) now _ i (not_put_back _ m n filter none)) stops
+stops_lead (Instruction-F.InitiateTeleport filter dest xcm) m now stops =
+    around_stops _ m dest (fee_to m.part dest) (λ n left. NotPutBack n filter left) now refl (λ n none i. lead_as _ m (between n) now _ i (not_put_back _ m n filter none)) stops
+stops_lead (Instruction-F.ReportError info) m now stops = around_stops _ m info.destination (fee_to m.part info.destination) (λ n left. ⊥) now refl (λ n none i. absurd i) stops
+stops_lead (Instruction-F.ReportHolding info filter) m now stops = around_stops _ m info.destination (fee_to m.part info.destination) (λ n left. ⊥) now refl (λ n none i. absurd i) stops
+stops_lead (Instruction-F.QueryPallet name info) m now stops = around_stops _ m info.destination (fee_to m.part info.destination) (λ n left. ⊥) now refl (λ n none i. absurd i) stops
+stops_lead (Instruction-F.ReportTransactStatus info) m now stops = around_stops _ m info.destination (fee_to m.part info.destination) (λ n left. ⊥) now refl (λ n none i. absurd i) stops
+stops_lead _ m now stops = absurd stops
+
+-- all as it was, or one of these
+pub spilled_lead : (l : Instruction-F Instruction) (m now : Machine) → Spilled l m now → LeadTo l m now
+spilled_lead l m now s = ⊎_elim (λ (e : now ≡ m). lead_as l m (between m) now m e (lead_nowhere l m m)) (λ (stops : Stops l m now). stops_lead l m now stops) s
