@@ -1,0 +1,32 @@
+-- What every execution keeps: a fact that each call keeps, and each change of the other registers. This project's own vocabulary.
+use Rattle.std.specs.Prelude.{◌≡◌, ◌⊎◌, List, Option, Some, None}
+use Rattle.locations.specs.declared.grammar.Junction.{Junction}
+use Rattle.locations.specs.declared.relative.Location.{Location}
+use Rattle.xcm_program.specs.declared.instruction.Instruction.{Instruction, out-Instruction}
+use Rattle.exec_base.specs.declared.registers.Registers.{Registers}
+use Rattle.exec_base.specs.Part.{ChainPart}
+use Rattle.exec_run.specs.Machine.{Machine, machine}
+use Rattle.exec_run.specs.Outcome.{refund_surplus}
+use Rattle.exec_rules.specs.Origins.{descended}
+use Rattle.exec_calls.specs.Calls.{Midway, between, HostCall, why_not, after}
+use Rattle.exec_calls.specs.Reasons.{IsFrom, Asks}
+
+-- the origin register stays, is emptied, or goes to a location below the one that it holds
+abbrev pub TurnsOrigin : Option Location → Option Location → Type 0
+TurnsOrigin old new = (new ≡ old) ⊎ (new ≡ None) ⊎ ((who : Location) × (path : List Junction) × (old ≡ Some who) × (new ≡ Some (descended who path)))
+
+-- other registers; the holding stays
+pub record Turns (old new : Registers) : Type 0 where
+  pub holding : new.holding ≡ old.holding
+  pub origin : TurnsOrigin old.origin new.origin
+
+-- a fact that executions keep, where their instructions are of one kind
+pub record IsKeptByCalls (Q : Instruction → Type 0) (K : Midway → Type 0) : Type 0 where
+  pub refunds : Q refund_surplus
+  pub called : (x : Instruction) (m : Machine) (t : Midway) (c : HostCall) → Q x → K (between m) → Asks (out-Instruction x) m t c → IsFrom m t → why_not c t ≡ None → K t → K (after c t)
+  pub turned : (t : Midway) (r : Registers) → Turns t.regs r → K t → K (record t { regs = r })
+
+-- it holds of a part with some registers, and nothing in hand
+pub record Ends (K : Midway → Type 0) (p : ChainPart) : Type 0 where
+  pub regs : Registers
+  pub kept : K (between (machine regs p))

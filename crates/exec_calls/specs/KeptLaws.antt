@@ -1,0 +1,234 @@
+-- Lemmas that proofs cite, in this crate and above it: a fact that each call keeps, instructions, runs and executions keep, also where memory
+-- is refused. A reader of the contracts may skip this file.
+use Rattle.std.proofs.Common.{◌≡◌, ◌⊎◌, ℕ, zero, suc, ◌+◌, Bool, true, false, List, [], ◌∷◌, Option, Some, None, Result, Ok, Err, ⊎_elim, inl, inr, refl, sym, ap, ◌∙◌, subst}
+use Rattle.std.specs.Prelude.{⊤, if◌then◌else◌, nat_eq, length}
+use Rattle.std.specs.List.{AllByRecursion}
+use Rattle.amounts.specs.Amounts.{rows, empty}
+use Rattle.locations.specs.declared.grammar.Junction.{Junction}
+use Rattle.locations.specs.declared.relative.Location.{Location}
+use Rattle.message_parts.specs.declared.error.XcmError.{XcmError}
+use Rattle.message_parts.specs.declared.weight.Weight.{Weight}
+use Rattle.xcm_program.specs.declared.instruction.Instruction.{Instruction, out-Instruction}
+use Rattle.xcm_program.specs.declared.instruction.Instruction.TheOpen.{Instruction-F}
+use Rattle.xcm_program.specs.declared.outcome.Outcome.{Outcome}
+use Rattle.exec_base.specs.declared.event.Event.{Event}
+use Rattle.exec_base.specs.declared.event.Part.{Part}
+use Rattle.exec_base.specs.declared.event.Part.TheVariants as parts
+use Rattle.exec_base.specs.declared.registers.Registers.{Registers}
+use Rattle.exec_base.specs.Part.{ChainPart}
+use Rattle.exec_base.specs.Host.{told, settled, trapped, parked}
+use Rattle.exec_run.specs.Machine.{Machine, machine, Performed}
+use Rattle.exec_run.specs.Run.{Stage, At, Ended, begin, to_appendix, to_handler, go_on, failed, without_handler, without_appendix, handler_dropped, traced, by_answer, next, steps, machine_of, left_after, run, still_to_run, Reaches, Halted, StoppedIn}
+use Rattle.exec_run.specs.Outcome.{owner_of, end_event, end_told, rest_trapped, abandoned, refund_surplus, refunded_last, finished, HaltedAtEnd}
+use Rattle.exec_run.specs.Keeping.{IsAheadOf, GoesInside}
+use Rattle.exec_run.specs.KeepingLaws.{next_hold}
+use Rattle.exec_rules.specs.Holdings.{with_holding, refund_now}
+use Rattle.exec_rules.specs.Origins.{descended}
+use Rattle.exec_rules.specs.Instructions.{refusal_of, done, xcm}
+use Rattle.exec_rules.specs.Stopping.{spills}
+use Rattle.exec_admission.specs.declared.rules.ChainRules.{ChainRules}
+use Rattle.exec_admission.specs.declared.admission.Admitted.{Admitted}
+use Rattle.exec_admission.specs.Admission.{admitted}
+use Rattle.exec_admission.specs.Execution.{first_machine, first_stage, last_machine, executed_by, executed, AbandonedIn, IsAbandoned}
+use Rattle.exec_calls.specs.Calls.{Midway, between, here, HostCall, why_not, after, effect, refund_noted, below_origin, turned, turned_at}
+use Rattle.exec_calls.specs.Footprints.{part_is}
+use Rattle.exec_calls.specs.Reasons.{IsFrom, Asks, LeadTo}
+use Rattle.exec_calls.specs.ReasonLaws.{from_itself, done_keeps, lead_keeps}
+use Rattle.exec_calls.specs.StopLaws.{spilled_lead}
+use Rattle.exec_calls.specs.Kept.{TurnsOrigin, Turns, IsKeptByCalls, Ends}
+
+-- ---- an instruction's registers
+pub stays_origin : (old new : Registers) → new.holding ≡ old.holding → new.origin ≡ old.origin → Turns old new
+stays_origin old new holding origin = record { holding = holding; origin = inl origin }
+
+refund_turns : (m : Machine) (o : Option (Location × ℕ)) (r : Registers) → Turns r (refund_noted m o r)
+refund_turns m None r = stays_origin r r refl refl
+refund_turns m (Some given) r = stays_origin r _ refl refl
+
+below_turns : (o : Option Location) (path : List Junction) (r : Registers) → r.origin ≡ o → Turns r (below_origin o path r)
+below_turns None path r is = stays_origin r r refl refl
+below_turns (Some who) path r is = record { holding = refl; origin = inr (inr (who, path, is, refl)) }
+
+pub turns : (l : Instruction-F Instruction) (m : Machine) (t : Midway) → IsFrom m t → Turns t.regs (turned l m t.regs)
+turns Instruction-F.RefundSurplus m t f = refund_turns m (refund_now m) t.regs
+turns Instruction-F.ClearOrigin m t f = record { holding = refl; origin = inr (inl refl) }
+turns (Instruction-F.DescendOrigin path) m t f = below_turns m.regs.origin path t.regs (ap (λ (r : Registers). r.origin) f.regs)
+turns l m t f = stays_origin t.regs _ refl refl
+
+-- ---- a fact that each call keeps
+module _ (Q : Instruction → Type 0) (K : Midway → Type 0) (kept : IsKeptByCalls Q K) where
+  abbrev pub At_rest : Machine → Type 0
+  At_rest m = K (between m)
+
+  pub done_kept : (x : Instruction) (m : Machine) → Q x → refusal_of x m ≡ None → At_rest m → At_rest (xcm.done x m)
+  done_kept x m q free k =
+      done_keeps (out-Instruction x) m K (λ c t asks from ok kt. kept.called x m t c q k asks from ok kt)
+      (λ t from kt. kept.turned t (turned (out-Instruction x) m t.regs) (turns (out-Instruction x) m t from) kt) free k
+
+  pub spilled_kept : (x : Instruction) (m now : Machine) → Q x → spills x m now → At_rest m → At_rest now
+  spilled_kept x m now q s k =
+      lead_keeps (out-Instruction x) m K (λ c t asks from ok kt. kept.called x m t c q k asks from ok kt) now (spilled_lead (out-Instruction x) m now s) k
+
+  -- a call that no instruction makes
+  aside : (m : Machine) (t : Midway) (c : HostCall) → Asks (out-Instruction refund_surplus) m t c → IsFrom m t → why_not c t ≡ None → At_rest m → K t → K (after c t)
+  aside m t c asks from ok k kt = kept.called refund_surplus m t c kept.refunds k asks from ok kt
+
+  pub told_kept : (m : Machine) (e : Event) → At_rest m → At_rest (machine m.regs (told m.part e))
+  told_kept m e k = subst (λ (p : ChainPart). At_rest (machine m.regs p)) (part_is (HostCall.Tell e) (between m)) (aside m (between m) (HostCall.Tell e) refl (from_itself m) refl k k)
+
+  pub settled_kept : (m : Machine) → At_rest m → At_rest (machine m.regs (settled m.part))
+  settled_kept m k = subst (λ (p : ChainPart). At_rest (machine m.regs p)) (part_is HostCall.Settle (between m)) (aside m (between m) HostCall.Settle refl (from_itself m) refl k k)
+
+  emptied : (m : Machine) → At_rest m → K (after HostCall.Empty (between m))
+  emptied m k = aside m (between m) HostCall.Empty refl (from_itself m) refl k k
+
+  from_emptied : (m : Machine) → IsFrom m (after HostCall.Empty (between m))
+  from_emptied m = record { regs = refl; site = refl; rows = refl; pallets = refl; fee_account = refl }
+
+  trapped_kept : (m : Machine) (who : Location) → At_rest m → At_rest (machine (with_holding m.regs empty) (trapped m.part m.regs.holding who))
+  trapped_kept m who k = let t = after HostCall.Empty (between m) in
+      subst (λ (p : ChainPart). At_rest (machine (with_holding m.regs empty) p)) (part_is (HostCall.Trap who) t) (aside m t (HostCall.Trap who) tt (from_emptied m) refl k (emptied m k))
+
+  abandoned_kept : (m : Machine) (now : ChainPart) → now ≡ abandoned m.regs m.part → At_rest m → Ends K now
+  abandoned_kept m now is k = let t = after HostCall.Empty (between m) in
+      record {
+        regs = with_holding m.regs empty;
+        kept = subst (λ (p : ChainPart). At_rest (machine (with_holding m.regs empty) p)) (sym is)
+            (subst (λ (p : ChainPart). At_rest (machine (with_holding m.regs empty) p)) (part_is HostCall.Park t) (aside m t HostCall.Park refl (from_emptied m) refl k (emptied m k)));
+      }
+
+  registers_kept : (m : Machine) (r : Registers) → r.holding ≡ m.regs.holding → r.origin ≡ m.regs.origin → At_rest m → At_rest (machine r m.part)
+  registers_kept m r holding origin k = kept.turned (between m) r (stays_origin m.regs r holding origin) k
+
+  -- ---- a run
+  begin_kept : (part : Part) (program : List Instruction) (m : Machine) → At_rest m → At_rest (machine_of (begin part program m))
+  begin_kept part [] m k = k
+  begin_kept part (x ∷ behind) m k = k
+
+  to_appendix_kept : (m : Machine) → At_rest m → At_rest (machine_of (to_appendix m))
+  to_appendix_kept m k = begin_kept parts.Appendix m.regs.appendix (record m { regs = without_appendix m.regs }) (registers_kept m (without_appendix m.regs) refl refl k)
+
+  to_handler_kept : (handler : List Instruction) (m : Machine) → At_rest m → At_rest (machine_of (to_handler handler m))
+  to_handler_kept [] m k = to_appendix_kept m k
+  to_handler_kept (x ∷ behind) m k = registers_kept m (without_handler m.regs) refl refl k
+
+  pub go_on_kept : (part : Part) (place : ℕ) (behind : List Instruction) (m : Machine) → At_rest m → At_rest (machine_of (go_on part place behind m))
+  go_on_kept part place [] m k = to_appendix_kept (record m { regs = handler_dropped m.regs }) (registers_kept m (handler_dropped m.regs) refl refl k)
+  go_on_kept part place (x ∷ behind) m k = k
+
+  by_answer_kept : (part : Part) (place : ℕ) (x : Instruction) (behind : List Instruction) (m : Machine) (o : Option XcmError) → refusal_of x m ≡ o → Q x → At_rest m → At_rest (machine_of (by_answer xcm part place x behind m o))
+  by_answer_kept part place x behind m None e q k = go_on_kept part (place + 1) behind (traced part place x None (xcm.done x m)) (told_kept (xcm.done x m) _ (done_kept x m q e k))
+  by_answer_kept part place x behind m (Some error) e q k =
+      let n = traced part place x (Some error) m in
+      to_handler_kept m.regs.handler (record n { regs = failed place error behind m.regs }) (registers_kept n (failed place error behind m.regs) refl refl (told_kept m _ k))
+
+  pub next_kept : (g : Stage) → IsAheadOf Q g → At_rest (machine_of g) → At_rest (machine_of (next xcm g))
+  next_kept (At part place x behind m) ahead k = by_answer_kept part place x behind m (refusal_of x m) refl ahead.ahead_hold.0 k
+  next_kept (Ended m) ahead k = k
+
+  -- ---- its end
+  last_by : (m : Machine) (o : Option XcmError) → refusal_of refund_surplus m ≡ o → At_rest m → At_rest (left_after xcm refund_surplus m o)
+  last_by m None e k = done_kept refund_surplus m kept.refunds e k
+  last_by m (Some error) e k = k
+
+  pub last_kept : (m : Machine) → At_rest m → At_rest (refunded_last xcm m)
+  last_kept m k = last_by m (refusal_of refund_surplus m) refl k
+
+  rest_kept : (b : Bool) (r : Registers) (p : ChainPart) → At_rest (machine r p) → Ends K (if b then p else trapped p r.holding (owner_of r))
+  rest_kept true r p k = record { regs = r; kept = k }
+  rest_kept false r p k = record { regs = with_holding r empty; kept = trapped_kept (machine r p) (owner_of r) k }
+
+  pub finished_kept : (m : Machine) → At_rest m → Ends K (finished xcm m)
+  finished_kept m k =
+      let last = refunded_last xcm m in
+      rest_kept (nat_eq (length (rows last.regs.holding)) 0) last.regs (settled (end_told last)) (settled_kept (machine last.regs (end_told last)) (told_kept last (end_event last.regs) (last_kept m k)))
+
+  -- ---- memory is refused
+  performed_kept : (x : Instruction) (m now : Machine) (answer : Result (Unit {0}) XcmError) → Q x → Performed xcm x m answer now → At_rest m → At_rest now
+  performed_kept x m now (Ok done) q p k = subst At_rest (sym p.1) (done_kept x m q p.0 k)
+  performed_kept x m now (Err e) q p k = subst At_rest (sym p.1) k
+
+  pub halted_kept : (x : Instruction) (m now : Machine) → Q x → Halted xcm spills x m now → At_rest m → At_rest now
+  halted_kept x m now q h k =
+      ⊎_elim (λ (s : spills x m now). spilled_kept x m now q s k) (λ (p : (answer : Result (Unit {0}) XcmError) × Performed xcm x m answer now). performed_kept x m now p.0 q p.1 k) h
+
+  pub at_end_kept : (m : Machine) (now : ChainPart) → HaltedAtEnd xcm spills m now → At_rest m → Ends K now
+  at_end_kept m now h k =
+      let last = refunded_last xcm m in
+      let ended = last_kept m k in
+      let told = told_kept last (end_event last.regs) ended in
+      ⊎_elim (λ (s : (spilt : Machine) × spills refund_surplus m spilt × (now ≡ abandoned spilt.regs spilt.part)). abandoned_kept s.0 now s.2 (spilled_kept refund_surplus m s.0 kept.refunds s.1 k))
+      (λ rest. ⊎_elim (λ (e : now ≡ abandoned last.regs last.part). abandoned_kept last now e ended)
+      (λ more. ⊎_elim (λ e. abandoned_kept (machine last.regs (end_told last)) now e told)
+      (λ e. abandoned_kept (machine last.regs (settled (end_told last))) now e (settled_kept (machine last.regs (end_told last)) told)) more) rest) h
+
+  -- ---- wherever a run comes
+  steps_kept : (n : ℕ) (g : Stage) → ((k : ℕ) → IsAheadOf Q (steps xcm k g)) → At_rest (machine_of g) → At_rest (machine_of (steps xcm n g))
+  unfolding steps
+  steps_kept zero g ahead k = k
+  steps_kept (suc n) g ahead k = steps_kept n (next xcm g) (λ j. ahead (suc j)) (next_kept g (ahead 0) k)
+
+  pub reached_kept : (g h : Stage) → ((k : ℕ) → IsAheadOf Q (steps xcm k g)) → Reaches xcm g h → At_rest (machine_of g) → At_rest (machine_of h)
+  reached_kept g h ahead r k = subst (λ (h : Stage). At_rest (machine_of h)) r.1 (steps_kept r.0 g ahead k)
+
+  module _ (rules : ChainRules) (origin : Location) where
+    begun_kept : (a : Admitted) (p : ChainPart) → At_rest (first_machine rules origin p) → At_rest (machine_of (first_stage rules origin a p))
+    begun_kept a p k = begin_kept parts.Program a.program (first_machine rules origin p) k
+
+    pub run_kept : (a : Admitted) (p : ChainPart) → ((k : ℕ) → IsAheadOf Q (steps xcm k (first_stage rules origin a p))) → At_rest (first_machine rules origin p)
+        → (g : Stage) → Reaches xcm (first_stage rules origin a p) g → At_rest (machine_of g)
+    run_kept a p ahead k g r = reached_kept (first_stage rules origin a p) g ahead r (begun_kept a p k)
+
+    pub ran_kept : (a : Admitted) (p : ChainPart) → ((k : ℕ) → IsAheadOf Q (steps xcm k (first_stage rules origin a p))) → At_rest (first_machine rules origin p) → At_rest (last_machine rules origin a p)
+    ran_kept a p ahead k = run_kept a p ahead k (run xcm (first_stage rules origin a p)) (still_to_run (first_stage rules origin a p), refl)
+
+    executed_by_kept : (r : Result Admitted Outcome) (p : ChainPart) → ((a : Admitted) → r ≡ Ok a → (k : ℕ) → IsAheadOf Q (steps xcm k (first_stage rules origin a p))) → At_rest (first_machine rules origin p) → Ends K (executed_by rules origin r p).1
+    executed_by_kept (Err outcome) p ahead k = record { regs = (first_machine rules origin p).regs; kept = k }
+    executed_by_kept (Ok a) p ahead k = finished_kept (last_machine rules origin a p) (ran_kept a p (ahead a refl) k)
+
+    pub abandoned_in_kept : (a : Admitted) (p now : ChainPart) → ((k : ℕ) → IsAheadOf Q (steps xcm k (first_stage rules origin a p))) → AbandonedIn rules origin a p now → At_rest (first_machine rules origin p) → Ends K now
+    abandoned_in_kept a p now ahead h k =
+        ⊎_elim
+        (λ (s : (stopped : Machine) × StoppedIn xcm spills (first_stage rules origin a p) stopped × (now ≡ abandoned stopped.regs stopped.part)).
+        abandoned_kept s.0 now s.2 (stopped_kept s.0 s.1))
+        (λ (e : HaltedAtEnd xcm spills (last_machine rules origin a p) now). at_end_kept (last_machine rules origin a p) now e (ran_kept a p ahead k)) h
+      where
+        stopped_kept : (left : Machine) → StoppedIn xcm spills (first_stage rules origin a p) left → At_rest left
+        stopped_kept left s =
+            let before = run_kept a p ahead k (At s.part s.place s.which s.behind s.before) s.reached in
+            let here = subst (IsAheadOf Q) s.reached.1 (ahead s.reached.0) in
+            halted_kept s.which s.before left here.ahead_hold.0 s.halted before
+
+-- ---- of all instructions
+abbrev pub any_kind : Instruction → Type 0
+any_kind x = ⊤
+
+all_any : (xs : List Instruction) → AllByRecursion any_kind xs
+all_any [] = tt
+all_any (x ∷ xs) = (tt, all_any xs)
+
+any_ahead : (g : Stage) → IsAheadOf any_kind g
+any_ahead (At part place x behind m) = record { ahead_hold = all_any (x ∷ behind); handler_holds = all_any m.regs.handler; appendix_holds = all_any m.regs.appendix }
+any_ahead (Ended m) = record { ahead_hold = tt; handler_holds = all_any m.regs.handler; appendix_holds = all_any m.regs.appendix }
+
+module _ (K : Midway → Type 0) (kept : IsKeptByCalls any_kind K) where
+  pub keeps_done : (x : Instruction) (m : Machine) → refusal_of x m ≡ None → K (between m) → K (between (xcm.done x m))
+  keeps_done x m free k = done_kept any_kind K kept x m tt free k
+
+  pub keeps_spilled : (x : Instruction) (m now : Machine) → spills x m now → K (between m) → K (between now)
+  keeps_spilled x m now s k = spilled_kept any_kind K kept x m now tt s k
+
+  pub keeps_reached : (g h : Stage) → Reaches xcm g h → K (between (machine_of g)) → K (between (machine_of h))
+  keeps_reached g h r k = reached_kept any_kind K kept g h (λ j. any_ahead _) r k
+
+  pub keeps_run : (rules : ChainRules) (origin : Location) (a : Admitted) (p : ChainPart) (g : Stage) → Reaches xcm (first_stage rules origin a p) g → K (between (first_machine rules origin p)) → K (between (machine_of g))
+  keeps_run rules origin a p g r k = run_kept any_kind K kept rules origin a p (λ j. any_ahead _) k g r
+
+  pub keeps_halted : (x : Instruction) (m now : Machine) → Halted xcm spills x m now → K (between m) → K (between now)
+  keeps_halted x m now h k = halted_kept any_kind K kept x m now tt h k
+
+  pub keeps_executed : (rules : ChainRules) (origin : Location) (credit : Weight) (program : List Instruction) (p : ChainPart) → K (between (first_machine rules origin p)) → Ends K (executed rules origin credit program p).1
+  keeps_executed rules origin credit program p k = executed_by_kept any_kind K kept rules origin (admitted rules origin credit p.queries program) p (λ a e j. any_ahead _) k
+
+  pub keeps_abandoned : (rules : ChainRules) (origin : Location) (credit : Weight) (program : List Instruction) (p now : ChainPart) → IsAbandoned rules origin credit program p now → K (between (first_machine rules origin p)) → Ends K now
+  keeps_abandoned rules origin credit program p now h k = abandoned_in_kept any_kind K kept rules origin h.0 p now (λ j. any_ahead _) h.2 k
