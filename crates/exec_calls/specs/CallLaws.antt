@@ -32,7 +32,7 @@ use Rattle.exec_rules.specs.Origins.{is_original, fits_below, descended, is_own_
 use Rattle.exec_rules.specs.Programs.{with_registers}
 use Rattle.exec_rules.specs.Expectations.{pallet_refusal, pallet_at}
 use Rattle.exec_rules.specs.Instructions.{refused, done}
-use Rattle.exec_calls.specs.Calls.{room, refund_noted, below_origin, Midway, between, here, HostCall, why_not, after, effect, after_all, refusal_along, never, for_origin, charge, around, buying, refunding, report, holding_report, pallet_tests, calls, turned, turned_at, through}
+use Rattle.exec_calls.specs.Calls.{room, size_tests, refund_noted, below_origin, Midway, between, here, HostCall, why_not, after, effect, after_all, refusal_along, never, for_origin, charge, around, buying, refunding, report, holding_report, pallet_tests, calls, turned, turned_at, through}
 use Rattle.exec_calls.specs.Footprints.{part_is}
 
 -- ---- refusals
@@ -128,11 +128,14 @@ holding_answer : (n : Machine) (info : QueryInfo) (o : Option (List Asset)) → 
 holding_answer n info None = refl
 holding_answer n info (Some list) = by_length (nat_le (length list) 20)
   where
-    by_length : (b : Bool) → (if b then report_refused n info (response.Assets list) else too_many_refused n info)
-        ≡ refusal_along (if b then report n info (response.Assets list) else HostCall.Check (is_some (querier_seen n.part info.destination n.regs.origin)) error.ReanchorFailed
-        ∷ HostCall.Check (is_some (channel_to n.part info.destination)) error.Unroutable ∷ never error.ExceedsMaxMessageSize) (between n)
+    by_length : (b : Bool) → (if b then report_refused n info (response.Assets list) else too_many_refused n info) ≡ refusal_along (size_tests n info b ++ report n info (response.Assets list)) (between n)
     by_length true = report_answer n info (response.Assets list)
     by_length false = two_tests (is_some (querier_seen n.part info.destination n.regs.origin)) (is_some (channel_to n.part info.destination)) error.ReanchorFailed error.Unroutable (Some error.ExceedsMaxMessageSize)
+
+receiving_answer : (m : Machine) (o : Option Location) (list : List Asset) (teleport : Bool) → with_origin o (λ who. with_room m (length list) (receive_refusal m.part list who teleport))
+    ≡ refusal_along (HostCall.Check (is_some o) error.BadOrigin ∷ room m (length list) ∷ HostCall.Receive list o teleport ∷ HostCall.Join ∷ []) (between m)
+receiving_answer m None list teleport = refl
+receiving_answer m (Some who) list teleport = test_then (has_room m (length list)) error.HoldingWouldOverflow _ _ (one_is _)
 
 pallet_answer : (m : Machine) (o : Option PalletInfo) (name module_name : List ℕ) (major least_minor : ℕ) → pallet_refusal o name module_name major least_minor ≡ refusal_along (pallet_tests o name module_name major least_minor) (between m)
 pallet_answer m None name module_name major least_minor = refl
@@ -140,8 +143,8 @@ pallet_answer m (Some info) name module_name major least_minor = test_then _ err
 
 pub refused_is : (l : Instruction-F Instruction) (m : Machine) → refused l m ≡ refusal_along (calls l m) (between m)
 refused_is (Instruction-F.WithdrawAsset list) m = by_origin m.regs.origin _ _ (between m) (λ who. test_then _ error.HoldingWouldOverflow _ _ (one_is _))
-refused_is (Instruction-F.ReserveAssetDeposited list) m = by_origin m.regs.origin _ _ (between m) (λ who. test_then _ error.HoldingWouldOverflow _ _ (one_is _))
-refused_is (Instruction-F.ReceiveTeleportedAsset list) m = by_origin m.regs.origin _ _ (between m) (λ who. test_then _ error.HoldingWouldOverflow _ _ (one_is _))
+refused_is (Instruction-F.ReserveAssetDeposited list) m = receiving_answer m m.regs.origin list false
+refused_is (Instruction-F.ReceiveTeleportedAsset list) m = receiving_answer m m.regs.origin list true
 refused_is (Instruction-F.ClaimAsset list ticket) m = by_origin m.regs.origin _ _ (between m) (λ who. test_then _ error.HoldingWouldOverflow _ _ (test_then _ error.UnknownClaim _ _ (one_is _)))
 refused_is (Instruction-F.DepositAsset filter who) m = one_is _
 refused_is (Instruction-F.BuyExecution fees limit) m = buying_refused m fees limit
@@ -177,13 +180,6 @@ refused_is (Instruction-F.AliasOrigin target) m = by_origin m.regs.origin _ _ (b
 refused_is _ m = refl
 
 -- ---- what is left
-none_first : (a b : Option XcmError) → or_else a b ≡ None → a ≡ None
-none_first None b h = refl
-none_first (Some e) b h = absurd cc
-
-none_next : (a b : Option XcmError) → or_else a b ≡ None → b ≡ None
-none_next None b h = h
-none_next (Some e) b h = absurd cc
 
 -- goods are joined to what is held
 pub more_is : (r : Registers) (p q : ChainPart) (goods : Bundle) → p ≡ q → after HostCall.Join (record { regs = r; part = p; goods = goods }) ≡ between (holding_more (machine r q) q goods)
@@ -191,25 +187,38 @@ more_is r p q goods same =
     ap (λ (x : ChainPart). between (machine (with_holding r (Joined r.holding goods)) x)) (part_is HostCall.Join (record { regs = r; part = p; goods = goods }))
     ∙ ap (λ (x : ChainPart). between (machine (with_holding r (Joined r.holding goods)) (joined x r.holding goods))) same
 
+-- goods came, and are joined
+joins : (m : Machine) (c : HostCall) (goods : Bundle) → (let t = after c (between m) in (t.regs ≡ m.regs) × (t.goods ≡ goods)) → between (holding_more m (effect c (between m)) goods) ≡ after HostCall.Join (after c (between m))
+joins m c goods is =
+    sym (more_is m.regs (after c (between m)).part (effect c (between m)) goods (part_is c (between m)))
+    ∙ ap (λ (t : Midway). after HostCall.Join t) (sym (same_midway (after c (between m)) goods is))
+  where
+    same_midway : (t : Midway) (goods : Bundle) → (t.regs ≡ m.regs) × (t.goods ≡ goods) → ◌≡◌ {A = Midway} t (record { regs = m.regs; part = t.part; goods = goods })
+    same_midway t goods is = λ i. record { regs = is.0 i; part = t.part; goods = is.1 i }
+
 -- goods were put somewhere, or none were in hand
 put_is : (r : Registers) (c : HostCall) (t : Midway) → between (machine r (after c t).part) ≡ between (machine r (effect c t))
 put_is r c t = ap (λ (x : ChainPart). between (machine r x)) (part_is c t)
 
-at_origin_is : (o : Option Location) (rule : Location → Option XcmError) (change : Location → Machine) (calls : Location → List HostCall) (m : Machine)
-    → ((who : Location) → rule who ≡ None → between (change who) ≡ after_all (calls who) (between m)) → with_origin o rule ≡ None → between (at_origin o change m) ≡ after_all (for_origin o calls) (between m)
-at_origin_is None rule change calls m same ok = absurd cc
-at_origin_is (Some who) rule change calls m same ok = same who ok
+at_origin_is : (o : Option Location) (change : Location → Machine) (made : Location → List HostCall) (m : Machine)
+    → ((who : Location) → between (change who) ≡ after_all (made who) (between m)) → between (at_origin o change m) ≡ after_all (for_origin o made) (between m)
+at_origin_is None change made m same = refl
+at_origin_is (Some who) change made m same = same who
+
+none_changed : (o : Option Location) (m : Machine) (e : XcmError) → between m ≡ after_all (for_origin o (λ who. never e)) (between m)
+none_changed None m e = refl
+none_changed (Some who) m e = refl
 
 keeping_is : (k : Machine) → after HostCall.KeepFee (between k) ≡ between (keeping_fee k)
 keeping_is k = put_is k.regs HostCall.KeepFee (between k)
 
-around_is : (o : Option Asset) (m : Machine) (rule : Machine → Option XcmError) (change : Machine → Machine) (inside : Machine → List HostCall)
-    → ((n : Machine) → rule n ≡ None → between (change n) ≡ after_all (inside n) (between n)) → refused_around o m rule ≡ None → between (done_around o m change) ≡ after_all (around o m inside) (between m)
-around_is None m rule change inside same ok = same m ok
-around_is (Some fee) m rule change inside same ok =
+around_is : (o : Option Asset) (m : Machine) (change : Machine → Machine) (inside : Machine → List HostCall)
+    → ((n : Machine) → between (change n) ≡ after_all (inside n) (between n)) → between (done_around o m change) ≡ after_all (around o m inside) (between m)
+around_is None m change inside same = same m
+around_is (Some fee) m change inside same =
     let n = after_fee m fee in
     sym (keeping_is (change n))
-    ∙ ap (after HostCall.KeepFee) (same n (none_next (fee_refusal m fee) (rule n) ok))
+    ∙ ap (after HostCall.KeepFee) (same n)
     ∙ sym (after_both (inside n) (HostCall.KeepFee ∷ []) (between n))
     ∙ ap (after_all (inside n ++ HostCall.KeepFee ∷ [])) (sym (charge_after m fee))
     ∙ sym (after_both (charge m fee) (inside n ++ HostCall.KeepFee ∷ []) (between m))
@@ -226,78 +235,56 @@ buying_is m fees (Limited w) =
 
 refunding_is : (m : Machine) (o : Option (Location × ℕ)) → between (refund_done m o) ≡ (let t = after_all (refunding m o) (between m) in record t { regs = refund_noted m o t.regs })
 refunding_is m None = refl
-refunding_is m (Some given) =
-    let c : HostCall = HostCall.Refund (not_refunded m) in
-    ap (λ (t : Midway). record t { regs = refund_noted m (Some given) t.regs }) (sym (more_is m.regs (after c (between m)).part (effect c (between m)) (refund_goods m.part (not_refunded m)) (part_is c (between m))))
+refunding_is m (Some given) = ap (λ (t : Midway). record t { regs = refund_noted m (Some given) t.regs }) (joins m (HostCall.Refund (not_refunded m)) (refund_goods m.part (not_refunded m)) (refl, refl))
 
 report_is : (n : Machine) (info : QueryInfo) (answer : Response) → between (report_done n info answer) ≡ after_all (report n info answer) (between n)
 report_is n info answer = sym (put_is n.regs (HostCall.Respond info answer n.regs.origin) (between n))
 
-holding_is : (n : Machine) (info : QueryInfo) (o : Option (List Asset)) → holding_report_refused n info o ≡ None → between (holding_report_done n info o) ≡ after_all (holding_report n info o) (between n)
-holding_is n info None ok = absurd cc
-holding_is n info (Some list) ok = by_length (nat_le (length list) 20) ok
+holding_is : (n : Machine) (info : QueryInfo) (o : Option (List Asset)) → between (holding_report_done n info o) ≡ after_all (holding_report n info o) (between n)
+holding_is n info None = refl
+holding_is n info (Some list) = by_length (nat_le (length list) 20)
   where
-    by_length : (b : Bool) → (if b then report_refused n info (response.Assets list) else too_many_refused n info) ≡ None
-        → between (report_done n info (response.Assets list)) ≡ after_all (if b then report n info (response.Assets list) else HostCall.Check (is_some (querier_seen n.part info.destination n.regs.origin)) error.ReanchorFailed
-        ∷ HostCall.Check (is_some (channel_to n.part info.destination)) error.Unroutable ∷ never error.ExceedsMaxMessageSize) (between n)
-    by_length true ok = report_is n info (response.Assets list)
-    by_length false ok = absurd (too_many (is_some (querier_seen n.part info.destination n.regs.origin)) (is_some (channel_to n.part info.destination)) ok)
-      where
-        too_many : (a b : Bool) → unless a error.ReanchorFailed (unless b error.Unroutable (Some error.ExceedsMaxMessageSize)) ≡ None → ⊥
-        too_many true true h = absurd cc
-        too_many true false h = absurd cc
-        too_many false b h = absurd cc
+    by_length : (b : Bool) → between (report_done n info (response.Assets list)) ≡ after_all (size_tests n info b ++ report n info (response.Assets list)) (between n)
+    by_length true = report_is n info (response.Assets list)
+    by_length false = report_is n info (response.Assets list)
 
 pallet_is : (m : Machine) (o : Option PalletInfo) (name module_name : List ℕ) (major least_minor : ℕ) → between m ≡ after_all (pallet_tests o name module_name major least_minor) (between m)
 pallet_is m None name module_name major least_minor = refl
 pallet_is m (Some info) name module_name major least_minor = refl
 
-received_is : (o : Option Location) (m : Machine) (list : List Asset) (teleport : Bool) → with_origin o (λ who. with_room m (length list) (receive_refusal m.part list who teleport)) ≡ None
-    → between (holding_more m (received m.part list teleport) (bundle_of list)) ≡ after_all (for_origin o (λ who. room m (length list) ∷ HostCall.Receive list who teleport ∷ HostCall.Join ∷ [])) (between m)
-received_is None m list teleport ok = absurd cc
-received_is (Some who) m list teleport ok =
-    let c : HostCall = HostCall.Receive list who teleport in sym (more_is m.regs (after c (between m)).part (effect c (between m)) (bundle_of list) (part_is c (between m)))
-
-descended_is : (o : Option Location) (m : Machine) (path : List Junction) → with_origin o (λ who. unless (fits_below who path) error.LocationFull None) ≡ None
-    → between (at_origin o (λ who. with_registers m (record m.regs { origin = Some (descended who path) })) m)
+descended_is : (o : Option Location) (m : Machine) (path : List Junction) → between (at_origin o (λ who. with_registers m (record m.regs { origin = Some (descended who path) })) m)
     ≡ (let t = after_all (for_origin o (λ who. HostCall.Check (fits_below who path) error.LocationFull ∷ [])) (between m) in record t { regs = below_origin o path t.regs })
-descended_is None m path ok = absurd cc
-descended_is (Some who) m path ok = refl
+descended_is None m path = refl
+descended_is (Some who) m path = refl
 
-never_done : (o : Option Location) (e : XcmError) → with_origin o (λ who. Some e) ≡ None → ⊥
-never_done None e h = absurd cc
-never_done (Some who) e h = absurd cc
-
-pub done_is : (l : Instruction-F Instruction) (m : Machine) → refused l m ≡ None → between (done l m) ≡ through l m
-done_is (Instruction-F.WithdrawAsset list) m ok = at_origin_is m.regs.origin _ _ _ m
-    (λ who h. let c : HostCall = HostCall.Withdraw list who in sym (more_is m.regs (after c (between m)).part (effect c (between m)) (bundle_of list) (part_is c (between m)))) ok
-done_is (Instruction-F.ReserveAssetDeposited list) m ok = received_is m.regs.origin m list false ok
-done_is (Instruction-F.ReceiveTeleportedAsset list) m ok = received_is m.regs.origin m list true ok
-done_is (Instruction-F.ClaimAsset list ticket) m ok = at_origin_is m.regs.origin _ _ _ m
-    (λ who h. let c : HostCall = HostCall.Claim list who in sym (more_is m.regs (after c (between m)).part (effect c (between m)) (bundle_of list) (part_is c (between m)))) ok
-done_is (Instruction-F.DepositAsset filter who) m ok = left_is m filter (HostCall.Deposit who)
-done_is (Instruction-F.BurnAsset list) m ok = left_is m (Definite list) HostCall.Burn
-done_is (Instruction-F.BuyExecution fees limit) m ok = buying_is m fees limit
-done_is Instruction-F.RefundSurplus m ok = refunding_is m (refund_now m)
-done_is (Instruction-F.TransferAsset list who) m ok = at_origin_is m.regs.origin _ _ _ m (λ from h. sym (put_is m.regs (HostCall.Transfer list from who) (between m))) ok
-done_is (Instruction-F.TransferReserveAsset list dest xcm) m ok = at_origin_is m.regs.origin _ _ _ m
-    (λ who h. around_is (fee_to m.part dest) m _ _ _ (λ n k. sym (put_is n.regs (HostCall.TransferOut list who dest xcm) (between n))) h) ok
-done_is (Instruction-F.DepositReserveAsset filter dest xcm) m ok = around_is (fee_to m.part dest) m _ _ _ (λ n k. left_is n filter (HostCall.DepositOut dest xcm)) ok
-done_is (Instruction-F.InitiateReserveWithdraw filter dest xcm) m ok = around_is (fee_to m.part dest) m _ _ _ (λ n k. left_is n filter (HostCall.Ship Way.Withdrawal dest xcm)) ok
-done_is (Instruction-F.InitiateTeleport filter dest xcm) m ok = around_is (fee_to m.part dest) m _ _ _ (λ n k. left_is n filter (HostCall.Ship Way.Teleport dest xcm)) ok
-done_is (Instruction-F.ReportError info) m ok = around_is (fee_to m.part info.destination) m _ _ _ (λ n k. report_is n info (response.ExecutionResult n.regs.error)) ok
-done_is (Instruction-F.ReportHolding info filter) m ok = around_is (fee_to m.part info.destination) m _ _ _ (λ n k. holding_is n info (reported_list n info filter) k) ok
-done_is (Instruction-F.QueryPallet name info) m ok = around_is (fee_to m.part info.destination) m _ _ _ (λ n k. report_is n info (response.PalletsInfo (pallets_of n.part name))) ok
-done_is (Instruction-F.ReportTransactStatus info) m ok = around_is (fee_to m.part info.destination) m _ _ _ (λ n k. report_is n info (response.DispatchResult n.regs.status)) ok
-done_is (Instruction-F.QueryResponse query answer weight querier) m ok = at_origin_is m.regs.origin _ _ _ m (λ who h. sym (put_is m.regs (HostCall.Answer who query) (between m))) ok
-done_is (Instruction-F.DescendOrigin path) m ok = descended_is m.regs.origin m path ok
-done_is (Instruction-F.ExpectPallet place name module_name major least_minor) m ok = pallet_is m (pallet_at m place) name module_name major least_minor
-done_is (Instruction-F.Transact kind most call) m ok = absurd (never_done m.regs.origin error.FailedToDecode ok)
-done_is (Instruction-F.UniversalOrigin junction) m ok = absurd (never_done m.regs.origin error.InvalidLocation (none_next _ _ (sym (test_first (not (is_own_network m junction)) error.InvalidLocation (with_origin m.regs.origin (λ who. Some error.InvalidLocation))) ∙ ok)))
-done_is (Instruction-F.ExportMessage network path xcm) m ok = absurd (never_done m.regs.origin error.Unroutable ok)
-done_is (Instruction-F.LockAsset asset unlocker) m ok = absurd (never_done m.regs.origin error.LockError ok)
-done_is (Instruction-F.UnlockAsset asset target) m ok = absurd (never_done m.regs.origin error.LockError ok)
-done_is (Instruction-F.NoteUnlockable asset owner) m ok = absurd (never_done m.regs.origin error.LockError ok)
-done_is (Instruction-F.RequestUnlock asset locker) m ok = absurd (never_done m.regs.origin error.LockError ok)
-done_is (Instruction-F.AliasOrigin target) m ok = absurd (never_done m.regs.origin error.NoPermission ok)
-done_is _ m ok = refl
+pub done_is : (l : Instruction-F Instruction) (m : Machine) → between (done l m) ≡ through l m
+done_is (Instruction-F.WithdrawAsset list) m = at_origin_is m.regs.origin _ _ m (λ who. joins m (HostCall.Withdraw list who) (bundle_of list) (refl, refl))
+done_is (Instruction-F.ReserveAssetDeposited list) m = joins m (HostCall.Receive list m.regs.origin false) (bundle_of list) (refl, refl)
+done_is (Instruction-F.ReceiveTeleportedAsset list) m = joins m (HostCall.Receive list m.regs.origin true) (bundle_of list) (refl, refl)
+done_is (Instruction-F.ClaimAsset list ticket) m = at_origin_is m.regs.origin _ _ m (λ who. joins m (HostCall.Claim list who) (bundle_of list) (refl, refl))
+done_is (Instruction-F.DepositAsset filter who) m = left_is m filter (HostCall.Deposit who)
+done_is (Instruction-F.BurnAsset list) m = left_is m (Definite list) HostCall.Burn
+done_is (Instruction-F.BuyExecution fees limit) m = buying_is m fees limit
+done_is Instruction-F.RefundSurplus m = refunding_is m (refund_now m)
+done_is (Instruction-F.TransferAsset list who) m = at_origin_is m.regs.origin _ _ m (λ from. sym (put_is m.regs (HostCall.Transfer list from who) (between m)))
+done_is (Instruction-F.TransferReserveAsset list dest xcm) m = at_origin_is m.regs.origin _ _ m
+    (λ who. around_is (fee_to m.part dest) m _ _ (λ n. sym (put_is n.regs (HostCall.TransferOut list who dest xcm) (between n))))
+done_is (Instruction-F.DepositReserveAsset filter dest xcm) m = around_is (fee_to m.part dest) m _ _ (λ n. left_is n filter (HostCall.DepositOut dest xcm))
+done_is (Instruction-F.InitiateReserveWithdraw filter dest xcm) m = around_is (fee_to m.part dest) m _ _ (λ n. left_is n filter (HostCall.Ship Way.Withdrawal dest xcm))
+done_is (Instruction-F.InitiateTeleport filter dest xcm) m = around_is (fee_to m.part dest) m _ _ (λ n. left_is n filter (HostCall.Ship Way.Teleport dest xcm))
+done_is (Instruction-F.ReportError info) m = around_is (fee_to m.part info.destination) m _ _ (λ n. report_is n info (response.ExecutionResult n.regs.error))
+done_is (Instruction-F.ReportHolding info filter) m = around_is (fee_to m.part info.destination) m _ _ (λ n. holding_is n info (reported_list n info filter))
+done_is (Instruction-F.QueryPallet name info) m = around_is (fee_to m.part info.destination) m _ _ (λ n. report_is n info (response.PalletsInfo (pallets_of n.part name)))
+done_is (Instruction-F.ReportTransactStatus info) m = around_is (fee_to m.part info.destination) m _ _ (λ n. report_is n info (response.DispatchResult n.regs.status))
+done_is (Instruction-F.QueryResponse query answer weight querier) m = at_origin_is m.regs.origin _ _ m (λ who. sym (put_is m.regs (HostCall.Answer who query) (between m)))
+done_is (Instruction-F.DescendOrigin path) m = descended_is m.regs.origin m path
+done_is (Instruction-F.ExpectPallet place name module_name major least_minor) m = pallet_is m (pallet_at m place) name module_name major least_minor
+done_is (Instruction-F.Transact kind most call) m = none_changed m.regs.origin m error.FailedToDecode
+done_is (Instruction-F.UniversalOrigin junction) m = none_changed m.regs.origin m error.InvalidLocation
+done_is (Instruction-F.ExportMessage network path xcm) m = none_changed m.regs.origin m error.Unroutable
+done_is (Instruction-F.LockAsset asset unlocker) m = none_changed m.regs.origin m error.LockError
+done_is (Instruction-F.UnlockAsset asset target) m = none_changed m.regs.origin m error.LockError
+done_is (Instruction-F.NoteUnlockable asset owner) m = none_changed m.regs.origin m error.LockError
+done_is (Instruction-F.RequestUnlock asset locker) m = none_changed m.regs.origin m error.LockError
+done_is (Instruction-F.AliasOrigin target) m = none_changed m.regs.origin m error.NoPermission
+done_is _ m = refl

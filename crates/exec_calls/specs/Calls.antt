@@ -36,7 +36,7 @@ use Rattle.exec_base.specs.Part.{ChainPart}
 use Rattle.exec_base.specs.Sending.{unless, or_else, channel_to}
 use Rattle.exec_base.specs.Host.{withdraw_refusal, withdrawn, deposit_refusal, deposited, transfer_refusal, transferred, receive_refusal, received, transfer_out_refusal, transferred_out, deposit_out_refusal, deposited_out, ship_refusal, shipped, querier_seen, respond_refusal, responded, answered, buy_refusal, unspent, bought, refund_goods, refunded, joined, burnt, claim_refusal, claimed, trapped, parked, settled, fee_to, fee_held, fee_taken, fee_kept, fee_drawn, told}
 use Rattle.exec_run.specs.Machine.{Machine, machine}
-use Rattle.exec_rules.specs.Holdings.{with_holding, has_room, holds_asset, holds_list, payment_of, is_ticket, not_refunded, refund_now, holds_some}
+use Rattle.exec_rules.specs.Holdings.{with_origin, with_holding, has_room, holds_asset, holds_list, payment_of, is_ticket, not_refunded, refund_now, holds_some}
 use Rattle.exec_rules.specs.Fees.{after_fee}
 use Rattle.exec_rules.specs.Reports.{pallets_of, reported_list}
 use Rattle.exec_rules.specs.Origins.{same_origin, is_original, is_checked_origin, fits_below, descended, is_own_network}
@@ -67,7 +67,7 @@ pub data HostCall : Type 0 where
   -- the chain hands goods out
   Withdraw : List Asset → Location → HostCall
   Draw : Asset → Location → HostCall
-  Receive : List Asset → Location → Bool → HostCall
+  Receive : List Asset → Option Location → Bool → HostCall
   Claim : List Asset → Location → HostCall
   Refund : Weight → HostCall
   -- it takes goods in
@@ -100,7 +100,7 @@ why_not (HostCall.Pay a) t = unless (holds_asset (here t) a) error.NotHoldingFee
 why_not HostCall.Join t = None
 why_not (HostCall.Withdraw list who) t = withdraw_refusal t.part list who
 why_not (HostCall.Draw fee who) t = withdraw_refusal t.part (fee ∷ []) who
-why_not (HostCall.Receive list who teleport) t = receive_refusal t.part list who teleport
+why_not (HostCall.Receive list from teleport) t = with_origin from (λ who. receive_refusal t.part list who teleport)
 why_not (HostCall.Claim list who) t = claim_refusal t.part list who
 why_not (HostCall.Refund w) t = None
 why_not (HostCall.Deposit who) t = deposit_refusal t.part t.goods who
@@ -130,7 +130,7 @@ after HostCall.Join t =
     record { regs = with_holding t.regs (Joined t.regs.holding t.goods); part = record t.part { burns = q.burns; kept_back = q.kept_back }; goods = empty }
 after (HostCall.Withdraw list who) t = let q = withdrawn t.part list who in record t { part = record t.part { held = q.held; cargo = q.cargo }; goods = bundle_of list }
 after (HostCall.Draw fee who) t = let q = fee_drawn t.part (fee ∷ []) who in record t { part = record t.part { held = q.held }; goods = payment_of fee }
-after (HostCall.Receive list who teleport) t = let q = received t.part list teleport in record t { part = record t.part { checking = q.checking; cargo = q.cargo }; goods = bundle_of list }
+after (HostCall.Receive list from teleport) t = let q = received t.part list teleport in record t { part = record t.part { checking = q.checking; cargo = q.cargo }; goods = bundle_of list }
 after (HostCall.Claim list who) t = let q = claimed t.part list who in record t { part = record t.part { traps = q.traps }; goods = bundle_of list }
 after (HostCall.Refund w) t = let q = refunded t.part w in record t { part = record t.part { lines = q.lines }; goods = refund_goods t.part w }
 after (HostCall.Deposit who) t = let q = deposited t.part t.goods who in record t { part = record t.part { held = q.held }; goods = empty }
@@ -160,7 +160,7 @@ abbrev pub effect : HostCall → Midway → ChainPart
 effect HostCall.Join t = joined t.part t.regs.holding t.goods
 effect (HostCall.Withdraw list who) t = withdrawn t.part list who
 effect (HostCall.Draw fee who) t = fee_drawn t.part (fee ∷ []) who
-effect (HostCall.Receive list who teleport) t = received t.part list teleport
+effect (HostCall.Receive list from teleport) t = received t.part list teleport
 effect (HostCall.Claim list who) t = claimed t.part list who
 effect (HostCall.Refund w) t = refunded t.part w
 effect (HostCall.Deposit who) t = deposited t.part t.goods who
@@ -205,6 +205,9 @@ for_origin (Some who) calls = calls who
 abbrev pub room : Machine → ℕ → HostCall
 room m n = HostCall.Check (has_room m n) error.HoldingWouldOverflow
 
+abbrev pub receiving : Machine → List Asset → Bool → List HostCall
+receiving m list teleport = HostCall.Check (is_some m.regs.origin) error.BadOrigin ∷ room m (length list) ∷ HostCall.Receive list m.regs.origin teleport ∷ HostCall.Join ∷ []
+
 -- in fees mode from the origin's account, else from the holding
 abbrev pub charge : Machine → Asset → List HostCall
 charge m fee =
@@ -230,13 +233,16 @@ refunding m (Some given) = HostCall.Check (holds_some m given.0 || has_room m 1)
 abbrev pub report : Machine → QueryInfo → Response → List HostCall
 report n info answer = HostCall.Respond info answer n.regs.origin ∷ []
 
+-- more assets than a list has are in no message
+abbrev pub size_tests : Machine → QueryInfo → Bool → List HostCall
+size_tests n info true = []
+size_tests n info false =
+    HostCall.Check (is_some (querier_seen n.part info.destination n.regs.origin)) error.ReanchorFailed
+    ∷ HostCall.Check (is_some (channel_to n.part info.destination)) error.Unroutable ∷ never error.ExceedsMaxMessageSize
+
 abbrev pub holding_report : Machine → QueryInfo → Option (List Asset) → List HostCall
 holding_report n info None = never error.ReanchorFailed
-holding_report n info (Some list) =
-    if nat_le (length list) 20
-    then report n info (response.Assets list)
-    else HostCall.Check (is_some (querier_seen n.part info.destination n.regs.origin)) error.ReanchorFailed
-        ∷ HostCall.Check (is_some (channel_to n.part info.destination)) error.Unroutable ∷ never error.ExceedsMaxMessageSize
+holding_report n info (Some list) = size_tests n info (nat_le (length list) 20) ++ report n info (response.Assets list)
 
 abbrev pub pallet_tests : Option PalletInfo → List ℕ → List ℕ → ℕ → ℕ → List HostCall
 pallet_tests None name module_name major least_minor = never error.PalletNotFound
@@ -246,8 +252,8 @@ pallet_tests (Some info) name module_name major least_minor =
 abbrev pub calls : Instruction-F Instruction → Machine → List HostCall
 -- assets into the holding register and out of it
 calls (Instruction-F.WithdrawAsset list) m = for_origin m.regs.origin (λ who. room m (length list) ∷ HostCall.Withdraw list who ∷ HostCall.Join ∷ [])
-calls (Instruction-F.ReserveAssetDeposited list) m = for_origin m.regs.origin (λ who. room m (length list) ∷ HostCall.Receive list who false ∷ HostCall.Join ∷ [])
-calls (Instruction-F.ReceiveTeleportedAsset list) m = for_origin m.regs.origin (λ who. room m (length list) ∷ HostCall.Receive list who true ∷ HostCall.Join ∷ [])
+calls (Instruction-F.ReserveAssetDeposited list) m = receiving m list false
+calls (Instruction-F.ReceiveTeleportedAsset list) m = receiving m list true
 calls (Instruction-F.ClaimAsset list ticket) m =
     for_origin m.regs.origin (λ who. room m (length list) ∷ HostCall.Check (is_ticket ticket) error.UnknownClaim ∷ HostCall.Claim list who ∷ HostCall.Join ∷ [])
 calls (Instruction-F.DepositAsset filter who) m = HostCall.Take filter ∷ HostCall.Deposit who ∷ []

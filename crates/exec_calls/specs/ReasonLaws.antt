@@ -28,7 +28,7 @@ use Rattle.exec_rules.specs.Fees.{after_fee}
 use Rattle.exec_rules.specs.Reports.{pallets_of, reported_list}
 use Rattle.exec_rules.specs.Expectations.{pallet_at}
 use Rattle.exec_rules.specs.Instructions.{refused, done}
-use Rattle.exec_calls.specs.Calls.{Midway, between, HostCall, why_not, after, after_all, refusal_along, never, for_origin, charge, around, buying, refunding, report, holding_report, pallet_tests, calls, turned, turned_at}
+use Rattle.exec_calls.specs.Calls.{Midway, between, HostCall, why_not, after, after_all, refusal_along, never, size_tests, for_origin, charge, around, buying, refunding, report, holding_report, pallet_tests, calls, turned, turned_at}
 use Rattle.exec_calls.specs.CallLaws.{along_both, after_both, charge_after, refused_is, done_is}
 use Rattle.exec_calls.specs.Reasons.{IsFrom, IsFee, IsReport, shipping, Asks, AreAsked, LeadTo}
 
@@ -100,10 +100,9 @@ module _ (l : Instruction-F Instruction) (m : Machine) where
   holding_asked n info None reports unsent same = (refl, tt)
   holding_asked n info (Some list) reports unsent same = by_length (nat_le (length list) 20)
     where
-      by_length : (b : Bool) → AreAsked l m (if b then report n info (response.Assets list) else HostCall.Check (is_some (querier_seen n.part info.destination n.regs.origin)) error.ReanchorFailed
-          ∷ HostCall.Check (is_some (channel_to n.part info.destination)) error.Unroutable ∷ never error.ExceedsMaxMessageSize) (between n)
+      by_length : (b : Bool) → AreAsked l m (size_tests n info b ++ report n info (response.Assets list)) (between n)
       by_length true = ((unsent, same, reports), tt)
-      by_length false = (refl, (refl, (refl, tt)))
+      by_length false = (refl, (refl, (refl, ((unsent, same, reports), tt))))
 
 -- ---- each instruction
 pallet_asked : (l : Instruction-F Instruction) (m : Machine) (o : Option PalletInfo) (name module_name : List ℕ) (major least_minor : ℕ) → AreAsked l m (pallet_tests o name module_name major least_minor) (between m)
@@ -120,8 +119,8 @@ refunding_asked m (Some given) = (refl, ((refl, refl), (tt, tt)))
 
 pub asked : (l : Instruction-F Instruction) (m : Machine) → AreAsked l m (calls l m) (between m)
 asked (Instruction-F.WithdrawAsset list) m = for_origin_asked _ m m.regs.origin _ (between m) refl (λ who is. (refl, ((refl, is, refl), (tt, tt))))
-asked (Instruction-F.ReserveAssetDeposited list) m = for_origin_asked _ m m.regs.origin _ (between m) refl (λ who is. (refl, ((refl, is, refl), (tt, tt))))
-asked (Instruction-F.ReceiveTeleportedAsset list) m = for_origin_asked _ m m.regs.origin _ (between m) refl (λ who is. (refl, ((refl, is, refl), (tt, tt))))
+asked (Instruction-F.ReserveAssetDeposited list) m = (refl, (refl, ((refl, refl, refl), (tt, tt))))
+asked (Instruction-F.ReceiveTeleportedAsset list) m = (refl, (refl, ((refl, refl, refl), (tt, tt))))
 asked (Instruction-F.ClaimAsset list ticket) m = for_origin_asked _ m m.regs.origin _ (between m) refl (λ who is. (refl, (refl, ((refl, is, (ticket, refl)), (tt, tt)))))
 asked (Instruction-F.DepositAsset filter who) m = (refl, ((filter, refl), tt))
 asked (Instruction-F.BurnAsset list) m = (refl, ((list, refl), tt))
@@ -162,24 +161,50 @@ asked (Instruction-F.AliasOrigin target) m = for_origin_asked _ m m.regs.origin 
 asked _ m = tt
 
 -- ---- what each call keeps, all calls keep
-module _ (l : Instruction-F Instruction) (m : Machine) (K : Midway → Type 0) (step : (c : HostCall) (t : Midway) → Asks l m t c → IsFrom m t → why_not c t ≡ None → K t → K (after c t)) where
-  pub kept_along : (cs : List HostCall) (t : Midway) → AreAsked l m cs t → IsFrom m t → refusal_along cs t ≡ None → K t → K (after_all cs t)
-  kept_along [] t a from free k = k
-  kept_along (c ∷ cs) t a from free k =
-      kept_along cs (after c t) a.1 (from_after c m t from) (none_next (why_not c t) (refusal_along cs (after c t)) free) (step c t a.0 from (none_first (why_not c t) (refusal_along cs (after c t)) free) k)
+pub from_all : (m : Machine) (cs : List HostCall) (t : Midway) → IsFrom m t → IsFrom m (after_all cs t)
+from_all m [] t f = f
+from_all m (c ∷ cs) t f = from_all m cs (after c t) (from_after c m t f)
 
-  -- an accepted instruction, up to its registers
-  pub calls_keep : refused l m ≡ None → K (between m) → K (after_all (calls l m) (between m))
-  calls_keep free k = kept_along (calls l m) (between m) (asked l m) (from_itself m) (sym (refused_is l m) ∙ free) k
+module _ (l : Instruction-F Instruction) (m : Machine) (K : Midway → Type 0) where
+  -- where each call is accepted
+  module _ (step : (c : HostCall) (t : Midway) → Asks l m t c → IsFrom m t → why_not c t ≡ None → K t → K (after c t)) where
+    pub kept_along : (cs : List HostCall) (t : Midway) → AreAsked l m cs t → IsFrom m t → refusal_along cs t ≡ None → K t → K (after_all cs t)
+    kept_along [] t a from free k = k
+    kept_along (c ∷ cs) t a from free k =
+        kept_along cs (after c t) a.1 (from_after c m t from) (none_next (why_not c t) (refusal_along cs (after c t)) free) (step c t a.0 from (none_first (why_not c t) (refusal_along cs (after c t)) free) k)
 
-  -- and with them
-  pub done_keeps : ((t : Midway) → IsFrom m t → K t → K (turned_at l m t)) → refused l m ≡ None → K (between m) → K (between (done l m))
-  done_keeps turn free k = subst K (sym (done_is l m free)) (turn (after_all (calls l m) (between m)) (from_all (calls l m) (between m) (from_itself m)) (calls_keep free k))
-    where
-      from_all : (cs : List HostCall) (t : Midway) → IsFrom m t → IsFrom m (after_all cs t)
-      from_all [] t f = f
-      from_all (c ∷ cs) t f = from_all cs (after c t) (from_after c m t f)
+    -- an accepted instruction, up to its registers
+    pub calls_keep : refused l m ≡ None → K (between m) → K (after_all (calls l m) (between m))
+    calls_keep free k = kept_along (calls l m) (between m) (asked l m) (from_itself m) (sym (refused_is l m) ∙ free) k
 
-  -- wherever accepted calls lead
-  pub lead_keeps : (now : Machine) → LeadTo l m now → K (between m) → K (between now)
-  lead_keeps now led k = subst K (sym led.there) (kept_along led.made (between m) led.asked (from_itself m) led.free k)
+    -- and with them
+    pub done_keeps : ((t : Midway) → IsFrom m t → K t → K (turned_at l m t)) → refused l m ≡ None → K (between m) → K (between (done l m))
+    done_keeps turn free k = subst K (sym (done_is l m)) (turn (after_all (calls l m) (between m)) (from_all m (calls l m) (between m) (from_itself m)) (calls_keep free k))
+
+    -- wherever accepted calls lead
+    pub lead_keeps : (now : Machine) → LeadTo l m now → K (between m) → K (between now)
+    lead_keeps now led k = subst K (sym led.there) (kept_along led.made (between m) led.asked (from_itself m) led.free k)
+
+  -- whether or not they are
+  module _ (step : (c : HostCall) (t : Midway) → Asks l m t c → IsFrom m t → K t → K (after c t)) where
+    each_along : (cs : List HostCall) (t : Midway) → AreAsked l m cs t → IsFrom m t → K t → K (after_all cs t)
+    each_along [] t a from k = k
+    each_along (c ∷ cs) t a from k = each_along cs (after c t) a.1 (from_after c m t from) (step c t a.0 from k)
+
+    pub each_keeps : ((t : Midway) → IsFrom m t → K t → K (turned_at l m t)) → K (between m) → K (between (done l m))
+    each_keeps turn k = subst K (sym (done_is l m)) (turn (after_all (calls l m) (between m)) (from_all m (calls l m) (between m) (from_itself m)) (each_along (calls l m) (between m) (asked l m) (from_itself m) k))
+
+  -- what is said of each refusal is said of the instruction's
+  module _ (N : Option XcmError → Type 0) (none : N None) (step : (c : HostCall) (t : Midway) → Asks l m t c → IsFrom m t → why_not c t ≡ None → K t → K (after c t))
+      (why : (c : HostCall) (t : Midway) → Asks l m t c → IsFrom m t → K t → N (why_not c t)) where
+    refusal_by : (o rest : Option XcmError) → N o → (o ≡ None → N rest) → N (or_else o rest)
+    refusal_by None rest n h = h refl
+    refusal_by (Some e) rest n h = n
+
+    refusals_along : (cs : List HostCall) (t : Midway) → AreAsked l m cs t → IsFrom m t → K t → N (refusal_along cs t)
+    refusals_along [] t a from k = none
+    refusals_along (c ∷ cs) t a from k =
+        refusal_by (why_not c t) (refusal_along cs (after c t)) (why c t a.0 from k) (λ free. refusals_along cs (after c t) a.1 (from_after c m t from) (step c t a.0 from free k))
+
+    pub refusal_shows : K (between m) → N (refused l m)
+    refusal_shows k = subst N (sym (refused_is l m)) (refusals_along (calls l m) (between m) (asked l m) (from_itself m) k)

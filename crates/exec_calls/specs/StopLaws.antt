@@ -151,9 +151,9 @@ pub stops_lead : (l : Instruction-F Instruction) (m now : Machine) → Stops l m
 stops_lead (Instruction-F.WithdrawAsset list) m now stops = not_joined _ m _ _ (bundle_of list) now refl stops
     (λ who is ok. came _ m (HostCall.Withdraw list who) (bundle_of list) (refl, is, refl) (unless_next (has_room m (length list)) _ _ ok) (refl, refl, refl))
 stops_lead (Instruction-F.ReserveAssetDeposited list) m now stops = not_joined _ m _ _ (bundle_of list) now refl stops
-    (λ who is ok. came _ m (HostCall.Receive list who false) (bundle_of list) (refl, is, refl) (unless_next (has_room m (length list)) _ _ ok) (refl, refl, refl))
+    (λ who is ok. came _ m (HostCall.Receive list m.regs.origin false) (bundle_of list) (refl, refl, refl) (ap (λ (o : Option Location). with_origin o (λ who. receive_refusal m.part list who false)) is ∙ unless_next (has_room m (length list)) _ _ ok) (refl, refl, refl))
 stops_lead (Instruction-F.ReceiveTeleportedAsset list) m now stops = not_joined _ m _ _ (bundle_of list) now refl stops
-    (λ who is ok. came _ m (HostCall.Receive list who true) (bundle_of list) (refl, is, refl) (unless_next (has_room m (length list)) _ _ ok) (refl, refl, refl))
+    (λ who is ok. came _ m (HostCall.Receive list m.regs.origin true) (bundle_of list) (refl, refl, refl) (ap (λ (o : Option Location). with_origin o (λ who. receive_refusal m.part list who true)) is ∙ unless_next (has_room m (length list)) _ _ ok) (refl, refl, refl))
 stops_lead (Instruction-F.ClaimAsset list ticket) m now stops = not_joined _ m _ _ (bundle_of list) now refl stops
     (λ who is ok. came _ m (HostCall.Claim list who) (bundle_of list) (refl, is, (ticket, refl)) (unless_next (is_ticket ticket) _ _ (unless_next (has_room m (length list)) _ _ ok)) (refl, refl, refl))
 stops_lead (Instruction-F.DepositAsset filter who) m now stops = lead_as _ m (between m) now _ stops (not_put_back _ m m filter refl)

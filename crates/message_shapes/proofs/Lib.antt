@@ -1,7 +1,5 @@
 pub mod Channels
-pub mod Instructions
 pub mod Runs
-pub mod Stopping
 pub mod Worlds
 pub mod Admitting
 pub mod Matching

@@ -1,5 +1,5 @@
 use Rattle.message_shapes.proofs.Runs.{reached_shaped, executed_shaped}
-use Rattle.message_shapes.proofs.Stopping.{stopped_shaped}
+use Rattle.message_shapes.proofs.Runs.{stopped_shaped}
 use Rattle.message_shapes.proofs.laws.law_of_runs_that_send.Goals as goal
 
 pub returns : goal.returns
