@@ -23,35 +23,21 @@ use Rattle.exec_base.specs.Part.{ChainPart}
 use Rattle.exec_base.specs.Sending.{led_by, away_program}
 use Rattle.exec_base.specs.Host.{told}
 use Rattle.exec_run.specs.Machine.{Machine, machine}
-use Rattle.exec_run.specs.Run.{Stage, At, Ended, begin, go_on, traced, by_answer, steps, machine_of, run, still_to_run, Reaches, Halted}
+use Rattle.exec_run.specs.Run.{Stage, At, Ended, begin, go_on, traced, by_answer, steps, machine_of, run, still_to_run, Reaches, Halted, StoppedIn}
 use Rattle.exec_run.specs.RunLaws.{steps_end}
-use Rattle.exec_run.specs.Outcome.{finished}
+use Rattle.exec_run.specs.Outcome.{abandoned, finished, HaltedAtEnd}
 use Rattle.exec_rules.specs.Stopping.{spills}
 use Rattle.exec_rules.specs.Instructions.{refused, refusal_of, done, xcm}
 use Rattle.exec_admission.specs.declared.rules.ChainRules.{ChainRules}
 use Rattle.exec_admission.specs.declared.admission.Admitted.{Admitted}
 use Rattle.exec_admission.specs.Execution.{first_machine, first_stage, last_machine, executed_by, AbandonedIn}
+use Rattle.exec_calls.specs.Calls.{between}
+use Rattle.exec_calls.specs.KeptLaws.{any_kind, keeps_reached, go_on_kept}
 use Rattle.message_shapes.specs.Shapes.{IsAnswer, IsLedByClaim, IsShape}
 use Rattle.authority.specs.Origins.{speaker_at, speaker_of, LowersOnly}
 use Rattle.authority.proofs.Lowering.{same_lowers, then_lowers, none_lowers}
-use Rattle.authority.proofs.Acts.{View, view, done_acts}
-use Rattle.authority.proofs.Runs.{go_on_holds, steps_hold, finished_lowers}
-use Rattle.authority.proofs.Stopping.{halted_lowers, clear_halted, stopped_lowers}
-
--- ---- without an origin
-record Quiet (may : Option (List ℕ)) (start : Held) (v : View) : Type 0 where
-  silent : v.origin ≡ None
-  lowers : LowersOnly may start v.held
-
-quiet_kept : (may : Option (List ℕ)) (start : Held) (l : Instruction-F Instruction) (m : Machine) → Quiet may start (view m) → Quiet may start (view (done l m))
-quiet_kept may start l m v =
-    let acts = done_acts l m in
-    let none : speaker_of m ≡ None = ap (speaker_at m.part.site) v.silent in
-    record {
-      silent = acts.empty v.silent;
-      lowers = then_lowers may start m.part.held (done l m).part.held v.lowers
-          (none_lowers may m.part.held (done l m).part.held (subst (λ (s : Option (List ℕ)). LowersOnly s m.part.held (done l m).part.held) none acts.lowers));
-    }
+use Rattle.authority.proofs.Acts.{done_lowers, halted_lowers, clear_halted}
+use Rattle.authority.proofs.Runs.{Quiet, quiet_is_kept, finished_lowers, at_end_lowers, abandoned_lowers}
 
 -- ---- a message at its receiver
 module _ (rules : ChainRules) (origin : Location) (p : ChainPart) where
@@ -70,7 +56,7 @@ module _ (rules : ChainRules) (origin : Location) (p : ChainPart) where
   lowers_of (At part place x behind m) s = s.0
   lowers_of (Ended m) s = s
 
-  safe_quiet : (g : Stage) → Quiet may p.held (view (machine_of g)) → Safe g
+  safe_quiet : (g : Stage) → Quiet may p.held (between (machine_of g)) → Safe g
   safe_quiet (At part place x behind m) q = (
     q.lowers,
     λ left k. then_lowers may p.held m.part.held left.part.held q.lowers
@@ -85,22 +71,23 @@ module _ (rules : ChainRules) (origin : Location) (p : ChainPart) where
   at_end n m h = subst Safe (sym (steps_end xcm n (Ended m) tt)) h
 
   first_lowers : (x : Instruction) → LowersOnly may p.held (xcm.done x start).part.held
-  first_lowers x = (done_acts (out-Instruction x) start).lowers
+  first_lowers x = done_lowers x start
 
   -- behind ClearOrigin
-  cleared_quiet : (m : Machine) → LowersOnly may p.held m.part.held → Quiet may p.held (view (xcm.done (roll-Instruction Instruction-F.ClearOrigin) m))
-  cleared_quiet m h = subst (λ (l : Instruction-F Instruction). Quiet may p.held (view (done l m))) (sym (out-roll-Instruction Instruction-F.ClearOrigin)) (record { silent = refl; lowers = h })
+  cleared_quiet : (m : Machine) → LowersOnly may p.held m.part.held → Quiet may p.held (between (xcm.done (roll-Instruction Instruction-F.ClearOrigin) m))
+  cleared_quiet m h = subst (λ (l : Instruction-F Instruction). Quiet may p.held (between (done l m))) (sym (out-roll-Instruction Instruction-F.ClearOrigin)) (record { silent = refl; lowers = h })
 
-  told_quiet : (m : Machine) (e : Event) → Quiet may p.held (view m) → Quiet may p.held (view (machine m.regs (told m.part e)))
+  told_quiet : (m : Machine) (e : Event) → Quiet may p.held (between m) → Quiet may p.held (between (machine m.regs (told m.part e)))
   unfolding told
-  told_quiet m e h = h
+  told_quiet m e h = record { silent = h.silent; lowers = h.lowers }
 
   after_clear : (n place : ℕ) (behind : List Instruction) (m : Machine) → LowersOnly may p.held m.part.held
-      → Quiet may p.held (view (machine_of (steps xcm n (by_answer xcm Program place (roll-Instruction Instruction-F.ClearOrigin) behind m None))))
+      → Quiet may p.held (between (machine_of (steps xcm n (by_answer xcm Program place (roll-Instruction Instruction-F.ClearOrigin) behind m None))))
   after_clear n place behind m h =
       let clear = roll-Instruction Instruction-F.ClearOrigin in
       let quiet = told_quiet (xcm.done clear m) _ (cleared_quiet m h) in
-      steps_hold (Quiet may p.held) (quiet_kept may p.held) n _ (go_on_holds (Quiet may p.held) (quiet_kept may p.held) Program (place + 1) behind (traced Program place clear None (xcm.done clear m)) quiet)
+      let g = go_on Program (place + 1) behind (traced Program place clear None (xcm.done clear m)) in
+      keeps_reached (Quiet may p.held) (quiet_is_kept may p.held) g (steps xcm n g) (n, refl) (go_on_kept any_kind (Quiet may p.held) (quiet_is_kept may p.held) Program (place + 1) behind (traced Program place clear None (xcm.done clear m)) quiet)
 
   from_clear : (n place : ℕ) (behind : List Instruction) (m : Machine) → LowersOnly may p.held m.part.held → Safe (steps xcm n (At Program place (roll-Instruction Instruction-F.ClearOrigin) behind m))
   unfolding steps
@@ -131,7 +118,7 @@ module _ (rules : ChainRules) (origin : Location) (p : ChainPart) where
   alone_by_answer n query answer weight querier None =
       let l : Instruction-F Instruction = Instruction-F.QueryResponse query answer weight querier in
       let x = roll-Instruction l in
-      subst (λ (d : Machine). Safe (steps xcm n (go_on Program (0 + 1) [] (traced Program 0 x None d)))) (sym (ap (λ (k : Instruction-F Instruction). done k start) (out-roll-Instruction l))) (at_end n _ (done_acts l start).lowers)
+      subst (λ (d : Machine). Safe (steps xcm n (go_on Program (0 + 1) [] (traced Program 0 x None d)))) (sym (ap (λ (k : Instruction-F Instruction). done k start) (out-roll-Instruction l))) (at_end n _ (subst (λ (k : Instruction-F Instruction). LowersOnly may p.held (done k start).part.held) (out-roll-Instruction l) (done_lowers x start)))
   alone_by_answer n query answer weight querier (Some e) = refused_first n (roll-Instruction (Instruction-F.QueryResponse query answer weight querier)) [] e
 
   alone_safe : (n query : ℕ) (answer : Response) (weight : Weight) (querier : Option Location) → Safe (steps xcm n (begin Program (roll-Instruction (Instruction-F.QueryResponse query answer weight querier) ∷ []) start))
@@ -166,14 +153,20 @@ module _ (rules : ChainRules) (origin : Location) (p : ChainPart) where
 
   pub message_stopped : (here : Site) (there : ChainId) (cargo : Cargo) (a : Admitted) (now : ChainPart) → IsShape here there a.program cargo → AbandonedIn rules origin a p now → LowersOnly may p.held now.held
   message_stopped here there cargo a now shape h =
-      stopped_lowers may rules origin a p now (λ g r. lowers_of g (safe_at here there cargo a g shape r)) (λ part place x behind m left r k. (safe_at here there cargo a (At part place x behind m) shape r).1 left k) h
+      ⊎_elim
+      (λ (k : (stopped : Machine) × StoppedIn xcm spills (first_stage rules origin a p) stopped × (now ≡ abandoned stopped.regs stopped.part)).
+      abandoned_lowers may p.held k.0 now k.2 ((safe_at here there cargo a (At k.1.part k.1.place k.1.which k.1.behind k.1.before) shape k.1.reached).1 k.0 k.1.halted))
+      (λ (e : HaltedAtEnd xcm spills (last_machine rules origin a p) now).
+      let last = last_machine rules origin a p in
+      let ran = safe_at here there cargo a (run xcm (first_stage rules origin a p)) shape (still_to_run (first_stage rules origin a p), refl) in
+      then_lowers may p.held last.part.held now.held (lowers_of (run xcm (first_stage rules origin a p)) ran) (at_end_lowers may last now e)) h
 
   -- ---- once two instructions were taken, the origin register is empty wherever the run stands
   abbrev Silent : Stage → Type 0
   Silent (At part place x behind m) = m.regs.origin ≡ None
   Silent (Ended m) = ⊤
 
-  silent_quiet : (g : Stage) → Quiet may p.held (view (machine_of g)) → Silent g
+  silent_quiet : (g : Stage) → Quiet may p.held (between (machine_of g)) → Silent g
   silent_quiet (At part place x behind m) q = q.silent
   silent_quiet (Ended m) q = tt
 

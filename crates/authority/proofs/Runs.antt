@@ -1,116 +1,124 @@
--- What each instruction of a run keeps of accounts and of the origin register, the run keeps.
-use Rattle.std.proofs.Common.{◌≡◌, ◌⊎◌, ℕ, zero, suc, ◌+◌, Bool, true, false, List, [], ◌∷◌, Option, Some, None, Result, Ok, Err, ⊎_elim, inl, inr, refl, sym, ap, ◌∙◌, subst}
-use Rattle.std.specs.Prelude.{if◌then◌else◌, nat_eq, length}
+-- What each call keeps of accounts and of the origin register, the run keeps, and its end, also where memory is refused.
+use Rattle.std.proofs.Common.{◌≡◌, ◌⊎◌, ℕ, List, [], ◌∷◌, ◌++◌, Option, Some, None, ⊎_elim, inl, inr, refl, sym, ap, ◌∙◌, subst, append_assoc}
+use Rattle.std.specs.Prelude.{⊤}
 use Rattle.std.proofs.lemmas.List.{append-nil}
-use Rattle.amounts.specs.Amounts.{rows}
+use Rattle.amounts.specs.Amounts.{empty}
 use Rattle.locations.specs.declared.grammar.Junction.{Junction}
 use Rattle.locations.specs.declared.relative.Location.{Location}
-use Rattle.message_parts.specs.declared.error.XcmError.{XcmError}
 use Rattle.message_parts.specs.declared.weight.Weight.{Weight}
 use Rattle.trust_tables.specs.declared.chains.Site.{Site}
 use Rattle.ledgers.specs.Ledgers.{Held}
-use Rattle.xcm_program.specs.declared.instruction.Instruction.{Instruction, out-Instruction, out-roll-Instruction}
+use Rattle.xcm_program.specs.declared.instruction.Instruction.{Instruction}
 use Rattle.xcm_program.specs.declared.instruction.Instruction.TheOpen.{Instruction-F}
-use Rattle.xcm_program.specs.declared.outcome.Outcome.{Outcome}
-use Rattle.exec_base.specs.declared.event.Event.{Event}
-use Rattle.exec_base.specs.declared.event.Part.{Part}
-use Rattle.exec_base.specs.declared.event.Part.TheVariants.{Appendix}
 use Rattle.exec_base.specs.declared.registers.Registers.{Registers}
 use Rattle.exec_base.specs.Part.{ChainPart}
-use Rattle.exec_base.specs.Host.{told, settled, trapped}
-use Rattle.exec_run.specs.Machine.{Machine, machine}
-use Rattle.exec_run.specs.Run.{Stage, At, Ended, begin, to_appendix, to_handler, go_on, failed, without_appendix, handler_dropped, traced, by_answer, next, steps, machine_of, left_after, run, still_to_run, Reaches}
-use Rattle.exec_run.specs.Outcome.{owner_of, end_event, end_told, refund_surplus, refunded_last, finished}
-use Rattle.exec_rules.specs.Holdings.{refund_now}
+use Rattle.exec_run.specs.Machine.{Machine}
+use Rattle.exec_run.specs.Run.{Stage, machine_of, Reaches, Halted}
+use Rattle.exec_run.specs.Outcome.{abandoned, finished, HaltedAtEnd}
 use Rattle.exec_rules.specs.Origins.{descended}
-use Rattle.exec_rules.specs.Instructions.{refusal_of, done, xcm}
+use Rattle.exec_rules.specs.Instructions.{xcm}
+use Rattle.exec_rules.specs.Stopping.{spills}
 use Rattle.exec_admission.specs.declared.rules.ChainRules.{ChainRules}
 use Rattle.exec_admission.specs.declared.admission.Admitted.{Admitted}
-use Rattle.exec_admission.specs.Admission.{admitted}
-use Rattle.exec_admission.specs.Execution.{first_machine, first_stage, last_machine, executed_by, executed}
+use Rattle.exec_admission.specs.Execution.{started, first_stage, executed, IsAbandoned}
+use Rattle.exec_calls.specs.Calls.{Midway, HostCall, after}
+use Rattle.exec_calls.specs.Reasons.{IsFrom, Asks}
+use Rattle.exec_calls.specs.Kept.{TurnsOrigin, IsKeptAtEnd, IsKeptByCalls}
+use Rattle.exec_calls.specs.KeptLaws.{any_kind, abandoned_kept, finished_kept, at_end_kept, keeps_run, keeps_halted, keeps_executed, keeps_abandoned}
 use Rattle.network_steps.specs.Acting.{caller}
 use Rattle.authority.specs.Origins.{speaker_at, speaker_of, LowersOnly, IsAtOrBelow}
 use Rattle.authority.proofs.Lowering.{same_lowers, then_lowers, none_lowers, settled_lowers}
-use Rattle.authority.proofs.Acts.{View, view, refund_acts, done_acts}
-
--- ---- a fact of accounts and origin that each instruction keeps
-module _ (K : View → Type 0) (kept : (l : Instruction-F Instruction) (m : Machine) → K (view m) → K (view (done l m))) where
-  abbrev pub Holds : Stage → Type 0
-  Holds g = K (view (machine_of g))
-
-  told_holds : (r : Registers) (p : ChainPart) (e : Event) → K (view (machine r p)) → K (view (machine r (told p e)))
-  unfolding told
-  told_holds r p e h = h
-
-  begin_holds : (part : Part) (program : List Instruction) (m : Machine) → K (view m) → Holds (begin part program m)
-  begin_holds part [] m h = h
-  begin_holds part (x ∷ behind) m h = h
-
-  to_appendix_holds : (m : Machine) → K (view m) → Holds (to_appendix m)
-  to_appendix_holds m h = begin_holds Appendix m.regs.appendix (record m { regs = without_appendix m.regs }) h
-
-  to_handler_holds : (handler : List Instruction) (m : Machine) → K (view m) → Holds (to_handler handler m)
-  to_handler_holds [] m h = to_appendix_holds m h
-  to_handler_holds (x ∷ behind) m h = h
-
-  pub go_on_holds : (part : Part) (place : ℕ) (behind : List Instruction) (m : Machine) → K (view m) → Holds (go_on part place behind m)
-  go_on_holds part place [] m h = to_appendix_holds (record m { regs = handler_dropped m.regs }) h
-  go_on_holds part place (x ∷ behind) m h = h
-
-  by_answer_holds : (part : Part) (place : ℕ) (x : Instruction) (behind : List Instruction) (m : Machine) (o : Option XcmError) → K (view m) → Holds (by_answer xcm part place x behind m o)
-  by_answer_holds part place x behind m None h =
-      go_on_holds part (place + 1) behind (traced part place x None (xcm.done x m)) (told_holds (xcm.done x m).regs (xcm.done x m).part _ (kept (out-Instruction x) m h))
-  by_answer_holds part place x behind m (Some error) h =
-      to_handler_holds m.regs.handler (record (traced part place x (Some error) m) { regs = failed place error behind m.regs }) (told_holds m.regs m.part _ h)
-
-  next_holds : (g : Stage) → Holds g → Holds (next xcm g)
-  next_holds (At part place x behind m) h = by_answer_holds part place x behind m (refusal_of x m) h
-  next_holds (Ended m) h = h
-
-  pub steps_hold : (n : ℕ) (g : Stage) → Holds g → Holds (steps xcm n g)
-  unfolding steps
-  steps_hold zero g h = h
-  steps_hold (suc n) g h = steps_hold n (next xcm g) (next_holds g h)
-
-  pub run_holds : (rules : ChainRules) (origin : Location) (a : Admitted) (p : ChainPart) (n : ℕ) → K (view (first_machine rules origin p)) → Holds (steps xcm n (first_stage rules origin a p))
-  run_holds rules origin a p n h = steps_hold n (first_stage rules origin a p) (begin_holds Part.Program a.program (first_machine rules origin p) h)
+use Rattle.authority.proofs.Acts.{call_lowers}
 
 -- ---- the origin register of a run
+longer : (first who : Location) (path : List Junction) → IsAtOrBelow first (Some who) → IsAtOrBelow first (Some (descended who path))
+longer first who path h = (h.0 ++ path, ap (λ (l : Location). descended l path) h.1 ∙ ap (λ (js : List Junction). let l : Location = record first { interior = js } in l) (append_assoc first.interior h.0 path))
+
+below_turned : (first : Location) (old new : Option Location) → TurnsOrigin old new → IsAtOrBelow first old → IsAtOrBelow first new
+below_turned first old new turns h =
+    ⊎_elim (λ (e : new ≡ old). subst (IsAtOrBelow first) (sym e) h)
+    (λ (rest : (new ≡ None) ⊎ ((who : Location) × (path : List Junction) × (old ≡ Some who) × (new ≡ Some (descended who path)))).
+    ⊎_elim (λ (e : new ≡ None). subst (IsAtOrBelow first) (sym e) tt)
+    (λ (d : (who : Location) × (path : List Junction) × (old ≡ Some who) × (new ≡ Some (descended who path))). subst (IsAtOrBelow first) (sym d.3) (longer first d.0 d.1 (subst (IsAtOrBelow first) d.2 h))) rest) turns
+
 starts_at : (origin : Location) → IsAtOrBelow origin (Some origin)
 starts_at origin = ([], ap (λ (js : List Junction). let l : Location = record origin { interior = js } in l) (sym (append-nil origin.interior)))
 
+origin_after : (c : HostCall) (t : Midway) → (after c t).regs.origin ≡ t.regs.origin
+origin_after (HostCall.Take filter) t = refl
+origin_after _ t = refl
+
+below_is_kept : (first : Location) → IsKeptByCalls any_kind (λ (t : Midway). IsAtOrBelow first t.regs.origin)
+below_is_kept first = record {
+  refunds = tt;
+  called = λ x l is q m t c k asks from ok h. subst (IsAtOrBelow first) (sym (origin_after c t)) h;
+  turned = λ t r turns h. below_turned first t.regs.origin r.origin turns.origin h;
+}
+
 pub reached_below : (rules : ChainRules) (origin : Location) (a : Admitted) (p : ChainPart) (g : Stage) → Reaches xcm (first_stage rules origin a p) g → IsAtOrBelow origin (machine_of g).regs.origin
-reached_below rules origin a p g r =
-    subst (λ (g : Stage). IsAtOrBelow origin (machine_of g).regs.origin) r.1
-    (run_holds (λ v. IsAtOrBelow origin v.origin) (λ l m h. (done_acts l m).below origin h) rules origin a p r.0 (starts_at origin))
+reached_below rules origin a p g r = keeps_run (λ (t : Midway). IsAtOrBelow origin t.regs.origin) (below_is_kept origin) rules origin a p g r (starts_at origin)
 
 -- ---- the end of a run lowers nothing
-pub last_lowers : (s : Option (List ℕ)) (m : Machine) (o : Option XcmError) → LowersOnly s m.part.held (left_after xcm refund_surplus m o).part.held
-last_lowers s m None = subst (λ (l : Instruction-F Instruction). LowersOnly s m.part.held (done l m).part.held) (sym (out-roll-Instruction Instruction-F.RefundSurplus)) (refund_acts s m (refund_now m)).lowers
-last_lowers s m (Some e) = same_lowers s m.part.held
+module _ (s : Option (List ℕ)) (start : Held) where
+  abbrev pub Lowered : Midway → Type 0
+  Lowered t = LowersOnly s start t.part.held
 
-rest_lowers : (s : Option (List ℕ)) (r : Registers) (p : ChainPart) (b : Bool) → LowersOnly s p.held (if b then p else trapped p r.holding (owner_of r)).held
-unfolding trapped
-rest_lowers s r p true = same_lowers s p.held
-rest_lowers s r p false = same_lowers s p.held
+  end_lowers : (m : Machine) (c : HostCall) (t : Midway) → Asks Instruction-F.RefundSurplus m t c → Lowered t → Lowered (after c t)
+  end_lowers m (HostCall.Withdraw list who) t asks h = absurd (cc asks.2)
+  end_lowers m (HostCall.Draw fee who) t asks h = absurd (cc asks.2.1)
+  end_lowers m (HostCall.Transfer list from to) t asks h = absurd (cc asks.1)
+  end_lowers m (HostCall.TransferOut list from dest xcm) t asks h = absurd (cc asks.2)
+  end_lowers m (HostCall.Deposit who) t asks h = absurd (cc asks.1)
+  end_lowers m (HostCall.DepositOut dest xcm) t asks h = absurd (cc asks.1.1)
+  end_lowers m HostCall.Settle t asks h = then_lowers s start t.part.held (after HostCall.Settle t).part.held h (settled_lowers s t.part)
+  end_lowers m _ t asks h = h
 
-pub told_lowers : (s : Option (List ℕ)) (p : ChainPart) (e : Event) → LowersOnly s p.held (told p e).held
-unfolding told
-told_lowers s p e = same_lowers s p.held
+  pub lowered_at_end : IsKeptAtEnd Lowered
+  lowered_at_end = record { closing = λ m t c k asks from ok h. end_lowers m c t asks h; closed = λ t r holding origin h. h }
 
 pub finished_lowers : (s : Option (List ℕ)) (m : Machine) → LowersOnly s m.part.held (finished xcm m).held
-finished_lowers s m =
-    let last = refunded_last xcm m in
-    then_lowers s m.part.held last.part.held (finished xcm m).held (last_lowers s m (refusal_of refund_surplus m))
-    (then_lowers s last.part.held (end_told last).held (finished xcm m).held (told_lowers s last.part (end_event last.regs))
-    (then_lowers s (end_told last).held (settled (end_told last)).held (finished xcm m).held (settled_lowers s (end_told last))
-    (rest_lowers s last.regs (settled (end_told last)) (nat_eq (length (rows last.regs.holding)) 0))))
+finished_lowers s m = (finished_kept (Lowered s m.part.held) (lowered_at_end s m.part.held) m (same_lowers s m.part.held)).kept
+
+pub at_end_lowers : (s : Option (List ℕ)) (m : Machine) (now : ChainPart) → HaltedAtEnd xcm spills m now → LowersOnly s m.part.held now.held
+at_end_lowers s m now h = (at_end_kept (Lowered s m.part.held) (lowered_at_end s m.part.held) m now h (same_lowers s m.part.held)).kept
+
+pub abandoned_lowers : (s : Option (List ℕ)) (start : Held) (m : Machine) (now : ChainPart) → now ≡ abandoned m.regs m.part → LowersOnly s start m.part.held → LowersOnly s start now.held
+abandoned_lowers s start m now is h = (abandoned_kept (Lowered s start) (lowered_at_end s start) m now is h).kept
+
+-- ---- without an origin
+pub record Quiet (may : Option (List ℕ)) (start : Held) (t : Midway) : Type 0 where
+  pub silent : t.regs.origin ≡ None
+  pub lowers : LowersOnly may start t.part.held
+
+quiet_turned : (old new : Option Location) → TurnsOrigin old new → old ≡ None → new ≡ None
+quiet_turned old new turns h =
+    ⊎_elim (λ (e : new ≡ old). e ∙ h)
+    (λ (rest : (new ≡ None) ⊎ ((who : Location) × (path : List Junction) × (old ≡ Some who) × (new ≡ Some (descended who path)))).
+    ⊎_elim (λ (e : new ≡ None). e)
+    (λ (d : (who : Location) × (path : List Junction) × (old ≡ Some who) × (new ≡ Some (descended who path))). absurd (let no_way : None ≡ Some d.0 = sym h ∙ d.2 in cc)) rest) turns
+
+-- what a call lowers where nobody speaks
+quiet_called : (may : Option (List ℕ)) (start : Held) (l : Instruction-F Instruction) (m : Machine) (t : Midway) (c : HostCall) → Asks l m t c → IsFrom m t → Quiet may start t → Quiet may start (after c t)
+quiet_called may start l m t c asks from q =
+    let silent : m.regs.origin ≡ None = sym (ap (λ (r : Registers). r.origin) from.regs) ∙ q.silent in
+    record {
+      silent = origin_after c t ∙ q.silent;
+      lowers = then_lowers may start t.part.held (after c t).part.held q.lowers (none_lowers may t.part.held (after c t).part.held
+          (subst (λ (o : Option Location). LowersOnly (speaker_at t.part.site o) t.part.held (after c t).part.held) silent (call_lowers l m c t asks)));
+    }
+
+pub quiet_is_kept : (may : Option (List ℕ)) (start : Held) → IsKeptByCalls any_kind (Quiet may start)
+quiet_is_kept may start = record {
+  refunds = tt;
+  called = λ x l is q m t c k asks from ok h. quiet_called may start l m t c asks from h;
+  turned = λ t r turns h. record { silent = quiet_turned t.regs.origin r.origin turns.origin h.silent; lowers = h.lowers };
+}
 
 -- ---- a local caller
-pub record Local (account : List ℕ) (site : Site) (start : Held) (v : View) : Type 0 where
-  pub there : v.site ≡ site
-  pub below : IsAtOrBelow (caller account) v.origin
-  pub lowers : LowersOnly (Some account) start v.held
+pub record Local (account : List ℕ) (site : Site) (start : Held) (t : Midway) : Type 0 where
+  pub there : t.part.site ≡ site
+  pub below : IsAtOrBelow (caller account) t.regs.origin
+  pub lowers : LowersOnly (Some account) start t.part.held
 
 either_lowers : (s t : Option (List ℕ)) (a b : Held) → (s ≡ None) ⊎ (s ≡ t) → LowersOnly s a b → LowersOnly t a b
 either_lowers s t a b which h =
@@ -124,30 +132,38 @@ local_speaks : (account : List ℕ) (site : Site) (o : Option Location) → IsAt
 local_speaks account site None h = inl refl
 local_speaks account site (Some who) h = subst (λ (l : Location). (speaker_at site (Some l) ≡ None) ⊎ (speaker_at site (Some l) ≡ Some account)) (sym h.1) (below_speaks account site h.0)
 
--- what an instruction lowers of its speaker's account, it lowers of the caller's
-pub local_spoken : (account : List ℕ) (site : Site) (start : Held) (m : Machine) (new : Held) → Local account site start (view m) → LowersOnly (speaker_of m) m.part.held new → LowersOnly (Some account) start new
-local_spoken account site start m new v h =
-    let speaks = subst (λ (s : Site). (speaker_at s m.regs.origin ≡ None) ⊎ (speaker_at s m.regs.origin ≡ Some account)) (sym v.there) (local_speaks account site m.regs.origin v.below) in
-    then_lowers (Some account) start m.part.held new v.lowers (either_lowers (speaker_of m) (Some account) m.part.held new speaks h)
+-- what a call lowers of its speaker's account, it lowers of the caller's
+local_called : (account : List ℕ) (site : Site) (start : Held) (l : Instruction-F Instruction) (m : Machine) (t : Midway) (c : HostCall) → Asks l m t c → IsFrom m t → Local account site start t → Local account site start (after c t)
+local_called account site start l m t c asks from v =
+    let same : t.regs.origin ≡ m.regs.origin = ap (λ (r : Registers). r.origin) from.regs in
+    let speaks = local_speaks account t.part.site m.regs.origin (subst (IsAtOrBelow (caller account)) same v.below) in
+    record {
+      there = sym (from_site c t) ∙ v.there;
+      below = subst (IsAtOrBelow (caller account)) (sym (origin_after c t)) v.below;
+      lowers = then_lowers (Some account) start t.part.held (after c t).part.held v.lowers (either_lowers (speaker_at t.part.site m.regs.origin) (Some account) t.part.held (after c t).part.held speaks (call_lowers l m c t asks));
+    }
+  where
+    from_site : (c : HostCall) (t : Midway) → t.part.site ≡ (after c t).part.site
+    from_site (HostCall.Take filter) t = refl
+    from_site _ t = refl
 
-local_kept : (account : List ℕ) (site : Site) (start : Held) (l : Instruction-F Instruction) (m : Machine) → Local account site start (view m) → Local account site start (view (done l m))
-local_kept account site start l m v =
-    let acts = done_acts l m in
-    record { there = acts.site ∙ v.there; below = acts.below (caller account) v.below; lowers = local_spoken account site start m (done l m).part.held v acts.lowers }
+local_is_kept : (account : List ℕ) (site : Site) (start : Held) → IsKeptByCalls any_kind (Local account site start)
+local_is_kept account site start = record {
+  refunds = tt;
+  called = λ x l is q m t c k asks from ok h. local_called account site start l m t c asks from h;
+  turned = λ t r turns h. record { there = h.there; below = below_turned (caller account) t.regs.origin r.origin turns.origin h.below; lowers = h.lowers };
+}
 
--- wherever the run comes
-pub local_at : (rules : ChainRules) (account : List ℕ) (a : Admitted) (p : ChainPart) (g : Stage) → Reaches xcm (first_stage rules (caller account) a p) g → Local account p.site p.held (view (machine_of g))
-local_at rules account a p g r =
-    subst (λ (g : Stage). Local account p.site p.held (view (machine_of g))) r.1
-    (run_holds (Local account p.site p.held) (local_kept account p.site p.held) rules (caller account) a p r.0 (record { there = refl; below = starts_at (caller account); lowers = same_lowers (Some account) p.held }))
+module _ (rules : ChainRules) (account : List ℕ) (credit : Weight) (program : List Instruction) (p : ChainPart) where
+  abbrev Kept : Midway → Type 0
+  Kept = Local account p.site p.held
 
-local_by : (rules : ChainRules) (account : List ℕ) (r : Result Admitted Outcome) (p : ChainPart) → LowersOnly (Some account) p.held (executed_by rules (caller account) r p).1.held
-local_by rules account (Err outcome) p = same_lowers (Some account) p.held
-local_by rules account (Ok a) p =
-    let last = last_machine rules (caller account) a p in
-    let ran = local_at rules account a p (run xcm (first_stage rules (caller account) a p)) (still_to_run (first_stage rules (caller account) a p), refl) in
-    then_lowers (Some account) p.held last.part.held (finished xcm last).held ran.lowers (finished_lowers (Some account) last)
+  local_start : Kept (record { regs = started rules (caller account); part = p; goods = empty })
+  local_start = record { there = refl; below = starts_at (caller account); lowers = same_lowers (Some account) p.held }
 
--- an execution for an account lowers that account alone
-pub local_lowers : (rules : ChainRules) (account : List ℕ) (credit : Weight) (program : List Instruction) (p : ChainPart) → LowersOnly (Some account) p.held (executed rules (caller account) credit program p).1.held
-local_lowers rules account credit program p = local_by rules account (admitted rules (caller account) credit p.queries program) p
+  -- an execution for an account lowers that account alone
+  pub local_lowers : LowersOnly (Some account) p.held (executed rules (caller account) credit program p).1.held
+  local_lowers = (keeps_executed Kept (local_is_kept account p.site p.held) rules (caller account) credit program p local_start).kept.lowers
+
+  pub local_stopped : (now : ChainPart) → IsAbandoned rules (caller account) credit program p now → LowersOnly (Some account) p.held now.held
+  local_stopped now h = (keeps_abandoned Kept (local_is_kept account p.site p.held) rules (caller account) credit program p now h local_start).kept.lowers

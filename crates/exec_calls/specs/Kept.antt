@@ -3,6 +3,7 @@ use Rattle.std.specs.Prelude.{◌≡◌, ◌⊎◌, List, Option, Some, None}
 use Rattle.locations.specs.declared.grammar.Junction.{Junction}
 use Rattle.locations.specs.declared.relative.Location.{Location}
 use Rattle.xcm_program.specs.declared.instruction.Instruction.{Instruction, out-Instruction}
+use Rattle.xcm_program.specs.declared.instruction.Instruction.TheOpen.{Instruction-F}
 use Rattle.exec_base.specs.declared.registers.Registers.{Registers}
 use Rattle.exec_base.specs.Part.{ChainPart}
 use Rattle.exec_run.specs.Machine.{Machine, machine}
@@ -20,10 +21,17 @@ pub record Turns (old new : Registers) : Type 0 where
   pub holding : new.holding ≡ old.holding
   pub origin : TurnsOrigin old.origin new.origin
 
+-- a fact that the end of a run keeps, also where memory is refused there: the last refund, the line that tells of it, settlement, and what is
+-- held is trapped or parked
+pub record IsKeptAtEnd (K : Midway → Type 0) : Type 0 where
+  pub closing : (m : Machine) (t : Midway) (c : HostCall) → K (between m) → Asks Instruction-F.RefundSurplus m t c → IsFrom m t → why_not c t ≡ None → K t → K (after c t)
+  pub closed : (t : Midway) (r : Registers) → r.holding ≡ t.regs.holding → r.origin ≡ t.regs.origin → K t → K (record t { regs = r })
+
 -- a fact that executions keep, where their instructions are of one kind
 pub record IsKeptByCalls (Q : Instruction → Type 0) (K : Midway → Type 0) : Type 0 where
   pub refunds : Q refund_surplus
-  pub called : (x : Instruction) (m : Machine) (t : Midway) (c : HostCall) → Q x → K (between m) → Asks (out-Instruction x) m t c → IsFrom m t → why_not c t ≡ None → K t → K (after c t)
+  pub called : (x : Instruction) (l : Instruction-F Instruction) → out-Instruction x ≡ l → Q x
+      → (m : Machine) (t : Midway) (c : HostCall) → K (between m) → Asks l m t c → IsFrom m t → why_not c t ≡ None → K t → K (after c t)
   pub turned : (t : Midway) (r : Registers) → Turns t.regs r → K t → K (record t { regs = r })
 
 -- it holds of a part with some registers, and nothing in hand

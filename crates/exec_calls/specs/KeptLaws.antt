@@ -8,7 +8,7 @@ use Rattle.locations.specs.declared.grammar.Junction.{Junction}
 use Rattle.locations.specs.declared.relative.Location.{Location}
 use Rattle.message_parts.specs.declared.error.XcmError.{XcmError}
 use Rattle.message_parts.specs.declared.weight.Weight.{Weight}
-use Rattle.xcm_program.specs.declared.instruction.Instruction.{Instruction, out-Instruction}
+use Rattle.xcm_program.specs.declared.instruction.Instruction.{Instruction, out-Instruction, out-roll-Instruction}
 use Rattle.xcm_program.specs.declared.instruction.Instruction.TheOpen.{Instruction-F}
 use Rattle.xcm_program.specs.declared.outcome.Outcome.{Outcome}
 use Rattle.exec_base.specs.declared.event.Event.{Event}
@@ -24,8 +24,8 @@ use Rattle.exec_run.specs.Keeping.{IsAheadOf, GoesInside}
 use Rattle.exec_run.specs.KeepingLaws.{next_hold}
 use Rattle.exec_rules.specs.Holdings.{with_holding, refund_now}
 use Rattle.exec_rules.specs.Origins.{descended}
-use Rattle.exec_rules.specs.Instructions.{refusal_of, done, xcm}
-use Rattle.exec_rules.specs.Stopping.{spills}
+use Rattle.exec_rules.specs.Instructions.{refused, refusal_of, done, xcm}
+use Rattle.exec_rules.specs.Stopping.{Spilled, spills}
 use Rattle.exec_admission.specs.declared.rules.ChainRules.{ChainRules}
 use Rattle.exec_admission.specs.declared.admission.Admitted.{Admitted}
 use Rattle.exec_admission.specs.Admission.{admitted}
@@ -35,7 +35,7 @@ use Rattle.exec_calls.specs.Footprints.{part_is}
 use Rattle.exec_calls.specs.Reasons.{IsFrom, Asks, LeadTo}
 use Rattle.exec_calls.specs.ReasonLaws.{from_itself, done_keeps, lead_keeps}
 use Rattle.exec_calls.specs.StopLaws.{spilled_lead}
-use Rattle.exec_calls.specs.Kept.{TurnsOrigin, Turns, IsKeptByCalls, Ends}
+use Rattle.exec_calls.specs.Kept.{TurnsOrigin, Turns, IsKeptAtEnd, IsKeptByCalls, Ends}
 
 -- ---- an instruction's registers
 pub stays_origin : (old new : Registers) → new.holding ≡ old.holding → new.origin ≡ old.origin → Turns old new
@@ -55,47 +55,113 @@ turns Instruction-F.ClearOrigin m t f = record { holding = refl; origin = inr (i
 turns (Instruction-F.DescendOrigin path) m t f = below_turns m.regs.origin path t.regs (ap (λ (r : Registers). r.origin) f.regs)
 turns l m t f = stays_origin t.regs _ refl refl
 
--- ---- a fact that each call keeps
-module _ (Q : Instruction → Type 0) (K : Midway → Type 0) (kept : IsKeptByCalls Q K) where
-  abbrev pub At_rest : Machine → Type 0
-  At_rest m = K (between m)
+-- ---- the end of a run
+refund_layer : out-Instruction refund_surplus ≡ Instruction-F.RefundSurplus
+refund_layer = out-roll-Instruction Instruction-F.RefundSurplus
 
-  pub done_kept : (x : Instruction) (m : Machine) → Q x → refusal_of x m ≡ None → At_rest m → At_rest (xcm.done x m)
-  done_kept x m q free k =
-      done_keeps (out-Instruction x) m K (λ c t asks from ok kt. kept.called x m t c q k asks from ok kt)
-      (λ t from kt. kept.turned t (turned (out-Instruction x) m t.regs) (turns (out-Instruction x) m t from) kt) free k
+module _ (K : Midway → Type 0) (kept : IsKeptAtEnd K) where
+  abbrev Rests : Machine → Type 0
+  Rests m = K (between m)
 
-  pub spilled_kept : (x : Instruction) (m now : Machine) → Q x → spills x m now → At_rest m → At_rest now
-  spilled_kept x m now q s k =
-      lead_keeps (out-Instruction x) m K (λ c t asks from ok kt. kept.called x m t c q k asks from ok kt) now (spilled_lead (out-Instruction x) m now s) k
+  pub told_rests : (m : Machine) (e : Event) → Rests m → Rests (machine m.regs (told m.part e))
+  told_rests m e k = subst (λ (p : ChainPart). Rests (machine m.regs p)) (part_is (HostCall.Tell e) (between m)) (kept.closing m (between m) (HostCall.Tell e) k refl (from_itself m) refl k)
 
-  -- a call that no instruction makes
-  aside : (m : Machine) (t : Midway) (c : HostCall) → Asks (out-Instruction refund_surplus) m t c → IsFrom m t → why_not c t ≡ None → At_rest m → K t → K (after c t)
-  aside m t c asks from ok k kt = kept.called refund_surplus m t c kept.refunds k asks from ok kt
+  settled_rests : (m : Machine) → Rests m → Rests (machine m.regs (settled m.part))
+  settled_rests m k = subst (λ (p : ChainPart). Rests (machine m.regs p)) (part_is HostCall.Settle (between m)) (kept.closing m (between m) HostCall.Settle k refl (from_itself m) refl k)
 
-  pub told_kept : (m : Machine) (e : Event) → At_rest m → At_rest (machine m.regs (told m.part e))
-  told_kept m e k = subst (λ (p : ChainPart). At_rest (machine m.regs p)) (part_is (HostCall.Tell e) (between m)) (aside m (between m) (HostCall.Tell e) refl (from_itself m) refl k k)
-
-  pub settled_kept : (m : Machine) → At_rest m → At_rest (machine m.regs (settled m.part))
-  settled_kept m k = subst (λ (p : ChainPart). At_rest (machine m.regs p)) (part_is HostCall.Settle (between m)) (aside m (between m) HostCall.Settle refl (from_itself m) refl k k)
-
-  emptied : (m : Machine) → At_rest m → K (after HostCall.Empty (between m))
-  emptied m k = aside m (between m) HostCall.Empty refl (from_itself m) refl k k
+  emptied : (m : Machine) → Rests m → K (after HostCall.Empty (between m))
+  emptied m k = kept.closing m (between m) HostCall.Empty k refl (from_itself m) refl k
 
   from_emptied : (m : Machine) → IsFrom m (after HostCall.Empty (between m))
   from_emptied m = record { regs = refl; site = refl; rows = refl; pallets = refl; fee_account = refl }
 
-  trapped_kept : (m : Machine) (who : Location) → At_rest m → At_rest (machine (with_holding m.regs empty) (trapped m.part m.regs.holding who))
-  trapped_kept m who k = let t = after HostCall.Empty (between m) in
-      subst (λ (p : ChainPart). At_rest (machine (with_holding m.regs empty) p)) (part_is (HostCall.Trap who) t) (aside m t (HostCall.Trap who) tt (from_emptied m) refl k (emptied m k))
+  trapped_rests : (m : Machine) (who : Location) → Rests m → Rests (machine (with_holding m.regs empty) (trapped m.part m.regs.holding who))
+  trapped_rests m who k = let t = after HostCall.Empty (between m) in
+      subst (λ (p : ChainPart). Rests (machine (with_holding m.regs empty) p)) (part_is (HostCall.Trap who) t) (kept.closing m t (HostCall.Trap who) k tt (from_emptied m) refl (emptied m k))
 
-  abandoned_kept : (m : Machine) (now : ChainPart) → now ≡ abandoned m.regs m.part → At_rest m → Ends K now
+  pub abandoned_kept : (m : Machine) (now : ChainPart) → now ≡ abandoned m.regs m.part → Rests m → Ends K now
   abandoned_kept m now is k = let t = after HostCall.Empty (between m) in
       record {
         regs = with_holding m.regs empty;
-        kept = subst (λ (p : ChainPart). At_rest (machine (with_holding m.regs empty) p)) (sym is)
-            (subst (λ (p : ChainPart). At_rest (machine (with_holding m.regs empty) p)) (part_is HostCall.Park t) (aside m t HostCall.Park refl (from_emptied m) refl k (emptied m k)));
+        kept = subst (λ (p : ChainPart). Rests (machine (with_holding m.regs empty) p)) (sym is)
+            (subst (λ (p : ChainPart). Rests (machine (with_holding m.regs empty) p)) (part_is HostCall.Park t) (kept.closing m t HostCall.Park k refl (from_emptied m) refl (emptied m k)));
       }
+
+  refund_done : (m : Machine) → refused Instruction-F.RefundSurplus m ≡ None → Rests m → Rests (done Instruction-F.RefundSurplus m)
+  refund_done m free k =
+      done_keeps Instruction-F.RefundSurplus m K (λ c t asks from ok kt. kept.closing m t c k asks from ok kt) (λ t from kt. by_refund (refund_now m) t kt) free k
+    where
+      by_refund : (o : Option (Location × ℕ)) (t : Midway) → K t → K (record t { regs = refund_noted m o t.regs })
+      by_refund None t kt = kt
+      by_refund (Some given) t kt = kept.closed t (refund_noted m (Some given) t.regs) refl refl kt
+
+  last_by : (m : Machine) (o : Option XcmError) → refusal_of refund_surplus m ≡ o → Rests m → Rests (left_after xcm refund_surplus m o)
+  last_by m None e k = subst (λ (l : Instruction-F Instruction). Rests (done l m)) (sym refund_layer) (refund_done m (ap (λ (l : Instruction-F Instruction). refused l m) (sym refund_layer) ∙ e) k)
+  last_by m (Some error) e k = k
+
+  last_kept : (m : Machine) → Rests m → Rests (refunded_last xcm m)
+  last_kept m k = last_by m (refusal_of refund_surplus m) refl k
+
+  rest_kept : (b : Bool) (r : Registers) (p : ChainPart) → Rests (machine r p) → Ends K (if b then p else trapped p r.holding (owner_of r))
+  rest_kept true r p k = record { regs = r; kept = k }
+  rest_kept false r p k = record { regs = with_holding r empty; kept = trapped_rests (machine r p) (owner_of r) k }
+
+  pub finished_kept : (m : Machine) → Rests m → Ends K (finished xcm m)
+  finished_kept m k =
+      let last = refunded_last xcm m in
+      rest_kept (nat_eq (length (rows last.regs.holding)) 0) last.regs (settled (end_told last)) (settled_rests (machine last.regs (end_told last)) (told_rests last (end_event last.regs) (last_kept m k)))
+
+  refund_spilled : (m now : Machine) (l : Instruction-F Instruction) → l ≡ Instruction-F.RefundSurplus → Spilled l m now → Rests m → Rests now
+  refund_spilled m now l is s k =
+      lead_keeps Instruction-F.RefundSurplus m K (λ c t asks from ok kt. kept.closing m t c k asks from ok kt) now (spilled_lead Instruction-F.RefundSurplus m now (subst (λ (l : Instruction-F Instruction). Spilled l m now) is s)) k
+
+  pub at_end_kept : (m : Machine) (now : ChainPart) → HaltedAtEnd xcm spills m now → Rests m → Ends K now
+  at_end_kept m now h k =
+      let last = refunded_last xcm m in
+      let ended = last_kept m k in
+      let told = told_rests last (end_event last.regs) ended in
+      ⊎_elim (λ (s : (spilt : Machine) × spills refund_surplus m spilt × (now ≡ abandoned spilt.regs spilt.part)). abandoned_kept s.0 now s.2 (refund_spilled m s.0 (out-Instruction refund_surplus) refund_layer s.1 k))
+      (λ rest. ⊎_elim (λ (e : now ≡ abandoned last.regs last.part). abandoned_kept last now e ended)
+      (λ more. ⊎_elim (λ e. abandoned_kept (machine last.regs (end_told last)) now e told)
+      (λ e. abandoned_kept (machine last.regs (settled (end_told last))) now e (settled_rests (machine last.regs (end_told last)) told)) more) rest) h
+
+-- ---- one instruction, also where memory is refused
+module _ (x : Instruction) (m : Machine) (K : Midway → Type 0)
+    (step : (c : HostCall) (t : Midway) → Asks (out-Instruction x) m t c → IsFrom m t → why_not c t ≡ None → K t → K (after c t)) (turn : (t : Midway) → IsFrom m t → K t → K (turned_at (out-Instruction x) m t)) where
+  pub spilled_keeps : (now : Machine) → spills x m now → K (between m) → K (between now)
+  spilled_keeps now s k = lead_keeps (out-Instruction x) m K step now (spilled_lead (out-Instruction x) m now s) k
+
+  performed_keeps : (now : Machine) (answer : Result (Unit {0}) XcmError) → Performed xcm x m answer now → K (between m) → K (between now)
+  performed_keeps now (Ok d) p k = subst (λ (n : Machine). K (between n)) (sym p.1) (done_keeps (out-Instruction x) m K step turn p.0 k)
+  performed_keeps now (Err e) p k = subst (λ (n : Machine). K (between n)) (sym p.1) k
+
+  pub halted_keeps : (now : Machine) → Halted xcm spills x m now → K (between m) → K (between now)
+  halted_keeps now h k =
+      ⊎_elim (λ (s : spills x m now). spilled_keeps now s k) (λ (p : (answer : Result (Unit {0}) XcmError) × Performed xcm x m answer now). performed_keeps now p.0 p.1 k) h
+
+-- ---- a fact that each call keeps
+pub kept_at_end : (Q : Instruction → Type 0) (K : Midway → Type 0) → IsKeptByCalls Q K → IsKeptAtEnd K
+kept_at_end Q K kept = record {
+  closing = λ m t c k asks from ok kt. kept.called refund_surplus Instruction-F.RefundSurplus refund_layer kept.refunds m t c k asks from ok kt;
+  closed = λ t r holding origin kt. kept.turned t r (stays_origin t.regs r holding origin) kt;
+}
+
+module _ (Q : Instruction → Type 0) (K : Midway → Type 0) (kept : IsKeptByCalls Q K) where
+  abbrev pub At_rest : Machine → Type 0
+  At_rest m = K (between m)
+
+  abbrev at_end : IsKeptAtEnd K
+  at_end = kept_at_end Q K kept
+
+  pub done_kept : (x : Instruction) (m : Machine) → Q x → refusal_of x m ≡ None → At_rest m → At_rest (xcm.done x m)
+  done_kept x m q free k =
+      done_keeps (out-Instruction x) m K (λ c t asks from ok kt. kept.called x (out-Instruction x) refl q m t c k asks from ok kt)
+      (λ t from kt. kept.turned t (turned (out-Instruction x) m t.regs) (turns (out-Instruction x) m t from) kt) free k
+
+  pub spilled_kept : (x : Instruction) (m now : Machine) → Q x → spills x m now → At_rest m → At_rest now
+  spilled_kept x m now q s k =
+      spilled_keeps x m K (λ c t asks from ok kt. kept.called x (out-Instruction x) refl q m t c k asks from ok kt)
+      (λ t from kt. kept.turned t (turned (out-Instruction x) m t.regs) (turns (out-Instruction x) m t from) kt) now s k
 
   registers_kept : (m : Machine) (r : Registers) → r.holding ≡ m.regs.holding → r.origin ≡ m.regs.origin → At_rest m → At_rest (machine r m.part)
   registers_kept m r holding origin k = kept.turned (between m) r (stays_origin m.regs r holding origin) k
@@ -117,50 +183,20 @@ module _ (Q : Instruction → Type 0) (K : Midway → Type 0) (kept : IsKeptByCa
   go_on_kept part place (x ∷ behind) m k = k
 
   by_answer_kept : (part : Part) (place : ℕ) (x : Instruction) (behind : List Instruction) (m : Machine) (o : Option XcmError) → refusal_of x m ≡ o → Q x → At_rest m → At_rest (machine_of (by_answer xcm part place x behind m o))
-  by_answer_kept part place x behind m None e q k = go_on_kept part (place + 1) behind (traced part place x None (xcm.done x m)) (told_kept (xcm.done x m) _ (done_kept x m q e k))
+  by_answer_kept part place x behind m None e q k = go_on_kept part (place + 1) behind (traced part place x None (xcm.done x m)) (told_rests K at_end (xcm.done x m) _ (done_kept x m q e k))
   by_answer_kept part place x behind m (Some error) e q k =
       let n = traced part place x (Some error) m in
-      to_handler_kept m.regs.handler (record n { regs = failed place error behind m.regs }) (registers_kept n (failed place error behind m.regs) refl refl (told_kept m _ k))
+      to_handler_kept m.regs.handler (record n { regs = failed place error behind m.regs }) (registers_kept n (failed place error behind m.regs) refl refl (told_rests K at_end m _ k))
 
   pub next_kept : (g : Stage) → IsAheadOf Q g → At_rest (machine_of g) → At_rest (machine_of (next xcm g))
   next_kept (At part place x behind m) ahead k = by_answer_kept part place x behind m (refusal_of x m) refl ahead.ahead_hold.0 k
   next_kept (Ended m) ahead k = k
 
-  -- ---- its end
-  last_by : (m : Machine) (o : Option XcmError) → refusal_of refund_surplus m ≡ o → At_rest m → At_rest (left_after xcm refund_surplus m o)
-  last_by m None e k = done_kept refund_surplus m kept.refunds e k
-  last_by m (Some error) e k = k
-
-  pub last_kept : (m : Machine) → At_rest m → At_rest (refunded_last xcm m)
-  last_kept m k = last_by m (refusal_of refund_surplus m) refl k
-
-  rest_kept : (b : Bool) (r : Registers) (p : ChainPart) → At_rest (machine r p) → Ends K (if b then p else trapped p r.holding (owner_of r))
-  rest_kept true r p k = record { regs = r; kept = k }
-  rest_kept false r p k = record { regs = with_holding r empty; kept = trapped_kept (machine r p) (owner_of r) k }
-
-  pub finished_kept : (m : Machine) → At_rest m → Ends K (finished xcm m)
-  finished_kept m k =
-      let last = refunded_last xcm m in
-      rest_kept (nat_eq (length (rows last.regs.holding)) 0) last.regs (settled (end_told last)) (settled_kept (machine last.regs (end_told last)) (told_kept last (end_event last.regs) (last_kept m k)))
-
   -- ---- memory is refused
-  performed_kept : (x : Instruction) (m now : Machine) (answer : Result (Unit {0}) XcmError) → Q x → Performed xcm x m answer now → At_rest m → At_rest now
-  performed_kept x m now (Ok done) q p k = subst At_rest (sym p.1) (done_kept x m q p.0 k)
-  performed_kept x m now (Err e) q p k = subst At_rest (sym p.1) k
-
   pub halted_kept : (x : Instruction) (m now : Machine) → Q x → Halted xcm spills x m now → At_rest m → At_rest now
   halted_kept x m now q h k =
-      ⊎_elim (λ (s : spills x m now). spilled_kept x m now q s k) (λ (p : (answer : Result (Unit {0}) XcmError) × Performed xcm x m answer now). performed_kept x m now p.0 q p.1 k) h
-
-  pub at_end_kept : (m : Machine) (now : ChainPart) → HaltedAtEnd xcm spills m now → At_rest m → Ends K now
-  at_end_kept m now h k =
-      let last = refunded_last xcm m in
-      let ended = last_kept m k in
-      let told = told_kept last (end_event last.regs) ended in
-      ⊎_elim (λ (s : (spilt : Machine) × spills refund_surplus m spilt × (now ≡ abandoned spilt.regs spilt.part)). abandoned_kept s.0 now s.2 (spilled_kept refund_surplus m s.0 kept.refunds s.1 k))
-      (λ rest. ⊎_elim (λ (e : now ≡ abandoned last.regs last.part). abandoned_kept last now e ended)
-      (λ more. ⊎_elim (λ e. abandoned_kept (machine last.regs (end_told last)) now e told)
-      (λ e. abandoned_kept (machine last.regs (settled (end_told last))) now e (settled_kept (machine last.regs (end_told last)) told)) more) rest) h
+      halted_keeps x m K (λ c t asks from ok kt. kept.called x (out-Instruction x) refl q m t c k asks from ok kt)
+      (λ t from kt. kept.turned t (turned (out-Instruction x) m t.regs) (turns (out-Instruction x) m t from) kt) now h k
 
   -- ---- wherever a run comes
   steps_kept : (n : ℕ) (g : Stage) → ((k : ℕ) → IsAheadOf Q (steps xcm k g)) → At_rest (machine_of g) → At_rest (machine_of (steps xcm n g))
@@ -184,14 +220,14 @@ module _ (Q : Instruction → Type 0) (K : Midway → Type 0) (kept : IsKeptByCa
 
     executed_by_kept : (r : Result Admitted Outcome) (p : ChainPart) → ((a : Admitted) → r ≡ Ok a → (k : ℕ) → IsAheadOf Q (steps xcm k (first_stage rules origin a p))) → At_rest (first_machine rules origin p) → Ends K (executed_by rules origin r p).1
     executed_by_kept (Err outcome) p ahead k = record { regs = (first_machine rules origin p).regs; kept = k }
-    executed_by_kept (Ok a) p ahead k = finished_kept (last_machine rules origin a p) (ran_kept a p (ahead a refl) k)
+    executed_by_kept (Ok a) p ahead k = finished_kept K at_end (last_machine rules origin a p) (ran_kept a p (ahead a refl) k)
 
     pub abandoned_in_kept : (a : Admitted) (p now : ChainPart) → ((k : ℕ) → IsAheadOf Q (steps xcm k (first_stage rules origin a p))) → AbandonedIn rules origin a p now → At_rest (first_machine rules origin p) → Ends K now
     abandoned_in_kept a p now ahead h k =
         ⊎_elim
         (λ (s : (stopped : Machine) × StoppedIn xcm spills (first_stage rules origin a p) stopped × (now ≡ abandoned stopped.regs stopped.part)).
-        abandoned_kept s.0 now s.2 (stopped_kept s.0 s.1))
-        (λ (e : HaltedAtEnd xcm spills (last_machine rules origin a p) now). at_end_kept (last_machine rules origin a p) now e (ran_kept a p ahead k)) h
+        abandoned_kept K at_end s.0 now s.2 (stopped_kept s.0 s.1))
+        (λ (e : HaltedAtEnd xcm spills (last_machine rules origin a p) now). at_end_kept K at_end (last_machine rules origin a p) now e (ran_kept a p ahead k)) h
       where
         stopped_kept : (left : Machine) → StoppedIn xcm spills (first_stage rules origin a p) left → At_rest left
         stopped_kept left s =

@@ -30,7 +30,7 @@ use Rattle.exec_rules.specs.Expectations.{pallet_at}
 use Rattle.exec_rules.specs.Instructions.{refused, done}
 use Rattle.exec_calls.specs.Calls.{Midway, between, HostCall, why_not, after, after_all, refusal_along, never, size_tests, for_origin, charge, around, buying, refunding, report, holding_report, pallet_tests, calls, turned, turned_at}
 use Rattle.exec_calls.specs.CallLaws.{along_both, after_both, charge_after, refused_is, done_is}
-use Rattle.exec_calls.specs.Reasons.{IsFrom, IsFee, IsReport, shipping, Asks, AreAsked, LeadTo}
+use Rattle.exec_calls.specs.Reasons.{IsFrom, destination, IsFee, IsReport, shipping, Asks, AreAsked, LeadTo}
 
 -- ---- no call changes other registers, or what the document says
 pub from_itself : (m : Machine) → IsFrom m (between m)
@@ -57,7 +57,7 @@ module _ (l : Instruction-F Instruction) (m : Machine) where
   for_origin_asked (Some who) made t is asked = asked who is
 
   -- ---- the fee
-  pub charge_asked : (fee : Asset) → IsFee m fee → AreAsked l m (charge m fee) (between m)
+  pub charge_asked : (fee : Asset) → IsFee l m fee → AreAsked l m (charge m fee) (between m)
   charge_asked fee is = by_mode m.regs.fees_mode
     where
       by_mode : (b : Bool) → AreAsked l m (if b then for_origin m.regs.origin (λ who. HostCall.Draw fee who ∷ HostCall.HoldFee ∷ []) else HostCall.Pay fee ∷ HostCall.HoldFee ∷ []) (between m)
@@ -87,12 +87,12 @@ module _ (l : Instruction-F Instruction) (m : Machine) where
       by_mode true = by_account m.regs.origin
       by_mode false = refl
 
-  around_asked : (dest : Location) (o : Option Asset) (inside : Machine → List HostCall) → fee_to m.part dest ≡ o
+  around_asked : (dest : Location) (o : Option Asset) (inside : Machine → List HostCall) → destination l ≡ Some dest → fee_to m.part dest ≡ o
       → ((n : Machine) → n.part.channels ≡ m.part.channels → n.regs.origin ≡ m.regs.origin → AreAsked l m (inside n) (between n)) → AreAsked l m (around o m inside) (between m)
-  around_asked dest None inside is asked = asked m refl refl
-  around_asked dest (Some fee) inside is asked =
+  around_asked dest None inside goes is asked = asked m refl refl
+  around_asked dest (Some fee) inside goes is asked =
       let n = after_fee m fee in
-      asked_both l m (charge m fee) (inside n ++ HostCall.KeepFee ∷ []) (between m) (charge_asked fee (dest, is))
+      asked_both l m (charge m fee) (inside n ++ HostCall.KeepFee ∷ []) (between m) (charge_asked fee (dest, goes, is))
       (subst (AreAsked l m (inside n ++ HostCall.KeepFee ∷ [])) (sym (charge_after m fee))
       (asked_both l m (inside n) (HostCall.KeepFee ∷ []) (between n) (asked n (charge_channels fee) (charge_origin fee)) (tt, tt)))
 
@@ -118,46 +118,46 @@ refunding_asked m None = tt
 refunding_asked m (Some given) = (refl, ((refl, refl), (tt, tt)))
 
 pub asked : (l : Instruction-F Instruction) (m : Machine) → AreAsked l m (calls l m) (between m)
-asked (Instruction-F.WithdrawAsset list) m = for_origin_asked _ m m.regs.origin _ (between m) refl (λ who is. (refl, ((refl, is, refl), (tt, tt))))
+asked (Instruction-F.WithdrawAsset list) m = for_origin_asked (Instruction-F.WithdrawAsset list) m m.regs.origin _ (between m) refl (λ who is. (refl, ((refl, is, refl), (tt, tt))))
 asked (Instruction-F.ReserveAssetDeposited list) m = (refl, (refl, ((refl, refl, refl), (tt, tt))))
 asked (Instruction-F.ReceiveTeleportedAsset list) m = (refl, (refl, ((refl, refl, refl), (tt, tt))))
-asked (Instruction-F.ClaimAsset list ticket) m = for_origin_asked _ m m.regs.origin _ (between m) refl (λ who is. (refl, (refl, ((refl, is, (ticket, refl)), (tt, tt)))))
+asked (Instruction-F.ClaimAsset list ticket) m = for_origin_asked (Instruction-F.ClaimAsset list ticket) m m.regs.origin _ (between m) refl (λ who is. (refl, (refl, ((refl, is, (ticket, refl)), (tt, tt)))))
 asked (Instruction-F.DepositAsset filter who) m = (refl, ((filter, refl), tt))
 asked (Instruction-F.BurnAsset list) m = (refl, ((list, refl), tt))
 asked (Instruction-F.BuyExecution fees limit) m = buying_asked m fees limit
 asked Instruction-F.RefundSurplus m = refunding_asked m (refund_now m)
-asked (Instruction-F.TransferAsset list who) m = for_origin_asked _ m m.regs.origin _ (between m) refl (λ from is. ((is, refl), tt))
-asked (Instruction-F.TransferReserveAsset list dest xcm) m = for_origin_asked _ m m.regs.origin _ (between m) refl (λ who is. around_asked _ m dest (fee_to m.part dest) _ refl (λ n unsent same. ((unsent, is, refl), tt)))
-asked (Instruction-F.DepositReserveAsset filter dest xcm) m = around_asked _ m dest (fee_to m.part dest) _ refl (λ n unsent same. (refl, ((unsent, (filter, refl)), tt)))
-asked (Instruction-F.InitiateReserveWithdraw filter dest xcm) m = around_asked _ m dest (fee_to m.part dest) _ refl (λ n unsent same. (refl, ((unsent, (filter, refl)), tt)))
-asked (Instruction-F.InitiateTeleport filter dest xcm) m = around_asked _ m dest (fee_to m.part dest) _ refl (λ n unsent same. (refl, ((unsent, (filter, refl)), tt)))
-asked (Instruction-F.ReportError info) m = around_asked _ m info.destination (fee_to m.part info.destination) _ refl (λ n unsent same. ((unsent, same, refl), tt))
-asked (Instruction-F.ReportHolding info filter) m = around_asked _ m info.destination (fee_to m.part info.destination) _ refl (λ n unsent same. holding_asked _ m n info (reported_list n info filter) refl unsent same)
-asked (Instruction-F.QueryPallet name info) m = around_asked _ m info.destination (fee_to m.part info.destination) _ refl (λ n unsent same. ((unsent, same, refl), tt))
-asked (Instruction-F.ReportTransactStatus info) m = around_asked _ m info.destination (fee_to m.part info.destination) _ refl (λ n unsent same. ((unsent, same, refl), tt))
-asked (Instruction-F.QueryResponse query answer weight querier) m = for_origin_asked _ m m.regs.origin _ (between m) refl (λ who is. (is, tt))
-asked (Instruction-F.DescendOrigin path) m = for_origin_asked _ m m.regs.origin _ (between m) refl (λ who is. (refl, tt))
+asked (Instruction-F.TransferAsset list who) m = for_origin_asked (Instruction-F.TransferAsset list who) m m.regs.origin _ (between m) refl (λ from is. ((is, refl), tt))
+asked (Instruction-F.TransferReserveAsset list dest xcm) m = for_origin_asked (Instruction-F.TransferReserveAsset list dest xcm) m m.regs.origin _ (between m) refl (λ who is. around_asked (Instruction-F.TransferReserveAsset list dest xcm) m dest (fee_to m.part dest) _ refl refl (λ n unsent same. ((unsent, is, refl), tt)))
+asked (Instruction-F.DepositReserveAsset filter dest xcm) m = around_asked (Instruction-F.DepositReserveAsset filter dest xcm) m dest (fee_to m.part dest) _ refl refl (λ n unsent same. (refl, ((unsent, (filter, refl)), tt)))
+asked (Instruction-F.InitiateReserveWithdraw filter dest xcm) m = around_asked (Instruction-F.InitiateReserveWithdraw filter dest xcm) m dest (fee_to m.part dest) _ refl refl (λ n unsent same. (refl, ((unsent, (filter, refl)), tt)))
+asked (Instruction-F.InitiateTeleport filter dest xcm) m = around_asked (Instruction-F.InitiateTeleport filter dest xcm) m dest (fee_to m.part dest) _ refl refl (λ n unsent same. (refl, ((unsent, (filter, refl)), tt)))
+asked (Instruction-F.ReportError info) m = around_asked (Instruction-F.ReportError info) m info.destination (fee_to m.part info.destination) _ refl refl (λ n unsent same. ((unsent, same, refl), tt))
+asked (Instruction-F.ReportHolding info filter) m = around_asked (Instruction-F.ReportHolding info filter) m info.destination (fee_to m.part info.destination) _ refl refl (λ n unsent same. holding_asked (Instruction-F.ReportHolding info filter) m n info (reported_list n info filter) refl unsent same)
+asked (Instruction-F.QueryPallet name info) m = around_asked (Instruction-F.QueryPallet name info) m info.destination (fee_to m.part info.destination) _ refl refl (λ n unsent same. ((unsent, same, refl), tt))
+asked (Instruction-F.ReportTransactStatus info) m = around_asked (Instruction-F.ReportTransactStatus info) m info.destination (fee_to m.part info.destination) _ refl refl (λ n unsent same. ((unsent, same, refl), tt))
+asked (Instruction-F.QueryResponse query answer weight querier) m = for_origin_asked (Instruction-F.QueryResponse query answer weight querier) m m.regs.origin _ (between m) refl (λ who is. (is, tt))
+asked (Instruction-F.DescendOrigin path) m = for_origin_asked (Instruction-F.DescendOrigin path) m m.regs.origin _ (between m) refl (λ who is. (refl, tt))
 asked (Instruction-F.Trap code) m = (refl, tt)
 asked (Instruction-F.ExpectAsset list) m = (refl, tt)
 asked (Instruction-F.ExpectOrigin origin) m = (refl, tt)
 asked (Instruction-F.ExpectError failure) m = (refl, tt)
 asked (Instruction-F.ExpectTransactStatus status) m = (refl, tt)
-asked (Instruction-F.ExpectPallet place name module_name major least_minor) m = pallet_asked _ m (pallet_at m place) name module_name major least_minor
+asked (Instruction-F.ExpectPallet place name module_name major least_minor) m = pallet_asked (Instruction-F.ExpectPallet place name module_name major least_minor) m (pallet_at m place) name module_name major least_minor
 asked (Instruction-F.UnpaidExecution limit origin) m = (refl, tt)
-asked (Instruction-F.Transact kind most call) m = for_origin_asked _ m m.regs.origin _ (between m) refl (λ who is. (refl, tt))
+asked (Instruction-F.Transact kind most call) m = for_origin_asked (Instruction-F.Transact kind most call) m m.regs.origin _ (between m) refl (λ who is. (refl, tt))
 asked (Instruction-F.HrmpNewChannelOpenRequest sender size capacity) m = (refl, tt)
 asked (Instruction-F.HrmpChannelAccepted recipient) m = (refl, tt)
 asked (Instruction-F.HrmpChannelClosing initiator sender recipient) m = (refl, tt)
 asked (Instruction-F.ExchangeAsset filter list maximal) m = (refl, (refl, tt))
 asked (Instruction-F.SubscribeVersion query weight) m = (refl, (refl, tt))
 asked Instruction-F.UnsubscribeVersion m = (refl, (refl, tt))
-asked (Instruction-F.UniversalOrigin junction) m = (refl, for_origin_asked _ m m.regs.origin _ (between m) refl (λ who is. (refl, tt)))
-asked (Instruction-F.ExportMessage network path xcm) m = for_origin_asked _ m m.regs.origin _ (between m) refl (λ who is. (refl, tt))
-asked (Instruction-F.LockAsset asset unlocker) m = for_origin_asked _ m m.regs.origin _ (between m) refl (λ who is. (refl, tt))
-asked (Instruction-F.UnlockAsset asset target) m = for_origin_asked _ m m.regs.origin _ (between m) refl (λ who is. (refl, tt))
-asked (Instruction-F.NoteUnlockable asset owner) m = for_origin_asked _ m m.regs.origin _ (between m) refl (λ who is. (refl, tt))
-asked (Instruction-F.RequestUnlock asset locker) m = for_origin_asked _ m m.regs.origin _ (between m) refl (λ who is. (refl, tt))
-asked (Instruction-F.AliasOrigin target) m = for_origin_asked _ m m.regs.origin _ (between m) refl (λ who is. (refl, tt))
+asked (Instruction-F.UniversalOrigin junction) m = (refl, for_origin_asked (Instruction-F.UniversalOrigin junction) m m.regs.origin _ (between m) refl (λ who is. (refl, tt)))
+asked (Instruction-F.ExportMessage network path xcm) m = for_origin_asked (Instruction-F.ExportMessage network path xcm) m m.regs.origin _ (between m) refl (λ who is. (refl, tt))
+asked (Instruction-F.LockAsset asset unlocker) m = for_origin_asked (Instruction-F.LockAsset asset unlocker) m m.regs.origin _ (between m) refl (λ who is. (refl, tt))
+asked (Instruction-F.UnlockAsset asset target) m = for_origin_asked (Instruction-F.UnlockAsset asset target) m m.regs.origin _ (between m) refl (λ who is. (refl, tt))
+asked (Instruction-F.NoteUnlockable asset owner) m = for_origin_asked (Instruction-F.NoteUnlockable asset owner) m m.regs.origin _ (between m) refl (λ who is. (refl, tt))
+asked (Instruction-F.RequestUnlock asset locker) m = for_origin_asked (Instruction-F.RequestUnlock asset locker) m m.regs.origin _ (between m) refl (λ who is. (refl, tt))
+asked (Instruction-F.AliasOrigin target) m = for_origin_asked (Instruction-F.AliasOrigin target) m m.regs.origin _ (between m) refl (λ who is. (refl, tt))
 asked _ m = tt
 
 -- ---- what each call keeps, all calls keep

@@ -64,9 +64,21 @@ Speaks m who = m.regs.origin ≡ Some who
 abbrev pub IsUnsent : Machine → Midway → Type 0
 IsUnsent m t = t.part.channels ≡ m.part.channels
 
--- the delivery fee of one of the chain's channels
-abbrev pub IsFee : Machine → Asset → Type 0
-IsFee m a = (dest : Location) × (fee_to m.part dest ≡ Some a)
+-- where an instruction sends to; all others send nothing
+abbrev pub destination : Instruction-F Instruction → Option Location
+destination (Instruction-F.TransferReserveAsset list dest xcm) = Some dest
+destination (Instruction-F.DepositReserveAsset filter dest xcm) = Some dest
+destination (Instruction-F.InitiateReserveWithdraw filter dest xcm) = Some dest
+destination (Instruction-F.InitiateTeleport filter dest xcm) = Some dest
+destination (Instruction-F.ReportError info) = Some info.destination
+destination (Instruction-F.ReportHolding info filter) = Some info.destination
+destination (Instruction-F.QueryPallet name info) = Some info.destination
+destination (Instruction-F.ReportTransactStatus info) = Some info.destination
+destination _ = None
+
+-- the delivery fee of the channel that it sends on
+abbrev pub IsFee : Instruction-F Instruction → Machine → Asset → Type 0
+IsFee l m a = (dest : Location) × (destination l ≡ Some dest) × (fee_to m.part dest ≡ Some a)
 
 abbrev pub arriving : List Asset → Bool → Instruction-F Instruction
 arriving list false = Instruction-F.ReserveAssetDeposited list
@@ -88,10 +100,10 @@ IsReport l info = ⊥
 abbrev pub Asks : Instruction-F Instruction → Machine → Midway → HostCall → Type 0
 Asks l m t (HostCall.Check ok e) = IsTrue (is_own e)
 Asks l m t (HostCall.Take filter) = HasNone t
-Asks l m t (HostCall.Pay a) = HasNone t × (IsFee m a ⊎ ((w : Weight) × (l ≡ Instruction-F.BuyExecution a (Limited w))))
+Asks l m t (HostCall.Pay a) = HasNone t × (IsFee l m a ⊎ ((w : Weight) × (l ≡ Instruction-F.BuyExecution a (Limited w))))
 Asks l m t HostCall.Join = ⊤
 Asks l m t (HostCall.Withdraw list who) = HasNone t × Speaks m who × (l ≡ Instruction-F.WithdrawAsset list)
-Asks l m t (HostCall.Draw fee who) = HasNone t × Speaks m who × IsFee m fee
+Asks l m t (HostCall.Draw fee who) = HasNone t × Speaks m who × IsFee l m fee
 Asks l m t (HostCall.Receive list from teleport) = HasNone t × (from ≡ m.regs.origin) × (l ≡ arriving list teleport)
 Asks l m t (HostCall.Claim list who) = HasNone t × Speaks m who × ((ticket : Location) × (l ≡ Instruction-F.ClaimAsset list ticket))
 Asks l m t (HostCall.Refund w) = HasNone t × (w ≡ not_refunded m)
@@ -104,7 +116,7 @@ Asks l m t (HostCall.Transfer list from to) = Speaks m from × (l ≡ Instructio
 Asks l m t (HostCall.TransferOut list from dest xcm) = IsUnsent m t × Speaks m from × (l ≡ Instruction-F.TransferReserveAsset list dest xcm)
 Asks l m t (HostCall.Respond info answer querier) = IsUnsent m t × (querier ≡ m.regs.origin) × IsReport l info
 Asks l m t (HostCall.Answer from query) = Speaks m from
-Asks l m t HostCall.HoldFee = (fee : Asset) × IsFee m fee × (t.goods ≡ payment_of fee) × (t.part.fee_slot ≡ m.part.fee_slot)
+Asks l m t HostCall.HoldFee = (fee : Asset) × IsFee l m fee × (t.goods ≡ payment_of fee) × (t.part.fee_slot ≡ m.part.fee_slot)
 Asks l m t HostCall.TakeFee = HasNone t
 Asks l m t HostCall.KeepFee = ⊤
 Asks l m t HostCall.Park = t.part.parked ≡ m.part.parked

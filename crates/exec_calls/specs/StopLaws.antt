@@ -27,7 +27,7 @@ use Rattle.exec_rules.specs.Stopping.{parking, NotJoined, NotPutBack, BuyingStop
 use Rattle.exec_calls.specs.Calls.{Midway, between, HostCall, why_not, after, effect, after_all, refusal_along, for_origin, charge}
 use Rattle.exec_calls.specs.Footprints.{part_is}
 use Rattle.exec_calls.specs.CallLaws.{along_both, after_both, charge_refused, charge_after}
-use Rattle.exec_calls.specs.Reasons.{IsFee, Asks, AreAsked, LeadFrom, LeadTo}
+use Rattle.exec_calls.specs.Reasons.{destination, IsFee, Asks, AreAsked, LeadFrom, LeadTo}
 use Rattle.exec_calls.specs.ReasonLaws.{asked_both, charge_asked}
 
 -- ---- what is in hand is parked
@@ -112,12 +112,12 @@ module _ (l : Instruction-F Instruction) (m : Machine) where
       by_mode true = by_account m.regs.origin
       by_mode false = refl
 
-  around_stops : (dest : Location) (o : Option Asset) (inside : Machine → Machine → Type 0) (now : Machine) → fee_to m.part dest ≡ o
+  around_stops : (dest : Location) (o : Option Asset) (inside : Machine → Machine → Type 0) (now : Machine) → destination l ≡ Some dest → fee_to m.part dest ≡ o
       → ((k : Machine) → k.part.parked ≡ m.part.parked → inside k now → LeadFrom l m (between k) now) → StopsAround o m inside now → LeadTo l m now
-  around_stops dest None inside now is led stops = led m refl stops
-  around_stops dest (Some fee) inside now is led stops =
+  around_stops dest None inside now goes is led stops = led m refl stops
+  around_stops dest (Some fee) inside now goes is led stops =
       let n = after_fee m fee in
-      let first : LeadFrom l m (between n) now → LeadTo l m now = lead_before (charge m fee) (between m) (between n) now (charge_asked l m fee (dest, is)) (sym (charge_refused m fee) ∙ stops.0) (charge_after m fee) in
+      let first : LeadFrom l m (between n) now → LeadTo l m now = lead_before (charge m fee) (between m) (between n) now (charge_asked l m fee (dest, goes, is)) (sym (charge_refused m fee) ∙ stops.0) (charge_after m fee) in
       first (⊎_elim (λ (e : now ≡ n). lead_as (between n) now n e (lead_nowhere n))
       (λ (e : inside n now ⊎ (now ≡ fee_parked n)).
       ⊎_elim (λ (i : inside n now). led n (charge_parks fee) i) (λ (i : now ≡ fee_parked n). lead_as (between n) now (fee_parked n) i (fee_aside n (charge_parks fee))) e) stops.1)
@@ -148,29 +148,29 @@ not_joined : (l : Instruction-F Instruction) (m : Machine) (rule : Location → 
 not_joined l m rule change goods now is stops led = lead_as l m (between m) now _ stops.1 (came_by l m m.regs.origin rule change goods refl (sym is ∙ stops.0) led)
 
 pub stops_lead : (l : Instruction-F Instruction) (m now : Machine) → Stops l m now → LeadTo l m now
-stops_lead (Instruction-F.WithdrawAsset list) m now stops = not_joined _ m _ _ (bundle_of list) now refl stops
-    (λ who is ok. came _ m (HostCall.Withdraw list who) (bundle_of list) (refl, is, refl) (unless_next (has_room m (length list)) _ _ ok) (refl, refl, refl))
-stops_lead (Instruction-F.ReserveAssetDeposited list) m now stops = not_joined _ m _ _ (bundle_of list) now refl stops
-    (λ who is ok. came _ m (HostCall.Receive list m.regs.origin false) (bundle_of list) (refl, refl, refl) (ap (λ (o : Option Location). with_origin o (λ who. receive_refusal m.part list who false)) is ∙ unless_next (has_room m (length list)) _ _ ok) (refl, refl, refl))
-stops_lead (Instruction-F.ReceiveTeleportedAsset list) m now stops = not_joined _ m _ _ (bundle_of list) now refl stops
-    (λ who is ok. came _ m (HostCall.Receive list m.regs.origin true) (bundle_of list) (refl, refl, refl) (ap (λ (o : Option Location). with_origin o (λ who. receive_refusal m.part list who true)) is ∙ unless_next (has_room m (length list)) _ _ ok) (refl, refl, refl))
-stops_lead (Instruction-F.ClaimAsset list ticket) m now stops = not_joined _ m _ _ (bundle_of list) now refl stops
-    (λ who is ok. came _ m (HostCall.Claim list who) (bundle_of list) (refl, is, (ticket, refl)) (unless_next (is_ticket ticket) _ _ (unless_next (has_room m (length list)) _ _ ok)) (refl, refl, refl))
-stops_lead (Instruction-F.DepositAsset filter who) m now stops = lead_as _ m (between m) now _ stops (not_put_back _ m m filter refl)
-stops_lead (Instruction-F.BurnAsset list) m now stops = lead_as _ m (between m) now _ stops (not_put_back _ m m (Definite list) refl)
+stops_lead (Instruction-F.WithdrawAsset list) m now stops = not_joined (Instruction-F.WithdrawAsset list) m _ _ (bundle_of list) now refl stops
+    (λ who is ok. came (Instruction-F.WithdrawAsset list) m (HostCall.Withdraw list who) (bundle_of list) (refl, is, refl) (unless_next (has_room m (length list)) _ _ ok) (refl, refl, refl))
+stops_lead (Instruction-F.ReserveAssetDeposited list) m now stops = not_joined (Instruction-F.ReserveAssetDeposited list) m _ _ (bundle_of list) now refl stops
+    (λ who is ok. came (Instruction-F.ReserveAssetDeposited list) m (HostCall.Receive list m.regs.origin false) (bundle_of list) (refl, refl, refl) (ap (λ (o : Option Location). with_origin o (λ who. receive_refusal m.part list who false)) is ∙ unless_next (has_room m (length list)) _ _ ok) (refl, refl, refl))
+stops_lead (Instruction-F.ReceiveTeleportedAsset list) m now stops = not_joined (Instruction-F.ReceiveTeleportedAsset list) m _ _ (bundle_of list) now refl stops
+    (λ who is ok. came (Instruction-F.ReceiveTeleportedAsset list) m (HostCall.Receive list m.regs.origin true) (bundle_of list) (refl, refl, refl) (ap (λ (o : Option Location). with_origin o (λ who. receive_refusal m.part list who true)) is ∙ unless_next (has_room m (length list)) _ _ ok) (refl, refl, refl))
+stops_lead (Instruction-F.ClaimAsset list ticket) m now stops = not_joined (Instruction-F.ClaimAsset list ticket) m _ _ (bundle_of list) now refl stops
+    (λ who is ok. came (Instruction-F.ClaimAsset list ticket) m (HostCall.Claim list who) (bundle_of list) (refl, is, (ticket, refl)) (unless_next (is_ticket ticket) _ _ (unless_next (has_room m (length list)) _ _ ok)) (refl, refl, refl))
+stops_lead (Instruction-F.DepositAsset filter who) m now stops = lead_as (Instruction-F.DepositAsset filter who) m (between m) now _ stops (not_put_back (Instruction-F.DepositAsset filter who) m m filter refl)
+stops_lead (Instruction-F.BurnAsset list) m now stops = lead_as (Instruction-F.BurnAsset list) m (between m) now _ stops (not_put_back (Instruction-F.BurnAsset list) m m (Definite list) refl)
 stops_lead (Instruction-F.BuyExecution fees limit) m now stops = buying_stops m fees limit now stops
-stops_lead Instruction-F.RefundSurplus m now stops = lead_as _ m (between m) now _ stops.1 (came _ m (HostCall.Refund (not_refunded m)) (refund_goods m.part (not_refunded m)) (refl, refl) refl (refl, refl, refl))
-stops_lead (Instruction-F.TransferReserveAsset list dest xcm) m now stops = around_stops _ m dest (fee_to m.part dest) (λ n left. ⊥) now refl (λ n none i. absurd i) stops
+stops_lead Instruction-F.RefundSurplus m now stops = lead_as Instruction-F.RefundSurplus m (between m) now _ stops.1 (came Instruction-F.RefundSurplus m (HostCall.Refund (not_refunded m)) (refund_goods m.part (not_refunded m)) (refl, refl) refl (refl, refl, refl))
+stops_lead (Instruction-F.TransferReserveAsset list dest xcm) m now stops = around_stops (Instruction-F.TransferReserveAsset list dest xcm) m dest (fee_to m.part dest) (λ n left. ⊥) now refl refl (λ n none i. absurd i) stops
 stops_lead (Instruction-F.DepositReserveAsset filter dest xcm) m now stops =
-    around_stops _ m dest (fee_to m.part dest) (λ n left. NotPutBack n filter left) now refl (λ n none i. lead_as _ m (between n) now _ i (not_put_back _ m n filter none)) stops
+    around_stops (Instruction-F.DepositReserveAsset filter dest xcm) m dest (fee_to m.part dest) (λ n left. NotPutBack n filter left) now refl refl (λ n none i. lead_as (Instruction-F.DepositReserveAsset filter dest xcm) m (between n) now _ i (not_put_back (Instruction-F.DepositReserveAsset filter dest xcm) m n filter none)) stops
 stops_lead (Instruction-F.InitiateReserveWithdraw filter dest xcm) m now stops =
-    around_stops _ m dest (fee_to m.part dest) (λ n left. NotPutBack n filter left) now refl (λ n none i. lead_as _ m (between n) now _ i (not_put_back _ m n filter none)) stops
+    around_stops (Instruction-F.InitiateReserveWithdraw filter dest xcm) m dest (fee_to m.part dest) (λ n left. NotPutBack n filter left) now refl refl (λ n none i. lead_as (Instruction-F.InitiateReserveWithdraw filter dest xcm) m (between n) now _ i (not_put_back (Instruction-F.InitiateReserveWithdraw filter dest xcm) m n filter none)) stops
 stops_lead (Instruction-F.InitiateTeleport filter dest xcm) m now stops =
-    around_stops _ m dest (fee_to m.part dest) (λ n left. NotPutBack n filter left) now refl (λ n none i. lead_as _ m (between n) now _ i (not_put_back _ m n filter none)) stops
-stops_lead (Instruction-F.ReportError info) m now stops = around_stops _ m info.destination (fee_to m.part info.destination) (λ n left. ⊥) now refl (λ n none i. absurd i) stops
-stops_lead (Instruction-F.ReportHolding info filter) m now stops = around_stops _ m info.destination (fee_to m.part info.destination) (λ n left. ⊥) now refl (λ n none i. absurd i) stops
-stops_lead (Instruction-F.QueryPallet name info) m now stops = around_stops _ m info.destination (fee_to m.part info.destination) (λ n left. ⊥) now refl (λ n none i. absurd i) stops
-stops_lead (Instruction-F.ReportTransactStatus info) m now stops = around_stops _ m info.destination (fee_to m.part info.destination) (λ n left. ⊥) now refl (λ n none i. absurd i) stops
+    around_stops (Instruction-F.InitiateTeleport filter dest xcm) m dest (fee_to m.part dest) (λ n left. NotPutBack n filter left) now refl refl (λ n none i. lead_as (Instruction-F.InitiateTeleport filter dest xcm) m (between n) now _ i (not_put_back (Instruction-F.InitiateTeleport filter dest xcm) m n filter none)) stops
+stops_lead (Instruction-F.ReportError info) m now stops = around_stops (Instruction-F.ReportError info) m info.destination (fee_to m.part info.destination) (λ n left. ⊥) now refl refl (λ n none i. absurd i) stops
+stops_lead (Instruction-F.ReportHolding info filter) m now stops = around_stops (Instruction-F.ReportHolding info filter) m info.destination (fee_to m.part info.destination) (λ n left. ⊥) now refl refl (λ n none i. absurd i) stops
+stops_lead (Instruction-F.QueryPallet name info) m now stops = around_stops (Instruction-F.QueryPallet name info) m info.destination (fee_to m.part info.destination) (λ n left. ⊥) now refl refl (λ n none i. absurd i) stops
+stops_lead (Instruction-F.ReportTransactStatus info) m now stops = around_stops (Instruction-F.ReportTransactStatus info) m info.destination (fee_to m.part info.destination) (λ n left. ⊥) now refl refl (λ n none i. absurd i) stops
 stops_lead _ m now stops = absurd stops
 
 -- all as it was, or one of these

@@ -1,6 +1,5 @@
 use Rattle.exec_admission.specs.Admission.{admitted}
-use Rattle.authority.proofs.Runs.{local_lowers}
-use Rattle.authority.proofs.Stopping.{local_stopped}
+use Rattle.authority.proofs.Runs.{local_lowers, local_stopped}
 use Rattle.authority.proofs.Messages.{message_lowers, message_stopped}
 use Rattle.authority.proofs.laws.law_of_executions.Goals as goal
 
