@@ -14,6 +14,7 @@ use Rattle.channel_parts.specs.declared.cargo.Cargo.{Cargo}
 use Rattle.channel_parts.specs.Channels.{Outgoing}
 use Rattle.weight_trader.specs.Purchases.{Line}
 use Rattle.exec_base.specs.declared.event.Event.{Event}
+use Rattle.exec_base.specs.declared.settings.Settings.{Settings}
 
 -- ---- deliveries
 
@@ -25,10 +26,8 @@ pub record Taken : Type 0 where
 -- ---- the part
 pub record ChainPart : Type 0 where
   -- what the network document says, which no call changes
-  pub site : Site
-  pub rows : List AssetRow
-  pub pallets : List PalletInfo
-  pub fee_account : List ℕ
+  pub settings : Settings
+  pub open settings use *
   -- amounts
   pub held : Held
   pub traps : Store

@@ -1,0 +1,17 @@
+//! What the network document says of a chain.
+use message_parts::PalletInfo;
+use plain_lists::Listed;
+use trust_tables::{AssetRow, Site};
+
+/// What the network document says of a chain, which no call of the chain changes.
+#[derive(Drop)]
+pub struct Settings {
+    /// Where the chain stands.
+    pub site: Site,
+    /// The assets that it lists.
+    pub rows: Listed<AssetRow>,
+    /// The pallets of its runtime.
+    pub pallets: Listed<PalletInfo>,
+    /// The account that fees are paid to.
+    pub fee_account: [u8; 32],
+}
