@@ -2,11 +2,11 @@
 use Rattle.std.proofs.Common.{◌≡◌, ◌⊎◌, ℕ, List, [], ◌∷◌, Option, Some, None, Result, Ok, Err, ⊎_elim, refl, sym, subst}
 use Rattle.message_parts.specs.declared.error.XcmError.{XcmError}
 use Rattle.locations.specs.declared.relative.Location.{Location}
-use Rattle.trust_tables.specs.declared.chains.Site.{Site}
 use Rattle.trust_tables.specs.Accounts.{account_of}
 use Rattle.ledgers.specs.Ledgers.{Held}
 use Rattle.xcm_program.specs.declared.instruction.Instruction.{Instruction, out-Instruction, roll-Instruction, out-roll-Instruction}
 use Rattle.xcm_program.specs.declared.instruction.Instruction.TheOpen.{Instruction-F}
+use Rattle.exec_base.specs.declared.settings.Settings.{Settings}
 use Rattle.exec_base.specs.Sending.{sent}
 use Rattle.exec_base.specs.Host.{withdrawn, deposited, transferred, transferred_out, deposited_out, fee_drawn}
 use Rattle.exec_run.specs.Machine.{Machine, Performed}
@@ -42,7 +42,7 @@ module _ (x : Instruction) (m : Machine) where
 
   spoken_then : (c : HostCall) (t : Midway) → Asks (out-Instruction x) m t c → IsFrom m t → Spoken t → Spoken (after c t)
   spoken_then c t asks from h = then_lowers (speaker_of m) m.part.held t.part.held (after c t).part.held h
-      (subst (λ (site : Site). LowersOnly (speaker_at site m.regs.origin) t.part.held (after c t).part.held) from.site (call_lowers (out-Instruction x) m c t asks))
+      (subst (λ (s : Settings). LowersOnly (speaker_at s.site m.regs.origin) t.part.held (after c t).part.held) from.settings (call_lowers (out-Instruction x) m c t asks))
 
   pub done_lowers : LowersOnly (speaker_of m) m.part.held (xcm.done x m).part.held
   done_lowers = each_keeps (out-Instruction x) m Spoken spoken_then (λ t from h. h) (same_lowers (speaker_of m) m.part.held)

@@ -73,7 +73,7 @@ module _ (K : Midway → Type 0) (kept : IsKeptAtEnd K) where
   emptied m k = kept.closing m (between m) HostCall.Empty k refl (from_itself m) refl k
 
   from_emptied : (m : Machine) → IsFrom m (after HostCall.Empty (between m))
-  from_emptied m = record { regs = refl; site = refl; rows = refl; pallets = refl; fee_account = refl }
+  from_emptied m = record { regs = refl; settings = refl }
 
   trapped_rests : (m : Machine) (who : Location) → Rests m → Rests (machine (with_holding m.regs empty) (trapped m.part m.regs.holding who))
   trapped_rests m who k = let t = after HostCall.Empty (between m) in

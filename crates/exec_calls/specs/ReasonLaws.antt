@@ -34,17 +34,17 @@ use Rattle.exec_calls.specs.Reasons.{IsFrom, destination, IsFee, IsReport, shipp
 
 -- ---- no call changes other registers, or what the document says
 pub from_itself : (m : Machine) → IsFrom m (between m)
-from_itself m = record { regs = refl; site = refl; rows = refl; pallets = refl; fee_account = refl }
+from_itself m = record { regs = refl; settings = refl }
 
 other_holding : (m : Machine) (r : Registers) (b : Bundle) → r ≡ with_holding m.regs r.holding → with_holding r b ≡ with_holding m.regs b
 other_holding m r b e = ap (λ (r : Registers). with_holding r b) e
 
 pub from_after : (c : HostCall) (m : Machine) (t : Midway) → IsFrom m t → IsFrom m (after c t)
-from_after (HostCall.Take filter) m t f = record { regs = other_holding m t.regs _ f.regs; site = f.site; rows = f.rows; pallets = f.pallets; fee_account = f.fee_account }
-from_after (HostCall.Pay a) m t f = record { regs = other_holding m t.regs _ f.regs; site = f.site; rows = f.rows; pallets = f.pallets; fee_account = f.fee_account }
-from_after HostCall.Join m t f = record { regs = other_holding m t.regs _ f.regs; site = f.site; rows = f.rows; pallets = f.pallets; fee_account = f.fee_account }
-from_after HostCall.Empty m t f = record { regs = other_holding m t.regs _ f.regs; site = f.site; rows = f.rows; pallets = f.pallets; fee_account = f.fee_account }
-from_after _ m t f = record { regs = f.regs; site = f.site; rows = f.rows; pallets = f.pallets; fee_account = f.fee_account }
+from_after (HostCall.Take filter) m t f = record { regs = other_holding m t.regs _ f.regs; settings = f.settings }
+from_after (HostCall.Pay a) m t f = record { regs = other_holding m t.regs _ f.regs; settings = f.settings }
+from_after HostCall.Join m t f = record { regs = other_holding m t.regs _ f.regs; settings = f.settings }
+from_after HostCall.Empty m t f = record { regs = other_holding m t.regs _ f.regs; settings = f.settings }
+from_after _ m t f = record { regs = f.regs; settings = f.settings }
 
 -- ---- some calls and then others
 pub asked_both : (l : Instruction-F Instruction) (m : Machine) (xs ys : List HostCall) (t : Midway) → AreAsked l m xs t → AreAsked l m ys (after_all xs t) → AreAsked l m (xs ++ ys) t

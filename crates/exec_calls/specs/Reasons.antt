@@ -14,8 +14,6 @@ use Rattle.asset_lists.specs.declared.units.Asset.{Asset}
 use Rattle.asset_lists.specs.declared.filters.Filter.{Filter}
 use Rattle.asset_bundles.specs.Bundles.{Bundle}
 use Rattle.asset_bundles.specs.declared.shipment.Way.{Way}
-use Rattle.trust_tables.specs.declared.chains.Site.{Site}
-use Rattle.trust_tables.specs.declared.rows.AssetRow.{AssetRow}
 use Rattle.xcm_program.specs.declared.instruction.Instruction.{Instruction}
 use Rattle.xcm_program.specs.declared.instruction.Instruction.TheOpen.{Instruction-F}
 use Rattle.exec_base.specs.Host.{fee_to}
@@ -26,10 +24,7 @@ use Rattle.exec_calls.specs.Calls.{Midway, between, HostCall, after, after_all, 
 -- what no call of an instruction changes: the registers, but for the holding, and what the network document says of the chain
 pub record IsFrom (m : Machine) (t : Midway) : Type 0 where
   pub regs : t.regs ≡ with_holding m.regs t.regs.holding
-  pub site : t.part.site ≡ m.part.site
-  pub rows : t.part.rows ≡ m.part.rows
-  pub pallets : t.part.pallets ≡ m.part.pallets
-  pub fee_account : t.part.fee_account ≡ m.part.fee_account
+  pub settings : t.part.settings ≡ m.part.settings
 
 -- the errors that instructions answer by tests of their own
 abbrev pub is_own : XcmError → Bool

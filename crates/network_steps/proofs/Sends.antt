@@ -1,5 +1,5 @@
 -- What is queued and what may still be sent never rises in a run.
-use Rattle.std.proofs.Common.{◌≡◌, ⊎_elim, ℕ, zero, suc, ◌+◌, ◌≤◌, Bool, true, false, List, [], ◌∷◌, ◌++◌, Option, Some, None, refl, sym, ap, ◌∙◌, subst, arith}
+use Rattle.std.proofs.Common.{◌≡◌, ◌⊎◌, inl, inr, ⊎_elim, ℕ, zero, suc, ◌+◌, ◌≤◌, Bool, true, false, List, [], ◌∷◌, ◌++◌, Option, Some, None, refl, sym, ap, ◌∙◌, subst, arith}
 use Rattle.std.specs.Prelude.{if◌then◌else◌, nat_eq, length, position, remove, drop, find, slice_get, slice_set, sum_by, option_and_then, Result, Ok, Err}
 use Rattle.std.proofs.Common.{get_or}
 use Rattle.std.proofs.lemmas.Option.{slice_get_within, get_or_from_slice_get}
@@ -56,6 +56,12 @@ use Rattle.exec_admission.specs.declared.rules.ChainRules.{ChainRules}
 use Rattle.exec_admission.specs.declared.admission.Admitted.{Admitted}
 use Rattle.exec_admission.specs.Admission.{by_barriers, by_limit, by_weight, admitted}
 use Rattle.exec_admission.specs.Execution.{first_machine, first_stage, last_machine, executed_by, executed}
+use Rattle.exec_calls.specs.Calls.{Midway, HostCall, after}
+use Rattle.exec_calls.specs.Reasons.{shipping, IsReport, Asks}
+use Rattle.exec_calls.specs.ReasonLaws.{each_keeps}
+use Rattle.exec_calls.specs.Kept.{IsKeptAtEnd}
+use Rattle.exec_calls.specs.KeptLaws.{finished_kept}
+use Rattle.asset_lists.specs.declared.filters.Filter.{Filter}
 use Rattle.network_steps.specs.Worlds.{Member, chain_of, World, with_part}
 use Rattle.network_steps.specs.Sends.{message_count, queue_count, queued, deliveries_left}
 use Rattle.network_steps.specs.Acting.{begun}
@@ -152,66 +158,6 @@ responded_more p info response querier = response_more p info response (querier_
 abbrev channels_of : Machine → List Outgoing
 channels_of m = m.part.channels
 
-origin_same : (o : Option Location) (change : Location → Machine) (m : Machine) → ((who : Location) → channels_of (change who) ≡ channels_of m) → channels_of (at_origin o change m) ≡ channels_of m
-origin_same None change m h = refl
-origin_same (Some who) change m h = h who
-
-origin_more : (o : Option Location) (change : Location → Machine) (m : Machine) (n : ℕ) → ((who : Location) → queued (channels_of (change who)) ≤ queued (channels_of m) + n) → queued (channels_of (at_origin o change m)) ≤ queued (channels_of m) + n
-origin_more None change m n h = omega arith
-origin_more (Some who) change m n h = h who
-
-if_same : (b : Bool) (x y m : Machine) → channels_of x ≡ channels_of m → channels_of y ≡ channels_of m → channels_of (if b then x else y) ≡ channels_of m
-if_same true x y m h k = h
-if_same false x y m h k = k
-
-fee_same : (m : Machine) (fee : Asset) → channels_of (after_fee m fee) ≡ channels_of m
-unfolding fee_held fee_drawn
-fee_same m fee = if_same m.regs.fees_mode _ _ m (origin_same m.regs.origin _ m (λ who. refl)) refl
-
-around_more : (o : Option Asset) (m : Machine) (change : Machine → Machine) (n : ℕ) → ((k : Machine) → queued (channels_of (change k)) ≤ queued (channels_of k) + n) → queued (channels_of (done_around o m change)) ≤ queued (channels_of m) + n
-unfolding fee_kept
-around_more None m change n h = h m
-around_more (Some fee) m change n h =
-    let a = h (after_fee m fee) in
-    let b = ap queued (fee_same m fee) in
-    omega (arith, a, b)
-
-report_more : (m : Machine) (info : QueryInfo) (o : Option (List Asset)) → queued (channels_of (holding_report_done m info o)) ≤ queued (channels_of m) + 1
-report_more m info None = omega arith
-report_more m info (Some list) = responded_more m.part info (Response.Assets list) m.regs.origin
-
-option_same : {A : Type 0} (o : Option A) (f : A → ChainPart) (p : ChainPart) → ((x : A) → (f x).channels ≡ p.channels) → (option_map_or f o p).channels ≡ p.channels
-option_same None f p h = refl
-option_same (Some x) f p h = h x
-
-bought_same : (p : ChainPart) (w : Weight) (payment : Bundle) → (bought p w payment).channels ≡ p.channels
-unfolding bought booked
-bought_same p w payment = option_same (paying w payment p.lines) _ p (λ line. refl)
-
-claimed_same : (p : ChainPart) (list : List Asset) (origin : Location) → (claimed p list origin).channels ≡ p.channels
-unfolding claimed
-claimed_same p list origin = option_same (position (is_trap list origin) p.traps.traps) _ p (λ place. refl)
-
-answered_same : (p : ChainPart) (from : Location) (query : ℕ) → (answered p from query).channels ≡ p.channels
-unfolding answered
-answered_same p from query = elim (position (is_query query from) p.queries) as (λ o. (option_map_or (λ (place : ℕ). record p { queries = remove p.queries place; kept_back = p.kept_back ++ Event.Answered query ∷ [] }) o (record p { kept_back = p.kept_back ++ Event.Ignored query ∷ [] })).channels ≡ p.channels) [
-  | None ↦ refl
-  | Some place ↦ refl
-]
-
-buying_same : (m : Machine) (fees : Asset) (limit : WeightLimit) → channels_of (buying_done m fees limit) ≡ channels_of m
-unfolding joined booked
-buying_same m fees Unlimited = refl
-buying_same m fees (Limited w) = bought_same m.part w (payment_of fees)
-
-refund_same : (m : Machine) (o : Option (Location × ℕ)) → channels_of (refund_done m o) ≡ channels_of m
-unfolding refunded joined booked
-refund_same m None = refl
-refund_same m (Some given) = refl
-
-as_many : (m n : Machine) → channels_of n ≡ channels_of m → queued (channels_of n) ≤ queued (channels_of m) + 0
-as_many m n e = let a = ap queued e in omega (arith, a)
-
 -- what an instruction sends, and what the programs that it sends may send
 abbrev sent_in : Instruction-F Instruction → ℕ
 sent_in (Instruction-F.TransferReserveAsset list dest program) = 1 + sends program
@@ -224,38 +170,35 @@ sent_in (Instruction-F.QueryPallet name info) = 1
 sent_in (Instruction-F.ReportTransactStatus info) = 1
 sent_in _ = 0
 
+reports_one : (l : Instruction-F Instruction) (info : QueryInfo) → IsReport l info → sent_in l ≡ 1
+reports_one (Instruction-F.ReportError to) info is = refl
+reports_one (Instruction-F.ReportHolding to filter) info is = refl
+reports_one (Instruction-F.QueryPallet name to) info is = refl
+reports_one (Instruction-F.ReportTransactStatus to) info is = refl
+reports_one l info is = absurd is
+
+ships_one : (way : Way) (filter : Filter) (dest : Location) (program : List Instruction) → sent_in (shipping way filter dest program) ≡ 1 + sends program
+ships_one Way.Withdrawal filter dest program = refl
+ships_one Way.Teleport filter dest program = refl
+
+-- nothing was sent yet, or no more than the instruction sends
+abbrev IsSentBy : Instruction-F Instruction → Machine → Midway → Type 0
+IsSentBy l m t = (t.part.channels ≡ m.part.channels) ⊎ (queued t.part.channels ≤ queued m.part.channels + sent_in l)
+
+first_sent : (l : Instruction-F Instruction) (m : Machine) (t : Midway) (c : HostCall) (n : ℕ) → t.part.channels ≡ m.part.channels → sent_in l ≡ n → queued (after c t).part.channels ≤ queued t.part.channels + n → IsSentBy l m (after c t)
+first_sent l m t c n unsent is more = let a = ap queued unsent in inr (omega (arith, more, a, is))
+
+call_sent : (l : Instruction-F Instruction) (m : Machine) (c : HostCall) (t : Midway) → Asks l m t c → IsSentBy l m t → IsSentBy l m (after c t)
+call_sent l m (HostCall.TransferOut list from dest program) t asks h = first_sent l m t (HostCall.TransferOut list from dest program) (1 + sends program) asks.0 (ap sent_in asks.2) (transferred_more t.part list from dest program)
+call_sent l m (HostCall.DepositOut dest program) t asks h = first_sent l m t (HostCall.DepositOut dest program) (1 + sends program) asks.0 (ap sent_in asks.1.1) (deposited_more t.part t.goods dest program)
+call_sent l m (HostCall.Ship way dest program) t asks h = first_sent l m t (HostCall.Ship way dest program) (1 + sends program) asks.0 (ap sent_in asks.1.1 ∙ ships_one way asks.1.0 dest program) (shipped_more t.part t.goods way dest program)
+call_sent l m (HostCall.Respond info answer querier) t asks h = first_sent l m t (HostCall.Respond info answer querier) 1 asks.0 (reports_one l info asks.2) (responded_more t.part info answer querier)
+call_sent l m _ t asks h = h
+
 done_more : (l : Instruction-F Instruction) (m : Machine) → queued (channels_of (done l m)) ≤ queued (channels_of m) + sent_in l
-unfolding withdrawn received deposited transferred burnt joined booked
-done_more (Instruction-F.WithdrawAsset list) m =
-    as_many m (done (Instruction-F.WithdrawAsset list) m) (origin_same m.regs.origin (λ who. holding_more m (withdrawn m.part list who) (bundle_of list)) m (λ who. refl))
-done_more (Instruction-F.ClaimAsset list ticket) m =
-    as_many m (done (Instruction-F.ClaimAsset list ticket) m) (origin_same m.regs.origin (λ who. holding_more m (claimed m.part list who) (bundle_of list)) m (λ who. claimed_same m.part list who))
-done_more (Instruction-F.QueryResponse query answer weight querier) m =
-    as_many m (done (Instruction-F.QueryResponse query answer weight querier) m) (origin_same m.regs.origin (λ who. machine m.regs (answered m.part who query)) m (λ who. answered_same m.part who query))
-done_more (Instruction-F.TransferAsset list who) m =
-    as_many m (done (Instruction-F.TransferAsset list who) m) (origin_same m.regs.origin (λ from. machine m.regs (transferred m.part list from who)) m (λ from. refl))
-done_more (Instruction-F.DescendOrigin path) m =
-    as_many m (done (Instruction-F.DescendOrigin path) m) (origin_same m.regs.origin (λ who. with_registers m (record m.regs { origin = Some (descended who path) })) m (λ who. refl))
-done_more (Instruction-F.TransferReserveAsset list dest program) m =
-    origin_more m.regs.origin (λ who. done_around (fee_to m.part dest) m (λ n. machine n.regs (transferred_out n.part list who dest program))) m (1 + sends program)
-    (λ who. around_more (fee_to m.part dest) m (λ n. machine n.regs (transferred_out n.part list who dest program)) (1 + sends program) (λ n. transferred_more n.part list who dest program))
-done_more (Instruction-F.DepositReserveAsset taken dest program) m =
-    around_more (fee_to m.part dest) m (λ n. holding_left n taken (deposited_out n.part (taken_of n taken) dest program)) (1 + sends program) (λ n. deposited_more n.part (taken_of n taken) dest program)
-done_more (Instruction-F.InitiateReserveWithdraw taken dest program) m =
-    around_more (fee_to m.part dest) m (λ n. holding_left n taken (shipped n.part (taken_of n taken) Way.Withdrawal dest program)) (1 + sends program) (λ n. shipped_more n.part (taken_of n taken) Way.Withdrawal dest program)
-done_more (Instruction-F.InitiateTeleport taken dest program) m =
-    around_more (fee_to m.part dest) m (λ n. holding_left n taken (shipped n.part (taken_of n taken) Way.Teleport dest program)) (1 + sends program) (λ n. shipped_more n.part (taken_of n taken) Way.Teleport dest program)
-done_more (Instruction-F.ReportError info) m =
-    around_more (fee_to m.part info.destination) m (λ n. report_done n info (Response.ExecutionResult n.regs.error)) 1 (λ n. responded_more n.part info (Response.ExecutionResult n.regs.error) n.regs.origin)
-done_more (Instruction-F.ReportHolding info taken) m =
-    around_more (fee_to m.part info.destination) m (λ n. holding_report_done n info (reported_list n info taken)) 1 (λ n. report_more n info (reported_list n info taken))
-done_more (Instruction-F.QueryPallet name info) m =
-    around_more (fee_to m.part info.destination) m (λ n. report_done n info (Response.PalletsInfo (pallets_of n.part name))) 1 (λ n. responded_more n.part info (Response.PalletsInfo (pallets_of n.part name)) n.regs.origin)
-done_more (Instruction-F.ReportTransactStatus info) m =
-    around_more (fee_to m.part info.destination) m (λ n. report_done n info (Response.DispatchResult n.regs.status)) 1 (λ n. responded_more n.part info (Response.DispatchResult n.regs.status) n.regs.origin)
-done_more (Instruction-F.BuyExecution fees limit) m = as_many m (done (Instruction-F.BuyExecution fees limit) m) (buying_same m fees limit)
-done_more Instruction-F.RefundSurplus m = as_many m (done Instruction-F.RefundSurplus m) (refund_same m (refund_now m))
-done_more l m = as_many m (done l m) refl
+done_more l m =
+    ⊎_elim (λ (same : channels_of (done l m) ≡ channels_of m). let a = ap queued same in omega (arith, a)) (λ (more : queued (channels_of (done l m)) ≤ queued (channels_of m) + sent_in l). more)
+    (each_keeps l m (IsSentBy l m) (λ c t asks from h. call_sent l m c t asks h) (λ t from h. h) (inl refl))
 
 -- ---- what is kept for later
 kept_more : (l : Instruction-F Instruction) (c d : Control) → Steers (λ p. p) l c d → sends d.handler + sends d.appendix ≤ sends c.handler + sends c.appendix + sends_inside (kept l)
@@ -342,28 +285,19 @@ module _ (orderly : IsOrderly xcm) where
   run_sends g = let a = machine_due (run xcm g) in let b = steps_due (still_to_run g) g in omega (arith, a, b)
 
 -- ---- the end of a run sends nothing
-last_same : (m : Machine) (o : Option XcmError) → channels_of (left_after xcm refund_surplus m o) ≡ channels_of m
-last_same m None = ap (λ (l : Instruction-F Instruction). channels_of (done l m)) (out-roll-Instruction Instruction-F.RefundSurplus) ∙ refund_same m (refund_now m)
-last_same m (Some e) = refl
+end_same : (m : Machine) (c : HostCall) (t : Midway) → Asks Instruction-F.RefundSurplus m t c → (after c t).part.channels ≡ t.part.channels
+end_same m (HostCall.TransferOut list from dest program) t asks = absurd (cc asks.2)
+end_same m (HostCall.DepositOut dest program) t asks = absurd (cc asks.1.1)
+end_same m (HostCall.Ship Way.Withdrawal dest program) t asks = absurd (cc asks.1.1)
+end_same m (HostCall.Ship Way.Teleport dest program) t asks = absurd (cc asks.1.1)
+end_same m (HostCall.Respond info answer querier) t asks = absurd asks.2
+end_same m _ t asks = refl
 
-rest_same : (r : Registers) (p : ChainPart) (b : Bool) → (if b then p else trapped p r.holding (owner_of r)).channels ≡ p.channels
-unfolding trapped
-rest_same r p true = refl
-rest_same r p false = refl
-
-told_same : (p : ChainPart) (e : Event) → (told p e).channels ≡ p.channels
-unfolding told
-told_same p e = refl
-
-settled_same : (p : ChainPart) → (settled p).channels ≡ p.channels
-unfolding settled
-settled_same p = refl
+sends_none : (cs : List Outgoing) → IsKeptAtEnd (λ (t : Midway). t.part.channels ≡ cs)
+sends_none cs = record { closing = λ m t c k asks from ok h. end_same m c t asks ∙ h; closed = λ t r holding origin h. h }
 
 pub finished_same : (m : Machine) → (finished xcm m).channels ≡ channels_of m
-finished_same m =
-    let last = refunded_last xcm m in
-    rest_same last.regs (settled (end_told last)) (nat_eq (length (rows last.regs.holding)) 0)
-    ∙ settled_same (end_told last) ∙ told_same last.part (end_event last.regs) ∙ last_same m (refusal_of refund_surplus m)
+finished_same m = (finished_kept (λ (t : Midway). t.part.channels ≡ channels_of m) (sends_none (channels_of m)) m refl).kept
 
 -- ---- admission changes a limit alone
 sends-with_limit : (limit : WeightLimit) (l : Instruction-F Instruction) → sending (with_limit limit l) + sends_inside (inner (with_limit limit l)) ≡ sending l + sends_inside (inner l)
