@@ -1,133 +1,187 @@
--- What an instruction leaves with a frame is what it leaves, framed.
-use Rattle.std.proofs.Common.{◌≡◌, ℕ, Bool, true, false, List, Option, Some, None, refl, sym, ap, ◌∙◌, subst}
-use Rattle.std.specs.Prelude.{if◌then◌else◌}
+-- What an instruction asks of a chain, what it refuses and what it leaves don't hang on a frame, where no send on the frame's channel answers
+-- Transport.
+use Rattle.std.proofs.Common.{◌≡◌, ℕ, Bool, true, false, List, [], ◌∷◌, ◌++◌, length, Option, Some, None, inl, inr, ⊎_elim, refl, sym, ap, ◌∙◌, subst}
+use Rattle.std.specs.Prelude.{nat_le, is_some}
+use Rattle.std.specs.Option.{option_map_or}
 use Rattle.chain_ids.specs.declared.chain.ChainId.{ChainId}
 use Rattle.locations.specs.declared.relative.Location.{Location}
+use Rattle.message_parts.specs.declared.error.XcmError.{XcmError}
+use Rattle.message_parts.specs.declared.error.XcmError.TheVariants as error
 use Rattle.message_parts.specs.declared.query.QueryInfo.{QueryInfo}
 use Rattle.message_parts.specs.declared.query.Response.{Response}
-use Rattle.message_parts.specs.declared.weight.WeightLimit.{WeightLimit}
-use Rattle.message_parts.specs.declared.weight.WeightLimit.TheVariants.{Unlimited, Limited}
 use Rattle.asset_lists.specs.declared.units.Asset.{Asset}
-use Rattle.asset_lists.specs.declared.filters.Filter.TheVariants.{Definite}
-use Rattle.asset_bundles.specs.Bundles.{Bundle, bundle_of}
-use Rattle.asset_bundles.specs.Joins.{Joined}
+use Rattle.asset_lists.specs.declared.filters.Filter.{Filter}
+use Rattle.asset_bundles.specs.Bundles.{Bundle}
 use Rattle.asset_bundles.specs.declared.shipment.Way.{Way}
+use Rattle.trust_tables.specs.Trust.{is_location_of}
 use Rattle.xcm_program.specs.declared.instruction.Instruction.{Instruction}
 use Rattle.xcm_program.specs.declared.instruction.Instruction.TheOpen.{Instruction-F}
+use Rattle.channel_parts.specs.declared.cargo.Cargo.{Cargo}
+use Rattle.channel_parts.specs.declared.channel.Channel.{Channel}
+use Rattle.channel_parts.specs.Channels.{Outgoing}
+use Rattle.exec_base.specs.declared.registers.Registers.{Registers}
+use Rattle.exec_base.specs.declared.settings.Settings.{Settings}
 use Rattle.exec_base.specs.Part.{ChainPart}
-use Rattle.exec_base.specs.Host.{withdrawn, received, transferred, transferred_out, deposited_out, shipped, answered, bought, unspent, refunded, refund_goods, joined, claimed, fee_to, fee_held, fee_kept, fee_drawn}
+use Rattle.exec_base.specs.Sending as sending_to
+use Rattle.exec_base.specs.Sending.{or_else}
+use Rattle.exec_base.specs.Host.{withdraw_refusal, receive_refusal, deposit_refusal, transfer_refusal, claim_refusal, buy_refusal, unspent, refund_goods, querier_seen, fee_to, fee_held, fee_taken, fee_kept, fee_drawn, parked, told, trapped, settled}
 use Rattle.exec_run.specs.Machine.{Machine, machine}
-use Rattle.exec_rules.specs.Holdings.{at_origin, with_holding, holding_more, holding_left, holding_paid, taken_of, payment_of, not_refunded, buying_done, refund_now, refund_done}
-use Rattle.exec_rules.specs.Fees.{after_fee, keeping_fee, done_around, done_sending}
-use Rattle.exec_rules.specs.Reports.{report_done, pallets_of, reported_list, holding_report_done}
-use Rattle.exec_rules.specs.Programs.{with_registers}
-use Rattle.exec_rules.specs.Origins.{descended}
-use Rattle.exec_rules.specs.Instructions.{done}
-use Rattle.independence.proofs.Channels.{IsThere}
-use Rattle.independence.proofs.Calls.{framed, joined_framed, burnt_framed, bought_framed, refunded_framed, claimed_framed, answered_framed, withdrawn_framed, received_framed, deposited_framed, transferred_framed, transferred_out_framed, deposited_out_framed, shipped_framed, responded_framed, fee_to_framed}
-use Rattle.independence.proofs.Refusals.{framed_machine, origin_framed, fee_framed}
+use Rattle.exec_rules.specs.Fees.{after_fee}
+use Rattle.exec_rules.specs.Reports.{reported_list}
+use Rattle.exec_rules.specs.Instructions.{refused, done}
+use Rattle.exec_calls.specs.Calls.{Midway, between, here, HostCall, why_not, after, effect, after_all, refusal_along, for_origin, around, charge, size_tests, report, holding_report, calls, turned, turned_at}
+use Rattle.exec_calls.specs.Footprints.{part_is}
+use Rattle.exec_calls.specs.CallLaws.{refused_is, done_is}
+use Rattle.exec_calls.specs.Reasons.{IsFrom, IsReport, shipping, Asks, AreAsked}
+use Rattle.exec_calls.specs.ReasonLaws.{from_itself, from_after, asked}
+use Rattle.independence.specs.Freedom.{sent_to, sends_on}
+use Rattle.independence.proofs.Channels.{IsThere, IsQuiet, read_popped, found_sent}
+use Rattle.independence.proofs.Keeping.{View, with_sent, call_kept}
+use Rattle.independence.proofs.Calls.{framed, joined_framed, burnt_framed, bought_framed, refunded_framed, claimed_framed, answered_framed, withdrawn_framed, received_framed, deposited_framed, transferred_framed, transferred_out_framed, deposited_out_framed, shipped_framed, responded_framed, told_framed, trapped_framed, settled_framed, fee_to_framed, querier_framed}
+use Rattle.independence.proofs.Refusals.{or_else_same, framed_machine, fee_framed, here_to, transfer_out_refused, deposit_out_refused, ship_refused, respond_refused}
 
--- a fee that is taken leaves the channels
-if_channels : (b : Bool) (x y m : Machine) → x.part.channels ≡ m.part.channels → y.part.channels ≡ m.part.channels → (if b then x else y).part.channels ≡ m.part.channels
-if_channels true x y m h k = h
-if_channels false x y m h k = k
-
-origin_channels : (o : Option Location) (change : Location → Machine) (m : Machine) → ((who : Location) → (change who).part.channels ≡ m.part.channels) → (at_origin o change m).part.channels ≡ m.part.channels
-origin_channels None change m h = refl
-origin_channels (Some who) change m h = h who
-
-pub fee_channels : (m : Machine) (fee : Asset) → (after_fee m fee).part.channels ≡ m.part.channels
-unfolding fee_held fee_drawn
-fee_channels m fee = if_channels m.regs.fees_mode _ _ m (origin_channels m.regs.origin _ m (λ who. refl)) refl
+-- what a delivery finds on a channel, it finds behind a send
+finds_kept : (to : ChainId) (v : View) (dest : Location) (program : List Instruction) (cargo : Cargo) → IsThere to v.channels → IsThere to (with_sent dest program cargo v).channels
+finds_kept to v dest program cargo there = λ e. there (sym (found_sent _ to program cargo v.channels there) ∙ e)
 
 module _ (to : ChainId) (lost : Bundle) where
-  -- ---- the fee of sending
-  kept_framed : (m : Machine) → keeping_fee (framed_machine to lost m) ≡ framed_machine to lost (keeping_fee m)
-  unfolding fee_kept
-  kept_framed m = refl
+  abbrev frame : Midway → Midway
+  frame t = record t { part = framed to lost t.part }
 
-  around_framed : (o : Option Asset) (m : Machine) (change : Machine → Machine) → IsThere to m.part.channels
-      → ((k : Machine) → IsThere to k.part.channels → change (framed_machine to lost k) ≡ framed_machine to lost (change k))
-      → done_around o (framed_machine to lost m) change ≡ framed_machine to lost (done_around o m change)
-  around_framed None m change there h = h m there
-  around_framed (Some fee) m change there h =
-      ap (λ (k : Machine). keeping_fee (change k)) (fee_framed to lost m fee)
-      ∙ ap (λ (k : Machine). keeping_fee k) (h (after_fee m fee) (subst (IsThere to) (sym (fee_channels m fee)) there))
-      ∙ kept_framed (change (after_fee m fee))
+  -- ---- what is asked
+  tests_framed : (m : Machine) (info : QueryInfo) (b : Bool) → size_tests (framed_machine to lost m) info b ≡ size_tests m info b
+  tests_framed m info true = refl
+  tests_framed m info false = λ i.
+      HostCall.Check (is_some (querier_framed to lost m.part info.destination m.regs.origin i)) error.ReanchorFailed
+      ∷ HostCall.Check (read_popped (λ (c : Channel). is_location_of m.part.site.chain c.to info.destination) to (λ (o : Option Outgoing). is_some o) (λ c. refl) m.part.channels i) error.Unroutable
+      ∷ HostCall.Check false error.ExceedsMaxMessageSize ∷ []
 
-  sending_framed : (dest : Location) (m : Machine) (change : Machine → Machine) → IsThere to m.part.channels
-      → ((k : Machine) → IsThere to k.part.channels → change (framed_machine to lost k) ≡ framed_machine to lost (change k))
-      → done_sending (framed_machine to lost m) dest change ≡ framed_machine to lost (done_sending m dest change)
-  sending_framed dest m change there h =
-      ap (λ o. done_around o (framed_machine to lost m) change) (fee_to_framed to lost m.part dest) ∙ around_framed (fee_to m.part dest) m change there h
+  report_framed : (m : Machine) (info : QueryInfo) (o : Option (List Asset)) → holding_report (framed_machine to lost m) info o ≡ holding_report m info o
+  report_framed m info None = refl
+  report_framed m info (Some list) = ap (λ (cs : List HostCall). cs ++ report m info (Response.Assets list)) (tests_framed m info (nat_le (length list) 20))
 
-  -- ---- the holding
-  more_framed : (m : Machine) (p q : ChainPart) (goods : Bundle) → q ≡ framed to lost p → holding_more (framed_machine to lost m) q goods ≡ framed_machine to lost (holding_more m p goods)
-  more_framed m p q goods same =
-      ap (λ (p : ChainPart). machine (with_holding m.regs (Joined m.regs.holding goods)) (joined p m.regs.holding goods)) same
-      ∙ ap (machine (with_holding m.regs (Joined m.regs.holding goods))) (joined_framed to lost p m.regs.holding goods)
+  around_framed : (o : Option Asset) (m : Machine) (inside : Machine → List HostCall) → ((n : Machine) → inside (framed_machine to lost n) ≡ inside n) → around o (framed_machine to lost m) inside ≡ around o m inside
+  around_framed None m inside same = same m
+  around_framed (Some fee) m inside same =
+      ap (λ (n : Machine). charge m fee ++ (inside n ++ HostCall.KeepFee ∷ [])) (fee_framed to lost m fee) ∙ ap (λ (cs : List HostCall). charge m fee ++ (cs ++ HostCall.KeepFee ∷ [])) (same (after_fee m fee))
 
-  buying_framed : (m : Machine) (fees : Asset) (limit : WeightLimit) → buying_done (framed_machine to lost m) fees limit ≡ framed_machine to lost (buying_done m fees limit)
-  unfolding unspent
-  buying_framed m fees Unlimited = refl
-  buying_framed m fees (Limited w) =
-      more_framed (holding_paid m fees) (bought m.part w (payment_of fees)) (bought (framed to lost m.part) w (payment_of fees)) (unspent m.part w (payment_of fees)) (bought_framed to lost m.part w (payment_of fees))
+  sending_framed : (dest : Location) (m : Machine) (inside : Machine → List HostCall) → ((n : Machine) → inside (framed_machine to lost n) ≡ inside n)
+      → around (fee_to (framed to lost m.part) dest) (framed_machine to lost m) inside ≡ around (fee_to m.part dest) m inside
+  sending_framed dest m inside same = ap (λ o. around o (framed_machine to lost m) inside) (fee_to_framed to lost m.part dest) ∙ around_framed (fee_to m.part dest) m inside same
 
-  refund_framed : (m : Machine) (o : Option (Location × ℕ)) → refund_done (framed_machine to lost m) o ≡ framed_machine to lost (refund_done m o)
-  unfolding refund_goods
-  refund_framed m None = refl
-  refund_framed m (Some given) =
-      ap (λ (k : Machine). machine (record k.regs { refunded = m.regs.surplus }) k.part)
-      (more_framed m (refunded m.part (not_refunded m)) (refunded (framed to lost m.part) (not_refunded m)) (refund_goods m.part (not_refunded m)) (refunded_framed to lost m.part (not_refunded m)))
+  calls_framed : (l : Instruction-F Instruction) (m : Machine) → calls l (framed_machine to lost m) ≡ calls l m
+  calls_framed (Instruction-F.TransferReserveAsset list dest program) m = by_origin m.regs.origin
+    where
+      by_origin : (o : Option Location) → for_origin o (λ who. around (fee_to (framed to lost m.part) dest) (framed_machine to lost m) (λ n. HostCall.TransferOut list who dest program ∷ []))
+          ≡ for_origin o (λ who. around (fee_to m.part dest) m (λ n. HostCall.TransferOut list who dest program ∷ []))
+      by_origin None = refl
+      by_origin (Some who) = sending_framed dest m (λ n. HostCall.TransferOut list who dest program ∷ []) (λ n. refl)
+  calls_framed (Instruction-F.DepositReserveAsset filter dest program) m = sending_framed dest m _ (λ n. refl)
+  calls_framed (Instruction-F.InitiateReserveWithdraw filter dest program) m = sending_framed dest m _ (λ n. refl)
+  calls_framed (Instruction-F.InitiateTeleport filter dest program) m = sending_framed dest m _ (λ n. refl)
+  calls_framed (Instruction-F.ReportError info) m = sending_framed info.destination m _ (λ n. refl)
+  calls_framed (Instruction-F.ReportHolding info filter) m = sending_framed info.destination m _ (λ n. report_framed n info (reported_list n info filter))
+  calls_framed (Instruction-F.QueryPallet name info) m = sending_framed info.destination m _ (λ n. refl)
+  calls_framed (Instruction-F.ReportTransactStatus info) m = sending_framed info.destination m _ (λ n. refl)
+  calls_framed _ m = refl
 
-  -- ---- reports
-  respond_framed : (m : Machine) (info : QueryInfo) (response : Response) → IsThere to m.part.channels → report_done (framed_machine to lost m) info response ≡ framed_machine to lost (report_done m info response)
-  respond_framed m info response there = ap (machine m.regs) (responded_framed to lost m.part info response m.regs.origin there)
+  -- ---- what a call leaves
+  effect_framed : (c : HostCall) (t : Midway) → IsThere to t.part.channels → effect c (frame t) ≡ framed to lost (effect c t)
+  unfolding fee_held fee_taken fee_kept fee_drawn parked
+  effect_framed HostCall.Join t there = joined_framed to lost t.part t.regs.holding t.goods
+  effect_framed (HostCall.Withdraw list who) t there = withdrawn_framed to lost t.part list who
+  effect_framed (HostCall.Receive list from teleport) t there = received_framed to lost t.part list teleport
+  effect_framed (HostCall.Claim list who) t there = claimed_framed to lost t.part list who
+  effect_framed (HostCall.Refund w) t there = refunded_framed to lost t.part w
+  effect_framed (HostCall.Deposit who) t there = deposited_framed to lost t.part t.goods who
+  effect_framed HostCall.Burn t there = burnt_framed to lost t.part t.goods
+  effect_framed (HostCall.Buy w) t there = bought_framed to lost t.part w t.goods
+  effect_framed (HostCall.DepositOut dest program) t there = deposited_out_framed to lost t.part t.goods dest program there
+  effect_framed (HostCall.Ship way dest program) t there = shipped_framed to lost t.part t.goods way dest program there
+  effect_framed (HostCall.Transfer list from who) t there = transferred_framed to lost t.part list from who
+  effect_framed (HostCall.TransferOut list from dest program) t there = transferred_out_framed to lost t.part list from dest program there
+  effect_framed (HostCall.Respond info answer querier) t there = responded_framed to lost t.part info answer querier there
+  effect_framed (HostCall.Answer from query) t there = answered_framed to lost t.part from query
+  effect_framed (HostCall.Tell e) t there = told_framed to lost t.part e
+  effect_framed HostCall.Settle t there = settled_framed to lost t.part
+  effect_framed (HostCall.Trap who) t there = trapped_framed to lost t.part t.goods who
+  effect_framed _ t there = refl
 
-  report_framed : (m : Machine) (info : QueryInfo) (o : Option (List Asset)) → IsThere to m.part.channels → holding_report_done (framed_machine to lost m) info o ≡ framed_machine to lost (holding_report_done m info o)
-  report_framed m info None there = refl
-  report_framed m info (Some list) there = respond_framed m info (Response.Assets list) there
+  -- beside the part it leaves the same
+  rest_framed : (c : HostCall) (t : Midway) → after c (frame t) ≡ record (after c t) { part = (after c (frame t)).part }
+  unfolding unspent refund_goods
+  rest_framed (HostCall.Take filter) t = refl
+  rest_framed _ t = refl
 
-  -- ---- one instruction
+  pub after_framed : (c : HostCall) (t : Midway) → IsThere to t.part.channels → after c (frame t) ≡ frame (after c t)
+  after_framed c t there =
+      rest_framed c t
+      ∙ ap (λ (p : ChainPart). record (after c t) { part = p }) (part_is c (frame t) ∙ effect_framed c t there ∙ sym (ap (framed to lost) (part_is c t)))
+
+  -- ---- what is still found there
+  stays_there : (c : HostCall) (t : Midway) → IsThere to t.part.channels → IsThere to (after c t).part.channels
+  stays_there c t there = call_kept (λ (v : View). IsThere to v.channels) (finds_kept to) c t there
+
+  along_framed : (cs : List HostCall) (t : Midway) → IsThere to t.part.channels → after_all cs (frame t) ≡ frame (after_all cs t)
+  along_framed [] t there = refl
+  along_framed (c ∷ cs) t there = ap (after_all cs) (after_framed c t there) ∙ along_framed cs (after c t) (stays_there c t there)
+
+  turned_framed : (l : Instruction-F Instruction) (m : Machine) (r : Registers) → turned l (framed_machine to lost m) r ≡ turned l m r
+  turned_framed Instruction-F.RefundSurplus m r = refl
+  turned_framed _ m r = refl
+
   pub done_framed : (l : Instruction-F Instruction) (m : Machine) → IsThere to m.part.channels → done l (framed_machine to lost m) ≡ framed_machine to lost (done l m)
-  done_framed (Instruction-F.WithdrawAsset list) m there =
-      origin_framed to lost m.regs.origin (λ who. holding_more m (withdrawn m.part list who) (bundle_of list)) _ m
-      (λ who. more_framed m (withdrawn m.part list who) (withdrawn (framed to lost m.part) list who) (bundle_of list) (withdrawn_framed to lost m.part list who))
-  done_framed (Instruction-F.ReserveAssetDeposited list) m there =
-      more_framed m (received m.part list false) (received (framed to lost m.part) list false) (bundle_of list) (received_framed to lost m.part list false)
-  done_framed (Instruction-F.ReceiveTeleportedAsset list) m there =
-      more_framed m (received m.part list true) (received (framed to lost m.part) list true) (bundle_of list) (received_framed to lost m.part list true)
-  done_framed (Instruction-F.ClaimAsset list ticket) m there =
-      origin_framed to lost m.regs.origin (λ who. holding_more m (claimed m.part list who) (bundle_of list)) _ m
-      (λ who. more_framed m (claimed m.part list who) (claimed (framed to lost m.part) list who) (bundle_of list) (claimed_framed to lost m.part list who))
-  done_framed (Instruction-F.DepositAsset taken who) m there = ap (holding_left m taken) (deposited_framed to lost m.part (taken_of m taken) who)
-  done_framed (Instruction-F.BurnAsset list) m there = ap (holding_left m (Definite list)) (burnt_framed to lost m.part (taken_of m (Definite list)))
-  done_framed (Instruction-F.BuyExecution fees limit) m there = buying_framed m fees limit
-  done_framed Instruction-F.RefundSurplus m there = refund_framed m (refund_now m)
-  done_framed (Instruction-F.TransferAsset list who) m there =
-      origin_framed to lost m.regs.origin (λ from. machine m.regs (transferred m.part list from who)) _ m (λ from. ap (machine m.regs) (transferred_framed to lost m.part list from who))
-  done_framed (Instruction-F.TransferReserveAsset list dest program) m there =
-      origin_framed to lost m.regs.origin (λ who. done_sending m dest (λ n. machine n.regs (transferred_out n.part list who dest program))) _ m
-      (λ who. sending_framed dest m (λ n. machine n.regs (transferred_out n.part list who dest program)) there (λ k t. ap (machine k.regs) (transferred_out_framed to lost k.part list who dest program t)))
-  done_framed (Instruction-F.DepositReserveAsset taken dest program) m there =
-      sending_framed dest m (λ n. holding_left n taken (deposited_out n.part (taken_of n taken) dest program)) there
-      (λ k t. ap (holding_left k taken) (deposited_out_framed to lost k.part (taken_of k taken) dest program t))
-  done_framed (Instruction-F.InitiateReserveWithdraw taken dest program) m there =
-      sending_framed dest m (λ n. holding_left n taken (shipped n.part (taken_of n taken) Way.Withdrawal dest program)) there
-      (λ k t. ap (holding_left k taken) (shipped_framed to lost k.part (taken_of k taken) Way.Withdrawal dest program t))
-  done_framed (Instruction-F.InitiateTeleport taken dest program) m there =
-      sending_framed dest m (λ n. holding_left n taken (shipped n.part (taken_of n taken) Way.Teleport dest program)) there
-      (λ k t. ap (holding_left k taken) (shipped_framed to lost k.part (taken_of k taken) Way.Teleport dest program t))
-  done_framed (Instruction-F.ReportError info) m there =
-      sending_framed info.destination m (λ n. report_done n info (Response.ExecutionResult n.regs.error)) there (λ k t. respond_framed k info (Response.ExecutionResult k.regs.error) t)
-  done_framed (Instruction-F.ReportHolding info taken) m there =
-      sending_framed info.destination m (λ n. holding_report_done n info (reported_list n info taken)) there (λ k t. report_framed k info (reported_list k info taken) t)
-  done_framed (Instruction-F.QueryPallet name info) m there =
-      sending_framed info.destination m (λ n. report_done n info (Response.PalletsInfo (pallets_of n.part name))) there (λ k t. respond_framed k info (Response.PalletsInfo (pallets_of k.part name)) t)
-  done_framed (Instruction-F.ReportTransactStatus info) m there =
-      sending_framed info.destination m (λ n. report_done n info (Response.DispatchResult n.regs.status)) there (λ k t. respond_framed k info (Response.DispatchResult k.regs.status) t)
-  done_framed (Instruction-F.QueryResponse query answer weight querier) m there =
-      origin_framed to lost m.regs.origin (λ who. machine m.regs (answered m.part who query)) _ m (λ who. ap (machine m.regs) (answered_framed to lost m.part who query))
-  done_framed (Instruction-F.DescendOrigin path) m there =
-      origin_framed to lost m.regs.origin (λ who. with_registers m (record m.regs { origin = Some (descended who path) })) _ m (λ who. refl)
-  done_framed l m there = refl
+  done_framed l m there = ap here
+      (done_is l (framed_machine to lost m)
+      ∙ ap (λ (cs : List HostCall). turned_at l (framed_machine to lost m) (after_all cs (frame (between m)))) (calls_framed l m)
+      ∙ ap (turned_at l (framed_machine to lost m)) (along_framed (calls l m) (between m) there)
+      ∙ ap (λ (r : Registers). let t : Midway = frame (after_all (calls l m) (between m)) in let u : Midway = record t { regs = r } in u) (turned_framed l m (after_all (calls l m) (between m)).regs)
+      ∙ sym (ap frame (done_is l m)))
+
+  -- ---- what is refused
+  not_quiet : (on : Bool) (a b : Option XcmError) → IsQuiet on (or_else a b) → IsQuiet on a
+  not_quiet on None b quiet is e = absurd cc
+  not_quiet on (Some x) b quiet is e = quiet is e
+
+  module _ (l : Instruction-F Instruction) (m : Machine) where
+    abbrev on : Bool
+    on = sends_on m.part.site.chain to l
+
+    report_goes : (k : Instruction-F Instruction) (info : QueryInfo) → IsReport k info → sent_to k ≡ Some info.destination
+    report_goes (Instruction-F.ReportError i) info is = ap (λ (q : QueryInfo). Some q.destination) is
+    report_goes (Instruction-F.ReportHolding i filter) info is = ap (λ (q : QueryInfo). Some q.destination) is
+    report_goes (Instruction-F.QueryPallet name i) info is = ap (λ (q : QueryInfo). Some q.destination) is
+    report_goes (Instruction-F.ReportTransactStatus i) info is = ap (λ (q : QueryInfo). Some q.destination) is
+    report_goes k info is = absurd is
+
+    ships_to : (way : Way) (filter : Filter) (dest : Location) (program : List Instruction) → sent_to (shipping way filter dest program) ≡ Some dest
+    ships_to Way.Withdrawal filter dest program = refl
+    ships_to Way.Teleport filter dest program = refl
+
+    quiet_at : (t : Midway) (dest : Location) (o : Option XcmError) → IsFrom m t → sent_to l ≡ Some dest → IsQuiet on o → IsQuiet (here_to to lost t.part dest) o
+    quiet_at t dest o from goes quiet = subst (λ (b : Bool). IsQuiet b o)
+        (sym (ap (λ (s : Settings). is_location_of s.site.chain to dest) from.settings ∙ sym (ap (λ (o : Option Location). option_map_or (λ (d : Location). is_location_of m.part.site.chain to d) o false) goes))) quiet
+
+    why_framed : (c : HostCall) (t : Midway) → Asks l m t c → IsFrom m t → IsQuiet on (why_not c t) → why_not c (frame t) ≡ why_not c t
+    unfolding withdraw_refusal receive_refusal deposit_refusal transfer_refusal claim_refusal buy_refusal
+    why_framed (HostCall.TransferOut list from dest program) t asks at quiet = transfer_out_refused to lost t.part list from dest program (quiet_at t dest _ at (ap sent_to asks.2) quiet)
+    why_framed (HostCall.DepositOut dest program) t asks at quiet = deposit_out_refused to lost t.part t.goods dest program (quiet_at t dest _ at (ap sent_to asks.1.1) quiet)
+    why_framed (HostCall.Ship way dest program) t asks at quiet = ship_refused to lost t.part t.goods way dest program (quiet_at t dest _ at (ap sent_to asks.1.1 ∙ ships_to way asks.1.0 dest program) quiet)
+    why_framed (HostCall.Respond info answer querier) t asks at quiet = respond_refused to lost t.part info answer querier (quiet_at t info.destination _ at (report_goes l info asks.2) quiet)
+    why_framed (HostCall.Receive list None teleport) t asks at quiet = refl
+    why_framed (HostCall.Receive list (Some who) teleport) t asks at quiet = refl
+    why_framed _ t asks at quiet = refl
+
+    refusals_framed : (cs : List HostCall) (t : Midway) → AreAsked l m cs t → IsFrom m t → IsThere to t.part.channels → IsQuiet on (refusal_along cs t) → refusal_along cs (frame t) ≡ refusal_along cs t
+    refusals_framed [] t asks at there quiet = refl
+    refusals_framed (c ∷ cs) t asks at there quiet =
+        ap (λ (o : Option XcmError). or_else o (refusal_along cs (after c (frame t)))) (why_framed c t asks.0 at (not_quiet on (why_not c t) (refusal_along cs (after c t)) quiet))
+        ∙ or_else_same on (why_not c t) (refusal_along cs (after c t)) (refusal_along cs (after c (frame t)))
+        (λ q. ap (refusal_along cs) (after_framed c t there) ∙ refusals_framed cs (after c t) asks.1 (from_after c m t at) (stays_there c t there) q) quiet
+
+    pub refused_framed : IsThere to m.part.channels → IsQuiet on (refused l m) → refused l (framed_machine to lost m) ≡ refused l m
+    refused_framed there quiet =
+        refused_is l (framed_machine to lost m)
+        ∙ ap (λ (cs : List HostCall). refusal_along cs (frame (between m))) (calls_framed l m)
+        ∙ refusals_framed (calls l m) (between m) (asked l m) (from_itself m) there (subst (IsQuiet on) (refused_is l m) quiet)
+        ∙ sym (refused_is l m)

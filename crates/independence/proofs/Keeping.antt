@@ -72,7 +72,7 @@ module _ (K : View → Type 0) (keeps : (v : View) (dest : Location) (program : 
       (λ seen. sent_kept p info.destination (report_program info response seen) Nothing h)
 
   -- ---- a run
-  call_kept : (c : HostCall) (t : Midway) → K (view_of t.part) → K (view_of (after c t).part)
+  pub call_kept : (c : HostCall) (t : Midway) → K (view_of t.part) → K (view_of (after c t).part)
   call_kept (HostCall.TransferOut list from dest program) t h = subst (λ (p : ChainPart). K (view_of p)) (sym (part_is (HostCall.TransferOut list from dest program) t)) (transferred_kept t.part list from dest program h)
   call_kept (HostCall.DepositOut dest program) t h = subst (λ (p : ChainPart). K (view_of p)) (sym (part_is (HostCall.DepositOut dest program) t)) (deposited_kept t.part t.goods dest program h)
   call_kept (HostCall.Ship way dest program) t h = subst (λ (p : ChainPart). K (view_of p)) (sym (part_is (HostCall.Ship way dest program) t)) (shipped_kept t.part t.goods way dest program h)

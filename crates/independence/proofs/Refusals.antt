@@ -1,4 +1,4 @@
--- What an instruction refuses doesn't hang on a frame, where no send on the frame's channel answers Transport.
+-- What a call of a chain's host refuses doesn't hang on a frame, where no send on the frame's channel answers Transport.
 use Rattle.std.proofs.Common.{◌≡◌, ℕ, Bool, true, false, List, length, Option, Some, None, refl, sym, ap, ◌∙◌}
 use Rattle.std.specs.Prelude.{if◌then◌else◌, nat_le, is_some}
 use Rattle.chain_ids.specs.declared.chain.ChainId.{ChainId}
@@ -33,26 +33,9 @@ use Rattle.independence.proofs.Channels.{IsQuiet, read_popped, refused_popped}
 use Rattle.independence.proofs.Calls.{framed, querier_framed, fee_to_framed}
 
 -- ---- refusals that come one after the other
-or_else_same : (on : Bool) (a b c : Option XcmError) → (IsQuiet on b → c ≡ b) → IsQuiet on (or_else a b) → or_else a c ≡ or_else a b
+pub or_else_same : (on : Bool) (a b c : Option XcmError) → (IsQuiet on b → c ≡ b) → IsQuiet on (or_else a b) → or_else a c ≡ or_else a b
 or_else_same on None b c h quiet = h quiet
 or_else_same on (Some e) b c h quiet = refl
-
-with_origin_same : (on : Bool) (o : Option Location) (f g : Location → Option XcmError) → ((who : Location) → IsQuiet on (f who) → g who ≡ f who) → IsQuiet on (with_origin o f) → with_origin o g ≡ with_origin o f
-with_origin_same on None f g h quiet = refl
-with_origin_same on (Some who) f g h quiet = h who quiet
-
--- ---- the place of a chain that a fee was taken of
-if_site : (b : Bool) (x y m : Machine) → x.part.site ≡ m.part.site → y.part.site ≡ m.part.site → (if b then x else y).part.site ≡ m.part.site
-if_site true x y m h k = h
-if_site false x y m h k = k
-
-origin_site : (o : Option Location) (change : Location → Machine) (m : Machine) → ((who : Location) → (change who).part.site ≡ m.part.site) → (at_origin o change m).part.site ≡ m.part.site
-origin_site None change m h = refl
-origin_site (Some who) change m h = h who
-
-pub fee_site : (m : Machine) (fee : Asset) → (after_fee m fee).part.site ≡ m.part.site
-unfolding fee_held fee_drawn
-fee_site m fee = if_site m.regs.fees_mode _ _ m (origin_site m.regs.origin _ m (λ who. refl)) refl
 
 module _ (to : ChainId) (lost : Bundle) where
   abbrev pub framed_machine : Machine → Machine
@@ -63,7 +46,7 @@ module _ (to : ChainId) (lost : Bundle) where
   if_framed true x y u v h k = h
   if_framed false x y u v h k = k
 
-  pub origin_framed : (o : Option Location) (f g : Location → Machine) (m : Machine) → ((who : Location) → g who ≡ framed_machine (f who)) → at_origin o g (framed_machine m) ≡ framed_machine (at_origin o f m)
+  origin_framed : (o : Option Location) (f g : Location → Machine) (m : Machine) → ((who : Location) → g who ≡ framed_machine (f who)) → at_origin o g (framed_machine m) ≡ framed_machine (at_origin o f m)
   origin_framed None f g m h = refl
   origin_framed (Some who) f g m h = h who
 
@@ -71,29 +54,8 @@ module _ (to : ChainId) (lost : Bundle) where
   unfolding fee_held fee_drawn
   fee_framed m fee = if_framed m.regs.fees_mode _ _ _ _ (origin_framed m.regs.origin _ _ m (λ who. refl)) refl
 
-  fee_refused : (m : Machine) (fee : Asset) → fee_refusal (framed_machine m) fee ≡ fee_refusal m fee
-  unfolding withdraw_refusal
-  fee_refused m fee = refl
-
-  -- ---- around a send
-  around_refused : (dest : Location) (o : Option Asset) (m : Machine) (rule : Machine → Option XcmError)
-      → ((k : Machine) → IsQuiet (is_location_of k.part.site.chain to dest) (rule k) → rule (framed_machine k) ≡ rule k)
-      → IsQuiet (is_location_of m.part.site.chain to dest) (refused_around o m rule) → refused_around o (framed_machine m) rule ≡ refused_around o m rule
-  around_refused dest None m rule h quiet = h m quiet
-  around_refused dest (Some fee) m rule h quiet =
-      ap (λ a. or_else a (rule (after_fee (framed_machine m) fee))) (fee_refused m fee)
-      ∙ ap (λ (k : Machine). or_else (fee_refusal m fee) (rule k)) (fee_framed m fee)
-      ∙ or_else_same (is_location_of m.part.site.chain to dest) (fee_refusal m fee) (rule (after_fee m fee)) (rule (framed_machine (after_fee m fee)))
-      (λ q. h (after_fee m fee) (λ on. q (sym (ap (λ (s : Site). is_location_of s.chain to dest) (fee_site m fee)) ∙ on))) quiet
-
-  sending_refused : (dest : Location) (m : Machine) (rule : Machine → Option XcmError)
-      → ((k : Machine) → IsQuiet (is_location_of k.part.site.chain to dest) (rule k) → rule (framed_machine k) ≡ rule k)
-      → IsQuiet (is_location_of m.part.site.chain to dest) (refused_sending m dest rule) → refused_sending (framed_machine m) dest rule ≡ refused_sending m dest rule
-  sending_refused dest m rule h quiet =
-      ap (λ o. refused_around o (framed_machine m) rule) (fee_to_framed to lost m.part dest) ∙ around_refused dest (fee_to m.part dest) m rule h quiet
-
   -- ---- sends
-  abbrev here_to : ChainPart → Location → Bool
+  abbrev pub here_to : ChainPart → Location → Bool
   here_to p dest = is_location_of p.site.chain to dest
 
   send_refused : (p : ChainPart) (dest : Location) (few : Bool) (program : List Instruction) → IsQuiet (here_to p dest) (send_refusal p dest few program) → send_refusal (framed to lost p) dest few program ≡ send_refusal p dest few program
@@ -110,7 +72,7 @@ module _ (to : ChainId) (lost : Bundle) where
   unfolding transfer_refusal
   transfer_refused p list from who = refl
 
-  transfer_out_refused : (p : ChainPart) (list : List Asset) (from dest : Location) (program : List Instruction) → IsQuiet (here_to p dest) (transfer_out_refusal p list from dest program)
+  pub transfer_out_refused : (p : ChainPart) (list : List Asset) (from dest : Location) (program : List Instruction) → IsQuiet (here_to p dest) (transfer_out_refusal p list from dest program)
       → transfer_out_refusal (framed to lost p) list from dest program ≡ transfer_out_refusal p list from dest program
   unfolding transfer_out_refusal
   transfer_out_refused p list from dest program quiet =
@@ -121,14 +83,14 @@ module _ (to : ChainId) (lost : Bundle) where
   unfolding deposit_refusal
   deposit_refused p goods who = refl
 
-  deposit_out_refused : (p : ChainPart) (goods : Bundle) (dest : Location) (program : List Instruction) → IsQuiet (here_to p dest) (deposit_out_refusal p goods dest program)
+  pub deposit_out_refused : (p : ChainPart) (goods : Bundle) (dest : Location) (program : List Instruction) → IsQuiet (here_to p dest) (deposit_out_refusal p goods dest program)
       → deposit_out_refusal (framed to lost p) goods dest program ≡ deposit_out_refusal p goods dest program
   unfolding deposit_out_refusal
   deposit_out_refused p goods dest program quiet =
       ap (λ a. or_else a (listed_refusal (framed to lost p) dest (λ l. deposit_program l program) (seen_from p dest (held_assets goods)))) (deposit_refused p goods dest)
       ∙ or_else_same (here_to p dest) (deposit_refusal p goods dest) _ _ (listed_refused p dest (λ l. deposit_program l program) (seen_from p dest (held_assets goods))) quiet
 
-  ship_refused : (p : ChainPart) (goods : Bundle) (way : Way) (dest : Location) (program : List Instruction) → IsQuiet (here_to p dest) (ship_refusal p goods way dest program)
+  pub ship_refused : (p : ChainPart) (goods : Bundle) (way : Way) (dest : Location) (program : List Instruction) → IsQuiet (here_to p dest) (ship_refusal p goods way dest program)
       → ship_refusal (framed to lost p) goods way dest program ≡ ship_refusal p goods way dest program
   unfolding ship_refusal
   ship_refused p goods way dest program quiet =
@@ -143,59 +105,8 @@ module _ (to : ChainId) (lost : Bundle) where
   report_by p info response None quiet = refl
   report_by p info response (Some querier) quiet = send_refused p info.destination true (report_program info response querier) quiet
 
-  respond_refused : (p : ChainPart) (info : QueryInfo) (response : Response) (querier : Option Location) → IsQuiet (here_to p info.destination) (respond_refusal p info response querier)
+  pub respond_refused : (p : ChainPart) (info : QueryInfo) (response : Response) (querier : Option Location) → IsQuiet (here_to p info.destination) (respond_refusal p info response querier)
       → respond_refusal (framed to lost p) info response querier ≡ respond_refusal p info response querier
   unfolding respond_refusal
   respond_refused p info response querier quiet =
       ap (report_refusal (framed to lost p) info response) (querier_framed to lost p info.destination querier) ∙ report_by p info response (querier_seen p info.destination querier) quiet
-
-  too_many : (m : Machine) (info : QueryInfo) → too_many_refused (framed_machine m) info ≡ too_many_refused m info
-  too_many m info =
-      ap (λ o. unless (is_some o) error.ReanchorFailed (unless (is_some (sending_to.channel_to (framed to lost m.part) info.destination)) error.Unroutable (Some error.ExceedsMaxMessageSize)))
-      (querier_framed to lost m.part info.destination m.regs.origin)
-      ∙ ap (λ b. unless (is_some (querier_seen m.part info.destination m.regs.origin)) error.ReanchorFailed (unless b error.Unroutable (Some error.ExceedsMaxMessageSize)))
-      (read_popped (λ (c : Channel). is_location_of m.part.site.chain c.to info.destination) to (λ (o : Option Outgoing). is_some o) (λ c. refl) m.part.channels)
-
-  if_refused : (on b : Bool) (u v x y : Option XcmError) → (IsQuiet on u → x ≡ u) → y ≡ v → IsQuiet on (if b then u else v) → (if b then x else y) ≡ (if b then u else v)
-  if_refused on true u v x y h k quiet = h quiet
-  if_refused on false u v x y h k quiet = k
-
-  holding_report : (m : Machine) (info : QueryInfo) (o : Option (List Asset)) → IsQuiet (here_to m.part info.destination) (holding_report_refused m info o)
-      → holding_report_refused (framed_machine m) info o ≡ holding_report_refused m info o
-  holding_report m info None quiet = refl
-  holding_report m info (Some list) quiet =
-      if_refused (here_to m.part info.destination) (nat_le (length list) 20) _ _ _ _ (respond_refused m.part info (Response.Assets list) m.regs.origin) (too_many m info) quiet
-
-  -- ---- other rules that go by cases
-  buying_refused : (m : Machine) (fees : Asset) (limit : WeightLimit) → buying_refusal (framed_machine m) fees limit ≡ buying_refusal m fees limit
-  unfolding buy_refusal
-  buying_refused m fees Unlimited = refl
-  buying_refused m fees (Limited w) = refl
-
-  refund_refused : (m : Machine) (o : Option (Location × ℕ)) → refund_refusal (framed_machine m) o ≡ refund_refusal m o
-  refund_refused m None = refl
-  refund_refused m (Some given) = refl
-
-  -- ---- one instruction
-  pub refused_framed : (l : Instruction-F Instruction) (m : Machine) → IsQuiet (sends_on m.part.site.chain to l) (refused l m) → refused l (framed_machine m) ≡ refused l m
-  unfolding withdraw_refusal receive_refusal deposit_refusal transfer_refusal claim_refusal
-  refused_framed (Instruction-F.BuyExecution fees limit) m quiet = buying_refused m fees limit
-  refused_framed Instruction-F.RefundSurplus m quiet = refund_refused m (refund_now m)
-  refused_framed (Instruction-F.TransferReserveAsset list dest program) m quiet =
-      with_origin_same (here_to m.part dest) m.regs.origin _ _
-      (λ who q. sending_refused dest m (λ n. transfer_out_refusal n.part list who dest program) (λ k. transfer_out_refused k.part list who dest program) q) quiet
-  refused_framed (Instruction-F.DepositReserveAsset taken dest program) m quiet =
-      sending_refused dest m (λ n. deposit_out_refusal n.part (taken_of n taken) dest program) (λ k. deposit_out_refused k.part (taken_of k taken) dest program) quiet
-  refused_framed (Instruction-F.InitiateReserveWithdraw taken dest program) m quiet =
-      sending_refused dest m (λ n. ship_refusal n.part (taken_of n taken) Way.Withdrawal dest program) (λ k. ship_refused k.part (taken_of k taken) Way.Withdrawal dest program) quiet
-  refused_framed (Instruction-F.InitiateTeleport taken dest program) m quiet =
-      sending_refused dest m (λ n. ship_refusal n.part (taken_of n taken) Way.Teleport dest program) (λ k. ship_refused k.part (taken_of k taken) Way.Teleport dest program) quiet
-  refused_framed (Instruction-F.ReportError info) m quiet =
-      sending_refused info.destination m (λ n. report_refused n info (Response.ExecutionResult n.regs.error)) (λ k. respond_refused k.part info (Response.ExecutionResult k.regs.error) k.regs.origin) quiet
-  refused_framed (Instruction-F.ReportHolding info taken) m quiet =
-      sending_refused info.destination m (λ n. holding_report_refused n info (reported_list n info taken)) (λ k. holding_report k info (reported_list k info taken)) quiet
-  refused_framed (Instruction-F.QueryPallet name info) m quiet =
-      sending_refused info.destination m (λ n. report_refused n info (Response.PalletsInfo (pallets_of n.part name))) (λ k. respond_refused k.part info (Response.PalletsInfo (pallets_of k.part name)) k.regs.origin) quiet
-  refused_framed (Instruction-F.ReportTransactStatus info) m quiet =
-      sending_refused info.destination m (λ n. report_refused n info (Response.DispatchResult n.regs.status)) (λ k. respond_refused k.part info (Response.DispatchResult k.regs.status) k.regs.origin) quiet
-  refused_framed l m quiet = refl

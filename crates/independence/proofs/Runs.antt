@@ -32,8 +32,8 @@ use Rattle.independence.specs.Beside.{IsNotEmpty, RanBeside}
 use Rattle.independence.specs.Freedom.{sends_on, IsCalmAt, RunsCalmly}
 use Rattle.independence.proofs.Channels.{found_to, IsThere, found_sent}
 use Rattle.independence.proofs.Calls.{framed, told_framed, trapped_framed, settled_framed}
-use Rattle.independence.proofs.Refusals.{framed_machine, refused_framed}
-use Rattle.independence.proofs.Effects.{done_framed}
+use Rattle.independence.proofs.Refusals.{framed_machine}
+use Rattle.independence.proofs.Effects.{refused_framed, done_framed}
 use Rattle.independence.proofs.Keeping.{View, with_sent, next_kept, steps_kept, begin_kept, acted_kept}
 
 -- ---- what a delivery finds on a channel stays
@@ -86,7 +86,7 @@ module _ (to : ChainId) (lost : Bundle) where
 
   next_framed : (g : Stage) → There g → IsCalmAt to g → next xcm (framed_stage g) ≡ framed_stage (next xcm g)
   next_framed (At part place x behind m) there calm =
-      ap (by_answer xcm part place x behind (frame m)) (refused_framed to lost (out-Instruction x) m calm) ∙ by_answer_framed part place x behind m (refusal_of x m) there
+      ap (by_answer xcm part place x behind (frame m)) (refused_framed to lost (out-Instruction x) m there calm) ∙ by_answer_framed part place x behind m (refusal_of x m) there
   next_framed (Ended m) there calm = refl
 
   -- ---- a run
@@ -121,7 +121,7 @@ module _ (to : ChainId) (lost : Bundle) where
 
   last_framed : (m : Machine) → IsThere to m.part.channels → refunded_last xcm (frame m) ≡ frame (refunded_last xcm m)
   last_framed m there =
-      ap (left_after xcm refund_surplus (frame m)) (refused_framed to lost (out-Instruction refund_surplus) m (λ on e. not_both (sends_on m.part.site.chain to (out-Instruction refund_surplus)) (sends_nothing m.part.site.chain) on))
+      ap (left_after xcm refund_surplus (frame m)) (refused_framed to lost (out-Instruction refund_surplus) m there (λ on e. not_both (sends_on m.part.site.chain to (out-Instruction refund_surplus)) (sends_nothing m.part.site.chain) on))
       ∙ last_by m (refusal_of refund_surplus m) there
 
   rest_by : (b : Bool) (r : Registers) (p : ChainPart) → (if b then framed to lost p else trapped (framed to lost p) r.holding (owner_of r)) ≡ framed to lost (if b then p else trapped p r.holding (owner_of r))
