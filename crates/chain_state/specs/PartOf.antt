@@ -6,10 +6,7 @@ use Rattle.chain_state.specs.declared.state.ChainState.{ChainState}
 
 abbrev pub part_of : ChainState → ChainPart
 part_of s = record {
-  site = s.site;
-  rows = s.rows.items;
-  pallets = s.pallets.items;
-  fee_account = s.fee_account;
+  settings = s.settings;
   held = s.ledger.held;
   traps = s.traps;
   lines = s.trader;

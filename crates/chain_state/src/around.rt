@@ -79,7 +79,7 @@ impl ChainState {
             (IsSendFault (listed_refusal (part_of self.now) dest.now (program_by call xcm.now) (seen_from (part_of self.now) dest.now list.now))) }
     {
         let alloc = *self.events.allocator();
-        let Some(seen) = named(alloc, list, dest, &self.site.path())? else {
+        let Some(seen) = named(alloc, list, dest, &self.settings.site.path())? else {
             return Err(HostFault::Xcm(XcmError::ReanchorFailed));
         };
         self.encoded_with(seen, dest, call, xcm)

@@ -72,13 +72,13 @@ impl ChainState {
         if !call.fits(&self.cargo) {
             return Ok(false);
         }
-        let Some(target) = place_for(self.sender, self.site.chain) else {
+        let Some(target) = place_for(self.sender, self.settings.site.chain) else {
             return Ok(false);
         };
         let alloc = *self.events.allocator();
         let carried = cargo_list(alloc, &self.cargo)?;
         let sender = Site {
-            network: self.site.network,
+            network: self.settings.site.network,
             chain: self.sender,
         };
         let Some(seen) = named(alloc, carried.as_slice(), &target, &sender.path())? else {

@@ -29,7 +29,7 @@ impl ChainState {
     pub(crate) fn queue_to(&self, dest: &Location) -> Option<&Queue>
         ensures { option_map outgoing_of (option_copied result) ≡ channel_to (part_of self.now) dest.now }
     {
-        queue_at(self.queues.channels(), self.site.chain, dest)
+        queue_at(self.queues.channels(), self.settings.site.chain, dest)
     }
 
     /// Whether a channel leads to just that location.

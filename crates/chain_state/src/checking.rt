@@ -16,7 +16,7 @@ impl ChainState {
     fn checking_of(&self, asset: &Asset) -> Option<u128>
         ensures { result ≡ host.checking_of (part_of self.now) asset.now }
     {
-        let place = find_row(self.rows.as_slice(), asset)?;
+        let place = find_row(self.settings.rows.items(), asset)?;
         if place >= self.checking.len() {
             return None;
         }
@@ -73,7 +73,7 @@ impl ChainState {
         ensures step { part_of self.new ≡ record (part_of self.old) { checking = changed_all (change_by rises) list.now (part_of self.old).rows (part_of self.old).checking } }
     {
         change_all(
-            self.rows.as_slice(),
+            self.settings.rows.items(),
             self.checking.as_mut_slice(),
             list,
             rises,

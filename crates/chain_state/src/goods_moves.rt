@@ -26,7 +26,7 @@ impl ChainState {
     ) -> Result<AssetBundle, HostFault>
         ensures { Answers (withdraw_refusal (part_of self.old) list.now who.now) (bundle_of list.now) (given (part_of self.old) list.now who.now) (part_of self.old) result (part_of self.new) }
     {
-        let account = account_of(who, &self.site);
+        let account = account_of(who, &self.settings.site);
         if let Some(error) = self.give_refusal(&account, list.items()) {
             return Err(HostFault::Xcm(error));
         }
@@ -50,7 +50,7 @@ impl ChainState {
         ensures step { Answers (withdraw_refusal (part_of self.old) (fee.now ∷ []) who.now) (bundle_of (fee.now ∷ [])) (fee_drawn (part_of self.old) (fee.now ∷ []) who.now) (part_of self.old) result (part_of self.new) }
         ensures back { OnOk result (deposit_refusal (part_of self.new) (bundle_of (fee.now ∷ [])) who.now ≡ None) }
     {
-        let account = account_of(who, &self.site);
+        let account = account_of(who, &self.settings.site);
         if let Some(error) = self.give_fault(&account, fee) {
             return Err(HostFault::Xcm(error));
         }
@@ -78,7 +78,7 @@ impl ChainState {
         let Ok(assets) = goods.list() else {
             return Err((goods, HostFault::Memory));
         };
-        let account = account_of(who, &self.site);
+        let account = account_of(who, &self.settings.site);
         if let Some(error) = self.take_refusal(&account, assets.as_slice()) {
             return Err((goods, HostFault::Xcm(error)));
         }
@@ -101,14 +101,14 @@ impl ChainState {
     ) -> Option<XcmError>
         ensures { result ≡ host.transfer_refusal (part_of self.now) list.now from.now to.now }
     {
-        let giver = account_of(from, &self.site);
+        let giver = account_of(from, &self.settings.site);
         if let Some(error) = self.give_refusal(&giver, list.items()) {
             return Some(error);
         }
         let Some(giver) = giver else {
             return None;
         };
-        let Some(taker) = account_of(to, &self.site) else {
+        let Some(taker) = account_of(to, &self.settings.site) else {
             return self.take_refusal(&None, list.items());
         };
         self.taker_refusal(list, &giver, &taker)
@@ -138,10 +138,10 @@ impl ChainState {
         if let Some(error) = self.transfer_refusal(list, from, to) {
             return Err(HostFault::Xcm(error));
         }
-        let Some(giver) = account_of(from, &self.site) else {
+        let Some(giver) = account_of(from, &self.settings.site) else {
             return Ok(());
         };
-        let Some(taker) = account_of(to, &self.site) else {
+        let Some(taker) = account_of(to, &self.settings.site) else {
             return Ok(());
         };
         match self.ledger.transfer(&giver, &taker, list) {

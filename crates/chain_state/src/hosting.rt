@@ -15,11 +15,11 @@ impl Host for ChainState {
     ghost part = { part_of };
 
     fn site(&self) -> &Site {
-        &self.site
+        &self.settings.site
     }
 
     fn pallets(&self) -> &[PalletInfo] {
-        self.pallets.as_slice()
+        self.settings.pallets.items()
     }
 
     fn open(&self) -> &[OpenQuery] {

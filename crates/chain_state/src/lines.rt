@@ -31,13 +31,13 @@ fn cause_by(given: Option<Cause>, asset: &Asset) -> Cause
 impl ChainState {
     /// The path of the id of a listed asset.
     pub(crate) fn path(&self, asset: &Asset) -> Junctions
-        requires { IsTrue (lists (listing self.now.rows.items) (listed_of (unit_of asset.now))) }
+        requires { IsTrue (lists (listing self.now.settings.rows) (listed_of (unit_of asset.now))) }
         ensures { result ≡ path_in (part_of self.now) asset.now.id }
     {
         let AssetId::Concrete(place) = &asset.id else {
             unreachable!();
         };
-        match place.path(&self.site.path()) {
+        match place.path(&self.settings.site.path()) {
             Ok(path) => path,
             Err(_) => unreachable!(),
         }
@@ -46,7 +46,7 @@ impl ChainState {
     /// The line of a listed asset that is burned.
     #[tactic(auto, using(crate::proofs::BurnedLines::small_total))]
     pub(crate) fn line(&self, asset: &Asset, cause: Option<Cause>) -> Event
-        requires { IsTrue (lists (listing self.now.rows.items) (listed_of (unit_of asset.now))) }
+        requires { IsTrue (lists (listing self.now.settings.rows) (listed_of (unit_of asset.now))) }
         ensures { result ≡ burned_line (part_of self.now) (cause_by cause) asset.now }
     {
         Event::Burned {
@@ -66,7 +66,7 @@ impl ChainState {
         list: &[Asset],
         cause: Option<Cause>,
     ) -> Result<Vec<Event>, AllocError>
-        requires { IsTrue (list_all (λ a. lists (listing self.now.rows.items) (listed_of (unit_of a))) list.now) }
+        requires { IsTrue (list_all (λ a. lists (listing self.now.settings.rows) (listed_of (unit_of a))) list.now) }
         ensures { IfOk result (λ lines. lines.items ≡ map (burned_line (part_of self.now) (cause_by cause)) list.now) }
     {
         let mut lines = Vec::new(*self.events.allocator());
@@ -82,7 +82,7 @@ impl ChainState {
         into: &AssetBundle,
         goods: &AssetBundle,
     ) -> Result<Vec<Event>, AllocError>
-        requires { AreListed (listing self.now.rows.items) (Excess into.now goods.now) }
+        requires { AreListed (listing self.now.settings.rows) (Excess into.now goods.now) }
         ensures { IfOk result (λ lines. lines.items ≡ burned_lines (part_of self.now) (cause_by None) (Excess into.now goods.now)) }
     {
         let assets = into.excess(goods)?;
@@ -91,7 +91,7 @@ impl ChainState {
 
     /// The lines of goods that are burned by the instruction.
     pub(crate) fn burnt_lines(&self, goods: &AssetBundle) -> Result<Vec<Event>, AllocError>
-        requires { AreListed (listing self.now.rows.items) goods.now }
+        requires { AreListed (listing self.now.settings.rows) goods.now }
         ensures { IfOk result (λ lines. lines.items ≡ burned_lines (part_of self.now) (cause_by (Some Cause.BurnAsset)) goods.now) }
     {
         let assets = goods.list()?;

@@ -33,10 +33,12 @@ use chain_lists::{
 use chain_queues::{Cargo, Channel, Queues};
 use fee_rows::FeeRows;
 use ledgers::{DepositFault, Ledger, TrapStore};
-use message_parts::{OpenQuery, PalletInfo};
+use exec_base::Settings;
+use message_parts::OpenQuery;
 use network_spec::{Balance, ChainSpec, NetworkSpec};
 use std::alloc::{AllocError, Global};
-use trust_tables::{AssetRow, Site};
+use plain_lists::Listed;
+use trust_tables::Site;
 use weight_trader::{Rate, Trader};
 
 impl ChainState {
@@ -46,39 +48,34 @@ impl ChainState {
     /// listed; and only rows of fungible assets have a checking account.
     pub fn new(
         alloc: Global,
-        site: Site,
-        rows: Vec<AssetRow>,
-        pallets: Vec<PalletInfo>,
-        fee_account: [u8; 32],
+        settings: Settings,
         rates: &[Rate],
         queries: Vec<OpenQuery>,
         channels: Vec<Channel>,
     ) -> Result<ChainState, AllocError>
-        requires distinct { IsDistinct (eq_by_cmp listed_cmp) (listing rows.items) }
-        requires few { length rows.items < 2 ^ 32 }
-        requires paths { IsTrue (have_paths (path_of_site site) rows.items) }
+        requires distinct { IsDistinct (eq_by_cmp listed_cmp) (listing settings.rows) }
+        requires few { length settings.rows < 2 ^ 32 }
+        requires paths { IsTrue (have_paths (path_of_site settings.site) settings.rows) }
         requires once { NameEachOnce rates.now }
-        requires rates { IsTrue (are_rates_listed (listing rows.items) (new_lines rates.now)) }
-        requires few_pallets { length pallets.items ≤ 64 }
+        requires rates { IsTrue (are_rates_listed (listing settings.rows) (new_lines rates.now)) }
+        requires few_pallets { length settings.pallets ≤ 64 }
         requires prices { IsTrue (have_prices (map opened channels.items)) }
-        requires fees { IsTrue (are_fees_listed (listing rows.items) (map opened channels.items)) }
-        requires checkings { IsTrue (may_have_checkings rows.items) }
-        ensures fresh { IfOk result (λ chain. part_of chain ≡ fresh site rows.items pallets.items fee_account rates.now queries.items channels.items) }
+        requires fees { IsTrue (are_fees_listed (listing settings.rows) (map opened channels.items)) }
+        requires checkings { IsTrue (may_have_checkings settings.rows) }
+        ensures fresh { IfOk result (λ chain. part_of chain ≡ fresh settings rates.now queries.items channels.items) }
     {
-        let ledger = Ledger::open(alloc, places(alloc, rows.as_slice())?)?;
-        let listed = ids(alloc, rows.as_slice())?;
+        let ledger = Ledger::open(alloc, places(alloc, settings.rows.items())?)?;
+        let listed = ids(alloc, settings.rows.items())?;
         let book = BurnBook::new(alloc, listed.as_slice())?;
-        let checking = checking_accounts(alloc, rows.as_slice())?;
+        let checking = checking_accounts(alloc, settings.rows.items())?;
         let fees = FeeRows::open(alloc, listed.as_slice())?;
         let trader = Trader::new(alloc, rates)?;
         let spare = Trader::new(alloc, rates)?;
         let queues = Queues::open(alloc, channels)?;
         let parked = Vec::with_capacity(alloc, 4)?;
         Ok(ChainState {
-            site,
-            rows,
-            pallets,
-            fee_account,
+            sender: settings.site.chain,
+            settings,
             ledger,
             traps: TrapStore::new(alloc),
             trader,
@@ -90,7 +87,6 @@ impl ChainState {
             checking,
             queries,
             queues,
-            sender: site.chain,
             cargo: Cargo::Nothing,
             events: Vec::new(alloc),
             kept_back: Vec::new(alloc),
@@ -124,20 +120,22 @@ impl ChainState {
         requires fees { IsTrue (are_fees_listed (listing entry.now.assets) (bare_part spec.now entry.now).channels) }
         ensures { IfOk result (λ chain. part_of chain ≡ bare_part spec.now entry.now) }
     {
-        let site = Site {
-            network: spec.network,
-            chain: entry.chain,
-        };
         let rows = copied_rows(alloc, entry.assets.items())?;
         let pallets = copied_pallets(alloc, entry.pallets.items())?;
+        let settings = Settings {
+            site: Site {
+                network: spec.network,
+                chain: entry.chain,
+            },
+            rows: Listed::from_vec(rows),
+            pallets: Listed::from_vec(pallets),
+            fee_account: entry.fee_account,
+        };
         let queries = open_queries(alloc, entry.chain, entry.queries.items())?;
         let channels = channels_from(alloc, entry.chain, spec.channels.items())?;
         ChainState::new(
             alloc,
-            site,
-            rows,
-            pallets,
-            entry.fee_account,
+            settings,
             entry.rates.items(),
             queries,
             channels,

@@ -17,14 +17,14 @@ impl ChainState {
     pub fn site(&self) -> &Site
         ensures { result.now ≡ (part_of self.now).site }
     {
-        &self.site
+        &self.settings.site
     }
 
     /// The assets that the chain lists, in listed order.
     pub fn rows(&self) -> &[AssetRow]
         ensures { result.now ≡ (part_of self.now).rows }
     {
-        self.rows.as_slice()
+        self.settings.rows.items()
     }
 
     /// The chain's pallets, in listed order.
@@ -32,7 +32,7 @@ impl ChainState {
         ensures same { result.now ≡ (part_of self.now).pallets }
         ensures few { length (part_of self.now).pallets ≤ 64 }
     {
-        self.pallets.as_slice()
+        self.settings.pallets.items()
     }
 
     /// The chain's open queries.

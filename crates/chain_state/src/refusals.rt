@@ -16,9 +16,9 @@ impl ChainState {
     /// Whether the chain lists the asset.
     #[tactic(auto, using(crate::proofs::Rows::found_row))]
     fn has_row(&self, asset: &Asset) -> bool
-        ensures { result ≡ is_some (row_of self.now.rows.items asset.now) }
+        ensures { result ≡ is_some (row_of self.now.settings.rows asset.now) }
     {
-        find_row(self.rows.as_slice(), asset).is_some()
+        find_row(self.settings.rows.items(), asset).is_some()
     }
 
     /// Why the account can't give the asset.
@@ -62,12 +62,12 @@ impl ChainState {
         ensures { result ≡ host.trust_fault (part_of self.now) from.now teleport asset.now }
     {
         if teleport {
-            if is_partner(self.rows.as_slice(), &self.site, asset, from) {
+            if is_partner(self.settings.rows.items(), &self.settings.site, asset, from) {
                 return None;
             }
             return Some(XcmError::UntrustedTeleportLocation);
         }
-        if is_reserve(self.rows.as_slice(), &self.site, asset, from) {
+        if is_reserve(self.settings.rows.items(), &self.settings.site, asset, from) {
             return None;
         }
         Some(XcmError::UntrustedReserveLocation)

@@ -42,7 +42,7 @@ impl ChainState {
         let Some(querier) = querier else {
             return Some(None);
         };
-        match querier.reanchored(dest, &self.site.path()) {
+        match querier.reanchored(dest, &self.settings.site.path()) {
             Ok(seen) => Some(Some(seen)),
             Err(_) => None,
         }

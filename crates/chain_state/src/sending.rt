@@ -99,7 +99,7 @@ impl ChainState {
         match self.queues.push(to, bytes, cargo) {
             Ok(number) => {
                 self.kept_back.push_reserved(Event::Sent {
-                    from: self.site.chain,
+                    from: self.settings.site.chain,
                     to,
                     number,
                 });
@@ -126,7 +126,7 @@ impl ChainState {
         ensures step { IfSome (location_of (part_of self.old).site.chain to) (λ dest.
             Answers (send_refusal (part_of self.old) dest true program.now) (number_to (part_of self.old) dest) (sent (part_of self.old) dest program.now Cargo.Nothing) (part_of self.old) result (part_of self.new)) }
     {
-        let dest = location_of(self.site.chain, to);
+        let dest = location_of(self.settings.site.chain, to);
         self.send_to(&dest, program)
     }
 }

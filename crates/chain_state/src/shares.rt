@@ -72,7 +72,7 @@ impl ChainState {
         if paid == 0 && kept.high == 0 && kept.low == 0 {
             return (0, Wide { high: 0, low: 0 });
         }
-        let held = self.ledger.amount(&self.fee_account, id);
+        let held = self.ledger.amount(&self.settings.fee_account, id);
         parted(held, paid, kept)
     }
 
@@ -95,7 +95,7 @@ impl ChainState {
 
     /// The line of so much of a listed asset that is booked as saturated.
     fn above_line(&self, above: &Above) -> Event
-        requires listed { IsTrue (lists (listing self.now.rows.items) (listed_of above.now.0)) }
+        requires listed { IsTrue (lists (listing self.now.settings.rows) (listed_of above.now.0)) }
         ensures { result ≡ burned_line (part_of self.now) (λ unit. Cause.Saturated) (asset_at above.now) }
     {
         let asset = Asset {
@@ -112,7 +112,7 @@ impl ChainState {
 
     /// The lines of what is booked as saturated.
     pub(crate) fn above_lines(&self, above: &[Above]) -> Result<Vec<Event>, AllocError>
-        requires listed { IsTrue (are_units_listed (listing self.now.rows.items) above.now) }
+        requires listed { IsTrue (are_units_listed (listing self.now.settings.rows) above.now) }
         ensures { IfOk result (λ lines. lines.items ≡ map (burned_line (part_of self.now) (λ unit. Cause.Saturated)) (assets_at above.now)) }
     {
         let mut lines = Vec::new(*self.events.allocator());

@@ -12,11 +12,10 @@ ghost use Rattle.chain_state.specs.ListedFees.{are_fees_listed};
 use asset_bundles::{BurnBook, Units};
 use chain_ids::ChainId;
 use chain_queues::{Cargo, Queues};
-use exec_base::Event;
+use exec_base::{Event, Settings};
 use fee_rows::FeeRows;
 use ledgers::{Ledger, TrapStore};
-use message_parts::{OpenQuery, PalletInfo};
-use trust_tables::{AssetRow, Site};
+use message_parts::OpenQuery;
 use weight_trader::Trader;
 
 /// A chain of the network: what its document says, what stands at it, what it sends, and what is told. The ledger and the book list what
@@ -26,10 +25,7 @@ use weight_trader::Trader;
 /// have a checking account.
 #[derive(Drop)]
 pub struct ChainState {
-    pub(crate) site: Site,
-    pub(crate) rows: Vec<AssetRow>,
-    pub(crate) pallets: Vec<PalletInfo>,
-    pub(crate) fee_account: [u8; 32],
+    pub(crate) settings: Settings,
     pub(crate) ledger: Ledger,
     pub(crate) traps: TrapStore,
     pub(crate) trader: Trader,
@@ -46,16 +42,16 @@ pub struct ChainState {
     pub(crate) cargo: Cargo,
     pub(crate) events: Vec<Event>,
     pub(crate) kept_back: Vec<Event>,
-    ghost ledger_lists: { ledger.listed ≡ listing rows.items },
-    ghost book_lists: { book.listed ≡ listing rows.items },
-    ghost paths: { IsTrue (have_paths (path_of_site site) rows.items) },
-    ghost rates: { IsTrue (are_rates_listed (listing rows.items) trader) },
+    ghost ledger_lists: { ledger.listed ≡ listing settings.rows },
+    ghost book_lists: { book.listed ≡ listing settings.rows },
+    ghost paths: { IsTrue (have_paths (path_of_site settings.site) settings.rows) },
+    ghost rates: { IsTrue (are_rates_listed (listing settings.rows) trader) },
     ghost prices: { IsTrue (have_prices (channels_of queues)) },
-    ghost fees_listed: { IsTrue (are_fees_listed (listing rows.items) (channels_of queues)) },
-    ghost fee_rows: { HaveRows (listing rows.items) fees },
+    ghost fees_listed: { IsTrue (are_fees_listed (listing settings.rows) (channels_of queues)) },
+    ghost fee_rows: { HaveRows (listing settings.rows) fees },
     ghost slot_rows: { HaveRowsFor fees fee_slot },
     ghost spare_lines: { Closed spare ≡ Closed trader },
-    ghost few_pallets: { length pallets.items ≤ 64 },
+    ghost few_pallets: { length settings.pallets ≤ 64 },
     ghost room: { 4 ≤ vec_capacity parked },
-    ghost checked: { IsTrue (are_checked rows.items checking.items) },
+    ghost checked: { IsTrue (are_checked settings.rows checking.items) },
 }

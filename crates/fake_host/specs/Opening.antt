@@ -20,10 +20,7 @@ have_paths context rows = list_all (has_path context) rows
 -- a chain on which nothing has happened, and no account holds anything
 abbrev pub opened : Site → List AssetRow → List OpenQuery → ChainPart
 opened site rows queries = record {
-  site = site;
-  rows = rows;
-  pallets = [];
-  fee_account = [];
+  settings = record { site = site; rows = rows; pallets = []; fee_account = [] };
   held = empty;
   traps = record { traps = []; next = 1 };
   lines = [];

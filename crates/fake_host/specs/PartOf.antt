@@ -8,10 +8,7 @@ use Rattle.fake_host.specs.declared.state.FakeHost.{FakeHost}
 
 abbrev pub part_of : FakeHost → ChainPart
 part_of f = record {
-  site = f.site;
-  rows = f.rows.items;
-  pallets = [];
-  fee_account = [];
+  settings = record { site = f.site; rows = f.rows.items; pallets = []; fee_account = [] };
   held = f.ledger.held;
   traps = f.traps;
   lines = [];

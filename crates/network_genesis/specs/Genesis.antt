@@ -15,6 +15,7 @@ use Rattle.channel_parts.specs.Channels.{opened}
 use Rattle.weight_trader.specs.declared.rate.Rate.{Rate}
 use Rattle.weight_trader.specs.Purchases.{new_lines}
 use Rattle.coherence.specs.Causes.{ChainEntry}
+use Rattle.exec_base.specs.declared.settings.Settings.{Settings}
 use Rattle.exec_base.specs.Part.{ChainPart}
 use Rattle.exec_admission.specs.declared.rules.ChainRules.{ChainRules}
 use Rattle.network_steps.specs.Worlds.{Member, World}
@@ -28,12 +29,9 @@ use Rattle.network_genesis.specs.Tests.{row_checking}
 -- ---- one chain
 
 -- no account holds anything, nothing is trapped, bought, burned or sent
-abbrev pub fresh : Site → List AssetRow → List PalletInfo → List ℕ → List Rate → List OpenQuery → List Channel → ChainPart
-fresh site rows pallets fee_account rates queries channels = record {
-  site = site;
-  rows = rows;
-  pallets = pallets;
-  fee_account = fee_account;
+abbrev pub fresh : Settings → List Rate → List OpenQuery → List Channel → ChainPart
+fresh settings rates queries channels = record {
+  settings = settings;
   held = empty;
   traps = record { traps = []; next = 1 };
   lines = new_lines rates;
@@ -41,16 +39,20 @@ fresh site rows pallets fee_account rates queries channels = record {
   fees = empty;
   parked = [];
   burns = empty;
-  checking = map row_checking rows;
+  checking = map row_checking settings.rows;
   queries = queries;
   channels = map opened channels;
-  cargo = record { sender = site.chain; cargo = Cargo.Nothing };
+  cargo = record { sender = settings.site.chain; cargo = Cargo.Nothing };
   events = [];
   kept_back = [];
 }
 
 abbrev pub site_of : NetworkSpec → ChainSpec → Site
 site_of spec c = record { network = spec.network; chain = c.chain }
+
+-- what the document says of a chain
+abbrev pub said_of : NetworkSpec → ChainSpec → Settings
+said_of spec c = record { site = site_of spec c; rows = c.assets; pallets = c.pallets; fee_account = c.fee_account }
 
 -- an open query, by how the chain names the one that may answer it
 abbrev pub query_of : ChainId → ℕ × ChainId → OpenQuery
@@ -71,7 +73,7 @@ with_balances held (b ∷ bs) = with_balances (with_balance held b) bs
 
 -- the chain as nothing has happened on it, but for what accounts hold
 abbrev pub bare_part : NetworkSpec → ChainSpec → ChainPart
-bare_part spec c = fresh (site_of spec c) c.assets c.pallets c.fee_account c.rates (map (query_of c.chain) c.queries) (channels_from c.chain spec.channels)
+bare_part spec c = fresh (said_of spec c) c.rates (map (query_of c.chain) c.queries) (channels_from c.chain spec.channels)
 
 -- the chain's part of the first world
 abbrev pub part_at : NetworkSpec → ChainSpec → ChainPart

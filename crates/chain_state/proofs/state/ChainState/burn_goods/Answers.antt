@@ -31,6 +31,6 @@ unfolding burnt booked
 returns-in-Ok-append c =
     let f = c.args.self.now in
     let p = part_of f in
-    let burns = ap (λ (b : Book). b.burns) (c.burn.ensures ∙ ap (λ b. Booked b (burned_for Cause.BurnAsset c.args.goods)) (same_book f.book (listing f.rows.items) f.book_lists)) in
+    let burns = ap (λ (b : Book). b.burns) (c.burn.ensures ∙ ap (λ b. Booked b (burned_for Cause.BurnAsset c.args.goods)) (same_book f.book (listing f.settings.rows) f.book_lists)) in
     let told = c.in-Ok-append.ensures.items ∙ ap (λ ls. f.kept_back.items ++ ls) c.in-Ok.ensures in
     record { step = λ i. record p { burns = burns i; kept_back = told i } }

@@ -14,8 +14,8 @@ use Rattle.chain_state.proofs.state.ChainState.burnt_lines.Goals as goal
 
 pub lines-requires : goal.lines-requires
 lines-requires c =
-    subst (λ xs. list_all (λ a. lists (listing c.args.self.now.rows.items) (listed_of (unit_of a))) xs ≡ true) (sym (c.as_slice.ensures.value ∙ c.in_ok-assets.ensures.listed))
-    (goods_listed (listing c.args.self.now.rows.items) c.args.goods.now c.requires)
+    subst (λ xs. list_all (λ a. lists (listing c.args.self.now.settings.rows) (listed_of (unit_of a))) xs ≡ true) (sym (c.as_slice.ensures.value ∙ c.in_ok-assets.ensures.listed))
+    (goods_listed (listing c.args.self.now.settings.rows) c.args.goods.now c.requires)
 
 pub returns : goal.returns
 unfolding burned_lines

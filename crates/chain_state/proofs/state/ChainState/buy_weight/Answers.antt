@@ -19,7 +19,7 @@ use Rattle.chain_state.proofs.state.ChainState.buy_weight.Goals as goal
 pub buy-requires : goal.buy-requires
 buy-requires c =
     let f = c.args.self.now in
-    subst (λ listed. AreRatesListed listed f.trader) (sym f.book_lists) (each (listing f.rows.items) f.trader f.rates)
+    subst (λ listed. AreRatesListed listed f.trader) (sym f.book_lists) (each (listing f.settings.rows) f.trader f.rates)
 
 pub invariant_of-self-in-Ok-buy : goal.invariant_of-self-in-Ok-buy
 invariant_of-self-in-Ok-buy c =
@@ -29,7 +29,7 @@ invariant_of-self-in-Ok-buy c =
       ledger_lists = f.ledger_lists;
       book_lists = ap (λ (b : Book). b.listed) is.book_is ∙ saturated_rows (listed_of (coin_of is.line.rate)) (excess c.args.w is.line) f.book ∙ f.book_lists;
       paths = f.paths;
-      rates = ap (are_rates_listed (listing f.rows.items)) is.lines_are ∙ bought_rates c.args.w c.args.payment (listing f.rows.items) f.trader f.rates;
+      rates = ap (are_rates_listed (listing f.settings.rows)) is.lines_are ∙ bought_rates c.args.w c.args.payment (listing f.settings.rows) f.trader f.rates;
       prices = f.prices;
       fees_listed = f.fees_listed;
       fee_rows = f.fee_rows;
@@ -49,7 +49,7 @@ returns-in-Ok-append c =
     let payment = c.args.payment in
     let is = c.in-Ok-buy.ensures.bought in
     let goods = above (listed_of (coin_of is.line.rate)) (excess w is.line) in
-    let burns = ap (λ (b : Book). b.burns) (is.book_is ∙ saturated_is (coin_of is.line.rate).0 (excess w is.line) f.book ∙ ap (λ b. Booked b (burned_for Cause.Saturated goods)) (same_book f.book (listing f.rows.items) f.book_lists)) in
+    let burns = ap (λ (b : Book). b.burns) (is.book_is ∙ saturated_is (coin_of is.line.rate).0 (excess w is.line) f.book ∙ ap (λ b. Booked b (burned_for Cause.Saturated goods)) (same_book f.book (listing f.settings.rows) f.book_lists)) in
     let lines = c.in-Ok.ensures ∙ ap (λ o. excess_lines p (excess_at w o)) is.first ∙ line_of_excess p is.line.rate.asset (excess w is.line) in
     let told = c.in-Ok-append.ensures.items ∙ (λ i. c.reserve.ensures.items i ++ lines i) in
     record {

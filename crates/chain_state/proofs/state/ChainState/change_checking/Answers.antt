@@ -27,5 +27,5 @@ invariant_of-self c =
       spare_lines = f.spare_lines;
       few_pallets = f.few_pallets;
       room = f.room;
-      checked = ap (are_checked f.rows.items) (with_items_is f.checking c.change_all.new.checking long ∙ c.change_all.ensures ∙ (λ i. changed_all by list (c.as_slice.ensures.value i) (value i))) ∙ all_kept_checked by list f.rows.items f.checking.items ∙ f.checked;
+      checked = ap (are_checked f.settings.rows) (with_items_is f.checking c.change_all.new.checking long ∙ c.change_all.ensures ∙ (λ i. changed_all by list (c.items.ensures i) (value i))) ∙ all_kept_checked by list f.settings.rows f.checking.items ∙ f.checked;
     }

@@ -18,7 +18,7 @@ pub returns-in_default : goal.returns-in_default
 returns-in_default c =
     let f = c.args.self.now in
     sym (not_arrived (part_of f) (arrival_by c.args.call) c.args.list.now
-    (from_nowhere f.site f.sender (cargo_list f.cargo) (sym c.place_for.ensures ∙ none_if c.place_for.result c.in_default.not-Some)))
+    (from_nowhere f.settings.site f.sender (cargo_list f.cargo) (sym c.place_for.ensures ∙ none_if c.place_for.result c.in_default.not-Some)))
 
 pub returns-in_default-2 : goal.returns-in_default-2
 returns-in_default-2 c =
@@ -28,7 +28,7 @@ returns-in_default-2 c =
     let none : reanchored_list target c.path.result c.as_slice.result.now ≡ None = at_none seen c.in_ok-seen.field-0 c.in_default-2.not-Some c.in_ok-seen.ensures in
     let carried = c.as_slice.ensures.value ∙ c.in_ok-carried.ensures in
     sym (not_arrived (part_of f) (arrival_by c.args.call) c.args.list.now
-    (from_sender f.site f.sender target (cargo_list f.cargo) (sym c.place_for.ensures ∙ c.in-Some.is) ∙ (λ i. reanchored_list target (sym c.path.ensures i) (sym carried i)) ∙ none))
+    (from_sender f.settings.site f.sender target (cargo_list f.cargo) (sym c.place_for.ensures ∙ c.in-Some.is) ∙ (λ i. reanchored_list target (sym c.path.ensures i) (sym carried i)) ∙ none))
 
 pub returns : goal.returns
 returns c =
@@ -38,6 +38,6 @@ returns c =
     let some : reanchored_list target c.path.result c.as_slice.result.now ≡ Some c.in-Some-2.seen.items =
     at_some (reanchored_list target c.path.result c.as_slice.result.now ≡ None) seen c.in_ok-seen.field-0 c.in-Some-2.seen c.in-Some-2.is c.in_ok-seen.ensures in
     let carried = c.as_slice.ensures.value ∙ c.in_ok-carried.ensures in
-    let at = from_sender f.site f.sender target (cargo_list f.cargo) (sym c.place_for.ensures ∙ c.in-Some.is) ∙ (λ i. reanchored_list target (sym c.path.ensures i) (sym carried i)) ∙ some in
+    let at = from_sender f.settings.site f.sender target (cargo_list f.cargo) (sym c.place_for.ensures ∙ c.in-Some.is) ∙ (λ i. reanchored_list target (sym c.path.ensures i) (sym carried i)) ∙ some in
     c.are_same.ensures ∙ (λ i. eq_by_cmp assets_cmp (c.as_slice-2.ensures.value i) (c.items.ensures.value i))
     ∙ sym (arrived (part_of f) (arrival_by c.args.call) c.args.list.now c.in-Some-2.seen.items (sym c.fits.ensures ∙ c.if-not-fits.false) at)

@@ -30,6 +30,6 @@ unfolding joined booked
 returns-clause-step c =
     let f = c.args.self.now in
     let p = part_of f in
-    let burns = ap (λ (b : Book). b.burns) (c.in_ok-join.ensures.booked ∙ ap (λ b. Booked b (given_up c.args.into.now c.args.goods)) (same_book f.book (listing f.rows.items) f.book_lists)) in
+    let burns = ap (λ (b : Book). b.burns) (c.in_ok-join.ensures.booked ∙ ap (λ b. Booked b (given_up c.args.into.now c.args.goods)) (same_book f.book (listing f.settings.rows) f.book_lists)) in
     let told = c.in-Ok-append.ensures.items ∙ (λ i. c.reserve.ensures.items i ++ c.in-Ok.ensures i) in
     λ i. record p { burns = burns i; kept_back = told i }

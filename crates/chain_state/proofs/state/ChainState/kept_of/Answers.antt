@@ -13,4 +13,4 @@ returns-in-Fungible c =
 pub returns-in-Class : goal.returns-in-Class
 returns-in-Class c =
     let f = c.args.self.now in
-    sym (no_class (listing f.rows.items) f.fees c.args.id.now f.fee_rows) ∙ ap (λ kind. asset_in c.args.id.now kind (kept_goods f.fees)) (sym c.in-Class.is)
+    sym (no_class (listing f.settings.rows) f.fees c.args.id.now f.fee_rows) ∙ ap (λ kind. asset_in c.args.id.now kind (kept_goods f.fees)) (sym c.in-Class.is)

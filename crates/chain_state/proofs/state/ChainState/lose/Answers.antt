@@ -33,5 +33,5 @@ pub returns : goal.returns
 returns c =
     let f = c.args.self.now in
     let s = c.args.shipment in
-    let burns = ap (λ (b : Book). b.burns) (c.lose.ensures ∙ ap (book_after_loss s.way s.units) (same_book f.book (listing f.rows.items) f.book_lists)) in
+    let burns = ap (λ (b : Book). b.burns) (c.lose.ensures ∙ ap (book_after_loss s.way s.units) (same_book f.book (listing f.settings.rows) f.book_lists)) in
     record { lost = λ i. record (part_of f) { burns = burns i } }

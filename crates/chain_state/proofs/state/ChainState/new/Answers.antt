@@ -11,17 +11,17 @@ use Rattle.chain_state.proofs.FeeSlot.{nothing_rowed}
 use Rattle.chain_state.proofs.state.ChainState.new.Goals as goal
 
 pub open-requires-clause-few : goal.open-requires-clause-few
-open-requires-clause-few c = subst (λ n. n < 2 ^ 32) (sym (c.in_ok-places.ensures.as_many ∙ ap length c.as_slice.ensures.value)) c.requires.few
+open-requires-clause-few c = subst (λ n. n < 2 ^ 32) (sym (c.in_ok-places.ensures.as_many ∙ ap length c.items.ensures)) c.requires.few
 
 pub invariant_of-result-clause-prices : goal.invariant_of-result-clause-prices
 invariant_of-result-clause-prices c = ap have_prices c.in_ok-queues.ensures ∙ c.requires.prices
 
 pub invariant_of-result-clause-fees_listed : goal.invariant_of-result-clause-fees_listed
-invariant_of-result-clause-fees_listed c = ap (are_fees_listed (listing c.args.rows.items)) c.in_ok-queues.ensures ∙ c.requires.fees
+invariant_of-result-clause-fees_listed c = ap (are_fees_listed (listing c.args.settings.rows)) c.in_ok-queues.ensures ∙ c.requires.fees
 
 pub invariant_of-result-clause-fee_rows : goal.invariant_of-result-clause-fee_rows
 invariant_of-result-clause-fee_rows c = λ u.
-    c.in_ok-fees.ensures.rows u ∙ ap (λ (ks : List Listed). is_coin ks u) (c.as_slice-5.ensures.value ∙ c.in_ok-listed.ensures ∙ ap listing c.as_slice-2.ensures.value)
+    c.in_ok-fees.ensures.rows u ∙ ap (λ (ks : List Listed). is_coin ks u) (c.as_slice-2.ensures.value ∙ c.in_ok-listed.ensures ∙ ap listing c.items-2.ensures)
 
 pub invariant_of-result-clause-slot_rows : goal.invariant_of-result-clause-slot_rows
 invariant_of-result-clause-slot_rows c = nothing_rowed _ _ (c.set_down.ensures ∙ c.empty.ensures)
@@ -31,4 +31,4 @@ invariant_of-result-clause-spare_lines c = ap Closed (c.in_ok-spare.ensures.line
 
 pub invariant_of-result-clause-checked : goal.invariant_of-result-clause-checked
 invariant_of-result-clause-checked c =
-    ap (are_checked c.args.rows.items) (c.in_ok-checking.ensures ∙ ap (map row_checking) c.as_slice-4.ensures.value) ∙ checked_rows c.args.rows.items c.requires.checkings
+    ap (are_checked c.args.settings.rows) (c.in_ok-checking.ensures ∙ ap (map row_checking) c.items-3.ensures) ∙ checked_rows c.args.settings.rows c.requires.checkings

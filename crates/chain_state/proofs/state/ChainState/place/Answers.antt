@@ -12,5 +12,5 @@ mint-requires-clause-once c = once_each (c.args.asset ∷ []) refl
 pub deposit-requires : goal.deposit-requires
 deposit-requires c =
     let f = c.args.self.now in
-    let all = listed_list (listing f.rows.items) (c.args.asset ∷ []) (and_from _ _ c.requires.listed refl) in
-    record { listed = subst (λ listed. AreListed listed c.in_ok-goods.goods) (sym f.ledger_lists) (subst (AreListed (listing f.rows.items)) (sym c.in_ok-goods.ensures) all) }
+    let all = listed_list (listing f.settings.rows) (c.args.asset ∷ []) (and_from _ _ c.requires.listed refl) in
+    record { listed = subst (λ listed. AreListed listed c.in_ok-goods.goods) (sym f.ledger_lists) (subst (AreListed (listing f.settings.rows)) (sym c.in_ok-goods.ensures) all) }

@@ -16,19 +16,19 @@ use Rattle.chain_state.proofs.state.ChainState.place_all.Goals as goal
 
 pub place_balance-requires-clause-some : goal.place_balance-requires-clause-some
 place_balance-requires-clause-some c =
-    let rows = c.args.self.now.rows.items in
+    let rows = c.args.self.now.settings.rows in
     (placeable rows c.balance-item.result (all_at (is_balance rows) c.args.balances.now c.loop-balance.balance-index c.balance-item.result c.requires.balances c.loop-balance-test.true c.balance-item.is)).some
 
 pub place_balance-requires-clause-listed : goal.place_balance-requires-clause-listed
 place_balance-requires-clause-listed c =
-    let rows = c.args.self.now.rows.items in
+    let rows = c.args.self.now.settings.rows in
     let b = c.balance-item.result in
     let is = placeable rows b (all_at (is_balance rows) c.args.balances.now c.loop-balance.balance-index b c.requires.balances c.loop-balance-test.true c.balance-item.is) in
     subst (λ table. lists (listing table) (listed_of (unit_of b.asset)) ≡ true) (sym (ap (λ (p : ChainPart). p.rows) c.loop-balance.invariant)) is.listed
 
 pub place_balance-requires-clause-free : goal.place_balance-requires-clause-free
 place_balance-requires-clause-free c =
-    let rows = c.args.self.now.rows.items in
+    let rows = c.args.self.now.settings.rows in
     let b = c.balance-item.result in
     let list = c.args.balances.now in
     let i = c.loop-balance.balance-index in

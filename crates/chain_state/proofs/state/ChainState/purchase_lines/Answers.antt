@@ -12,5 +12,5 @@ pub line-requires : goal.line-requires
 line-requires c =
     let f = c.args.self.now in
     let paid = excess_paid c.args.w (paying c.args.w c.args.payment.now f.trader) c.in-Some.asset c.in-Some.amount (sym c.excess_of.ensures ∙ c.in-Some.is) in
-    let listed = found_passes (λ (line : Line). IsTrue (lists (listing f.rows.items) (listed_of (coin_of line.rate)))) (is_covered c.args.w c.args.payment.now) f.trader paid.0 (each (listing f.rows.items) f.trader f.rates) paid.1 in
-    ap (λ asset. lists (listing f.rows.items) (listed_of (Concrete asset, None))) (sym paid.2) ∙ listed
+    let listed = found_passes (λ (line : Line). IsTrue (lists (listing f.settings.rows) (listed_of (coin_of line.rate)))) (is_covered c.args.w c.args.payment.now) f.trader paid.0 (each (listing f.settings.rows) f.trader f.rates) paid.1 in
+    ap (λ asset. lists (listing f.settings.rows) (listed_of (Concrete asset, None))) (sym paid.2) ∙ listed

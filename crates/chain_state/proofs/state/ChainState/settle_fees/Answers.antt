@@ -23,7 +23,7 @@ pub above_lines-requires : goal.above_lines-requires
 above_lines-requires c =
     let f = c.args.self.now in
     let p = part_of f in
-    let listed = listing f.rows.items in
+    let listed = listing f.settings.rows in
     record {
       listed = subst (λ (us : List (Unit × ℕ)). are_units_listed listed us ≡ true) (sym (c.as_slice.ensures.value ∙ c.in_ok-coins.ensures.above))
           (units_listed listed (fees_above p) (rowed_listed listed f.fees (fees_above p) f.fee_rows (above_rowed p f.fees refl f.fee_rows f.rates)));
@@ -39,13 +39,13 @@ deposit_into-requires-clause-listed c =
     let p = part_of f in
     let goods = ap bundle_of c.as_slice-2.ensures.value ∙ rows_bundle c.in_ok-coins.coins.items (fees_within p) c.in_ok-coins.ensures.within in
     subst (λ (listed : List Listed). AreListed listed (bundle_of c.as_slice-2.result.now)) (sym f.ledger_lists)
-    (subst (AreListed (listing f.rows.items)) (sym goods) (rowed_listed (listing f.rows.items) f.fees (fees_within p) f.fee_rows (within_rowed p f.fees refl f.fee_rows f.rates)))
+    (subst (AreListed (listing f.settings.rows)) (sym goods) (rowed_listed (listing f.settings.rows) f.fees (fees_within p) f.fee_rows (within_rowed p f.fees refl f.fee_rows f.rates)))
 
 pub invariant_of-self-in-Break-branch-5 : goal.invariant_of-self-in-Break-branch-5
 invariant_of-self-in-Break-branch-5 c =
     let f = c.args.self.now in
     record {
-      ledger_lists = ledger_after f.fee_account _ f.ledger c.deposit_into.new.ledger c.deposit_into.result c.deposit_into.ensures.deposited c.deposit_into.ensures.kept ∙ f.ledger_lists;
+      ledger_lists = ledger_after f.settings.fee_account _ f.ledger c.deposit_into.new.ledger c.deposit_into.result c.deposit_into.ensures.deposited c.deposit_into.ensures.kept ∙ f.ledger_lists;
       book_lists = f.book_lists;
       paths = f.paths;
       rates = f.rates;
@@ -63,7 +63,7 @@ pub book_all-requires : goal.book_all-requires
 book_all-requires c =
     let f = c.args.self.now in
     let p = part_of f in
-    let listed = listing f.rows.items in
+    let listed = listing f.settings.rows in
     let all = units_listed listed (fees_above p) (rowed_listed listed f.fees (fees_above p) f.fee_rows (above_rowed p f.fees refl f.fee_rows f.rates)) in
     record {
       listed = subst (λ (us : List (Unit × ℕ)). are_units_listed f.book.listed us ≡ true) (sym (c.as_slice-3.ensures.value ∙ c.in_ok-coins.ensures.above))
@@ -75,10 +75,10 @@ invariant_of-self-2 c =
     let f = c.args.self.now in
     let closed = c.swap.ensures.x_after ∙ c.in_ok-close.ensures.lines ∙ f.spare_lines in
     record {
-      ledger_lists = ledger_after f.fee_account _ f.ledger c.deposit_into.new.ledger c.deposit_into.result c.deposit_into.ensures.deposited c.deposit_into.ensures.kept ∙ f.ledger_lists;
+      ledger_lists = ledger_after f.settings.fee_account _ f.ledger c.deposit_into.new.ledger c.deposit_into.result c.deposit_into.ensures.deposited c.deposit_into.ensures.kept ∙ f.ledger_lists;
       book_lists = rows_stay f.book _ _ c.book_all.ensures ∙ f.book_lists;
       paths = f.paths;
-      rates = ap (are_rates_listed (listing f.rows.items)) closed ∙ closed_rates (listing f.rows.items) f.trader ∙ f.rates;
+      rates = ap (are_rates_listed (listing f.settings.rows)) closed ∙ closed_rates (listing f.settings.rows) f.trader ∙ f.rates;
       prices = f.prices;
       fees_listed = f.fees_listed;
       fee_rows = λ u. c.clear.ensures.rows u ∙ f.fee_rows u;
@@ -95,10 +95,10 @@ returns c =
     let f = c.args.self.now in
     let p = part_of f in
     let goods = ap bundle_of c.as_slice-2.ensures.value ∙ rows_bundle c.in_ok-coins.coins.items (fees_within p) c.in_ok-coins.ensures.within in
-    let held = ap (λ (l : Accounts). l.held) c.in_ok-deposit_into.ensures.deposited ∙ ap (λ (b : Bundle). merge f.ledger.held (held_by f.fee_account b)) goods in
+    let held = ap (λ (l : Accounts). l.held) c.in_ok-deposit_into.ensures.deposited ∙ ap (λ (b : Bundle). merge f.ledger.held (held_by f.settings.fee_account b)) goods in
     let closed = c.swap.ensures.x_after ∙ c.in_ok-close.ensures.lines ∙ f.spare_lines in
     let booked = c.book_all.ensures ∙ ap (λ (us : List (Unit × ℕ)). Booked f.book (from_rows (rows_at (λ (unit : Unit). (listed_of unit, Cause.Saturated)) us))) (c.as_slice-3.ensures.value ∙ c.in_ok-coins.ensures.above)
-    ∙ ap (λ (b : Book). Booked b (settled_burns p)) (same_book f.book (listing f.rows.items) f.book_lists) in
+    ∙ ap (λ (b : Book). Booked b (settled_burns p)) (same_book f.book (listing f.settings.rows) f.book_lists) in
     let burns = ap (λ (b : Book). b.burns) booked in
     let lines = c.in_ok-lines.ensures ∙ ap (λ (us : List (Unit × ℕ)). map (burned_line p (λ unit. Cause.Saturated)) (assets_at us)) (c.as_slice.ensures.value ∙ c.in_ok-coins.ensures.above) in
     let told = c.in-Ok.ensures.items ∙ (λ i. c.reserve.ensures.items i ++ lines i) in
