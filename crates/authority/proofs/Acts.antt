@@ -1,5 +1,5 @@
 -- What a call of an instruction does to accounts: none falls but the speaker's.
-use Rattle.std.proofs.Common.{◌≡◌, ◌⊎◌, ℕ, List, [], ◌∷◌, Option, Some, None, Result, Ok, Err, ⊎_elim, refl, sym, subst}
+use Rattle.std.proofs.Common.{◌≡◌, ◌⊎◌, ℕ, Bool, false, List, [], ◌∷◌, Option, Some, None, Result, Ok, Err, ⊎_elim, refl, sym, subst}
 use Rattle.message_parts.specs.declared.error.XcmError.{XcmError}
 use Rattle.locations.specs.declared.relative.Location.{Location}
 use Rattle.trust_tables.specs.Accounts.{account_of}
@@ -24,25 +24,25 @@ use Rattle.authority.proofs.Lowering.{same_lowers, then_lowers, given_lowers, go
 spoken : (m : Machine) (t : Midway) (who : Location) (new : Held) → m.regs.origin ≡ Some who → LowersOnly (account_of who t.part.site) t.part.held new → LowersOnly (speaker_at t.part.site m.regs.origin) t.part.held new
 spoken m t who new is h = subst (λ (o : Option Location). LowersOnly (speaker_at t.part.site o) t.part.held new) (sym is) h
 
-pub call_lowers : (l : Instruction-F Instruction) (m : Machine) (c : HostCall) (t : Midway) → Asks l m t c → LowersOnly (speaker_at t.part.site m.regs.origin) t.part.held (after c t).part.held
+pub call_lowers : (over : Bool) (l : Instruction-F Instruction) (m : Machine) (c : HostCall) (t : Midway) → Asks over l m t c → LowersOnly (speaker_at t.part.site m.regs.origin) t.part.held (after c t).part.held
 unfolding withdrawn deposited transferred transferred_out deposited_out fee_drawn sent
-call_lowers l m (HostCall.Withdraw list who) t asks = spoken m t who _ asks.1 (given_lowers t.part list who)
-call_lowers l m (HostCall.Draw fee who) t asks = spoken m t who _ asks.1 (given_lowers t.part (fee ∷ []) who)
-call_lowers l m (HostCall.Transfer list from to) t asks = spoken m t from _ asks.0 (moved_lowers t.part list from to)
-call_lowers l m (HostCall.TransferOut list from dest xcm) t asks = spoken m t from _ asks.1 (moved_lowers t.part list from dest)
-call_lowers l m (HostCall.Deposit who) t asks = got_lowers _ t.part t.goods who
-call_lowers l m (HostCall.DepositOut dest xcm) t asks = got_lowers _ t.part t.goods dest
-call_lowers l m HostCall.Settle t asks = settled_lowers _ t.part
-call_lowers l m _ t asks = same_lowers _ t.part.held
+call_lowers over l m (HostCall.Withdraw list who) t asks = spoken m t who _ asks.1 (given_lowers t.part list who)
+call_lowers over l m (HostCall.Draw fee who) t asks = spoken m t who _ asks.1 (given_lowers t.part (fee ∷ []) who)
+call_lowers over l m (HostCall.Transfer list from to) t asks = spoken m t from _ asks.1 (moved_lowers t.part list from to)
+call_lowers over l m (HostCall.TransferOut list from dest xcm) t asks = spoken m t from _ asks.1 (moved_lowers t.part list from dest)
+call_lowers over l m (HostCall.Deposit who) t asks = got_lowers _ t.part t.goods who
+call_lowers over l m (HostCall.DepositOut dest xcm) t asks = got_lowers _ t.part t.goods dest
+call_lowers over l m HostCall.Settle t asks = settled_lowers _ t.part
+call_lowers over l m _ t asks = same_lowers _ t.part.held
 
 -- ---- an instruction, accepted or not, and where memory is refused in it
 module _ (x : Instruction) (m : Machine) where
   abbrev Spoken : Midway → Type 0
   Spoken t = LowersOnly (speaker_of m) m.part.held t.part.held
 
-  spoken_then : (c : HostCall) (t : Midway) → Asks (out-Instruction x) m t c → IsFrom m t → Spoken t → Spoken (after c t)
+  spoken_then : (c : HostCall) (t : Midway) → Asks false (out-Instruction x) m t c → IsFrom m t → Spoken t → Spoken (after c t)
   spoken_then c t asks from h = then_lowers (speaker_of m) m.part.held t.part.held (after c t).part.held h
-      (subst (λ (s : Settings). LowersOnly (speaker_at s.site m.regs.origin) t.part.held (after c t).part.held) from.settings (call_lowers (out-Instruction x) m c t asks))
+      (subst (λ (s : Settings). LowersOnly (speaker_at s.site m.regs.origin) t.part.held (after c t).part.held) from.settings (call_lowers false (out-Instruction x) m c t asks))
 
   pub done_lowers : LowersOnly (speaker_of m) m.part.held (xcm.done x m).part.held
   done_lowers = each_keeps (out-Instruction x) m Spoken spoken_then (λ t from h. h) (same_lowers (speaker_of m) m.part.held)

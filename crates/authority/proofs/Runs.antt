@@ -1,5 +1,5 @@
 -- What each call keeps of accounts and of the origin register, the run keeps, and its end, also where memory is refused.
-use Rattle.std.proofs.Common.{◌≡◌, ◌⊎◌, ℕ, List, [], ◌∷◌, ◌++◌, Option, Some, None, ⊎_elim, inl, inr, refl, sym, ap, ◌∙◌, subst, append_assoc}
+use Rattle.std.proofs.Common.{◌≡◌, ◌⊎◌, ℕ, Bool, true, List, [], ◌∷◌, ◌++◌, Option, Some, None, ⊎_elim, inl, inr, refl, sym, ap, ◌∙◌, subst, append_assoc}
 use Rattle.std.specs.Prelude.{⊤}
 use Rattle.std.proofs.lemmas.List.{append-nil}
 use Rattle.amounts.specs.Amounts.{empty}
@@ -51,7 +51,7 @@ origin_after _ t = refl
 below_is_kept : (first : Location) → IsKeptByCalls any_kind (λ (t : Midway). IsAtOrBelow first t.regs.origin)
 below_is_kept first = record {
   refunds = tt;
-  called = λ x l is q m t c k asks from ok h. subst (IsAtOrBelow first) (sym (origin_after c t)) h;
+  called = λ x l is q over m t c k asks from ok h. subst (IsAtOrBelow first) (sym (origin_after c t)) h;
   turned = λ t r turns h. below_turned first t.regs.origin r.origin turns.origin h;
 }
 
@@ -63,10 +63,10 @@ module _ (s : Option (List ℕ)) (start : Held) where
   abbrev pub Lowered : Midway → Type 0
   Lowered t = LowersOnly s start t.part.held
 
-  end_lowers : (m : Machine) (c : HostCall) (t : Midway) → Asks Instruction-F.RefundSurplus m t c → Lowered t → Lowered (after c t)
+  end_lowers : (m : Machine) (c : HostCall) (t : Midway) → Asks true Instruction-F.RefundSurplus m t c → Lowered t → Lowered (after c t)
   end_lowers m (HostCall.Withdraw list who) t asks h = absurd (cc asks.2)
   end_lowers m (HostCall.Draw fee who) t asks h = absurd (cc asks.2.1)
-  end_lowers m (HostCall.Transfer list from to) t asks h = absurd (cc asks.1)
+  end_lowers m (HostCall.Transfer list from to) t asks h = absurd (cc asks.2)
   end_lowers m (HostCall.TransferOut list from dest xcm) t asks h = absurd (cc asks.2)
   end_lowers m (HostCall.Deposit who) t asks h = absurd (cc asks.1)
   end_lowers m (HostCall.DepositOut dest xcm) t asks h = absurd (cc asks.1.1)
@@ -98,19 +98,19 @@ quiet_turned old new turns h =
     (λ (d : (who : Location) × (path : List Junction) × (old ≡ Some who) × (new ≡ Some (descended who path))). absurd (let no_way : None ≡ Some d.0 = sym h ∙ d.2 in cc)) rest) turns
 
 -- what a call lowers where nobody speaks
-quiet_called : (may : Option (List ℕ)) (start : Held) (l : Instruction-F Instruction) (m : Machine) (t : Midway) (c : HostCall) → Asks l m t c → IsFrom m t → Quiet may start t → Quiet may start (after c t)
-quiet_called may start l m t c asks from q =
+quiet_called : (may : Option (List ℕ)) (start : Held) (l : Instruction-F Instruction) (m : Machine) (t : Midway) (c : HostCall) (over : Bool) → Asks over l m t c → IsFrom m t → Quiet may start t → Quiet may start (after c t)
+quiet_called may start l m t c over asks from q =
     let silent : m.regs.origin ≡ None = sym (ap (λ (r : Registers). r.origin) from.regs) ∙ q.silent in
     record {
       silent = origin_after c t ∙ q.silent;
       lowers = then_lowers may start t.part.held (after c t).part.held q.lowers (none_lowers may t.part.held (after c t).part.held
-          (subst (λ (o : Option Location). LowersOnly (speaker_at t.part.site o) t.part.held (after c t).part.held) silent (call_lowers l m c t asks)));
+          (subst (λ (o : Option Location). LowersOnly (speaker_at t.part.site o) t.part.held (after c t).part.held) silent (call_lowers over l m c t asks)));
     }
 
 pub quiet_is_kept : (may : Option (List ℕ)) (start : Held) → IsKeptByCalls any_kind (Quiet may start)
 quiet_is_kept may start = record {
   refunds = tt;
-  called = λ x l is q m t c k asks from ok h. quiet_called may start l m t c asks from h;
+  called = λ x l is q over m t c k asks from ok h. quiet_called may start l m t c over asks from h;
   turned = λ t r turns h. record { silent = quiet_turned t.regs.origin r.origin turns.origin h.silent; lowers = h.lowers };
 }
 
@@ -133,14 +133,14 @@ local_speaks account site None h = inl refl
 local_speaks account site (Some who) h = subst (λ (l : Location). (speaker_at site (Some l) ≡ None) ⊎ (speaker_at site (Some l) ≡ Some account)) (sym h.1) (below_speaks account site h.0)
 
 -- what a call lowers of its speaker's account, it lowers of the caller's
-local_called : (account : List ℕ) (site : Site) (start : Held) (l : Instruction-F Instruction) (m : Machine) (t : Midway) (c : HostCall) → Asks l m t c → IsFrom m t → Local account site start t → Local account site start (after c t)
-local_called account site start l m t c asks from v =
+local_called : (account : List ℕ) (site : Site) (start : Held) (l : Instruction-F Instruction) (m : Machine) (t : Midway) (c : HostCall) (over : Bool) → Asks over l m t c → IsFrom m t → Local account site start t → Local account site start (after c t)
+local_called account site start l m t c over asks from v =
     let same : t.regs.origin ≡ m.regs.origin = ap (λ (r : Registers). r.origin) from.regs in
     let speaks = local_speaks account t.part.site m.regs.origin (subst (IsAtOrBelow (caller account)) same v.below) in
     record {
       there = sym (from_site c t) ∙ v.there;
       below = subst (IsAtOrBelow (caller account)) (sym (origin_after c t)) v.below;
-      lowers = then_lowers (Some account) start t.part.held (after c t).part.held v.lowers (either_lowers (speaker_at t.part.site m.regs.origin) (Some account) t.part.held (after c t).part.held speaks (call_lowers l m c t asks));
+      lowers = then_lowers (Some account) start t.part.held (after c t).part.held v.lowers (either_lowers (speaker_at t.part.site m.regs.origin) (Some account) t.part.held (after c t).part.held speaks (call_lowers over l m c t asks));
     }
   where
     from_site : (c : HostCall) (t : Midway) → t.part.site ≡ (after c t).part.site
@@ -150,7 +150,7 @@ local_called account site start l m t c asks from v =
 local_is_kept : (account : List ℕ) (site : Site) (start : Held) → IsKeptByCalls any_kind (Local account site start)
 local_is_kept account site start = record {
   refunds = tt;
-  called = λ x l is q m t c k asks from ok h. local_called account site start l m t c asks from h;
+  called = λ x l is q over m t c k asks from ok h. local_called account site start l m t c over asks from h;
   turned = λ t r turns h. record { there = h.there; below = below_turned (caller account) t.regs.origin r.origin turns.origin h.below; lowers = h.lowers };
 }
 

@@ -1,5 +1,5 @@
 -- What every execution keeps: a fact that each call keeps, and each change of the other registers. This project's own vocabulary.
-use Rattle.std.specs.Prelude.{◌≡◌, ◌⊎◌, List, Option, Some, None}
+use Rattle.std.specs.Prelude.{◌≡◌, ◌⊎◌, Bool, true, List, Option, Some, None}
 use Rattle.locations.specs.declared.grammar.Junction.{Junction}
 use Rattle.locations.specs.declared.relative.Location.{Location}
 use Rattle.xcm_program.specs.declared.instruction.Instruction.{Instruction, out-Instruction}
@@ -24,14 +24,14 @@ pub record Turns (old new : Registers) : Type 0 where
 -- a fact that the end of a run keeps, also where memory is refused there: the last refund, the line that tells of it, settlement, and what is
 -- held is trapped or parked
 pub record IsKeptAtEnd (K : Midway → Type 0) : Type 0 where
-  pub closing : (m : Machine) (t : Midway) (c : HostCall) → K (between m) → Asks Instruction-F.RefundSurplus m t c → IsFrom m t → why_not c t ≡ None → K t → K (after c t)
+  pub closing : (m : Machine) (t : Midway) (c : HostCall) → K (between m) → Asks true Instruction-F.RefundSurplus m t c → IsFrom m t → why_not c t ≡ None → K t → K (after c t)
   pub closed : (t : Midway) (r : Registers) → r.holding ≡ t.regs.holding → r.origin ≡ t.regs.origin → K t → K (record t { regs = r })
 
 -- a fact that executions keep, where their instructions are of one kind
 pub record IsKeptByCalls (Q : Instruction → Type 0) (K : Midway → Type 0) : Type 0 where
   pub refunds : Q refund_surplus
   pub called : (x : Instruction) (l : Instruction-F Instruction) → out-Instruction x ≡ l → Q x
-      → (m : Machine) (t : Midway) (c : HostCall) → K (between m) → Asks l m t c → IsFrom m t → why_not c t ≡ None → K t → K (after c t)
+      → (over : Bool) (m : Machine) (t : Midway) (c : HostCall) → K (between m) → Asks over l m t c → IsFrom m t → why_not c t ≡ None → K t → K (after c t)
   pub turned : (t : Midway) (r : Registers) → Turns t.regs r → K t → K (record t { regs = r })
 
 -- it holds of a part with some registers, and nothing in hand

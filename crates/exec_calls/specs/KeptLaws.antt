@@ -59,25 +59,33 @@ turns l m t f = stays_origin t.regs _ refl refl
 refund_layer : out-Instruction refund_surplus ≡ Instruction-F.RefundSurplus
 refund_layer = out-roll-Instruction Instruction-F.RefundSurplus
 
+-- what an instruction may ask, it may ask at the end
+also_over : (l : Instruction-F Instruction) (m : Machine) (t : Midway) (c : HostCall) → Asks false l m t c → Asks true l m t c
+also_over l m t HostCall.Empty asks = absurd (cc asks.0)
+also_over l m t (HostCall.Tell e) asks = absurd (cc asks.0)
+also_over l m t HostCall.Settle asks = absurd (cc asks.0)
+also_over l m t (HostCall.Trap who) asks = absurd (cc asks)
+also_over l m t _ asks = asks
+
 module _ (K : Midway → Type 0) (kept : IsKeptAtEnd K) where
   abbrev Rests : Machine → Type 0
   Rests m = K (between m)
 
   pub told_rests : (m : Machine) (e : Event) → Rests m → Rests (machine m.regs (told m.part e))
-  told_rests m e k = subst (λ (p : ChainPart). Rests (machine m.regs p)) (part_is (HostCall.Tell e) (between m)) (kept.closing m (between m) (HostCall.Tell e) k refl (from_itself m) refl k)
+  told_rests m e k = subst (λ (p : ChainPart). Rests (machine m.regs p)) (part_is (HostCall.Tell e) (between m)) (kept.closing m (between m) (HostCall.Tell e) k (refl, refl) (from_itself m) refl k)
 
   settled_rests : (m : Machine) → Rests m → Rests (machine m.regs (settled m.part))
-  settled_rests m k = subst (λ (p : ChainPart). Rests (machine m.regs p)) (part_is HostCall.Settle (between m)) (kept.closing m (between m) HostCall.Settle k refl (from_itself m) refl k)
+  settled_rests m k = subst (λ (p : ChainPart). Rests (machine m.regs p)) (part_is HostCall.Settle (between m)) (kept.closing m (between m) HostCall.Settle k (refl, refl) (from_itself m) refl k)
 
   emptied : (m : Machine) → Rests m → K (after HostCall.Empty (between m))
-  emptied m k = kept.closing m (between m) HostCall.Empty k refl (from_itself m) refl k
+  emptied m k = kept.closing m (between m) HostCall.Empty k (refl, refl) (from_itself m) refl k
 
   from_emptied : (m : Machine) → IsFrom m (after HostCall.Empty (between m))
   from_emptied m = record { regs = refl; settings = refl }
 
   trapped_rests : (m : Machine) (who : Location) → Rests m → Rests (machine (with_holding m.regs empty) (trapped m.part m.regs.holding who))
   trapped_rests m who k = let t = after HostCall.Empty (between m) in
-      subst (λ (p : ChainPart). Rests (machine (with_holding m.regs empty) p)) (part_is (HostCall.Trap who) t) (kept.closing m t (HostCall.Trap who) k tt (from_emptied m) refl (emptied m k))
+      subst (λ (p : ChainPart). Rests (machine (with_holding m.regs empty) p)) (part_is (HostCall.Trap who) t) (kept.closing m t (HostCall.Trap who) k refl (from_emptied m) refl (emptied m k))
 
   pub abandoned_kept : (m : Machine) (now : ChainPart) → now ≡ abandoned m.regs m.part → Rests m → Ends K now
   abandoned_kept m now is k = let t = after HostCall.Empty (between m) in
@@ -89,7 +97,7 @@ module _ (K : Midway → Type 0) (kept : IsKeptAtEnd K) where
 
   refund_done : (m : Machine) → refused Instruction-F.RefundSurplus m ≡ None → Rests m → Rests (done Instruction-F.RefundSurplus m)
   refund_done m free k =
-      done_keeps Instruction-F.RefundSurplus m K (λ c t asks from ok kt. kept.closing m t c k asks from ok kt) (λ t from kt. by_refund (refund_now m) t kt) free k
+      done_keeps Instruction-F.RefundSurplus m K (λ c t asks from ok kt. kept.closing m t c k (also_over Instruction-F.RefundSurplus m t c asks) from ok kt) (λ t from kt. by_refund (refund_now m) t kt) free k
     where
       by_refund : (o : Option (Location × ℕ)) (t : Midway) → K t → K (record t { regs = refund_noted m o t.regs })
       by_refund None t kt = kt
@@ -113,7 +121,7 @@ module _ (K : Midway → Type 0) (kept : IsKeptAtEnd K) where
 
   refund_spilled : (m now : Machine) (l : Instruction-F Instruction) → l ≡ Instruction-F.RefundSurplus → Spilled l m now → Rests m → Rests now
   refund_spilled m now l is s k =
-      lead_keeps Instruction-F.RefundSurplus m K (λ c t asks from ok kt. kept.closing m t c k asks from ok kt) now (spilled_lead Instruction-F.RefundSurplus m now (subst (λ (l : Instruction-F Instruction). Spilled l m now) is s)) k
+      lead_keeps Instruction-F.RefundSurplus m K (λ c t asks from ok kt. kept.closing m t c k (also_over Instruction-F.RefundSurplus m t c asks) from ok kt) now (spilled_lead Instruction-F.RefundSurplus m now (subst (λ (l : Instruction-F Instruction). Spilled l m now) is s)) k
 
   pub at_end_kept : (m : Machine) (now : ChainPart) → HaltedAtEnd xcm spills m now → Rests m → Ends K now
   at_end_kept m now h k =
@@ -127,7 +135,7 @@ module _ (K : Midway → Type 0) (kept : IsKeptAtEnd K) where
 
 -- ---- one instruction, also where memory is refused
 module _ (x : Instruction) (m : Machine) (K : Midway → Type 0)
-    (step : (c : HostCall) (t : Midway) → Asks (out-Instruction x) m t c → IsFrom m t → why_not c t ≡ None → K t → K (after c t)) (turn : (t : Midway) → IsFrom m t → K t → K (turned_at (out-Instruction x) m t)) where
+    (step : (c : HostCall) (t : Midway) → Asks false (out-Instruction x) m t c → IsFrom m t → why_not c t ≡ None → K t → K (after c t)) (turn : (t : Midway) → IsFrom m t → K t → K (turned_at (out-Instruction x) m t)) where
   pub spilled_keeps : (now : Machine) → spills x m now → K (between m) → K (between now)
   spilled_keeps now s k = lead_keeps (out-Instruction x) m K step now (spilled_lead (out-Instruction x) m now s) k
 
@@ -142,7 +150,7 @@ module _ (x : Instruction) (m : Machine) (K : Midway → Type 0)
 -- ---- a fact that each call keeps
 pub kept_at_end : (Q : Instruction → Type 0) (K : Midway → Type 0) → IsKeptByCalls Q K → IsKeptAtEnd K
 kept_at_end Q K kept = record {
-  closing = λ m t c k asks from ok kt. kept.called refund_surplus Instruction-F.RefundSurplus refund_layer kept.refunds m t c k asks from ok kt;
+  closing = λ m t c k asks from ok kt. kept.called refund_surplus Instruction-F.RefundSurplus refund_layer kept.refunds true m t c k asks from ok kt;
   closed = λ t r holding origin kt. kept.turned t r (stays_origin t.regs r holding origin) kt;
 }
 
@@ -155,12 +163,12 @@ module _ (Q : Instruction → Type 0) (K : Midway → Type 0) (kept : IsKeptByCa
 
   pub done_kept : (x : Instruction) (m : Machine) → Q x → refusal_of x m ≡ None → At_rest m → At_rest (xcm.done x m)
   done_kept x m q free k =
-      done_keeps (out-Instruction x) m K (λ c t asks from ok kt. kept.called x (out-Instruction x) refl q m t c k asks from ok kt)
+      done_keeps (out-Instruction x) m K (λ c t asks from ok kt. kept.called x (out-Instruction x) refl q false m t c k asks from ok kt)
       (λ t from kt. kept.turned t (turned (out-Instruction x) m t.regs) (turns (out-Instruction x) m t from) kt) free k
 
   pub spilled_kept : (x : Instruction) (m now : Machine) → Q x → spills x m now → At_rest m → At_rest now
   spilled_kept x m now q s k =
-      spilled_keeps x m K (λ c t asks from ok kt. kept.called x (out-Instruction x) refl q m t c k asks from ok kt)
+      spilled_keeps x m K (λ c t asks from ok kt. kept.called x (out-Instruction x) refl q false m t c k asks from ok kt)
       (λ t from kt. kept.turned t (turned (out-Instruction x) m t.regs) (turns (out-Instruction x) m t from) kt) now s k
 
   registers_kept : (m : Machine) (r : Registers) → r.holding ≡ m.regs.holding → r.origin ≡ m.regs.origin → At_rest m → At_rest (machine r m.part)
@@ -195,7 +203,7 @@ module _ (Q : Instruction → Type 0) (K : Midway → Type 0) (kept : IsKeptByCa
   -- ---- memory is refused
   pub halted_kept : (x : Instruction) (m now : Machine) → Q x → Halted xcm spills x m now → At_rest m → At_rest now
   halted_kept x m now q h k =
-      halted_keeps x m K (λ c t asks from ok kt. kept.called x (out-Instruction x) refl q m t c k asks from ok kt)
+      halted_keeps x m K (λ c t asks from ok kt. kept.called x (out-Instruction x) refl q false m t c k asks from ok kt)
       (λ t from kt. kept.turned t (turned (out-Instruction x) m t.regs) (turns (out-Instruction x) m t from) kt) now h k
 
   -- ---- wherever a run comes

@@ -126,7 +126,7 @@ asked (Instruction-F.DepositAsset filter who) m = (refl, ((filter, refl), tt))
 asked (Instruction-F.BurnAsset list) m = (refl, ((list, refl), tt))
 asked (Instruction-F.BuyExecution fees limit) m = buying_asked m fees limit
 asked Instruction-F.RefundSurplus m = refunding_asked m (refund_now m)
-asked (Instruction-F.TransferAsset list who) m = for_origin_asked (Instruction-F.TransferAsset list who) m m.regs.origin _ (between m) refl (λ from is. ((is, refl), tt))
+asked (Instruction-F.TransferAsset list who) m = for_origin_asked (Instruction-F.TransferAsset list who) m m.regs.origin _ (between m) refl (λ from is. ((refl, is, refl), tt))
 asked (Instruction-F.TransferReserveAsset list dest xcm) m = for_origin_asked (Instruction-F.TransferReserveAsset list dest xcm) m m.regs.origin _ (between m) refl (λ who is. around_asked (Instruction-F.TransferReserveAsset list dest xcm) m dest (fee_to m.part dest) _ refl refl (λ n unsent same. ((unsent, is, refl), tt)))
 asked (Instruction-F.DepositReserveAsset filter dest xcm) m = around_asked (Instruction-F.DepositReserveAsset filter dest xcm) m dest (fee_to m.part dest) _ refl refl (λ n unsent same. (refl, ((unsent, (filter, refl)), tt)))
 asked (Instruction-F.InitiateReserveWithdraw filter dest xcm) m = around_asked (Instruction-F.InitiateReserveWithdraw filter dest xcm) m dest (fee_to m.part dest) _ refl refl (λ n unsent same. (refl, ((unsent, (filter, refl)), tt)))
@@ -135,7 +135,7 @@ asked (Instruction-F.ReportError info) m = around_asked (Instruction-F.ReportErr
 asked (Instruction-F.ReportHolding info filter) m = around_asked (Instruction-F.ReportHolding info filter) m info.destination (fee_to m.part info.destination) _ refl refl (λ n unsent same. holding_asked (Instruction-F.ReportHolding info filter) m n info (reported_list n info filter) refl unsent same)
 asked (Instruction-F.QueryPallet name info) m = around_asked (Instruction-F.QueryPallet name info) m info.destination (fee_to m.part info.destination) _ refl refl (λ n unsent same. ((unsent, same, refl), tt))
 asked (Instruction-F.ReportTransactStatus info) m = around_asked (Instruction-F.ReportTransactStatus info) m info.destination (fee_to m.part info.destination) _ refl refl (λ n unsent same. ((unsent, same, refl), tt))
-asked (Instruction-F.QueryResponse query answer weight querier) m = for_origin_asked (Instruction-F.QueryResponse query answer weight querier) m m.regs.origin _ (between m) refl (λ who is. (is, tt))
+asked (Instruction-F.QueryResponse query answer weight querier) m = for_origin_asked (Instruction-F.QueryResponse query answer weight querier) m m.regs.origin _ (between m) refl (λ who is. ((refl, is), tt))
 asked (Instruction-F.DescendOrigin path) m = for_origin_asked (Instruction-F.DescendOrigin path) m m.regs.origin _ (between m) refl (λ who is. (refl, tt))
 asked (Instruction-F.Trap code) m = (refl, tt)
 asked (Instruction-F.ExpectAsset list) m = (refl, tt)
@@ -167,7 +167,7 @@ from_all m (c ∷ cs) t f = from_all m cs (after c t) (from_after c m t f)
 
 module _ (l : Instruction-F Instruction) (m : Machine) (K : Midway → Type 0) where
   -- where each call is accepted
-  module _ (step : (c : HostCall) (t : Midway) → Asks l m t c → IsFrom m t → why_not c t ≡ None → K t → K (after c t)) where
+  module _ (step : (c : HostCall) (t : Midway) → Asks false l m t c → IsFrom m t → why_not c t ≡ None → K t → K (after c t)) where
     pub kept_along : (cs : List HostCall) (t : Midway) → AreAsked l m cs t → IsFrom m t → refusal_along cs t ≡ None → K t → K (after_all cs t)
     kept_along [] t a from free k = k
     kept_along (c ∷ cs) t a from free k =
@@ -186,7 +186,7 @@ module _ (l : Instruction-F Instruction) (m : Machine) (K : Midway → Type 0) w
     lead_keeps now led k = subst K (sym led.there) (kept_along led.made (between m) led.asked (from_itself m) led.free k)
 
   -- whether or not they are
-  module _ (step : (c : HostCall) (t : Midway) → Asks l m t c → IsFrom m t → K t → K (after c t)) where
+  module _ (step : (c : HostCall) (t : Midway) → Asks false l m t c → IsFrom m t → K t → K (after c t)) where
     each_along : (cs : List HostCall) (t : Midway) → AreAsked l m cs t → IsFrom m t → K t → K (after_all cs t)
     each_along [] t a from k = k
     each_along (c ∷ cs) t a from k = each_along cs (after c t) a.1 (from_after c m t from) (step c t a.0 from k)
@@ -195,8 +195,8 @@ module _ (l : Instruction-F Instruction) (m : Machine) (K : Midway → Type 0) w
     each_keeps turn k = subst K (sym (done_is l m)) (turn (after_all (calls l m) (between m)) (from_all m (calls l m) (between m) (from_itself m)) (each_along (calls l m) (between m) (asked l m) (from_itself m) k))
 
   -- what is said of each refusal is said of the instruction's
-  module _ (N : Option XcmError → Type 0) (none : N None) (step : (c : HostCall) (t : Midway) → Asks l m t c → IsFrom m t → why_not c t ≡ None → K t → K (after c t))
-      (why : (c : HostCall) (t : Midway) → Asks l m t c → IsFrom m t → K t → N (why_not c t)) where
+  module _ (N : Option XcmError → Type 0) (none : N None) (step : (c : HostCall) (t : Midway) → Asks false l m t c → IsFrom m t → why_not c t ≡ None → K t → K (after c t))
+      (why : (c : HostCall) (t : Midway) → Asks false l m t c → IsFrom m t → K t → N (why_not c t)) where
     refusal_by : (o rest : Option XcmError) → N o → (o ≡ None → N rest) → N (or_else o rest)
     refusal_by None rest n h = h refl
     refusal_by (Some e) rest n h = n

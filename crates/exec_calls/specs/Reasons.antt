@@ -51,6 +51,10 @@ is_own _ = false
 abbrev pub HasNone : Midway → Type 0
 HasNone t = t.goods ≡ empty
 
+-- nothing was asked before, but tests
+abbrev pub IsFirst : Machine → Midway → Type 0
+IsFirst m t = t ≡ between m
+
 -- for whom the instruction speaks
 abbrev pub Speaks : Machine → Location → Type 0
 Speaks m who = m.regs.origin ≡ Some who
@@ -91,39 +95,39 @@ IsReport (Instruction-F.QueryPallet name to) info = to ≡ info
 IsReport (Instruction-F.ReportTransactStatus to) info = to ≡ info
 IsReport l info = ⊥
 
--- an instruction that began at the machine asks for the call where it has come to
-abbrev pub Asks : Instruction-F Instruction → Machine → Midway → HostCall → Type 0
-Asks l m t (HostCall.Check ok e) = IsTrue (is_own e)
-Asks l m t (HostCall.Take filter) = HasNone t
-Asks l m t (HostCall.Pay a) = HasNone t × (IsFee l m a ⊎ ((w : Weight) × (l ≡ Instruction-F.BuyExecution a (Limited w))))
-Asks l m t HostCall.Join = ⊤
-Asks l m t (HostCall.Withdraw list who) = HasNone t × Speaks m who × (l ≡ Instruction-F.WithdrawAsset list)
-Asks l m t (HostCall.Draw fee who) = HasNone t × Speaks m who × IsFee l m fee
-Asks l m t (HostCall.Receive list from teleport) = HasNone t × (from ≡ m.regs.origin) × (l ≡ arriving list teleport)
-Asks l m t (HostCall.Claim list who) = HasNone t × Speaks m who × ((ticket : Location) × (l ≡ Instruction-F.ClaimAsset list ticket))
-Asks l m t (HostCall.Refund w) = HasNone t × (w ≡ not_refunded m)
-Asks l m t (HostCall.Deposit who) = (filter : Filter) × (l ≡ Instruction-F.DepositAsset filter who)
-Asks l m t HostCall.Burn = (list : List Asset) × (l ≡ Instruction-F.BurnAsset list)
-Asks l m t (HostCall.Buy w) = (fees : Asset) × (l ≡ Instruction-F.BuyExecution fees (Limited w)) × (t.goods ≡ payment_of fees)
-Asks l m t (HostCall.DepositOut dest xcm) = IsUnsent m t × ((filter : Filter) × (l ≡ Instruction-F.DepositReserveAsset filter dest xcm))
-Asks l m t (HostCall.Ship way dest xcm) = IsUnsent m t × ((filter : Filter) × (l ≡ shipping way filter dest xcm))
-Asks l m t (HostCall.Transfer list from to) = Speaks m from × (l ≡ Instruction-F.TransferAsset list to)
-Asks l m t (HostCall.TransferOut list from dest xcm) = IsUnsent m t × Speaks m from × (l ≡ Instruction-F.TransferReserveAsset list dest xcm)
-Asks l m t (HostCall.Respond info answer querier) = IsUnsent m t × (querier ≡ m.regs.origin) × IsReport l info
-Asks l m t (HostCall.Answer from query) = Speaks m from
-Asks l m t HostCall.HoldFee = (fee : Asset) × IsFee l m fee × (t.goods ≡ payment_of fee) × (t.part.fee_slot ≡ m.part.fee_slot)
-Asks l m t HostCall.TakeFee = HasNone t
-Asks l m t HostCall.KeepFee = ⊤
-Asks l m t HostCall.Park = t.part.parked ≡ m.part.parked
-Asks l m t HostCall.Empty = HasNone t
-Asks l m t (HostCall.Tell e) = HasNone t
-Asks l m t HostCall.Settle = HasNone t
-Asks l m t (HostCall.Trap who) = ⊤
+-- an instruction that began at the machine asks for the call where it has come to; or, where the run is over, its end does
+abbrev pub Asks : Bool → Instruction-F Instruction → Machine → Midway → HostCall → Type 0
+Asks over l m t (HostCall.Check ok e) = IsTrue (is_own e)
+Asks over l m t (HostCall.Take filter) = HasNone t
+Asks over l m t (HostCall.Pay a) = IsFirst m t × (IsFee l m a ⊎ ((w : Weight) × (l ≡ Instruction-F.BuyExecution a (Limited w))))
+Asks over l m t HostCall.Join = ⊤
+Asks over l m t (HostCall.Withdraw list who) = IsFirst m t × Speaks m who × (l ≡ Instruction-F.WithdrawAsset list)
+Asks over l m t (HostCall.Draw fee who) = IsFirst m t × Speaks m who × IsFee l m fee
+Asks over l m t (HostCall.Receive list from teleport) = IsFirst m t × (from ≡ m.regs.origin) × (l ≡ arriving list teleport)
+Asks over l m t (HostCall.Claim list who) = IsFirst m t × Speaks m who × ((ticket : Location) × (l ≡ Instruction-F.ClaimAsset list ticket))
+Asks over l m t (HostCall.Refund w) = IsFirst m t × (w ≡ not_refunded m)
+Asks over l m t (HostCall.Deposit who) = (filter : Filter) × (l ≡ Instruction-F.DepositAsset filter who)
+Asks over l m t HostCall.Burn = (list : List Asset) × (l ≡ Instruction-F.BurnAsset list)
+Asks over l m t (HostCall.Buy w) = (fees : Asset) × (l ≡ Instruction-F.BuyExecution fees (Limited w)) × (t ≡ after (HostCall.Pay fees) (between m))
+Asks over l m t (HostCall.DepositOut dest xcm) = IsUnsent m t × ((filter : Filter) × (l ≡ Instruction-F.DepositReserveAsset filter dest xcm))
+Asks over l m t (HostCall.Ship way dest xcm) = IsUnsent m t × ((filter : Filter) × (l ≡ shipping way filter dest xcm))
+Asks over l m t (HostCall.Transfer list from to) = IsFirst m t × Speaks m from × (l ≡ Instruction-F.TransferAsset list to)
+Asks over l m t (HostCall.TransferOut list from dest xcm) = IsUnsent m t × Speaks m from × (l ≡ Instruction-F.TransferReserveAsset list dest xcm)
+Asks over l m t (HostCall.Respond info answer querier) = IsUnsent m t × (querier ≡ m.regs.origin) × IsReport l info
+Asks over l m t (HostCall.Answer from query) = IsFirst m t × Speaks m from
+Asks over l m t HostCall.HoldFee = (fee : Asset) × IsFee l m fee × (t.goods ≡ payment_of fee) × (t.part.fee_slot ≡ m.part.fee_slot)
+Asks over l m t HostCall.TakeFee = HasNone t
+Asks over l m t HostCall.KeepFee = ⊤
+Asks over l m t HostCall.Park = t.part.parked ≡ m.part.parked
+Asks over l m t HostCall.Empty = IsTrue over × HasNone t
+Asks over l m t (HostCall.Tell e) = IsTrue over × HasNone t
+Asks over l m t HostCall.Settle = IsTrue over × HasNone t
+Asks over l m t (HostCall.Trap who) = IsTrue over
 
 -- each of some calls, one after the other
 abbrev pub AreAsked : Instruction-F Instruction → Machine → List HostCall → Midway → Type 0
 AreAsked l m [] t = ⊤
-AreAsked l m (c ∷ cs) t = Asks l m t c × AreAsked l m cs (after c t)
+AreAsked l m (c ∷ cs) t = Asks false l m t c × AreAsked l m cs (after c t)
 
 -- accepted calls of an instruction that began at the first machine lead from where it has come to, to another machine
 pub record LeadFrom (l : Instruction-F Instruction) (m : Machine) (t : Midway) (now : Machine) : Type 0 where

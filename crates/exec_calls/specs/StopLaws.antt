@@ -67,7 +67,7 @@ module _ (l : Instruction-F Instruction) (m : Machine) where
       }
 
   -- ---- goods had come, and weren't joined
-  came : (c : HostCall) (goods : Bundle) → Asks l m (between m) c → why_not c (between m) ≡ None → (let t = after c (between m) in (t.regs ≡ m.regs) × (t.goods ≡ goods) × (t.part.parked ≡ m.part.parked)) → LeadTo l m (parking m (effect c (between m)) goods)
+  came : (c : HostCall) (goods : Bundle) → Asks false l m (between m) c → why_not c (between m) ≡ None → (let t = after c (between m) in (t.regs ≡ m.regs) × (t.goods ≡ goods) × (t.part.parked ≡ m.part.parked)) → LeadTo l m (parking m (effect c (between m)) goods)
   came c goods asks free is = record {
     made = c ∷ HostCall.Park ∷ [];
     asked = (asks, (is.2, tt));

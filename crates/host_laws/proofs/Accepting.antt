@@ -14,11 +14,13 @@ use Rattle.asset_lists.specs.Listed.{Listed, listed_cmp, listed_of}
 use Rattle.asset_lists.specs.Units.{Unit, unit_cmp}
 use Rattle.asset_lists.specs.Lists.{IsAssetList}
 use Rattle.asset_bundles.specs.declared.book.Cause.{Cause}
-use Rattle.asset_bundles.specs.Bundles.{Bundle, unit_keys}
+use Rattle.asset_bundles.specs.Bundles.{Bundle, unit_keys, bundle_of}
 use Rattle.asset_bundles.specs.Books.{Burn, Burns, burned_for, given_up, is_unit_where, is_unit_of, is_burn_of, most_burned}
 use Rattle.asset_bundles.specs.Laws.{listed_keys, burn_keys, burned_for_total, given_up_total, joined_total, taken_conserves}
 use Rattle.weight_trader.specs.Purchases.{Line, paying, unspent_at, AreWithinEnd}
 use Rattle.weight_trader.specs.Laws.{Purchase, MovesAreKept, paid_by, saturated_by, unspent_by}
+use Rattle.xcm_program.specs.declared.instruction.Instruction.{Instruction}
+use Rattle.xcm_program.specs.declared.instruction.Instruction.TheOpen.{Instruction-F}
 use Rattle.exec_base.specs.Part.{ChainPart}
 use Rattle.exec_base.specs.Sending.{unless}
 use Rattle.exec_base.specs.Host.{burnt, unspent, bought, refund_goods, refunded, fee_held, fee_kept, fee_drawn, withdraw_refusal}
@@ -26,11 +28,20 @@ use Rattle.exec_run.specs.Machine.{Machine, machine}
 use Rattle.exec_rules.specs.Holdings.{with_origin, at_origin, holds_asset, holding_more, taken_of, holding_left, payment_of, holding_paid, not_refunded, refund_done}
 use Rattle.exec_rules.specs.Fees.{fee_refusal, after_fee, refused_around, keeping_fee, done_around}
 use Rattle.exec_rules.specs.AnswerLaws.{unless_held, none_first, none_next}
+use Rattle.exec_rules.specs.Instructions.{refused, done}
+use Rattle.exec_rules.specs.Readiness.{IsSteady}
 use Rattle.exec_rules.specs.HoldingLaws.{payment_within}
+use Rattle.exec_calls.specs.Calls.{Midway, between, here, HostCall, why_not, after, effect, turned_at}
+use Rattle.exec_calls.specs.Footprints.{part_is}
+use Rattle.exec_calls.specs.Reasons.{arriving, IsFee, IsFrom, Asks}
+use Rattle.exec_calls.specs.ReasonLaws.{done_keeps}
+use Rattle.exec_calls.specs.KeptLaws.{turns}
 use Rattle.host_laws.specs.Wholes.{on_chain, whole, Conserves, BooksBelow, BuysBelow, KeepsBelow}
-use Rattle.host_laws.specs.Accepted.{whole_of, HasRoomFor}
-use Rattle.host_laws.proofs.Booking.{conserves_join, conserves_burn, conserves_held_fee, conserves_kept_fee}
-use Rattle.host_laws.proofs.Moving.{Withdraws, conserves_drawn_fee}
+use Rattle.host_laws.specs.Accepted.{whole_of, HasList, AreFees, HasRoomFor}
+use Rattle.host_laws.proofs.Booking.{conserves_join, conserves_burn, conserves_park, conserves_answer, conserves_held_fee, conserves_taken_fee, conserves_kept_fee}
+use Rattle.host_laws.proofs.Moving.{Withdraws, conserves_withdrawal, conserves_drawn_fee, conserves_deposit, conserves_transfer}
+use Rattle.host_laws.proofs.Claiming.{conserves_claim}
+use Rattle.host_laws.proofs.Sending.{conserves_shipping, conserves_deposit_out, conserves_transfer_out, conserves_response}
 use Rattle.host_laws.proofs.Trading.{above_at, above_total, conserves_purchase, conserves_refund}
 
 -- ---- room in the book
@@ -64,31 +75,6 @@ more_whole m p goods extra moved room test =
     let came = moved test in
     omega (arith, all, sum, came)
 
--- ---- what a filter takes goes into a call
-pub left_whole : (m : Machine) (filter : Filter) (p : ChainPart) → Conserves (taken_of m filter) empty m.part p → (test : Listed → Bool) → whole_of test (holding_left m filter p) ≡ whole_of test m
-left_whole m filter p moved test =
-    let goes = moved test in
-    let parts = taken_conserves (is_unit_where test) filter m.regs.holding in
-    let none = total-empty unit_keys (is_unit_where test) in
-    omega (arith, goes, parts, none)
-
-pub part_whole : (m : Machine) (p : ChainPart) → Conserves empty empty m.part p → (test : Listed → Bool) → whole_of test (machine m.regs p) ≡ whole_of test m
-part_whole m p moved test =
-    let goes = moved test in
-    let none = total-empty unit_keys (is_unit_where test) in
-    omega (arith, goes, none)
-
-pub burnt_whole : (m : Machine) (filter : Filter) → HasRoomFor empty m → (test : Listed → Bool) → whole_of test (holding_left m filter (burnt m.part (taken_of m filter))) ≡ whole_of test m
-burnt_whole m filter room = left_whole m filter (burnt m.part (taken_of m filter)) (conserves_burn m.part (taken_of m filter) (books_below m.part (taken_of m filter) (burned_for Cause.BurnAsset (taken_of m filter))
-    (λ k. let a = burned_for_total (eq_by_cmp listed_cmp k) Cause.BurnAsset (taken_of m filter) in omega (arith, a))
-    (λ k. let a = taken_conserves (is_unit_of k) filter m.regs.holding in let b = room k in omega (arith, a, b))))
-
--- ---- one asset taken out of the holding
-pub paid_whole : (m : Machine) (a : Asset) → holds_asset m a ≡ true → (test : Listed → Bool) → whole_of test (holding_paid m a) + total (is_unit_where test) (payment_of a) ≡ whole_of test m
-paid_whole m a held test =
-    let parts = total-difference unit_keys (is_unit_where test) m.regs.holding (payment_of a) (payment_within m a held) in
-    omega (arith, parts)
-
 -- ---- buying
 saturated_part : MovesAreKept → (p : ChainPart) (w : Weight) (payment : Bundle) (line : Line) (k : Listed) → AreWithinEnd p.lines → paying w payment p.lines ≡ Some line
     → total (is_burn_of k) (burned_for Cause.Saturated (above_at w line)) ≤ total (is_unit_of k) payment
@@ -102,63 +88,7 @@ saturated_part law p w payment line k within e =
     let burns = above_total (eq_by_cmp listed_cmp k) w line in
     omega (arith, payment_is, parts, rest, burns)
 
-pub bought_whole : MovesAreKept → (m : Machine) (fees : Asset) (w : Weight) → AreWithinEnd m.part.lines → holds_asset m fees ≡ true → HasRoomFor empty m → (test : Listed → Bool)
-    → whole_of test (holding_more (holding_paid m fees) (bought m.part w (payment_of fees)) (unspent m.part w (payment_of fees))) ≡ whole_of test m
-bought_whole law m fees w within held room test =
-    let payment = payment_of fees in
-    let n = holding_paid m fees in
-    let room_for : (k : Listed) → whole_of (eq_by_cmp listed_cmp k) n + total (is_unit_of k) payment ≤ most_burned =
-    λ k. let a = paid_whole m fees held (eq_by_cmp listed_cmp k) in let b = room k in omega (arith, a, b) in
-    let below : BuysBelow m.part w payment = λ line e. books_below m.part payment (burned_for Cause.Saturated (above_at w line)) (λ k. saturated_part law m.part w payment line k within e)
-    (λ k. let a = room_for k in omega (arith, a)) in
-    let more = more_whole n (bought m.part w payment) (unspent m.part w payment) payment (conserves_purchase law m.part w payment within below) room_for test in
-    let back = paid_whole m fees held test in
-    omega (arith, more, back)
-
--- ---- refunds
-pub refund_whole : MovesAreKept → (m : Machine) (o : Option (Location × ℕ)) → AreWithinEnd m.part.lines → HasRoomFor empty m → (test : Listed → Bool) → whole_of test (refund_done m o) ≡ whole_of test m
-refund_whole law m None within room test = refl
-refund_whole law m (Some given) within room test =
-    let more = more_whole m (refunded m.part (not_refunded m)) (refund_goods m.part (not_refunded m)) empty (conserves_refund law m.part (not_refunded m) within) room test in
-    let none = total-empty unit_keys (is_unit_where test) in
-    omega (arith, more, none)
-
--- ---- the delivery fee
-drawn_slot : (p : ChainPart) (list : List Asset) (who : Location) → (fee_drawn p list who).fee_slot ≡ p.fee_slot
-unfolding fee_drawn
-drawn_slot p list who = refl
-
-in_slot : (m : Machine) (goods : Bundle) → m.part.fee_slot ≡ empty → (test : Listed → Bool) → whole_of test (machine m.regs (fee_held m.part goods)) ≡ whole_of test m + total (is_unit_where test) goods
-in_slot m goods slot test =
-    let goes = conserves_held_fee m.part goods slot test in
-    let none = total-empty unit_keys (is_unit_where test) in
-    omega (arith, goes, none)
-
-from_account : Withdraws → (m : Machine) (fee : Asset) (o : Option Location) → IsAssetList (fee ∷ []) → m.part.fee_slot ≡ empty → with_origin o (λ who. withdraw_refusal m.part (fee ∷ []) who) ≡ None → (test : Listed → Bool)
-    → whole_of test (at_origin o (λ who. machine m.regs (fee_held (fee_drawn m.part (fee ∷ []) who) (payment_of fee))) m) ≡ whole_of test m
-from_account law m fee None in_order slot ok test = absurd cc
-from_account law m fee (Some who) in_order slot ok test =
-    let drawn = conserves_drawn_fee law m.part (fee ∷ []) who in_order ok test in
-    let held = in_slot (machine m.regs (fee_drawn m.part (fee ∷ []) who)) (payment_of fee) (drawn_slot m.part (fee ∷ []) who ∙ slot) test in
-    let none = total-empty unit_keys (is_unit_where test) in
-    omega (arith, drawn, held, none)
-
-from_holding : (m : Machine) (fee : Asset) → m.part.fee_slot ≡ empty → unless (holds_asset m fee) error.NotHoldingFees None ≡ None → (test : Listed → Bool)
-    → whole_of test (machine (holding_paid m fee).regs (fee_held m.part (payment_of fee))) ≡ whole_of test m
-from_holding m fee slot ok test =
-    let paid = paid_whole m fee (unless_held _ _ _ ok) test in
-    let held = in_slot (holding_paid m fee) (payment_of fee) slot test in
-    omega (arith, paid, held)
-
-charged_by : Withdraws → (m : Machine) (fee : Asset) (b : Bool) → IsAssetList (fee ∷ []) → m.part.fee_slot ≡ empty
-    → (if b then with_origin m.regs.origin (λ who. withdraw_refusal m.part (fee ∷ []) who) else unless (holds_asset m fee) error.NotHoldingFees None) ≡ None → (test : Listed → Bool)
-    → whole_of test (if b then at_origin m.regs.origin (λ who. machine m.regs (fee_held (fee_drawn m.part (fee ∷ []) who) (payment_of fee))) m else machine (holding_paid m fee).regs (fee_held m.part (payment_of fee))) ≡ whole_of test m
-charged_by law m fee true in_order slot ok test = from_account law m fee m.regs.origin in_order slot ok test
-charged_by law m fee false in_order slot ok test = from_holding m fee slot ok test
-
-charged_whole : Withdraws → (m : Machine) (fee : Asset) → IsAssetList (fee ∷ []) → m.part.fee_slot ≡ empty → fee_refusal m fee ≡ None → (test : Listed → Bool) → whole_of test (after_fee m fee) ≡ whole_of test m
-charged_whole law m fee in_order slot ok test = charged_by law m fee m.regs.fees_mode in_order slot ok test
-
+-- ---- fees
 unit_passes : (unit : Unit) → IsTrue (is_unit_of (listed_of unit) unit)
 unit_passes unit = same_key listed_keys (listed_of unit)
 
@@ -166,26 +96,124 @@ fees_in_whole : (t : Unit → Bool) (p : ChainPart) → total t p.fees + total t
 unfolding on_chain
 fees_in_whole t p = omega arith
 
--- kept fees are part of what is on the chain
-keeps_below : (m : Machine) → HasRoomFor empty m → KeepsBelow m.part
-keeps_below m room unit =
-    let kept = amount_at_most unit_keys (is_unit_of (listed_of unit)) m.part.fees unit (unit_passes unit) in
-    let slot = amount_at_most unit_keys (is_unit_of (listed_of unit)) m.part.fee_slot unit (unit_passes unit) in
-    let here = fees_in_whole (is_unit_of (listed_of unit)) m.part in
-    let all = room (listed_of unit) in
-    omega (arith, kept, slot, here, all)
+-- ---- inside an instruction, what is in hand counts too
+abbrev pub whole_at : (Listed → Bool) → Midway → ℕ
+whole_at test t = whole test t.part + total (is_unit_where test) t.regs.holding + total (is_unit_where test) t.goods
 
-keeping_whole : (m : Machine) → HasRoomFor empty m → (test : Listed → Bool) → whole_of test (keeping_fee m) ≡ whole_of test m
-keeping_whole m room test = part_whole m (fee_kept m.part) (conserves_kept_fee m.part (keeps_below m room)) test
+abbrev pub Whole : Machine → Midway → Type 0
+Whole m t = (test : Listed → Bool) → whole_at test t ≡ whole_of test m
 
-same_room : (m n : Machine) → ((test : Listed → Bool) → whole_of test n ≡ whole_of test m) → HasRoomFor empty m → HasRoomFor empty n
-same_room m n same room k = subst (λ (a : ℕ). a + total {R = unit_cmp} (is_unit_of k) empty ≤ most_burned) (sym (same (eq_by_cmp listed_cmp k))) (room k)
+nothing : (test : Listed → Bool) → total {R = unit_cmp} (is_unit_where test) empty ≡ 0
+nothing test = total-empty unit_keys (is_unit_where test)
 
-pub around_whole : Withdraws → (o : Option Asset) (m : Machine) (rule : Machine → Option XcmError) (change : Machine → Machine) → ((fee : Asset) → o ≡ Some fee → IsAssetList (fee ∷ [])) → m.part.fee_slot ≡ empty → HasRoomFor empty m
-    → refused_around o m rule ≡ None → ((n : Machine) → rule n ≡ None → (test : Listed → Bool) → whole_of test (change n) ≡ whole_of test n) → (test : Listed → Bool) → whole_of test (done_around o m change) ≡ whole_of test m
-around_whole law None m rule change fees slot room ok inside test = inside m ok test
-around_whole law (Some fee) m rule change fees slot room ok inside test =
-    let same : (t : Listed → Bool) → whole_of t (change (after_fee m fee)) ≡ whole_of t m =
-    λ t. inside (after_fee m fee) (none_next (fee_refusal m fee) (rule (after_fee m fee)) ok) t
-    ∙ charged_whole law m fee (fees fee refl) slot (none_first (fee_refusal m fee) (rule (after_fee m fee)) ok) t in
-    keeping_whole (change (after_fee m fee)) (same_room m (change (after_fee m fee)) same room) test ∙ same test
+in_hand : (t : Midway) (b : Bundle) (test : Listed → Bool) → t.goods ≡ b → total (is_unit_where test) t.goods ≡ total (is_unit_where test) b
+in_hand t b test e = ap (total (is_unit_where test)) e
+
+-- goods go in, and others come out; what is in hand changes by as much
+moved : (c : HostCall) (t : Midway) (a b : Bundle) → Conserves a b t.part (effect c t) → (after c t).regs.holding ≡ t.regs.holding
+    → ((test : Listed → Bool) → total (is_unit_where test) (after c t).goods + total (is_unit_where test) a ≡ total (is_unit_where test) t.goods + total (is_unit_where test) b)
+    → (test : Listed → Bool) → whole_at test (after c t) ≡ whole_at test t
+moved c t a b goes held hand test =
+    let x = ap (whole test) (part_is c t) in
+    let y = goes test in
+    let h = ap (total (is_unit_where test)) held in
+    let g = hand test in
+    omega (arith, x, y, h, g)
+
+-- what is in hand goes in
+gave : (c : HostCall) (t : Midway) → Conserves t.goods empty t.part (effect c t) → (after c t).regs.holding ≡ t.regs.holding → (after c t).goods ≡ empty → (test : Listed → Bool) → whole_at test (after c t) ≡ whole_at test t
+gave c t goes held none = moved c t t.goods empty goes held (λ test. let z = in_hand (after c t) empty test none in omega (arith, z))
+
+-- nothing was in hand, and goods come out
+came : (c : HostCall) (t : Midway) (b : Bundle) → Conserves empty b t.part (effect c t) → (after c t).regs.holding ≡ t.regs.holding → t.goods ≡ empty → (after c t).goods ≡ b → (test : Listed → Bool) → whole_at test (after c t) ≡ whole_at test t
+came c t b goes held none is = moved c t empty b goes held (λ test. let y = in_hand t empty test none in let z = in_hand (after c t) b test is in omega (arith, y, z))
+
+-- neither
+kept : (c : HostCall) (t : Midway) → Conserves empty empty t.part (effect c t) → (after c t).regs.holding ≡ t.regs.holding → (after c t).goods ≡ t.goods → (test : Listed → Bool) → whole_at test (after c t) ≡ whole_at test t
+kept c t goes held same = moved c t empty empty goes held (λ test. let z = in_hand (after c t) t.goods test same in omega (arith, z))
+
+drawn_slot : (p : ChainPart) (list : List Asset) (who : Location) → (fee_drawn p list who).fee_slot ≡ p.fee_slot
+unfolding fee_drawn
+drawn_slot p list who = refl
+
+-- the instructions that make anything
+abbrev pub makes : Instruction-F Instruction → Bool
+makes (Instruction-F.ReserveAssetDeposited list) = true
+makes (Instruction-F.ReceiveTeleportedAsset list) = true
+makes _ = false
+
+makes_arriving : (list : List Asset) (teleport : Bool) → makes (arriving list teleport) ≡ true
+makes_arriving list true = refl
+makes_arriving list false = refl
+
+module _ (withdraws : Withdraws) (moves : MovesAreKept) (l : Instruction-F Instruction) (m : Machine) (steady : IsSteady m) (lists : HasList l) (fees : AreFees m.part) (room : HasRoomFor empty m) (plain : makes l ≡ false) where
+  -- the end of a sum of burns isn't passed
+  room_at : (t : Midway) → Whole m t → (k : Listed) → whole_at (eq_by_cmp listed_cmp k) t ≤ most_burned
+  room_at t w k = let e = w (eq_by_cmp listed_cmp k) in let r = room k in omega (arith, e, r)
+
+  keeps_below : (t : Midway) → Whole m t → KeepsBelow t.part
+  keeps_below t w unit =
+      let kept = amount_at_most unit_keys (is_unit_of (listed_of unit)) t.part.fees unit (unit_passes unit) in
+      let slot = amount_at_most unit_keys (is_unit_of (listed_of unit)) t.part.fee_slot unit (unit_passes unit) in
+      let place = fees_in_whole (is_unit_of (listed_of unit)) t.part in
+      let all = room_at t w (listed_of unit) in
+      omega (arith, kept, slot, place, all)
+
+  one_list : (a : Asset) → IsFee l m a → IsAssetList (a ∷ [])
+  one_list a is = fees is.0 a is.2
+
+  step : (c : HostCall) (t : Midway) → Asks false l m t c → why_not c t ≡ None → Whole m t → (test : Listed → Bool) → whole_at test (after c t) ≡ whole_at test t
+  step (HostCall.Check ok e) t asks free w = λ test. refl
+  step (HostCall.Take filter) t asks free w = λ test.
+      let parts = taken_conserves (is_unit_where test) filter t.regs.holding in let z = in_hand t empty test asks in let n = nothing test in omega (arith, parts, z, n)
+  step (HostCall.Pay a) t asks free w = λ test.
+      let parts = total-difference unit_keys (is_unit_where test) t.regs.holding (payment_of a) (payment_within (here t) a (unless_held _ _ _ free)) in
+      let z = ap (λ (u : Midway). total (is_unit_where test) u.goods) asks.0 in let n = nothing test in omega (arith, parts, z, n)
+  step HostCall.Join t asks free w = λ test.
+      let held = t.regs.holding in
+      let below : BooksBelow t.part (given_up held t.goods) = books_below t.part (merge held t.goods) (given_up held t.goods)
+          (λ k. let a = given_up_total (eq_by_cmp listed_cmp k) held t.goods in let b = joined_total (is_unit_of k) held t.goods in let c = total-merge unit_keys (is_unit_of k) held t.goods in omega (arith, a, b, c))
+          (λ k. let c = total-merge unit_keys (is_unit_of k) held t.goods in let r = room_at t w k in omega (arith, c, r)) in
+      let x = ap (whole test) (part_is HostCall.Join t) in
+      let all = conserves_join t.part held t.goods below test in
+      let sum = total-merge unit_keys (is_unit_where test) held t.goods in
+      let n = nothing test in
+      omega (arith, x, all, sum, n)
+  step (HostCall.Withdraw list who) t asks free w = came (HostCall.Withdraw list who) t (bundle_of list) (conserves_withdrawal withdraws t.part list who (subst HasList asks.2 lists) free) refl (ap (λ (u : Midway). u.goods) asks.0) refl
+  step (HostCall.Draw fee who) t asks free w = came (HostCall.Draw fee who) t (payment_of fee) (conserves_drawn_fee withdraws t.part (fee ∷ []) who (one_list fee asks.2) free) refl (ap (λ (u : Midway). u.goods) asks.0) refl
+  step (HostCall.Receive list from teleport) t asks free w = absurd (let no : false ≡ true = sym plain ∙ ap makes asks.2 ∙ makes_arriving list teleport in cc)
+  step (HostCall.Claim list who) t asks free w = came (HostCall.Claim list who) t (bundle_of list) (conserves_claim t.part list who free) refl (ap (λ (u : Midway). u.goods) asks.0) refl
+  step (HostCall.Refund v) t asks free w =
+      came (HostCall.Refund v) t (refund_goods t.part v) (conserves_refund moves t.part v (subst (λ (u : Midway). AreWithinEnd u.part.lines) (sym asks.0) steady.rest.order.paid)) refl (ap (λ (u : Midway). u.goods) asks.0) refl
+  step (HostCall.Deposit who) t asks free w = gave (HostCall.Deposit who) t (conserves_deposit t.part t.goods who free) refl refl
+  step HostCall.Burn t asks free w = gave HostCall.Burn t (conserves_burn t.part t.goods (books_below t.part t.goods (burned_for Cause.BurnAsset t.goods)
+      (λ k. let a = burned_for_total (eq_by_cmp listed_cmp k) Cause.BurnAsset t.goods in omega (arith, a)) (λ k. let r = room_at t w k in omega (arith, r)))) refl refl
+  step (HostCall.Buy v) t asks free w =
+      let within : AreWithinEnd t.part.lines = subst (λ (u : Midway). AreWithinEnd u.part.lines) (sym asks.2) steady.rest.order.paid in
+      let below : BuysBelow t.part v t.goods = λ line e. books_below t.part t.goods (burned_for Cause.Saturated (above_at v line)) (λ k. saturated_part moves t.part v t.goods line k within e) (λ k. let r = room_at t w k in omega (arith, r)) in
+      moved (HostCall.Buy v) t t.goods (unspent t.part v t.goods) (conserves_purchase moves t.part v t.goods within below) refl (λ test. omega arith)
+  step (HostCall.DepositOut dest xcm) t asks free w = gave (HostCall.DepositOut dest xcm) t (conserves_deposit_out t.part t.goods dest xcm free) refl refl
+  step (HostCall.Ship way dest xcm) t asks free w = gave (HostCall.Ship way dest xcm) t (conserves_shipping t.part t.goods way dest xcm free) refl refl
+  step (HostCall.Transfer list from to) t asks free w = kept (HostCall.Transfer list from to) t (conserves_transfer withdraws t.part list from to (subst HasList asks.2 lists) free) refl refl
+  step (HostCall.TransferOut list from dest xcm) t asks free w = kept (HostCall.TransferOut list from dest xcm) t (conserves_transfer_out withdraws t.part list from dest xcm (subst HasList asks.2 lists) free) refl refl
+  step (HostCall.Respond info answer querier) t asks free w = kept (HostCall.Respond info answer querier) t (conserves_response t.part info answer querier) refl refl
+  step (HostCall.Answer from query) t asks free w = kept (HostCall.Answer from query) t (conserves_answer t.part from query) refl refl
+  step HostCall.HoldFee t asks free w = gave HostCall.HoldFee t (conserves_held_fee t.part t.goods (asks.3 ∙ steady.rest.slot)) refl refl
+  step HostCall.TakeFee t asks free w = came HostCall.TakeFee t t.part.fee_slot (conserves_taken_fee t.part) refl asks refl
+  step HostCall.KeepFee t asks free w = kept HostCall.KeepFee t (conserves_kept_fee t.part (keeps_below t w)) refl refl
+  step HostCall.Park t asks free w = gave HostCall.Park t (conserves_park t.part t.goods) refl refl
+  step HostCall.Empty t asks free w = absurd (cc asks.0)
+  step (HostCall.Tell e) t asks free w = absurd (cc asks.0)
+  step HostCall.Settle t asks free w = absurd (cc asks.0)
+  step (HostCall.Trap who) t asks free w = absurd (cc asks)
+
+  at_rest : (n : Machine) (test : Listed → Bool) → whole_at test (between n) ≡ whole_of test n
+  at_rest n test = let z = nothing test in omega (arith, z)
+
+  holding_stays : (t : Midway) → IsFrom m t → Whole m t → Whole m (turned_at l m t)
+  holding_stays t from w = λ test. let h = ap (total (is_unit_where test)) (turns l m t from).holding in let e = w test in omega (arith, h, e)
+
+  pub whole_done : refused l m ≡ None → (test : Listed → Bool) → whole_of test (done l m) ≡ whole_of test m
+  whole_done free test =
+      let all : Whole m (between (done l m)) = done_keeps l m (Whole m) (λ c t asks from ok w test. step c t asks ok w test ∙ w test) holding_stays free (at_rest m) in
+      sym (at_rest (done l m) test) ∙ all test

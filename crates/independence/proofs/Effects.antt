@@ -162,7 +162,7 @@ module _ (to : ChainId) (lost : Bundle) where
     quiet_at t dest o from goes quiet = subst (λ (b : Bool). IsQuiet b o)
         (sym (ap (λ (s : Settings). is_location_of s.site.chain to dest) from.settings ∙ sym (ap (λ (o : Option Location). option_map_or (λ (d : Location). is_location_of m.part.site.chain to d) o false) goes))) quiet
 
-    why_framed : (c : HostCall) (t : Midway) → Asks l m t c → IsFrom m t → IsQuiet on (why_not c t) → why_not c (frame t) ≡ why_not c t
+    why_framed : (c : HostCall) (t : Midway) → Asks false l m t c → IsFrom m t → IsQuiet on (why_not c t) → why_not c (frame t) ≡ why_not c t
     unfolding withdraw_refusal receive_refusal deposit_refusal transfer_refusal claim_refusal buy_refusal
     why_framed (HostCall.TransferOut list from dest program) t asks at quiet = transfer_out_refused to lost t.part list from dest program (quiet_at t dest _ at (ap sent_to asks.2) quiet)
     why_framed (HostCall.DepositOut dest program) t asks at quiet = deposit_out_refused to lost t.part t.goods dest program (quiet_at t dest _ at (ap sent_to asks.1.1) quiet)

@@ -80,7 +80,7 @@ module _ (K : View → Type 0) (keeps : (v : View) (dest : Location) (program : 
   call_kept _ t h = h
 
   views_kept : IsKeptByCalls any_kind (λ (t : Midway). K (view_of t.part))
-  views_kept = record { refunds = tt; called = λ x l is q m t c k asks from ok h. call_kept c t h; turned = λ t r turns h. h }
+  views_kept = record { refunds = tt; called = λ x l is q over m t c k asks from ok h. call_kept c t h; turned = λ t r turns h. h }
 
   pub begin_kept : (part : Part) (program : List Instruction) (m : Machine) → K (view_of m.part) → K (view_of (machine_of (begin part program m)).part)
   begin_kept part [] m h = h

@@ -26,7 +26,7 @@ call_shaped (HostCall.Respond info answer querier) t ok all = subst AreShapedAt 
 call_shaped _ t ok all = all
 
 shapes_kept : IsKeptByCalls any_kind Shaped
-shapes_kept = record { refunds = tt; called = λ x l is q m t c k asks from ok all. call_shaped c t ok all; turned = λ t r turns all. all }
+shapes_kept = record { refunds = tt; called = λ x l is q over m t c k asks from ok all. call_shaped c t ok all; turned = λ t r turns all. all }
 
 -- whatever a run reaches
 pub reached_shaped : (g h : Stage) → Reaches xcm g h → AreShapedAt (machine_of g).part → AreShapedAt (machine_of h).part

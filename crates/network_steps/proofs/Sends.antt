@@ -188,7 +188,7 @@ IsSentBy l m t = (t.part.channels ≡ m.part.channels) ⊎ (queued t.part.channe
 first_sent : (l : Instruction-F Instruction) (m : Machine) (t : Midway) (c : HostCall) (n : ℕ) → t.part.channels ≡ m.part.channels → sent_in l ≡ n → queued (after c t).part.channels ≤ queued t.part.channels + n → IsSentBy l m (after c t)
 first_sent l m t c n unsent is more = let a = ap queued unsent in inr (omega (arith, more, a, is))
 
-call_sent : (l : Instruction-F Instruction) (m : Machine) (c : HostCall) (t : Midway) → Asks l m t c → IsSentBy l m t → IsSentBy l m (after c t)
+call_sent : (l : Instruction-F Instruction) (m : Machine) (c : HostCall) (t : Midway) → Asks false l m t c → IsSentBy l m t → IsSentBy l m (after c t)
 call_sent l m (HostCall.TransferOut list from dest program) t asks h = first_sent l m t (HostCall.TransferOut list from dest program) (1 + sends program) asks.0 (ap sent_in asks.2) (transferred_more t.part list from dest program)
 call_sent l m (HostCall.DepositOut dest program) t asks h = first_sent l m t (HostCall.DepositOut dest program) (1 + sends program) asks.0 (ap sent_in asks.1.1) (deposited_more t.part t.goods dest program)
 call_sent l m (HostCall.Ship way dest program) t asks h = first_sent l m t (HostCall.Ship way dest program) (1 + sends program) asks.0 (ap sent_in asks.1.1 ∙ ships_one way asks.1.0 dest program) (shipped_more t.part t.goods way dest program)
@@ -285,7 +285,7 @@ module _ (orderly : IsOrderly xcm) where
   run_sends g = let a = machine_due (run xcm g) in let b = steps_due (still_to_run g) g in omega (arith, a, b)
 
 -- ---- the end of a run sends nothing
-end_same : (m : Machine) (c : HostCall) (t : Midway) → Asks Instruction-F.RefundSurplus m t c → (after c t).part.channels ≡ t.part.channels
+end_same : (m : Machine) (c : HostCall) (t : Midway) → Asks true Instruction-F.RefundSurplus m t c → (after c t).part.channels ≡ t.part.channels
 end_same m (HostCall.TransferOut list from dest program) t asks = absurd (cc asks.2)
 end_same m (HostCall.DepositOut dest program) t asks = absurd (cc asks.1.1)
 end_same m (HostCall.Ship Way.Withdrawal dest program) t asks = absurd (cc asks.1.1)

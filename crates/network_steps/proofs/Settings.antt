@@ -74,7 +74,7 @@ call_fixed (HostCall.Respond info answer querier) t = ap settings_of (part_is (H
 call_fixed _ t = refl
 
 fixed_is_kept : (says : Settings) → IsKeptByCalls any_kind (λ (t : Midway). settings_of t.part ≡ says)
-fixed_is_kept says = record { refunds = tt; called = λ x l is q m t c k asks from ok h. call_fixed c t ∙ h; turned = λ t r turns h. h }
+fixed_is_kept says = record { refunds = tt; called = λ x l is q over m t c k asks from ok h. call_fixed c t ∙ h; turned = λ t r turns h. h }
 
 pub executed_fixed : (rules : ChainRules) (origin : Location) (credit : Weight) (program : List Instruction) (p : ChainPart) → settings_of (executed rules origin credit program p).1 ≡ settings_of p
 executed_fixed rules origin credit program p = (keeps_executed (λ (t : Midway). settings_of t.part ≡ settings_of p) (fixed_is_kept (settings_of p)) rules origin credit program p refl).kept
