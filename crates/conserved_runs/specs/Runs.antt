@@ -1,9 +1,9 @@
 -- Lemmas: a run for a quiet origin is a safe change, wherever it comes, and so is its end. A reader may skip this file.
-use Rattle.std.proofs.Common.{◌≡◌, ℕ, Bool, true, false, List, [], ◌∷◌, ◌++◌, Option, Some, None, length, refl, sym, ap, ◌∙◌, subst, arith}
+use Rattle.std.proofs.Common.{◌≡◌, ◌⊎◌, ⊎_elim, ℕ, Bool, true, false, List, [], ◌∷◌, ◌++◌, Option, Some, None, length, refl, sym, ap, ◌∙◌, subst, arith}
 use Rattle.std.specs.Prelude.{nat_eq, if◌then◌else◌}
 use Rattle.std.specs.List.{AllByRecursion}
 use Rattle.std.proofs.lemmas.Bool.Decides.{nat_tests}
-use Rattle.amounts.specs.Amounts.{total, empty, rows, total-empty, total-rows}
+use Rattle.amounts.specs.Amounts.{total, empty, rows, difference, total-empty, total-rows}
 use Rattle.amounts.specs.Rows.{sum_where}
 use Rattle.amounts.specs.Laws.{amount-difference}
 use Rattle.locations.specs.declared.grammar.Junction.{Junction}
@@ -48,6 +48,11 @@ use Rattle.exec_rules.specs.Reports.{report_done, reported_list, pallets_of, hol
 use Rattle.exec_rules.specs.Origins.{descended}
 use Rattle.exec_rules.specs.Instructions.{refusal_of, done, xcm}
 use Rattle.exec_rules.specs.Readiness.{IsSteady}
+use Rattle.exec_calls.specs.Calls.{Midway, HostCall, after, turned}
+use Rattle.exec_calls.specs.Reasons.{Asks}
+use Rattle.exec_calls.specs.ReasonLaws.{each_keeps}
+use Rattle.exec_calls.specs.Kept.{TurnsOrigin}
+use Rattle.exec_calls.specs.KeptLaws.{turns}
 use Rattle.coherence.specs.Networks.{Table, IsIn, Agrees}
 use Rattle.conserved_runs.specs.Views.{table_of}
 use Rattle.conserved_runs.specs.Sums.{sum_of, none, nobody, Call, HasRoom}
@@ -57,70 +62,27 @@ use Rattle.conserved_runs.specs.Turns.{same_turn, part_turn, by_nobody, refund_b
 use Rattle.conserved_runs.specs.Shipping.{HasList-IsOfLayer}
 use Rattle.conserved_runs.specs.Accepted.{IsCaller, IsQuiet, caller_spared, safely_done}
 
--- ---- the registers that an instruction leaves
-at_any : (P : Registers → Type 0) (o : Option Location) (change : Location → Machine) (m : Machine) → P m.regs → ((who : Location) → P (change who).regs) → P (at_origin o change m).regs
-at_any P None change m h k = h
-at_any P (Some who) change m h k = k who
-
-if_any : (P : Registers → Type 0) (b : Bool) (x y : Machine) → P x.regs → P y.regs → P (if b then x else y).regs
-if_any P true x y h k = h
-if_any P false x y h k = k
-
-around_any : (P : Registers → Type 0) (o : Option Asset) (m : Machine) (change : Machine → Machine) → ((fee : Asset) → P (after_fee m fee).regs) → ((k : Machine) → P k.regs → P (change k).regs) → P m.regs → P (done_around o m change).regs
-around_any P None m change fee h k = h m k
-around_any P (Some a) m change fee h k = h (after_fee m a) (fee a)
-
-report_any : (P : Registers → Type 0) (m : Machine) (info : QueryInfo) (o : Option (List Asset)) → P m.regs → P (holding_report_done m info o).regs
-report_any P m info None h = h
-report_any P m info (Some list) h = h
-
 -- ---- the origin
 abbrev quiet_in : Registers → Type 0
 quiet_in r = IsQuiet r.origin
 
-fee_quiet : (m : Machine) (fee : Asset) → quiet_in m.regs → quiet_in (after_fee m fee).regs
-fee_quiet m fee h = if_any quiet_in m.regs.fees_mode (at_origin m.regs.origin (λ who. machine m.regs (fee_held (fee_drawn m.part (fee ∷ []) who) (payment_of fee))) m) (machine (holding_paid m fee).regs (fee_held m.part (payment_of fee)))
-    (at_any quiet_in m.regs.origin _ m h (λ who. h)) h
+below_quiet : (who : Location) (path : List Junction) → IsCaller who → IsCaller (descended who path)
+below_quiet who path c = record { account = c.account; rest = c.rest ++ path; is = ap (λ (l : Location). descended l path) c.is; own = c.own }
 
-buying_quiet : (m : Machine) (fees : Asset) (limit : WeightLimit) → quiet_in m.regs → quiet_in (buying_done m fees limit).regs
-buying_quiet m fees Unlimited h = h
-buying_quiet m fees (Limited w) h = h
+turned_quiet : (old new : Option Location) → TurnsOrigin old new → IsQuiet old → IsQuiet new
+turned_quiet old new turns h =
+    ⊎_elim (λ (e : new ≡ old). subst IsQuiet (sym e) h)
+    (λ (rest : (new ≡ None) ⊎ ((who : Location) × (path : List Junction) × (old ≡ Some who) × (new ≡ Some (descended who path)))).
+    ⊎_elim (λ (e : new ≡ None). subst IsQuiet (sym e) (λ l is. absurd cc))
+    (λ (d : (who : Location) × (path : List Junction) × (old ≡ Some who) × (new ≡ Some (descended who path))).
+    subst IsQuiet (sym d.3) (λ l is. let there : descended d.0 d.1 ≡ l = cc in subst IsCaller there (below_quiet d.0 d.1 (h d.0 d.2)))) rest) turns
 
-refund_quiet : (m : Machine) (o : Option (Location × ℕ)) → quiet_in m.regs → quiet_in (refund_done m o).regs
-refund_quiet m None h = h
-refund_quiet m (Some given) h = h
-
-descended_quiet : (m : Machine) (path : List Junction) (o : Option Location) → m.regs.origin ≡ o → quiet_in m.regs → quiet_in (at_origin o (λ who. machine (record m.regs { origin = Some (descended who path) }) m.part) m).regs
-descended_quiet m path None e h = h
-descended_quiet m path (Some who) e h = λ l same.
-    let c = h who e in
-    let there : descended who path ≡ l = cc in
-    subst IsCaller there (record {
-      account = c.account;
-      rest = c.rest ++ path;
-      is = ap (λ (l : Location). descended l path) c.is;
-      own = c.own;
-    })
+called_quiet : (c : HostCall) (t : Midway) → quiet_in t.regs → quiet_in (after c t).regs
+called_quiet (HostCall.Take filter) t h = h
+called_quiet _ t h = h
 
 pub quiet_done : (l : Instruction-F Instruction) (m : Machine) → quiet_in m.regs → quiet_in (done l m).regs
-quiet_done (Instruction-F.WithdrawAsset list) m h = at_any quiet_in m.regs.origin _ m h (λ who. h)
-quiet_done (Instruction-F.ClaimAsset list ticket) m h = at_any quiet_in m.regs.origin _ m h (λ who. h)
-quiet_done (Instruction-F.BuyExecution fees limit) m h = buying_quiet m fees limit h
-quiet_done Instruction-F.RefundSurplus m h = refund_quiet m (refund_now m) h
-quiet_done (Instruction-F.TransferAsset list who) m h = at_any quiet_in m.regs.origin _ m h (λ from. h)
-quiet_done (Instruction-F.TransferReserveAsset list dest program) m h = at_any quiet_in m.regs.origin _ m h (λ who. around_any quiet_in (fee_to m.part dest) m (λ k. machine k.regs (transferred_out k.part list who dest program)) (λ fee. fee_quiet m fee h) (λ k q. q) h)
-quiet_done (Instruction-F.DepositReserveAsset filter dest program) m h = around_any quiet_in (fee_to m.part dest) m (λ k. holding_left k filter (deposited_out k.part (taken_of k filter) dest program)) (λ fee. fee_quiet m fee h) (λ k q. q) h
-quiet_done (Instruction-F.InitiateReserveWithdraw filter dest program) m h = around_any quiet_in (fee_to m.part dest) m (λ k. holding_left k filter (shipped k.part (taken_of k filter) Way.Withdrawal dest program)) (λ fee. fee_quiet m fee h) (λ k q. q) h
-quiet_done (Instruction-F.InitiateTeleport filter dest program) m h = around_any quiet_in (fee_to m.part dest) m (λ k. holding_left k filter (shipped k.part (taken_of k filter) Way.Teleport dest program)) (λ fee. fee_quiet m fee h) (λ k q. q) h
-quiet_done (Instruction-F.ReportError info) m h = around_any quiet_in (fee_to m.part info.destination) m (λ k. report_done k info (response.ExecutionResult k.regs.error)) (λ fee. fee_quiet m fee h) (λ k q. q) h
-quiet_done (Instruction-F.ReportHolding info filter) m h =
-    around_any quiet_in (fee_to m.part info.destination) m (λ k. holding_report_done k info (reported_list k info filter)) (λ fee. fee_quiet m fee h) (λ k q. report_any quiet_in k info (reported_list k info filter) q) h
-quiet_done (Instruction-F.QueryPallet name info) m h = around_any quiet_in (fee_to m.part info.destination) m (λ k. report_done k info (response.PalletsInfo (pallets_of k.part name))) (λ fee. fee_quiet m fee h) (λ k q. q) h
-quiet_done (Instruction-F.ReportTransactStatus info) m h = around_any quiet_in (fee_to m.part info.destination) m (λ k. report_done k info (response.DispatchResult k.regs.status)) (λ fee. fee_quiet m fee h) (λ k q. q) h
-quiet_done (Instruction-F.QueryResponse query answer weight querier) m h = at_any quiet_in m.regs.origin _ m h (λ who. h)
-quiet_done Instruction-F.ClearOrigin m h = λ l e. absurd cc
-quiet_done (Instruction-F.DescendOrigin path) m h = descended_quiet m path m.regs.origin refl h
-quiet_done _ m h = h
+quiet_done l m h = each_keeps l m (λ (t : Midway). quiet_in t.regs) (λ c t asks from h. called_quiet c t h) (λ t from h. turned_quiet t.regs.origin (turned l m t.regs).origin (turns l m t from).origin h) h
 
 -- ---- the holding
 abbrev held_in : Registers → Type 0
@@ -133,43 +95,18 @@ left_held : (filter : Filter) (b : Bundle) → IsWithinMost b → IsWithinMost (
 unfolding Left
 left_held filter b within u = let e = amount-difference unit_keys b (Taken filter b) u in let le = within u in omega (arith, e, le)
 
-fee_held_in : (m : Machine) (fee : Asset) → held_in m.regs → held_in (after_fee m fee).regs
-fee_held_in m fee h = after_fee_holds_most m fee h
-  where
-    after_fee_holds_most : (m : Machine) (fee : Asset) → IsWithinMost m.regs.holding → IsWithinMost (after_fee m fee).regs.holding
-    after_fee_holds_most m fee h = if_any held_in m.regs.fees_mode (at_origin m.regs.origin (λ who. machine m.regs (fee_held (fee_drawn m.part (fee ∷ []) who) (payment_of fee))) m) (machine (holding_paid m fee).regs (fee_held m.part (payment_of fee)))
-        (at_any held_in m.regs.origin _ m h (λ who. h)) (λ u. let e = amount-difference unit_keys m.regs.holding (payment_of fee) u in let le = h u in omega (arith, e, le))
+paid_held : (b c : Bundle) → IsWithinMost b → IsWithinMost (difference b c)
+paid_held b c within u = let e = amount-difference unit_keys b c u in let le = within u in omega (arith, e, le)
 
-buying_held : (m : Machine) (fees : Asset) (limit : WeightLimit) → held_in m.regs → held_in (buying_done m fees limit).regs
-buying_held m fees Unlimited h = h
-buying_held m fees (Limited w) h = joined_held _ _
-
-refund_held : (m : Machine) (o : Option (Location × ℕ)) → held_in m.regs → held_in (refund_done m o).regs
-refund_held m None h = h
-refund_held m (Some given) h = joined_held _ _
+called_held : (l : Instruction-F Instruction) (m : Machine) (c : HostCall) (t : Midway) → Asks false l m t c → held_in t.regs → held_in (after c t).regs
+called_held l m (HostCall.Take filter) t asks h = left_held filter t.regs.holding h
+called_held l m (HostCall.Pay a) t asks h = paid_held t.regs.holding (payment_of a) h
+called_held l m HostCall.Join t asks h = joined_held t.regs.holding t.goods
+called_held l m HostCall.Empty t asks h = absurd (cc asks.0)
+called_held l m _ t asks h = h
 
 pub held_done : (l : Instruction-F Instruction) (m : Machine) → held_in m.regs → held_in (done l m).regs
-held_done (Instruction-F.WithdrawAsset list) m h = at_any held_in m.regs.origin _ m h (λ who. joined_held _ _)
-held_done (Instruction-F.ReserveAssetDeposited list) m h = joined_held _ _
-held_done (Instruction-F.ReceiveTeleportedAsset list) m h = joined_held _ _
-held_done (Instruction-F.ClaimAsset list ticket) m h = at_any held_in m.regs.origin _ m h (λ who. joined_held _ _)
-held_done (Instruction-F.DepositAsset filter who) m h = left_held filter m.regs.holding h
-held_done (Instruction-F.BurnAsset list) m h = left_held (Definite list) m.regs.holding h
-held_done (Instruction-F.BuyExecution fees limit) m h = buying_held m fees limit h
-held_done Instruction-F.RefundSurplus m h = refund_held m (refund_now m) h
-held_done (Instruction-F.TransferAsset list who) m h = at_any held_in m.regs.origin _ m h (λ from. h)
-held_done (Instruction-F.TransferReserveAsset list dest program) m h = at_any held_in m.regs.origin _ m h (λ who. around_any held_in (fee_to m.part dest) m (λ k. machine k.regs (transferred_out k.part list who dest program)) (λ fee. fee_held_in m fee h) (λ k q. q) h)
-held_done (Instruction-F.DepositReserveAsset filter dest program) m h = around_any held_in (fee_to m.part dest) m (λ k. holding_left k filter (deposited_out k.part (taken_of k filter) dest program)) (λ fee. fee_held_in m fee h) (λ k q. left_held filter k.regs.holding q) h
-held_done (Instruction-F.InitiateReserveWithdraw filter dest program) m h = around_any held_in (fee_to m.part dest) m (λ k. holding_left k filter (shipped k.part (taken_of k filter) Way.Withdrawal dest program)) (λ fee. fee_held_in m fee h) (λ k q. left_held filter k.regs.holding q) h
-held_done (Instruction-F.InitiateTeleport filter dest program) m h = around_any held_in (fee_to m.part dest) m (λ k. holding_left k filter (shipped k.part (taken_of k filter) Way.Teleport dest program)) (λ fee. fee_held_in m fee h) (λ k q. left_held filter k.regs.holding q) h
-held_done (Instruction-F.ReportError info) m h = around_any held_in (fee_to m.part info.destination) m (λ k. report_done k info (response.ExecutionResult k.regs.error)) (λ fee. fee_held_in m fee h) (λ k q. q) h
-held_done (Instruction-F.ReportHolding info filter) m h =
-    around_any held_in (fee_to m.part info.destination) m (λ k. holding_report_done k info (reported_list k info filter)) (λ fee. fee_held_in m fee h) (λ k q. report_any held_in k info (reported_list k info filter) q) h
-held_done (Instruction-F.QueryPallet name info) m h = around_any held_in (fee_to m.part info.destination) m (λ k. report_done k info (response.PalletsInfo (pallets_of k.part name))) (λ fee. fee_held_in m fee h) (λ k q. q) h
-held_done (Instruction-F.ReportTransactStatus info) m h = around_any held_in (fee_to m.part info.destination) m (λ k. report_done k info (response.DispatchResult k.regs.status)) (λ fee. fee_held_in m fee h) (λ k q. q) h
-held_done (Instruction-F.QueryResponse query answer weight querier) m h = at_any held_in m.regs.origin _ m h (λ who. h)
-held_done (Instruction-F.DescendOrigin path) m h = at_any held_in m.regs.origin _ m h (λ who. h)
-held_done _ m h = h
+held_done l m h = each_keeps l m (λ (t : Midway). held_in t.regs) (λ c t asks from h. called_held l m c t asks h) (λ t from h. subst IsWithinMost (sym (turns l m t from).holding) h) h
 
 -- ---- programs
 lists_inside : (l : Instruction-F Instruction) (o : Option (List Instruction)) → kept l ≡ o → AllInside AreLists (inner l) → AllInside AreLists o
