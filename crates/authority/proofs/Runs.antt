@@ -69,7 +69,7 @@ module _ (s : Option (List ℕ)) (start : Held) where
   end_lowers m (HostCall.Transfer list from to) t asks h = absurd (cc asks.2)
   end_lowers m (HostCall.TransferOut list from dest xcm) t asks h = absurd (cc asks.2)
   end_lowers m (HostCall.Deposit who) t asks h = absurd (cc asks.1)
-  end_lowers m (HostCall.DepositOut dest xcm) t asks h = absurd (cc asks.1.1)
+  end_lowers m (HostCall.DepositOut dest xcm) t asks h = absurd (cc asks.2.1)
   end_lowers m HostCall.Settle t asks h = then_lowers s start t.part.held (after HostCall.Settle t).part.held h (settled_lowers s t.part)
   end_lowers m _ t asks h = h
 

@@ -1,25 +1,22 @@
 -- Lemmas: each of the 48 instructions, where it is accepted. A reader may skip this file.
-use Rattle.std.proofs.Common.{◌≡◌, ℕ, Bool, true, false, List, [], ◌∷◌, Option, Some, None, refl, sym, ap, ◌∙◌, subst, arith}
-use Rattle.std.specs.Prelude.{◌==◌, if◌then◌else◌, length, IsSomeAnd}
+use Rattle.std.proofs.Common.{◌≡◌, ◌⊎◌, ⊎_elim, inl, inr, ◌+◌, ℕ, Bool, true, false, List, [], ◌∷◌, Option, Some, None, refl, sym, ap, ◌∙◌, subst, arith}
+use Rattle.std.specs.Prelude.{◌&&◌, ◌==◌, if◌then◌else◌, IsSomeAnd}
 use Rattle.amounts.specs.Amounts.{total}
 use Rattle.locations.specs.declared.grammar.Junction.{Junction}
 use Rattle.locations.specs.declared.relative.Location.{Location}
 use Rattle.message_parts.specs.declared.error.XcmError.{XcmError}
-use Rattle.message_parts.specs.declared.query.Response.TheVariants as response
 use Rattle.asset_lists.specs.declared.units.Asset.{Asset}
-use Rattle.asset_lists.specs.declared.filters.Filter.TheVariants.{Definite}
 use Rattle.asset_bundles.specs.declared.shipment.Way.{Way}
 use Rattle.asset_bundles.specs.Bundles.{bundle_of}
 use Rattle.chain_ids.specs.declared.chain.ChainId.{ChainId}
 use Rattle.chain_ids.specs.declared.chain.ChainId.TheVariants.{Relay, Para}
-use Rattle.message_parts.specs.declared.query.QueryInfo.{QueryInfo}
 use Rattle.exec_base.specs.Sending.{unless}
 use Rattle.trust_tables.specs.declared.chains.Site.{Site}
 use Rattle.trust_tables.specs.declared.rows.AssetRow.{AssetRow}
 use Rattle.trust_tables.specs.declared.rows.AssetRole.{AssetRole}
 use Rattle.trust_tables.specs.Chains.{location_of}
 use Rattle.trust_tables.specs.Accounts.{IsSovereign, account_of, sovereign_account}
-use Rattle.trust_tables.specs.Trust.{row_of, IsReserveRole, IsPartnerRole}
+use Rattle.trust_tables.specs.Trust.{listing, row_of, IsReserveRole, IsPartnerRole}
 use Rattle.trust_tables.specs.TrustLaws.{is_reserve_says, is_partner_says}
 use Rattle.trust_tables.specs.ChainLaws.{IsSovereign-sovereign_account}
 use Rattle.weight_trader.specs.Laws.{MovesAreKept}
@@ -28,20 +25,47 @@ use Rattle.xcm_program.specs.declared.instruction.Instruction.TheOpen.{Instructi
 use Rattle.xcm_program.specs.Everywhere.{AllInside}
 use Rattle.xcm_program.specs.Measure.{inner}
 use Rattle.exec_base.specs.Part.{ChainPart}
-use Rattle.exec_base.specs.Host.{trust_fault, receive_refusal, fee_to, withdrawn, deposited, transferred, received, transfer_out_refusal, transferred_out, deposit_out_refusal, deposited_out, ship_refusal, shipped, answered, burnt, claimed}
+use Rattle.exec_base.specs.Host.{trust_fault, receive_refusal}
 use Rattle.exec_run.specs.Machine.{Machine, machine}
-use Rattle.exec_rules.specs.Holdings.{with_origin, has_room, taken_of, holding_more, holding_left, is_ticket, refund_now, refund_done}
-use Rattle.exec_rules.specs.Reports.{report_refused, report_done, pallets_of, reported_list, holding_report_refused, holding_report_done}
-use Rattle.exec_rules.specs.Origins.{descended}
+use Rattle.exec_rules.specs.Holdings.{with_origin}
 use Rattle.exec_rules.specs.AnswerLaws.{unless_held, unless_next, none_first}
 use Rattle.exec_rules.specs.Instructions.{refused, done}
 use Rattle.exec_rules.specs.Readiness.{IsSteady}
 use Rattle.coherence.specs.Networks.{Table, Agrees}
 use Rattle.conserved_runs.specs.Sums.{sum_of, none, nobody, only, HasRoom}
 use Rattle.conserved_runs.specs.Calls.{Withdraws, total_nothing, call_with, call_by, receiving_none, answering, withdrawing, depositing, transferring, claiming, burn}
-use Rattle.conserved_runs.specs.Safety.{origins, IsSpared, hold, Turn, Safely, IsFine, AreFees, HasList, AreLists, turn_safely, sends_safely, fee_in_order}
-use Rattle.conserved_runs.specs.Turns.{by_account, by_nobody, same_turn, part_turn, more_turn, left_turn, taken_room, by_origin, buying_by, refund_by, around}
-use Rattle.conserved_runs.specs.Shipping.{withdrawal_sends, teleport_sends, deposit_sends, transfer_sends, report_sends, holding_report_sends}
+use Rattle.conserved_runs.specs.Safety.{origins, IsSpared, hold, Safely, IsFine, AreFees, HasList, AreLists, turn_safely, sends_safely, fee_in_order}
+use Rattle.conserved_runs.specs.Turns.{same_turn}
+use Rattle.conserved_runs.specs.Shipping.{withdrawal_sends, teleport_sends, deposit_sends, transfer_sends, report_sends}
+
+use Rattle.amounts.specs.Amounts.{empty, merge, IsWithin}
+use Rattle.amounts.specs.Laws.{total-merge, merge-empty}
+use Rattle.asset_lists.specs.Lists.{IsAssetList}
+use Rattle.asset_lists.specs.Units.{Unit}
+use Rattle.asset_bundles.specs.Bundles.{Bundle, unit_keys}
+use Rattle.asset_bundles.specs.Books.{is_unit_where, is_burn_where, AreListed}
+use Rattle.asset_bundles.specs.Joins.{Joined}
+use Rattle.asset_bundles.specs.Laws.{taken_conserves, listed_within}
+use Rattle.amounts.specs.Amounts.{total-empty}
+use Rattle.ledgers.specs.Ledgers.{Holder, is_account}
+use Rattle.exec_base.specs.Host.{unspent, refund_goods, fee_taken}
+use Rattle.exec_base.specs.declared.registers.Registers.{Registers}
+use Rattle.exec_rules.specs.Holdings.{with_holding, payment_of}
+use Rattle.exec_rules.specs.Stopping.{Spilled}
+use Rattle.exec_calls.specs.Calls.{Midway, between, here, HostCall, why_not, after, effect, turned, turned_at}
+use Rattle.exec_calls.specs.Footprints.{part_is}
+use Rattle.exec_calls.specs.Reasons.{IsFrom, IsFee, Asks, ComesBeforeStop}
+use Rattle.exec_calls.specs.ReasonLaws.{done_keeps, lead_keeps}
+use Rattle.exec_calls.specs.StopLaws.{spilled_lead}
+use Rattle.exec_calls.specs.KeptLaws.{turns}
+use Rattle.weight_trader.specs.Purchases.{AreWithinEnd}
+use Rattle.conserved_runs.specs.Sums.{Sum, Kept, kept_of, in_kept, in_places, burned_where, account_total, with, Call}
+use Rattle.conserved_runs.specs.Calls.{still, joining, drawing, refunding, buying, parking_goods, holding_fee, keeping, room_with}
+use Rattle.conserved_runs.specs.Safety.{Sends, safely_then, keeps_room, same_table}
+use Rattle.conserved_runs.specs.Turns.{paid_parts}
+use Rattle.conserved_runs.specs.Shipping.{Leaves}
+use Rattle.coherence.specs.Networks.{IsIn}
+use Rattle.conserved_runs.specs.Views.{table_of}
 
 -- ---- origins that no other chain speaks through
 
@@ -106,69 +130,189 @@ receives_none : (p : ChainPart) (l : Location) (teleport : Bool) (list : List As
 receives_none p l teleport [] c h = refl
 receives_none p l teleport (a ∷ list) c h = absurd (trusts_none p l teleport a c (first_of p l teleport a list h))
 
-holding_origin : (m : Machine) (info : QueryInfo) (o : Option (List Asset)) → (holding_report_done m info o).regs.origin ≡ m.regs.origin
-holding_origin m info None = refl
-holding_origin m info (Some list) = refl
-
--- ---- 48 instructions
+-- ---- what such an origin receives
 pub receive_by : (p : ChainPart) (o : Option Location) (list : List Asset) (teleport : Bool) (first : XcmError) (room : Bool) → IsQuiet o → with_origin o (λ who. unless room first (receive_refusal p list who teleport)) ≡ None → list ≡ []
 receive_by p None list teleport first room quiet ok = absurd cc
 receive_by p (Some who) list teleport first room quiet ok = receives_none p who teleport list (quiet who refl) (unless_next room first _ ok)
 
-module _ (withdraws : Withdraws) (moves : MovesAreKept) (n : List Table) (agrees : Agrees n) where
-  -- what is received without another chain is nothing
-  empty_received : (m : Machine) (list : List Asset) (teleport : Bool) → list ≡ [] → HasRoom (hold m) m.part → Turn m (holding_more m (received m.part list teleport) (bundle_of list))
-  empty_received m list teleport none_of room =
-      more_turn m (received m.part list teleport) (bundle_of list)
-      (call_with (origins m) none none none (sum_of (bundle_of list)) m.part (received m.part list teleport) (call_by nobody (origins m) none none m.part (received m.part list teleport) (receiving_none m.part list teleport none_of) (by_nobody m))
-      (λ t. let e = ap (λ (xs : List Asset). total t (bundle_of xs)) none_of in let z = total_nothing t in omega (arith, e, z))) room
+-- ---- a fee that is aside
+slot_left : (t : Unit → Bool) (p : ChainPart) → in_places t (fee_taken p) + total t p.fee_slot ≡ in_places t p
+unfolding fee_taken in_kept
+slot_left t p = let z = total-empty unit_keys t in omega (arith, z)
 
-  turned : (m k : Machine) → IsFine n m → Turn m k → Safely m k
-  turned m k fine x = turn_safely m k fine.spared x
+slot_same : (p : ChainPart) → record (kept_of (fee_taken p)) { slot = p.fee_slot } ≡ kept_of p
+unfolding fee_taken
+slot_same p = refl
 
-  pub safely_done : (l : Instruction-F Instruction) (m : Machine) → IsFine n m → IsQuiet m.regs.origin → IsSteady m → AreFees m.part.channels → HasList Instruction l → AllInside AreLists (inner l) → refused l m ≡ None → Safely m (done l m)
-  safely_done (Instruction-F.WithdrawAsset list) m fine quiet steady fees in_order nested ok = by_origin (Safely m) m.regs.origin m _ _ refl ok
-      (λ who is h. turned m _ fine (more_turn m (withdrawn m.part list who) (bundle_of list)
-      (call_by (only (account_of who m.part.site)) (origins m) none (sum_of (bundle_of list)) m.part (withdrawn m.part list who) (withdrawing withdraws m.part list who in_order (unless_next (has_room m (length list)) _ _ h)) (by_account m who is)) fine.room))
-  safely_done (Instruction-F.ReserveAssetDeposited list) m fine quiet steady fees in_order nested ok = turned m _ fine (empty_received m list false (receive_by m.part m.regs.origin list false _ _ quiet ok) fine.room)
-  safely_done (Instruction-F.ReceiveTeleportedAsset list) m fine quiet steady fees in_order nested ok = turned m _ fine (empty_received m list true (receive_by m.part m.regs.origin list true _ _ quiet ok) fine.room)
-  safely_done (Instruction-F.ClaimAsset list ticket) m fine quiet steady fees in_order nested ok = by_origin (Safely m) m.regs.origin m _ _ refl ok
-      (λ who is h. turned m _ fine (more_turn m (claimed m.part list who) (bundle_of list)
-      (call_by nobody (origins m) none (sum_of (bundle_of list)) m.part (claimed m.part list who) (claiming m.part list who (unless_next (is_ticket ticket) _ _ (unless_next (has_room m (length list)) _ _ h))) (by_nobody m)) fine.room))
-  safely_done (Instruction-F.DepositAsset filter who) m fine quiet steady fees in_order nested ok = turned m _ fine (left_turn m filter (deposited m.part (taken_of m filter) who)
-      (call_by nobody (origins m) (sum_of (taken_of m filter)) none m.part (deposited m.part (taken_of m filter) who) (depositing m.part (taken_of m filter) who ok) (by_nobody m)))
-  safely_done (Instruction-F.BurnAsset list) m fine quiet steady fees in_order nested ok = turned m _ fine (left_turn m (Definite list) (burnt m.part (taken_of m (Definite list)))
-      (call_by nobody (origins m) (sum_of (taken_of m (Definite list))) none m.part (burnt m.part (taken_of m (Definite list))) (burn m.part (taken_of m (Definite list)) (taken_room m (Definite list) fine.room)) (by_nobody m)))
-  safely_done (Instruction-F.BuyExecution cost limit) m fine quiet steady fees in_order nested ok = turned m _ fine (buying_by withdraws moves m cost limit steady.rest.order.paid fine.room ok)
-  safely_done Instruction-F.RefundSurplus m fine quiet steady fees in_order nested ok = turned m _ fine (call_by nobody (origins m) (hold m) (hold (refund_done m (refund_now m))) m.part (refund_done m (refund_now m)).part (refund_by moves m (refund_now m) steady.rest.order.paid fine.room) (by_nobody m))
-  safely_done (Instruction-F.TransferAsset list who) m fine quiet steady fees in_order nested ok = by_origin (Safely m) m.regs.origin m _ _ refl ok
-      (λ from is h. turned m _ fine (part_turn m (transferred m.part list from who)
-      (call_by (only (account_of from m.part.site)) (origins m) none none m.part (transferred m.part list from who) (transferring withdraws m.part list from who in_order h) (by_account m from is))))
-  safely_done (Instruction-F.TransferReserveAsset list dest program) m fine quiet steady fees in_order nested ok = by_origin (Safely m) m.regs.origin m _ _ refl ok
-      (λ who is h. around withdraws moves (fee_to m.part dest) n m (λ k. transfer_out_refusal k.part list who dest program) (λ k. machine k.regs (transferred_out k.part list who dest program)) fine (λ fee. fee_in_order m.part dest fee fees) steady.rest.slot h
-      (λ k fine_k at ok_k. (sends_safely k _ fine_k.spared (transfer_sends n agrees withdraws k list who dest program (at ∙ is) in_order nested ok_k), refl)))
-  safely_done (Instruction-F.DepositReserveAsset filter dest program) m fine quiet steady fees in_order nested ok =
-      around withdraws moves (fee_to m.part dest) n m (λ k. deposit_out_refusal k.part (taken_of k filter) dest program) (λ k. holding_left k filter (deposited_out k.part (taken_of k filter) dest program)) fine (λ fee. fee_in_order m.part dest fee fees) steady.rest.slot ok
-      (λ k fine_k at ok_k. (sends_safely k _ fine_k.spared (deposit_sends n agrees k filter dest program fine_k nested ok_k), refl))
-  safely_done (Instruction-F.InitiateReserveWithdraw filter dest program) m fine quiet steady fees in_order nested ok =
-      around withdraws moves (fee_to m.part dest) n m (λ k. ship_refusal k.part (taken_of k filter) Way.Withdrawal dest program) (λ k. holding_left k filter (shipped k.part (taken_of k filter) Way.Withdrawal dest program)) fine (λ fee. fee_in_order m.part dest fee fees) steady.rest.slot ok
-      (λ k fine_k at ok_k. (sends_safely k _ fine_k.spared (withdrawal_sends n agrees k filter dest program fine_k nested ok_k), refl))
-  safely_done (Instruction-F.InitiateTeleport filter dest program) m fine quiet steady fees in_order nested ok =
-      around withdraws moves (fee_to m.part dest) n m (λ k. ship_refusal k.part (taken_of k filter) Way.Teleport dest program) (λ k. holding_left k filter (shipped k.part (taken_of k filter) Way.Teleport dest program)) fine (λ fee. fee_in_order m.part dest fee fees) steady.rest.slot ok
-      (λ k fine_k at ok_k. (sends_safely k _ fine_k.spared (teleport_sends n agrees k filter dest program fine_k nested ok_k), refl))
-  safely_done (Instruction-F.ReportError info) m fine quiet steady fees in_order nested ok =
-      around withdraws moves (fee_to m.part info.destination) n m (λ k. report_refused k info (response.ExecutionResult k.regs.error)) (λ k. report_done k info (response.ExecutionResult k.regs.error)) fine (λ fee. fee_in_order m.part info.destination fee fees) steady.rest.slot ok
-      (λ k fine_k at ok_k. (sends_safely k _ fine_k.spared (report_sends n agrees k info (response.ExecutionResult k.regs.error) ok_k), refl))
-  safely_done (Instruction-F.ReportHolding info filter) m fine quiet steady fees in_order nested ok =
-      around withdraws moves (fee_to m.part info.destination) n m (λ k. holding_report_refused k info (reported_list k info filter)) (λ k. holding_report_done k info (reported_list k info filter)) fine (λ fee. fee_in_order m.part info.destination fee fees) steady.rest.slot ok
-      (λ k fine_k at ok_k. (sends_safely k _ fine_k.spared (holding_report_sends n agrees k info (reported_list k info filter) ok_k), holding_origin k info (reported_list k info filter)))
-  safely_done (Instruction-F.QueryPallet name info) m fine quiet steady fees in_order nested ok =
-      around withdraws moves (fee_to m.part info.destination) n m (λ k. report_refused k info (response.PalletsInfo (pallets_of k.part name))) (λ k. report_done k info (response.PalletsInfo (pallets_of k.part name))) fine (λ fee. fee_in_order m.part info.destination fee fees) steady.rest.slot ok
-      (λ k fine_k at ok_k. (sends_safely k _ fine_k.spared (report_sends n agrees k info (response.PalletsInfo (pallets_of k.part name)) ok_k), refl))
-  safely_done (Instruction-F.ReportTransactStatus info) m fine quiet steady fees in_order nested ok =
-      around withdraws moves (fee_to m.part info.destination) n m (λ k. report_refused k info (response.DispatchResult k.regs.status)) (λ k. report_done k info (response.DispatchResult k.regs.status)) fine (λ fee. fee_in_order m.part info.destination fee fees) steady.rest.slot ok
-      (λ k fine_k at ok_k. (sends_safely k _ fine_k.spared (report_sends n agrees k info (response.DispatchResult k.regs.status) ok_k), refl))
-  safely_done (Instruction-F.QueryResponse query answer weight querier) m fine quiet steady fees in_order nested ok = by_origin (Safely m) m.regs.origin m _ _ refl ok
-      (λ who is h. turned m _ fine (part_turn m (answered m.part who query) (call_by nobody (origins m) none none m.part (answered m.part who query) (answering m.part who query) (by_nobody m))))
-  safely_done (Instruction-F.DescendOrigin path) m fine quiet steady fees in_order nested ok = by_origin (Safely m) m.regs.origin m _ _ refl ok (λ who is h. turned m _ fine (same_turn m (machine (record m.regs { origin = Some (descended who path) }) m.part) refl refl))
-  safely_done l m fine quiet steady fees in_order nested ok = turned m (done l m) fine (same_turn m (done l m) refl refl)
+taking_fee : (p : ChainPart) → Call nobody none (sum_of p.fee_slot) p (fee_taken p)
+taking_fee p =
+    let same = slot_same p in
+    record {
+      site = ap (λ (k : Kept). k.site) same;
+      rows = ap (λ (k : Kept). k.rows) same;
+      channels = ap (λ (k : Kept). k.channels) same;
+      checking = ap (λ (k : Kept). k.checking) same;
+      cargo = λ h. ap (λ (k : Kept). k.cargo) same ∙ h;
+      gone = empty;
+      amounts = λ t. let e = slot_left t p in let z = total-empty unit_keys t in omega (arith, e, z);
+      books = λ test. let e : burned_where test (fee_taken p) ≡ burned_where test p = ap (λ (k : Kept). total (is_burn_where test) k.burns) same in let z = total-empty unit_keys (is_unit_where test) in omega (arith, e, z);
+      accounts = λ who t others. let e : account_total who t (fee_taken p) ≡ account_total who t p = ap (λ (k : Kept). total (λ (h : Holder). is_account who h && t h.1) k.held) same in omega (arith, e);
+    }
+
+-- ---- what is in hand counts as held
+abbrev pub pooled : Midway → Machine
+pooled t = machine (with_holding t.regs (merge t.regs.holding t.goods)) t.part
+
+pub pooled_between : (m : Machine) → pooled (between m) ≡ m
+pooled_between m = ap (λ (b : Bundle). machine (with_holding m.regs b) m.part) (merge-empty unit_keys m.regs.holding)
+
+hold_pooled : (t : Midway) (q : Unit → Bool) → hold (pooled t) q ≡ total q t.regs.holding + total q t.goods
+hold_pooled t q = total-merge unit_keys q t.regs.holding t.goods
+
+pub goods_room : (t : Midway) → HasRoom (hold (pooled t)) t.part → HasRoom (sum_of t.goods) t.part
+goods_room t room = room_with (hold (pooled t)) (sum_of t.goods) t.part room (λ q. let e = hold_pooled t q in omega (arith, e))
+
+-- the first call of an instruction finds nothing in hand
+nothing_in_hand : (t : Midway) → t.goods ≡ empty → (q : Unit → Bool) → total q t.goods ≡ 0
+nothing_in_hand t none q = ap (total q) none ∙ total-empty unit_keys q
+
+-- ---- each call
+module _ (withdraws : Withdraws) (moves : MovesAreKept) (n : List Table) (l : Instruction-F Instruction) (m : Machine)
+    (fine : IsFine n m) (quiet : IsQuiet m.regs.origin) (steady : IsSteady m) (fees : AreFees m.part.channels) (in_order : HasList Instruction l) (nested : AllInside AreLists (inner l)) where
+  abbrev pub IsSafely : Midway → Type 0
+  IsSafely t = Safely m (pooled t)
+
+  same_origin : (t : Midway) → IsFrom m t → t.regs.origin ≡ m.regs.origin
+  same_origin t from = ap (λ (r : Registers). r.origin) from.regs
+
+  speaks_at : (t : Midway) (who : Location) → IsFrom m t → m.regs.origin ≡ Some who → t.regs.origin ≡ Some who
+  speaks_at t who from is = same_origin t from ∙ is
+
+  spared_at : (t : Midway) → IsFrom m t → IsSpared (pooled t)
+  spared_at t from = caller_spared (pooled t) (subst IsQuiet (sym (same_origin t from)) quiet)
+
+  room_at : (t : Midway) → IsSafely t → HasRoom (hold (pooled t)) t.part
+  room_at t k = keeps_room m (pooled t) k fine.room
+
+  list_of : (k : Instruction-F Instruction) → l ≡ k → HasList Instruction k
+  list_of k is = subst (HasList Instruction) is in_order
+
+  inside_of : (k : Instruction-F Instruction) → l ≡ k → AllInside AreLists (inner k)
+  inside_of k is = subst (λ (k : Instruction-F Instruction). AllInside AreLists (inner k)) is nested
+
+  fee_list : (fee : Asset) → IsFee l m fee → IsAssetList (fee ∷ [])
+  fee_list fee is = fee_in_order m.part is.0 fee fees is.2
+
+  -- goods move inside the chain
+  moves_on : (may : List ℕ → Type 0) (ins outs : Sum) (c : HostCall) (t : Midway) → Call may ins outs t.part (effect c t) → ((who : List ℕ) → may who → origins (pooled t) who)
+      → ((q : Unit → Bool) → total q t.regs.holding + total q t.goods + outs q ≡ total q (after c t).regs.holding + total q (after c t).goods + ins q) → IsFrom m t → IsSafely t → IsSafely (after c t)
+  moves_on may ins outs c t x by sums from k =
+      let u = after c t in
+      safely_then m (pooled t) (pooled u) k
+      (turn_safely (pooled t) (pooled u) (spared_at t from)
+      (subst (λ (p : ChainPart). Call (origins (pooled t)) (hold (pooled t)) (hold (pooled u)) t.part p) (sym (part_is c t))
+      (call_with (origins (pooled t)) ins outs (hold (pooled t)) (hold (pooled u)) t.part (effect c t) (call_by may (origins (pooled t)) ins outs t.part (effect c t) x by)
+      (λ q. let a = hold_pooled t q in let b = hold_pooled u q in let e = sums q in omega (arith, a, b, e)))))
+
+  -- and no account falls
+  gives : (ins outs : Sum) (c : HostCall) (t : Midway) → Call nobody ins outs t.part (effect c t)
+      → ((q : Unit → Bool) → total q t.regs.holding + total q t.goods + outs q ≡ total q (after c t).regs.holding + total q (after c t).goods + ins q) → IsFrom m t → IsSafely t → IsSafely (after c t)
+  gives ins outs c t x sums from k = moves_on nobody ins outs c t x (λ who h. absurd h) sums from k
+
+  -- a message is sent
+  sends_on : (c : HostCall) (t : Midway) → Sends (pooled t) (machine (pooled (after c t)).regs (effect c t)) → IsFrom m t → IsSafely t → IsSafely (after c t)
+  sends_on c t s from k =
+      let u = after c t in
+      safely_then m (pooled t) (pooled u) k
+      (sends_safely (pooled t) (pooled u) (spared_at t from) (subst (λ (p : ChainPart). Sends (pooled t) (machine (pooled u).regs p)) (sym (part_is c t)) s))
+
+  leaves_hand : (t : Midway) → IsWithin t.goods m.regs.holding → Leaves (pooled t) (merge t.regs.holding empty) t.goods
+  leaves_hand t taken = record {
+    sums = λ q. let a = hold_pooled t q in let b = total-merge unit_keys q t.regs.holding empty in let z = total-empty unit_keys q in omega (arith, a, b, z);
+    within = λ u. let le = taken u in let end = fine.within u in omega (arith, le, end);
+  }
+
+  there_at : (t : Midway) → IsSafely t → IsIn n (table_of t.part)
+  there_at t k = subst (IsIn n) (sym (same_table m.part t.part k.site k.rows)) fine.there
+
+  listed_at : (t : Midway) → IsWithin t.goods m.regs.holding → IsSafely t → AreListed (listing t.part.rows) t.goods
+  listed_at t taken k = subst (λ (rows : List AssetRow). AreListed (listing rows) t.goods) (sym k.rows) (listed_within (listing m.part.rows) m.regs.holding t.goods taken fine.listed)
+
+  none_at_first : (t : Midway) → t ≡ between m → t.goods ≡ empty
+  none_at_first t first = ap (λ (t : Midway). t.goods) first
+
+  nothing_received : (t : Midway) (o : Option Location) (list : List Asset) (teleport : Bool) → IsQuiet o → with_origin o (λ who. receive_refusal t.part list who teleport) ≡ None → list ≡ []
+  nothing_received t None list teleport quiet ok = absurd cc
+  nothing_received t (Some who) list teleport quiet ok = receives_none t.part who teleport list (quiet who refl) ok
+
+  -- what sends needs that the chains agree; where memory stops an instruction, nothing was sent
+  pub called_safely : (c : HostCall) (t : Midway) → ComesBeforeStop c ⊎ Agrees n → Asks false l m t c → IsFrom m t → why_not c t ≡ None → IsSafely t → IsSafely (after c t)
+  called_safely (HostCall.Check ok e) t which asks from free k = k
+  called_safely (HostCall.Take filter) t which asks from free k = gives none none (HostCall.Take filter) t (still t.part t.part refl)
+      (λ q. let z = nothing_in_hand t asks q in let e = taken_conserves q filter t.regs.holding in omega (arith, z, e)) from k
+  called_safely (HostCall.Pay a) t which asks from free k = gives none none (HostCall.Pay a) t (still t.part t.part refl)
+      (λ q. let z = nothing_in_hand t (none_at_first t asks.0) q in let e = paid_parts (here t) a (unless_held _ _ _ free) q in omega (arith, z, e)) from k
+  called_safely HostCall.Join t which asks from free k =
+      let both = with (sum_of t.regs.holding) (sum_of t.goods) in
+      gives both (sum_of (Joined t.regs.holding t.goods)) HostCall.Join t
+      (joining t.part t.regs.holding t.goods (room_with (hold (pooled t)) both t.part (room_at t k) (λ q. let e = hold_pooled t q in omega (arith, e))))
+      (λ q. let z = total-empty unit_keys q in omega (arith, z)) from k
+  called_safely (HostCall.Withdraw list who) t which asks from free k =
+      moves_on (only (account_of who t.part.site)) none (sum_of (bundle_of list)) (HostCall.Withdraw list who) t
+      (withdrawing withdraws t.part list who (list_of (Instruction-F.WithdrawAsset list) asks.2) free) (λ account e. (who, speaks_at t who from asks.1, e))
+      (λ q. let z = nothing_in_hand t (none_at_first t asks.0) q in omega (arith, z)) from k
+  called_safely (HostCall.Draw fee who) t which asks from free k =
+      moves_on (only (account_of who t.part.site)) none (sum_of (payment_of fee)) (HostCall.Draw fee who) t
+      (drawing withdraws t.part (fee ∷ []) who (fee_list fee asks.2) free) (λ account e. (who, speaks_at t who from asks.1, e))
+      (λ q. let z = nothing_in_hand t (none_at_first t asks.0) q in omega (arith, z)) from k
+  called_safely (HostCall.Receive list o teleport) t which asks from free k =
+      let none_of = nothing_received t o list teleport (subst IsQuiet (sym asks.1) quiet) free in
+      gives none none (HostCall.Receive list o teleport) t (receiving_none t.part list teleport none_of)
+      (λ q. let z = nothing_in_hand t (none_at_first t asks.0) q in let e = ap (λ (xs : List Asset). total q (bundle_of xs)) none_of in let none_there = total_nothing q in omega (arith, z, e, none_there)) from k
+  called_safely (HostCall.Claim list who) t which asks from free k = gives none (sum_of (bundle_of list)) (HostCall.Claim list who) t (claiming t.part list who free)
+      (λ q. let z = nothing_in_hand t (none_at_first t asks.0) q in omega (arith, z)) from k
+  called_safely (HostCall.Refund w) t which asks from free k = gives none (sum_of (refund_goods t.part w)) (HostCall.Refund w) t
+      (refunding moves t.part w (subst (λ (t : Midway). AreWithinEnd t.part.lines) (sym asks.0) steady.rest.order.paid)) (λ q. let z = nothing_in_hand t (none_at_first t asks.0) q in omega (arith, z)) from k
+  called_safely (HostCall.Deposit who) t which asks from free k = gives (sum_of t.goods) none (HostCall.Deposit who) t (depositing t.part t.goods who free) (λ q. let z = total-empty unit_keys q in omega (arith, z)) from k
+  called_safely HostCall.Burn t which asks from free k = gives (sum_of t.goods) none HostCall.Burn t (burn t.part t.goods (goods_room t (room_at t k))) (λ q. let z = total-empty unit_keys q in omega (arith, z)) from k
+  called_safely (HostCall.Buy w) t which asks from free k = gives (sum_of t.goods) (sum_of (unspent t.part w t.goods)) (HostCall.Buy w) t
+      (buying moves t.part w t.goods (subst (λ (t : Midway). AreWithinEnd t.part.lines) (sym asks.2) steady.rest.order.paid) (goods_room t (room_at t k))) (λ q. omega arith) from k
+  called_safely (HostCall.DepositOut dest xcm) t which asks from free k = ⊎_elim (λ (early : ⊥). absurd early) (λ (agrees : Agrees n). sends_on (HostCall.DepositOut dest xcm) t
+      (deposit_sends n agrees (pooled t) (merge t.regs.holding empty) t.goods dest xcm (leaves_hand t asks.1) (listed_at t asks.1 k) (inside_of (Instruction-F.DepositReserveAsset asks.2.0 dest xcm) asks.2.1) free) from k) which
+  called_safely (HostCall.Ship Way.Withdrawal dest xcm) t which asks from free k = ⊎_elim (λ (early : ⊥). absurd early) (λ (agrees : Agrees n). sends_on (HostCall.Ship Way.Withdrawal dest xcm) t
+      (withdrawal_sends n agrees (pooled t) (merge t.regs.holding empty) t.goods dest xcm (leaves_hand t asks.1) (there_at t k) (inside_of (Instruction-F.InitiateReserveWithdraw asks.2.0 dest xcm) asks.2.1) free) from k) which
+  called_safely (HostCall.Ship Way.Teleport dest xcm) t which asks from free k = ⊎_elim (λ (early : ⊥). absurd early) (λ (agrees : Agrees n). sends_on (HostCall.Ship Way.Teleport dest xcm) t
+      (teleport_sends n agrees (pooled t) (merge t.regs.holding empty) t.goods dest xcm (leaves_hand t asks.1) (there_at t k) (inside_of (Instruction-F.InitiateTeleport asks.2.0 dest xcm) asks.2.1) free) from k) which
+  called_safely (HostCall.Transfer list who to) t which asks from free k =
+      moves_on (only (account_of who t.part.site)) none none (HostCall.Transfer list who to) t
+      (transferring withdraws t.part list who to (list_of (Instruction-F.TransferAsset list to) asks.2) free) (λ account e. (who, speaks_at t who from asks.1, e)) (λ q. omega arith) from k
+  called_safely (HostCall.TransferOut list who dest xcm) t which asks from free k = ⊎_elim (λ (early : ⊥). absurd early) (λ (agrees : Agrees n). sends_on (HostCall.TransferOut list who dest xcm) t
+      (transfer_sends n agrees withdraws (pooled t) list who dest xcm (speaks_at t who from asks.1) (list_of (Instruction-F.TransferReserveAsset list dest xcm) asks.2) (inside_of (Instruction-F.TransferReserveAsset list dest xcm) asks.2) free) from k) which
+  called_safely (HostCall.Respond info answer querier) t which asks from free k = ⊎_elim (λ (early : ⊥). absurd early) (λ (agrees : Agrees n). sends_on (HostCall.Respond info answer querier) t (report_sends n agrees (pooled t) info answer querier free) from k) which
+  called_safely (HostCall.Answer who query) t which asks from free k = gives none none (HostCall.Answer who query) t (answering t.part who query) (λ q. omega arith) from k
+  called_safely HostCall.HoldFee t which asks from free k = gives (sum_of t.goods) none HostCall.HoldFee t (holding_fee t.part t.goods (asks.3 ∙ steady.rest.slot)) (λ q. let z = total-empty unit_keys q in omega (arith, z)) from k
+  called_safely HostCall.TakeFee t which asks from free k = gives none (sum_of t.part.fee_slot) HostCall.TakeFee t (taking_fee t.part) (λ q. let z = nothing_in_hand t asks q in omega (arith, z)) from k
+  called_safely HostCall.KeepFee t which asks from free k = gives none none HostCall.KeepFee t (keeping t.part (room_with (hold (pooled t)) none t.part (room_at t k) (λ q. omega arith))) (λ q. omega arith) from k
+  called_safely HostCall.Park t which asks from free k = gives (sum_of t.goods) none HostCall.Park t (parking_goods t.part t.goods) (λ q. let z = total-empty unit_keys q in omega (arith, z)) from k
+  called_safely HostCall.Empty t which asks from free k = absurd (cc asks.0)
+  called_safely (HostCall.Tell e) t which asks from free k = absurd (cc asks.0)
+  called_safely HostCall.Settle t which asks from free k = absurd (cc asks.0)
+  called_safely (HostCall.Trap who) t which asks from free k = absurd (cc asks)
+
+  -- other registers than the holding
+  other_registers : (r : Registers) (k : Machine) → Safely m k → Safely m (machine (with_holding r k.regs.holding) k.part)
+  other_registers r k s = record { site = s.site; rows = s.rows; safe = s.safe; units = s.units; burns = s.burns; trusted = s.trusted; links = s.links; cargo = s.cargo }
+
+  turned_safely : (t : Midway) → IsFrom m t → IsSafely t → IsSafely (turned_at l m t)
+  turned_safely t from k = subst (λ (b : Bundle). Safely m (machine (with_holding (turned l m t.regs) (merge b t.goods)) t.part)) (sym (turns l m t from).holding) (other_registers (turned l m t.regs) (pooled t) k)
+
+  at_first : IsSafely (between m)
+  at_first = subst (Safely m) (sym (pooled_between m)) (turn_safely m m fine.spared (same_turn m m refl refl))
+
+  -- ---- where memory stops one
+  pub spilled_safely : (now : Machine) → Spilled l m now → Safely m now
+  spilled_safely now s = subst (Safely m) (pooled_between now) (lead_keeps l m IsSafely (λ c t early. called_safely c t (inl early)) now (spilled_lead l m now s) at_first)
+
+  -- ---- an accepted instruction
+  pub safely_done : Agrees n → refused l m ≡ None → Safely m (done l m)
+  safely_done agrees ok = subst (Safely m) (pooled_between (done l m)) (done_keeps l m IsSafely (λ c t. called_safely c t (inr agrees)) turned_safely ok at_first)

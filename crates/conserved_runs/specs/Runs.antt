@@ -172,7 +172,7 @@ module _ (withdraws : Withdraws) (moves : MovesAreKept) (stays : StaysSteady) (n
   done_goes x m lists ok safe =
       let k = xcm.done x m in
       let opened = everywhere_open HasList HasList-IsOfLayer x lists in
-      let safely = safely_done withdraws moves n agrees (out-Instruction x) m safe.fine safe.quiet safe.steady safe.fees opened.0 opened.1 ok in
+      let safely = safely_done withdraws moves n (out-Instruction x) m safe.fine safe.quiet safe.steady safe.fees opened.0 opened.1 agrees ok in
       let steady = stays x m safe.steady ok in
       let quiet = quiet_done (out-Instruction x) m safe.quiet in (
         record {

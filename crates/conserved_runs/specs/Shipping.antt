@@ -1,6 +1,6 @@
--- Lemmas: the instructions that send. A reader may skip this file.
+-- Lemmas: the calls that send. A reader may skip this file.
 use Rattle.std.proofs.Common.{◌≡◌, ℕ, ◌+◌, ◌<◌, ◌≤◌, Bool, true, false, List, [], ◌∷◌, Option, Some, None, refl, sym, ap, ◌∙◌, subst, arith}
-use Rattle.std.specs.Prelude.{IsTrue, ◌&&◌, ◌||◌, nat_eq, if◌then◌else◌, nat_le, length, is_some}
+use Rattle.std.specs.Prelude.{IsTrue, ◌&&◌, ◌||◌, nat_eq, nat_le, length}
 use Rattle.std.specs.List.{AllByRecursion, list_any}
 use Rattle.std.specs.Option.{option_map, option_and_then, option_map_or}
 use Rattle.std.specs.Ordering.{eq_by_cmp}
@@ -11,12 +11,10 @@ use Rattle.locations.specs.declared.relative.Location.{Location}
 use Rattle.message_parts.specs.declared.error.XcmError.TheVariants as error
 use Rattle.message_parts.specs.declared.query.QueryInfo.{QueryInfo}
 use Rattle.message_parts.specs.declared.query.Response.{Response}
-use Rattle.message_parts.specs.declared.query.Response.TheVariants as response
 use Rattle.asset_lists.specs.declared.units.Asset.{Asset}
 use Rattle.asset_lists.specs.declared.units.AssetId.{AssetId}
 use Rattle.asset_lists.specs.declared.units.Instance.{Instance}
 use Rattle.asset_lists.specs.declared.units.Fun.{Fun}
-use Rattle.asset_lists.specs.declared.filters.Filter.{Filter}
 use Rattle.std.proofs.lemmas.Bool.{and_parts}
 use Rattle.std.proofs.lemmas.Bool.Decides.{nat_tests}
 use Rattle.std.proofs.lemmas.List.Sorted.{list_any-IsPermutation}
@@ -30,8 +28,7 @@ use Rattle.asset_bundles.specs.declared.shipment.Way.{Way}
 use Rattle.asset_bundles.specs.Bundles.{Bundle, unit_keys, bundle_of, rows_of, fun_of, assets_at, held_assets, IsGoods}
 use Rattle.asset_bundles.specs.Books.{AreListed}
 use Rattle.asset_bundles.specs.Joins.{most_of, IsWithinMost}
-use Rattle.asset_bundles.specs.Filters.{Left}
-use Rattle.asset_bundles.specs.Laws.{Taken-within, taken_conserves, listed_taken, asset_of_unit}
+use Rattle.asset_bundles.specs.Laws.{asset_of_unit}
 use Rattle.trust_tables.specs.Accounts.{account_of}
 use Rattle.trust_tables.specs.Trust.{listing, is_reserve, is_partner}
 use Rattle.xcm_program.specs.declared.instruction.Instruction.{Instruction}
@@ -48,9 +45,8 @@ use Rattle.exec_base.specs.Part.{ChainPart}
 use Rattle.exec_base.specs.Sending.{channel_to, leads_to, is_sendable, channel_refusal, send_refusal, sent, led_by, listed_refusal, listed_program, deposit_program, away_program}
 use Rattle.exec_base.specs.Host.{first_fault, give_fault, trust_fault, deposit_refusal, deposited, transfer_refusal, withdraw_refusal, transferred, transfer_out_refusal, transferred_out, deposit_out_refusal, deposited_out, is_teleport, changed_all, ship_refusal, shipped, seen_from, querier_seen, report_program, report_refusal, respond_refusal, responded}
 use Rattle.exec_run.specs.Machine.{Machine, machine}
-use Rattle.exec_rules.specs.Holdings.{taken_of, holding_left}
-use Rattle.exec_rules.specs.Reports.{report_refused, report_done, too_many_refused, holding_report_refused, holding_report_done}
-use Rattle.exec_rules.specs.AnswerLaws.{unless_held, unless_next, none_first, none_next, withdrawn_is_listed}
+use Rattle.exec_rules.specs.Holdings.{with_holding}
+use Rattle.exec_rules.specs.AnswerLaws.{unless_held, none_first, none_next, withdrawn_is_listed}
 use Rattle.coherence.specs.UniversalAssets.{UniversalAsset, every}
 use Rattle.coherence.specs.Networks.{Table, IsIn, Agrees}
 use Rattle.coherence.specs.Trusting.{of_reserve}
@@ -62,7 +58,7 @@ use Rattle.conserved_runs.specs.Sums.{kept_of, account_total, sum_of, none, with
 use Rattle.conserved_runs.specs.Calls.{Withdraws, call_then, call_with, call_by, still, depositing, transferring, got_at, put_by_transfer}
 use Rattle.conserved_runs.specs.Posts.{routed_send, routed_list}
 use Rattle.conserved_runs.specs.Checks.{same_checks, list_raises}
-use Rattle.conserved_runs.specs.Safety.{HasList, AreLists, origins, hold, IsRunnable, Sends, IsFine}
+use Rattle.conserved_runs.specs.Safety.{HasList, AreLists, origins, hold, IsRunnable, Sends}
 
 -- ---- the assets of a bundle whose instances are held once
 abbrev AreWithin : List (Unit × ℕ) → Type 0
@@ -91,8 +87,10 @@ goods_back b within =
     ap from_rows (rows_back (rows b) (rows_positive b) (λ u. let e = amount-rows unit_keys b u in let le = within u in omega (arith, e, le)))
     ∙ from_rows-rows unit_keys b
 
-taken_most : (m : Machine) (filter : Filter) → IsWithinMost m.regs.holding → IsWithinMost (taken_of m filter)
-taken_most m filter within u = let le = Taken-within filter m.regs.holding u in let end = within u in omega (arith, le, end)
+-- goods leave what is held, and the rest stays
+pub record Leaves (m : Machine) (rest goods : Bundle) : Type 0 where
+  pub sums : (t : Unit → Bool) → total t rest + total t goods ≡ total t m.regs.holding
+  pub within : IsWithinMost goods
 
 -- ---- an asset of each unit
 find_trusted : (P : Asset → Type 0) (xs : List Asset) (u : Unit) → AllByRecursion P xs → list_any (λ a. eq_by_cmp unit_cmp u (unit_of a)) xs ≡ true → (a : Asset) × P a × (u ≡ unit_of a)
@@ -280,13 +278,12 @@ module _ (n : List Table) (agrees : Agrees n) where
   unfolding ship_refusal
   ship_faults p goods way dest xcm ok = (none_first _ _ ok, none_next _ _ (none_next _ _ ok))
 
-  pub withdrawal_sends : (m : Machine) (filter : Filter) (dest : Location) (xcm : List Instruction) → IsFine n m → AllByRecursion AreLists xcm → ship_refusal m.part (taken_of m filter) Way.Withdrawal dest xcm ≡ None
-      → Sends m (holding_left m filter (shipped m.part (taken_of m filter) Way.Withdrawal dest xcm))
-  withdrawal_sends m filter dest xcm fine nested ok =
-      let goods = taken_of m filter in
+  pub withdrawal_sends : (m : Machine) (rest goods : Bundle) (dest : Location) (xcm : List Instruction) → Leaves m rest goods → IsIn n (table_of m.part) → AllByRecursion AreLists xcm → ship_refusal m.part goods Way.Withdrawal dest xcm ≡ None
+      → Sends m (machine (with_holding m.regs rest) (shipped m.part goods Way.Withdrawal dest xcm))
+  withdrawal_sends m rest goods dest xcm leaves there nested ok =
       let faults = ship_faults m.part goods Way.Withdrawal dest xcm ok in
       let routed = routed_list m.part dest (λ a. away_program Way.Withdrawal a xcm) (seen_from m.part dest (held_assets goods)) faults.1 in
-      let whole = goods_back goods (taken_most m filter fine.within) in
+      let whole = goods_back goods leaves.within in
       let reserves = reserves_hold m.part dest (held_assets goods) faults.0 in
       let q : ChainPart = record (shipped m.part goods Way.Withdrawal dest xcm) { channels = m.part.channels; checking = m.part.checking } in
       record {
@@ -296,23 +293,22 @@ module _ (n : List Table) (agrees : Agrees n) where
         program = listed_program (λ a. away_program Way.Withdrawal a xcm) (seen_from m.part dest (held_assets goods));
         cargo = away Way.Withdrawal goods;
         queued = shipped_queued m.part goods Way.Withdrawal dest xcm;
-        call = call_with (origins m) none none (hold m) (with (sum_of (Left filter m.regs.holding)) (sum_of goods)) m.part q
+        call = call_with (origins m) none none (hold m) (with (sum_of rest) (sum_of goods)) m.part q
             (call_by nobody (origins m) none none m.part q (still m.part q (shipped_kept m.part goods Way.Withdrawal dest xcm)) (λ who h. absurd h))
-            (λ t. let e = taken_conserves t filter m.regs.holding in omega (arith, e));
+            (λ t. let e = leaves.sums t in omega (arith, e));
         put = λ who t account others. let e = shipped_accounts who t m.part goods Way.Withdrawal dest xcm in omega (arith, e);
         raised = λ a. same_checks m.part _ a (withdrawal_checks m.part goods dest xcm);
-        foreign = λ a home. withdrawal_foreign n agrees (view m) goods fine.there (foreign_units (table_of m.part) fine.there dest goods whole reserves) a home;
+        foreign = λ a home. withdrawal_foreign n agrees (view m) goods there (foreign_units (table_of m.part) there dest goods whole reserves) a home;
         trusted = (whole, reserves);
         runnable = shipped_runs m.part goods Way.Withdrawal dest xcm nested (seen_from m.part dest (held_assets goods)) refl faults.1;
       }
 
-  pub teleport_sends : (m : Machine) (filter : Filter) (dest : Location) (xcm : List Instruction) → IsFine n m → AllByRecursion AreLists xcm → ship_refusal m.part (taken_of m filter) Way.Teleport dest xcm ≡ None
-      → Sends m (holding_left m filter (shipped m.part (taken_of m filter) Way.Teleport dest xcm))
-  teleport_sends m filter dest xcm fine nested ok =
-      let goods = taken_of m filter in
+  pub teleport_sends : (m : Machine) (rest goods : Bundle) (dest : Location) (xcm : List Instruction) → Leaves m rest goods → IsIn n (table_of m.part) → AllByRecursion AreLists xcm → ship_refusal m.part goods Way.Teleport dest xcm ≡ None
+      → Sends m (machine (with_holding m.regs rest) (shipped m.part goods Way.Teleport dest xcm))
+  teleport_sends m rest goods dest xcm leaves there nested ok =
       let faults = ship_faults m.part goods Way.Teleport dest xcm ok in
       let routed = routed_list m.part dest (λ a. away_program Way.Teleport a xcm) (seen_from m.part dest (held_assets goods)) faults.1 in
-      let whole = goods_back goods (taken_most m filter fine.within) in
+      let whole = goods_back goods leaves.within in
       let q : ChainPart = record (shipped m.part goods Way.Teleport dest xcm) { channels = m.part.channels; checking = m.part.checking } in
       record {
         name = dest;
@@ -321,11 +317,11 @@ module _ (n : List Table) (agrees : Agrees n) where
         program = listed_program (λ a. away_program Way.Teleport a xcm) (seen_from m.part dest (held_assets goods));
         cargo = away Way.Teleport goods;
         queued = shipped_queued m.part goods Way.Teleport dest xcm;
-        call = call_with (origins m) none none (hold m) (with (sum_of (Left filter m.regs.holding)) (sum_of goods)) m.part q
+        call = call_with (origins m) none none (hold m) (with (sum_of rest) (sum_of goods)) m.part q
             (call_by nobody (origins m) none none m.part q (still m.part q (shipped_kept m.part goods Way.Teleport dest xcm)) (λ who h. absurd h))
-            (λ t. let e = taken_conserves t filter m.regs.holding in omega (arith, e));
+            (λ t. let e = leaves.sums t in omega (arith, e));
         put = λ who t account others. let e = shipped_accounts who t m.part goods Way.Teleport dest xcm in omega (arith, e);
-        raised = accounts_raised m.part fine.there dest goods whole (partners_hold m.part dest (held_assets goods) faults.0) _ (teleport_checks m.part goods dest xcm);
+        raised = accounts_raised m.part there dest goods whole (partners_hold m.part dest (held_assets goods) faults.0) _ (teleport_checks m.part goods dest xcm);
         foreign = λ a home. refl;
         trusted = (whole, partners_hold m.part dest (held_assets goods) faults.0);
         runnable = shipped_runs m.part goods Way.Teleport dest xcm nested (seen_from m.part dest (held_assets goods)) refl faults.1;
@@ -354,13 +350,12 @@ module _ (n : List Table) (agrees : Agrees n) where
   unfolding deposit_out_refusal
   deposit_faults p goods dest xcm ok = (none_first _ _ ok, none_next _ _ ok)
 
-  pub deposit_sends : (m : Machine) (filter : Filter) (dest : Location) (xcm : List Instruction) → IsFine n m → AllByRecursion AreLists xcm → deposit_out_refusal m.part (taken_of m filter) dest xcm ≡ None
-      → Sends m (holding_left m filter (deposited_out m.part (taken_of m filter) dest xcm))
-  deposit_sends m filter dest xcm fine nested ok =
-      let goods = taken_of m filter in
+  pub deposit_sends : (m : Machine) (rest goods : Bundle) (dest : Location) (xcm : List Instruction) → Leaves m rest goods → AreListed (listing m.part.rows) goods → AllByRecursion AreLists xcm → deposit_out_refusal m.part goods dest xcm ≡ None
+      → Sends m (machine (with_holding m.regs rest) (deposited_out m.part goods dest xcm))
+  deposit_sends m rest goods dest xcm leaves listed nested ok =
       let faults = deposit_faults m.part goods dest xcm ok in
       let routed = routed_list m.part dest (λ a. deposit_program a xcm) (seen_from m.part dest (held_assets goods)) faults.1 in
-      let whole = goods_back goods (taken_most m filter fine.within) in
+      let whole = goods_back goods leaves.within in
       let p = deposited m.part goods dest in
       let q : ChainPart = record (deposited_out m.part goods dest xcm) { channels = m.part.channels; checking = m.part.checking } in
       record {
@@ -370,17 +365,17 @@ module _ (n : List Table) (agrees : Agrees n) where
         program = listed_program (λ a. deposit_program a xcm) (seen_from m.part dest (held_assets goods));
         cargo = cargos.Deposit (held_assets goods);
         queued = deposited_queued m.part goods dest xcm;
-        call = call_with (origins m) (sum_of goods) none (hold m) (with (sum_of (Left filter m.regs.holding)) none) m.part q
+        call = call_with (origins m) (sum_of goods) none (hold m) (with (sum_of rest) none) m.part q
             (call_by nobody (origins m) (sum_of goods) none m.part q
             (call_then nobody (sum_of goods) none none m.part p q (depositing m.part goods dest faults.0) (still p q (deposited_kept m.part goods dest xcm))) (λ who h. absurd h))
-            (λ t. let e = taken_conserves t filter m.regs.holding in omega (arith, e));
+            (λ t. let e = leaves.sums t in omega (arith, e));
         put = λ who t account others.
             let got = deposit_put m.part goods dest xcm who t account in
             let same = ap (total t) whole in
             omega (arith, got, same);
         raised = λ a. same_checks m.part _ a (deposited_checks m.part goods dest xcm);
         foreign = λ a home. refl;
-        trusted = subst (AreListed (listing m.part.rows)) (sym whole) (listed_taken (listing m.part.rows) filter m.regs.holding fine.listed);
+        trusted = subst (AreListed (listing m.part.rows)) (sym whole) listed;
         runnable = deposit_runs m.part dest xcm nested (seen_from m.part dest (held_assets goods)) faults.1;
       }
 
@@ -486,17 +481,6 @@ module _ (n : List Table) (agrees : Agrees n) where
       let routed = routed_send m.part info.destination true (report_program info answer seen) ok in
       nothing_sends m info.destination (report_program info answer seen) routed.0 routed.1 (report_runs m.part info answer seen ok)
 
-  pub report_sends : (m : Machine) (info : QueryInfo) (answer : Response) → report_refused m info answer ≡ None → Sends m (report_done m info answer)
+  pub report_sends : (m : Machine) (info : QueryInfo) (answer : Response) (querier : Option Location) → respond_refusal m.part info answer querier ≡ None → Sends m (machine m.regs (responded m.part info answer querier))
   unfolding respond_refusal responded
-  report_sends m info answer ok = report_by m info answer (querier_seen m.part info.destination m.regs.origin) ok
-
-  too_many : (m : Machine) (info : QueryInfo) → too_many_refused m info ≡ None → ⊥
-  too_many m info ok = let k = unless_next (is_some (querier_seen m.part info.destination m.regs.origin)) _ _ ok in let l = unless_next (is_some (channel_to m.part info.destination)) _ _ k in absurd cc
-
-  holding_by : (m : Machine) (info : QueryInfo) (list : List Asset) (b : Bool) → (if b then report_refused m info (response.Assets list) else too_many_refused m info) ≡ None → Sends m (report_done m info (response.Assets list))
-  holding_by m info list true ok = report_sends m info (response.Assets list) ok
-  holding_by m info list false ok = absurd (too_many m info ok)
-
-  pub holding_report_sends : (m : Machine) (info : QueryInfo) (o : Option (List Asset)) → holding_report_refused m info o ≡ None → Sends m (holding_report_done m info o)
-  holding_report_sends m info None ok = absurd cc
-  holding_report_sends m info (Some list) ok = holding_by m info list (nat_le (length list) 20) ok
+  report_sends m info answer querier ok = report_by m info answer (querier_seen m.part info.destination querier) ok

@@ -33,7 +33,8 @@ use Rattle.conserved_runs.specs.Calls.{call_then, call_with, still, room_kept, r
 use Rattle.conserved_runs.specs.Safety.{HasList, AreLists, hold, Safely, moved_safely, safely_then, keeps_room}
 use Rattle.conserved_runs.specs.Shipping.{HasList-IsOfLayer}
 use Rattle.conserved_runs.specs.Runs.{IsSafeAt, told_steady, done_goes, lists_go_inside, refund_call, told_within}
-use Rattle.conserved_runs.specs.Stopping.{spilled_safely, abandoned_call}
+use Rattle.conserved_runs.specs.Accepted.{spilled_safely}
+use Rattle.conserved_runs.specs.Stopping.{abandoned_call}
 use Rattle.conserved_steps.specs.Soundness.{LawsBelow}
 use Rattle.conserved_steps.specs.Firsts.{IsSetBehind, second, stopped, alone, told_safely, refunded_cargo, last_cargo, settled_cargo, told_cargo, step_on, stays_here, refused_next, refused_last, alone_next, alone_last, led_once, led_on, led_last}
 
@@ -130,7 +131,8 @@ module _ (laws : LawsBelow) (n : List Table) (agrees : Agrees n) (rules : ChainR
   performed x m now (Err e) safe all h = subst (Safely m) (sym h.1) (held_safely m m.regs refl)
 
   spilled : (x : Instruction) (m now : Machine) → IsSafeAt n m → AreLists x → spills x m now → Safely m now
-  spilled x m now safe all h = spilled_safely laws.withdraws laws.moves n (out-Instruction x) m now safe (everywhere_open HasList HasList-IsOfLayer x all).0 h
+  spilled x m now safe all h = let opened = everywhere_open HasList HasList-IsOfLayer x all in
+      spilled_safely laws.withdraws laws.moves n (out-Instruction x) m safe.fine safe.quiet safe.steady safe.fees opened.0 opened.1 now h
 
   pub halted : (x : Instruction) (m now : Machine) → IsSafeAt n m → AreLists x → Halted xcm spills x m now → Safely m now
   halted x m now safe all h = ⊎_elim (λ (s : spills x m now). spilled x m now safe all s) (λ (d : (answer : Result (Unit {0}) XcmError) × Performed xcm x m answer now). performed x m now d.0 safe all d.1) h

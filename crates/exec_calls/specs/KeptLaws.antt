@@ -121,7 +121,7 @@ module _ (K : Midway → Type 0) (kept : IsKeptAtEnd K) where
 
   refund_spilled : (m now : Machine) (l : Instruction-F Instruction) → l ≡ Instruction-F.RefundSurplus → Spilled l m now → Rests m → Rests now
   refund_spilled m now l is s k =
-      lead_keeps Instruction-F.RefundSurplus m K (λ c t asks from ok kt. kept.closing m t c k (also_over Instruction-F.RefundSurplus m t c asks) from ok kt) now (spilled_lead Instruction-F.RefundSurplus m now (subst (λ (l : Instruction-F Instruction). Spilled l m now) is s)) k
+      lead_keeps Instruction-F.RefundSurplus m K (λ c t early asks from ok kt. kept.closing m t c k (also_over Instruction-F.RefundSurplus m t c asks) from ok kt) now (spilled_lead Instruction-F.RefundSurplus m now (subst (λ (l : Instruction-F Instruction). Spilled l m now) is s)) k
 
   pub at_end_kept : (m : Machine) (now : ChainPart) → HaltedAtEnd xcm spills m now → Rests m → Ends K now
   at_end_kept m now h k =
@@ -137,7 +137,7 @@ module _ (K : Midway → Type 0) (kept : IsKeptAtEnd K) where
 module _ (x : Instruction) (m : Machine) (K : Midway → Type 0)
     (step : (c : HostCall) (t : Midway) → Asks false (out-Instruction x) m t c → IsFrom m t → why_not c t ≡ None → K t → K (after c t)) (turn : (t : Midway) → IsFrom m t → K t → K (turned_at (out-Instruction x) m t)) where
   pub spilled_keeps : (now : Machine) → spills x m now → K (between m) → K (between now)
-  spilled_keeps now s k = lead_keeps (out-Instruction x) m K step now (spilled_lead (out-Instruction x) m now s) k
+  spilled_keeps now s k = lead_keeps (out-Instruction x) m K (λ c t early. step c t) now (spilled_lead (out-Instruction x) m now s) k
 
   performed_keeps : (now : Machine) (answer : Result (Unit {0}) XcmError) → Performed xcm x m answer now → K (between m) → K (between now)
   performed_keeps now (Ok d) p k = subst (λ (n : Machine). K (between n)) (sym p.1) (done_keeps (out-Instruction x) m K step turn p.0 k)

@@ -1,6 +1,9 @@
 -- Lemmas that proofs cite, in this crate and above it: each call of an instruction has its reason. A reader of the contracts may skip this
 -- file.
-use Rattle.std.proofs.Common.{◌≡◌, ◌⊎◌, ℕ, Bool, true, false, List, [], ◌∷◌, ◌++◌, Option, Some, None, inl, inr, refl, sym, ap, ◌∙◌, subst}
+use Rattle.std.proofs.Common.{◌≡◌, ◌⊎◌, ℕ, Bool, true, false, List, [], ◌∷◌, ◌++◌, Option, Some, None, inl, inr, refl, sym, ap, ◌∙◌, subst, arith}
+use Rattle.amounts.specs.Amounts.{IsWithin, difference}
+use Rattle.amounts.specs.Laws.{amount-difference}
+use Rattle.std.specs.List.{AllByRecursion}
 use Rattle.std.specs.Prelude.{⊤, if◌then◌else◌, nat_le, is_some, length}
 use Rattle.locations.specs.declared.relative.Location.{Location}
 use Rattle.message_parts.specs.declared.error.XcmError.{XcmError}
@@ -14,7 +17,9 @@ use Rattle.message_parts.specs.declared.weight.WeightLimit.TheVariants.{Unlimite
 use Rattle.asset_lists.specs.declared.units.Asset.{Asset}
 use Rattle.asset_lists.specs.declared.filters.Filter.{Filter}
 use Rattle.asset_lists.specs.declared.filters.Filter.TheVariants.{Definite}
-use Rattle.asset_bundles.specs.Bundles.{Bundle}
+use Rattle.asset_bundles.specs.Bundles.{Bundle, unit_keys}
+use Rattle.asset_bundles.specs.Filters.{Taken}
+use Rattle.asset_bundles.specs.Laws.{Taken-within}
 use Rattle.asset_bundles.specs.declared.shipment.Way.{Way}
 use Rattle.xcm_program.specs.declared.instruction.Instruction.{Instruction}
 use Rattle.xcm_program.specs.declared.instruction.Instruction.TheOpen.{Instruction-F}
@@ -30,7 +35,7 @@ use Rattle.exec_rules.specs.Expectations.{pallet_at}
 use Rattle.exec_rules.specs.Instructions.{refused, done}
 use Rattle.exec_calls.specs.Calls.{Midway, between, HostCall, why_not, after, after_all, refusal_along, never, size_tests, for_origin, charge, around, buying, refunding, report, holding_report, pallet_tests, calls, turned, turned_at}
 use Rattle.exec_calls.specs.CallLaws.{along_both, after_both, charge_after, refused_is, done_is}
-use Rattle.exec_calls.specs.Reasons.{IsFrom, destination, IsFee, IsReport, shipping, Asks, AreAsked, LeadTo}
+use Rattle.exec_calls.specs.Reasons.{IsFrom, destination, IsFee, IsReport, shipping, Asks, AreAsked, ComesBeforeStop, LeadTo}
 
 -- ---- no call changes other registers, or what the document says
 pub from_itself : (m : Machine) → IsFrom m (between m)
@@ -51,6 +56,10 @@ pub asked_both : (l : Instruction-F Instruction) (m : Machine) (xs ys : List Hos
 asked_both l m [] ys t a b = b
 asked_both l m (c ∷ xs) ys t a b = (a.0, asked_both l m xs ys (after c t) a.1 b)
 
+pub early_both : (xs ys : List HostCall) → AllByRecursion ComesBeforeStop xs → AllByRecursion ComesBeforeStop ys → AllByRecursion ComesBeforeStop (xs ++ ys)
+early_both [] ys a b = b
+early_both (c ∷ xs) ys a b = (a.0, early_both xs ys a.1 b)
+
 module _ (l : Instruction-F Instruction) (m : Machine) where
   for_origin_asked : (o : Option Location) (made : Location → List HostCall) (t : Midway) → m.regs.origin ≡ o → ((who : Location) → m.regs.origin ≡ Some who → AreAsked l m (made who) t) → AreAsked l m (for_origin o made) t
   for_origin_asked None made t is asked = (refl, tt)
@@ -63,6 +72,17 @@ module _ (l : Instruction-F Instruction) (m : Machine) where
       by_mode : (b : Bool) → AreAsked l m (if b then for_origin m.regs.origin (λ who. HostCall.Draw fee who ∷ HostCall.HoldFee ∷ []) else HostCall.Pay fee ∷ HostCall.HoldFee ∷ []) (between m)
       by_mode true = for_origin_asked m.regs.origin _ (between m) refl (λ who speaks. ((refl, speaks, is), ((fee, is, refl, refl), tt)))
       by_mode false = ((refl, inl is), ((fee, is, refl, refl), tt))
+
+  pub charge_early : (fee : Asset) → AllByRecursion ComesBeforeStop (charge m fee)
+  charge_early fee = by_mode m.regs.fees_mode
+    where
+      by_account : (o : Option Location) → AllByRecursion ComesBeforeStop (for_origin o (λ who. HostCall.Draw fee who ∷ HostCall.HoldFee ∷ []))
+      by_account None = (tt, tt)
+      by_account (Some who) = (tt, (tt, tt))
+
+      by_mode : (b : Bool) → AllByRecursion ComesBeforeStop (if b then for_origin m.regs.origin (λ who. HostCall.Draw fee who ∷ HostCall.HoldFee ∷ []) else HostCall.Pay fee ∷ HostCall.HoldFee ∷ [])
+      by_mode true = by_account m.regs.origin
+      by_mode false = (tt, (tt, tt))
 
   charge_channels : (fee : Asset) → (after_fee m fee).part.channels ≡ m.part.channels
   unfolding fee_held fee_drawn
@@ -87,14 +107,29 @@ module _ (l : Instruction-F Instruction) (m : Machine) where
       by_mode true = by_account m.regs.origin
       by_mode false = refl
 
+  -- a fee leaves no more in the holding
+  charge_within : (fee : Asset) → IsWithin (after_fee m fee).regs.holding m.regs.holding
+  charge_within fee = by_mode m.regs.fees_mode
+    where
+      by_account : (o : Option Location) → IsWithin (at_origin o (λ who. machine m.regs (fee_held (fee_drawn m.part (fee ∷ []) who) (payment_of fee))) m).regs.holding m.regs.holding
+      by_account None u = omega arith
+      by_account (Some who) u = omega arith
+
+      by_mode : (b : Bool) → IsWithin (if b then at_origin m.regs.origin (λ who. machine m.regs (fee_held (fee_drawn m.part (fee ∷ []) who) (payment_of fee))) m else machine (holding_paid m fee).regs (fee_held m.part (payment_of fee))).regs.holding m.regs.holding
+      by_mode true u = by_account m.regs.origin u
+      by_mode false u = let e = amount-difference unit_keys m.regs.holding (payment_of fee) u in omega (arith, e)
+
+  taken_first : (n : Machine) (filter : Filter) → IsWithin n.regs.holding m.regs.holding → IsWithin (Taken filter n.regs.holding) m.regs.holding
+  taken_first n filter less u = let taken = Taken-within filter n.regs.holding u in let held = less u in omega (arith, taken, held)
+
   around_asked : (dest : Location) (o : Option Asset) (inside : Machine → List HostCall) → destination l ≡ Some dest → fee_to m.part dest ≡ o
-      → ((n : Machine) → n.part.channels ≡ m.part.channels → n.regs.origin ≡ m.regs.origin → AreAsked l m (inside n) (between n)) → AreAsked l m (around o m inside) (between m)
-  around_asked dest None inside goes is asked = asked m refl refl
+      → ((n : Machine) → n.part.channels ≡ m.part.channels → n.regs.origin ≡ m.regs.origin → IsWithin n.regs.holding m.regs.holding → AreAsked l m (inside n) (between n)) → AreAsked l m (around o m inside) (between m)
+  around_asked dest None inside goes is asked = asked m refl refl (λ u. omega arith)
   around_asked dest (Some fee) inside goes is asked =
       let n = after_fee m fee in
       asked_both l m (charge m fee) (inside n ++ HostCall.KeepFee ∷ []) (between m) (charge_asked fee (dest, goes, is))
       (subst (AreAsked l m (inside n ++ HostCall.KeepFee ∷ [])) (sym (charge_after m fee))
-      (asked_both l m (inside n) (HostCall.KeepFee ∷ []) (between n) (asked n (charge_channels fee) (charge_origin fee)) (tt, tt)))
+      (asked_both l m (inside n) (HostCall.KeepFee ∷ []) (between n) (asked n (charge_channels fee) (charge_origin fee) (charge_within fee)) (tt, tt)))
 
   holding_asked : (n : Machine) (info : QueryInfo) (o : Option (List Asset)) → IsReport l info → n.part.channels ≡ m.part.channels → n.regs.origin ≡ m.regs.origin → AreAsked l m (holding_report n info o) (between n)
   holding_asked n info None reports unsent same = (refl, tt)
@@ -127,14 +162,14 @@ asked (Instruction-F.BurnAsset list) m = (refl, ((list, refl), tt))
 asked (Instruction-F.BuyExecution fees limit) m = buying_asked m fees limit
 asked Instruction-F.RefundSurplus m = refunding_asked m (refund_now m)
 asked (Instruction-F.TransferAsset list who) m = for_origin_asked (Instruction-F.TransferAsset list who) m m.regs.origin _ (between m) refl (λ from is. ((refl, is, refl), tt))
-asked (Instruction-F.TransferReserveAsset list dest xcm) m = for_origin_asked (Instruction-F.TransferReserveAsset list dest xcm) m m.regs.origin _ (between m) refl (λ who is. around_asked (Instruction-F.TransferReserveAsset list dest xcm) m dest (fee_to m.part dest) _ refl refl (λ n unsent same. ((unsent, is, refl), tt)))
-asked (Instruction-F.DepositReserveAsset filter dest xcm) m = around_asked (Instruction-F.DepositReserveAsset filter dest xcm) m dest (fee_to m.part dest) _ refl refl (λ n unsent same. (refl, ((unsent, (filter, refl)), tt)))
-asked (Instruction-F.InitiateReserveWithdraw filter dest xcm) m = around_asked (Instruction-F.InitiateReserveWithdraw filter dest xcm) m dest (fee_to m.part dest) _ refl refl (λ n unsent same. (refl, ((unsent, (filter, refl)), tt)))
-asked (Instruction-F.InitiateTeleport filter dest xcm) m = around_asked (Instruction-F.InitiateTeleport filter dest xcm) m dest (fee_to m.part dest) _ refl refl (λ n unsent same. (refl, ((unsent, (filter, refl)), tt)))
-asked (Instruction-F.ReportError info) m = around_asked (Instruction-F.ReportError info) m info.destination (fee_to m.part info.destination) _ refl refl (λ n unsent same. ((unsent, same, refl), tt))
-asked (Instruction-F.ReportHolding info filter) m = around_asked (Instruction-F.ReportHolding info filter) m info.destination (fee_to m.part info.destination) _ refl refl (λ n unsent same. holding_asked (Instruction-F.ReportHolding info filter) m n info (reported_list n info filter) refl unsent same)
-asked (Instruction-F.QueryPallet name info) m = around_asked (Instruction-F.QueryPallet name info) m info.destination (fee_to m.part info.destination) _ refl refl (λ n unsent same. ((unsent, same, refl), tt))
-asked (Instruction-F.ReportTransactStatus info) m = around_asked (Instruction-F.ReportTransactStatus info) m info.destination (fee_to m.part info.destination) _ refl refl (λ n unsent same. ((unsent, same, refl), tt))
+asked (Instruction-F.TransferReserveAsset list dest xcm) m = for_origin_asked (Instruction-F.TransferReserveAsset list dest xcm) m m.regs.origin _ (between m) refl (λ who is. around_asked (Instruction-F.TransferReserveAsset list dest xcm) m dest (fee_to m.part dest) _ refl refl (λ n unsent same less. ((unsent, is, refl), tt)))
+asked (Instruction-F.DepositReserveAsset filter dest xcm) m = around_asked (Instruction-F.DepositReserveAsset filter dest xcm) m dest (fee_to m.part dest) _ refl refl (λ n unsent same less. (refl, ((unsent, taken_first (Instruction-F.DepositReserveAsset filter dest xcm) m n filter less, (filter, refl)), tt)))
+asked (Instruction-F.InitiateReserveWithdraw filter dest xcm) m = around_asked (Instruction-F.InitiateReserveWithdraw filter dest xcm) m dest (fee_to m.part dest) _ refl refl (λ n unsent same less. (refl, ((unsent, taken_first (Instruction-F.InitiateReserveWithdraw filter dest xcm) m n filter less, (filter, refl)), tt)))
+asked (Instruction-F.InitiateTeleport filter dest xcm) m = around_asked (Instruction-F.InitiateTeleport filter dest xcm) m dest (fee_to m.part dest) _ refl refl (λ n unsent same less. (refl, ((unsent, taken_first (Instruction-F.InitiateTeleport filter dest xcm) m n filter less, (filter, refl)), tt)))
+asked (Instruction-F.ReportError info) m = around_asked (Instruction-F.ReportError info) m info.destination (fee_to m.part info.destination) _ refl refl (λ n unsent same less. ((unsent, same, refl), tt))
+asked (Instruction-F.ReportHolding info filter) m = around_asked (Instruction-F.ReportHolding info filter) m info.destination (fee_to m.part info.destination) _ refl refl (λ n unsent same less. holding_asked (Instruction-F.ReportHolding info filter) m n info (reported_list n info filter) refl unsent same)
+asked (Instruction-F.QueryPallet name info) m = around_asked (Instruction-F.QueryPallet name info) m info.destination (fee_to m.part info.destination) _ refl refl (λ n unsent same less. ((unsent, same, refl), tt))
+asked (Instruction-F.ReportTransactStatus info) m = around_asked (Instruction-F.ReportTransactStatus info) m info.destination (fee_to m.part info.destination) _ refl refl (λ n unsent same less. ((unsent, same, refl), tt))
 asked (Instruction-F.QueryResponse query answer weight querier) m = for_origin_asked (Instruction-F.QueryResponse query answer weight querier) m m.regs.origin _ (between m) refl (λ who is. ((refl, is), tt))
 asked (Instruction-F.DescendOrigin path) m = for_origin_asked (Instruction-F.DescendOrigin path) m m.regs.origin _ (between m) refl (λ who is. (refl, tt))
 asked (Instruction-F.Trap code) m = (refl, tt)
@@ -181,11 +216,18 @@ module _ (l : Instruction-F Instruction) (m : Machine) (K : Midway → Type 0) w
     pub done_keeps : ((t : Midway) → IsFrom m t → K t → K (turned_at l m t)) → refused l m ≡ None → K (between m) → K (between (done l m))
     done_keeps turn free k = subst K (sym (done_is l m)) (turn (after_all (calls l m) (between m)) (from_all m (calls l m) (between m) (from_itself m)) (calls_keep free k))
 
-    -- wherever accepted calls lead
-    pub lead_keeps : (now : Machine) → LeadTo l m now → K (between m) → K (between now)
-    lead_keeps now led k = subst K (sym led.there) (kept_along led.made (between m) led.asked (from_itself m) led.free k)
+  -- wherever accepted calls lead, where memory stops an instruction
+  module _ (step : (c : HostCall) (t : Midway) → ComesBeforeStop c → Asks false l m t c → IsFrom m t → why_not c t ≡ None → K t → K (after c t)) where
+    led_along : (cs : List HostCall) (t : Midway) → AllByRecursion ComesBeforeStop cs → AreAsked l m cs t → IsFrom m t → refusal_along cs t ≡ None → K t → K (after_all cs t)
+    led_along [] t early a from free k = k
+    led_along (c ∷ cs) t early a from free k =
+        led_along cs (after c t) early.1 a.1 (from_after c m t from) (none_next (why_not c t) (refusal_along cs (after c t)) free)
+        (step c t early.0 a.0 from (none_first (why_not c t) (refusal_along cs (after c t)) free) k)
 
-  -- whether or not they are
+    pub lead_keeps : (now : Machine) → LeadTo l m now → K (between m) → K (between now)
+    lead_keeps now led k = subst K (sym led.there) (led_along led.made (between m) led.early led.asked (from_itself m) led.free k)
+
+  -- whether or not calls are accepted
   module _ (step : (c : HostCall) (t : Midway) → Asks false l m t c → IsFrom m t → K t → K (after c t)) where
     each_along : (cs : List HostCall) (t : Midway) → AreAsked l m cs t → IsFrom m t → K t → K (after_all cs t)
     each_along [] t a from k = k

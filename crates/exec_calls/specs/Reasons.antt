@@ -1,7 +1,8 @@
 -- Why an instruction makes a call where it does, and what stands between two machines that calls lead from and to. This project's own
 -- vocabulary.
+use Rattle.std.specs.List.{AllByRecursion}
 use Rattle.std.specs.Prelude.{◌≡◌, ◌⊎◌, ⊤, ℕ, Bool, true, false, IsTrue, List, [], ◌∷◌, Option, Some, None}
-use Rattle.amounts.specs.Amounts.{empty}
+use Rattle.amounts.specs.Amounts.{empty, IsWithin}
 use Rattle.locations.specs.declared.relative.Location.{Location}
 use Rattle.message_parts.specs.declared.error.XcmError.{XcmError}
 use Rattle.message_parts.specs.declared.error.XcmError.TheVariants as error
@@ -63,6 +64,10 @@ Speaks m who = m.regs.origin ≡ Some who
 abbrev pub IsUnsent : Machine → Midway → Type 0
 IsUnsent m t = t.part.channels ≡ m.part.channels
 
+-- what is in hand is part of what was held at first
+abbrev pub HasTaken : Machine → Midway → Type 0
+HasTaken m t = IsWithin t.goods m.regs.holding
+
 -- where an instruction sends to; all others send nothing
 abbrev pub destination : Instruction-F Instruction → Option Location
 destination (Instruction-F.TransferReserveAsset list dest xcm) = Some dest
@@ -109,8 +114,8 @@ Asks over l m t (HostCall.Refund w) = IsFirst m t × (w ≡ not_refunded m)
 Asks over l m t (HostCall.Deposit who) = (filter : Filter) × (l ≡ Instruction-F.DepositAsset filter who)
 Asks over l m t HostCall.Burn = (list : List Asset) × (l ≡ Instruction-F.BurnAsset list)
 Asks over l m t (HostCall.Buy w) = (fees : Asset) × (l ≡ Instruction-F.BuyExecution fees (Limited w)) × (t ≡ after (HostCall.Pay fees) (between m))
-Asks over l m t (HostCall.DepositOut dest xcm) = IsUnsent m t × ((filter : Filter) × (l ≡ Instruction-F.DepositReserveAsset filter dest xcm))
-Asks over l m t (HostCall.Ship way dest xcm) = IsUnsent m t × ((filter : Filter) × (l ≡ shipping way filter dest xcm))
+Asks over l m t (HostCall.DepositOut dest xcm) = IsUnsent m t × HasTaken m t × ((filter : Filter) × (l ≡ Instruction-F.DepositReserveAsset filter dest xcm))
+Asks over l m t (HostCall.Ship way dest xcm) = IsUnsent m t × HasTaken m t × ((filter : Filter) × (l ≡ shipping way filter dest xcm))
 Asks over l m t (HostCall.Transfer list from to) = IsFirst m t × Speaks m from × (l ≡ Instruction-F.TransferAsset list to)
 Asks over l m t (HostCall.TransferOut list from dest xcm) = IsUnsent m t × Speaks m from × (l ≡ Instruction-F.TransferReserveAsset list dest xcm)
 Asks over l m t (HostCall.Respond info answer querier) = IsUnsent m t × (querier ≡ m.regs.origin) × IsReport l info
@@ -129,10 +134,25 @@ abbrev pub AreAsked : Instruction-F Instruction → Machine → List HostCall �
 AreAsked l m [] t = ⊤
 AreAsked l m (c ∷ cs) t = Asks false l m t c × AreAsked l m cs (after c t)
 
--- accepted calls of an instruction that began at the first machine lead from where it has come to, to another machine
+-- what may have been asked where memory stops an instruction: goods came, or were taken out, and are put aside; nothing else is changed yet
+abbrev pub ComesBeforeStop : HostCall → Type 0
+ComesBeforeStop HostCall.Join = ⊥
+ComesBeforeStop (HostCall.Deposit who) = ⊥
+ComesBeforeStop HostCall.Burn = ⊥
+ComesBeforeStop (HostCall.DepositOut dest xcm) = ⊥
+ComesBeforeStop (HostCall.Ship way dest xcm) = ⊥
+ComesBeforeStop (HostCall.Transfer list from to) = ⊥
+ComesBeforeStop (HostCall.TransferOut list from dest xcm) = ⊥
+ComesBeforeStop (HostCall.Respond info answer querier) = ⊥
+ComesBeforeStop (HostCall.Answer from query) = ⊥
+ComesBeforeStop HostCall.KeepFee = ⊥
+ComesBeforeStop _ = ⊤
+
+-- accepted calls of an instruction that began at the first machine lead from where it has come to, to another machine, where memory stops it
 pub record LeadFrom (l : Instruction-F Instruction) (m : Machine) (t : Midway) (now : Machine) : Type 0 where
   pub made : List HostCall
   pub asked : AreAsked l m made t
+  pub early : AllByRecursion ComesBeforeStop made
   pub free : refusal_along made t ≡ None
   pub there : between now ≡ after_all made t
 

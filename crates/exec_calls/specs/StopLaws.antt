@@ -1,6 +1,7 @@
 -- Lemmas that proofs cite, in this crate and above it: where memory stops an instruction, accepted calls led there. A reader of the contracts
 -- may skip this file.
 use Rattle.std.proofs.Common.{◌≡◌, ◌⊎◌, ℕ, Bool, true, false, List, [], ◌∷◌, ◌++◌, Option, Some, None, ⊎_elim, inl, inr, refl, sym, ap, ◌∙◌, subst}
+use Rattle.std.specs.List.{AllByRecursion}
 use Rattle.std.specs.Prelude.{⊤, if◌then◌else◌, length}
 use Rattle.amounts.specs.Amounts.{empty}
 use Rattle.locations.specs.declared.relative.Location.{Location}
@@ -27,8 +28,8 @@ use Rattle.exec_rules.specs.Stopping.{parking, NotJoined, NotPutBack, BuyingStop
 use Rattle.exec_calls.specs.Calls.{Midway, between, HostCall, why_not, after, effect, after_all, refusal_along, for_origin, charge}
 use Rattle.exec_calls.specs.Footprints.{part_is}
 use Rattle.exec_calls.specs.CallLaws.{along_both, after_both, charge_refused, charge_after}
-use Rattle.exec_calls.specs.Reasons.{destination, IsFee, Asks, AreAsked, LeadFrom, LeadTo}
-use Rattle.exec_calls.specs.ReasonLaws.{asked_both, charge_asked}
+use Rattle.exec_calls.specs.Reasons.{destination, IsFee, Asks, AreAsked, ComesBeforeStop, LeadFrom, LeadTo}
+use Rattle.exec_calls.specs.ReasonLaws.{asked_both, early_both, charge_asked, charge_early}
 
 -- ---- what is in hand is parked
 pub parked_is : (r : Registers) (p q : ChainPart) (goods : Bundle) → p ≡ q → after HostCall.Park (record { regs = r; part = p; goods = goods }) ≡ between (machine r (parked q goods))
@@ -50,27 +51,29 @@ held_none false e h = absurd cc
 
 module _ (l : Instruction-F Instruction) (m : Machine) where
   lead_as : (t : Midway) (now k : Machine) → now ≡ k → LeadFrom l m t k → LeadFrom l m t now
-  lead_as t now k e led = record { made = led.made; asked = led.asked; free = led.free; there = ap (λ (x : Machine). between x) e ∙ led.there }
+  lead_as t now k e led = record { made = led.made; asked = led.asked; early = led.early; free = led.free; there = ap (λ (x : Machine). between x) e ∙ led.there }
 
   lead_nowhere : (k : Machine) → LeadFrom l m (between k) k
-  lead_nowhere k = record { made = []; asked = tt; free = refl; there = refl }
+  lead_nowhere k = record { made = []; asked = tt; early = tt; free = refl; there = refl }
 
   -- some accepted calls first
-  lead_before : (cs : List HostCall) (t u : Midway) (now : Machine) → AreAsked l m cs t → refusal_along cs t ≡ None → after_all cs t ≡ u → LeadFrom l m u now → LeadFrom l m t now
-  lead_before cs t u now asks free there led =
+  lead_before : (cs : List HostCall) (t u : Midway) (now : Machine) → AreAsked l m cs t → AllByRecursion ComesBeforeStop cs → refusal_along cs t ≡ None → after_all cs t ≡ u → LeadFrom l m u now → LeadFrom l m t now
+  lead_before cs t u now asks early free there led =
       let next : LeadFrom l m (after_all cs t) now = subst (λ (x : Midway). LeadFrom l m x now) (sym there) led in
       record {
         made = cs ++ next.made;
         asked = asked_both l m cs next.made t asks next.asked;
+        early = early_both cs next.made early next.early;
         free = along_both cs next.made t ∙ two_none _ _ free next.free;
         there = next.there ∙ sym (after_both cs next.made t);
       }
 
   -- ---- goods had come, and weren't joined
-  came : (c : HostCall) (goods : Bundle) → Asks false l m (between m) c → why_not c (between m) ≡ None → (let t = after c (between m) in (t.regs ≡ m.regs) × (t.goods ≡ goods) × (t.part.parked ≡ m.part.parked)) → LeadTo l m (parking m (effect c (between m)) goods)
-  came c goods asks free is = record {
+  came : (c : HostCall) (goods : Bundle) → ComesBeforeStop c → Asks false l m (between m) c → why_not c (between m) ≡ None → (let t = after c (between m) in (t.regs ≡ m.regs) × (t.goods ≡ goods) × (t.part.parked ≡ m.part.parked)) → LeadTo l m (parking m (effect c (between m)) goods)
+  came c goods early asks free is = record {
     made = c ∷ HostCall.Park ∷ [];
     asked = (asks, (is.2, tt));
+    early = (early, (tt, tt));
     free = none_else (why_not c (between m)) free;
     there = sym (ap (λ (t : Midway). after HostCall.Park t) (same_midway (after c (between m)) goods is) ∙ parked_is m.regs (after c (between m)).part (effect c (between m)) goods (part_is c (between m)));
   }
@@ -88,6 +91,7 @@ module _ (l : Instruction-F Instruction) (m : Machine) where
   not_put_back k filter none = record {
     made = HostCall.Take filter ∷ HostCall.Park ∷ [];
     asked = (refl, (none, tt));
+    early = (tt, (tt, tt));
     free = refl;
     there = sym (let t = after (HostCall.Take filter) (between k) in parked_is t.regs k.part k.part t.goods refl);
   }
@@ -97,6 +101,7 @@ module _ (l : Instruction-F Instruction) (m : Machine) where
   fee_aside k none = record {
     made = HostCall.TakeFee ∷ HostCall.Park ∷ [];
     asked = (refl, (none, tt));
+    early = (tt, (tt, tt));
     free = refl;
     there = sym (parked_is k.regs (after HostCall.TakeFee (between k)).part (fee_taken k.part) k.part.fee_slot (part_is HostCall.TakeFee (between k)));
   }
@@ -117,7 +122,7 @@ module _ (l : Instruction-F Instruction) (m : Machine) where
   around_stops dest None inside now goes is led stops = led m refl stops
   around_stops dest (Some fee) inside now goes is led stops =
       let n = after_fee m fee in
-      let first : LeadFrom l m (between n) now → LeadTo l m now = lead_before (charge m fee) (between m) (between n) now (charge_asked l m fee (dest, goes, is)) (sym (charge_refused m fee) ∙ stops.0) (charge_after m fee) in
+      let first : LeadFrom l m (between n) now → LeadTo l m now = lead_before (charge m fee) (between m) (between n) now (charge_asked l m fee (dest, goes, is)) (charge_early l m fee) (sym (charge_refused m fee) ∙ stops.0) (charge_after m fee) in
       first (⊎_elim (λ (e : now ≡ n). lead_as (between n) now n e (lead_nowhere n))
       (λ (e : inside n now ⊎ (now ≡ fee_parked n)).
       ⊎_elim (λ (i : inside n now). led n (charge_parks fee) i) (λ (i : now ≡ fee_parked n). lead_as (between n) now (fee_parked n) i (fee_aside n (charge_parks fee))) e) stops.1)
@@ -132,12 +137,14 @@ buying_stops m fees (Limited w) now stops =
     (λ (e : (holds_asset m fees ≡ true) × (now ≡ parking (holding_paid m fees) m.part (payment_of fees))). lead_as l m (between m) now _ e.1 (record {
       made = HostCall.Pay fees ∷ HostCall.Park ∷ [];
       asked = ((refl, inr (w, refl)), (refl, tt));
+      early = (tt, (tt, tt));
       free = none_else _ (held_none (holds_asset m fees) error.NotHoldingFees e.0);
       there = sym (parked_is t.regs m.part m.part (payment_of fees) refl);
     }))
     (λ (e : (buying_refusal m fees (Limited w) ≡ None) × (now ≡ parking (holding_paid m fees) (bought m.part w (payment_of fees)) (unspent m.part w (payment_of fees)))). lead_as l m (between m) now _ e.1 (record {
       made = HostCall.Pay fees ∷ HostCall.Buy w ∷ HostCall.Park ∷ [];
       asked = ((refl, inr (w, refl)), ((fees, refl, refl), (refl, tt)));
+      early = (tt, (tt, (tt, tt)));
       free = two_none _ _ (held_none (holds_asset m fees) error.NotHoldingFees (unless_held _ error.NotHoldingFees _ e.0)) (none_else _ (unless_next (holds_asset m fees) error.NotHoldingFees _ e.0));
       there = sym (parked_is t.regs (after (HostCall.Buy w) t).part (effect (HostCall.Buy w) t) (unspent m.part w (payment_of fees)) (part_is (HostCall.Buy w) t));
     })) stops
@@ -149,17 +156,17 @@ not_joined l m rule change goods now is stops led = lead_as l m (between m) now 
 
 pub stops_lead : (l : Instruction-F Instruction) (m now : Machine) → Stops l m now → LeadTo l m now
 stops_lead (Instruction-F.WithdrawAsset list) m now stops = not_joined (Instruction-F.WithdrawAsset list) m _ _ (bundle_of list) now refl stops
-    (λ who is ok. came (Instruction-F.WithdrawAsset list) m (HostCall.Withdraw list who) (bundle_of list) (refl, is, refl) (unless_next (has_room m (length list)) _ _ ok) (refl, refl, refl))
+    (λ who is ok. came (Instruction-F.WithdrawAsset list) m (HostCall.Withdraw list who) (bundle_of list) tt (refl, is, refl) (unless_next (has_room m (length list)) _ _ ok) (refl, refl, refl))
 stops_lead (Instruction-F.ReserveAssetDeposited list) m now stops = not_joined (Instruction-F.ReserveAssetDeposited list) m _ _ (bundle_of list) now refl stops
-    (λ who is ok. came (Instruction-F.ReserveAssetDeposited list) m (HostCall.Receive list m.regs.origin false) (bundle_of list) (refl, refl, refl) (ap (λ (o : Option Location). with_origin o (λ who. receive_refusal m.part list who false)) is ∙ unless_next (has_room m (length list)) _ _ ok) (refl, refl, refl))
+    (λ who is ok. came (Instruction-F.ReserveAssetDeposited list) m (HostCall.Receive list m.regs.origin false) (bundle_of list) tt (refl, refl, refl) (ap (λ (o : Option Location). with_origin o (λ who. receive_refusal m.part list who false)) is ∙ unless_next (has_room m (length list)) _ _ ok) (refl, refl, refl))
 stops_lead (Instruction-F.ReceiveTeleportedAsset list) m now stops = not_joined (Instruction-F.ReceiveTeleportedAsset list) m _ _ (bundle_of list) now refl stops
-    (λ who is ok. came (Instruction-F.ReceiveTeleportedAsset list) m (HostCall.Receive list m.regs.origin true) (bundle_of list) (refl, refl, refl) (ap (λ (o : Option Location). with_origin o (λ who. receive_refusal m.part list who true)) is ∙ unless_next (has_room m (length list)) _ _ ok) (refl, refl, refl))
+    (λ who is ok. came (Instruction-F.ReceiveTeleportedAsset list) m (HostCall.Receive list m.regs.origin true) (bundle_of list) tt (refl, refl, refl) (ap (λ (o : Option Location). with_origin o (λ who. receive_refusal m.part list who true)) is ∙ unless_next (has_room m (length list)) _ _ ok) (refl, refl, refl))
 stops_lead (Instruction-F.ClaimAsset list ticket) m now stops = not_joined (Instruction-F.ClaimAsset list ticket) m _ _ (bundle_of list) now refl stops
-    (λ who is ok. came (Instruction-F.ClaimAsset list ticket) m (HostCall.Claim list who) (bundle_of list) (refl, is, (ticket, refl)) (unless_next (is_ticket ticket) _ _ (unless_next (has_room m (length list)) _ _ ok)) (refl, refl, refl))
+    (λ who is ok. came (Instruction-F.ClaimAsset list ticket) m (HostCall.Claim list who) (bundle_of list) tt (refl, is, (ticket, refl)) (unless_next (is_ticket ticket) _ _ (unless_next (has_room m (length list)) _ _ ok)) (refl, refl, refl))
 stops_lead (Instruction-F.DepositAsset filter who) m now stops = lead_as (Instruction-F.DepositAsset filter who) m (between m) now _ stops (not_put_back (Instruction-F.DepositAsset filter who) m m filter refl)
 stops_lead (Instruction-F.BurnAsset list) m now stops = lead_as (Instruction-F.BurnAsset list) m (between m) now _ stops (not_put_back (Instruction-F.BurnAsset list) m m (Definite list) refl)
 stops_lead (Instruction-F.BuyExecution fees limit) m now stops = buying_stops m fees limit now stops
-stops_lead Instruction-F.RefundSurplus m now stops = lead_as Instruction-F.RefundSurplus m (between m) now _ stops.1 (came Instruction-F.RefundSurplus m (HostCall.Refund (not_refunded m)) (refund_goods m.part (not_refunded m)) (refl, refl) refl (refl, refl, refl))
+stops_lead Instruction-F.RefundSurplus m now stops = lead_as Instruction-F.RefundSurplus m (between m) now _ stops.1 (came Instruction-F.RefundSurplus m (HostCall.Refund (not_refunded m)) (refund_goods m.part (not_refunded m)) tt (refl, refl) refl (refl, refl, refl))
 stops_lead (Instruction-F.TransferReserveAsset list dest xcm) m now stops = around_stops (Instruction-F.TransferReserveAsset list dest xcm) m dest (fee_to m.part dest) (λ n left. ⊥) now refl refl (λ n none i. absurd i) stops
 stops_lead (Instruction-F.DepositReserveAsset filter dest xcm) m now stops =
     around_stops (Instruction-F.DepositReserveAsset filter dest xcm) m dest (fee_to m.part dest) (λ n left. NotPutBack n filter left) now refl refl (λ n none i. lead_as (Instruction-F.DepositReserveAsset filter dest xcm) m (between n) now _ i (not_put_back (Instruction-F.DepositReserveAsset filter dest xcm) m n filter none)) stops

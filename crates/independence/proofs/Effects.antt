@@ -165,8 +165,8 @@ module _ (to : ChainId) (lost : Bundle) where
     why_framed : (c : HostCall) (t : Midway) → Asks false l m t c → IsFrom m t → IsQuiet on (why_not c t) → why_not c (frame t) ≡ why_not c t
     unfolding withdraw_refusal receive_refusal deposit_refusal transfer_refusal claim_refusal buy_refusal
     why_framed (HostCall.TransferOut list from dest program) t asks at quiet = transfer_out_refused to lost t.part list from dest program (quiet_at t dest _ at (ap sent_to asks.2) quiet)
-    why_framed (HostCall.DepositOut dest program) t asks at quiet = deposit_out_refused to lost t.part t.goods dest program (quiet_at t dest _ at (ap sent_to asks.1.1) quiet)
-    why_framed (HostCall.Ship way dest program) t asks at quiet = ship_refused to lost t.part t.goods way dest program (quiet_at t dest _ at (ap sent_to asks.1.1 ∙ ships_to way asks.1.0 dest program) quiet)
+    why_framed (HostCall.DepositOut dest program) t asks at quiet = deposit_out_refused to lost t.part t.goods dest program (quiet_at t dest _ at (ap sent_to asks.2.1) quiet)
+    why_framed (HostCall.Ship way dest program) t asks at quiet = ship_refused to lost t.part t.goods way dest program (quiet_at t dest _ at (ap sent_to asks.2.1 ∙ ships_to way asks.2.0 dest program) quiet)
     why_framed (HostCall.Respond info answer querier) t asks at quiet = respond_refused to lost t.part info answer querier (quiet_at t info.destination _ at (report_goes l info asks.2) quiet)
     why_framed (HostCall.Receive list None teleport) t asks at quiet = refl
     why_framed (HostCall.Receive list (Some who) teleport) t asks at quiet = refl

@@ -190,8 +190,8 @@ first_sent l m t c n unsent is more = let a = ap queued unsent in inr (omega (ar
 
 call_sent : (l : Instruction-F Instruction) (m : Machine) (c : HostCall) (t : Midway) → Asks false l m t c → IsSentBy l m t → IsSentBy l m (after c t)
 call_sent l m (HostCall.TransferOut list from dest program) t asks h = first_sent l m t (HostCall.TransferOut list from dest program) (1 + sends program) asks.0 (ap sent_in asks.2) (transferred_more t.part list from dest program)
-call_sent l m (HostCall.DepositOut dest program) t asks h = first_sent l m t (HostCall.DepositOut dest program) (1 + sends program) asks.0 (ap sent_in asks.1.1) (deposited_more t.part t.goods dest program)
-call_sent l m (HostCall.Ship way dest program) t asks h = first_sent l m t (HostCall.Ship way dest program) (1 + sends program) asks.0 (ap sent_in asks.1.1 ∙ ships_one way asks.1.0 dest program) (shipped_more t.part t.goods way dest program)
+call_sent l m (HostCall.DepositOut dest program) t asks h = first_sent l m t (HostCall.DepositOut dest program) (1 + sends program) asks.0 (ap sent_in asks.2.1) (deposited_more t.part t.goods dest program)
+call_sent l m (HostCall.Ship way dest program) t asks h = first_sent l m t (HostCall.Ship way dest program) (1 + sends program) asks.0 (ap sent_in asks.2.1 ∙ ships_one way asks.2.0 dest program) (shipped_more t.part t.goods way dest program)
 call_sent l m (HostCall.Respond info answer querier) t asks h = first_sent l m t (HostCall.Respond info answer querier) 1 asks.0 (reports_one l info asks.2) (responded_more t.part info answer querier)
 call_sent l m _ t asks h = h
 
@@ -287,9 +287,9 @@ module _ (orderly : IsOrderly xcm) where
 -- ---- the end of a run sends nothing
 end_same : (m : Machine) (c : HostCall) (t : Midway) → Asks true Instruction-F.RefundSurplus m t c → (after c t).part.channels ≡ t.part.channels
 end_same m (HostCall.TransferOut list from dest program) t asks = absurd (cc asks.2)
-end_same m (HostCall.DepositOut dest program) t asks = absurd (cc asks.1.1)
-end_same m (HostCall.Ship Way.Withdrawal dest program) t asks = absurd (cc asks.1.1)
-end_same m (HostCall.Ship Way.Teleport dest program) t asks = absurd (cc asks.1.1)
+end_same m (HostCall.DepositOut dest program) t asks = absurd (cc asks.2.1)
+end_same m (HostCall.Ship Way.Withdrawal dest program) t asks = absurd (cc asks.2.1)
+end_same m (HostCall.Ship Way.Teleport dest program) t asks = absurd (cc asks.2.1)
 end_same m (HostCall.Respond info answer querier) t asks = absurd asks.2
 end_same m _ t asks = refl
 

@@ -5,7 +5,7 @@ use Rattle.exec_rules.specs.Instructions.{xcm}
 use Rattle.conserved_runs.specs.Safety.{HasList, AreLists}
 use Rattle.conserved_runs.specs.Shipping.{HasList-IsOfLayer}
 use Rattle.conserved_runs.specs.Runs.{Goes, done_goes, runs_go, lists_go_inside, finished_safely}
-use Rattle.conserved_runs.specs.Stopping.{spilled_safely}
+use Rattle.conserved_runs.specs.Accepted.{spilled_safely}
 use Rattle.conserved_runs.proofs.laws.law_of_safe_runs.Goals as goal
 
 pub returns : goal.returns
@@ -17,5 +17,7 @@ returns c =
       done = λ n x m agrees lists ok. done_goes withdraws moves stays n agrees x m lists ok;
       reached = λ n most g h agrees balanced ahead reach. reached_keeps xcm c.law_of_rules.ensures.steers AreLists lists_go_inside (Goes n) (runs_go withdraws moves stays n agrees) most g h reach balanced ahead;
       ended = λ n m agrees safe. finished_safely withdraws moves stays n agrees c.law_of_traps.ensures.kept m safe.steady safe.fine.room;
-      stopped = λ n x m now safe lists h. spilled_safely withdraws moves n (out-Instruction x) m now safe (everywhere_open HasList HasList-IsOfLayer x lists).0 h;
+      stopped = λ n x m now safe lists h.
+          let opened = everywhere_open HasList HasList-IsOfLayer x lists in
+          spilled_safely withdraws moves n (out-Instruction x) m safe.fine safe.quiet safe.steady safe.fees opened.0 opened.1 now h;
     }
