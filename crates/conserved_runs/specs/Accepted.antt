@@ -1,13 +1,13 @@
--- Lemmas: each of the 48 instructions, where it is accepted. A reader may skip this file.
+-- Lemmas: each call of an instruction, and so each instruction, is a safe change of its chain. A reader may skip this file.
 use Rattle.std.proofs.Common.{◌≡◌, ◌⊎◌, ⊎_elim, inl, inr, ◌+◌, ℕ, Bool, true, false, List, [], ◌∷◌, Option, Some, None, refl, sym, ap, ◌∙◌, subst, arith}
 use Rattle.std.specs.Prelude.{◌&&◌, ◌==◌, if◌then◌else◌, IsSomeAnd}
-use Rattle.amounts.specs.Amounts.{total}
+use Rattle.amounts.specs.Amounts.{total, empty, merge, IsWithin, total-empty}
 use Rattle.locations.specs.declared.grammar.Junction.{Junction}
 use Rattle.locations.specs.declared.relative.Location.{Location}
 use Rattle.message_parts.specs.declared.error.XcmError.{XcmError}
 use Rattle.asset_lists.specs.declared.units.Asset.{Asset}
 use Rattle.asset_bundles.specs.declared.shipment.Way.{Way}
-use Rattle.asset_bundles.specs.Bundles.{bundle_of}
+use Rattle.asset_bundles.specs.Bundles.{bundle_of, Bundle, unit_keys}
 use Rattle.chain_ids.specs.declared.chain.ChainId.{ChainId}
 use Rattle.chain_ids.specs.declared.chain.ChainId.TheVariants.{Relay, Para}
 use Rattle.exec_base.specs.Sending.{unless}
@@ -25,32 +25,26 @@ use Rattle.xcm_program.specs.declared.instruction.Instruction.TheOpen.{Instructi
 use Rattle.xcm_program.specs.Everywhere.{AllInside}
 use Rattle.xcm_program.specs.Measure.{inner}
 use Rattle.exec_base.specs.Part.{ChainPart}
-use Rattle.exec_base.specs.Host.{trust_fault, receive_refusal}
+use Rattle.exec_base.specs.Host.{trust_fault, receive_refusal, unspent, refund_goods, fee_taken}
 use Rattle.exec_run.specs.Machine.{Machine, machine}
-use Rattle.exec_rules.specs.Holdings.{with_origin}
+use Rattle.exec_rules.specs.Holdings.{with_origin, with_holding, payment_of}
 use Rattle.exec_rules.specs.AnswerLaws.{unless_held, unless_next, none_first}
 use Rattle.exec_rules.specs.Instructions.{refused, done}
 use Rattle.exec_rules.specs.Readiness.{IsSteady}
-use Rattle.coherence.specs.Networks.{Table, Agrees}
-use Rattle.conserved_runs.specs.Sums.{sum_of, none, nobody, only, HasRoom}
-use Rattle.conserved_runs.specs.Calls.{Withdraws, total_nothing, call_with, call_by, receiving_none, answering, withdrawing, depositing, transferring, claiming, burn}
-use Rattle.conserved_runs.specs.Safety.{origins, IsSpared, hold, Safely, IsFine, AreFees, HasList, AreLists, turn_safely, sends_safely, fee_in_order}
-use Rattle.conserved_runs.specs.Turns.{same_turn}
-use Rattle.conserved_runs.specs.Shipping.{withdrawal_sends, teleport_sends, deposit_sends, transfer_sends, report_sends}
-
-use Rattle.amounts.specs.Amounts.{empty, merge, IsWithin}
+use Rattle.coherence.specs.Networks.{Table, Agrees, IsIn}
+use Rattle.conserved_runs.specs.Sums.{sum_of, none, nobody, only, HasRoom, Sum, Kept, kept_of, in_kept, in_places, burned_where, account_total, with, Call}
+use Rattle.conserved_runs.specs.Calls.{Withdraws, total_nothing, call_with, call_by, receiving_none, answering, withdrawing, depositing, transferring, claiming, burn, still, joining, drawing, refunding, buying, parking_goods, holding_fee, keeping, room_with}
+use Rattle.conserved_runs.specs.Safety.{origins, IsSpared, hold, Safely, IsFine, AreFees, HasList, AreLists, turn_safely, sends_safely, fee_in_order, Sends, safely_then, keeps_room, same_table}
+use Rattle.conserved_runs.specs.Turns.{same_turn, paid_parts}
+use Rattle.conserved_runs.specs.Shipping.{withdrawal_sends, teleport_sends, deposit_sends, transfer_sends, report_sends, Leaves}
 use Rattle.amounts.specs.Laws.{total-merge, merge-empty}
 use Rattle.asset_lists.specs.Lists.{IsAssetList}
 use Rattle.asset_lists.specs.Units.{Unit}
-use Rattle.asset_bundles.specs.Bundles.{Bundle, unit_keys}
 use Rattle.asset_bundles.specs.Books.{is_unit_where, is_burn_where, AreListed}
 use Rattle.asset_bundles.specs.Joins.{Joined}
 use Rattle.asset_bundles.specs.Laws.{taken_conserves, listed_within}
-use Rattle.amounts.specs.Amounts.{total-empty}
 use Rattle.ledgers.specs.Ledgers.{Holder, is_account}
-use Rattle.exec_base.specs.Host.{unspent, refund_goods, fee_taken}
 use Rattle.exec_base.specs.declared.registers.Registers.{Registers}
-use Rattle.exec_rules.specs.Holdings.{with_holding, payment_of}
 use Rattle.exec_rules.specs.Stopping.{Spilled}
 use Rattle.exec_calls.specs.Calls.{Midway, between, here, HostCall, why_not, after, effect, turned, turned_at}
 use Rattle.exec_calls.specs.Footprints.{part_is}
@@ -59,12 +53,6 @@ use Rattle.exec_calls.specs.ReasonLaws.{done_keeps, lead_keeps}
 use Rattle.exec_calls.specs.StopLaws.{spilled_lead}
 use Rattle.exec_calls.specs.KeptLaws.{turns}
 use Rattle.weight_trader.specs.Purchases.{AreWithinEnd}
-use Rattle.conserved_runs.specs.Sums.{Sum, Kept, kept_of, in_kept, in_places, burned_where, account_total, with, Call}
-use Rattle.conserved_runs.specs.Calls.{still, joining, drawing, refunding, buying, parking_goods, holding_fee, keeping, room_with}
-use Rattle.conserved_runs.specs.Safety.{Sends, safely_then, keeps_room, same_table}
-use Rattle.conserved_runs.specs.Turns.{paid_parts}
-use Rattle.conserved_runs.specs.Shipping.{Leaves}
-use Rattle.coherence.specs.Networks.{IsIn}
 use Rattle.conserved_runs.specs.Views.{table_of}
 
 -- ---- origins that no other chain speaks through
@@ -166,7 +154,7 @@ pooled t = machine (with_holding t.regs (merge t.regs.holding t.goods)) t.part
 pub pooled_between : (m : Machine) → pooled (between m) ≡ m
 pooled_between m = ap (λ (b : Bundle). machine (with_holding m.regs b) m.part) (merge-empty unit_keys m.regs.holding)
 
-hold_pooled : (t : Midway) (q : Unit → Bool) → hold (pooled t) q ≡ total q t.regs.holding + total q t.goods
+pub hold_pooled : (t : Midway) (q : Unit → Bool) → hold (pooled t) q ≡ total q t.regs.holding + total q t.goods
 hold_pooled t q = total-merge unit_keys q t.regs.holding t.goods
 
 pub goods_room : (t : Midway) → HasRoom (hold (pooled t)) t.part → HasRoom (sum_of t.goods) t.part
@@ -303,10 +291,10 @@ module _ (withdraws : Withdraws) (moves : MovesAreKept) (n : List Table) (l : In
   other_registers : (r : Registers) (k : Machine) → Safely m k → Safely m (machine (with_holding r k.regs.holding) k.part)
   other_registers r k s = record { site = s.site; rows = s.rows; safe = s.safe; units = s.units; burns = s.burns; trusted = s.trusted; links = s.links; cargo = s.cargo }
 
-  turned_safely : (t : Midway) → IsFrom m t → IsSafely t → IsSafely (turned_at l m t)
+  pub turned_safely : (t : Midway) → IsFrom m t → IsSafely t → IsSafely (turned_at l m t)
   turned_safely t from k = subst (λ (b : Bundle). Safely m (machine (with_holding (turned l m t.regs) (merge b t.goods)) t.part)) (sym (turns l m t from).holding) (other_registers (turned l m t.regs) (pooled t) k)
 
-  at_first : IsSafely (between m)
+  pub at_first : IsSafely (between m)
   at_first = subst (Safely m) (sym (pooled_between m)) (turn_safely m m fine.spared (same_turn m m refl refl))
 
   -- ---- where memory stops one

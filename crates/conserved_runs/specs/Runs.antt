@@ -10,15 +10,8 @@ use Rattle.locations.specs.declared.grammar.Junction.{Junction}
 use Rattle.locations.specs.declared.relative.Location.{Location}
 use Rattle.message_parts.specs.declared.error.XcmError.{XcmError}
 use Rattle.message_parts.specs.declared.weight.Weight.{Weight}
-use Rattle.message_parts.specs.declared.weight.WeightLimit.{WeightLimit}
-use Rattle.message_parts.specs.declared.weight.WeightLimit.TheVariants.{Unlimited, Limited}
-use Rattle.message_parts.specs.declared.query.QueryInfo.{QueryInfo}
-use Rattle.message_parts.specs.declared.query.Response.TheVariants as response
-use Rattle.asset_lists.specs.declared.units.Asset.{Asset}
 use Rattle.asset_lists.specs.declared.filters.Filter.{Filter}
-use Rattle.asset_lists.specs.declared.filters.Filter.TheVariants.{Definite}
 use Rattle.asset_lists.specs.Units.{Unit}
-use Rattle.asset_bundles.specs.declared.shipment.Way.{Way}
 use Rattle.asset_bundles.specs.Bundles.{Bundle, unit_keys}
 use Rattle.asset_bundles.specs.Books.{AreListed}
 use Rattle.asset_bundles.specs.Joins.{Joined, IsWithinMost}
@@ -35,16 +28,14 @@ use Rattle.xcm_program.specs.Laws.{everywhere_open}
 use Rattle.exec_base.specs.declared.event.Event.{Event}
 use Rattle.exec_base.specs.declared.registers.Registers.{Registers}
 use Rattle.exec_base.specs.Part.{ChainPart}
-use Rattle.exec_base.specs.Host.{fee_to, fee_held, fee_drawn, transferred_out, deposited_out, shipped, settled, trapped, told}
+use Rattle.exec_base.specs.Host.{settled, trapped, told}
 use Rattle.exec_run.specs.Machine.{Machine, machine, IsOrderly}
 use Rattle.exec_run.specs.Run.{Stage, failed, without_handler, without_appendix, handler_dropped, steps, machine_of, left_after}
 use Rattle.exec_run.specs.Accounts.{IsBalanced}
 use Rattle.exec_run.specs.Outcome.{owner_of, end_event, end_told, refund_surplus, refunded_last, finished}
 use Rattle.exec_run.specs.Keeping.{IsKeptByRuns, IsAheadOf, GoesInside}
 use Rattle.exec_run.specs.KeepingLaws.{steps_keep}
-use Rattle.exec_rules.specs.Holdings.{at_origin, taken_of, holding_left, payment_of, holding_paid, buying_done, refund_now, refund_done}
-use Rattle.exec_rules.specs.Fees.{after_fee, done_around}
-use Rattle.exec_rules.specs.Reports.{report_done, reported_list, pallets_of, holding_report_done}
+use Rattle.exec_rules.specs.Holdings.{payment_of, refund_now}
 use Rattle.exec_rules.specs.Origins.{descended}
 use Rattle.exec_rules.specs.Instructions.{refusal_of, done, xcm}
 use Rattle.exec_rules.specs.Readiness.{IsSteady}

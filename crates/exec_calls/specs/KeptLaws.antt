@@ -16,26 +16,24 @@ use Rattle.exec_base.specs.declared.event.Part.{Part}
 use Rattle.exec_base.specs.declared.event.Part.TheVariants as parts
 use Rattle.exec_base.specs.declared.registers.Registers.{Registers}
 use Rattle.exec_base.specs.Part.{ChainPart}
-use Rattle.exec_base.specs.Host.{told, settled, trapped, parked}
+use Rattle.exec_base.specs.Host.{told, settled, trapped}
 use Rattle.exec_run.specs.Machine.{Machine, machine, Performed}
 use Rattle.exec_run.specs.Run.{Stage, At, Ended, begin, to_appendix, to_handler, go_on, failed, without_handler, without_appendix, handler_dropped, traced, by_answer, next, steps, machine_of, left_after, run, still_to_run, Reaches, Halted, StoppedIn}
-use Rattle.exec_run.specs.Outcome.{owner_of, end_event, end_told, rest_trapped, abandoned, refund_surplus, refunded_last, finished, HaltedAtEnd}
-use Rattle.exec_run.specs.Keeping.{IsAheadOf, GoesInside}
-use Rattle.exec_run.specs.KeepingLaws.{next_hold}
+use Rattle.exec_run.specs.Outcome.{owner_of, end_event, end_told, abandoned, refund_surplus, refunded_last, finished, HaltedAtEnd}
+use Rattle.exec_run.specs.Keeping.{IsAheadOf}
 use Rattle.exec_rules.specs.Holdings.{with_holding, refund_now}
-use Rattle.exec_rules.specs.Origins.{descended}
 use Rattle.exec_rules.specs.Instructions.{refused, refusal_of, done, xcm}
 use Rattle.exec_rules.specs.Stopping.{Spilled, spills}
 use Rattle.exec_admission.specs.declared.rules.ChainRules.{ChainRules}
 use Rattle.exec_admission.specs.declared.admission.Admitted.{Admitted}
 use Rattle.exec_admission.specs.Admission.{admitted}
 use Rattle.exec_admission.specs.Execution.{first_machine, first_stage, last_machine, executed_by, executed, AbandonedIn, IsAbandoned}
-use Rattle.exec_calls.specs.Calls.{Midway, between, here, HostCall, why_not, after, effect, refund_noted, below_origin, turned, turned_at}
+use Rattle.exec_calls.specs.Calls.{Midway, between, here, HostCall, why_not, after, refund_noted, below_origin, turned, turned_at}
 use Rattle.exec_calls.specs.Footprints.{part_is}
-use Rattle.exec_calls.specs.Reasons.{IsFrom, Asks, LeadTo}
+use Rattle.exec_calls.specs.Reasons.{IsFrom, Asks}
 use Rattle.exec_calls.specs.ReasonLaws.{from_itself, done_keeps, lead_keeps}
 use Rattle.exec_calls.specs.StopLaws.{spilled_lead}
-use Rattle.exec_calls.specs.Kept.{TurnsOrigin, Turns, IsKeptAtEnd, IsKeptByCalls, Ends}
+use Rattle.exec_calls.specs.Kept.{Turns, IsKeptAtEnd, IsKeptByCalls, Ends}
 
 -- ---- an instruction's registers
 pub stays_origin : (old new : Registers) → new.holding ≡ old.holding → new.origin ≡ old.origin → Turns old new

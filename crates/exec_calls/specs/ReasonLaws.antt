@@ -1,41 +1,37 @@
 -- Lemmas that proofs cite, in this crate and above it: each call of an instruction has its reason. A reader of the contracts may skip this
 -- file.
-use Rattle.std.proofs.Common.{◌≡◌, ◌⊎◌, ℕ, Bool, true, false, List, [], ◌∷◌, ◌++◌, Option, Some, None, inl, inr, refl, sym, ap, ◌∙◌, subst, arith}
-use Rattle.amounts.specs.Amounts.{IsWithin, difference}
+use Rattle.std.proofs.Common.{◌≡◌, ℕ, Bool, true, false, List, [], ◌∷◌, ◌++◌, Option, Some, None, inl, inr, refl, sym, ap, ◌∙◌, subst, arith}
+use Rattle.amounts.specs.Amounts.{IsWithin}
 use Rattle.amounts.specs.Laws.{amount-difference}
 use Rattle.std.specs.List.{AllByRecursion}
-use Rattle.std.specs.Prelude.{⊤, if◌then◌else◌, nat_le, is_some, length}
+use Rattle.std.specs.Prelude.{if◌then◌else◌, nat_le, length}
 use Rattle.locations.specs.declared.relative.Location.{Location}
 use Rattle.message_parts.specs.declared.error.XcmError.{XcmError}
-use Rattle.message_parts.specs.declared.error.XcmError.TheVariants as error
 use Rattle.message_parts.specs.declared.pallet.PalletInfo.{PalletInfo}
 use Rattle.message_parts.specs.declared.query.QueryInfo.{QueryInfo}
-use Rattle.message_parts.specs.declared.query.Response.{Response}
 use Rattle.message_parts.specs.declared.query.Response.TheVariants as response
 use Rattle.message_parts.specs.declared.weight.WeightLimit.{WeightLimit}
 use Rattle.message_parts.specs.declared.weight.WeightLimit.TheVariants.{Unlimited, Limited}
 use Rattle.asset_lists.specs.declared.units.Asset.{Asset}
 use Rattle.asset_lists.specs.declared.filters.Filter.{Filter}
-use Rattle.asset_lists.specs.declared.filters.Filter.TheVariants.{Definite}
 use Rattle.asset_bundles.specs.Bundles.{Bundle, unit_keys}
 use Rattle.asset_bundles.specs.Filters.{Taken}
 use Rattle.asset_bundles.specs.Laws.{Taken-within}
-use Rattle.asset_bundles.specs.declared.shipment.Way.{Way}
 use Rattle.xcm_program.specs.declared.instruction.Instruction.{Instruction}
 use Rattle.xcm_program.specs.declared.instruction.Instruction.TheOpen.{Instruction-F}
 use Rattle.exec_base.specs.declared.registers.Registers.{Registers}
-use Rattle.exec_base.specs.Sending.{or_else, channel_to}
-use Rattle.exec_base.specs.Host.{querier_seen, fee_to, fee_held, fee_drawn}
+use Rattle.exec_base.specs.Sending.{or_else}
+use Rattle.exec_base.specs.Host.{fee_to, fee_held, fee_drawn}
 use Rattle.exec_run.specs.Machine.{Machine, machine}
 use Rattle.exec_rules.specs.AnswerLaws.{none_first, none_next}
 use Rattle.exec_rules.specs.Holdings.{at_origin, with_holding, holding_paid, payment_of, refund_now}
 use Rattle.exec_rules.specs.Fees.{after_fee}
-use Rattle.exec_rules.specs.Reports.{pallets_of, reported_list}
+use Rattle.exec_rules.specs.Reports.{reported_list}
 use Rattle.exec_rules.specs.Expectations.{pallet_at}
 use Rattle.exec_rules.specs.Instructions.{refused, done}
-use Rattle.exec_calls.specs.Calls.{Midway, between, HostCall, why_not, after, after_all, refusal_along, never, size_tests, for_origin, charge, around, buying, refunding, report, holding_report, pallet_tests, calls, turned, turned_at}
-use Rattle.exec_calls.specs.CallLaws.{along_both, after_both, charge_after, refused_is, done_is}
-use Rattle.exec_calls.specs.Reasons.{IsFrom, destination, IsFee, IsReport, shipping, Asks, AreAsked, ComesBeforeStop, LeadTo}
+use Rattle.exec_calls.specs.Calls.{Midway, between, HostCall, why_not, after, after_all, refusal_along, size_tests, for_origin, charge, around, buying, refunding, report, holding_report, pallet_tests, calls, turned_at}
+use Rattle.exec_calls.specs.CallLaws.{charge_after, refused_is, done_is}
+use Rattle.exec_calls.specs.Reasons.{IsFrom, destination, IsFee, IsReport, Asks, AreAsked, ComesBeforeStop, LeadTo}
 
 -- ---- no call changes other registers, or what the document says
 pub from_itself : (m : Machine) → IsFrom m (between m)

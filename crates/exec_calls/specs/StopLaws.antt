@@ -1,9 +1,8 @@
 -- Lemmas that proofs cite, in this crate and above it: where memory stops an instruction, accepted calls led there. A reader of the contracts
 -- may skip this file.
-use Rattle.std.proofs.Common.{◌≡◌, ◌⊎◌, ℕ, Bool, true, false, List, [], ◌∷◌, ◌++◌, Option, Some, None, ⊎_elim, inl, inr, refl, sym, ap, ◌∙◌, subst}
+use Rattle.std.proofs.Common.{◌≡◌, ◌⊎◌, Bool, true, false, List, [], ◌∷◌, ◌++◌, Option, Some, None, ⊎_elim, inr, refl, sym, ap, ◌∙◌, subst}
 use Rattle.std.specs.List.{AllByRecursion}
-use Rattle.std.specs.Prelude.{⊤, if◌then◌else◌, length}
-use Rattle.amounts.specs.Amounts.{empty}
+use Rattle.std.specs.Prelude.{if◌then◌else◌, length}
 use Rattle.locations.specs.declared.relative.Location.{Location}
 use Rattle.message_parts.specs.declared.error.XcmError.{XcmError}
 use Rattle.message_parts.specs.declared.error.XcmError.TheVariants as error
@@ -13,22 +12,22 @@ use Rattle.asset_lists.specs.declared.units.Asset.{Asset}
 use Rattle.asset_lists.specs.declared.filters.Filter.{Filter}
 use Rattle.asset_lists.specs.declared.filters.Filter.TheVariants.{Definite}
 use Rattle.asset_bundles.specs.Bundles.{Bundle, bundle_of}
-use Rattle.xcm_program.specs.declared.instruction.Instruction.{Instruction, out-Instruction}
+use Rattle.xcm_program.specs.declared.instruction.Instruction.{Instruction}
 use Rattle.xcm_program.specs.declared.instruction.Instruction.TheOpen.{Instruction-F}
 use Rattle.exec_base.specs.declared.registers.Registers.{Registers}
 use Rattle.exec_base.specs.Part.{ChainPart}
 use Rattle.exec_base.specs.Sending.{unless, or_else}
-use Rattle.exec_base.specs.Host.{withdraw_refusal, receive_refusal, claim_refusal, buy_refusal, withdrawn, received, claimed, unspent, bought, refund_goods, refunded, parked, fee_to, fee_taken}
+use Rattle.exec_base.specs.Host.{receive_refusal, unspent, bought, refund_goods, parked, fee_to, fee_taken}
 use Rattle.exec_run.specs.Machine.{Machine, machine}
 use Rattle.exec_rules.specs.AnswerLaws.{unless_held, unless_next}
 use Rattle.exec_rules.specs.Holdings.{with_origin, at_origin, has_room, holds_asset, taken_of, holding_left, holding_paid, payment_of, is_ticket, not_refunded, buying_refusal}
-use Rattle.exec_rules.specs.Fees.{fee_refusal, after_fee}
+use Rattle.exec_rules.specs.Fees.{after_fee}
 use Rattle.exec_rules.specs.Instructions.{refused}
-use Rattle.exec_rules.specs.Stopping.{parking, NotJoined, NotPutBack, BuyingStops, RefundStops, fee_parked, StopsAround, Stops, Spilled}
+use Rattle.exec_rules.specs.Stopping.{parking, NotJoined, NotPutBack, BuyingStops, fee_parked, StopsAround, Stops, Spilled}
 use Rattle.exec_calls.specs.Calls.{Midway, between, HostCall, why_not, after, effect, after_all, refusal_along, for_origin, charge}
 use Rattle.exec_calls.specs.Footprints.{part_is}
 use Rattle.exec_calls.specs.CallLaws.{along_both, after_both, charge_refused, charge_after}
-use Rattle.exec_calls.specs.Reasons.{destination, IsFee, Asks, AreAsked, ComesBeforeStop, LeadFrom, LeadTo}
+use Rattle.exec_calls.specs.Reasons.{destination, Asks, AreAsked, ComesBeforeStop, LeadFrom, LeadTo}
 use Rattle.exec_calls.specs.ReasonLaws.{asked_both, early_both, charge_asked, charge_early}
 
 -- ---- what is in hand is parked

@@ -9,15 +9,12 @@ use Rattle.amounts.specs.Rows.{amount_if, sum_where, amount_if-zero}
 use Rattle.amounts.specs.Laws.{key_same, same_key, amount-merge, amount-map_keys, amount_at_most, total_none, total-from_rows}
 use Rattle.locations.specs.declared.relative.Location.{Location}
 use Rattle.message_parts.specs.declared.weight.Weight.{Weight}
-use Rattle.message_parts.specs.declared.query.QueryInfo.{QueryInfo}
-use Rattle.message_parts.specs.declared.query.Response.{Response}
 use Rattle.asset_lists.specs.declared.units.Asset.{Asset}
 use Rattle.asset_lists.specs.declared.units.Fun.{Fun}
 use Rattle.asset_lists.specs.declared.units.Instance.{Instance}
 use Rattle.asset_lists.specs.Units.{Unit, unit_cmp}
 use Rattle.asset_lists.specs.Listed.{Listed, listed_of}
 use Rattle.asset_bundles.specs.declared.book.Cause.{Cause}
-use Rattle.asset_bundles.specs.declared.shipment.Way.{Way}
 use Rattle.asset_bundles.specs.Bundles.{Bundle, unit_keys}
 use Rattle.asset_bundles.specs.BundleLaws.{amount-bundle_of}
 use Rattle.asset_bundles.specs.Books.{Burn, burn_cmp, Burns, burned_for, given_up}
@@ -26,15 +23,11 @@ use Rattle.asset_bundles.specs.Joins.{most_of}
 use Rattle.asset_bundles.specs.Laws.{burn_keys, amount-Booked, given_up_within}
 use Rattle.ledgers.specs.Ledgers.{Holder}
 use Rattle.ledgers.specs.Laws.{holder_keys}
-use Rattle.channel_parts.specs.declared.cargo.Cargo.{Cargo}
-use Rattle.channel_parts.specs.declared.cargo.Cargo.TheVariants.{Nothing}
 use Rattle.weight_trader.specs.Purchases.{Line, coin_of, paid_goods, is_covered, paying, Bought, excess}
 use Rattle.weight_trader.specs.Prices.{price}
-use Rattle.xcm_program.specs.declared.instruction.Instruction.{Instruction}
 use Rattle.exec_base.specs.declared.event.Event.{Event}
 use Rattle.exec_base.specs.Part.{ChainPart, book_of}
-use Rattle.exec_base.specs.Sending.{sent}
-use Rattle.exec_base.specs.Host.{withdrawn, deposited, transferred, received, transferred_out, deposited_out, shipped, querier_seen, report_program, responded, is_query, answered, bought, above, refunded, booked, burned_lines, joined, burnt, is_trap, claimed, trapped, all_fees, fees_above, settled_burns, settled, fee_held, fee_kept, fee_drawn, told}
+use Rattle.exec_base.specs.Host.{withdrawn, received, is_query, answered, bought, above, refunded, booked, burned_lines, joined, burnt, is_trap, claimed, trapped, all_fees, fees_above, settled_burns, settled, told}
 use Rattle.conserved_runs.specs.Sums.{in_kept, in_places}
 use Rattle.overflow_laws.proofs.Fitting.{just_unit}
 
@@ -215,42 +208,9 @@ pub withdrawn_burns : (p : ChainPart) (list : List Asset) (who : Location) → (
 unfolding withdrawn
 withdrawn_burns p list who = refl
 
-pub deposited_burns : (p : ChainPart) (goods : Bundle) (who : Location) → (deposited p goods who).burns ≡ p.burns
-unfolding deposited
-deposited_burns p goods who = refl
-
-pub transferred_burns : (p : ChainPart) (list : List Asset) (from to : Location) → (transferred p list from to).burns ≡ p.burns
-unfolding transferred
-transferred_burns p list from to = refl
-
 pub received_burns : (p : ChainPart) (list : List Asset) (teleport : Bool) → (received p list teleport).burns ≡ p.burns
 unfolding received
 received_burns p list teleport = refl
-
-pub transferred_out_burns : (p : ChainPart) (list : List Asset) (from dest : Location) (program : List Instruction) → (transferred_out p list from dest program).burns ≡ p.burns
-unfolding transferred_out transferred sent
-transferred_out_burns p list from dest program = refl
-
-pub deposited_out_burns : (p : ChainPart) (goods : Bundle) (dest : Location) (program : List Instruction) → (deposited_out p goods dest program).burns ≡ p.burns
-unfolding deposited_out deposited sent
-deposited_out_burns p goods dest program = refl
-
-pub shipped_burns : (p : ChainPart) (goods : Bundle) (way : Way) (dest : Location) (program : List Instruction) → (shipped p goods way dest program).burns ≡ p.burns
-unfolding shipped sent
-shipped_burns p goods way dest program = refl
-
-sent_burns : (p : ChainPart) (dest : Location) (program : List Instruction) (cargo : Cargo) → (sent p dest program cargo).burns ≡ p.burns
-unfolding sent
-sent_burns p dest program cargo = refl
-
-responded_at : (p : ChainPart) (info : QueryInfo) (answer : Response) (o : Option (Option Location))
-    → (option_map_or (λ (seen : Option Location). sent p info.destination (report_program info answer seen) Nothing) o p).burns ≡ p.burns
-responded_at p info answer None = refl
-responded_at p info answer (Some seen) = sent_burns p info.destination (report_program info answer seen) Nothing
-
-pub responded_burns : (p : ChainPart) (info : QueryInfo) (answer : Response) (querier : Option Location) → (responded p info answer querier).burns ≡ p.burns
-unfolding responded
-responded_burns p info answer querier = responded_at p info answer (querier_seen p info.destination querier)
 
 answered_at : (p : ChainPart) (query : ℕ) (o : Option ℕ)
     → (option_map_or (λ (place : ℕ). record p { queries = remove p.queries place; kept_back = p.kept_back ++ Event.Answered query ∷ [] }) o (record p { kept_back = p.kept_back ++ Event.Ignored query ∷ [] })).burns ≡ p.burns
@@ -276,18 +236,6 @@ refunded_burns p w = refl
 pub trapped_burns : (p : ChainPart) (goods : Bundle) (origin : Location) → (trapped p goods origin).burns ≡ p.burns
 unfolding trapped
 trapped_burns p goods origin = refl
-
-pub fee_held_burns : (p : ChainPart) (goods : Bundle) → (fee_held p goods).burns ≡ p.burns
-unfolding fee_held
-fee_held_burns p goods = refl
-
-pub fee_drawn_burns : (p : ChainPart) (list : List Asset) (who : Location) → (fee_drawn p list who).burns ≡ p.burns
-unfolding fee_drawn
-fee_drawn_burns p list who = refl
-
-pub fee_kept_burns : (p : ChainPart) → (fee_kept p).burns ≡ p.burns
-unfolding fee_kept
-fee_kept_burns p = refl
 
 pub told_burns : (p : ChainPart) (e : Event) → (told p e).burns ≡ p.burns
 unfolding told

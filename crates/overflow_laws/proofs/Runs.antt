@@ -48,7 +48,8 @@ module _ (withdraws : Withdraws) (moves : MovesAreKept) (stays : StaysSteady) (n
 
   pub done_without_excess : (x : Instruction) (m : Machine) → AreLists x → refusal_of x m ≡ None → IsSafeAt n m → FitsBundle m → BurnsNoExcess m.part (xcm.done x m).part
   done_without_excess x m lists ok safe fits =
-      done_no_excess withdraws moves (out-Instruction x) m safe.fine.room safe.quiet safe.steady fits (everywhere_open HasList HasList-IsOfLayer x lists).0 ok
+      let opened = everywhere_open HasList HasList-IsOfLayer x lists in
+      done_no_excess withdraws moves n (out-Instruction x) m safe.fine safe.quiet safe.steady safe.fees opened.0 opened.1 agrees fits ok
 
   pub runs_without_excess : IsKeptByRuns xcm AreLists (GoesWithoutExcess n)
   runs_without_excess = record {
