@@ -1,2 +1,6 @@
-//! A probe.
+//! What each of the 48 instructions asks of its chain, call by call.
 #![tactic(auto)]
+
+mod laws;
+
+pub use laws::law_of_calls;
