@@ -1,18 +1,14 @@
 -- Lemmas: no rule but that of ReceiveTeleportedAsset asks whether a checking account has enough, and for an account of the chain itself that rule
 -- doesn't come to it. A reader may skip this file.
 use Rattle.std.proofs.Common.{◌≡◌, ℕ, Bool, true, false, List, [], ◌∷◌, length, Option, Some, None, refl, sym, ap, ◌∙◌, subst}
-use Rattle.std.specs.Prelude.{◌&&◌, not, is_some, nat_le, position, slice_get, if◌then◌else◌}
+use Rattle.std.specs.Prelude.{IsTrue, ⊤, ◌&&◌, is_some, nat_le, position, slice_get, if◌then◌else◌}
 use Rattle.std.specs.Option.{option_and_then, option_map_or}
 use Rattle.locations.specs.declared.relative.Location.{Location}
 use Rattle.message_parts.specs.declared.error.XcmError.{XcmError}
 use Rattle.message_parts.specs.declared.error.XcmError.TheVariants as error
-use Rattle.message_parts.specs.declared.pallet.PalletInfo.{PalletInfo}
 use Rattle.message_parts.specs.declared.query.QueryInfo.{QueryInfo}
 use Rattle.message_parts.specs.declared.query.Response.{Response}
-use Rattle.message_parts.specs.declared.query.Response.TheVariants as response
 use Rattle.message_parts.specs.declared.weight.Weight.{Weight}
-use Rattle.message_parts.specs.declared.weight.WeightLimit.{WeightLimit}
-use Rattle.message_parts.specs.declared.weight.WeightLimit.TheVariants.{Unlimited, Limited}
 use Rattle.asset_lists.specs.declared.units.Asset.{Asset}
 use Rattle.asset_lists.specs.Units.{amount_of}
 use Rattle.asset_bundles.specs.declared.shipment.Way.{Way}
@@ -24,14 +20,13 @@ use Rattle.xcm_program.specs.declared.instruction.Instruction.TheOpen.{Instructi
 use Rattle.channel_parts.specs.Channels.{Outgoing}
 use Rattle.exec_base.specs.Part.{ChainPart}
 use Rattle.exec_base.specs.Sending.{unless, or_else, is_sendable, channel_refusal, channel_to, send_refusal, listed_refusal}
-use Rattle.exec_base.specs.Host.{first_fault, with_account, give_fault, take_fault, given, withdraw_refusal, deposit_refusal, transfer_refusal, trust_fault, lower_fault, raise_fault, receive_refusal, transfer_out_refusal, deposit_out_refusal, is_teleport, ship_refusal, querier_seen, report_refusal, respond_refusal, no_line_refusal, buy_refusal, claim_refusal, fee_to}
+use Rattle.exec_base.specs.Host.{first_fault, with_account, give_fault, take_fault, given, withdraw_refusal, deposit_refusal, transfer_refusal, trust_fault, lower_fault, raise_fault, receive_refusal, transfer_out_refusal, deposit_out_refusal, is_teleport, ship_refusal, querier_seen, report_refusal, respond_refusal, no_line_refusal, buy_refusal, claim_refusal}
 use Rattle.exec_run.specs.Machine.{Machine}
-use Rattle.exec_rules.specs.Holdings.{with_origin, holds_asset, holds_list, has_room, taken_of, is_ticket, payment_of, buying_refusal, refund_now, refund_refusal}
-use Rattle.exec_rules.specs.Fees.{fee_refusal, after_fee, refused_around, refused_sending}
-use Rattle.exec_rules.specs.Reports.{pallets_of, reported_list, too_many_refused, holding_report_refused}
-use Rattle.exec_rules.specs.Origins.{is_original, is_checked_origin, fits_below, is_own_network, same_origin}
-use Rattle.exec_rules.specs.Expectations.{same_failure, same_status, pallet_refusal, pallet_at}
+use Rattle.exec_rules.specs.Holdings.{with_origin, holds_asset, has_room, is_ticket}
 use Rattle.exec_rules.specs.Instructions.{refused}
+use Rattle.exec_calls.specs.Calls.{Midway, here, HostCall, why_not}
+use Rattle.exec_calls.specs.Reasons.{is_own, Asks}
+use Rattle.exec_calls.specs.ReasonLaws.{refusal_shows}
 use Rattle.conserved_runs.specs.Accepted.{IsQuiet, receive_by}
 
 -- ---- refusals for other reasons than a checking account that is below the amount, or none
@@ -172,10 +167,6 @@ teleport_comes_other p (a ∷ list) from quiet =
     first_decides (trust_fault p from true a) (first_fault (trust_fault p from true) list) (first_fault (lower_fault p) (a ∷ list))
     (ap (λ (b : Bool). unless b error.UntrustedTeleportLocation None) (untrusted_by p a from quiet (is_partner p.rows p.site a from) refl))
 
-teleport_other : (p : ChainPart) (o : Option Location) (list : List Asset) (room : Bool) → IsQuiet o → IsNoShortage (with_origin o (λ who. unless room error.HoldingWouldOverflow (receive_refusal p list who true)))
-teleport_other p None list room quiet = λ h. absurd cc
-teleport_other p (Some who) list room quiet = unless_other room error.HoldingWouldOverflow _ (λ e. absurd cc) (teleport_comes_other p list who quiet)
-
 -- ---- weight
 line_other : (o : Option Line) → IsNoShortage (no_line_refusal o)
 line_other None = λ h. absurd cc
@@ -185,37 +176,7 @@ buy_other : (p : ChainPart) (w : Weight) (payment : Bundle) → IsNoShortage (bu
 unfolding buy_refusal
 buy_other p w payment = line_other (paying w payment p.lines)
 
-buying_other : (m : Machine) (fees : Asset) (limit : WeightLimit) → IsNoShortage (buying_refusal m fees limit)
-buying_other m fees Unlimited = none_other
-buying_other m fees (Limited w) = unless_other (holds_asset m fees) error.NotHoldingFees _ (λ e. absurd cc) (buy_other m.part w (payment_of fees))
-
-refund_other : (m : Machine) (o : Option (Location × ℕ)) → IsNoShortage (refund_refusal m o)
-refund_other m None = none_other
-refund_other m (Some given) = unless_other _ error.HoldingWouldOverflow None (λ e. absurd cc) none_other
-
--- ---- with a delivery fee
-fee_other : (m : Machine) (fee : Asset) → IsNoShortage (fee_refusal m fee)
-fee_other m fee = either_other m.regs.fees_mode _ _ (origin_other m.regs.origin _ (λ who. withdraw_other m.part (fee ∷ []) who)) (unless_other (holds_asset m fee) error.NotHoldingFees None (λ e. absurd cc) none_other)
-
-around_other : (o : Option Asset) (m : Machine) (rule : Machine → Option XcmError) → ((n : Machine) → IsNoShortage (rule n)) → IsNoShortage (refused_around o m rule)
-around_other None m rule other = other m
-around_other (Some fee) m rule other = else_other (fee_refusal m fee) (rule (after_fee m fee)) (fee_other m fee) (other (after_fee m fee))
-
-sending_other : (m : Machine) (dest : Location) (rule : Machine → Option XcmError) → ((n : Machine) → IsNoShortage (rule n)) → IsNoShortage (refused_sending m dest rule)
-sending_other m dest rule other = around_other (fee_to m.part dest) m rule other
-
-too_many_other : (m : Machine) (info : QueryInfo) → IsNoShortage (too_many_refused m info)
-too_many_other m info = unless_other _ error.ReanchorFailed _ (λ e. absurd cc) (unless_other _ error.Unroutable _ (λ e. absurd cc) (closed_other error.ExceedsMaxMessageSize (λ e. absurd cc)))
-
-holding_report_other : (m : Machine) (info : QueryInfo) (o : Option (List Asset)) → IsNoShortage (holding_report_refused m info o)
-holding_report_other m info None = λ h. absurd cc
-holding_report_other m info (Some list) = either_other (nat_le (length list) 20) _ _ (respond_other m.part info (response.Assets list) m.regs.origin) (too_many_other m info)
-
 -- ---- the rest
-pallet_other : (o : Option PalletInfo) (name module_name : List ℕ) (major least_minor : ℕ) → IsNoShortage (pallet_refusal o name module_name major least_minor)
-pallet_other None name module_name major least_minor = λ h. absurd cc
-pallet_other (Some info) name module_name major least_minor = unless_other _ error.NameMismatch _ (λ e. absurd cc) (unless_other _ error.VersionIncompatible None (λ e. absurd cc) none_other)
-
 test_other : (b : Bool) (e : XcmError) → (e ≡ error.NotWithdrawable → ⊥) → IsNoShortage (unless b e None)
 test_other b e n = unless_other b e None n none_other
 
@@ -241,46 +202,30 @@ taken_other m list taken = by_taken m.regs.origin taken
     by_taken None h = closed_other error.BadOrigin (λ e. absurd cc)
     by_taken (Some who) h = unless_other (has_room m (length list)) error.HoldingWouldOverflow _ (λ e. absurd cc) (subst IsNoShortage (sym (h who refl)) none_other)
 
--- ---- each of the 48 instructions, for an account of the chain itself or for nobody
+-- ---- each instruction, for an account of the chain itself or for nobody: no test of its own answers so, and no other call
+own_other : (e : XcmError) → IsTrue (is_own e) → e ≡ error.NotWithdrawable → ⊥
+own_other e own is = let no_way : IsTrue (is_own error.NotWithdrawable) = subst (λ (e : XcmError). IsTrue (is_own e)) is own in absurd (cc no_way)
+
+comes_other : (p : ChainPart) (o : Option Location) (list : List Asset) (teleport : Bool) → IsQuiet o → IsNoShortage (with_origin o (λ who. receive_refusal p list who teleport))
+comes_other p None list teleport quiet = λ h. absurd cc
+comes_other p (Some who) list true quiet = teleport_comes_other p list who quiet
+comes_other p (Some who) list false quiet = deposit_comes_other p list who
+
+call_other : (l : Instruction-F Instruction) (m : Machine) → IsQuiet m.regs.origin → (c : HostCall) (t : Midway) → Asks false l m t c → IsNoShortage (why_not c t)
+call_other l m quiet (HostCall.Check ok e) t asks = test_other ok e (own_other e asks)
+call_other l m quiet (HostCall.Pay a) t asks = test_other (holds_asset (here t) a) error.NotHoldingFees (λ e. absurd cc)
+call_other l m quiet (HostCall.Withdraw list who) t asks = withdraw_other t.part list who
+call_other l m quiet (HostCall.Draw fee who) t asks = withdraw_other t.part (fee ∷ []) who
+call_other l m quiet (HostCall.Receive list from teleport) t asks = comes_other t.part from list teleport (subst IsQuiet (sym asks.1) quiet)
+call_other l m quiet (HostCall.Claim list who) t asks = claim_other t.part list who
+call_other l m quiet (HostCall.Deposit who) t asks = deposit_other t.part t.goods who
+call_other l m quiet (HostCall.Buy w) t asks = buy_other t.part w t.goods
+call_other l m quiet (HostCall.DepositOut dest xcm) t asks = deposit_out_other t.part t.goods dest xcm
+call_other l m quiet (HostCall.Ship way dest xcm) t asks = ship_other t.part t.goods way dest xcm
+call_other l m quiet (HostCall.Transfer list from to) t asks = transfer_other t.part list from to
+call_other l m quiet (HostCall.TransferOut list from dest xcm) t asks = transfer_out_other t.part list from dest xcm
+call_other l m quiet (HostCall.Respond info answer querier) t asks = respond_other t.part info answer querier
+call_other l m quiet _ t asks = none_other
+
 pub other_refusal : (l : Instruction-F Instruction) (m : Machine) → IsQuiet m.regs.origin → IsNoShortage (refused l m)
-other_refusal (Instruction-F.WithdrawAsset list) m quiet = withdrawal_other m list
-other_refusal (Instruction-F.ReserveAssetDeposited list) m quiet = deposited_other m list
-other_refusal (Instruction-F.ReceiveTeleportedAsset list) m quiet = teleport_other m.part m.regs.origin list (has_room m (length list)) quiet
-other_refusal (Instruction-F.ClaimAsset list ticket) m quiet = claiming_other m list ticket
-other_refusal (Instruction-F.DepositAsset filter who) m quiet = deposit_other m.part (taken_of m filter) who
-other_refusal (Instruction-F.BuyExecution fees limit) m quiet = buying_other m fees limit
-other_refusal Instruction-F.RefundSurplus m quiet = refund_other m (refund_now m)
-other_refusal (Instruction-F.TransferAsset list who) m quiet = origin_other m.regs.origin _ (λ from. transfer_other m.part list from who)
-other_refusal (Instruction-F.TransferReserveAsset list dest xcm) m quiet = origin_other m.regs.origin _ (λ who. sending_other m dest _ (λ n. transfer_out_other n.part list who dest xcm))
-other_refusal (Instruction-F.DepositReserveAsset filter dest xcm) m quiet = sending_other m dest _ (λ n. deposit_out_other n.part (taken_of n filter) dest xcm)
-other_refusal (Instruction-F.InitiateReserveWithdraw filter dest xcm) m quiet = sending_other m dest _ (λ n. ship_other n.part (taken_of n filter) Way.Withdrawal dest xcm)
-other_refusal (Instruction-F.InitiateTeleport filter dest xcm) m quiet = sending_other m dest _ (λ n. ship_other n.part (taken_of n filter) Way.Teleport dest xcm)
-other_refusal (Instruction-F.ReportError info) m quiet = sending_other m info.destination _ (λ n. respond_other n.part info (response.ExecutionResult n.regs.error) n.regs.origin)
-other_refusal (Instruction-F.ReportHolding info filter) m quiet = sending_other m info.destination _ (λ n. holding_report_other n info (reported_list n info filter))
-other_refusal (Instruction-F.QueryPallet name info) m quiet = sending_other m info.destination _ (λ n. respond_other n.part info (response.PalletsInfo (pallets_of n.part name)) n.regs.origin)
-other_refusal (Instruction-F.ReportTransactStatus info) m quiet = sending_other m info.destination _ (λ n. respond_other n.part info (response.DispatchResult n.regs.status) n.regs.origin)
-other_refusal (Instruction-F.QueryResponse query answer weight querier) m quiet = answer_other m query answer weight querier
-other_refusal (Instruction-F.DescendOrigin path) m quiet = origin_other m.regs.origin _ (λ who. test_other (fits_below who path) error.LocationFull (λ e. absurd cc))
-other_refusal (Instruction-F.Trap code) m quiet = closed_other (error.Trap code) (λ e. absurd cc)
-other_refusal (Instruction-F.ExpectAsset list) m quiet = test_other (holds_list m list) error.ExpectationFalse (λ e. absurd cc)
-other_refusal (Instruction-F.ExpectOrigin origin) m quiet = test_other (same_origin m.regs.origin origin) error.ExpectationFalse (λ e. absurd cc)
-other_refusal (Instruction-F.ExpectError failure) m quiet = test_other (same_failure m.regs.error failure) error.ExpectationFalse (λ e. absurd cc)
-other_refusal (Instruction-F.ExpectTransactStatus status) m quiet = test_other (same_status m.regs.status status) error.ExpectationFalse (λ e. absurd cc)
-other_refusal (Instruction-F.ExpectPallet place name module_name major least_minor) m quiet = pallet_other (pallet_at m place) name module_name major least_minor
-other_refusal (Instruction-F.UnpaidExecution limit origin) m quiet = test_other (is_checked_origin m origin) error.BadOrigin (λ e. absurd cc)
-other_refusal (Instruction-F.Transact kind most call) m quiet = origin_other m.regs.origin _ (λ who. closed_other error.FailedToDecode (λ e. absurd cc))
-other_refusal (Instruction-F.HrmpNewChannelOpenRequest sender size capacity) m quiet = closed_other error.Unimplemented (λ e. absurd cc)
-other_refusal (Instruction-F.HrmpChannelAccepted recipient) m quiet = closed_other error.Unimplemented (λ e. absurd cc)
-other_refusal (Instruction-F.HrmpChannelClosing initiator sender recipient) m quiet = closed_other error.Unimplemented (λ e. absurd cc)
-other_refusal (Instruction-F.ExchangeAsset filter list maximal) m quiet = unless_other (has_room m (length list)) error.HoldingWouldOverflow _ (λ e. absurd cc) (closed_other error.NoDeal (λ e. absurd cc))
-other_refusal (Instruction-F.SubscribeVersion query weight) m quiet = unless_other (is_original m) error.BadOrigin _ (λ e. absurd cc) (closed_other error.Unimplemented (λ e. absurd cc))
-other_refusal Instruction-F.UnsubscribeVersion m quiet = unless_other (is_original m) error.BadOrigin _ (λ e. absurd cc) (closed_other error.Unimplemented (λ e. absurd cc))
-other_refusal (Instruction-F.UniversalOrigin junction) m quiet =
-    unless_other (not (is_own_network m junction)) error.InvalidLocation _ (λ e. absurd cc) (origin_other m.regs.origin _ (λ who. closed_other error.InvalidLocation (λ e. absurd cc)))
-other_refusal (Instruction-F.ExportMessage network path xcm) m quiet = origin_other m.regs.origin _ (λ who. closed_other error.Unroutable (λ e. absurd cc))
-other_refusal (Instruction-F.LockAsset asset unlocker) m quiet = origin_other m.regs.origin _ (λ who. closed_other error.LockError (λ e. absurd cc))
-other_refusal (Instruction-F.UnlockAsset asset target) m quiet = origin_other m.regs.origin _ (λ who. closed_other error.LockError (λ e. absurd cc))
-other_refusal (Instruction-F.NoteUnlockable asset owner) m quiet = origin_other m.regs.origin _ (λ who. closed_other error.LockError (λ e. absurd cc))
-other_refusal (Instruction-F.RequestUnlock asset locker) m quiet = origin_other m.regs.origin _ (λ who. closed_other error.LockError (λ e. absurd cc))
-other_refusal (Instruction-F.AliasOrigin target) m quiet = origin_other m.regs.origin _ (λ who. closed_other error.NoPermission (λ e. absurd cc))
-other_refusal _ m quiet = none_other
+other_refusal l m quiet = refusal_shows l m (λ (t : Midway). ⊤) IsNoShortage none_other (λ c t asks from free k. tt) (λ c t asks from k. call_other l m quiet c t asks) tt
