@@ -1,16 +1,20 @@
--- Lemmas that proofs cite, in this crate and above it: a call leaves the part that the host's rule says. A reader of the contracts may skip
--- this file.
+-- Lemmas that proofs cite, in this crate and above it: a call leaves the part that the host's rule says; none changes settings, and of the
+-- channels one at most, by a message put last. A reader of the contracts may skip this file.
 use Rattle.std.proofs.Common.{◌≡◌, ℕ, List, [], ◌∷◌, ◌++◌, Option, Some, None, refl}
 use Rattle.std.specs.Prelude.{position, remove}
 use Rattle.std.specs.Option.{option_map_or}
 use Rattle.locations.specs.declared.relative.Location.{Location}
 use Rattle.message_parts.specs.declared.query.QueryInfo.{QueryInfo}
 use Rattle.message_parts.specs.declared.query.Response.{Response}
+use Rattle.plain_lists.specs.Firsts.{change_first}
+use Rattle.xcm_program.specs.declared.instruction.Instruction.{Instruction}
+use Rattle.channel_parts.specs.declared.cargo.Cargo.{Cargo}
 use Rattle.channel_parts.specs.declared.cargo.Cargo.TheVariants.{Nothing}
+use Rattle.channel_parts.specs.Channels.{Outgoing, with_waiting}
 use Rattle.weight_trader.specs.Purchases.{paying}
 use Rattle.exec_base.specs.declared.event.Event.{Event}
 use Rattle.exec_base.specs.Part.{ChainPart}
-use Rattle.exec_base.specs.Sending.{sent}
+use Rattle.exec_base.specs.Sending.{leads_to, sent}
 use Rattle.exec_base.specs.Host.{withdrawn, deposited, transferred, received, transferred_out, deposited_out, shipped, querier_seen, report_program, responded, is_query, answered, booked, bought, refunded, joined, burnt, is_trap, claimed, trapped, parked, settled, fee_held, fee_taken, fee_kept, fee_drawn, told}
 use Rattle.exec_calls.specs.Calls.{Midway, HostCall, after, effect}
 
@@ -33,3 +37,24 @@ part_is (HostCall.Answer from query) t = answer_is t.part query (position (is_qu
 part_is (HostCall.Buy w) t = option_is (λ (q : ChainPart). record t.part { lines = q.lines; burns = q.burns; kept_back = q.kept_back }) (paying w t.goods t.part.lines) _ t.part refl (λ line. refl)
 part_is (HostCall.Claim list who) t = option_is (λ (q : ChainPart). record t.part { traps = q.traps }) (position (is_trap list who) t.part.traps.traps) _ t.part refl (λ place. refl)
 part_is _ t = refl
+
+-- ---- what calls change of settings and channels
+pub settings_after : (c : HostCall) (t : Midway) → (after c t).part.settings ≡ t.part.settings
+settings_after (HostCall.Take filter) t = refl
+settings_after _ t = refl
+
+-- what holds of the channels, and of each with a message put last in the one that leads somewhere, holds after each call
+module _ (K : List Outgoing → Type 0) (t : Midway) (sends : (dest : Location) (program : List Instruction) (cargo : Cargo) → K t.part.channels → K (change_first (leads_to t.part dest) (with_waiting program cargo) t.part.channels)) where
+  reported : (info : QueryInfo) (answer : Response) (o : Option (Option Location)) → K t.part.channels
+      → K (option_map_or (λ (seen : Option Location). sent t.part info.destination (report_program info answer seen) Nothing) o t.part).channels
+  unfolding sent
+  reported info answer None h = h
+  reported info answer (Some seen) h = sends info.destination _ _ h
+
+  pub channels_after : (c : HostCall) → K t.part.channels → K (after c t).part.channels
+  unfolding transferred transferred_out deposited deposited_out shipped responded sent
+  channels_after (HostCall.TransferOut list from dest xcm) h = sends dest _ _ h
+  channels_after (HostCall.DepositOut dest xcm) h = sends dest _ _ h
+  channels_after (HostCall.Ship way dest xcm) h = sends dest _ _ h
+  channels_after (HostCall.Respond info answer querier) h = reported info answer (querier_seen t.part info.destination querier) h
+  channels_after _ h = h

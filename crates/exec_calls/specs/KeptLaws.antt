@@ -224,7 +224,7 @@ module _ (Q : Instruction → Type 0) (K : Midway → Type 0) (kept : IsKeptByCa
     pub ran_kept : (a : Admitted) (p : ChainPart) → ((k : ℕ) → IsAheadOf Q (steps xcm k (first_stage rules origin a p))) → At_rest (first_machine rules origin p) → At_rest (last_machine rules origin a p)
     ran_kept a p ahead k = run_kept a p ahead k (run xcm (first_stage rules origin a p)) (still_to_run (first_stage rules origin a p), refl)
 
-    executed_by_kept : (r : Result Admitted Outcome) (p : ChainPart) → ((a : Admitted) → r ≡ Ok a → (k : ℕ) → IsAheadOf Q (steps xcm k (first_stage rules origin a p))) → At_rest (first_machine rules origin p) → Ends K (executed_by rules origin r p).1
+    pub executed_by_kept : (r : Result Admitted Outcome) (p : ChainPart) → ((a : Admitted) → r ≡ Ok a → (k : ℕ) → IsAheadOf Q (steps xcm k (first_stage rules origin a p))) → At_rest (first_machine rules origin p) → Ends K (executed_by rules origin r p).1
     executed_by_kept (Err outcome) p ahead k = record { regs = (first_machine rules origin p).regs; kept = k }
     executed_by_kept (Ok a) p ahead k = finished_kept K at_end (last_machine rules origin a p) (ran_kept a p (ahead a refl) k)
 
