@@ -132,7 +132,7 @@ slot_same : (p : ChainPart) → record (kept_of (fee_taken p)) { slot = p.fee_sl
 unfolding fee_taken
 slot_same p = refl
 
-taking_fee : (p : ChainPart) → Call nobody none (sum_of p.fee_slot) p (fee_taken p)
+pub taking_fee : (p : ChainPart) → Call nobody none (sum_of p.fee_slot) p (fee_taken p)
 taking_fee p =
     let same = slot_same p in
     record {
@@ -161,7 +161,7 @@ pub goods_room : (t : Midway) → HasRoom (hold (pooled t)) t.part → HasRoom (
 goods_room t room = room_with (hold (pooled t)) (sum_of t.goods) t.part room (λ q. let e = hold_pooled t q in omega (arith, e))
 
 -- the first call of an instruction finds nothing in hand
-nothing_in_hand : (t : Midway) → t.goods ≡ empty → (q : Unit → Bool) → total q t.goods ≡ 0
+pub nothing_in_hand : (t : Midway) → t.goods ≡ empty → (q : Unit → Bool) → total q t.goods ≡ 0
 nothing_in_hand t none q = ap (total q) none ∙ total-empty unit_keys q
 
 -- ---- each call

@@ -7,6 +7,7 @@ pub mod Safety
 pub mod Turns
 pub mod Shipping
 pub mod Accepted
+pub mod Ending
 pub mod Runs
 pub mod Stopping
 pub mod Raising

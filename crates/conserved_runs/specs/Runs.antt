@@ -1,25 +1,19 @@
 -- Lemmas: a run for a quiet origin is a safe change, wherever it comes, and so is its end. A reader may skip this file.
-use Rattle.std.proofs.Common.{◌≡◌, ◌⊎◌, ⊎_elim, ℕ, Bool, true, false, List, [], ◌∷◌, ◌++◌, Option, Some, None, length, refl, sym, ap, ◌∙◌, subst, arith}
-use Rattle.std.specs.Prelude.{nat_eq, if◌then◌else◌}
+use Rattle.std.proofs.Common.{◌≡◌, ◌⊎◌, ⊎_elim, ℕ, false, List, ◌++◌, Option, Some, None, refl, sym, ap, subst, arith}
 use Rattle.std.specs.List.{AllByRecursion}
-use Rattle.std.proofs.lemmas.Bool.Decides.{nat_tests}
-use Rattle.amounts.specs.Amounts.{total, empty, rows, difference, total-empty, total-rows}
-use Rattle.amounts.specs.Rows.{sum_where}
+use Rattle.amounts.specs.Amounts.{empty, rows, difference, total-empty}
 use Rattle.amounts.specs.Laws.{amount-difference}
 use Rattle.locations.specs.declared.grammar.Junction.{Junction}
 use Rattle.locations.specs.declared.relative.Location.{Location}
-use Rattle.message_parts.specs.declared.error.XcmError.{XcmError}
 use Rattle.message_parts.specs.declared.weight.Weight.{Weight}
 use Rattle.asset_lists.specs.declared.filters.Filter.{Filter}
-use Rattle.asset_lists.specs.Units.{Unit}
 use Rattle.asset_bundles.specs.Bundles.{Bundle, unit_keys}
 use Rattle.asset_bundles.specs.Books.{AreListed}
 use Rattle.asset_bundles.specs.Joins.{Joined, IsWithinMost}
 use Rattle.asset_bundles.specs.Filters.{Taken, Left}
 use Rattle.asset_bundles.specs.Laws.{amount-Joined}
-use Rattle.weight_trader.specs.Purchases.{AreWithinEnd}
 use Rattle.weight_trader.specs.Laws.{MovesAreKept}
-use Rattle.xcm_program.specs.declared.instruction.Instruction.{Instruction, out-Instruction, out-roll-Instruction}
+use Rattle.xcm_program.specs.declared.instruction.Instruction.{Instruction, out-Instruction}
 use Rattle.xcm_program.specs.declared.instruction.Instruction.TheOpen.{Instruction-F}
 use Rattle.xcm_program.specs.Everywhere.{AllInside}
 use Rattle.xcm_program.specs.Measure.{inner}
@@ -28,14 +22,14 @@ use Rattle.xcm_program.specs.Laws.{everywhere_open}
 use Rattle.exec_base.specs.declared.event.Event.{Event}
 use Rattle.exec_base.specs.declared.registers.Registers.{Registers}
 use Rattle.exec_base.specs.Part.{ChainPart}
-use Rattle.exec_base.specs.Host.{settled, trapped, told}
+use Rattle.exec_base.specs.Host.{told}
 use Rattle.exec_run.specs.Machine.{Machine, machine, IsOrderly}
-use Rattle.exec_run.specs.Run.{Stage, failed, without_handler, without_appendix, handler_dropped, steps, machine_of, left_after}
+use Rattle.exec_run.specs.Run.{Stage, failed, without_handler, without_appendix, handler_dropped, steps, machine_of}
 use Rattle.exec_run.specs.Accounts.{IsBalanced}
-use Rattle.exec_run.specs.Outcome.{owner_of, end_event, end_told, refund_surplus, refunded_last, finished}
+use Rattle.exec_run.specs.Outcome.{finished}
 use Rattle.exec_run.specs.Keeping.{IsKeptByRuns, IsAheadOf, GoesInside}
 use Rattle.exec_run.specs.KeepingLaws.{steps_keep}
-use Rattle.exec_rules.specs.Holdings.{payment_of, refund_now}
+use Rattle.exec_rules.specs.Holdings.{payment_of}
 use Rattle.exec_rules.specs.Origins.{descended}
 use Rattle.exec_rules.specs.Instructions.{refusal_of, done, xcm}
 use Rattle.exec_rules.specs.Readiness.{IsSteady}
@@ -46,11 +40,12 @@ use Rattle.exec_calls.specs.Kept.{TurnsOrigin}
 use Rattle.exec_calls.specs.KeptLaws.{turns}
 use Rattle.coherence.specs.Networks.{Table, IsIn, Agrees}
 use Rattle.conserved_runs.specs.Views.{table_of}
-use Rattle.conserved_runs.specs.Sums.{sum_of, none, nobody, Call, HasRoom}
-use Rattle.conserved_runs.specs.Calls.{Withdraws, Trapping, call_then, call_with, call_by, still, room_kept, room_with, telling, settling, trapping_goods}
+use Rattle.conserved_runs.specs.Sums.{sum_of, none, nobody, HasRoom}
+use Rattle.conserved_runs.specs.Calls.{Withdraws, Trapping, call_with, call_by, telling}
 use Rattle.conserved_runs.specs.Safety.{HasList, AreLists, IsSpared, hold, Turn, Safely, IsFine, HasFee, AreFees, moved_safely, turn_safely, safely_then, keeps_room, same_table}
-use Rattle.conserved_runs.specs.Turns.{same_turn, part_turn, by_nobody, refund_by}
+use Rattle.conserved_runs.specs.Turns.{same_turn, part_turn, by_nobody}
 use Rattle.conserved_runs.specs.Shipping.{HasList-IsOfLayer}
+use Rattle.conserved_runs.specs.Ending.{finished_call}
 use Rattle.conserved_runs.specs.Accepted.{IsCaller, IsQuiet, caller_spared, safely_done}
 
 -- ---- the origin
@@ -226,44 +221,6 @@ module _ (withdraws : Withdraws) (moves : MovesAreKept) (stays : StaysSteady) (n
   steps_go orderly w count g balanced ahead = steps_keep xcm orderly AreLists lists_go_inside (Goes n) runs_go w count g balanced ahead
 
   -- ---- the end
-  pub refund_call : (m : Machine) (o : Option XcmError) → refusal_of refund_surplus m ≡ o → IsSteady m → HasRoom (hold m) m.part → Call nobody (hold m) (hold (left_after xcm refund_surplus m o)) m.part (left_after xcm refund_surplus m o).part × IsSteady (left_after xcm refund_surplus m o)
-  refund_call m None e steady room = (
-    subst (λ (l : Instruction-F Instruction). Call nobody (hold m) (hold (done l m)) m.part (done l m).part) (sym (out-roll-Instruction Instruction-F.RefundSurplus)) (refund_by moves m (refund_now m) steady.rest.order.paid room),
-    stays refund_surplus m steady e,
-  )
-  refund_call m (Some error) e steady room = (call_with nobody none none (hold m) (hold m) m.part m.part (still m.part m.part refl) (λ t. omega arith), steady)
-
-  rest_call : Trapping → (b : Bool) (r : Registers) (p : ChainPart) → (b ≡ true → (t : Unit → Bool) → total t r.holding ≡ 0) → Call nobody (sum_of r.holding) none p (if b then p else trapped p r.holding (owner_of r))
-  rest_call law true r p none_left = call_with nobody none none (sum_of r.holding) none p p (still p p refl) (λ t. let z = none_left refl t in omega (arith, z))
-  rest_call law false r p none_left = trapping_goods law p r.holding (owner_of r)
-
-  no_rows : (b : Bundle) → nat_eq (length (rows b)) 0 ≡ true → (t : Unit → Bool) → total t b ≡ 0
-  no_rows b e t = sym (total-rows t b) ∙ none_of (rows b) (grind (arith, nat_tests, e))
-    where
-      none_of : (rs : List (Unit × ℕ)) → length rs ≡ 0 → sum_where t rs ≡ 0
-      none_of [] h = refl
-      none_of (r ∷ rs) h = absurd (omega (arith, h))
-
-  pub told_within : (p : ChainPart) (e : Event) → AreWithinEnd p.lines → AreWithinEnd (told p e).lines
-  unfolding told
-  told_within p e h = h
-
-  -- the last refund, the line of the end, settlement, and what is held is trapped
-  pub finished_call : Trapping → (m : Machine) → IsSteady m → HasRoom (hold m) m.part → Call nobody (hold m) none m.part (finished xcm m)
-  finished_call law m steady room =
-      let last = refunded_last xcm m in
-      let first = refund_call m (refusal_of refund_surplus m) refl steady room in
-      let room_last = room_kept nobody (hold m) (hold last) m.part last.part first.0 room in
-      let p = end_told last in
-      let said : Call nobody (hold last) (hold last) last.part p = call_with nobody none none (hold last) (hold last) last.part p (telling last.part (end_event last.regs)) (λ t. omega arith) in
-      let room_p = room_kept nobody (hold last) (hold last) last.part p said room_last in
-      let within : AreWithinEnd p.lines = told_within last.part (end_event last.regs) first.1.rest.order.paid in
-      let paid : Call nobody (hold last) (hold last) p (settled p) = call_with nobody none none (hold last) (hold last) p (settled p) (settling moves p within (room_with (hold last) none p room_p (λ t. omega arith))) (λ t. omega arith) in
-      let rest = rest_call law (nat_eq (length (rows last.regs.holding)) 0) last.regs (settled p) (λ e t. no_rows last.regs.holding e t) in
-      call_then nobody (hold m) (hold last) none m.part last.part (finished xcm m) first.0
-      (call_then nobody (hold last) (hold last) none last.part p (finished xcm m) said
-      (call_then nobody (hold last) (hold last) none p (settled p) (finished xcm m) paid rest))
-
   -- nothing is held afterwards
   abbrev pub emptied : Machine → Machine
   emptied m = machine (record m.regs { holding = empty }) (finished xcm m)
@@ -271,4 +228,4 @@ module _ (withdraws : Withdraws) (moves : MovesAreKept) (stays : StaysSteady) (n
   pub finished_safely : Trapping → (m : Machine) → IsSteady m → HasRoom (hold m) m.part → Safely m (emptied m)
   finished_safely law m steady room =
       moved_safely nobody m (emptied m) (λ chain number foreign h. h)
-      (call_with nobody (hold m) none (hold m) (sum_of empty) m.part (finished xcm m) (finished_call law m steady room) (λ t. let z = total-empty unit_keys t in omega (arith, z)))
+      (call_with nobody (hold m) none (hold m) (sum_of empty) m.part (finished xcm m) (finished_call moves law m room steady.rest.order.paid) (λ t. let z = total-empty unit_keys t in omega (arith, z)))

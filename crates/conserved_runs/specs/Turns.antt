@@ -1,21 +1,18 @@
 -- Lemmas: goods that move inside a chain. A reader may skip this file.
-use Rattle.std.proofs.Common.{◌≡◌, ℕ, ◌+◌, Bool, true, List, Option, Some, None, refl, sym, subst, arith}
+use Rattle.std.proofs.Common.{◌≡◌, ℕ, ◌+◌, Bool, true, List, refl, sym, subst, arith}
 use Rattle.amounts.specs.Amounts.{total, difference}
 use Rattle.amounts.specs.Laws.{total-difference}
-use Rattle.locations.specs.declared.relative.Location.{Location}
 use Rattle.asset_lists.specs.declared.units.Asset.{Asset}
 use Rattle.asset_lists.specs.Units.{Unit}
 use Rattle.asset_bundles.specs.Bundles.{Bundle, unit_keys}
 use Rattle.asset_bundles.specs.Joins.{Joined}
-use Rattle.weight_trader.specs.Purchases.{AreWithinEnd}
-use Rattle.weight_trader.specs.Laws.{MovesAreKept}
 use Rattle.exec_base.specs.Part.{ChainPart}
-use Rattle.exec_base.specs.Host.{refund_goods, refunded, joined}
+use Rattle.exec_base.specs.Host.{joined}
 use Rattle.exec_run.specs.Machine.{Machine, machine}
-use Rattle.exec_rules.specs.Holdings.{holds_asset, holding_more, payment_of, not_refunded, refund_done}
+use Rattle.exec_rules.specs.Holdings.{holds_asset, holding_more, payment_of}
 use Rattle.exec_rules.specs.HoldingLaws.{payment_within}
 use Rattle.conserved_runs.specs.Sums.{sum_of, none, with, nobody, Call, HasRoom}
-use Rattle.conserved_runs.specs.Calls.{call_then, call_with, call_by, still, room_kept, joining, refunding}
+use Rattle.conserved_runs.specs.Calls.{call_then, call_with, call_by, still, room_kept, joining}
 use Rattle.conserved_runs.specs.Safety.{origins, hold, Turn}
 
 -- ---- whom an instruction may charge
@@ -42,7 +39,3 @@ more_call may m p goods x room =
 
 pub paid_parts : (m : Machine) (a : Asset) → holds_asset m a ≡ true → (t : Unit → Bool) → total t (difference m.regs.holding (payment_of a)) + total t (payment_of a) ≡ total t m.regs.holding
 paid_parts m a held t = total-difference unit_keys t m.regs.holding (payment_of a) (payment_within m a held)
-
-pub refund_by : MovesAreKept → (m : Machine) (o : Option (Location × ℕ)) → AreWithinEnd m.part.lines → HasRoom (hold m) m.part → Call nobody (hold m) (hold (refund_done m o)) m.part (refund_done m o).part
-refund_by moves m None within room = call_with nobody none none (hold m) (hold m) m.part m.part (still m.part m.part refl) (λ t. omega arith)
-refund_by moves m (Some given) within room = more_call nobody m (refunded m.part (not_refunded m)) (refund_goods m.part (not_refunded m)) (refunding moves m.part (not_refunded m) within) room

@@ -1,5 +1,5 @@
 -- Lemmas: what stands where memory is refused to a run is a safe change too, with what is parked counted. A reader may skip this file.
-use Rattle.std.proofs.Common.{◌≡◌, ◌⊎◌, ⊎_elim, inl, inr, ℕ, zero, suc, ◌+◌, List, [], ◌∷◌, Option, Some, None, Result, Ok, Err, refl, sym, ap, ◌∙◌, subst, arith}
+use Rattle.std.proofs.Common.{◌≡◌, ◌⊎◌, ⊎_elim, inl, inr, ℕ, zero, suc, ◌+◌, List, [], ◌∷◌, Option, Some, None, Result, Ok, Err, refl, sym, ap, ◌∙◌, subst, arith, true, false}
 use Rattle.amounts.specs.Amounts.{total, empty, total-empty}
 use Rattle.locations.specs.declared.relative.Location.{Location}
 use Rattle.message_parts.specs.declared.error.XcmError.{XcmError}
@@ -11,32 +11,35 @@ use Rattle.xcm_program.specs.Laws.{everywhere_open}
 use Rattle.exec_base.specs.declared.event.Event.{Event}
 use Rattle.exec_base.specs.declared.event.Part.TheVariants as parts
 use Rattle.exec_base.specs.declared.registers.Registers.{Registers}
-use Rattle.exec_base.specs.Part.{ChainPart}
-use Rattle.exec_base.specs.Host.{settled, parked, refunded, refund_goods}
+use Rattle.exec_base.specs.Part.{ChainPart, Taken}
+use Rattle.exec_base.specs.Host.{parked}
 use Rattle.exec_run.specs.Machine.{Machine, machine, Performed}
 use Rattle.exec_run.specs.Run.{Stage, At, Ended, begin, next, steps, machine_of, failed, without_appendix, handler_dropped, traced, GoesOnTo, StoppedIn, Halted}
 use Rattle.exec_run.specs.RunLaws.{steps_end}
 use Rattle.exec_run.specs.KeepingLaws.{reached_hold}
 use Rattle.exec_run.specs.Accounts.{IsBalanced}
-use Rattle.exec_run.specs.Outcome.{abandoned, end_event, end_told, refund_surplus, refunded_last, HaltedAtEnd}
-use Rattle.exec_rules.specs.Holdings.{not_refunded}
+use Rattle.exec_run.specs.Outcome.{abandoned, HaltedAtEnd}
 use Rattle.exec_rules.specs.Instructions.{done, refusal_of, xcm}
 use Rattle.exec_rules.specs.Readiness.{IsSteady}
-use Rattle.exec_rules.specs.Stopping.{parking, RefundStops, Stops, Spilled, spills}
+use Rattle.exec_rules.specs.Stopping.{Stops, Spilled, spills}
 use Rattle.exec_admission.specs.declared.rules.ChainRules.{ChainRules}
 use Rattle.exec_admission.specs.declared.admission.Admitted.{Admitted}
 use Rattle.exec_admission.specs.Execution.{started, first_machine, first_stage, last_machine, AbandonedIn}
-use Rattle.weight_trader.specs.Purchases.{AreWithinEnd}
 use Rattle.coherence.specs.Networks.{Table, Agrees}
-use Rattle.conserved_runs.specs.Sums.{sum_of, none, nobody, Call, HasRoom}
-use Rattle.conserved_runs.specs.Calls.{call_then, call_with, still, room_kept, room_with, telling, settling, refunding, parking_goods}
+use Rattle.conserved_runs.specs.Sums.{none, nobody, HasRoom}
+use Rattle.conserved_runs.specs.Calls.{call_with, still}
 use Rattle.conserved_runs.specs.Safety.{HasList, AreLists, hold, Safely, moved_safely, safely_then, keeps_room}
 use Rattle.conserved_runs.specs.Shipping.{HasList-IsOfLayer}
-use Rattle.conserved_runs.specs.Runs.{IsSafeAt, told_steady, done_goes, lists_go_inside, refund_call, told_within}
+use Rattle.conserved_runs.specs.Runs.{IsSafeAt, told_steady, done_goes, lists_go_inside}
 use Rattle.conserved_runs.specs.Accepted.{spilled_safely}
 use Rattle.conserved_runs.specs.Stopping.{abandoned_call}
+use Rattle.conserved_runs.specs.Ending.{halted_call}
+use Rattle.exec_calls.specs.Calls.{Midway, HostCall, after}
+use Rattle.exec_calls.specs.Reasons.{Asks}
+use Rattle.exec_calls.specs.Kept.{IsKeptAtEnd}
+use Rattle.exec_calls.specs.KeptLaws.{at_end_kept}
 use Rattle.conserved_steps.specs.Soundness.{LawsBelow}
-use Rattle.conserved_steps.specs.Firsts.{IsSetBehind, second, stopped, alone, told_safely, refunded_cargo, last_cargo, settled_cargo, told_cargo, step_on, stays_here, refused_next, refused_last, alone_next, alone_last, led_once, led_on, led_last}
+use Rattle.conserved_steps.specs.Firsts.{IsSetBehind, second, stopped, alone, told_safely, told_cargo, step_on, stays_here, refused_next, refused_last, alone_next, alone_last, led_once, led_on, led_last}
 
 -- ---- what is delivered
 pub parked_cargo : (p : ChainPart) (goods : Bundle) → (parked p goods).cargo ≡ p.cargo
@@ -60,6 +63,16 @@ held_safely m r same =
     subst (λ (b : Bundle). Safely m (machine (record r { holding = b }) m.part)) (sym same)
     (moved_safely nobody m (machine (record r { holding = m.regs.holding }) m.part) (λ chain number foreign h. h)
     (call_with nobody none none (hold m) (hold m) m.part m.part (still m.part m.part refl) (λ t. omega arith)))
+
+-- ---- the end of a run leaves the cargo
+cargo_after : (m : Machine) (c : HostCall) (t : Midway) → Asks true Instruction-F.RefundSurplus m t c → (after c t).part.cargo ≡ t.part.cargo
+cargo_after m (HostCall.Withdraw list who) t asks = absurd (cc asks.2)
+cargo_after m (HostCall.Receive list from true) t asks = absurd (cc asks.2)
+cargo_after m (HostCall.Receive list from false) t asks = absurd (cc asks.2)
+cargo_after m _ t asks = refl
+
+cargo_at_end : (cargo : Taken) → IsKeptAtEnd (λ (t : Midway). t.part.cargo ≡ cargo)
+cargo_at_end cargo = record { closing = λ m t c k asks from ok h. cargo_after m c t asks ∙ h; closed = λ t r holding origin h. h }
 
 -- ---- ClearOrigin stops
 clear_spilt : (before m : Machine) → spills second before m → Safely before m
@@ -138,50 +151,13 @@ module _ (laws : LawsBelow) (n : List Table) (agrees : Agrees n) (rules : ChainR
   halted x m now safe all h = ⊎_elim (λ (s : spills x m now). spilled x m now safe all s) (λ (d : (answer : Result (Unit {0}) XcmError) × Performed xcm x m answer now). performed x m now d.0 safe all d.1) h
 
   -- ---- at the end
-  -- what the last refund may leave
-  pub refund_halts : (m now : Machine) → AreWithinEnd m.part.lines → spills refund_surplus m now → Safely m now × (now.part.cargo ≡ m.part.cargo)
-  refund_halts m now within h =
-      let s : Spilled Instruction-F.RefundSurplus m now = subst (λ (l : Instruction-F Instruction). Spilled l m now) (out-roll-Instruction Instruction-F.RefundSurplus) h in
-      ⊎_elim (λ (e : now ≡ m). (subst (Safely m) (sym e) (held_safely m m.regs refl), ap (λ (z : Machine). z.part.cargo) e))
-      (λ (r : RefundStops m now).
-      let p = refunded m.part (not_refunded m) in
-      let goods = refund_goods m.part (not_refunded m) in
-      let came : Call nobody none none m.part (parked p goods) = call_then nobody none (sum_of goods) none m.part p (parked p goods) (refunding laws.moves m.part (not_refunded m) within) (parking_goods p goods) in (
-        subst (Safely m) (sym r.1) (moved_safely nobody m (parking m p goods) (λ chain number foreign h. h) (call_with nobody none none (hold m) (hold m) m.part (parked p goods) came (λ t. omega arith))),
-        ap (λ (z : Machine). z.part.cargo) r.1 ∙ parked_cargo p goods ∙ refunded_cargo m.part (not_refunded m),
-      )) s
-
-  ends_as : (k m : Machine) (r : Registers) (q now : ChainPart) → Safely k m → Call nobody (hold m) (hold (machine r q)) m.part q → q.cargo ≡ m.part.cargo → now ≡ abandoned r q → Safely k (over rules origin now) × (now.cargo ≡ m.part.cargo)
-  ends_as k m r q now before x same is =
-      let z = machine r q in (
-        subst (λ (y : ChainPart). Safely k (over rules origin y)) (sym is)
-            (safely_then k z (over rules origin (abandoned r q)) (safely_then k m z before (moved_safely nobody m z (λ chain number foreign h. h) x)) (parks z)),
-        ap (λ (y : ChainPart). y.cargo) is ∙ parked_cargo q r.holding ∙ same,
-      )
-
   pub ended_from : (k m : Machine) → Safely k m → IsSteady m → HasRoom (hold m) m.part → (now : ChainPart) → HaltedAtEnd xcm spills m now → Safely k (over rules origin now) × (now.cargo ≡ m.part.cargo)
-  ended_from k m before steady room now h =
-      let last = refunded_last xcm m in
-      let refund = refund_call laws.withdraws laws.moves laws.stays n agrees m (refusal_of refund_surplus m) refl steady room in
-      let room_last = room_kept nobody (hold m) (hold last) m.part last.part refund.0 room in
-      let q = end_told last in
-      let said : Call nobody (hold last) (hold last) last.part q = call_with nobody none none (hold last) (hold last) last.part q (telling last.part (end_event last.regs)) (λ t. omega arith) in
-      let both : Call nobody (hold m) (hold last) m.part q = call_then nobody (hold m) (hold last) (hold last) m.part last.part q refund.0 said in
-      let room_q = room_kept nobody (hold last) (hold last) last.part q said room_last in
-      let within = told_within laws.withdraws laws.moves laws.stays n agrees last.part (end_event last.regs) refund.1.rest.order.paid in
-      let paid : Call nobody (hold last) (hold last) q (settled q) = call_with nobody none none (hold last) (hold last) q (settled q) (settling laws.moves q within (room_with (hold last) none q room_q (λ t. omega arith))) (λ t. omega arith) in
-      let all : Call nobody (hold m) (hold last) m.part (settled q) = call_then nobody (hold m) (hold last) (hold last) m.part q (settled q) both paid in
-      let same_last : last.part.cargo ≡ m.part.cargo = last_cargo m (refusal_of refund_surplus m) in
-      let same_q : q.cargo ≡ m.part.cargo = told_cargo last.part (end_event last.regs) ∙ same_last in
-      ⊎_elim
-      (λ (s : (spilt : Machine) × spills refund_surplus m spilt × (now ≡ abandoned spilt.regs spilt.part)).
-      let one = refund_halts m s.0 steady.rest.order.paid s.1 in (
-        subst (λ (y : ChainPart). Safely k (over rules origin y)) (sym s.2) (safely_then k s.0 (over rules origin (abandoned s.0.regs s.0.part)) (safely_then k m s.0 before one.0) (parks s.0)),
-        ap (λ (y : ChainPart). y.cargo) s.2 ∙ parked_cargo s.0.part s.0.regs.holding ∙ one.1,
-      ))
-      (λ r. ⊎_elim (λ (e : now ≡ abandoned last.regs last.part). ends_as k m last.regs last.part now before refund.0 same_last e)
-      (λ r. ⊎_elim (λ (e : now ≡ abandoned last.regs q). ends_as k m last.regs q now before both same_q e)
-      (λ (e : now ≡ abandoned last.regs (settled q)). ends_as k m last.regs (settled q) now before all (settled_cargo q ∙ same_q) e) r) r) h
+  ended_from k m before steady room now h = (
+    safely_then k m (over rules origin now) before
+        (moved_safely nobody m (over rules origin now) (λ chain number foreign h. h)
+        (call_with nobody (hold m) none (hold m) (λ t. total t empty) m.part now (halted_call laws.moves laws.trapping m room steady.rest.order.paid now h) (λ t. let z = total-empty unit_keys t in omega (arith, z)))),
+    (at_end_kept (λ (t : Midway). t.part.cargo ≡ m.part.cargo) (cargo_at_end m.part.cargo) m now h refl).kept,
+  )
 
   -- ---- behind the first instruction of a delivered message
   module _ (p : ChainPart) (a : Admitted) (balanced : IsBalanced a.weight (first_stage rules origin a p)) where

@@ -1,5 +1,6 @@
 -- What every execution keeps: a fact that each call keeps, and each change of the other registers. This project's own vocabulary.
 use Rattle.std.specs.Prelude.{◌≡◌, ◌⊎◌, Bool, true, List, Option, Some, None}
+use Rattle.amounts.specs.Amounts.{empty}
 use Rattle.locations.specs.declared.grammar.Junction.{Junction}
 use Rattle.locations.specs.declared.relative.Location.{Location}
 use Rattle.xcm_program.specs.declared.instruction.Instruction.{Instruction, out-Instruction}
@@ -34,7 +35,8 @@ pub record IsKeptByCalls (Q : Instruction → Type 0) (K : Midway → Type 0) : 
       → (over : Bool) (m : Machine) (t : Midway) (c : HostCall) → K (between m) → Asks over l m t c → IsFrom m t → why_not c t ≡ None → K t → K (after c t)
   pub turned : (t : Midway) (r : Registers) → Turns t.regs r → K t → K (record t { regs = r })
 
--- it holds of a part with some registers, and nothing in hand
+-- it holds of a part with some registers, and nothing held or in hand
 pub record Ends (K : Midway → Type 0) (p : ChainPart) : Type 0 where
   pub regs : Registers
+  pub nothing : regs.holding ≡ empty
   pub kept : K (between (machine regs p))

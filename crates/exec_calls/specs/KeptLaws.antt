@@ -1,9 +1,15 @@
 -- Lemmas that proofs cite, in this crate and above it: a fact that each call keeps, instructions, runs and executions keep, also where memory
 -- is refused. A reader of the contracts may skip this file.
-use Rattle.std.proofs.Common.{◌≡◌, ◌⊎◌, ℕ, zero, suc, ◌+◌, Bool, true, false, List, [], ◌∷◌, Option, Some, None, Result, Ok, Err, ⊎_elim, inl, inr, refl, sym, ap, ◌∙◌, subst}
+use Rattle.std.proofs.Common.{◌≡◌, ◌⊎◌, ℕ, zero, suc, ◌+◌, Bool, true, false, List, [], ◌∷◌, Option, Some, None, Result, Ok, Err, ⊎_elim, inl, inr, refl, sym, ap, ◌∙◌, subst, arith}
 use Rattle.std.specs.Prelude.{⊤, if◌then◌else◌, nat_eq, length}
 use Rattle.std.specs.List.{AllByRecursion}
-use Rattle.amounts.specs.Amounts.{rows, empty}
+use Rattle.std.specs.Ordering.{eq_by_cmp}
+use Rattle.std.proofs.lemmas.Bool.Decides.{nat_tests}
+use Rattle.amounts.specs.Amounts.{rows, empty, amount-empty, same_amounts}
+use Rattle.amounts.specs.Rows.{sum_where}
+use Rattle.amounts.specs.Laws.{amount-rows}
+use Rattle.asset_lists.specs.Units.{unit_cmp}
+use Rattle.asset_bundles.specs.Bundles.{Bundle, unit_keys}
 use Rattle.locations.specs.declared.grammar.Junction.{Junction}
 use Rattle.locations.specs.declared.relative.Location.{Location}
 use Rattle.message_parts.specs.declared.error.XcmError.{XcmError}
@@ -57,6 +63,18 @@ turns l m t f = stays_origin t.regs _ refl refl
 refund_layer : out-Instruction refund_surplus ≡ Instruction-F.RefundSurplus
 refund_layer = out-roll-Instruction Instruction-F.RefundSurplus
 
+-- a bundle without rows is empty
+none_of : {A : Type 0} (test : A → Bool) (rs : List (A × ℕ)) → length rs ≡ 0 → sum_where test rs ≡ 0
+none_of test [] h = refl
+none_of test (r ∷ rs) h = absurd (omega (arith, h))
+
+no_rows : (b : Bundle) → nat_eq (length (rows b)) 0 ≡ true → b ≡ empty
+no_rows b e = same_amounts unit_keys b empty (λ u.
+    let all = amount-rows unit_keys b u in
+    let none = none_of (eq_by_cmp unit_cmp u) (rows b) (grind (arith, nat_tests, e)) in
+    let z = amount-empty unit_keys u in
+    omega (arith, all, none, z))
+
 -- what an instruction may ask, it may ask at the end
 also_over : (l : Instruction-F Instruction) (m : Machine) (t : Midway) (c : HostCall) → Asks false l m t c → Asks true l m t c
 also_over l m t HostCall.Empty asks = absurd (cc asks.0)
@@ -89,6 +107,7 @@ module _ (K : Midway → Type 0) (kept : IsKeptAtEnd K) where
   abandoned_kept m now is k = let t = after HostCall.Empty (between m) in
       record {
         regs = with_holding m.regs empty;
+        nothing = refl;
         kept = subst (λ (p : ChainPart). Rests (machine (with_holding m.regs empty) p)) (sym is)
             (subst (λ (p : ChainPart). Rests (machine (with_holding m.regs empty) p)) (part_is HostCall.Park t) (kept.closing m t HostCall.Park k refl (from_emptied m) refl (emptied m k)));
       }
@@ -108,14 +127,14 @@ module _ (K : Midway → Type 0) (kept : IsKeptAtEnd K) where
   last_kept : (m : Machine) → Rests m → Rests (refunded_last xcm m)
   last_kept m k = last_by m (refusal_of refund_surplus m) refl k
 
-  rest_kept : (b : Bool) (r : Registers) (p : ChainPart) → Rests (machine r p) → Ends K (if b then p else trapped p r.holding (owner_of r))
-  rest_kept true r p k = record { regs = r; kept = k }
-  rest_kept false r p k = record { regs = with_holding r empty; kept = trapped_rests (machine r p) (owner_of r) k }
+  rest_kept : (b : Bool) (r : Registers) (p : ChainPart) → (b ≡ true → r.holding ≡ empty) → Rests (machine r p) → Ends K (if b then p else trapped p r.holding (owner_of r))
+  rest_kept true r p none k = record { regs = r; nothing = none refl; kept = k }
+  rest_kept false r p none k = record { regs = with_holding r empty; nothing = refl; kept = trapped_rests (machine r p) (owner_of r) k }
 
   pub finished_kept : (m : Machine) → Rests m → Ends K (finished xcm m)
   finished_kept m k =
       let last = refunded_last xcm m in
-      rest_kept (nat_eq (length (rows last.regs.holding)) 0) last.regs (settled (end_told last)) (settled_rests (machine last.regs (end_told last)) (told_rests last (end_event last.regs) (last_kept m k)))
+      rest_kept (nat_eq (length (rows last.regs.holding)) 0) last.regs (settled (end_told last)) (no_rows last.regs.holding) (settled_rests (machine last.regs (end_told last)) (told_rests last (end_event last.regs) (last_kept m k)))
 
   refund_spilled : (m now : Machine) (l : Instruction-F Instruction) → l ≡ Instruction-F.RefundSurplus → Spilled l m now → Rests m → Rests now
   refund_spilled m now l is s k =
@@ -225,7 +244,7 @@ module _ (Q : Instruction → Type 0) (K : Midway → Type 0) (kept : IsKeptByCa
     ran_kept a p ahead k = run_kept a p ahead k (run xcm (first_stage rules origin a p)) (still_to_run (first_stage rules origin a p), refl)
 
     pub executed_by_kept : (r : Result Admitted Outcome) (p : ChainPart) → ((a : Admitted) → r ≡ Ok a → (k : ℕ) → IsAheadOf Q (steps xcm k (first_stage rules origin a p))) → At_rest (first_machine rules origin p) → Ends K (executed_by rules origin r p).1
-    executed_by_kept (Err outcome) p ahead k = record { regs = (first_machine rules origin p).regs; kept = k }
+    executed_by_kept (Err outcome) p ahead k = record { regs = (first_machine rules origin p).regs; nothing = refl; kept = k }
     executed_by_kept (Ok a) p ahead k = finished_kept K at_end (last_machine rules origin a p) (ran_kept a p (ahead a refl) k)
 
     pub abandoned_in_kept : (a : Admitted) (p now : ChainPart) → ((k : ℕ) → IsAheadOf Q (steps xcm k (first_stage rules origin a p))) → AbandonedIn rules origin a p now → At_rest (first_machine rules origin p) → Ends K now

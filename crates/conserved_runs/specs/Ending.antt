@@ -1,0 +1,125 @@
+-- Lemmas: each call at the end of a run moves goods inside its chain, and lowers no account; so does the end, also where memory stops it. A
+-- reader may skip this file.
+use Rattle.std.proofs.Common.{◌≡◌, ◌⊎◌, ⊎_elim, ◌+◌, ◌-◌, ◌^◌, ◌≤◌, Bool, true, false, List, [], ◌∷◌, refl, sym, ap, subst, arith}
+use Rattle.amounts.specs.Amounts.{total, merge, total-empty}
+use Rattle.message_parts.specs.declared.weight.Weight.{Weight}
+use Rattle.message_parts.specs.declared.weight.WeightLimit.TheVariants.{Limited}
+use Rattle.asset_lists.specs.declared.units.Asset.{Asset}
+use Rattle.asset_lists.specs.Units.{Unit}
+use Rattle.asset_bundles.specs.declared.shipment.Way.{Way}
+use Rattle.asset_bundles.specs.Bundles.{Bundle, unit_keys}
+use Rattle.asset_bundles.specs.Joins.{Joined}
+use Rattle.asset_bundles.specs.Laws.{taken_conserves}
+use Rattle.weight_trader.specs.Purchases.{Line, AreWithinEnd}
+use Rattle.weight_trader.specs.Refunds.{is_refunded, without_refund, Refunded, Closed}
+use Rattle.weight_trader.specs.ListedLaws.{changed_all}
+use Rattle.weight_trader.specs.Laws.{MovesAreKept}
+use Rattle.xcm_program.specs.declared.instruction.Instruction.TheOpen.{Instruction-F}
+use Rattle.exec_base.specs.Part.{ChainPart}
+use Rattle.exec_base.specs.Host.{refund_goods, refunded, settled}
+use Rattle.exec_run.specs.Machine.{Machine, machine}
+use Rattle.exec_run.specs.Outcome.{finished, HaltedAtEnd}
+use Rattle.exec_rules.specs.Instructions.{xcm}
+use Rattle.exec_rules.specs.Stopping.{spills}
+use Rattle.exec_calls.specs.Calls.{Midway, between, HostCall, after, effect}
+use Rattle.exec_calls.specs.Footprints.{part_is}
+use Rattle.exec_calls.specs.Reasons.{IsFee, Asks}
+use Rattle.exec_calls.specs.Kept.{IsKeptAtEnd, Ends}
+use Rattle.exec_calls.specs.KeptLaws.{finished_kept, at_end_kept}
+use Rattle.conserved_runs.specs.Sums.{Sum, sum_of, none, with, nobody, Call, HasRoom}
+use Rattle.conserved_runs.specs.Calls.{Trapping, call_then, call_with, still, room_kept, room_with, joining, telling, answering, refunding, parking_goods, keeping, settling, trapping_goods}
+use Rattle.conserved_runs.specs.Safety.{hold}
+use Rattle.conserved_runs.specs.Accepted.{pooled, hold_pooled, nothing_in_hand, taking_fee}
+
+-- ---- what is paid for weight stays below its end
+refunded_within : (p : ChainPart) (w : Weight) → AreWithinEnd p.lines → AreWithinEnd (refunded p w).lines
+unfolding refunded Refunded
+refunded_within p w h = changed_all (λ (line : Line). line.paid ≤ 2 ^ 128 - 1) (is_refunded w) (without_refund w) (λ line le. omega (arith, le)) p.lines h
+
+closed_within : (lines : List Line) → AreWithinEnd (Closed lines)
+closed_within [] = tt
+closed_within (line ∷ lines) = (omega arith, closed_within lines)
+
+settled_within : (p : ChainPart) → AreWithinEnd (settled p).lines
+unfolding settled
+settled_within p = closed_within p.lines
+
+-- ---- the end of a run that began at a machine
+pub record IsEnding (m : Machine) (t : Midway) : Type 0 where
+  pub call : Call nobody (hold m) (hold (pooled t)) m.part t.part
+  pub paid : AreWithinEnd t.part.lines
+
+pub begins_ending : (m : Machine) → AreWithinEnd m.part.lines → IsEnding m (between m)
+begins_ending m within = record {
+  call = call_with nobody none none (hold m) (hold (pooled (between m))) m.part m.part (still m.part m.part refl) (λ q. let e = hold_pooled (between m) q in let z = total-empty unit_keys q in omega (arith, e, z));
+  paid = within;
+}
+
+no_fee : (k : Machine) (P : Type 0) (fee : Asset) → IsFee Instruction-F.RefundSurplus k fee → P
+no_fee k P fee is = absurd (cc is.1)
+
+module _ (moves : MovesAreKept) (trapping : Trapping) (m : Machine) (room : HasRoom (hold m) m.part) where
+  room_at_end : (t : Midway) → IsEnding m t → HasRoom (hold (pooled t)) t.part
+  room_at_end t e = room_kept nobody (hold m) (hold (pooled t)) m.part t.part e.call room
+
+  ends_on : (ins outs : Sum) (c : HostCall) (t : Midway) → Call nobody ins outs t.part (effect c t)
+      → ((q : Unit → Bool) → total q t.regs.holding + total q t.goods + outs q ≡ total q (after c t).regs.holding + total q (after c t).goods + ins q) → AreWithinEnd (after c t).part.lines → IsEnding m t → IsEnding m (after c t)
+  ends_on ins outs c t x sums within e =
+      let u = after c t in
+      record {
+        call = call_then nobody (hold m) (hold (pooled t)) (hold (pooled u)) m.part t.part u.part e.call
+            (subst (λ (p : ChainPart). Call nobody (hold (pooled t)) (hold (pooled u)) t.part p) (sym (part_is c t))
+            (call_with nobody ins outs (hold (pooled t)) (hold (pooled u)) t.part (effect c t) x (λ q. let a = hold_pooled t q in let b = hold_pooled u q in let s = sums q in omega (arith, a, b, s))));
+        paid = within;
+      }
+
+  closing : (k : Machine) (t : Midway) (c : HostCall) → Asks true Instruction-F.RefundSurplus k t c → IsEnding m t → IsEnding m (after c t)
+  closing k t (HostCall.Check ok error) asks e = e
+  closing k t (HostCall.Take filter) asks e = ends_on none none (HostCall.Take filter) t (still t.part t.part refl) (λ q. let z = nothing_in_hand t asks q in let s = taken_conserves q filter t.regs.holding in omega (arith, z, s)) e.paid e
+  closing k t (HostCall.Pay a) asks e = ⊎_elim (λ (is : IsFee Instruction-F.RefundSurplus k a). no_fee k _ a is) (λ (is : (w : Weight) × (Instruction-F.RefundSurplus ≡ Instruction-F.BuyExecution a (Limited w))). absurd (cc is.1)) asks.1
+  closing k t HostCall.Join asks e =
+      let both = with (sum_of t.regs.holding) (sum_of t.goods) in
+      ends_on both (sum_of (Joined t.regs.holding t.goods)) HostCall.Join t
+      (joining t.part t.regs.holding t.goods (room_with (hold (pooled t)) both t.part (room_at_end t e) (λ q. let a = hold_pooled t q in omega (arith, a)))) (λ q. let z = total-empty unit_keys q in omega (arith, z)) e.paid e
+  closing k t (HostCall.Withdraw list who) asks e = absurd (cc asks.2)
+  closing k t (HostCall.Draw fee who) asks e = no_fee k _ fee asks.2
+  closing k t (HostCall.Receive list from true) asks e = absurd (cc asks.2)
+  closing k t (HostCall.Receive list from false) asks e = absurd (cc asks.2)
+  closing k t (HostCall.Claim list who) asks e = absurd (cc asks.2.1)
+  closing k t (HostCall.Refund w) asks e = ends_on none (sum_of (refund_goods t.part w)) (HostCall.Refund w) t (refunding moves t.part w e.paid)
+      (λ q. let z = nothing_in_hand t (ap (λ (u : Midway). u.goods) asks.0) q in omega (arith, z)) (refunded_within t.part w e.paid) e
+  closing k t (HostCall.Deposit who) asks e = absurd (cc asks.1)
+  closing k t HostCall.Burn asks e = absurd (cc asks.1)
+  closing k t (HostCall.Buy w) asks e = absurd (cc asks.1)
+  closing k t (HostCall.DepositOut dest xcm) asks e = absurd (cc asks.2.1)
+  closing k t (HostCall.Ship Way.Withdrawal dest xcm) asks e = absurd (cc asks.2.1)
+  closing k t (HostCall.Ship Way.Teleport dest xcm) asks e = absurd (cc asks.2.1)
+  closing k t (HostCall.Transfer list from to) asks e = absurd (cc asks.2)
+  closing k t (HostCall.TransferOut list from dest xcm) asks e = absurd (cc asks.2)
+  closing k t (HostCall.Respond info answer querier) asks e = absurd asks.2
+  closing k t (HostCall.Answer who query) asks e = ends_on none none (HostCall.Answer who query) t (answering t.part who query) (λ q. omega arith) e.paid e
+  closing k t HostCall.HoldFee asks e = no_fee k _ asks.0 asks.1
+  closing k t HostCall.TakeFee asks e = ends_on none (sum_of t.part.fee_slot) HostCall.TakeFee t (taking_fee t.part) (λ q. let z = nothing_in_hand t asks q in omega (arith, z)) e.paid e
+  closing k t HostCall.KeepFee asks e = ends_on none none HostCall.KeepFee t (keeping t.part (room_with (hold (pooled t)) none t.part (room_at_end t e) (λ q. omega arith))) (λ q. omega arith) e.paid e
+  closing k t HostCall.Park asks e = ends_on (sum_of t.goods) none HostCall.Park t (parking_goods t.part t.goods) (λ q. let z = total-empty unit_keys q in omega (arith, z)) e.paid e
+  closing k t HostCall.Empty asks e = ends_on none none HostCall.Empty t (still t.part t.part refl) (λ q. let y = nothing_in_hand t asks.1 q in let z = total-empty unit_keys q in omega (arith, y, z)) e.paid e
+  closing k t (HostCall.Tell event) asks e = ends_on none none (HostCall.Tell event) t (telling t.part event) (λ q. omega arith) e.paid e
+  closing k t HostCall.Settle asks e = ends_on none none HostCall.Settle t (settling moves t.part e.paid (room_with (hold (pooled t)) none t.part (room_at_end t e) (λ q. omega arith))) (λ q. omega arith) (settled_within t.part) e
+  closing k t (HostCall.Trap who) asks e = ends_on (sum_of t.goods) none (HostCall.Trap who) t (trapping_goods trapping t.part t.goods who) (λ q. let z = total-empty unit_keys q in omega (arith, z)) e.paid e
+
+  pub ending_is_kept : IsKeptAtEnd (IsEnding m)
+  ending_is_kept = record {
+    closing = λ k t c before asks from ok e. closing k t c asks e;
+    closed = λ t r holding origin e. record { call = subst (λ (b : Bundle). Call nobody (hold m) (sum_of (merge b t.goods)) m.part t.part) (sym holding) e.call; paid = e.paid };
+  }
+
+  -- nothing is held afterwards
+  ended_call : (p : ChainPart) → Ends (IsEnding m) p → Call nobody (hold m) none m.part p
+  ended_call p ends = call_with nobody (hold m) (hold (pooled (between (machine ends.regs p)))) (hold m) none m.part p ends.kept.call
+      (λ q. let e = hold_pooled (between (machine ends.regs p)) q in let h = ap (total q) ends.nothing in let z = total-empty unit_keys q in omega (arith, e, h, z))
+
+  pub finished_call : AreWithinEnd m.part.lines → Call nobody (hold m) none m.part (finished xcm m)
+  finished_call within = ended_call (finished xcm m) (finished_kept (IsEnding m) ending_is_kept m (begins_ending m within))
+
+  pub halted_call : AreWithinEnd m.part.lines → (now : ChainPart) → HaltedAtEnd xcm spills m now → Call nobody (hold m) none m.part now
+  halted_call within now h = ended_call now (at_end_kept (IsEnding m) ending_is_kept m now h (begins_ending m within))
