@@ -27,7 +27,7 @@ use Rattle.weight_trader.specs.Purchases.{Line, coin_of, paid_goods, is_covered,
 use Rattle.weight_trader.specs.Prices.{price}
 use Rattle.exec_base.specs.declared.event.Event.{Event}
 use Rattle.exec_base.specs.Part.{ChainPart, book_of}
-use Rattle.exec_base.specs.Host.{withdrawn, received, is_query, answered, bought, above, refunded, booked, burned_lines, joined, burnt, is_trap, claimed, trapped, all_fees, fees_above, settled_burns, settled, told}
+use Rattle.exec_base.specs.Host.{withdrawn, received, is_query, answered, bought, above, booked, burned_lines, joined, burnt, is_trap, claimed, all_fees, fees_above, settled_burns, settled, told}
 use Rattle.conserved_runs.specs.Sums.{in_kept, in_places}
 use Rattle.overflow_laws.proofs.Fitting.{just_unit}
 
@@ -228,14 +228,6 @@ claimed_at p (Some place) = refl
 pub claimed_burns : (p : ChainPart) (list : List Asset) (origin : Location) → (claimed p list origin).burns ≡ p.burns
 unfolding claimed
 claimed_burns p list origin = claimed_at p (position (is_trap list origin) p.traps.traps)
-
-pub refunded_burns : (p : ChainPart) (w : Weight) → (refunded p w).burns ≡ p.burns
-unfolding refunded
-refunded_burns p w = refl
-
-pub trapped_burns : (p : ChainPart) (goods : Bundle) (origin : Location) → (trapped p goods origin).burns ≡ p.burns
-unfolding trapped
-trapped_burns p goods origin = refl
 
 pub told_burns : (p : ChainPart) (e : Event) → (told p e).burns ≡ p.burns
 unfolding told

@@ -1,32 +1,20 @@
 -- Lemmas: a run for a quiet origin burns no excess, wherever it comes, nor does its end. A reader may skip this file.
-use Rattle.std.proofs.Common.{◌≡◌, Bool, true, false, Option, Some, None, List, refl, sym, subst, arith}
-use Rattle.std.specs.Prelude.{nat_eq, length, if◌then◌else◌}
-use Rattle.amounts.specs.Amounts.{rows}
-use Rattle.message_parts.specs.declared.error.XcmError.{XcmError}
+use Rattle.std.proofs.Common.{◌≡◌, None, List, refl, arith}
 use Rattle.weight_trader.specs.Laws.{MovesAreKept}
-use Rattle.xcm_program.specs.declared.instruction.Instruction.{Instruction, out-Instruction, out-roll-Instruction}
-use Rattle.xcm_program.specs.declared.instruction.Instruction.TheOpen.{Instruction-F}
+use Rattle.xcm_program.specs.declared.instruction.Instruction.{Instruction, out-Instruction}
 use Rattle.xcm_program.specs.Laws.{everywhere_open}
-use Rattle.exec_base.specs.declared.event.Event.{Event}
-use Rattle.exec_base.specs.declared.registers.Registers.{Registers}
-use Rattle.exec_base.specs.Part.{ChainPart}
-use Rattle.exec_base.specs.Host.{settled, trapped, told}
+use Rattle.exec_base.specs.Host.{told}
 use Rattle.exec_run.specs.Machine.{Machine}
-use Rattle.exec_run.specs.Run.{left_after}
-use Rattle.exec_run.specs.Outcome.{owner_of, end_event, end_told, refund_surplus, refunded_last, finished}
 use Rattle.exec_run.specs.Keeping.{IsKeptByRuns}
-use Rattle.exec_rules.specs.Holdings.{refund_now}
 use Rattle.exec_rules.specs.Instructions.{refusal_of, done, xcm}
-use Rattle.exec_rules.specs.Readiness.{IsSteady}
 use Rattle.coherence.specs.Networks.{Table, Agrees}
-use Rattle.conserved_runs.specs.Sums.{in_kept, HasRoom}
 use Rattle.conserved_runs.specs.Calls.{Withdraws}
-use Rattle.conserved_runs.specs.Safety.{HasList, AreLists, hold, Safely}
+use Rattle.conserved_runs.specs.Safety.{HasList, AreLists, Safely}
 use Rattle.conserved_runs.specs.Shipping.{HasList-IsOfLayer}
-use Rattle.conserved_runs.specs.Runs.{IsSafeAt, Goes, StaysSteady, runs_go, refund_call}
+use Rattle.conserved_runs.specs.Runs.{IsSafeAt, Goes, StaysSteady, runs_go}
 use Rattle.overflow_laws.proofs.Fitting.{just_unit, FitsBundle}
-use Rattle.overflow_laws.proofs.Calls.{BurnsNoExcess, PartFits, same_burns, no_excess_then, settled_no_excess, trapped_burns, told_burns}
-use Rattle.overflow_laws.proofs.Instructions.{done_no_excess, refund_no_excess}
+use Rattle.overflow_laws.proofs.Calls.{BurnsNoExcess, same_burns, no_excess_then, told_burns}
+use Rattle.overflow_laws.proofs.Instructions.{done_no_excess}
 
 -- a safe change keeps it so that all fits
 pub fits_after : (m k : Machine) → Safely m k → FitsBundle m → FitsBundle k
@@ -62,31 +50,3 @@ module _ (withdraws : Withdraws) (moves : MovesAreKept) (stays : StaysSteady) (n
     handler_given_up = λ m. (go.handler_given_up m, λ safe fits. same_burns m.part m.part refl);
     appendix_taken = λ m. (go.appendix_taken m, λ safe fits. same_burns m.part m.part refl);
   }
-
-  -- ---- the end
-  pub last_no_excess : (m : Machine) (o : Option XcmError) → IsSteady m → FitsBundle m → BurnsNoExcess m.part (left_after xcm refund_surplus m o).part
-  last_no_excess m None steady fits =
-      subst (λ (l : Instruction-F Instruction). BurnsNoExcess m.part (done l m).part) (sym (out-roll-Instruction Instruction-F.RefundSurplus)) (refund_no_excess moves m (refund_now m) steady.rest.order.paid fits)
-  last_no_excess m (Some e) steady fits = same_burns m.part m.part refl
-
-  rest_no_excess : (r : Registers) (p : ChainPart) (b : Bool) → BurnsNoExcess p (if b then p else trapped p r.holding (owner_of r))
-  rest_no_excess r p true = same_burns p p refl
-  rest_no_excess r p false = same_burns p (trapped p r.holding (owner_of r)) (trapped_burns p r.holding (owner_of r))
-
-  pub told_fits : (m : Machine) (e : Event) → FitsBundle m → PartFits (told m.part e)
-  unfolding told in_kept
-  told_fits m e fits u = let fit = fits u in omega (arith, fit)
-
-  pub last_fits : (m : Machine) → IsSteady m → HasRoom (hold m) m.part → FitsBundle m → FitsBundle (refunded_last xcm m)
-  last_fits m steady room fits u =
-      let moved = (refund_call withdraws moves stays n agrees m (refusal_of refund_surplus m) refl steady room).0.amounts (just_unit u) in
-      let fit = fits u in
-      omega (arith, moved, fit)
-
-  pub finished_no_excess : (m : Machine) → IsSteady m → HasRoom (hold m) m.part → FitsBundle m → BurnsNoExcess m.part (finished xcm m)
-  finished_no_excess m steady room fits =
-      let last = refunded_last xcm m in
-      let p = end_told last in
-      no_excess_then m.part last.part (finished xcm m) (last_no_excess m (refusal_of refund_surplus m) steady fits)
-      (no_excess_then last.part p (finished xcm m) (same_burns last.part p (told_burns last.part (end_event last.regs)))
-      (no_excess_then p (settled p) (finished xcm m) (settled_no_excess p (told_fits last (end_event last.regs) (last_fits m steady room fits))) (rest_no_excess last.regs (settled p) (nat_eq (length (rows last.regs.holding)) 0))))

@@ -6,13 +6,12 @@ use Rattle.message_parts.specs.declared.error.XcmError.{XcmError}
 use Rattle.message_parts.specs.declared.weight.Weight.{Weight}
 use Rattle.xcm_program.specs.declared.instruction.Instruction.{Instruction, out-Instruction}
 use Rattle.exec_base.specs.Part.{ChainPart}
-use Rattle.exec_base.specs.Host.{settled}
 use Rattle.exec_run.specs.Machine.{Machine, Performed}
 use Rattle.exec_run.specs.Run.{Stage, At, Ended, run, still_to_run, machine_of, Reaches, StoppedIn}
 use Rattle.exec_run.specs.Accounts.{IsBalanced}
 use Rattle.exec_run.specs.Keeping.{IsAheadOf}
 use Rattle.exec_run.specs.KeepingLaws.{reached_hold, reached_keeps}
-use Rattle.exec_run.specs.Outcome.{end_event, end_told, abandoned, refund_surplus, refunded_last, finished, HaltedAtEnd}
+use Rattle.exec_run.specs.Outcome.{abandoned, finished, HaltedAtEnd}
 use Rattle.exec_rules.specs.Instructions.{refusal_of, xcm}
 use Rattle.exec_rules.specs.Readiness.{IsSteady}
 use Rattle.exec_rules.specs.Stopping.{spills}
@@ -25,9 +24,10 @@ use Rattle.conserved_runs.specs.Safety.{AreLists, hold}
 use Rattle.conserved_runs.specs.Runs.{IsSafeAt, lists_go_inside}
 use Rattle.conserved_steps.specs.Soundness.{LawsBelow}
 use Rattle.overflow_laws.proofs.Fitting.{FitsBundle}
-use Rattle.overflow_laws.proofs.Calls.{BurnsNoExcess, same_burns, no_excess_then, settled_no_excess, told_burns}
+use Rattle.overflow_laws.proofs.Calls.{BurnsNoExcess, same_burns, no_excess_then}
 use Rattle.overflow_laws.proofs.Stopping.{parked_burns, spilled_no_excess}
-use Rattle.overflow_laws.proofs.Runs.{GoesWithoutExcess, fits_after, runs_without_excess, done_without_excess, last_no_excess, last_fits, told_fits, finished_no_excess}
+use Rattle.overflow_laws.proofs.Instructions.{finished_no_excess, halted_no_excess}
+use Rattle.overflow_laws.proofs.Runs.{GoesWithoutExcess, fits_after, runs_without_excess, done_without_excess}
 
 -- where a run that began with a part stands
 pub record StandsWell (p : ChainPart) (m : Machine) : Type 0 where
@@ -60,22 +60,7 @@ stopped_no_excess p g all now s =
 
 module _ (laws : LawsBelow) (n : List Table) (agrees : Agrees n) where
   pub end_no_excess : (p : ChainPart) (m : Machine) → StandsWell p m → BurnsNoExcess p (finished xcm m)
-  end_no_excess p m s = no_excess_then p m.part (finished xcm m) s.no_excess (finished_no_excess laws.withdraws laws.moves laws.stays n agrees m s.steady s.room s.fits)
-
-  halted_no_excess : (p : ChainPart) (m : Machine) → StandsWell p m → (now : ChainPart) → HaltedAtEnd xcm spills m now → BurnsNoExcess p now
-  halted_no_excess p m s now h =
-      let last = refunded_last xcm m in
-      let q = end_told last in
-      let one : BurnsNoExcess p last.part = no_excess_then p m.part last.part s.no_excess (last_no_excess laws.withdraws laws.moves laws.stays n agrees m (refusal_of refund_surplus m) s.steady s.fits) in
-      let two : BurnsNoExcess p q = no_excess_then p last.part q one (same_burns last.part q (told_burns last.part (end_event last.regs))) in
-      let three : BurnsNoExcess p (settled q) = no_excess_then p q (settled q) two (settled_no_excess q (told_fits laws.withdraws laws.moves laws.stays n agrees last (end_event last.regs) (last_fits laws.withdraws laws.moves laws.stays n agrees m s.steady s.room s.fits))) in
-      let leaves : (r : ChainPart) → BurnsNoExcess p r → now ≡ abandoned last.regs r → BurnsNoExcess p now =
-      λ r x e. subst (BurnsNoExcess p) (sym e) (no_excess_then p r (abandoned last.regs r) x (same_burns r (abandoned last.regs r) (parked_burns r last.regs.holding))) in
-      ⊎_elim
-      (λ (b : (spilt : Machine) × spills refund_surplus m spilt × (now ≡ abandoned spilt.regs spilt.part)).
-      subst (BurnsNoExcess p) (sym b.2) (abandoned_no_excess p b.0 (no_excess_then p m.part b.0.part s.no_excess (spilled_no_excess (out-Instruction refund_surplus) m b.0 s.fits b.1))))
-      (λ b. ⊎_elim (λ (e : now ≡ abandoned last.regs last.part). leaves last.part one e)
-      (λ b. ⊎_elim (λ (e : now ≡ abandoned last.regs q). leaves q two e) (λ (e : now ≡ abandoned last.regs (settled q)). leaves (settled q) three e) b) b) h
+  end_no_excess p m s = no_excess_then p m.part (finished xcm m) s.no_excess (finished_no_excess laws.moves laws.trapping m s.steady s.room s.fits)
 
   -- where memory is refused to a run
   pub abandoned_in_no_excess : (rules : ChainRules) (origin : Location) (a : Admitted) (p : ChainPart) → StandsAll p (first_stage rules origin a p) → (now : ChainPart) → AbandonedIn rules origin a p now → BurnsNoExcess p now
@@ -83,7 +68,10 @@ module _ (laws : LawsBelow) (n : List Table) (agrees : Agrees n) where
       let g = first_stage rules origin a p in ⊎_elim
       (λ (s : (stopped : Machine) × StoppedIn xcm spills (first_stage rules origin a p) stopped × (now ≡ abandoned stopped.regs stopped.part)).
       subst (BurnsNoExcess p) (sym s.2) (abandoned_no_excess p s.0 (stopped_no_excess p g all s.0 s.1)))
-      (λ (e : HaltedAtEnd xcm spills (last_machine rules origin a p) now). halted_no_excess p (last_machine rules origin a p) (all (run xcm g) (still_to_run g, refl)).0 now e) h
+      (λ (e : HaltedAtEnd xcm spills (last_machine rules origin a p) now).
+      let last = last_machine rules origin a p in
+      let stands = (all (run xcm g) (still_to_run g, refl)).0 in
+      no_excess_then p last.part now stands.no_excess (halted_no_excess laws.moves laws.trapping last stands.steady stands.room stands.fits now e)) h
 
   -- ---- for a quiet origin
   accepts : (p : ChainPart) (h : Stage) → IsSafeAt n (machine_of h) → FitsBundle (machine_of h) → BurnsNoExcess p (machine_of h).part → IsAheadOf AreLists h → Accepts p h
