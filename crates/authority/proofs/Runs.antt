@@ -1,6 +1,5 @@
 -- What each call keeps of accounts and of the origin register, the run keeps, and its end, also where memory is refused.
-use Rattle.std.proofs.Common.{◌≡◌, ◌⊎◌, ℕ, Bool, true, List, [], ◌∷◌, ◌++◌, Option, Some, None, ⊎_elim, inl, inr, refl, sym, ap, ◌∙◌, subst, append_assoc}
-use Rattle.std.specs.Prelude.{⊤}
+use Rattle.std.proofs.Common.{◌≡◌, ◌⊎◌, ℕ, Bool, List, [], ◌∷◌, ◌++◌, Option, Some, None, ⊎_elim, inl, inr, refl, sym, ap, ◌∙◌, subst, append_assoc}
 use Rattle.std.proofs.lemmas.List.{append-nil}
 use Rattle.amounts.specs.Amounts.{empty}
 use Rattle.locations.specs.declared.grammar.Junction.{Junction}
@@ -13,7 +12,7 @@ use Rattle.xcm_program.specs.declared.instruction.Instruction.TheOpen.{Instructi
 use Rattle.exec_base.specs.declared.registers.Registers.{Registers}
 use Rattle.exec_base.specs.Part.{ChainPart}
 use Rattle.exec_run.specs.Machine.{Machine}
-use Rattle.exec_run.specs.Run.{Stage, machine_of, Reaches, Halted}
+use Rattle.exec_run.specs.Run.{Stage, machine_of, Reaches}
 use Rattle.exec_run.specs.Outcome.{abandoned, finished, HaltedAtEnd}
 use Rattle.exec_rules.specs.Origins.{descended}
 use Rattle.exec_rules.specs.Instructions.{xcm}
@@ -22,11 +21,11 @@ use Rattle.exec_admission.specs.declared.rules.ChainRules.{ChainRules}
 use Rattle.exec_admission.specs.declared.admission.Admitted.{Admitted}
 use Rattle.exec_admission.specs.Execution.{started, first_stage, executed, IsAbandoned}
 use Rattle.exec_calls.specs.Calls.{Midway, HostCall, after}
-use Rattle.exec_calls.specs.Reasons.{IsFrom, Asks}
+use Rattle.exec_calls.specs.Reasons.{IsFrom, Asks, ComesAtEnd}
 use Rattle.exec_calls.specs.Kept.{TurnsOrigin, IsKeptAtEnd, IsKeptByCalls}
-use Rattle.exec_calls.specs.KeptLaws.{any_kind, abandoned_kept, finished_kept, at_end_kept, keeps_run, keeps_halted, keeps_executed, keeps_abandoned}
+use Rattle.exec_calls.specs.KeptLaws.{any_kind, abandoned_kept, finished_kept, at_end_kept, keeps_run, keeps_executed, keeps_abandoned}
 use Rattle.network_steps.specs.Acting.{caller}
-use Rattle.authority.specs.Origins.{speaker_at, speaker_of, LowersOnly, IsAtOrBelow}
+use Rattle.authority.specs.Origins.{speaker_at, LowersOnly, IsAtOrBelow}
 use Rattle.authority.proofs.Lowering.{same_lowers, then_lowers, none_lowers, settled_lowers}
 use Rattle.authority.proofs.Acts.{call_lowers}
 
@@ -63,18 +62,18 @@ module _ (s : Option (List ℕ)) (start : Held) where
   abbrev pub Lowered : Midway → Type 0
   Lowered t = LowersOnly s start t.part.held
 
-  end_lowers : (m : Machine) (c : HostCall) (t : Midway) → Asks true Instruction-F.RefundSurplus m t c → Lowered t → Lowered (after c t)
-  end_lowers m (HostCall.Withdraw list who) t asks h = absurd (cc asks.2)
-  end_lowers m (HostCall.Draw fee who) t asks h = absurd (cc asks.2.1)
-  end_lowers m (HostCall.Transfer list from to) t asks h = absurd (cc asks.2)
-  end_lowers m (HostCall.TransferOut list from dest xcm) t asks h = absurd (cc asks.2)
-  end_lowers m (HostCall.Deposit who) t asks h = absurd (cc asks.1)
-  end_lowers m (HostCall.DepositOut dest xcm) t asks h = absurd (cc asks.2.1)
-  end_lowers m HostCall.Settle t asks h = then_lowers s start t.part.held (after HostCall.Settle t).part.held h (settled_lowers s t.part)
-  end_lowers m _ t asks h = h
+  end_lowers : (c : HostCall) (t : Midway) → ComesAtEnd c → Lowered t → Lowered (after c t)
+  end_lowers (HostCall.Withdraw list who) t comes h = absurd comes
+  end_lowers (HostCall.Draw fee who) t comes h = absurd comes
+  end_lowers (HostCall.Transfer list from to) t comes h = absurd comes
+  end_lowers (HostCall.TransferOut list from dest xcm) t comes h = absurd comes
+  end_lowers (HostCall.Deposit who) t comes h = absurd comes
+  end_lowers (HostCall.DepositOut dest xcm) t comes h = absurd comes
+  end_lowers HostCall.Settle t comes h = then_lowers s start t.part.held (after HostCall.Settle t).part.held h (settled_lowers s t.part)
+  end_lowers _ t comes h = h
 
   pub lowered_at_end : IsKeptAtEnd Lowered
-  lowered_at_end = record { closing = λ m t c k asks from ok h. end_lowers m c t asks h; closed = λ t r holding origin h. h }
+  lowered_at_end = record { closing = λ m t c k asks comes from ok h. end_lowers c t comes h; closed = λ t r holding origin h. h }
 
 pub finished_lowers : (s : Option (List ℕ)) (m : Machine) → LowersOnly s m.part.held (finished xcm m).held
 finished_lowers s m = (finished_kept (Lowered s m.part.held) (lowered_at_end s m.part.held) m (same_lowers s m.part.held)).kept

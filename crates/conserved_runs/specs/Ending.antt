@@ -1,12 +1,9 @@
 -- Lemmas: each call at the end of a run moves goods inside its chain, and lowers no account; so does the end, also where memory stops it. A
 -- reader may skip this file.
-use Rattle.std.proofs.Common.{◌≡◌, ◌⊎◌, ⊎_elim, ◌+◌, ◌-◌, ◌^◌, ◌≤◌, Bool, true, false, List, [], ◌∷◌, refl, sym, ap, subst, arith}
+use Rattle.std.proofs.Common.{◌≡◌, ◌+◌, ◌-◌, ◌^◌, ◌≤◌, Bool, true, List, [], ◌∷◌, refl, sym, ap, subst, arith}
 use Rattle.amounts.specs.Amounts.{total, merge, total-empty}
 use Rattle.message_parts.specs.declared.weight.Weight.{Weight}
-use Rattle.message_parts.specs.declared.weight.WeightLimit.TheVariants.{Limited}
-use Rattle.asset_lists.specs.declared.units.Asset.{Asset}
 use Rattle.asset_lists.specs.Units.{Unit}
-use Rattle.asset_bundles.specs.declared.shipment.Way.{Way}
 use Rattle.asset_bundles.specs.Bundles.{Bundle, unit_keys}
 use Rattle.asset_bundles.specs.Joins.{Joined}
 use Rattle.asset_bundles.specs.Laws.{taken_conserves}
@@ -23,7 +20,7 @@ use Rattle.exec_rules.specs.Instructions.{xcm}
 use Rattle.exec_rules.specs.Stopping.{spills}
 use Rattle.exec_calls.specs.Calls.{Midway, between, HostCall, after, effect}
 use Rattle.exec_calls.specs.Footprints.{part_is}
-use Rattle.exec_calls.specs.Reasons.{IsFee, Asks}
+use Rattle.exec_calls.specs.Reasons.{Asks, ComesAtEnd}
 use Rattle.exec_calls.specs.Kept.{IsKeptAtEnd, Ends}
 use Rattle.exec_calls.specs.KeptLaws.{finished_kept, at_end_kept}
 use Rattle.conserved_runs.specs.Sums.{Sum, sum_of, none, with, nobody, Call, HasRoom}
@@ -55,9 +52,6 @@ begins_ending m within = record {
   paid = within;
 }
 
-no_fee : (k : Machine) (P : Type 0) (fee : Asset) → IsFee Instruction-F.RefundSurplus k fee → P
-no_fee k P fee is = absurd (cc is.1)
-
 module _ (moves : MovesAreKept) (trapping : Trapping) (m : Machine) (room : HasRoom (hold m) m.part) where
   room_at_end : (t : Midway) → IsEnding m t → HasRoom (hold (pooled t)) t.part
   room_at_end t e = room_kept nobody (hold m) (hold (pooled t)) m.part t.part e.call room
@@ -73,43 +67,28 @@ module _ (moves : MovesAreKept) (trapping : Trapping) (m : Machine) (room : HasR
         paid = within;
       }
 
-  closing : (k : Machine) (t : Midway) (c : HostCall) → Asks true Instruction-F.RefundSurplus k t c → IsEnding m t → IsEnding m (after c t)
-  closing k t (HostCall.Check ok error) asks e = e
-  closing k t (HostCall.Take filter) asks e = ends_on none none (HostCall.Take filter) t (still t.part t.part refl) (λ q. let z = nothing_in_hand t asks q in let s = taken_conserves q filter t.regs.holding in omega (arith, z, s)) e.paid e
-  closing k t (HostCall.Pay a) asks e = ⊎_elim (λ (is : IsFee Instruction-F.RefundSurplus k a). no_fee k _ a is) (λ (is : (w : Weight) × (Instruction-F.RefundSurplus ≡ Instruction-F.BuyExecution a (Limited w))). absurd (cc is.1)) asks.1
-  closing k t HostCall.Join asks e =
+  closing : (k : Machine) (t : Midway) (c : HostCall) → Asks true Instruction-F.RefundSurplus k t c → ComesAtEnd c → IsEnding m t → IsEnding m (after c t)
+  closing k t (HostCall.Check ok error) asks comes e = e
+  closing k t (HostCall.Take filter) asks comes e = ends_on none none (HostCall.Take filter) t (still t.part t.part refl) (λ q. let z = nothing_in_hand t asks q in let s = taken_conserves q filter t.regs.holding in omega (arith, z, s)) e.paid e
+  closing k t HostCall.Join asks comes e =
       let both = with (sum_of t.regs.holding) (sum_of t.goods) in
       ends_on both (sum_of (Joined t.regs.holding t.goods)) HostCall.Join t
       (joining t.part t.regs.holding t.goods (room_with (hold (pooled t)) both t.part (room_at_end t e) (λ q. let a = hold_pooled t q in omega (arith, a)))) (λ q. let z = total-empty unit_keys q in omega (arith, z)) e.paid e
-  closing k t (HostCall.Withdraw list who) asks e = absurd (cc asks.2)
-  closing k t (HostCall.Draw fee who) asks e = no_fee k _ fee asks.2
-  closing k t (HostCall.Receive list from true) asks e = absurd (cc asks.2)
-  closing k t (HostCall.Receive list from false) asks e = absurd (cc asks.2)
-  closing k t (HostCall.Claim list who) asks e = absurd (cc asks.2.1)
-  closing k t (HostCall.Refund w) asks e = ends_on none (sum_of (refund_goods t.part w)) (HostCall.Refund w) t (refunding moves t.part w e.paid)
+  closing k t (HostCall.Refund w) asks comes e = ends_on none (sum_of (refund_goods t.part w)) (HostCall.Refund w) t (refunding moves t.part w e.paid)
       (λ q. let z = nothing_in_hand t (ap (λ (u : Midway). u.goods) asks.0) q in omega (arith, z)) (refunded_within t.part w e.paid) e
-  closing k t (HostCall.Deposit who) asks e = absurd (cc asks.1)
-  closing k t HostCall.Burn asks e = absurd (cc asks.1)
-  closing k t (HostCall.Buy w) asks e = absurd (cc asks.1)
-  closing k t (HostCall.DepositOut dest xcm) asks e = absurd (cc asks.2.1)
-  closing k t (HostCall.Ship Way.Withdrawal dest xcm) asks e = absurd (cc asks.2.1)
-  closing k t (HostCall.Ship Way.Teleport dest xcm) asks e = absurd (cc asks.2.1)
-  closing k t (HostCall.Transfer list from to) asks e = absurd (cc asks.2)
-  closing k t (HostCall.TransferOut list from dest xcm) asks e = absurd (cc asks.2)
-  closing k t (HostCall.Respond info answer querier) asks e = absurd asks.2
-  closing k t (HostCall.Answer who query) asks e = ends_on none none (HostCall.Answer who query) t (answering t.part who query) (λ q. omega arith) e.paid e
-  closing k t HostCall.HoldFee asks e = no_fee k _ asks.0 asks.1
-  closing k t HostCall.TakeFee asks e = ends_on none (sum_of t.part.fee_slot) HostCall.TakeFee t (taking_fee t.part) (λ q. let z = nothing_in_hand t asks q in omega (arith, z)) e.paid e
-  closing k t HostCall.KeepFee asks e = ends_on none none HostCall.KeepFee t (keeping t.part (room_with (hold (pooled t)) none t.part (room_at_end t e) (λ q. omega arith))) (λ q. omega arith) e.paid e
-  closing k t HostCall.Park asks e = ends_on (sum_of t.goods) none HostCall.Park t (parking_goods t.part t.goods) (λ q. let z = total-empty unit_keys q in omega (arith, z)) e.paid e
-  closing k t HostCall.Empty asks e = ends_on none none HostCall.Empty t (still t.part t.part refl) (λ q. let y = nothing_in_hand t asks.1 q in let z = total-empty unit_keys q in omega (arith, y, z)) e.paid e
-  closing k t (HostCall.Tell event) asks e = ends_on none none (HostCall.Tell event) t (telling t.part event) (λ q. omega arith) e.paid e
-  closing k t HostCall.Settle asks e = ends_on none none HostCall.Settle t (settling moves t.part e.paid (room_with (hold (pooled t)) none t.part (room_at_end t e) (λ q. omega arith))) (λ q. omega arith) (settled_within t.part) e
-  closing k t (HostCall.Trap who) asks e = ends_on (sum_of t.goods) none (HostCall.Trap who) t (trapping_goods trapping t.part t.goods who) (λ q. let z = total-empty unit_keys q in omega (arith, z)) e.paid e
+  closing k t (HostCall.Answer who query) asks comes e = ends_on none none (HostCall.Answer who query) t (answering t.part who query) (λ q. omega arith) e.paid e
+  closing k t HostCall.TakeFee asks comes e = ends_on none (sum_of t.part.fee_slot) HostCall.TakeFee t (taking_fee t.part) (λ q. let z = nothing_in_hand t asks q in omega (arith, z)) e.paid e
+  closing k t HostCall.KeepFee asks comes e = ends_on none none HostCall.KeepFee t (keeping t.part (room_with (hold (pooled t)) none t.part (room_at_end t e) (λ q. omega arith))) (λ q. omega arith) e.paid e
+  closing k t HostCall.Park asks comes e = ends_on (sum_of t.goods) none HostCall.Park t (parking_goods t.part t.goods) (λ q. let z = total-empty unit_keys q in omega (arith, z)) e.paid e
+  closing k t HostCall.Empty asks comes e = ends_on none none HostCall.Empty t (still t.part t.part refl) (λ q. let y = nothing_in_hand t asks.1 q in let z = total-empty unit_keys q in omega (arith, y, z)) e.paid e
+  closing k t (HostCall.Tell event) asks comes e = ends_on none none (HostCall.Tell event) t (telling t.part event) (λ q. omega arith) e.paid e
+  closing k t HostCall.Settle asks comes e = ends_on none none HostCall.Settle t (settling moves t.part e.paid (room_with (hold (pooled t)) none t.part (room_at_end t e) (λ q. omega arith))) (λ q. omega arith) (settled_within t.part) e
+  closing k t (HostCall.Trap who) asks comes e = ends_on (sum_of t.goods) none (HostCall.Trap who) t (trapping_goods trapping t.part t.goods who) (λ q. let z = total-empty unit_keys q in omega (arith, z)) e.paid e
+  closing k t _ asks comes e = absurd comes
 
   pub ending_is_kept : IsKeptAtEnd (IsEnding m)
   ending_is_kept = record {
-    closing = λ k t c before asks from ok e. closing k t c asks e;
+    closing = λ k t c before asks comes from ok e. closing k t c asks comes e;
     closed = λ t r holding origin e. record { call = subst (λ (b : Bundle). Call nobody (hold m) (sum_of (merge b t.goods)) m.part t.part) (sym holding) e.call; paid = e.paid };
   }
 

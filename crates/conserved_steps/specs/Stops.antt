@@ -1,5 +1,5 @@
 -- Lemmas: what stands where memory is refused to a run is a safe change too, with what is parked counted. A reader may skip this file.
-use Rattle.std.proofs.Common.{◌≡◌, ◌⊎◌, ⊎_elim, inl, inr, ℕ, zero, suc, ◌+◌, List, [], ◌∷◌, Option, Some, None, Result, Ok, Err, refl, sym, ap, ◌∙◌, subst, arith, true, false}
+use Rattle.std.proofs.Common.{◌≡◌, ◌⊎◌, ⊎_elim, inl, inr, ℕ, zero, suc, ◌+◌, List, [], ◌∷◌, Option, Some, None, Result, Ok, Err, refl, sym, ap, ◌∙◌, subst, arith}
 use Rattle.amounts.specs.Amounts.{total, empty, total-empty}
 use Rattle.locations.specs.declared.relative.Location.{Location}
 use Rattle.message_parts.specs.declared.error.XcmError.{XcmError}
@@ -35,7 +35,7 @@ use Rattle.conserved_runs.specs.Accepted.{spilled_safely}
 use Rattle.conserved_runs.specs.Stopping.{abandoned_call}
 use Rattle.conserved_runs.specs.Ending.{halted_call}
 use Rattle.exec_calls.specs.Calls.{Midway, HostCall, after}
-use Rattle.exec_calls.specs.Reasons.{Asks}
+use Rattle.exec_calls.specs.Reasons.{ComesAtEnd}
 use Rattle.exec_calls.specs.Kept.{IsKeptAtEnd}
 use Rattle.exec_calls.specs.KeptLaws.{at_end_kept}
 use Rattle.conserved_steps.specs.Soundness.{LawsBelow}
@@ -65,14 +65,13 @@ held_safely m r same =
     (call_with nobody none none (hold m) (hold m) m.part m.part (still m.part m.part refl) (λ t. omega arith)))
 
 -- ---- the end of a run leaves the cargo
-cargo_after : (m : Machine) (c : HostCall) (t : Midway) → Asks true Instruction-F.RefundSurplus m t c → (after c t).part.cargo ≡ t.part.cargo
-cargo_after m (HostCall.Withdraw list who) t asks = absurd (cc asks.2)
-cargo_after m (HostCall.Receive list from true) t asks = absurd (cc asks.2)
-cargo_after m (HostCall.Receive list from false) t asks = absurd (cc asks.2)
-cargo_after m _ t asks = refl
+cargo_after : (c : HostCall) (t : Midway) → ComesAtEnd c → (after c t).part.cargo ≡ t.part.cargo
+cargo_after (HostCall.Withdraw list who) t comes = absurd comes
+cargo_after (HostCall.Receive list from teleport) t comes = absurd comes
+cargo_after _ t comes = refl
 
 cargo_at_end : (cargo : Taken) → IsKeptAtEnd (λ (t : Midway). t.part.cargo ≡ cargo)
-cargo_at_end cargo = record { closing = λ m t c k asks from ok h. cargo_after m c t asks ∙ h; closed = λ t r holding origin h. h }
+cargo_at_end cargo = record { closing = λ m t c k asks comes from ok h. cargo_after c t comes ∙ h; closed = λ t r holding origin h. h }
 
 -- ---- ClearOrigin stops
 clear_spilt : (before m : Machine) → spills second before m → Safely before m

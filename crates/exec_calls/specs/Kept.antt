@@ -11,7 +11,7 @@ use Rattle.exec_run.specs.Machine.{Machine, machine}
 use Rattle.exec_run.specs.Outcome.{refund_surplus}
 use Rattle.exec_rules.specs.Origins.{descended}
 use Rattle.exec_calls.specs.Calls.{Midway, between, HostCall, why_not, after}
-use Rattle.exec_calls.specs.Reasons.{IsFrom, Asks}
+use Rattle.exec_calls.specs.Reasons.{IsFrom, Asks, ComesAtEnd}
 
 -- the origin register stays, is emptied, or goes to a location below the one that it holds
 abbrev pub TurnsOrigin : Option Location → Option Location → Type 0
@@ -25,7 +25,7 @@ pub record Turns (old new : Registers) : Type 0 where
 -- a fact that the end of a run keeps, also where memory is refused there: the last refund, the line that tells of it, settlement, and what is
 -- held is trapped or parked
 pub record IsKeptAtEnd (K : Midway → Type 0) : Type 0 where
-  pub closing : (m : Machine) (t : Midway) (c : HostCall) → K (between m) → Asks true Instruction-F.RefundSurplus m t c → IsFrom m t → why_not c t ≡ None → K t → K (after c t)
+  pub closing : (m : Machine) (t : Midway) (c : HostCall) → K (between m) → Asks true Instruction-F.RefundSurplus m t c → ComesAtEnd c → IsFrom m t → why_not c t ≡ None → K t → K (after c t)
   pub closed : (t : Midway) (r : Registers) → r.holding ≡ t.regs.holding → r.origin ≡ t.regs.origin → K t → K (record t { regs = r })
 
 -- a fact that executions keep, where their instructions are of one kind

@@ -14,6 +14,9 @@ use Rattle.locations.specs.declared.grammar.Junction.{Junction}
 use Rattle.locations.specs.declared.relative.Location.{Location}
 use Rattle.message_parts.specs.declared.error.XcmError.{XcmError}
 use Rattle.message_parts.specs.declared.weight.Weight.{Weight}
+use Rattle.message_parts.specs.declared.weight.WeightLimit.TheVariants.{Limited}
+use Rattle.asset_lists.specs.declared.units.Asset.{Asset}
+use Rattle.asset_bundles.specs.declared.shipment.Way.{Way}
 use Rattle.xcm_program.specs.declared.instruction.Instruction.{Instruction, out-Instruction, out-roll-Instruction}
 use Rattle.xcm_program.specs.declared.instruction.Instruction.TheOpen.{Instruction-F}
 use Rattle.xcm_program.specs.declared.outcome.Outcome.{Outcome}
@@ -36,7 +39,7 @@ use Rattle.exec_admission.specs.Admission.{admitted}
 use Rattle.exec_admission.specs.Execution.{first_machine, first_stage, last_machine, executed_by, executed, AbandonedIn, IsAbandoned}
 use Rattle.exec_calls.specs.Calls.{Midway, between, here, HostCall, why_not, after, refund_noted, below_origin, turned, turned_at}
 use Rattle.exec_calls.specs.Footprints.{part_is}
-use Rattle.exec_calls.specs.Reasons.{IsFrom, Asks}
+use Rattle.exec_calls.specs.Reasons.{IsFrom, IsFee, Asks, ComesAtEnd}
 use Rattle.exec_calls.specs.ReasonLaws.{from_itself, done_keeps, lead_keeps}
 use Rattle.exec_calls.specs.StopLaws.{spilled_lead}
 use Rattle.exec_calls.specs.Kept.{Turns, IsKeptAtEnd, IsKeptByCalls, Ends}
@@ -83,25 +86,48 @@ also_over l m t HostCall.Settle asks = absurd (cc asks.0)
 also_over l m t (HostCall.Trap who) asks = absurd (cc asks)
 also_over l m t _ asks = asks
 
+no_fee_at_end : (m : Machine) (fee : Asset) → IsFee Instruction-F.RefundSurplus m fee → ⊥
+no_fee_at_end m fee is = absurd (cc is.1)
+
+-- RefundSurplus asks no more
+comes_at_end : (m : Machine) (t : Midway) (c : HostCall) → Asks false Instruction-F.RefundSurplus m t c → ComesAtEnd c
+comes_at_end m t (HostCall.Pay a) asks = ⊎_elim (λ (is : IsFee Instruction-F.RefundSurplus m a). no_fee_at_end m a is) (λ (is : (w : Weight) × (Instruction-F.RefundSurplus ≡ Instruction-F.BuyExecution a (Limited w))). absurd (cc is.1)) asks.1
+comes_at_end m t (HostCall.Withdraw list who) asks = absurd (cc asks.2)
+comes_at_end m t (HostCall.Draw fee who) asks = no_fee_at_end m fee asks.2
+comes_at_end m t (HostCall.Receive list from true) asks = absurd (cc asks.2)
+comes_at_end m t (HostCall.Receive list from false) asks = absurd (cc asks.2)
+comes_at_end m t (HostCall.Claim list who) asks = absurd (cc asks.2.1)
+comes_at_end m t (HostCall.Deposit who) asks = absurd (cc asks.1)
+comes_at_end m t HostCall.Burn asks = absurd (cc asks.1)
+comes_at_end m t (HostCall.Buy w) asks = absurd (cc asks.1)
+comes_at_end m t (HostCall.DepositOut dest xcm) asks = absurd (cc asks.2.1)
+comes_at_end m t (HostCall.Ship Way.Withdrawal dest xcm) asks = absurd (cc asks.2.1)
+comes_at_end m t (HostCall.Ship Way.Teleport dest xcm) asks = absurd (cc asks.2.1)
+comes_at_end m t (HostCall.Transfer list from to) asks = absurd (cc asks.2)
+comes_at_end m t (HostCall.TransferOut list from dest xcm) asks = absurd (cc asks.2)
+comes_at_end m t (HostCall.Respond info answer querier) asks = absurd asks.2
+comes_at_end m t HostCall.HoldFee asks = no_fee_at_end m asks.0 asks.1
+comes_at_end m t _ asks = tt
+
 module _ (K : Midway → Type 0) (kept : IsKeptAtEnd K) where
   abbrev Rests : Machine → Type 0
   Rests m = K (between m)
 
   pub told_rests : (m : Machine) (e : Event) → Rests m → Rests (machine m.regs (told m.part e))
-  told_rests m e k = subst (λ (p : ChainPart). Rests (machine m.regs p)) (part_is (HostCall.Tell e) (between m)) (kept.closing m (between m) (HostCall.Tell e) k (refl, refl) (from_itself m) refl k)
+  told_rests m e k = subst (λ (p : ChainPart). Rests (machine m.regs p)) (part_is (HostCall.Tell e) (between m)) (kept.closing m (between m) (HostCall.Tell e) k (refl, refl) tt (from_itself m) refl k)
 
   settled_rests : (m : Machine) → Rests m → Rests (machine m.regs (settled m.part))
-  settled_rests m k = subst (λ (p : ChainPart). Rests (machine m.regs p)) (part_is HostCall.Settle (between m)) (kept.closing m (between m) HostCall.Settle k (refl, refl) (from_itself m) refl k)
+  settled_rests m k = subst (λ (p : ChainPart). Rests (machine m.regs p)) (part_is HostCall.Settle (between m)) (kept.closing m (between m) HostCall.Settle k (refl, refl) tt (from_itself m) refl k)
 
   emptied : (m : Machine) → Rests m → K (after HostCall.Empty (between m))
-  emptied m k = kept.closing m (between m) HostCall.Empty k (refl, refl) (from_itself m) refl k
+  emptied m k = kept.closing m (between m) HostCall.Empty k (refl, refl) tt (from_itself m) refl k
 
   from_emptied : (m : Machine) → IsFrom m (after HostCall.Empty (between m))
   from_emptied m = record { regs = refl; settings = refl }
 
   trapped_rests : (m : Machine) (who : Location) → Rests m → Rests (machine (with_holding m.regs empty) (trapped m.part m.regs.holding who))
   trapped_rests m who k = let t = after HostCall.Empty (between m) in
-      subst (λ (p : ChainPart). Rests (machine (with_holding m.regs empty) p)) (part_is (HostCall.Trap who) t) (kept.closing m t (HostCall.Trap who) k refl (from_emptied m) refl (emptied m k))
+      subst (λ (p : ChainPart). Rests (machine (with_holding m.regs empty) p)) (part_is (HostCall.Trap who) t) (kept.closing m t (HostCall.Trap who) k refl tt (from_emptied m) refl (emptied m k))
 
   pub abandoned_kept : (m : Machine) (now : ChainPart) → now ≡ abandoned m.regs m.part → Rests m → Ends K now
   abandoned_kept m now is k = let t = after HostCall.Empty (between m) in
@@ -109,12 +135,12 @@ module _ (K : Midway → Type 0) (kept : IsKeptAtEnd K) where
         regs = with_holding m.regs empty;
         nothing = refl;
         kept = subst (λ (p : ChainPart). Rests (machine (with_holding m.regs empty) p)) (sym is)
-            (subst (λ (p : ChainPart). Rests (machine (with_holding m.regs empty) p)) (part_is HostCall.Park t) (kept.closing m t HostCall.Park k refl (from_emptied m) refl (emptied m k)));
+            (subst (λ (p : ChainPart). Rests (machine (with_holding m.regs empty) p)) (part_is HostCall.Park t) (kept.closing m t HostCall.Park k refl tt (from_emptied m) refl (emptied m k)));
       }
 
   refund_done : (m : Machine) → refused Instruction-F.RefundSurplus m ≡ None → Rests m → Rests (done Instruction-F.RefundSurplus m)
   refund_done m free k =
-      done_keeps Instruction-F.RefundSurplus m K (λ c t asks from ok kt. kept.closing m t c k (also_over Instruction-F.RefundSurplus m t c asks) from ok kt) (λ t from kt. by_refund (refund_now m) t kt) free k
+      done_keeps Instruction-F.RefundSurplus m K (λ c t asks from ok kt. kept.closing m t c k (also_over Instruction-F.RefundSurplus m t c asks) (comes_at_end m t c asks) from ok kt) (λ t from kt. by_refund (refund_now m) t kt) free k
     where
       by_refund : (o : Option (Location × ℕ)) (t : Midway) → K t → K (record t { regs = refund_noted m o t.regs })
       by_refund None t kt = kt
@@ -138,7 +164,7 @@ module _ (K : Midway → Type 0) (kept : IsKeptAtEnd K) where
 
   refund_spilled : (m now : Machine) (l : Instruction-F Instruction) → l ≡ Instruction-F.RefundSurplus → Spilled l m now → Rests m → Rests now
   refund_spilled m now l is s k =
-      lead_keeps Instruction-F.RefundSurplus m K (λ c t early asks from ok kt. kept.closing m t c k (also_over Instruction-F.RefundSurplus m t c asks) from ok kt) now (spilled_lead Instruction-F.RefundSurplus m now (subst (λ (l : Instruction-F Instruction). Spilled l m now) is s)) k
+      lead_keeps Instruction-F.RefundSurplus m K (λ c t early asks from ok kt. kept.closing m t c k (also_over Instruction-F.RefundSurplus m t c asks) (comes_at_end m t c asks) from ok kt) now (spilled_lead Instruction-F.RefundSurplus m now (subst (λ (l : Instruction-F Instruction). Spilled l m now) is s)) k
 
   pub at_end_kept : (m : Machine) (now : ChainPart) → HaltedAtEnd xcm spills m now → Rests m → Ends K now
   at_end_kept m now h k =
@@ -167,7 +193,7 @@ module _ (x : Instruction) (m : Machine) (K : Midway → Type 0)
 -- ---- a fact that each call keeps
 pub kept_at_end : (Q : Instruction → Type 0) (K : Midway → Type 0) → IsKeptByCalls Q K → IsKeptAtEnd K
 kept_at_end Q K kept = record {
-  closing = λ m t c k asks from ok kt. kept.called refund_surplus Instruction-F.RefundSurplus refund_layer kept.refunds true m t c k asks from ok kt;
+  closing = λ m t c k asks comes from ok kt. kept.called refund_surplus Instruction-F.RefundSurplus refund_layer kept.refunds true m t c k asks from ok kt;
   closed = λ t r holding origin kt. kept.turned t r (stays_origin t.regs r holding origin) kt;
 }
 

@@ -145,6 +145,23 @@ ComesBeforeStop (HostCall.Answer from query) = ⊥
 ComesBeforeStop HostCall.KeepFee = ⊥
 ComesBeforeStop _ = ⊤
 
+-- what the end of a run may ask: its last refund, the line that tells of it, settlement, and what is held is trapped or put aside; no account
+-- is charged, and nothing is sent
+abbrev pub ComesAtEnd : HostCall → Type 0
+ComesAtEnd (HostCall.Check ok e) = ⊤
+ComesAtEnd (HostCall.Take filter) = ⊤
+ComesAtEnd HostCall.Join = ⊤
+ComesAtEnd (HostCall.Refund w) = ⊤
+ComesAtEnd (HostCall.Answer from query) = ⊤
+ComesAtEnd HostCall.TakeFee = ⊤
+ComesAtEnd HostCall.KeepFee = ⊤
+ComesAtEnd HostCall.Park = ⊤
+ComesAtEnd HostCall.Empty = ⊤
+ComesAtEnd (HostCall.Tell e) = ⊤
+ComesAtEnd HostCall.Settle = ⊤
+ComesAtEnd (HostCall.Trap who) = ⊤
+ComesAtEnd _ = ⊥
+
 -- accepted calls of an instruction that began at the first machine lead from where it has come to, to another machine, where memory stops it
 pub record LeadFrom (l : Instruction-F Instruction) (m : Machine) (t : Midway) (now : Machine) : Type 0 where
   pub made : List HostCall

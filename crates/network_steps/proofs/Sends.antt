@@ -1,9 +1,7 @@
 -- What is queued and what may still be sent never rises in a run.
-use Rattle.std.proofs.Common.{◌≡◌, ◌⊎◌, inl, inr, ⊎_elim, ℕ, zero, suc, ◌+◌, ◌≤◌, Bool, true, false, List, [], ◌∷◌, ◌++◌, Option, Some, None, refl, sym, ap, ◌∙◌, subst, arith}
-use Rattle.std.specs.Prelude.{if◌then◌else◌, nat_eq, length, position, remove, drop, find, slice_get, slice_set, sum_by, option_and_then, Result, Ok, Err}
-use Rattle.std.proofs.Common.{get_or}
+use Rattle.std.proofs.Common.{◌≡◌, ◌⊎◌, inl, inr, ⊎_elim, ℕ, zero, suc, ◌+◌, ◌≤◌, Bool, true, false, List, [], ◌∷◌, Option, Some, None, refl, sym, ap, ◌∙◌, subst, arith, get_or}
+use Rattle.std.specs.Prelude.{if◌then◌else◌, drop, find, slice_get, slice_set, sum_by, option_and_then, Result, Ok, Err}
 use Rattle.std.proofs.lemmas.Option.{slice_get_within, get_or_from_slice_get}
-use Rattle.amounts.specs.Amounts.{rows}
 use Rattle.std.specs.Option.{option_map_or}
 use Rattle.std.proofs.lemmas.List.Sums.{sum_by_push, sum_by-cons, sum_by-set}
 use Rattle.locations.specs.declared.relative.Location.{Location}
@@ -14,18 +12,17 @@ use Rattle.message_parts.specs.declared.query.Response.{Response}
 use Rattle.message_parts.specs.declared.query.OpenQuery.{OpenQuery}
 use Rattle.message_parts.specs.Weights.{is_within}
 use Rattle.message_parts.specs.declared.weight.WeightLimit.{WeightLimit}
-use Rattle.message_parts.specs.declared.weight.WeightLimit.TheVariants.{Unlimited, Limited}
+use Rattle.message_parts.specs.declared.weight.WeightLimit.TheVariants.{Limited}
 use Rattle.asset_lists.specs.declared.units.Asset.{Asset}
-use Rattle.asset_bundles.specs.Bundles.{Bundle, bundle_of, held_assets}
+use Rattle.asset_bundles.specs.Bundles.{Bundle, held_assets}
 use Rattle.asset_bundles.specs.declared.shipment.Way.{Way}
 use Rattle.xcm_program.specs.declared.instruction.Instruction.{Instruction, out-Instruction, roll-Instruction, out-roll-Instruction}
 use Rattle.xcm_program.specs.declared.instruction.Instruction.TheOpen.{Instruction-F}
-use Rattle.weight_trader.specs.Purchases.{no_weight, paying}
+use Rattle.weight_trader.specs.Purchases.{no_weight}
 use Rattle.xcm_program.specs.declared.outcome.Outcome.{Outcome}
-use Rattle.xcm_program.specs.Weights.{weight_of}
+use Rattle.xcm_program.specs.Weights.{weight_of, kept}
 use Rattle.xcm_program.specs.Indices.{index}
 use Rattle.xcm_program.specs.Measure.{inner, inner_of, sending, sends_one, sends}
-use Rattle.xcm_program.specs.Weights.{kept}
 use Rattle.xcm_program.specs.Laws.{sends_inside, sends_one-is}
 use Rattle.plain_lists.specs.Firsts.{change_first}
 use Rattle.channel_parts.specs.declared.cargo.Cargo.{Cargo}
@@ -38,26 +35,20 @@ use Rattle.chain_ids.specs.declared.chain.ChainId.{ChainId}
 use Rattle.exec_base.specs.declared.event.Event.{Event}
 use Rattle.exec_base.specs.declared.event.Part.{Part}
 use Rattle.exec_base.specs.declared.event.Part.TheVariants.{Appendix}
-use Rattle.exec_base.specs.declared.registers.Registers.{Registers}
 use Rattle.exec_base.specs.Part.{ChainPart}
 use Rattle.exec_base.specs.Sending.{sent, led_by, deposit_program, away_program, listed_program}
 use Rattle.exec_base.specs.Sending as sending_to
-use Rattle.exec_base.specs.Host.{withdrawn, deposited, transferred, received, transferred_out, deposited_out, raised_for, shipped, seen_from, querier_seen, report_program, responded, answered, bought, refunded, joined, booked, burnt, claimed, is_trap, is_query, trapped, settled, fee_to, fee_held, fee_kept, fee_drawn, told}
+use Rattle.exec_base.specs.Host.{deposited, transferred, transferred_out, deposited_out, raised_for, shipped, seen_from, querier_seen, report_program, responded, told}
 use Rattle.exec_run.specs.Machine.{Machine, machine, Control, control_of, Steers, IsOrderly}
-use Rattle.exec_run.specs.Run.{Stage, At, Ended, begin, to_appendix, to_handler, go_on, failed, without_appendix, handler_dropped, traced, by_answer, next, steps, machine_of, left_after, run, still_to_run}
-use Rattle.exec_run.specs.Outcome.{owner_of, end_event, end_told, refund_surplus, refunded_last, finished}
-use Rattle.exec_rules.specs.Holdings.{at_origin, holding_more, holding_left, taken_of, payment_of, buying_done, refund_now, refund_done}
-use Rattle.exec_rules.specs.Fees.{after_fee, done_around}
-use Rattle.exec_rules.specs.Reports.{report_done, pallets_of, reported_list, holding_report_done}
-use Rattle.exec_rules.specs.Programs.{with_registers}
-use Rattle.exec_rules.specs.Origins.{descended}
+use Rattle.exec_run.specs.Run.{Stage, At, Ended, begin, to_appendix, to_handler, go_on, failed, without_appendix, handler_dropped, traced, by_answer, next, steps, machine_of, run, still_to_run}
+use Rattle.exec_run.specs.Outcome.{finished}
 use Rattle.exec_rules.specs.Instructions.{done, refusal_of, xcm}
 use Rattle.exec_admission.specs.declared.rules.ChainRules.{ChainRules}
 use Rattle.exec_admission.specs.declared.admission.Admitted.{Admitted}
 use Rattle.exec_admission.specs.Admission.{by_barriers, by_limit, by_weight, admitted}
 use Rattle.exec_admission.specs.Execution.{first_machine, first_stage, last_machine, executed_by, executed}
 use Rattle.exec_calls.specs.Calls.{Midway, HostCall, after}
-use Rattle.exec_calls.specs.Reasons.{shipping, IsReport, Asks}
+use Rattle.exec_calls.specs.Reasons.{shipping, IsReport, Asks, ComesAtEnd}
 use Rattle.exec_calls.specs.ReasonLaws.{each_keeps}
 use Rattle.exec_calls.specs.Kept.{IsKeptAtEnd}
 use Rattle.exec_calls.specs.KeptLaws.{finished_kept}
@@ -285,16 +276,15 @@ module _ (orderly : IsOrderly xcm) where
   run_sends g = let a = machine_due (run xcm g) in let b = steps_due (still_to_run g) g in omega (arith, a, b)
 
 -- ---- the end of a run sends nothing
-end_same : (m : Machine) (c : HostCall) (t : Midway) → Asks true Instruction-F.RefundSurplus m t c → (after c t).part.channels ≡ t.part.channels
-end_same m (HostCall.TransferOut list from dest program) t asks = absurd (cc asks.2)
-end_same m (HostCall.DepositOut dest program) t asks = absurd (cc asks.2.1)
-end_same m (HostCall.Ship Way.Withdrawal dest program) t asks = absurd (cc asks.2.1)
-end_same m (HostCall.Ship Way.Teleport dest program) t asks = absurd (cc asks.2.1)
-end_same m (HostCall.Respond info answer querier) t asks = absurd asks.2
-end_same m _ t asks = refl
+end_same : (c : HostCall) (t : Midway) → ComesAtEnd c → (after c t).part.channels ≡ t.part.channels
+end_same (HostCall.TransferOut list from dest program) t comes = absurd comes
+end_same (HostCall.DepositOut dest program) t comes = absurd comes
+end_same (HostCall.Ship way dest program) t comes = absurd comes
+end_same (HostCall.Respond info answer querier) t comes = absurd comes
+end_same _ t comes = refl
 
 sends_none : (cs : List Outgoing) → IsKeptAtEnd (λ (t : Midway). t.part.channels ≡ cs)
-sends_none cs = record { closing = λ m t c k asks from ok h. end_same m c t asks ∙ h; closed = λ t r holding origin h. h }
+sends_none cs = record { closing = λ m t c k asks comes from ok h. end_same c t comes ∙ h; closed = λ t r holding origin h. h }
 
 pub finished_same : (m : Machine) → (finished xcm m).channels ≡ channels_of m
 finished_same m = (finished_kept (λ (t : Midway). t.part.channels ≡ channels_of m) (sends_none (channels_of m)) m refl).kept

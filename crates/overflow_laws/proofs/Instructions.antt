@@ -82,7 +82,7 @@ module _ (moves : MovesAreKept) (trapping : Trapping) (m : Machine) (steady : Is
   no_excess_at_end =
       let ending = ending_is_kept moves trapping m room in
       record {
-        closing = λ k t c before asks from ok e. (ending.closing k t c before.0 asks from ok e.0, call_no_excess m.part c t (fits_at_end t e.0) e.1);
+        closing = λ k t c before asks comes from ok e. (ending.closing k t c before.0 asks comes from ok e.0, call_no_excess m.part c t (fits_at_end t e.0) e.1);
         closed = λ t r holding origin e. (ending.closed t r holding origin e.0, e.1);
       }
 
