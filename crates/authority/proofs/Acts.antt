@@ -13,36 +13,36 @@ use Rattle.exec_run.specs.Machine.{Machine, Performed}
 use Rattle.exec_run.specs.Run.{Halted}
 use Rattle.exec_rules.specs.Stopping.{Stops, Spilled, spills}
 use Rattle.exec_rules.specs.Instructions.{done, xcm}
-use Rattle.exec_calls.specs.Calls.{Midway, HostCall, after}
-use Rattle.exec_calls.specs.Reasons.{IsFrom, Asks}
+use Rattle.exec_calls.specs.Calls.{MachineWithGoods, MachineCall, after}
+use Rattle.exec_calls.specs.Reasons.{IsFrom, Moment, HasReason}
 use Rattle.exec_calls.specs.ReasonLaws.{each_keeps}
 use Rattle.exec_calls.specs.KeptLaws.{halted_keeps}
 use Rattle.authority.specs.Origins.{speaker_at, speaker_of, LowersOnly}
 use Rattle.authority.proofs.Lowering.{same_lowers, then_lowers, given_lowers, got_lowers, moved_lowers, settled_lowers}
 
 -- the account that speaks is the origin's
-spoken : (m : Machine) (t : Midway) (who : Location) (new : Held) → m.regs.origin ≡ Some who → LowersOnly (account_of who t.part.site) t.part.held new → LowersOnly (speaker_at t.part.site m.regs.origin) t.part.held new
+spoken : (m : Machine) (t : MachineWithGoods) (who : Location) (new : Held) → m.regs.origin ≡ Some who → LowersOnly (account_of who t.part.site) t.part.held new → LowersOnly (speaker_at t.part.site m.regs.origin) t.part.held new
 spoken m t who new is h = subst (λ (o : Option Location). LowersOnly (speaker_at t.part.site o) t.part.held new) (sym is) h
 
-pub call_lowers : (over : Bool) (l : Instruction-F Instruction) (m : Machine) (c : HostCall) (t : Midway) → Asks over l m t c → LowersOnly (speaker_at t.part.site m.regs.origin) t.part.held (after c t).part.held
+pub call_lowers : (moment : Moment) (l : Instruction-F Instruction) (m : Machine) (c : MachineCall) (t : MachineWithGoods) → HasReason moment l m t c → LowersOnly (speaker_at t.part.site m.regs.origin) t.part.held (after c t).part.held
 unfolding withdrawn deposited transferred transferred_out deposited_out fee_drawn sent
-call_lowers over l m (HostCall.Withdraw list who) t asks = spoken m t who _ asks.1 (given_lowers t.part list who)
-call_lowers over l m (HostCall.Draw fee who) t asks = spoken m t who _ asks.1 (given_lowers t.part (fee ∷ []) who)
-call_lowers over l m (HostCall.Transfer list from to) t asks = spoken m t from _ asks.1 (moved_lowers t.part list from to)
-call_lowers over l m (HostCall.TransferOut list from dest xcm) t asks = spoken m t from _ asks.1 (moved_lowers t.part list from dest)
-call_lowers over l m (HostCall.Deposit who) t asks = got_lowers _ t.part t.goods who
-call_lowers over l m (HostCall.DepositOut dest xcm) t asks = got_lowers _ t.part t.goods dest
-call_lowers over l m HostCall.Settle t asks = settled_lowers _ t.part
-call_lowers over l m _ t asks = same_lowers _ t.part.held
+call_lowers moment l m (MachineCall.Withdraw list who) t asks = spoken m t who _ asks.1 (given_lowers t.part list who)
+call_lowers moment l m (MachineCall.Draw fee who) t asks = spoken m t who _ asks.1 (given_lowers t.part (fee ∷ []) who)
+call_lowers moment l m (MachineCall.Transfer list from to) t asks = spoken m t from _ asks.1 (moved_lowers t.part list from to)
+call_lowers moment l m (MachineCall.TransferOut list from dest xcm) t asks = spoken m t from _ asks.1 (moved_lowers t.part list from dest)
+call_lowers moment l m (MachineCall.Deposit who) t asks = got_lowers _ t.part t.goods who
+call_lowers moment l m (MachineCall.DepositOut dest xcm) t asks = got_lowers _ t.part t.goods dest
+call_lowers moment l m MachineCall.Settle t asks = settled_lowers _ t.part
+call_lowers moment l m _ t asks = same_lowers _ t.part.held
 
 -- ---- an instruction, accepted or not, and where memory is refused in it
 module _ (x : Instruction) (m : Machine) where
-  abbrev Spoken : Midway → Type 0
+  abbrev Spoken : MachineWithGoods → Type 0
   Spoken t = LowersOnly (speaker_of m) m.part.held t.part.held
 
-  spoken_then : (c : HostCall) (t : Midway) → Asks false (out-Instruction x) m t c → IsFrom m t → Spoken t → Spoken (after c t)
+  spoken_then : (c : MachineCall) (t : MachineWithGoods) → HasReason Moment.Inside (out-Instruction x) m t c → IsFrom m t → Spoken t → Spoken (after c t)
   spoken_then c t asks from h = then_lowers (speaker_of m) m.part.held t.part.held (after c t).part.held h
-      (subst (λ (s : Settings). LowersOnly (speaker_at s.site m.regs.origin) t.part.held (after c t).part.held) from.settings (call_lowers false (out-Instruction x) m c t asks))
+      (subst (λ (s : Settings). LowersOnly (speaker_at s.site m.regs.origin) t.part.held (after c t).part.held) from.settings (call_lowers Moment.Inside (out-Instruction x) m c t asks))
 
   pub done_lowers : LowersOnly (speaker_of m) m.part.held (xcm.done x m).part.held
   done_lowers = each_keeps (out-Instruction x) m Spoken spoken_then (λ t from h. h) (same_lowers (speaker_of m) m.part.held)

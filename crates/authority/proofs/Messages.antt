@@ -37,7 +37,7 @@ use Rattle.message_shapes.specs.Shapes.{IsAnswer, IsLedByClaim, IsShape}
 use Rattle.authority.specs.Origins.{speaker_at, speaker_of, LowersOnly}
 use Rattle.authority.proofs.Lowering.{same_lowers, then_lowers, none_lowers}
 use Rattle.authority.proofs.Acts.{done_lowers, halted_lowers, clear_halted}
-use Rattle.authority.proofs.Runs.{Quiet, quiet_is_kept, finished_lowers, at_end_lowers, abandoned_lowers}
+use Rattle.authority.proofs.Runs.{HasNoSpeaker, no_speaker_is_kept, finished_lowers, at_end_lowers, abandoned_lowers}
 
 -- ---- a message at its receiver
 module _ (rules : ChainRules) (origin : Location) (p : ChainPart) where
@@ -56,13 +56,13 @@ module _ (rules : ChainRules) (origin : Location) (p : ChainPart) where
   lowers_of (At part place x behind m) s = s.0
   lowers_of (Ended m) s = s
 
-  safe_quiet : (g : Stage) → Quiet may p.held (between (machine_of g)) → Safe g
-  safe_quiet (At part place x behind m) q = (
+  safe_no_speaker : (g : Stage) → HasNoSpeaker may p.held (between (machine_of g)) → Safe g
+  safe_no_speaker (At part place x behind m) q = (
     q.lowers,
     λ left k. then_lowers may p.held m.part.held left.part.held q.lowers
         (none_lowers may m.part.held left.part.held (subst (λ (s : Option (List ℕ)). LowersOnly s m.part.held left.part.held) (ap (speaker_at m.part.site) q.silent) (halted_lowers x m left k))),
   )
-  safe_quiet (Ended m) q = q.lowers
+  safe_no_speaker (Ended m) q = q.lowers
 
   safe_start : (x : Instruction) (behind : List Instruction) → Safe (At Program 0 x behind start)
   safe_start x behind = (same_lowers may p.held, λ left k. halted_lowers x start left k)
@@ -74,27 +74,27 @@ module _ (rules : ChainRules) (origin : Location) (p : ChainPart) where
   first_lowers x = done_lowers x start
 
   -- behind ClearOrigin
-  cleared_quiet : (m : Machine) → LowersOnly may p.held m.part.held → Quiet may p.held (between (xcm.done (roll-Instruction Instruction-F.ClearOrigin) m))
-  cleared_quiet m h = subst (λ (l : Instruction-F Instruction). Quiet may p.held (between (done l m))) (sym (out-roll-Instruction Instruction-F.ClearOrigin)) (record { silent = refl; lowers = h })
+  cleared_no_speaker : (m : Machine) → LowersOnly may p.held m.part.held → HasNoSpeaker may p.held (between (xcm.done (roll-Instruction Instruction-F.ClearOrigin) m))
+  cleared_no_speaker m h = subst (λ (l : Instruction-F Instruction). HasNoSpeaker may p.held (between (done l m))) (sym (out-roll-Instruction Instruction-F.ClearOrigin)) (record { silent = refl; lowers = h })
 
-  told_quiet : (m : Machine) (e : Event) → Quiet may p.held (between m) → Quiet may p.held (between (machine m.regs (told m.part e)))
+  told_no_speaker : (m : Machine) (e : Event) → HasNoSpeaker may p.held (between m) → HasNoSpeaker may p.held (between (machine m.regs (told m.part e)))
   unfolding told
-  told_quiet m e h = record { silent = h.silent; lowers = h.lowers }
+  told_no_speaker m e h = record { silent = h.silent; lowers = h.lowers }
 
   after_clear : (n place : ℕ) (behind : List Instruction) (m : Machine) → LowersOnly may p.held m.part.held
-      → Quiet may p.held (between (machine_of (steps xcm n (by_answer xcm Program place (roll-Instruction Instruction-F.ClearOrigin) behind m None))))
+      → HasNoSpeaker may p.held (between (machine_of (steps xcm n (by_answer xcm Program place (roll-Instruction Instruction-F.ClearOrigin) behind m None))))
   after_clear n place behind m h =
       let clear = roll-Instruction Instruction-F.ClearOrigin in
-      let quiet = told_quiet (xcm.done clear m) _ (cleared_quiet m h) in
+      let no_speaker = told_no_speaker (xcm.done clear m) _ (cleared_no_speaker m h) in
       let g = go_on Program (place + 1) behind (traced Program place clear None (xcm.done clear m)) in
-      keeps_reached (Quiet may p.held) (quiet_is_kept may p.held) g (steps xcm n g) (n, refl) (go_on_kept any_kind (Quiet may p.held) (quiet_is_kept may p.held) Program (place + 1) behind (traced Program place clear None (xcm.done clear m)) quiet)
+      keeps_reached (HasNoSpeaker may p.held) (no_speaker_is_kept may p.held) g (steps xcm n g) (n, refl) (go_on_kept any_kind (HasNoSpeaker may p.held) (no_speaker_is_kept may p.held) Program (place + 1) behind (traced Program place clear None (xcm.done clear m)) no_speaker)
 
   from_clear : (n place : ℕ) (behind : List Instruction) (m : Machine) → LowersOnly may p.held m.part.held → Safe (steps xcm n (At Program place (roll-Instruction Instruction-F.ClearOrigin) behind m))
   unfolding steps
   from_clear zero place behind m h = (h, λ left k. clear_halted may p.held m h left k)
   from_clear (suc n) place behind m h =
       let free : refusal_of (roll-Instruction Instruction-F.ClearOrigin) m ≡ None = ap (λ (l : Instruction-F Instruction). refused l m) (out-roll-Instruction Instruction-F.ClearOrigin) in
-      subst (λ (o : Option XcmError). Safe (steps xcm n (by_answer xcm Program place (roll-Instruction Instruction-F.ClearOrigin) behind m o))) (sym free) (safe_quiet (steps xcm n (by_answer xcm Program place (roll-Instruction Instruction-F.ClearOrigin) behind m None)) (after_clear n place behind m h))
+      subst (λ (o : Option XcmError). Safe (steps xcm n (by_answer xcm Program place (roll-Instruction Instruction-F.ClearOrigin) behind m o))) (sym free) (safe_no_speaker (steps xcm n (by_answer xcm Program place (roll-Instruction Instruction-F.ClearOrigin) behind m None)) (after_clear n place behind m h))
 
   -- the first instruction, refused: no handler and no appendix is there
   refused_first : (n : ℕ) (x : Instruction) (behind : List Instruction) (e : XcmError) → Safe (steps xcm n (by_answer xcm Program 0 x behind start (Some e)))
@@ -166,9 +166,9 @@ module _ (rules : ChainRules) (origin : Location) (p : ChainPart) where
   Silent (At part place x behind m) = m.regs.origin ≡ None
   Silent (Ended m) = ⊤
 
-  silent_quiet : (g : Stage) → Quiet may p.held (between (machine_of g)) → Silent g
-  silent_quiet (At part place x behind m) q = q.silent
-  silent_quiet (Ended m) q = tt
+  silent_no_speaker : (g : Stage) → HasNoSpeaker may p.held (between (machine_of g)) → Silent g
+  silent_no_speaker (At part place x behind m) q = q.silent
+  silent_no_speaker (Ended m) q = tt
 
   silent_end : (n : ℕ) (m : Machine) → Silent (steps xcm n (Ended m))
   silent_end n m = subst Silent (sym (steps_end xcm n (Ended m) tt)) tt
@@ -178,7 +178,7 @@ module _ (rules : ChainRules) (origin : Location) (p : ChainPart) where
   silent_clear n place behind m h =
       let free : refusal_of (roll-Instruction Instruction-F.ClearOrigin) m ≡ None = ap (λ (l : Instruction-F Instruction). refused l m) (out-roll-Instruction Instruction-F.ClearOrigin) in
       subst (λ (o : Option XcmError). Silent (steps xcm n (by_answer xcm Program place (roll-Instruction Instruction-F.ClearOrigin) behind m o))) (sym free)
-      (silent_quiet (steps xcm n (by_answer xcm Program place (roll-Instruction Instruction-F.ClearOrigin) behind m None)) (after_clear n place behind m h))
+      (silent_no_speaker (steps xcm n (by_answer xcm Program place (roll-Instruction Instruction-F.ClearOrigin) behind m None)) (after_clear n place behind m h))
 
   silent_by_answer : (n : ℕ) (x : Instruction) (behind : List Instruction) (o : Option XcmError) → Silent (steps xcm (suc n) (by_answer xcm Program 0 x (roll-Instruction Instruction-F.ClearOrigin ∷ behind) start o))
   unfolding told

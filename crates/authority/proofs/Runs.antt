@@ -20,8 +20,8 @@ use Rattle.exec_rules.specs.Stopping.{spills}
 use Rattle.exec_admission.specs.declared.rules.ChainRules.{ChainRules}
 use Rattle.exec_admission.specs.declared.admission.Admitted.{Admitted}
 use Rattle.exec_admission.specs.Execution.{started, first_stage, executed, IsAbandoned}
-use Rattle.exec_calls.specs.Calls.{Midway, HostCall, after}
-use Rattle.exec_calls.specs.Reasons.{IsFrom, Asks, ComesAtEnd}
+use Rattle.exec_calls.specs.Calls.{MachineWithGoods, MachineCall, after}
+use Rattle.exec_calls.specs.Reasons.{IsFrom, Moment, HasReason, ComesAtEnd}
 use Rattle.exec_calls.specs.Kept.{TurnsOrigin, IsKeptAtEnd, IsKeptByCalls}
 use Rattle.exec_calls.specs.KeptLaws.{any_kind, abandoned_kept, finished_kept, at_end_kept, keeps_run, keeps_executed, keeps_abandoned}
 use Rattle.network_steps.specs.Acting.{caller}
@@ -43,33 +43,33 @@ below_turned first old new turns h =
 starts_at : (origin : Location) → IsAtOrBelow origin (Some origin)
 starts_at origin = ([], ap (λ (js : List Junction). let l : Location = record origin { interior = js } in l) (sym (append-nil origin.interior)))
 
-origin_after : (c : HostCall) (t : Midway) → (after c t).regs.origin ≡ t.regs.origin
-origin_after (HostCall.Take filter) t = refl
+origin_after : (c : MachineCall) (t : MachineWithGoods) → (after c t).regs.origin ≡ t.regs.origin
+origin_after (MachineCall.Take filter) t = refl
 origin_after _ t = refl
 
-below_is_kept : (first : Location) → IsKeptByCalls any_kind (λ (t : Midway). IsAtOrBelow first t.regs.origin)
+below_is_kept : (first : Location) → IsKeptByCalls any_kind (λ (t : MachineWithGoods). IsAtOrBelow first t.regs.origin)
 below_is_kept first = record {
   refunds = tt;
-  called = λ x l is q over m t c k asks from ok h. subst (IsAtOrBelow first) (sym (origin_after c t)) h;
+  called = λ x l is q moment m t c k asks from ok h. subst (IsAtOrBelow first) (sym (origin_after c t)) h;
   turned = λ t r turns h. below_turned first t.regs.origin r.origin turns.origin h;
 }
 
 pub reached_below : (rules : ChainRules) (origin : Location) (a : Admitted) (p : ChainPart) (g : Stage) → Reaches xcm (first_stage rules origin a p) g → IsAtOrBelow origin (machine_of g).regs.origin
-reached_below rules origin a p g r = keeps_run (λ (t : Midway). IsAtOrBelow origin t.regs.origin) (below_is_kept origin) rules origin a p g r (starts_at origin)
+reached_below rules origin a p g r = keeps_run (λ (t : MachineWithGoods). IsAtOrBelow origin t.regs.origin) (below_is_kept origin) rules origin a p g r (starts_at origin)
 
 -- ---- the end of a run lowers nothing
 module _ (s : Option (List ℕ)) (start : Held) where
-  abbrev pub Lowered : Midway → Type 0
+  abbrev pub Lowered : MachineWithGoods → Type 0
   Lowered t = LowersOnly s start t.part.held
 
-  end_lowers : (c : HostCall) (t : Midway) → ComesAtEnd c → Lowered t → Lowered (after c t)
-  end_lowers (HostCall.Withdraw list who) t comes h = absurd comes
-  end_lowers (HostCall.Draw fee who) t comes h = absurd comes
-  end_lowers (HostCall.Transfer list from to) t comes h = absurd comes
-  end_lowers (HostCall.TransferOut list from dest xcm) t comes h = absurd comes
-  end_lowers (HostCall.Deposit who) t comes h = absurd comes
-  end_lowers (HostCall.DepositOut dest xcm) t comes h = absurd comes
-  end_lowers HostCall.Settle t comes h = then_lowers s start t.part.held (after HostCall.Settle t).part.held h (settled_lowers s t.part)
+  end_lowers : (c : MachineCall) (t : MachineWithGoods) → ComesAtEnd c → Lowered t → Lowered (after c t)
+  end_lowers (MachineCall.Withdraw list who) t comes h = absurd comes
+  end_lowers (MachineCall.Draw fee who) t comes h = absurd comes
+  end_lowers (MachineCall.Transfer list from to) t comes h = absurd comes
+  end_lowers (MachineCall.TransferOut list from dest xcm) t comes h = absurd comes
+  end_lowers (MachineCall.Deposit who) t comes h = absurd comes
+  end_lowers (MachineCall.DepositOut dest xcm) t comes h = absurd comes
+  end_lowers MachineCall.Settle t comes h = then_lowers s start t.part.held (after MachineCall.Settle t).part.held h (settled_lowers s t.part)
   end_lowers _ t comes h = h
 
   pub lowered_at_end : IsKeptAtEnd Lowered
@@ -85,36 +85,36 @@ pub abandoned_lowers : (s : Option (List ℕ)) (start : Held) (m : Machine) (now
 abandoned_lowers s start m now is h = (abandoned_kept (Lowered s start) (lowered_at_end s start) m now is h).kept
 
 -- ---- without an origin
-pub record Quiet (may : Option (List ℕ)) (start : Held) (t : Midway) : Type 0 where
+pub record HasNoSpeaker (may : Option (List ℕ)) (start : Held) (t : MachineWithGoods) : Type 0 where
   pub silent : t.regs.origin ≡ None
   pub lowers : LowersOnly may start t.part.held
 
-quiet_turned : (old new : Option Location) → TurnsOrigin old new → old ≡ None → new ≡ None
-quiet_turned old new turns h =
+no_speaker_turned : (old new : Option Location) → TurnsOrigin old new → old ≡ None → new ≡ None
+no_speaker_turned old new turns h =
     ⊎_elim (λ (e : new ≡ old). e ∙ h)
     (λ (rest : (new ≡ None) ⊎ ((who : Location) × (path : List Junction) × (old ≡ Some who) × (new ≡ Some (descended who path)))).
     ⊎_elim (λ (e : new ≡ None). e)
     (λ (d : (who : Location) × (path : List Junction) × (old ≡ Some who) × (new ≡ Some (descended who path))). absurd (let no_way : None ≡ Some d.0 = sym h ∙ d.2 in cc)) rest) turns
 
 -- what a call lowers where nobody speaks
-quiet_called : (may : Option (List ℕ)) (start : Held) (l : Instruction-F Instruction) (m : Machine) (t : Midway) (c : HostCall) (over : Bool) → Asks over l m t c → IsFrom m t → Quiet may start t → Quiet may start (after c t)
-quiet_called may start l m t c over asks from q =
+no_speaker_called : (may : Option (List ℕ)) (start : Held) (l : Instruction-F Instruction) (m : Machine) (t : MachineWithGoods) (c : MachineCall) (moment : Moment) → HasReason moment l m t c → IsFrom m t → HasNoSpeaker may start t → HasNoSpeaker may start (after c t)
+no_speaker_called may start l m t c moment asks from q =
     let silent : m.regs.origin ≡ None = sym (ap (λ (r : Registers). r.origin) from.regs) ∙ q.silent in
     record {
       silent = origin_after c t ∙ q.silent;
       lowers = then_lowers may start t.part.held (after c t).part.held q.lowers (none_lowers may t.part.held (after c t).part.held
-          (subst (λ (o : Option Location). LowersOnly (speaker_at t.part.site o) t.part.held (after c t).part.held) silent (call_lowers over l m c t asks)));
+          (subst (λ (o : Option Location). LowersOnly (speaker_at t.part.site o) t.part.held (after c t).part.held) silent (call_lowers moment l m c t asks)));
     }
 
-pub quiet_is_kept : (may : Option (List ℕ)) (start : Held) → IsKeptByCalls any_kind (Quiet may start)
-quiet_is_kept may start = record {
+pub no_speaker_is_kept : (may : Option (List ℕ)) (start : Held) → IsKeptByCalls any_kind (HasNoSpeaker may start)
+no_speaker_is_kept may start = record {
   refunds = tt;
-  called = λ x l is q over m t c k asks from ok h. quiet_called may start l m t c over asks from h;
-  turned = λ t r turns h. record { silent = quiet_turned t.regs.origin r.origin turns.origin h.silent; lowers = h.lowers };
+  called = λ x l is q moment m t c k asks from ok h. no_speaker_called may start l m t c moment asks from h;
+  turned = λ t r turns h. record { silent = no_speaker_turned t.regs.origin r.origin turns.origin h.silent; lowers = h.lowers };
 }
 
 -- ---- a local caller
-pub record Local (account : List ℕ) (site : Site) (start : Held) (t : Midway) : Type 0 where
+pub record SpeaksForCaller (account : List ℕ) (site : Site) (start : Held) (t : MachineWithGoods) : Type 0 where
   pub there : t.part.site ≡ site
   pub below : IsAtOrBelow (caller account) t.regs.origin
   pub lowers : LowersOnly (Some account) start t.part.held
@@ -132,30 +132,30 @@ local_speaks account site None h = inl refl
 local_speaks account site (Some who) h = subst (λ (l : Location). (speaker_at site (Some l) ≡ None) ⊎ (speaker_at site (Some l) ≡ Some account)) (sym h.1) (below_speaks account site h.0)
 
 -- what a call lowers of its speaker's account, it lowers of the caller's
-local_called : (account : List ℕ) (site : Site) (start : Held) (l : Instruction-F Instruction) (m : Machine) (t : Midway) (c : HostCall) (over : Bool) → Asks over l m t c → IsFrom m t → Local account site start t → Local account site start (after c t)
-local_called account site start l m t c over asks from v =
+local_called : (account : List ℕ) (site : Site) (start : Held) (l : Instruction-F Instruction) (m : Machine) (t : MachineWithGoods) (c : MachineCall) (moment : Moment) → HasReason moment l m t c → IsFrom m t → SpeaksForCaller account site start t → SpeaksForCaller account site start (after c t)
+local_called account site start l m t c moment asks from v =
     let same : t.regs.origin ≡ m.regs.origin = ap (λ (r : Registers). r.origin) from.regs in
     let speaks = local_speaks account t.part.site m.regs.origin (subst (IsAtOrBelow (caller account)) same v.below) in
     record {
       there = sym (from_site c t) ∙ v.there;
       below = subst (IsAtOrBelow (caller account)) (sym (origin_after c t)) v.below;
-      lowers = then_lowers (Some account) start t.part.held (after c t).part.held v.lowers (either_lowers (speaker_at t.part.site m.regs.origin) (Some account) t.part.held (after c t).part.held speaks (call_lowers over l m c t asks));
+      lowers = then_lowers (Some account) start t.part.held (after c t).part.held v.lowers (either_lowers (speaker_at t.part.site m.regs.origin) (Some account) t.part.held (after c t).part.held speaks (call_lowers moment l m c t asks));
     }
   where
-    from_site : (c : HostCall) (t : Midway) → t.part.site ≡ (after c t).part.site
-    from_site (HostCall.Take filter) t = refl
+    from_site : (c : MachineCall) (t : MachineWithGoods) → t.part.site ≡ (after c t).part.site
+    from_site (MachineCall.Take filter) t = refl
     from_site _ t = refl
 
-local_is_kept : (account : List ℕ) (site : Site) (start : Held) → IsKeptByCalls any_kind (Local account site start)
+local_is_kept : (account : List ℕ) (site : Site) (start : Held) → IsKeptByCalls any_kind (SpeaksForCaller account site start)
 local_is_kept account site start = record {
   refunds = tt;
-  called = λ x l is q over m t c k asks from ok h. local_called account site start l m t c over asks from h;
+  called = λ x l is q moment m t c k asks from ok h. local_called account site start l m t c moment asks from h;
   turned = λ t r turns h. record { there = h.there; below = below_turned (caller account) t.regs.origin r.origin turns.origin h.below; lowers = h.lowers };
 }
 
 module _ (rules : ChainRules) (account : List ℕ) (credit : Weight) (program : List Instruction) (p : ChainPart) where
-  abbrev Kept : Midway → Type 0
-  Kept = Local account p.site p.held
+  abbrev Kept : MachineWithGoods → Type 0
+  Kept = SpeaksForCaller account p.site p.held
 
   local_start : Kept (record { regs = started rules (caller account); part = p; goods = empty })
   local_start = record { there = refl; below = starts_at (caller account); lowers = same_lowers (Some account) p.held }

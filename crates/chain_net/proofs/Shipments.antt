@@ -44,9 +44,9 @@ use Rattle.exec_admission.specs.declared.rules.ChainRules.{ChainRules}
 use Rattle.exec_admission.specs.declared.admission.Admitted.{Admitted}
 use Rattle.exec_admission.specs.Admission.{admitted}
 use Rattle.exec_admission.specs.Execution.{first_machine, first_stage, last_machine, executed_by, executed, IsAbandoned}
-use Rattle.exec_calls.specs.Calls.{Midway, HostCall, after}
+use Rattle.exec_calls.specs.Calls.{MachineWithGoods, MachineCall, after}
 use Rattle.exec_calls.specs.Footprints.{settings_after, channels_after}
-use Rattle.exec_calls.specs.Reasons.{Asks}
+use Rattle.exec_calls.specs.Reasons.{Moment, HasReason}
 use Rattle.exec_calls.specs.ReasonLaws.{each_keeps}
 use Rattle.exec_calls.specs.Kept.{IsKeptByCalls}
 use Rattle.exec_calls.specs.KeptLaws.{any_kind, keeps_executed, keeps_abandoned}
@@ -92,15 +92,15 @@ channels_kept test change same (c ∷ cs) =
 abbrev said : declared.Settings → List Channel → Settings
 said s channels = record { site = s.site; rows = s.rows; pallets = s.pallets; fee_account = s.fee_account; channels = channels }
 
-call_said : (c : HostCall) (t : Midway) → settings_of (after c t).part ≡ settings_of t.part
+call_said : (c : MachineCall) (t : MachineWithGoods) → settings_of (after c t).part ≡ settings_of t.part
 call_said c t =
     let same : map (λ (c : Outgoing). c.channel) (after c t).part.channels ≡ map (λ (c : Outgoing). c.channel) t.part.channels =
     channels_after (λ (cs : List Outgoing). map (λ (c : Outgoing). c.channel) cs ≡ map (λ (c : Outgoing). c.channel) t.part.channels) t
     (λ dest program cargo h. channels_kept (sending_to.leads_to t.part dest) (with_waiting program cargo) (λ c. refl) t.part.channels ∙ h) c refl in
     λ i. said (settings_after c t i) (same i)
 
-said_is_kept : (says : Settings) → IsKeptByCalls any_kind (λ (t : Midway). settings_of t.part ≡ says)
-said_is_kept says = record { refunds = tt; called = λ x l is q over m t c k asks from ok h. call_said c t ∙ h; turned = λ t r turns h. h }
+said_is_kept : (says : Settings) → IsKeptByCalls any_kind (λ (t : MachineWithGoods). settings_of t.part ≡ says)
+said_is_kept says = record { refunds = tt; called = λ x l is q moment m t c k asks from ok h. call_said c t ∙ h; turned = λ t r turns h. h }
 
 -- ---- what it keeps of the cargo that is being delivered: it may have ended it
 ended_or_not : (listed : List Listed) (b : Bool) (old : Taken) → IsListedCargo listed old.cargo → IsListedCargo listed (if b then (record { sender = old.sender; cargo = Nothing }) else old).cargo
@@ -111,14 +111,14 @@ after_lands : (listed : List Listed) (p : ChainPart) (arrival : Arrival) (list :
 unfolding cargo_after
 after_lands listed p arrival list h = ended_or_not listed (is_cargo p arrival list) p.cargo h
 
-call_lands : (far : List Listed) (c : HostCall) (t : Midway) → IsListedCargo far t.part.cargo.cargo → IsListedCargo far (after c t).part.cargo.cargo
+call_lands : (far : List Listed) (c : MachineCall) (t : MachineWithGoods) → IsListedCargo far t.part.cargo.cargo → IsListedCargo far (after c t).part.cargo.cargo
 unfolding withdrawn received
-call_lands far (HostCall.Withdraw list who) t h = after_lands far t.part ByWithdrawal list h
-call_lands far (HostCall.Receive list from teleport) t h = after_lands far t.part (arrival_of teleport) list h
+call_lands far (MachineCall.Withdraw list who) t h = after_lands far t.part ByWithdrawal list h
+call_lands far (MachineCall.Receive list from teleport) t h = after_lands far t.part (arrival_of teleport) list h
 call_lands far _ t h = h
 
-cargo_is_kept : (far : List Listed) → IsKeptByCalls any_kind (λ (t : Midway). IsListedCargo far t.part.cargo.cargo)
-cargo_is_kept far = record { refunds = tt; called = λ x l is q over m t c k asks from ok h. call_lands far c t h; turned = λ t r turns h. h }
+cargo_is_kept : (far : List Listed) → IsKeptByCalls any_kind (λ (t : MachineWithGoods). IsListedCargo far t.part.cargo.cargo)
+cargo_is_kept far = record { refunds = tt; called = λ x l is q moment m t c k asks from ok h. call_lands far c t h; turned = λ t r turns h. h }
 
 -- ---- what is shipped in an instruction is listed, where what was held is
 abbrev Holds : Machine → Type 0
@@ -145,18 +145,18 @@ responded_listed : (listed : List Listed) (p : ChainPart) (info : QueryInfo) (an
 unfolding responded
 responded_listed listed p info answer querier all = reported_listed listed p info answer (querier_seen p info.destination querier) all
 
-call_ships : (l : Instruction-F Instruction) (m : Machine) → Holds m → (c : HostCall) (t : Midway) → Asks false l m t c → AreListedIn (listing m.part.rows) t.part.channels → AreListedIn (listing m.part.rows) (after c t).part.channels
-call_ships l m held (HostCall.TransferOut list from dest xcm) t asks all = transferred_listed (listing m.part.rows) t.part list from dest xcm all
-call_ships l m held (HostCall.DepositOut dest xcm) t asks all = deposited_listed (listing m.part.rows) t.part t.goods dest xcm all
-call_ships l m held (HostCall.Ship way dest xcm) t asks all = shipped_listed (listing m.part.rows) t.part t.goods way dest xcm (listed_within (listing m.part.rows) m.regs.holding t.goods asks.1 held) all
-call_ships l m held (HostCall.Respond info answer querier) t asks all = responded_listed (listing m.part.rows) t.part info answer querier all
+call_ships : (l : Instruction-F Instruction) (m : Machine) → Holds m → (c : MachineCall) (t : MachineWithGoods) → HasReason Moment.Inside l m t c → AreListedIn (listing m.part.rows) t.part.channels → AreListedIn (listing m.part.rows) (after c t).part.channels
+call_ships l m held (MachineCall.TransferOut list from dest xcm) t asks all = transferred_listed (listing m.part.rows) t.part list from dest xcm all
+call_ships l m held (MachineCall.DepositOut dest xcm) t asks all = deposited_listed (listing m.part.rows) t.part t.goods dest xcm all
+call_ships l m held (MachineCall.Ship way dest xcm) t asks all = shipped_listed (listing m.part.rows) t.part t.goods way dest xcm (listed_within (listing m.part.rows) m.regs.holding t.goods asks.1 held) all
+call_ships l m held (MachineCall.Respond info answer querier) t asks all = responded_listed (listing m.part.rows) t.part info answer querier all
 call_ships l m held _ t asks all = all
 
 done_ships : (l : Instruction-F Instruction) (m : Machine) → Holds m → AreListedIn (listing m.part.rows) m.part.channels → AreListedIn (listing m.part.rows) (done l m).part.channels
-done_ships l m held all = each_keeps l m (λ (t : Midway). AreListedIn (listing m.part.rows) t.part.channels) (λ c t asks from k. call_ships l m held c t asks k) (λ t from k. k) all
+done_ships l m held all = each_keeps l m (λ (t : MachineWithGoods). AreListedIn (listing m.part.rows) t.part.channels) (λ c t asks from k. call_ships l m held c t asks k) (λ t from k. k) all
 
 done_said : (l : Instruction-F Instruction) (m : Machine) → settings_of (done l m).part ≡ settings_of m.part
-done_said l m = each_keeps l m (λ (t : Midway). settings_of t.part ≡ settings_of m.part) (λ c t asks from k. call_said c t ∙ k) (λ t from k. k) refl
+done_said l m = each_keeps l m (λ (t : MachineWithGoods). settings_of t.part ≡ settings_of m.part) (λ c t asks from k. call_said c t ∙ k) (λ t from k. k) refl
 
 -- ---- a run
 -- a steady machine, of whose chain the document says this, and which lists what it shipped
@@ -288,19 +288,19 @@ module _ (stays : StaysSteady) (far : List Listed) (rules : ChainRules) (origin 
 
   -- and so is the cargo that it leaves
   pub executed_lands : (credit : Weight) (program : List Instruction) (p : ChainPart) → IsCarrying far p → IsListedCargo far (executed rules origin credit program p).1.cargo.cargo
-  executed_lands credit program p h = (keeps_executed (λ (t : Midway). IsListedCargo far t.part.cargo.cargo) (cargo_is_kept far) rules origin credit program p h.landing).kept
+  executed_lands credit program p h = (keeps_executed (λ (t : MachineWithGoods). IsListedCargo far t.part.cargo.cargo) (cargo_is_kept far) rules origin credit program p h.landing).kept
 
   -- what the document says stays
   pub executed_said : (credit : Weight) (program : List Instruction) (p : ChainPart) → IsCarrying far p → settings_of (executed rules origin credit program p).1 ≡ settings_of p
-  executed_said credit program p h = (keeps_executed (λ (t : Midway). settings_of t.part ≡ settings_of p) (said_is_kept (settings_of p)) rules origin credit program p refl).kept
+  executed_said credit program p h = (keeps_executed (λ (t : MachineWithGoods). settings_of t.part ≡ settings_of p) (said_is_kept (settings_of p)) rules origin credit program p refl).kept
 
   -- the cargo that is left where memory was refused is listed too
   pub abandoned_lands : (credit : Weight) (program : List Instruction) (p q : ChainPart) → IsCarrying far p → IsAbandoned rules origin credit program p q → IsListedCargo far q.cargo.cargo
-  abandoned_lands credit program p q h e = (keeps_abandoned (λ (t : Midway). IsListedCargo far t.part.cargo.cargo) (cargo_is_kept far) rules origin credit program p q e h.landing).kept
+  abandoned_lands credit program p q h e = (keeps_abandoned (λ (t : MachineWithGoods). IsListedCargo far t.part.cargo.cargo) (cargo_is_kept far) rules origin credit program p q e h.landing).kept
 
   pub abandoned_site : (credit : Weight) (program : List Instruction) (p q : ChainPart) → IsCarrying far p → IsAbandoned rules origin credit program p q → q.site ≡ p.site
   abandoned_site credit program p q h e =
-      ap (λ (x : Settings). x.site) (keeps_abandoned (λ (t : Midway). settings_of t.part ≡ settings_of p) (said_is_kept (settings_of p)) rules origin credit program p q e refl).kept
+      ap (λ (x : Settings). x.site) (keeps_abandoned (λ (t : MachineWithGoods). settings_of t.part ≡ settings_of p) (said_is_kept (settings_of p)) rules origin credit program p q e refl).kept
 
 -- ---- what is kept back is told at the end
 rest_quiet : (r : Registers) (p : ChainPart) (b : Bool) → p.kept_back ≡ [] → (if b then p else trapped p r.holding (owner_of r)).kept_back ≡ []

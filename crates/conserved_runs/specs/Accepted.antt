@@ -46,9 +46,9 @@ use Rattle.asset_bundles.specs.Laws.{taken_conserves, listed_within}
 use Rattle.ledgers.specs.Ledgers.{Holder, is_account}
 use Rattle.exec_base.specs.declared.registers.Registers.{Registers}
 use Rattle.exec_rules.specs.Stopping.{Spilled}
-use Rattle.exec_calls.specs.Calls.{Midway, between, here, HostCall, why_not, after, effect, turned, turned_at}
+use Rattle.exec_calls.specs.Calls.{MachineWithGoods, between, here, MachineCall, why_not, after, effect, turned, turned_at}
 use Rattle.exec_calls.specs.Footprints.{part_is}
-use Rattle.exec_calls.specs.Reasons.{IsFrom, IsFee, Asks, ComesBeforeStop}
+use Rattle.exec_calls.specs.Reasons.{IsFrom, IsFee, Moment, HasReason, ComesBeforeStop}
 use Rattle.exec_calls.specs.ReasonLaws.{done_keeps, lead_keeps}
 use Rattle.exec_calls.specs.StopLaws.{spilled_lead}
 use Rattle.exec_calls.specs.KeptLaws.{turns}
@@ -65,8 +65,8 @@ pub record IsCaller (l : Location) : Type 0 where
   pub own : IsSovereign account → ⊥
 
 -- the origin register is such a one, or empty
-abbrev pub IsQuiet : Option Location → Type 0
-IsQuiet origin = (l : Location) → origin ≡ Some l → IsCaller l
+abbrev pub IsOwnOrigin : Option Location → Type 0
+IsOwnOrigin origin = (l : Location) → origin ≡ Some l → IsCaller l
 
 some_same : {A : Type 0} (x y : A) → Some x ≡ Some y → x ≡ y
 some_same x y e = cc
@@ -75,9 +75,9 @@ caller_account : (site : Site) (account : List ℕ) (rest : List Junction) (who 
 caller_account site account [] who e = some_same account who e
 caller_account site account (j ∷ rest) who e = absurd cc
 
-pub caller_spared : (m : Machine) → IsQuiet m.regs.origin → IsSpared m
-caller_spared m quiet chain number foreign h =
-    let c = quiet h.0 h.1 in
+pub caller_spared : (m : Machine) → IsOwnOrigin m.regs.origin → IsSpared m
+caller_spared m own_origin chain number foreign h =
+    let c = own_origin h.0 h.1 in
     let same : c.account ≡ sovereign_account m.part.site.chain chain = caller_account m.part.site c.account c.rest (sovereign_account m.part.site.chain chain) (ap (λ (l : Location). account_of l m.part.site) (sym c.is) ∙ h.2) in
     c.own (subst IsSovereign (sym same) (IsSovereign-sovereign_account m.part.site.chain chain number))
 
@@ -119,9 +119,9 @@ receives_none p l teleport [] c h = refl
 receives_none p l teleport (a ∷ list) c h = absurd (trusts_none p l teleport a c (first_of p l teleport a list h))
 
 -- ---- what such an origin receives
-pub receive_by : (p : ChainPart) (o : Option Location) (list : List Asset) (teleport : Bool) (first : XcmError) (room : Bool) → IsQuiet o → with_origin o (λ who. unless room first (receive_refusal p list who teleport)) ≡ None → list ≡ []
-receive_by p None list teleport first room quiet ok = absurd cc
-receive_by p (Some who) list teleport first room quiet ok = receives_none p who teleport list (quiet who refl) (unless_next room first _ ok)
+pub receive_by : (p : ChainPart) (o : Option Location) (list : List Asset) (teleport : Bool) (first : XcmError) (room : Bool) → IsOwnOrigin o → with_origin o (λ who. unless room first (receive_refusal p list who teleport)) ≡ None → list ≡ []
+receive_by p None list teleport first room own_origin ok = absurd cc
+receive_by p (Some who) list teleport first room own_origin ok = receives_none p who teleport list (own_origin who refl) (unless_next room first _ ok)
 
 -- ---- a fee that is aside
 slot_left : (t : Unit → Bool) (p : ChainPart) → in_places t (fee_taken p) + total t p.fee_slot ≡ in_places t p
@@ -148,38 +148,38 @@ taking_fee p =
     }
 
 -- ---- what is in hand counts as held
-abbrev pub pooled : Midway → Machine
+abbrev pub pooled : MachineWithGoods → Machine
 pooled t = machine (with_holding t.regs (merge t.regs.holding t.goods)) t.part
 
 pub pooled_between : (m : Machine) → pooled (between m) ≡ m
 pooled_between m = ap (λ (b : Bundle). machine (with_holding m.regs b) m.part) (merge-empty unit_keys m.regs.holding)
 
-pub hold_pooled : (t : Midway) (q : Unit → Bool) → hold (pooled t) q ≡ total q t.regs.holding + total q t.goods
+pub hold_pooled : (t : MachineWithGoods) (q : Unit → Bool) → hold (pooled t) q ≡ total q t.regs.holding + total q t.goods
 hold_pooled t q = total-merge unit_keys q t.regs.holding t.goods
 
-pub goods_room : (t : Midway) → HasRoom (hold (pooled t)) t.part → HasRoom (sum_of t.goods) t.part
+pub goods_room : (t : MachineWithGoods) → HasRoom (hold (pooled t)) t.part → HasRoom (sum_of t.goods) t.part
 goods_room t room = room_with (hold (pooled t)) (sum_of t.goods) t.part room (λ q. let e = hold_pooled t q in omega (arith, e))
 
 -- the first call of an instruction finds nothing in hand
-pub nothing_in_hand : (t : Midway) → t.goods ≡ empty → (q : Unit → Bool) → total q t.goods ≡ 0
+pub nothing_in_hand : (t : MachineWithGoods) → t.goods ≡ empty → (q : Unit → Bool) → total q t.goods ≡ 0
 nothing_in_hand t none q = ap (total q) none ∙ total-empty unit_keys q
 
 -- ---- each call
 module _ (withdraws : Withdraws) (moves : MovesAreKept) (n : List Table) (l : Instruction-F Instruction) (m : Machine)
-    (fine : IsFine n m) (quiet : IsQuiet m.regs.origin) (steady : IsSteady m) (fees : AreFees m.part.channels) (in_order : HasList Instruction l) (nested : AllInside AreLists (inner l)) where
-  abbrev pub IsSafely : Midway → Type 0
+    (fine : IsFine n m) (own_origin : IsOwnOrigin m.regs.origin) (steady : IsSteady m) (fees : AreFees m.part.channels) (in_order : HasList Instruction l) (nested : AllInside AreLists (inner l)) where
+  abbrev pub IsSafely : MachineWithGoods → Type 0
   IsSafely t = Safely m (pooled t)
 
-  same_origin : (t : Midway) → IsFrom m t → t.regs.origin ≡ m.regs.origin
+  same_origin : (t : MachineWithGoods) → IsFrom m t → t.regs.origin ≡ m.regs.origin
   same_origin t from = ap (λ (r : Registers). r.origin) from.regs
 
-  speaks_at : (t : Midway) (who : Location) → IsFrom m t → m.regs.origin ≡ Some who → t.regs.origin ≡ Some who
+  speaks_at : (t : MachineWithGoods) (who : Location) → IsFrom m t → m.regs.origin ≡ Some who → t.regs.origin ≡ Some who
   speaks_at t who from is = same_origin t from ∙ is
 
-  spared_at : (t : Midway) → IsFrom m t → IsSpared (pooled t)
-  spared_at t from = caller_spared (pooled t) (subst IsQuiet (sym (same_origin t from)) quiet)
+  spared_at : (t : MachineWithGoods) → IsFrom m t → IsSpared (pooled t)
+  spared_at t from = caller_spared (pooled t) (subst IsOwnOrigin (sym (same_origin t from)) own_origin)
 
-  room_at : (t : Midway) → IsSafely t → HasRoom (hold (pooled t)) t.part
+  room_at : (t : MachineWithGoods) → IsSafely t → HasRoom (hold (pooled t)) t.part
   room_at t k = keeps_room m (pooled t) k fine.room
 
   list_of : (k : Instruction-F Instruction) → l ≡ k → HasList Instruction k
@@ -192,7 +192,7 @@ module _ (withdraws : Withdraws) (moves : MovesAreKept) (n : List Table) (l : In
   fee_list fee is = fee_in_order m.part is.0 fee fees is.2
 
   -- goods move inside the chain
-  moves_on : (may : List ℕ → Type 0) (ins outs : Sum) (c : HostCall) (t : Midway) → Call may ins outs t.part (effect c t) → ((who : List ℕ) → may who → origins (pooled t) who)
+  moves_on : (may : List ℕ → Type 0) (ins outs : Sum) (c : MachineCall) (t : MachineWithGoods) → Call may ins outs t.part (effect c t) → ((who : List ℕ) → may who → origins (pooled t) who)
       → ((q : Unit → Bool) → total q t.regs.holding + total q t.goods + outs q ≡ total q (after c t).regs.holding + total q (after c t).goods + ins q) → IsFrom m t → IsSafely t → IsSafely (after c t)
   moves_on may ins outs c t x by sums from k =
       let u = after c t in
@@ -203,95 +203,95 @@ module _ (withdraws : Withdraws) (moves : MovesAreKept) (n : List Table) (l : In
       (λ q. let a = hold_pooled t q in let b = hold_pooled u q in let e = sums q in omega (arith, a, b, e)))))
 
   -- and no account falls
-  gives : (ins outs : Sum) (c : HostCall) (t : Midway) → Call nobody ins outs t.part (effect c t)
+  gives : (ins outs : Sum) (c : MachineCall) (t : MachineWithGoods) → Call nobody ins outs t.part (effect c t)
       → ((q : Unit → Bool) → total q t.regs.holding + total q t.goods + outs q ≡ total q (after c t).regs.holding + total q (after c t).goods + ins q) → IsFrom m t → IsSafely t → IsSafely (after c t)
   gives ins outs c t x sums from k = moves_on nobody ins outs c t x (λ who h. absurd h) sums from k
 
   -- a message is sent
-  sends_on : (c : HostCall) (t : Midway) → Sends (pooled t) (machine (pooled (after c t)).regs (effect c t)) → IsFrom m t → IsSafely t → IsSafely (after c t)
+  sends_on : (c : MachineCall) (t : MachineWithGoods) → Sends (pooled t) (machine (pooled (after c t)).regs (effect c t)) → IsFrom m t → IsSafely t → IsSafely (after c t)
   sends_on c t s from k =
       let u = after c t in
       safely_then m (pooled t) (pooled u) k
       (sends_safely (pooled t) (pooled u) (spared_at t from) (subst (λ (p : ChainPart). Sends (pooled t) (machine (pooled u).regs p)) (sym (part_is c t)) s))
 
-  leaves_hand : (t : Midway) → IsWithin t.goods m.regs.holding → Leaves (pooled t) (merge t.regs.holding empty) t.goods
+  leaves_hand : (t : MachineWithGoods) → IsWithin t.goods m.regs.holding → Leaves (pooled t) (merge t.regs.holding empty) t.goods
   leaves_hand t taken = record {
     sums = λ q. let a = hold_pooled t q in let b = total-merge unit_keys q t.regs.holding empty in let z = total-empty unit_keys q in omega (arith, a, b, z);
     within = λ u. let le = taken u in let end = fine.within u in omega (arith, le, end);
   }
 
-  there_at : (t : Midway) → IsSafely t → IsIn n (table_of t.part)
+  there_at : (t : MachineWithGoods) → IsSafely t → IsIn n (table_of t.part)
   there_at t k = subst (IsIn n) (sym (same_table m.part t.part k.site k.rows)) fine.there
 
-  listed_at : (t : Midway) → IsWithin t.goods m.regs.holding → IsSafely t → AreListed (listing t.part.rows) t.goods
+  listed_at : (t : MachineWithGoods) → IsWithin t.goods m.regs.holding → IsSafely t → AreListed (listing t.part.rows) t.goods
   listed_at t taken k = subst (λ (rows : List AssetRow). AreListed (listing rows) t.goods) (sym k.rows) (listed_within (listing m.part.rows) m.regs.holding t.goods taken fine.listed)
 
-  none_at_first : (t : Midway) → t ≡ between m → t.goods ≡ empty
-  none_at_first t first = ap (λ (t : Midway). t.goods) first
+  none_at_first : (t : MachineWithGoods) → t ≡ between m → t.goods ≡ empty
+  none_at_first t first = ap (λ (t : MachineWithGoods). t.goods) first
 
-  nothing_received : (t : Midway) (o : Option Location) (list : List Asset) (teleport : Bool) → IsQuiet o → with_origin o (λ who. receive_refusal t.part list who teleport) ≡ None → list ≡ []
-  nothing_received t None list teleport quiet ok = absurd cc
-  nothing_received t (Some who) list teleport quiet ok = receives_none t.part who teleport list (quiet who refl) ok
+  nothing_received : (t : MachineWithGoods) (o : Option Location) (list : List Asset) (teleport : Bool) → IsOwnOrigin o → with_origin o (λ who. receive_refusal t.part list who teleport) ≡ None → list ≡ []
+  nothing_received t None list teleport own_origin ok = absurd cc
+  nothing_received t (Some who) list teleport own_origin ok = receives_none t.part who teleport list (own_origin who refl) ok
 
   -- what sends needs that the chains agree; where memory stops an instruction, nothing was sent
-  pub called_safely : (c : HostCall) (t : Midway) → ComesBeforeStop c ⊎ Agrees n → Asks false l m t c → IsFrom m t → why_not c t ≡ None → IsSafely t → IsSafely (after c t)
-  called_safely (HostCall.Check ok e) t which asks from free k = k
-  called_safely (HostCall.Take filter) t which asks from free k = gives none none (HostCall.Take filter) t (still t.part t.part refl)
+  pub called_safely : (c : MachineCall) (t : MachineWithGoods) → ComesBeforeStop c ⊎ Agrees n → HasReason Moment.Inside l m t c → IsFrom m t → why_not c t ≡ None → IsSafely t → IsSafely (after c t)
+  called_safely (MachineCall.Check ok e) t which asks from free k = k
+  called_safely (MachineCall.Take filter) t which asks from free k = gives none none (MachineCall.Take filter) t (still t.part t.part refl)
       (λ q. let z = nothing_in_hand t asks q in let e = taken_conserves q filter t.regs.holding in omega (arith, z, e)) from k
-  called_safely (HostCall.Pay a) t which asks from free k = gives none none (HostCall.Pay a) t (still t.part t.part refl)
+  called_safely (MachineCall.Pay a) t which asks from free k = gives none none (MachineCall.Pay a) t (still t.part t.part refl)
       (λ q. let z = nothing_in_hand t (none_at_first t asks.0) q in let e = paid_parts (here t) a (unless_held _ _ _ free) q in omega (arith, z, e)) from k
-  called_safely HostCall.Join t which asks from free k =
+  called_safely MachineCall.Join t which asks from free k =
       let both = with (sum_of t.regs.holding) (sum_of t.goods) in
-      gives both (sum_of (Joined t.regs.holding t.goods)) HostCall.Join t
+      gives both (sum_of (Joined t.regs.holding t.goods)) MachineCall.Join t
       (joining t.part t.regs.holding t.goods (room_with (hold (pooled t)) both t.part (room_at t k) (λ q. let e = hold_pooled t q in omega (arith, e))))
       (λ q. let z = total-empty unit_keys q in omega (arith, z)) from k
-  called_safely (HostCall.Withdraw list who) t which asks from free k =
-      moves_on (only (account_of who t.part.site)) none (sum_of (bundle_of list)) (HostCall.Withdraw list who) t
+  called_safely (MachineCall.Withdraw list who) t which asks from free k =
+      moves_on (only (account_of who t.part.site)) none (sum_of (bundle_of list)) (MachineCall.Withdraw list who) t
       (withdrawing withdraws t.part list who (list_of (Instruction-F.WithdrawAsset list) asks.2) free) (λ account e. (who, speaks_at t who from asks.1, e))
       (λ q. let z = nothing_in_hand t (none_at_first t asks.0) q in omega (arith, z)) from k
-  called_safely (HostCall.Draw fee who) t which asks from free k =
-      moves_on (only (account_of who t.part.site)) none (sum_of (payment_of fee)) (HostCall.Draw fee who) t
+  called_safely (MachineCall.Draw fee who) t which asks from free k =
+      moves_on (only (account_of who t.part.site)) none (sum_of (payment_of fee)) (MachineCall.Draw fee who) t
       (drawing withdraws t.part (fee ∷ []) who (fee_list fee asks.2) free) (λ account e. (who, speaks_at t who from asks.1, e))
       (λ q. let z = nothing_in_hand t (none_at_first t asks.0) q in omega (arith, z)) from k
-  called_safely (HostCall.Receive list o teleport) t which asks from free k =
-      let none_of = nothing_received t o list teleport (subst IsQuiet (sym asks.1) quiet) free in
-      gives none none (HostCall.Receive list o teleport) t (receiving_none t.part list teleport none_of)
+  called_safely (MachineCall.Receive list o teleport) t which asks from free k =
+      let none_of = nothing_received t o list teleport (subst IsOwnOrigin (sym asks.1) own_origin) free in
+      gives none none (MachineCall.Receive list o teleport) t (receiving_none t.part list teleport none_of)
       (λ q. let z = nothing_in_hand t (none_at_first t asks.0) q in let e = ap (λ (xs : List Asset). total q (bundle_of xs)) none_of in let none_there = total_nothing q in omega (arith, z, e, none_there)) from k
-  called_safely (HostCall.Claim list who) t which asks from free k = gives none (sum_of (bundle_of list)) (HostCall.Claim list who) t (claiming t.part list who free)
+  called_safely (MachineCall.Claim list who) t which asks from free k = gives none (sum_of (bundle_of list)) (MachineCall.Claim list who) t (claiming t.part list who free)
       (λ q. let z = nothing_in_hand t (none_at_first t asks.0) q in omega (arith, z)) from k
-  called_safely (HostCall.Refund w) t which asks from free k = gives none (sum_of (refund_goods t.part w)) (HostCall.Refund w) t
-      (refunding moves t.part w (subst (λ (t : Midway). AreWithinEnd t.part.lines) (sym asks.0) steady.rest.order.paid)) (λ q. let z = nothing_in_hand t (none_at_first t asks.0) q in omega (arith, z)) from k
-  called_safely (HostCall.Deposit who) t which asks from free k = gives (sum_of t.goods) none (HostCall.Deposit who) t (depositing t.part t.goods who free) (λ q. let z = total-empty unit_keys q in omega (arith, z)) from k
-  called_safely HostCall.Burn t which asks from free k = gives (sum_of t.goods) none HostCall.Burn t (burn t.part t.goods (goods_room t (room_at t k))) (λ q. let z = total-empty unit_keys q in omega (arith, z)) from k
-  called_safely (HostCall.Buy w) t which asks from free k = gives (sum_of t.goods) (sum_of (unspent t.part w t.goods)) (HostCall.Buy w) t
-      (buying moves t.part w t.goods (subst (λ (t : Midway). AreWithinEnd t.part.lines) (sym asks.2) steady.rest.order.paid) (goods_room t (room_at t k))) (λ q. omega arith) from k
-  called_safely (HostCall.DepositOut dest xcm) t which asks from free k = ⊎_elim (λ (early : ⊥). absurd early) (λ (agrees : Agrees n). sends_on (HostCall.DepositOut dest xcm) t
+  called_safely (MachineCall.Refund w) t which asks from free k = gives none (sum_of (refund_goods t.part w)) (MachineCall.Refund w) t
+      (refunding moves t.part w (subst (λ (t : MachineWithGoods). AreWithinEnd t.part.lines) (sym asks.0) steady.rest.order.paid)) (λ q. let z = nothing_in_hand t (none_at_first t asks.0) q in omega (arith, z)) from k
+  called_safely (MachineCall.Deposit who) t which asks from free k = gives (sum_of t.goods) none (MachineCall.Deposit who) t (depositing t.part t.goods who free) (λ q. let z = total-empty unit_keys q in omega (arith, z)) from k
+  called_safely MachineCall.Burn t which asks from free k = gives (sum_of t.goods) none MachineCall.Burn t (burn t.part t.goods (goods_room t (room_at t k))) (λ q. let z = total-empty unit_keys q in omega (arith, z)) from k
+  called_safely (MachineCall.Buy w) t which asks from free k = gives (sum_of t.goods) (sum_of (unspent t.part w t.goods)) (MachineCall.Buy w) t
+      (buying moves t.part w t.goods (subst (λ (t : MachineWithGoods). AreWithinEnd t.part.lines) (sym asks.2) steady.rest.order.paid) (goods_room t (room_at t k))) (λ q. omega arith) from k
+  called_safely (MachineCall.DepositOut dest xcm) t which asks from free k = ⊎_elim (λ (early : ⊥). absurd early) (λ (agrees : Agrees n). sends_on (MachineCall.DepositOut dest xcm) t
       (deposit_sends n agrees (pooled t) (merge t.regs.holding empty) t.goods dest xcm (leaves_hand t asks.1) (listed_at t asks.1 k) (inside_of (Instruction-F.DepositReserveAsset asks.2.0 dest xcm) asks.2.1) free) from k) which
-  called_safely (HostCall.Ship Way.Withdrawal dest xcm) t which asks from free k = ⊎_elim (λ (early : ⊥). absurd early) (λ (agrees : Agrees n). sends_on (HostCall.Ship Way.Withdrawal dest xcm) t
+  called_safely (MachineCall.Ship Way.Withdrawal dest xcm) t which asks from free k = ⊎_elim (λ (early : ⊥). absurd early) (λ (agrees : Agrees n). sends_on (MachineCall.Ship Way.Withdrawal dest xcm) t
       (withdrawal_sends n agrees (pooled t) (merge t.regs.holding empty) t.goods dest xcm (leaves_hand t asks.1) (there_at t k) (inside_of (Instruction-F.InitiateReserveWithdraw asks.2.0 dest xcm) asks.2.1) free) from k) which
-  called_safely (HostCall.Ship Way.Teleport dest xcm) t which asks from free k = ⊎_elim (λ (early : ⊥). absurd early) (λ (agrees : Agrees n). sends_on (HostCall.Ship Way.Teleport dest xcm) t
+  called_safely (MachineCall.Ship Way.Teleport dest xcm) t which asks from free k = ⊎_elim (λ (early : ⊥). absurd early) (λ (agrees : Agrees n). sends_on (MachineCall.Ship Way.Teleport dest xcm) t
       (teleport_sends n agrees (pooled t) (merge t.regs.holding empty) t.goods dest xcm (leaves_hand t asks.1) (there_at t k) (inside_of (Instruction-F.InitiateTeleport asks.2.0 dest xcm) asks.2.1) free) from k) which
-  called_safely (HostCall.Transfer list who to) t which asks from free k =
-      moves_on (only (account_of who t.part.site)) none none (HostCall.Transfer list who to) t
+  called_safely (MachineCall.Transfer list who to) t which asks from free k =
+      moves_on (only (account_of who t.part.site)) none none (MachineCall.Transfer list who to) t
       (transferring withdraws t.part list who to (list_of (Instruction-F.TransferAsset list to) asks.2) free) (λ account e. (who, speaks_at t who from asks.1, e)) (λ q. omega arith) from k
-  called_safely (HostCall.TransferOut list who dest xcm) t which asks from free k = ⊎_elim (λ (early : ⊥). absurd early) (λ (agrees : Agrees n). sends_on (HostCall.TransferOut list who dest xcm) t
+  called_safely (MachineCall.TransferOut list who dest xcm) t which asks from free k = ⊎_elim (λ (early : ⊥). absurd early) (λ (agrees : Agrees n). sends_on (MachineCall.TransferOut list who dest xcm) t
       (transfer_sends n agrees withdraws (pooled t) list who dest xcm (speaks_at t who from asks.1) (list_of (Instruction-F.TransferReserveAsset list dest xcm) asks.2) (inside_of (Instruction-F.TransferReserveAsset list dest xcm) asks.2) free) from k) which
-  called_safely (HostCall.Respond info answer querier) t which asks from free k = ⊎_elim (λ (early : ⊥). absurd early) (λ (agrees : Agrees n). sends_on (HostCall.Respond info answer querier) t (report_sends n agrees (pooled t) info answer querier free) from k) which
-  called_safely (HostCall.Answer who query) t which asks from free k = gives none none (HostCall.Answer who query) t (answering t.part who query) (λ q. omega arith) from k
-  called_safely HostCall.HoldFee t which asks from free k = gives (sum_of t.goods) none HostCall.HoldFee t (holding_fee t.part t.goods (asks.3 ∙ steady.rest.slot)) (λ q. let z = total-empty unit_keys q in omega (arith, z)) from k
-  called_safely HostCall.TakeFee t which asks from free k = gives none (sum_of t.part.fee_slot) HostCall.TakeFee t (taking_fee t.part) (λ q. let z = nothing_in_hand t asks q in omega (arith, z)) from k
-  called_safely HostCall.KeepFee t which asks from free k = gives none none HostCall.KeepFee t (keeping t.part (room_with (hold (pooled t)) none t.part (room_at t k) (λ q. omega arith))) (λ q. omega arith) from k
-  called_safely HostCall.Park t which asks from free k = gives (sum_of t.goods) none HostCall.Park t (parking_goods t.part t.goods) (λ q. let z = total-empty unit_keys q in omega (arith, z)) from k
-  called_safely HostCall.Empty t which asks from free k = absurd (cc asks.0)
-  called_safely (HostCall.Tell e) t which asks from free k = absurd (cc asks.0)
-  called_safely HostCall.Settle t which asks from free k = absurd (cc asks.0)
-  called_safely (HostCall.Trap who) t which asks from free k = absurd (cc asks)
+  called_safely (MachineCall.Respond info answer querier) t which asks from free k = ⊎_elim (λ (early : ⊥). absurd early) (λ (agrees : Agrees n). sends_on (MachineCall.Respond info answer querier) t (report_sends n agrees (pooled t) info answer querier free) from k) which
+  called_safely (MachineCall.Answer who query) t which asks from free k = gives none none (MachineCall.Answer who query) t (answering t.part who query) (λ q. omega arith) from k
+  called_safely MachineCall.HoldFee t which asks from free k = gives (sum_of t.goods) none MachineCall.HoldFee t (holding_fee t.part t.goods (asks.3 ∙ steady.rest.slot)) (λ q. let z = total-empty unit_keys q in omega (arith, z)) from k
+  called_safely MachineCall.TakeFee t which asks from free k = gives none (sum_of t.part.fee_slot) MachineCall.TakeFee t (taking_fee t.part) (λ q. let z = nothing_in_hand t asks q in omega (arith, z)) from k
+  called_safely MachineCall.KeepFee t which asks from free k = gives none none MachineCall.KeepFee t (keeping t.part (room_with (hold (pooled t)) none t.part (room_at t k) (λ q. omega arith))) (λ q. omega arith) from k
+  called_safely MachineCall.Park t which asks from free k = gives (sum_of t.goods) none MachineCall.Park t (parking_goods t.part t.goods) (λ q. let z = total-empty unit_keys q in omega (arith, z)) from k
+  called_safely MachineCall.Empty t which asks from free k = absurd (cc asks.0)
+  called_safely (MachineCall.Tell e) t which asks from free k = absurd (cc asks.0)
+  called_safely MachineCall.Settle t which asks from free k = absurd (cc asks.0)
+  called_safely (MachineCall.Trap who) t which asks from free k = absurd (cc asks)
 
   -- other registers than the holding
   other_registers : (r : Registers) (k : Machine) → Safely m k → Safely m (machine (with_holding r k.regs.holding) k.part)
   other_registers r k s = record { site = s.site; rows = s.rows; safe = s.safe; units = s.units; burns = s.burns; trusted = s.trusted; links = s.links; cargo = s.cargo }
 
-  pub turned_safely : (t : Midway) → IsFrom m t → IsSafely t → IsSafely (turned_at l m t)
+  pub turned_safely : (t : MachineWithGoods) → IsFrom m t → IsSafely t → IsSafely (turned_at l m t)
   turned_safely t from k = subst (λ (b : Bundle). Safely m (machine (with_holding (turned l m t.regs) (merge b t.goods)) t.part)) (sym (turns l m t from).holding) (other_registers (turned l m t.regs) (pooled t) k)
 
   pub at_first : IsSafely (between m)

@@ -18,9 +18,9 @@ use Rattle.exec_run.specs.Machine.{Machine, machine}
 use Rattle.exec_run.specs.Outcome.{finished, HaltedAtEnd}
 use Rattle.exec_rules.specs.Instructions.{xcm}
 use Rattle.exec_rules.specs.Stopping.{spills}
-use Rattle.exec_calls.specs.Calls.{Midway, between, HostCall, after, effect}
+use Rattle.exec_calls.specs.Calls.{MachineWithGoods, between, MachineCall, after, effect}
 use Rattle.exec_calls.specs.Footprints.{part_is}
-use Rattle.exec_calls.specs.Reasons.{Asks, ComesAtEnd}
+use Rattle.exec_calls.specs.Reasons.{Moment, HasReason, ComesAtEnd}
 use Rattle.exec_calls.specs.Kept.{IsKeptAtEnd, Ends}
 use Rattle.exec_calls.specs.KeptLaws.{finished_kept, at_end_kept}
 use Rattle.conserved_runs.specs.Sums.{Sum, sum_of, none, with, nobody, Call, HasRoom}
@@ -42,7 +42,7 @@ unfolding settled
 settled_within p = closed_within p.lines
 
 -- ---- the end of a run that began at a machine
-pub record IsEnding (m : Machine) (t : Midway) : Type 0 where
+pub record IsEnding (m : Machine) (t : MachineWithGoods) : Type 0 where
   pub call : Call nobody (hold m) (hold (pooled t)) m.part t.part
   pub paid : AreWithinEnd t.part.lines
 
@@ -53,10 +53,10 @@ begins_ending m within = record {
 }
 
 module _ (moves : MovesAreKept) (trapping : Trapping) (m : Machine) (room : HasRoom (hold m) m.part) where
-  room_at_end : (t : Midway) → IsEnding m t → HasRoom (hold (pooled t)) t.part
+  room_at_end : (t : MachineWithGoods) → IsEnding m t → HasRoom (hold (pooled t)) t.part
   room_at_end t e = room_kept nobody (hold m) (hold (pooled t)) m.part t.part e.call room
 
-  ends_on : (ins outs : Sum) (c : HostCall) (t : Midway) → Call nobody ins outs t.part (effect c t)
+  ends_on : (ins outs : Sum) (c : MachineCall) (t : MachineWithGoods) → Call nobody ins outs t.part (effect c t)
       → ((q : Unit → Bool) → total q t.regs.holding + total q t.goods + outs q ≡ total q (after c t).regs.holding + total q (after c t).goods + ins q) → AreWithinEnd (after c t).part.lines → IsEnding m t → IsEnding m (after c t)
   ends_on ins outs c t x sums within e =
       let u = after c t in
@@ -67,23 +67,23 @@ module _ (moves : MovesAreKept) (trapping : Trapping) (m : Machine) (room : HasR
         paid = within;
       }
 
-  closing : (k : Machine) (t : Midway) (c : HostCall) → Asks true Instruction-F.RefundSurplus k t c → ComesAtEnd c → IsEnding m t → IsEnding m (after c t)
-  closing k t (HostCall.Check ok error) asks comes e = e
-  closing k t (HostCall.Take filter) asks comes e = ends_on none none (HostCall.Take filter) t (still t.part t.part refl) (λ q. let z = nothing_in_hand t asks q in let s = taken_conserves q filter t.regs.holding in omega (arith, z, s)) e.paid e
-  closing k t HostCall.Join asks comes e =
+  closing : (k : Machine) (t : MachineWithGoods) (c : MachineCall) → HasReason Moment.AtEnd Instruction-F.RefundSurplus k t c → ComesAtEnd c → IsEnding m t → IsEnding m (after c t)
+  closing k t (MachineCall.Check ok error) asks comes e = e
+  closing k t (MachineCall.Take filter) asks comes e = ends_on none none (MachineCall.Take filter) t (still t.part t.part refl) (λ q. let z = nothing_in_hand t asks q in let s = taken_conserves q filter t.regs.holding in omega (arith, z, s)) e.paid e
+  closing k t MachineCall.Join asks comes e =
       let both = with (sum_of t.regs.holding) (sum_of t.goods) in
-      ends_on both (sum_of (Joined t.regs.holding t.goods)) HostCall.Join t
+      ends_on both (sum_of (Joined t.regs.holding t.goods)) MachineCall.Join t
       (joining t.part t.regs.holding t.goods (room_with (hold (pooled t)) both t.part (room_at_end t e) (λ q. let a = hold_pooled t q in omega (arith, a)))) (λ q. let z = total-empty unit_keys q in omega (arith, z)) e.paid e
-  closing k t (HostCall.Refund w) asks comes e = ends_on none (sum_of (refund_goods t.part w)) (HostCall.Refund w) t (refunding moves t.part w e.paid)
-      (λ q. let z = nothing_in_hand t (ap (λ (u : Midway). u.goods) asks.0) q in omega (arith, z)) (refunded_within t.part w e.paid) e
-  closing k t (HostCall.Answer who query) asks comes e = ends_on none none (HostCall.Answer who query) t (answering t.part who query) (λ q. omega arith) e.paid e
-  closing k t HostCall.TakeFee asks comes e = ends_on none (sum_of t.part.fee_slot) HostCall.TakeFee t (taking_fee t.part) (λ q. let z = nothing_in_hand t asks q in omega (arith, z)) e.paid e
-  closing k t HostCall.KeepFee asks comes e = ends_on none none HostCall.KeepFee t (keeping t.part (room_with (hold (pooled t)) none t.part (room_at_end t e) (λ q. omega arith))) (λ q. omega arith) e.paid e
-  closing k t HostCall.Park asks comes e = ends_on (sum_of t.goods) none HostCall.Park t (parking_goods t.part t.goods) (λ q. let z = total-empty unit_keys q in omega (arith, z)) e.paid e
-  closing k t HostCall.Empty asks comes e = ends_on none none HostCall.Empty t (still t.part t.part refl) (λ q. let y = nothing_in_hand t asks.1 q in let z = total-empty unit_keys q in omega (arith, y, z)) e.paid e
-  closing k t (HostCall.Tell event) asks comes e = ends_on none none (HostCall.Tell event) t (telling t.part event) (λ q. omega arith) e.paid e
-  closing k t HostCall.Settle asks comes e = ends_on none none HostCall.Settle t (settling moves t.part e.paid (room_with (hold (pooled t)) none t.part (room_at_end t e) (λ q. omega arith))) (λ q. omega arith) (settled_within t.part) e
-  closing k t (HostCall.Trap who) asks comes e = ends_on (sum_of t.goods) none (HostCall.Trap who) t (trapping_goods trapping t.part t.goods who) (λ q. let z = total-empty unit_keys q in omega (arith, z)) e.paid e
+  closing k t (MachineCall.Refund w) asks comes e = ends_on none (sum_of (refund_goods t.part w)) (MachineCall.Refund w) t (refunding moves t.part w e.paid)
+      (λ q. let z = nothing_in_hand t (ap (λ (u : MachineWithGoods). u.goods) asks.0) q in omega (arith, z)) (refunded_within t.part w e.paid) e
+  closing k t (MachineCall.Answer who query) asks comes e = ends_on none none (MachineCall.Answer who query) t (answering t.part who query) (λ q. omega arith) e.paid e
+  closing k t MachineCall.TakeFee asks comes e = ends_on none (sum_of t.part.fee_slot) MachineCall.TakeFee t (taking_fee t.part) (λ q. let z = nothing_in_hand t asks q in omega (arith, z)) e.paid e
+  closing k t MachineCall.KeepFee asks comes e = ends_on none none MachineCall.KeepFee t (keeping t.part (room_with (hold (pooled t)) none t.part (room_at_end t e) (λ q. omega arith))) (λ q. omega arith) e.paid e
+  closing k t MachineCall.Park asks comes e = ends_on (sum_of t.goods) none MachineCall.Park t (parking_goods t.part t.goods) (λ q. let z = total-empty unit_keys q in omega (arith, z)) e.paid e
+  closing k t MachineCall.Empty asks comes e = ends_on none none MachineCall.Empty t (still t.part t.part refl) (λ q. let y = nothing_in_hand t asks.1 q in let z = total-empty unit_keys q in omega (arith, y, z)) e.paid e
+  closing k t (MachineCall.Tell event) asks comes e = ends_on none none (MachineCall.Tell event) t (telling t.part event) (λ q. omega arith) e.paid e
+  closing k t MachineCall.Settle asks comes e = ends_on none none MachineCall.Settle t (settling moves t.part e.paid (room_with (hold (pooled t)) none t.part (room_at_end t e) (λ q. omega arith))) (λ q. omega arith) (settled_within t.part) e
+  closing k t (MachineCall.Trap who) asks comes e = ends_on (sum_of t.goods) none (MachineCall.Trap who) t (trapping_goods trapping t.part t.goods who) (λ q. let z = total-empty unit_keys q in omega (arith, z)) e.paid e
   closing k t _ asks comes e = absurd comes
 
   pub ending_is_kept : IsKeptAtEnd (IsEnding m)

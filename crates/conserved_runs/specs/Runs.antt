@@ -1,4 +1,4 @@
--- Lemmas: a run for a quiet origin is a safe change, wherever it comes, and so is its end. A reader may skip this file.
+-- Lemmas: a run for an origin of the chain's own is a safe change, wherever it comes, and so is its end. A reader may skip this file.
 use Rattle.std.proofs.Common.{◌≡◌, ◌⊎◌, ⊎_elim, ℕ, false, List, ◌++◌, Option, Some, None, refl, sym, ap, subst, arith}
 use Rattle.std.specs.List.{AllByRecursion}
 use Rattle.amounts.specs.Amounts.{empty, rows, difference, total-empty}
@@ -33,8 +33,8 @@ use Rattle.exec_rules.specs.Holdings.{payment_of}
 use Rattle.exec_rules.specs.Origins.{descended}
 use Rattle.exec_rules.specs.Instructions.{refusal_of, done, xcm}
 use Rattle.exec_rules.specs.Readiness.{IsSteady}
-use Rattle.exec_calls.specs.Calls.{Midway, HostCall, after, turned}
-use Rattle.exec_calls.specs.Reasons.{Asks}
+use Rattle.exec_calls.specs.Calls.{MachineWithGoods, MachineCall, after, turned}
+use Rattle.exec_calls.specs.Reasons.{Moment, HasReason}
 use Rattle.exec_calls.specs.ReasonLaws.{each_keeps}
 use Rattle.exec_calls.specs.Kept.{TurnsOrigin}
 use Rattle.exec_calls.specs.KeptLaws.{turns}
@@ -46,29 +46,29 @@ use Rattle.conserved_runs.specs.Safety.{HasList, AreLists, IsSpared, hold, Turn,
 use Rattle.conserved_runs.specs.Turns.{same_turn, part_turn, by_nobody}
 use Rattle.conserved_runs.specs.Shipping.{HasList-IsOfLayer}
 use Rattle.conserved_runs.specs.Ending.{finished_call}
-use Rattle.conserved_runs.specs.Accepted.{IsCaller, IsQuiet, caller_spared, safely_done}
+use Rattle.conserved_runs.specs.Accepted.{IsCaller, IsOwnOrigin, caller_spared, safely_done}
 
 -- ---- the origin
-abbrev quiet_in : Registers → Type 0
-quiet_in r = IsQuiet r.origin
+abbrev own_origin_in : Registers → Type 0
+own_origin_in r = IsOwnOrigin r.origin
 
-below_quiet : (who : Location) (path : List Junction) → IsCaller who → IsCaller (descended who path)
-below_quiet who path c = record { account = c.account; rest = c.rest ++ path; is = ap (λ (l : Location). descended l path) c.is; own = c.own }
+below_own_origin : (who : Location) (path : List Junction) → IsCaller who → IsCaller (descended who path)
+below_own_origin who path c = record { account = c.account; rest = c.rest ++ path; is = ap (λ (l : Location). descended l path) c.is; own = c.own }
 
-turned_quiet : (old new : Option Location) → TurnsOrigin old new → IsQuiet old → IsQuiet new
-turned_quiet old new turns h =
-    ⊎_elim (λ (e : new ≡ old). subst IsQuiet (sym e) h)
+turned_own_origin : (old new : Option Location) → TurnsOrigin old new → IsOwnOrigin old → IsOwnOrigin new
+turned_own_origin old new turns h =
+    ⊎_elim (λ (e : new ≡ old). subst IsOwnOrigin (sym e) h)
     (λ (rest : (new ≡ None) ⊎ ((who : Location) × (path : List Junction) × (old ≡ Some who) × (new ≡ Some (descended who path)))).
-    ⊎_elim (λ (e : new ≡ None). subst IsQuiet (sym e) (λ l is. absurd cc))
+    ⊎_elim (λ (e : new ≡ None). subst IsOwnOrigin (sym e) (λ l is. absurd cc))
     (λ (d : (who : Location) × (path : List Junction) × (old ≡ Some who) × (new ≡ Some (descended who path))).
-    subst IsQuiet (sym d.3) (λ l is. let there : descended d.0 d.1 ≡ l = cc in subst IsCaller there (below_quiet d.0 d.1 (h d.0 d.2)))) rest) turns
+    subst IsOwnOrigin (sym d.3) (λ l is. let there : descended d.0 d.1 ≡ l = cc in subst IsCaller there (below_own_origin d.0 d.1 (h d.0 d.2)))) rest) turns
 
-called_quiet : (c : HostCall) (t : Midway) → quiet_in t.regs → quiet_in (after c t).regs
-called_quiet (HostCall.Take filter) t h = h
-called_quiet _ t h = h
+called_own_origin : (c : MachineCall) (t : MachineWithGoods) → own_origin_in t.regs → own_origin_in (after c t).regs
+called_own_origin (MachineCall.Take filter) t h = h
+called_own_origin _ t h = h
 
-pub quiet_done : (l : Instruction-F Instruction) (m : Machine) → quiet_in m.regs → quiet_in (done l m).regs
-quiet_done l m h = each_keeps l m (λ (t : Midway). quiet_in t.regs) (λ c t asks from h. called_quiet c t h) (λ t from h. turned_quiet t.regs.origin (turned l m t.regs).origin (turns l m t from).origin h) h
+pub own_origin_done : (l : Instruction-F Instruction) (m : Machine) → own_origin_in m.regs → own_origin_in (done l m).regs
+own_origin_done l m h = each_keeps l m (λ (t : MachineWithGoods). own_origin_in t.regs) (λ c t asks from h. called_own_origin c t h) (λ t from h. turned_own_origin t.regs.origin (turned l m t.regs).origin (turns l m t from).origin h) h
 
 -- ---- the holding
 abbrev held_in : Registers → Type 0
@@ -84,15 +84,15 @@ left_held filter b within u = let e = amount-difference unit_keys b (Taken filte
 paid_held : (b c : Bundle) → IsWithinMost b → IsWithinMost (difference b c)
 paid_held b c within u = let e = amount-difference unit_keys b c u in let le = within u in omega (arith, e, le)
 
-called_held : (l : Instruction-F Instruction) (m : Machine) (c : HostCall) (t : Midway) → Asks false l m t c → held_in t.regs → held_in (after c t).regs
-called_held l m (HostCall.Take filter) t asks h = left_held filter t.regs.holding h
-called_held l m (HostCall.Pay a) t asks h = paid_held t.regs.holding (payment_of a) h
-called_held l m HostCall.Join t asks h = joined_held t.regs.holding t.goods
-called_held l m HostCall.Empty t asks h = absurd (cc asks.0)
+called_held : (l : Instruction-F Instruction) (m : Machine) (c : MachineCall) (t : MachineWithGoods) → HasReason Moment.Inside l m t c → held_in t.regs → held_in (after c t).regs
+called_held l m (MachineCall.Take filter) t asks h = left_held filter t.regs.holding h
+called_held l m (MachineCall.Pay a) t asks h = paid_held t.regs.holding (payment_of a) h
+called_held l m MachineCall.Join t asks h = joined_held t.regs.holding t.goods
+called_held l m MachineCall.Empty t asks h = absurd (cc asks.0)
 called_held l m _ t asks h = h
 
 pub held_done : (l : Instruction-F Instruction) (m : Machine) → held_in m.regs → held_in (done l m).regs
-held_done l m h = each_keeps l m (λ (t : Midway). held_in t.regs) (λ c t asks from h. called_held l m c t asks h) (λ t from h. subst IsWithinMost (sym (turns l m t from).holding) h) h
+held_done l m h = each_keeps l m (λ (t : MachineWithGoods). held_in t.regs) (λ c t asks from h. called_held l m c t asks h) (λ t from h. subst IsWithinMost (sym (turns l m t from).holding) h) h
 
 -- ---- programs
 lists_inside : (l : Instruction-F Instruction) (o : Option (List Instruction)) → kept l ≡ o → AllInside AreLists (inner l) → AllInside AreLists o
@@ -104,10 +104,10 @@ pub lists_go_inside : GoesInside AreLists
 lists_go_inside x q = lists_inside (out-Instruction x) (kept (out-Instruction x)) refl (everywhere_open HasList HasList-IsOfLayer x q).1
 
 -- ---- a run
--- what a run keeps for a quiet origin
+-- what a run keeps for an origin of the chain's own
 pub record IsSafeAt (n : List Table) (m : Machine) : Type 0 where
   pub fine : IsFine n m
-  pub quiet : IsQuiet m.regs.origin
+  pub own_origin : IsOwnOrigin m.regs.origin
   pub steady : IsSteady m
   pub fees : AreFees m.part.channels
 
@@ -128,7 +128,7 @@ registers_go n m r holding origin safe = (
       within = subst IsWithinMost (sym holding) safe.fine.within;
       there = safe.fine.there;
     };
-    quiet = subst IsQuiet (sym origin) safe.quiet;
+    own_origin = subst IsOwnOrigin (sym origin) safe.own_origin;
     steady = record { rest = safe.steady.rest; holding = subst (AreListed _) (sym holding) safe.steady.holding };
     fees = safe.fees;
   },
@@ -158,18 +158,18 @@ module _ (withdraws : Withdraws) (moves : MovesAreKept) (stays : StaysSteady) (n
   done_goes x m lists ok safe =
       let k = xcm.done x m in
       let opened = everywhere_open HasList HasList-IsOfLayer x lists in
-      let safely = safely_done withdraws moves n (out-Instruction x) m safe.fine safe.quiet safe.steady safe.fees opened.0 opened.1 agrees ok in
+      let safely = safely_done withdraws moves n (out-Instruction x) m safe.fine safe.own_origin safe.steady safe.fees opened.0 opened.1 agrees ok in
       let steady = stays x m safe.steady ok in
-      let quiet = quiet_done (out-Instruction x) m safe.quiet in (
+      let own_origin = own_origin_done (out-Instruction x) m safe.own_origin in (
         record {
           fine = record {
-            spared = caller_spared k quiet;
+            spared = caller_spared k own_origin;
             room = keeps_room m k safely safe.fine.room;
             listed = steady.holding;
             within = held_done (out-Instruction x) m safe.fine.within;
             there = subst (IsIn n) (sym (same_table m.part k.part safely.site safely.rows)) safe.fine.there;
           };
-          quiet = quiet;
+          own_origin = own_origin;
           steady = steady;
           fees = subst (AllByRecursion HasFee) (sym safely.links) safe.fees;
         },
@@ -182,13 +182,13 @@ module _ (withdraws : Withdraws) (moves : MovesAreKept) (stays : StaysSteady) (n
       let safely = turn_safely m k safe.fine.spared (told_turn m e) in (
         record {
           fine = record {
-            spared = caller_spared k safe.quiet;
+            spared = caller_spared k safe.own_origin;
             room = keeps_room m k safely safe.fine.room;
             listed = (told_steady m e safe.steady).holding;
             within = safe.fine.within;
             there = subst (IsIn n) (sym (told_table m.part e)) safe.fine.there;
           };
-          quiet = safe.quiet;
+          own_origin = safe.own_origin;
           steady = told_steady m e safe.steady;
           fees = subst (AllByRecursion HasFee) (sym safely.links) safe.fees;
         },

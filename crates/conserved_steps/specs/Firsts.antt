@@ -37,7 +37,7 @@ use Rattle.conserved_runs.specs.Views.{table_of}
 use Rattle.conserved_runs.specs.Sums.{none, nobody, HasRoom}
 use Rattle.conserved_runs.specs.Calls.{call_with, telling}
 use Rattle.conserved_runs.specs.Safety.{AreLists, HasFee, AreFees, links_of, hold, Safely, moved_safely, safely_then, keeps_room}
-use Rattle.conserved_runs.specs.Accepted.{IsQuiet, caller_spared}
+use Rattle.conserved_runs.specs.Accepted.{IsOwnOrigin, caller_spared}
 use Rattle.conserved_runs.specs.Runs.{IsSafeAt, registers_go, told_steady, told_table, lists_go_inside, steps_go, emptied, finished_safely}
 use Rattle.conserved_steps.specs.Soundness.{LawsBelow}
 
@@ -236,8 +236,8 @@ module _ (laws : LawsBelow) (n : List Table) (agrees : Agrees n) (rules : ChainR
     pub ahead : IsAheadOf AreLists (first_stage rules origin a p)
     pub set : IsSet n (xcm.done x (first_machine rules origin p))
 
-  quiet_none : IsQuiet None
-  quiet_none l e = absurd cc
+  own_origin_none : IsOwnOrigin None
+  own_origin_none l e = absurd cc
 
   cleared_set : (x : Instruction) (k : Machine) → IsSet n k → IsSafeAt n (cleared x k) × Safely k (cleared x k)
   cleared_set x k set =
@@ -251,13 +251,13 @@ module _ (laws : LawsBelow) (n : List Table) (agrees : Agrees n) (rules : ChainR
       let steady = told_steady one f steady_one in (
         record {
           fine = record {
-            spared = caller_spared (cleared x k) quiet_none;
+            spared = caller_spared (cleared x k) own_origin_none;
             room = keeps_room k (cleared x k) both set.room;
             listed = steady.holding;
             within = set.within;
             there = subst (IsIn n) (sym (told_table (told k.part e) f ∙ told_table k.part e)) set.there;
           };
-          quiet = quiet_none;
+          own_origin = own_origin_none;
           steady = record { rest = steady.rest; holding = steady.holding };
           fees = subst (AllByRecursion HasFee) (sym both.links) set.fees;
         },

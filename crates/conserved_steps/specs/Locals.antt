@@ -34,7 +34,7 @@ use Rattle.conservation.specs.Steps.{IsSafe}
 use Rattle.conserved_runs.specs.Views.{table_of, seen}
 use Rattle.conserved_runs.specs.Sums.{in_kept, in_places, burned_where, none, HasRoom}
 use Rattle.conserved_runs.specs.Safety.{AreLists, IsRunnable, HasFee, AreTrustedAt, links_of, hold, Safely, safely_then}
-use Rattle.conserved_runs.specs.Accepted.{IsCaller, IsQuiet, caller_spared}
+use Rattle.conserved_runs.specs.Accepted.{IsCaller, IsOwnOrigin, caller_spared}
 use Rattle.conserved_runs.specs.Runs.{IsSafeAt, steps_go, emptied, finished_safely}
 use Rattle.conserved_steps.specs.Rooms.{unlisted, AllListed}
 use Rattle.conserved_steps.specs.Admitting.{admitted_lists}
@@ -119,19 +119,19 @@ module _ (laws : LawsBelow) (n : List Table) (agrees : Agrees n) where
 
   -- ---- for the chain's own account
   module _ (rules : ChainRules) (origin : Location) (caller : IsCaller origin) (p : ChainPart) (there : IsIn n (table_of p)) (sound : IsSoundPart p) (room : HasRoom none p) where
-    quiet : IsQuiet (Some origin)
-    quiet l e = let same : origin ≡ l = cc in subst IsCaller same caller
+    own_origin : IsOwnOrigin (Some origin)
+    own_origin l e = let same : origin ≡ l = cc in subst IsCaller same caller
 
     pub begins : IsSafeAt n (first_machine rules origin p)
     begins = record {
       fine = record {
-        spared = caller_spared (first_machine rules origin p) quiet;
+        spared = caller_spared (first_machine rules origin p) own_origin;
         room = λ k. let le = room k in let z = total-empty unit_keys (is_unit_of k) in omega (arith, le, z);
         listed = none_listed (listing p.rows);
         within = none_above;
         there = there;
       };
-      quiet = quiet;
+      own_origin = own_origin;
       steady = record { rest = sound.rest; holding = none_listed (listing p.rows) };
       fees = fees_of_links p.site.chain (links_of p.channels) sound.links;
     }

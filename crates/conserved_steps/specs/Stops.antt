@@ -34,7 +34,7 @@ use Rattle.conserved_runs.specs.Runs.{IsSafeAt, told_steady, done_goes, lists_go
 use Rattle.conserved_runs.specs.Accepted.{spilled_safely}
 use Rattle.conserved_runs.specs.Stopping.{abandoned_call}
 use Rattle.conserved_runs.specs.Ending.{halted_call}
-use Rattle.exec_calls.specs.Calls.{Midway, HostCall, after}
+use Rattle.exec_calls.specs.Calls.{MachineWithGoods, MachineCall, after}
 use Rattle.exec_calls.specs.Reasons.{ComesAtEnd}
 use Rattle.exec_calls.specs.Kept.{IsKeptAtEnd}
 use Rattle.exec_calls.specs.KeptLaws.{at_end_kept}
@@ -65,12 +65,12 @@ held_safely m r same =
     (call_with nobody none none (hold m) (hold m) m.part m.part (still m.part m.part refl) (λ t. omega arith)))
 
 -- ---- the end of a run leaves the cargo
-cargo_after : (c : HostCall) (t : Midway) → ComesAtEnd c → (after c t).part.cargo ≡ t.part.cargo
-cargo_after (HostCall.Withdraw list who) t comes = absurd comes
-cargo_after (HostCall.Receive list from teleport) t comes = absurd comes
+cargo_after : (c : MachineCall) (t : MachineWithGoods) → ComesAtEnd c → (after c t).part.cargo ≡ t.part.cargo
+cargo_after (MachineCall.Withdraw list who) t comes = absurd comes
+cargo_after (MachineCall.Receive list from teleport) t comes = absurd comes
 cargo_after _ t comes = refl
 
-cargo_at_end : (cargo : Taken) → IsKeptAtEnd (λ (t : Midway). t.part.cargo ≡ cargo)
+cargo_at_end : (cargo : Taken) → IsKeptAtEnd (λ (t : MachineWithGoods). t.part.cargo ≡ cargo)
 cargo_at_end cargo = record { closing = λ m t c k asks comes from ok h. cargo_after c t comes ∙ h; closed = λ t r holding origin h. h }
 
 -- ---- ClearOrigin stops
@@ -144,7 +144,7 @@ module _ (laws : LawsBelow) (n : List Table) (agrees : Agrees n) (rules : ChainR
 
   spilled : (x : Instruction) (m now : Machine) → IsSafeAt n m → AreLists x → spills x m now → Safely m now
   spilled x m now safe all h = let opened = everywhere_open HasList HasList-IsOfLayer x all in
-      spilled_safely laws.withdraws laws.moves n (out-Instruction x) m safe.fine safe.quiet safe.steady safe.fees opened.0 opened.1 now h
+      spilled_safely laws.withdraws laws.moves n (out-Instruction x) m safe.fine safe.own_origin safe.steady safe.fees opened.0 opened.1 now h
 
   pub halted : (x : Instruction) (m now : Machine) → IsSafeAt n m → AreLists x → Halted xcm spills x m now → Safely m now
   halted x m now safe all h = ⊎_elim (λ (s : spills x m now). spilled x m now safe all s) (λ (d : (answer : Result (Unit {0}) XcmError) × Performed xcm x m answer now). performed x m now d.0 safe all d.1) h
@@ -155,7 +155,7 @@ module _ (laws : LawsBelow) (n : List Table) (agrees : Agrees n) (rules : ChainR
     safely_then k m (over rules origin now) before
         (moved_safely nobody m (over rules origin now) (λ chain number foreign h. h)
         (call_with nobody (hold m) none (hold m) (λ t. total t empty) m.part now (halted_call laws.moves laws.trapping m room steady.rest.order.paid now h) (λ t. let z = total-empty unit_keys t in omega (arith, z)))),
-    (at_end_kept (λ (t : Midway). t.part.cargo ≡ m.part.cargo) (cargo_at_end m.part.cargo) m now h refl).kept,
+    (at_end_kept (λ (t : MachineWithGoods). t.part.cargo ≡ m.part.cargo) (cargo_at_end m.part.cargo) m now h refl).kept,
   )
 
   -- ---- behind the first instruction of a delivered message

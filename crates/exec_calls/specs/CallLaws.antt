@@ -32,7 +32,7 @@ use Rattle.exec_rules.specs.Origins.{is_original, fits_below, descended, is_own_
 use Rattle.exec_rules.specs.Programs.{with_registers}
 use Rattle.exec_rules.specs.Expectations.{pallet_refusal, pallet_at}
 use Rattle.exec_rules.specs.Instructions.{refused, done}
-use Rattle.exec_calls.specs.Calls.{room, size_tests, refund_noted, below_origin, Midway, between, here, HostCall, why_not, after, effect, after_all, refusal_along, never, for_origin, charge, around, buying, refunding, report, holding_report, pallet_tests, calls, turned, turned_at, through}
+use Rattle.exec_calls.specs.Calls.{room, size_tests, refund_noted, below_origin, MachineWithGoods, between, here, MachineCall, why_not, after, effect, after_all, refusal_along, never, for_origin, charge, around, buying, refunding, report, holding_report, pallet_tests, calls, turned, turned_at, through}
 use Rattle.exec_calls.specs.Footprints.{part_is}
 
 -- ---- refusals
@@ -56,7 +56,7 @@ one_is o = sym (or_none o)
 two_is : (a b : Option XcmError) → or_else a b ≡ or_else a (or_else b None)
 two_is a b = ap (or_else a) (one_is b)
 
-pub along_both : (xs ys : List HostCall) (t : Midway) → refusal_along (xs ++ ys) t ≡ or_else (refusal_along xs t) (refusal_along ys (after_all xs t))
+pub along_both : (xs ys : List MachineCall) (t : MachineWithGoods) → refusal_along (xs ++ ys) t ≡ or_else (refusal_along xs t) (refusal_along ys (after_all xs t))
 along_both [] ys t = refl
 along_both (c ∷ xs) ys t = ap (or_else (why_not c t)) (along_both xs ys (after c t)) ∙ or_assoc (why_not c t) (refusal_along xs (after c t)) _
   where
@@ -64,53 +64,53 @@ along_both (c ∷ xs) ys t = ap (or_else (why_not c t)) (along_both xs ys (after
     or_assoc None b c = refl
     or_assoc (Some e) b c = refl
 
-pub after_both : (xs ys : List HostCall) (t : Midway) → after_all (xs ++ ys) t ≡ after_all ys (after_all xs t)
+pub after_both : (xs ys : List MachineCall) (t : MachineWithGoods) → after_all (xs ++ ys) t ≡ after_all ys (after_all xs t)
 after_both [] ys t = refl
 after_both (c ∷ xs) ys t = after_both xs ys (after c t)
 
-by_origin : (o : Option Location) (rule : Location → Option XcmError) (calls : Location → List HostCall) (t : Midway) → ((who : Location) → rule who ≡ refusal_along (calls who) t) → with_origin o rule ≡ refusal_along (for_origin o calls) t
+by_origin : (o : Option Location) (rule : Location → Option XcmError) (calls : Location → List MachineCall) (t : MachineWithGoods) → ((who : Location) → rule who ≡ refusal_along (calls who) t) → with_origin o rule ≡ refusal_along (for_origin o calls) t
 by_origin None rule calls t same = refl
 by_origin (Some who) rule calls t same = same who
 
 -- ---- the fee
-held_is : (r : Registers) (p : ChainPart) (goods : Bundle) → after HostCall.HoldFee (record { regs = r; part = p; goods = goods }) ≡ between (machine r (effect HostCall.HoldFee (record { regs = r; part = p; goods = goods })))
-held_is r p goods = ap (λ (q : ChainPart). between (machine r q)) (part_is HostCall.HoldFee (record { regs = r; part = p; goods = goods }))
+held_is : (r : Registers) (p : ChainPart) (goods : Bundle) → after MachineCall.HoldFee (record { regs = r; part = p; goods = goods }) ≡ between (machine r (effect MachineCall.HoldFee (record { regs = r; part = p; goods = goods })))
+held_is r p goods = ap (λ (q : ChainPart). between (machine r q)) (part_is MachineCall.HoldFee (record { regs = r; part = p; goods = goods }))
 
 pub charge_refused : (m : Machine) (fee : Asset) → fee_refusal m fee ≡ refusal_along (charge m fee) (between m)
 charge_refused m fee = by_mode m.regs.fees_mode
   where
-    by_mode : (b : Bool) → (if b then with_origin m.regs.origin (λ who. why_not (HostCall.Draw fee who) (between m)) else why_not (HostCall.Pay fee) (between m))
-        ≡ refusal_along (if b then for_origin m.regs.origin (λ who. HostCall.Draw fee who ∷ HostCall.HoldFee ∷ []) else HostCall.Pay fee ∷ HostCall.HoldFee ∷ []) (between m)
+    by_mode : (b : Bool) → (if b then with_origin m.regs.origin (λ who. why_not (MachineCall.Draw fee who) (between m)) else why_not (MachineCall.Pay fee) (between m))
+        ≡ refusal_along (if b then for_origin m.regs.origin (λ who. MachineCall.Draw fee who ∷ MachineCall.HoldFee ∷ []) else MachineCall.Pay fee ∷ MachineCall.HoldFee ∷ []) (between m)
     by_mode true = by_origin m.regs.origin _ _ (between m) (λ who. one_is _)
     by_mode false = one_is _
 
 -- the fee is in the slot
-charged : (r : Registers) (p q : ChainPart) (goods : Bundle) → p ≡ q → after HostCall.HoldFee (record { regs = r; part = p; goods = goods }) ≡ between (machine r (fee_held q goods))
+charged : (r : Registers) (p q : ChainPart) (goods : Bundle) → p ≡ q → after MachineCall.HoldFee (record { regs = r; part = p; goods = goods }) ≡ between (machine r (fee_held q goods))
 charged r p q goods same = held_is r p goods ∙ ap (λ (x : ChainPart). between (machine r (fee_held x goods))) same
 
 pub charge_after : (m : Machine) (fee : Asset) → after_all (charge m fee) (between m) ≡ between (after_fee m fee)
 charge_after m fee = by_mode m.regs.fees_mode
   where
-    by_account : (o : Option Location) → after_all (for_origin o (λ who. HostCall.Draw fee who ∷ HostCall.HoldFee ∷ [])) (between m)
-        ≡ between (at_origin o (λ who. machine m.regs (fee_held (effect (HostCall.Draw fee who) (between m)) (payment_of fee))) m)
+    by_account : (o : Option Location) → after_all (for_origin o (λ who. MachineCall.Draw fee who ∷ MachineCall.HoldFee ∷ [])) (between m)
+        ≡ between (at_origin o (λ who. machine m.regs (fee_held (effect (MachineCall.Draw fee who) (between m)) (payment_of fee))) m)
     by_account None = refl
-    by_account (Some who) = charged m.regs (after (HostCall.Draw fee who) (between m)).part (effect (HostCall.Draw fee who) (between m)) (payment_of fee) (part_is (HostCall.Draw fee who) (between m))
+    by_account (Some who) = charged m.regs (after (MachineCall.Draw fee who) (between m)).part (effect (MachineCall.Draw fee who) (between m)) (payment_of fee) (part_is (MachineCall.Draw fee who) (between m))
 
-    by_mode : (b : Bool) → after_all (if b then for_origin m.regs.origin (λ who. HostCall.Draw fee who ∷ HostCall.HoldFee ∷ []) else HostCall.Pay fee ∷ HostCall.HoldFee ∷ []) (between m)
-        ≡ between (if b then at_origin m.regs.origin (λ who. machine m.regs (fee_held (effect (HostCall.Draw fee who) (between m)) (payment_of fee))) m else machine (holding_paid m fee).regs (fee_held m.part (payment_of fee)))
+    by_mode : (b : Bool) → after_all (if b then for_origin m.regs.origin (λ who. MachineCall.Draw fee who ∷ MachineCall.HoldFee ∷ []) else MachineCall.Pay fee ∷ MachineCall.HoldFee ∷ []) (between m)
+        ≡ between (if b then at_origin m.regs.origin (λ who. machine m.regs (fee_held (effect (MachineCall.Draw fee who) (between m)) (payment_of fee))) m else machine (holding_paid m fee).regs (fee_held m.part (payment_of fee)))
     by_mode true = by_account m.regs.origin
     by_mode false = charged (holding_paid m fee).regs m.part m.part (payment_of fee) refl
 
-around_refused : (o : Option Asset) (m : Machine) (rule : Machine → Option XcmError) (inside : Machine → List HostCall) → ((n : Machine) → rule n ≡ refusal_along (inside n) (between n)) → refused_around o m rule ≡ refusal_along (around o m inside) (between m)
+around_refused : (o : Option Asset) (m : Machine) (rule : Machine → Option XcmError) (inside : Machine → List MachineCall) → ((n : Machine) → rule n ≡ refusal_along (inside n) (between n)) → refused_around o m rule ≡ refusal_along (around o m inside) (between m)
 around_refused None m rule inside same = same m
 around_refused (Some fee) m rule inside same =
     let n = after_fee m fee in
     ap (λ (x : Option XcmError). or_else x (rule n)) (charge_refused m fee)
-    ∙ ap (or_else (refusal_along (charge m fee) (between m))) (same n ∙ last_free (inside n) (between n) ∙ ap (refusal_along (inside n ++ HostCall.KeepFee ∷ [])) (sym (charge_after m fee)))
-    ∙ sym (along_both (charge m fee) (inside n ++ HostCall.KeepFee ∷ []) (between m))
+    ∙ ap (or_else (refusal_along (charge m fee) (between m))) (same n ∙ last_free (inside n) (between n) ∙ ap (refusal_along (inside n ++ MachineCall.KeepFee ∷ [])) (sym (charge_after m fee)))
+    ∙ sym (along_both (charge m fee) (inside n ++ MachineCall.KeepFee ∷ []) (between m))
   where
-    last_free : (cs : List HostCall) (t : Midway) → refusal_along cs t ≡ refusal_along (cs ++ HostCall.KeepFee ∷ []) t
-    last_free cs t = one_is (refusal_along cs t) ∙ sym (along_both cs (HostCall.KeepFee ∷ []) t)
+    last_free : (cs : List MachineCall) (t : MachineWithGoods) → refusal_along cs t ≡ refusal_along (cs ++ MachineCall.KeepFee ∷ []) t
+    last_free cs t = one_is (refusal_along cs t) ∙ sym (along_both cs (MachineCall.KeepFee ∷ []) t)
 
 -- ---- each instruction
 buying_refused : (m : Machine) (fees : Asset) (limit : WeightLimit) → buying_refusal m fees limit ≡ refusal_along (buying fees limit) (between m)
@@ -133,7 +133,7 @@ holding_answer n info (Some list) = by_length (nat_le (length list) 20)
     by_length false = two_tests (is_some (querier_seen n.part info.destination n.regs.origin)) (is_some (channel_to n.part info.destination)) error.ReanchorFailed error.Unroutable (Some error.ExceedsMaxMessageSize)
 
 receiving_answer : (m : Machine) (o : Option Location) (list : List Asset) (teleport : Bool) → with_origin o (λ who. with_room m (length list) (receive_refusal m.part list who teleport))
-    ≡ refusal_along (HostCall.Check (is_some o) error.BadOrigin ∷ room m (length list) ∷ HostCall.Receive list o teleport ∷ HostCall.Join ∷ []) (between m)
+    ≡ refusal_along (MachineCall.Check (is_some o) error.BadOrigin ∷ room m (length list) ∷ MachineCall.Receive list o teleport ∷ MachineCall.Join ∷ []) (between m)
 receiving_answer m None list teleport = refl
 receiving_answer m (Some who) list teleport = test_then (has_room m (length list)) error.HoldingWouldOverflow _ _ (one_is _)
 
@@ -182,25 +182,25 @@ refused_is _ m = refl
 -- ---- what is left
 
 -- goods are joined to what is held
-pub more_is : (r : Registers) (p q : ChainPart) (goods : Bundle) → p ≡ q → after HostCall.Join (record { regs = r; part = p; goods = goods }) ≡ between (holding_more (machine r q) q goods)
+pub more_is : (r : Registers) (p q : ChainPart) (goods : Bundle) → p ≡ q → after MachineCall.Join (record { regs = r; part = p; goods = goods }) ≡ between (holding_more (machine r q) q goods)
 more_is r p q goods same =
-    ap (λ (x : ChainPart). between (machine (with_holding r (Joined r.holding goods)) x)) (part_is HostCall.Join (record { regs = r; part = p; goods = goods }))
+    ap (λ (x : ChainPart). between (machine (with_holding r (Joined r.holding goods)) x)) (part_is MachineCall.Join (record { regs = r; part = p; goods = goods }))
     ∙ ap (λ (x : ChainPart). between (machine (with_holding r (Joined r.holding goods)) (joined x r.holding goods))) same
 
 -- goods came, and are joined
-joins : (m : Machine) (c : HostCall) (goods : Bundle) → (let t = after c (between m) in (t.regs ≡ m.regs) × (t.goods ≡ goods)) → between (holding_more m (effect c (between m)) goods) ≡ after HostCall.Join (after c (between m))
+joins : (m : Machine) (c : MachineCall) (goods : Bundle) → (let t = after c (between m) in (t.regs ≡ m.regs) × (t.goods ≡ goods)) → between (holding_more m (effect c (between m)) goods) ≡ after MachineCall.Join (after c (between m))
 joins m c goods is =
     sym (more_is m.regs (after c (between m)).part (effect c (between m)) goods (part_is c (between m)))
-    ∙ ap (λ (t : Midway). after HostCall.Join t) (sym (same_midway (after c (between m)) goods is))
+    ∙ ap (λ (t : MachineWithGoods). after MachineCall.Join t) (sym (same_midway (after c (between m)) goods is))
   where
-    same_midway : (t : Midway) (goods : Bundle) → (t.regs ≡ m.regs) × (t.goods ≡ goods) → ◌≡◌ {A = Midway} t (record { regs = m.regs; part = t.part; goods = goods })
+    same_midway : (t : MachineWithGoods) (goods : Bundle) → (t.regs ≡ m.regs) × (t.goods ≡ goods) → ◌≡◌ {A = MachineWithGoods} t (record { regs = m.regs; part = t.part; goods = goods })
     same_midway t goods is = λ i. record { regs = is.0 i; part = t.part; goods = is.1 i }
 
 -- goods were put somewhere, or none were in hand
-put_is : (r : Registers) (c : HostCall) (t : Midway) → between (machine r (after c t).part) ≡ between (machine r (effect c t))
+put_is : (r : Registers) (c : MachineCall) (t : MachineWithGoods) → between (machine r (after c t).part) ≡ between (machine r (effect c t))
 put_is r c t = ap (λ (x : ChainPart). between (machine r x)) (part_is c t)
 
-at_origin_is : (o : Option Location) (change : Location → Machine) (made : Location → List HostCall) (m : Machine)
+at_origin_is : (o : Option Location) (change : Location → Machine) (made : Location → List MachineCall) (m : Machine)
     → ((who : Location) → between (change who) ≡ after_all (made who) (between m)) → between (at_origin o change m) ≡ after_all (for_origin o made) (between m)
 at_origin_is None change made m same = refl
 at_origin_is (Some who) change made m same = same who
@@ -209,36 +209,36 @@ none_changed : (o : Option Location) (m : Machine) (e : XcmError) → between m 
 none_changed None m e = refl
 none_changed (Some who) m e = refl
 
-keeping_is : (k : Machine) → after HostCall.KeepFee (between k) ≡ between (keeping_fee k)
-keeping_is k = put_is k.regs HostCall.KeepFee (between k)
+keeping_is : (k : Machine) → after MachineCall.KeepFee (between k) ≡ between (keeping_fee k)
+keeping_is k = put_is k.regs MachineCall.KeepFee (between k)
 
-around_is : (o : Option Asset) (m : Machine) (change : Machine → Machine) (inside : Machine → List HostCall)
+around_is : (o : Option Asset) (m : Machine) (change : Machine → Machine) (inside : Machine → List MachineCall)
     → ((n : Machine) → between (change n) ≡ after_all (inside n) (between n)) → between (done_around o m change) ≡ after_all (around o m inside) (between m)
 around_is None m change inside same = same m
 around_is (Some fee) m change inside same =
     let n = after_fee m fee in
     sym (keeping_is (change n))
-    ∙ ap (after HostCall.KeepFee) (same n)
-    ∙ sym (after_both (inside n) (HostCall.KeepFee ∷ []) (between n))
-    ∙ ap (after_all (inside n ++ HostCall.KeepFee ∷ [])) (sym (charge_after m fee))
-    ∙ sym (after_both (charge m fee) (inside n ++ HostCall.KeepFee ∷ []) (between m))
+    ∙ ap (after MachineCall.KeepFee) (same n)
+    ∙ sym (after_both (inside n) (MachineCall.KeepFee ∷ []) (between n))
+    ∙ ap (after_all (inside n ++ MachineCall.KeepFee ∷ [])) (sym (charge_after m fee))
+    ∙ sym (after_both (charge m fee) (inside n ++ MachineCall.KeepFee ∷ []) (between m))
 
 -- a filter took goods, and they were put somewhere
-left_is : (m : Machine) (filter : Filter) (c : HostCall) → (let t = after (HostCall.Take filter) (between m) in between (holding_left m filter (effect c t)) ≡ between (machine t.regs (after c t).part))
-left_is m filter c = let t = after (HostCall.Take filter) (between m) in sym (put_is t.regs c t)
+left_is : (m : Machine) (filter : Filter) (c : MachineCall) → (let t = after (MachineCall.Take filter) (between m) in between (holding_left m filter (effect c t)) ≡ between (machine t.regs (after c t).part))
+left_is m filter c = let t = after (MachineCall.Take filter) (between m) in sym (put_is t.regs c t)
 
 buying_is : (m : Machine) (fees : Asset) (limit : WeightLimit) → between (buying_done m fees limit) ≡ after_all (buying fees limit) (between m)
 buying_is m fees Unlimited = refl
 buying_is m fees (Limited w) =
-    let t = after (HostCall.Pay fees) (between m) in
-    sym (more_is t.regs (after (HostCall.Buy w) t).part (effect (HostCall.Buy w) t) (after (HostCall.Buy w) t).goods (part_is (HostCall.Buy w) t))
+    let t = after (MachineCall.Pay fees) (between m) in
+    sym (more_is t.regs (after (MachineCall.Buy w) t).part (effect (MachineCall.Buy w) t) (after (MachineCall.Buy w) t).goods (part_is (MachineCall.Buy w) t))
 
 refunding_is : (m : Machine) (o : Option (Location × ℕ)) → between (refund_done m o) ≡ (let t = after_all (refunding m o) (between m) in record t { regs = refund_noted m o t.regs })
 refunding_is m None = refl
-refunding_is m (Some given) = ap (λ (t : Midway). record t { regs = refund_noted m (Some given) t.regs }) (joins m (HostCall.Refund (not_refunded m)) (refund_goods m.part (not_refunded m)) (refl, refl))
+refunding_is m (Some given) = ap (λ (t : MachineWithGoods). record t { regs = refund_noted m (Some given) t.regs }) (joins m (MachineCall.Refund (not_refunded m)) (refund_goods m.part (not_refunded m)) (refl, refl))
 
 report_is : (n : Machine) (info : QueryInfo) (answer : Response) → between (report_done n info answer) ≡ after_all (report n info answer) (between n)
-report_is n info answer = sym (put_is n.regs (HostCall.Respond info answer n.regs.origin) (between n))
+report_is n info answer = sym (put_is n.regs (MachineCall.Respond info answer n.regs.origin) (between n))
 
 holding_is : (n : Machine) (info : QueryInfo) (o : Option (List Asset)) → between (holding_report_done n info o) ≡ after_all (holding_report n info o) (between n)
 holding_is n info None = refl
@@ -253,30 +253,30 @@ pallet_is m None name module_name major least_minor = refl
 pallet_is m (Some info) name module_name major least_minor = refl
 
 descended_is : (o : Option Location) (m : Machine) (path : List Junction) → between (at_origin o (λ who. with_registers m (record m.regs { origin = Some (descended who path) })) m)
-    ≡ (let t = after_all (for_origin o (λ who. HostCall.Check (fits_below who path) error.LocationFull ∷ [])) (between m) in record t { regs = below_origin o path t.regs })
+    ≡ (let t = after_all (for_origin o (λ who. MachineCall.Check (fits_below who path) error.LocationFull ∷ [])) (between m) in record t { regs = below_origin o path t.regs })
 descended_is None m path = refl
 descended_is (Some who) m path = refl
 
 pub done_is : (l : Instruction-F Instruction) (m : Machine) → between (done l m) ≡ through l m
-done_is (Instruction-F.WithdrawAsset list) m = at_origin_is m.regs.origin _ _ m (λ who. joins m (HostCall.Withdraw list who) (bundle_of list) (refl, refl))
-done_is (Instruction-F.ReserveAssetDeposited list) m = joins m (HostCall.Receive list m.regs.origin false) (bundle_of list) (refl, refl)
-done_is (Instruction-F.ReceiveTeleportedAsset list) m = joins m (HostCall.Receive list m.regs.origin true) (bundle_of list) (refl, refl)
-done_is (Instruction-F.ClaimAsset list ticket) m = at_origin_is m.regs.origin _ _ m (λ who. joins m (HostCall.Claim list who) (bundle_of list) (refl, refl))
-done_is (Instruction-F.DepositAsset filter who) m = left_is m filter (HostCall.Deposit who)
-done_is (Instruction-F.BurnAsset list) m = left_is m (Definite list) HostCall.Burn
+done_is (Instruction-F.WithdrawAsset list) m = at_origin_is m.regs.origin _ _ m (λ who. joins m (MachineCall.Withdraw list who) (bundle_of list) (refl, refl))
+done_is (Instruction-F.ReserveAssetDeposited list) m = joins m (MachineCall.Receive list m.regs.origin false) (bundle_of list) (refl, refl)
+done_is (Instruction-F.ReceiveTeleportedAsset list) m = joins m (MachineCall.Receive list m.regs.origin true) (bundle_of list) (refl, refl)
+done_is (Instruction-F.ClaimAsset list ticket) m = at_origin_is m.regs.origin _ _ m (λ who. joins m (MachineCall.Claim list who) (bundle_of list) (refl, refl))
+done_is (Instruction-F.DepositAsset filter who) m = left_is m filter (MachineCall.Deposit who)
+done_is (Instruction-F.BurnAsset list) m = left_is m (Definite list) MachineCall.Burn
 done_is (Instruction-F.BuyExecution fees limit) m = buying_is m fees limit
 done_is Instruction-F.RefundSurplus m = refunding_is m (refund_now m)
-done_is (Instruction-F.TransferAsset list who) m = at_origin_is m.regs.origin _ _ m (λ from. sym (put_is m.regs (HostCall.Transfer list from who) (between m)))
+done_is (Instruction-F.TransferAsset list who) m = at_origin_is m.regs.origin _ _ m (λ from. sym (put_is m.regs (MachineCall.Transfer list from who) (between m)))
 done_is (Instruction-F.TransferReserveAsset list dest xcm) m = at_origin_is m.regs.origin _ _ m
-    (λ who. around_is (fee_to m.part dest) m _ _ (λ n. sym (put_is n.regs (HostCall.TransferOut list who dest xcm) (between n))))
-done_is (Instruction-F.DepositReserveAsset filter dest xcm) m = around_is (fee_to m.part dest) m _ _ (λ n. left_is n filter (HostCall.DepositOut dest xcm))
-done_is (Instruction-F.InitiateReserveWithdraw filter dest xcm) m = around_is (fee_to m.part dest) m _ _ (λ n. left_is n filter (HostCall.Ship Way.Withdrawal dest xcm))
-done_is (Instruction-F.InitiateTeleport filter dest xcm) m = around_is (fee_to m.part dest) m _ _ (λ n. left_is n filter (HostCall.Ship Way.Teleport dest xcm))
+    (λ who. around_is (fee_to m.part dest) m _ _ (λ n. sym (put_is n.regs (MachineCall.TransferOut list who dest xcm) (between n))))
+done_is (Instruction-F.DepositReserveAsset filter dest xcm) m = around_is (fee_to m.part dest) m _ _ (λ n. left_is n filter (MachineCall.DepositOut dest xcm))
+done_is (Instruction-F.InitiateReserveWithdraw filter dest xcm) m = around_is (fee_to m.part dest) m _ _ (λ n. left_is n filter (MachineCall.Ship Way.Withdrawal dest xcm))
+done_is (Instruction-F.InitiateTeleport filter dest xcm) m = around_is (fee_to m.part dest) m _ _ (λ n. left_is n filter (MachineCall.Ship Way.Teleport dest xcm))
 done_is (Instruction-F.ReportError info) m = around_is (fee_to m.part info.destination) m _ _ (λ n. report_is n info (response.ExecutionResult n.regs.error))
 done_is (Instruction-F.ReportHolding info filter) m = around_is (fee_to m.part info.destination) m _ _ (λ n. holding_is n info (reported_list n info filter))
 done_is (Instruction-F.QueryPallet name info) m = around_is (fee_to m.part info.destination) m _ _ (λ n. report_is n info (response.PalletsInfo (pallets_of n.part name)))
 done_is (Instruction-F.ReportTransactStatus info) m = around_is (fee_to m.part info.destination) m _ _ (λ n. report_is n info (response.DispatchResult n.regs.status))
-done_is (Instruction-F.QueryResponse query answer weight querier) m = at_origin_is m.regs.origin _ _ m (λ who. sym (put_is m.regs (HostCall.Answer who query) (between m)))
+done_is (Instruction-F.QueryResponse query answer weight querier) m = at_origin_is m.regs.origin _ _ m (λ who. sym (put_is m.regs (MachineCall.Answer who query) (between m)))
 done_is (Instruction-F.DescendOrigin path) m = descended_is m.regs.origin m path
 done_is (Instruction-F.ExpectPallet place name module_name major least_minor) m = pallet_is m (pallet_at m place) name module_name major least_minor
 done_is (Instruction-F.Transact kind most call) m = none_changed m.regs.origin m error.FailedToDecode

@@ -44,238 +44,238 @@ use Rattle.exec_rules.specs.Programs.{with_handler, with_appendix}
 use Rattle.exec_rules.specs.Expectations.{same_failure, same_status, has_names, has_version, pallet_at}
 
 -- ---- inside an instruction
-pub record Midway : Type 0 where
+pub record MachineWithGoods : Type 0 where
   pub regs : Registers
   pub part : ChainPart
   pub goods : Bundle
 
 -- between two instructions nothing is in hand
-abbrev pub between : Machine → Midway
+abbrev pub between : Machine → MachineWithGoods
 between m = record { regs = m.regs; part = m.part; goods = empty }
 
-abbrev pub here : Midway → Machine
+abbrev pub here : MachineWithGoods → Machine
 here t = machine t.regs t.part
 
 -- ---- calls
-pub data HostCall : Type 0 where
+pub data MachineCall : Type 0 where
   -- a test of the instruction's own, and what it answers where that fails
-  Check : Bool → XcmError → HostCall
+  Check : Bool → XcmError → MachineCall
   -- out of the holding, and into it
-  Take : Filter → HostCall
-  Pay : Asset → HostCall
-  Join : HostCall
+  Take : Filter → MachineCall
+  Pay : Asset → MachineCall
+  Join : MachineCall
   -- the chain hands goods out
-  Withdraw : List Asset → Location → HostCall
-  Draw : Asset → Location → HostCall
-  Receive : List Asset → Option Location → Bool → HostCall
-  Claim : List Asset → Location → HostCall
-  Refund : Weight → HostCall
+  Withdraw : List Asset → Location → MachineCall
+  Draw : Asset → Location → MachineCall
+  Receive : List Asset → Option Location → Bool → MachineCall
+  Claim : List Asset → Location → MachineCall
+  Refund : Weight → MachineCall
   -- it takes goods in
-  Deposit : Location → HostCall
-  Burn : HostCall
-  Buy : Weight → HostCall
-  DepositOut : Location → List Instruction → HostCall
-  Ship : Way → Location → List Instruction → HostCall
+  Deposit : Location → MachineCall
+  Burn : MachineCall
+  Buy : Weight → MachineCall
+  DepositOut : Location → List Instruction → MachineCall
+  Ship : Way → Location → List Instruction → MachineCall
   -- no goods are in hand
-  Transfer : List Asset → Location → Location → HostCall
-  TransferOut : List Asset → Location → Location → List Instruction → HostCall
-  Respond : QueryInfo → Response → Option Location → HostCall
-  Answer : Location → ℕ → HostCall
+  Transfer : List Asset → Location → Location → MachineCall
+  TransferOut : List Asset → Location → Location → List Instruction → MachineCall
+  Respond : QueryInfo → Response → Option Location → MachineCall
+  Answer : Location → ℕ → MachineCall
   -- the slot of the delivery fee
-  HoldFee : HostCall
-  TakeFee : HostCall
-  KeepFee : HostCall
+  HoldFee : MachineCall
+  TakeFee : MachineCall
+  KeepFee : MachineCall
   -- where memory is refused
-  Park : HostCall
+  Park : MachineCall
   -- the end of a run: the holding is emptied, the trace tells of it, fees are settled, and what was held is trapped
-  Empty : HostCall
-  Tell : Event → HostCall
-  Settle : HostCall
-  Trap : Location → HostCall
+  Empty : MachineCall
+  Tell : Event → MachineCall
+  Settle : MachineCall
+  Trap : Location → MachineCall
 
-abbrev pub why_not : HostCall → Midway → Option XcmError
-why_not (HostCall.Check ok e) t = unless ok e None
-why_not (HostCall.Take filter) t = None
-why_not (HostCall.Pay a) t = unless (holds_asset (here t) a) error.NotHoldingFees None
-why_not HostCall.Join t = None
-why_not (HostCall.Withdraw list who) t = withdraw_refusal t.part list who
-why_not (HostCall.Draw fee who) t = withdraw_refusal t.part (fee ∷ []) who
-why_not (HostCall.Receive list from teleport) t = with_origin from (λ who. receive_refusal t.part list who teleport)
-why_not (HostCall.Claim list who) t = claim_refusal t.part list who
-why_not (HostCall.Refund w) t = None
-why_not (HostCall.Deposit who) t = deposit_refusal t.part t.goods who
-why_not HostCall.Burn t = None
-why_not (HostCall.Buy w) t = buy_refusal t.part w t.goods
-why_not (HostCall.DepositOut dest xcm) t = deposit_out_refusal t.part t.goods dest xcm
-why_not (HostCall.Ship way dest xcm) t = ship_refusal t.part t.goods way dest xcm
-why_not (HostCall.Transfer list from to) t = transfer_refusal t.part list from to
-why_not (HostCall.TransferOut list from dest xcm) t = transfer_out_refusal t.part list from dest xcm
-why_not (HostCall.Respond info answer querier) t = respond_refusal t.part info answer querier
-why_not (HostCall.Answer from query) t = None
-why_not HostCall.HoldFee t = None
-why_not HostCall.TakeFee t = None
-why_not HostCall.KeepFee t = None
-why_not HostCall.Park t = None
-why_not HostCall.Empty t = None
-why_not (HostCall.Tell e) t = None
-why_not HostCall.Settle t = None
-why_not (HostCall.Trap who) t = None
+abbrev pub why_not : MachineCall → MachineWithGoods → Option XcmError
+why_not (MachineCall.Check ok e) t = unless ok e None
+why_not (MachineCall.Take filter) t = None
+why_not (MachineCall.Pay a) t = unless (holds_asset (here t) a) error.NotHoldingFees None
+why_not MachineCall.Join t = None
+why_not (MachineCall.Withdraw list who) t = withdraw_refusal t.part list who
+why_not (MachineCall.Draw fee who) t = withdraw_refusal t.part (fee ∷ []) who
+why_not (MachineCall.Receive list from teleport) t = with_origin from (λ who. receive_refusal t.part list who teleport)
+why_not (MachineCall.Claim list who) t = claim_refusal t.part list who
+why_not (MachineCall.Refund w) t = None
+why_not (MachineCall.Deposit who) t = deposit_refusal t.part t.goods who
+why_not MachineCall.Burn t = None
+why_not (MachineCall.Buy w) t = buy_refusal t.part w t.goods
+why_not (MachineCall.DepositOut dest xcm) t = deposit_out_refusal t.part t.goods dest xcm
+why_not (MachineCall.Ship way dest xcm) t = ship_refusal t.part t.goods way dest xcm
+why_not (MachineCall.Transfer list from to) t = transfer_refusal t.part list from to
+why_not (MachineCall.TransferOut list from dest xcm) t = transfer_out_refusal t.part list from dest xcm
+why_not (MachineCall.Respond info answer querier) t = respond_refusal t.part info answer querier
+why_not (MachineCall.Answer from query) t = None
+why_not MachineCall.HoldFee t = None
+why_not MachineCall.TakeFee t = None
+why_not MachineCall.KeepFee t = None
+why_not MachineCall.Park t = None
+why_not MachineCall.Empty t = None
+why_not (MachineCall.Tell e) t = None
+why_not MachineCall.Settle t = None
+why_not (MachineCall.Trap who) t = None
 
-abbrev pub after : HostCall → Midway → Midway
-after (HostCall.Check ok e) t = t
-after (HostCall.Take filter) t = record t { regs = with_holding t.regs (Left filter t.regs.holding); goods = Taken filter t.regs.holding }
-after (HostCall.Pay a) t = record t { regs = with_holding t.regs (difference t.regs.holding (payment_of a)); goods = payment_of a }
-after HostCall.Join t =
+abbrev pub after : MachineCall → MachineWithGoods → MachineWithGoods
+after (MachineCall.Check ok e) t = t
+after (MachineCall.Take filter) t = record t { regs = with_holding t.regs (Left filter t.regs.holding); goods = Taken filter t.regs.holding }
+after (MachineCall.Pay a) t = record t { regs = with_holding t.regs (difference t.regs.holding (payment_of a)); goods = payment_of a }
+after MachineCall.Join t =
     let q = joined t.part t.regs.holding t.goods in
     record { regs = with_holding t.regs (Joined t.regs.holding t.goods); part = record t.part { burns = q.burns; kept_back = q.kept_back }; goods = empty }
-after (HostCall.Withdraw list who) t = let q = withdrawn t.part list who in record t { part = record t.part { held = q.held; cargo = q.cargo }; goods = bundle_of list }
-after (HostCall.Draw fee who) t = let q = fee_drawn t.part (fee ∷ []) who in record t { part = record t.part { held = q.held }; goods = payment_of fee }
-after (HostCall.Receive list from teleport) t = let q = received t.part list teleport in record t { part = record t.part { checking = q.checking; cargo = q.cargo }; goods = bundle_of list }
-after (HostCall.Claim list who) t = let q = claimed t.part list who in record t { part = record t.part { traps = q.traps }; goods = bundle_of list }
-after (HostCall.Refund w) t = let q = refunded t.part w in record t { part = record t.part { lines = q.lines }; goods = refund_goods t.part w }
-after (HostCall.Deposit who) t = let q = deposited t.part t.goods who in record t { part = record t.part { held = q.held }; goods = empty }
-after HostCall.Burn t = let q = burnt t.part t.goods in record t { part = record t.part { burns = q.burns; kept_back = q.kept_back }; goods = empty }
-after (HostCall.Buy w) t = let q = bought t.part w t.goods in record t { part = record t.part { lines = q.lines; burns = q.burns; kept_back = q.kept_back }; goods = unspent t.part w t.goods }
-after (HostCall.DepositOut dest xcm) t =
+after (MachineCall.Withdraw list who) t = let q = withdrawn t.part list who in record t { part = record t.part { held = q.held; cargo = q.cargo }; goods = bundle_of list }
+after (MachineCall.Draw fee who) t = let q = fee_drawn t.part (fee ∷ []) who in record t { part = record t.part { held = q.held }; goods = payment_of fee }
+after (MachineCall.Receive list from teleport) t = let q = received t.part list teleport in record t { part = record t.part { checking = q.checking; cargo = q.cargo }; goods = bundle_of list }
+after (MachineCall.Claim list who) t = let q = claimed t.part list who in record t { part = record t.part { traps = q.traps }; goods = bundle_of list }
+after (MachineCall.Refund w) t = let q = refunded t.part w in record t { part = record t.part { lines = q.lines }; goods = refund_goods t.part w }
+after (MachineCall.Deposit who) t = let q = deposited t.part t.goods who in record t { part = record t.part { held = q.held }; goods = empty }
+after MachineCall.Burn t = let q = burnt t.part t.goods in record t { part = record t.part { burns = q.burns; kept_back = q.kept_back }; goods = empty }
+after (MachineCall.Buy w) t = let q = bought t.part w t.goods in record t { part = record t.part { lines = q.lines; burns = q.burns; kept_back = q.kept_back }; goods = unspent t.part w t.goods }
+after (MachineCall.DepositOut dest xcm) t =
     let q = deposited_out t.part t.goods dest xcm in record t { part = record t.part { held = q.held; channels = q.channels; kept_back = q.kept_back }; goods = empty }
-after (HostCall.Ship way dest xcm) t =
+after (MachineCall.Ship way dest xcm) t =
     let q = shipped t.part t.goods way dest xcm in record t { part = record t.part { checking = q.checking; channels = q.channels; kept_back = q.kept_back }; goods = empty }
-after (HostCall.Transfer list from to) t = let q = transferred t.part list from to in record t { part = record t.part { held = q.held } }
-after (HostCall.TransferOut list from dest xcm) t =
+after (MachineCall.Transfer list from to) t = let q = transferred t.part list from to in record t { part = record t.part { held = q.held } }
+after (MachineCall.TransferOut list from dest xcm) t =
     let q = transferred_out t.part list from dest xcm in record t { part = record t.part { held = q.held; channels = q.channels; kept_back = q.kept_back } }
-after (HostCall.Respond info answer querier) t = let q = responded t.part info answer querier in record t { part = record t.part { channels = q.channels; kept_back = q.kept_back } }
-after (HostCall.Answer from query) t = let q = answered t.part from query in record t { part = record t.part { queries = q.queries; kept_back = q.kept_back } }
-after HostCall.HoldFee t = record t { part = record t.part { fee_slot = t.goods }; goods = empty }
-after HostCall.TakeFee t = record t { part = record t.part { fee_slot = empty }; goods = t.part.fee_slot }
-after HostCall.KeepFee t = let q = fee_kept t.part in record t { part = record t.part { fee_slot = empty; fees = q.fees } }
-after HostCall.Park t = let q = parked t.part t.goods in record t { part = record t.part { parked = q.parked }; goods = empty }
-after HostCall.Empty t = record t { regs = with_holding t.regs empty; goods = t.regs.holding }
-after (HostCall.Tell e) t = let q = told t.part e in record t { part = record t.part { events = q.events; kept_back = q.kept_back } }
-after HostCall.Settle t =
+after (MachineCall.Respond info answer querier) t = let q = responded t.part info answer querier in record t { part = record t.part { channels = q.channels; kept_back = q.kept_back } }
+after (MachineCall.Answer from query) t = let q = answered t.part from query in record t { part = record t.part { queries = q.queries; kept_back = q.kept_back } }
+after MachineCall.HoldFee t = record t { part = record t.part { fee_slot = t.goods }; goods = empty }
+after MachineCall.TakeFee t = record t { part = record t.part { fee_slot = empty }; goods = t.part.fee_slot }
+after MachineCall.KeepFee t = let q = fee_kept t.part in record t { part = record t.part { fee_slot = empty; fees = q.fees } }
+after MachineCall.Park t = let q = parked t.part t.goods in record t { part = record t.part { parked = q.parked }; goods = empty }
+after MachineCall.Empty t = record t { regs = with_holding t.regs empty; goods = t.regs.holding }
+after (MachineCall.Tell e) t = let q = told t.part e in record t { part = record t.part { events = q.events; kept_back = q.kept_back } }
+after MachineCall.Settle t =
     let q = settled t.part in record t { part = record t.part { held = q.held; lines = q.lines; fees = q.fees; burns = q.burns; events = q.events } }
-after (HostCall.Trap who) t = let q = trapped t.part t.goods who in record t { part = record t.part { traps = q.traps; events = q.events }; goods = empty }
+after (MachineCall.Trap who) t = let q = trapped t.part t.goods who in record t { part = record t.part { traps = q.traps; events = q.events }; goods = empty }
 
 -- the part that it leaves, in the words of the host; that it changes no more than these fields is a law
-abbrev pub effect : HostCall → Midway → ChainPart
-effect HostCall.Join t = joined t.part t.regs.holding t.goods
-effect (HostCall.Withdraw list who) t = withdrawn t.part list who
-effect (HostCall.Draw fee who) t = fee_drawn t.part (fee ∷ []) who
-effect (HostCall.Receive list from teleport) t = received t.part list teleport
-effect (HostCall.Claim list who) t = claimed t.part list who
-effect (HostCall.Refund w) t = refunded t.part w
-effect (HostCall.Deposit who) t = deposited t.part t.goods who
-effect HostCall.Burn t = burnt t.part t.goods
-effect (HostCall.Buy w) t = bought t.part w t.goods
-effect (HostCall.DepositOut dest xcm) t = deposited_out t.part t.goods dest xcm
-effect (HostCall.Ship way dest xcm) t = shipped t.part t.goods way dest xcm
-effect (HostCall.Transfer list from to) t = transferred t.part list from to
-effect (HostCall.TransferOut list from dest xcm) t = transferred_out t.part list from dest xcm
-effect (HostCall.Respond info answer querier) t = responded t.part info answer querier
-effect (HostCall.Answer from query) t = answered t.part from query
-effect HostCall.HoldFee t = fee_held t.part t.goods
-effect HostCall.TakeFee t = fee_taken t.part
-effect HostCall.KeepFee t = fee_kept t.part
-effect HostCall.Park t = parked t.part t.goods
-effect (HostCall.Tell e) t = told t.part e
-effect HostCall.Settle t = settled t.part
-effect (HostCall.Trap who) t = trapped t.part t.goods who
+abbrev pub effect : MachineCall → MachineWithGoods → ChainPart
+effect MachineCall.Join t = joined t.part t.regs.holding t.goods
+effect (MachineCall.Withdraw list who) t = withdrawn t.part list who
+effect (MachineCall.Draw fee who) t = fee_drawn t.part (fee ∷ []) who
+effect (MachineCall.Receive list from teleport) t = received t.part list teleport
+effect (MachineCall.Claim list who) t = claimed t.part list who
+effect (MachineCall.Refund w) t = refunded t.part w
+effect (MachineCall.Deposit who) t = deposited t.part t.goods who
+effect MachineCall.Burn t = burnt t.part t.goods
+effect (MachineCall.Buy w) t = bought t.part w t.goods
+effect (MachineCall.DepositOut dest xcm) t = deposited_out t.part t.goods dest xcm
+effect (MachineCall.Ship way dest xcm) t = shipped t.part t.goods way dest xcm
+effect (MachineCall.Transfer list from to) t = transferred t.part list from to
+effect (MachineCall.TransferOut list from dest xcm) t = transferred_out t.part list from dest xcm
+effect (MachineCall.Respond info answer querier) t = responded t.part info answer querier
+effect (MachineCall.Answer from query) t = answered t.part from query
+effect MachineCall.HoldFee t = fee_held t.part t.goods
+effect MachineCall.TakeFee t = fee_taken t.part
+effect MachineCall.KeepFee t = fee_kept t.part
+effect MachineCall.Park t = parked t.part t.goods
+effect (MachineCall.Tell e) t = told t.part e
+effect MachineCall.Settle t = settled t.part
+effect (MachineCall.Trap who) t = trapped t.part t.goods who
 effect _ t = t.part
 
 -- one after the other
-abbrev pub after_all : List HostCall → Midway → Midway
+abbrev pub after_all : List MachineCall → MachineWithGoods → MachineWithGoods
 after_all [] t = t
 after_all (c ∷ cs) t = after_all cs (after c t)
 
 -- the first that is refused decides
-abbrev pub refusal_along : List HostCall → Midway → Option XcmError
+abbrev pub refusal_along : List MachineCall → MachineWithGoods → Option XcmError
 refusal_along [] t = None
 refusal_along (c ∷ cs) t = or_else (why_not c t) (refusal_along cs (after c t))
 
 -- ---- instructions
 
 -- always refused
-abbrev pub never : XcmError → List HostCall
-never e = HostCall.Check false e ∷ []
+abbrev pub never : XcmError → List MachineCall
+never e = MachineCall.Check false e ∷ []
 
 -- BadOrigin where the register is empty
-abbrev pub for_origin : Option Location → (Location → List HostCall) → List HostCall
+abbrev pub for_origin : Option Location → (Location → List MachineCall) → List MachineCall
 for_origin None calls = never error.BadOrigin
 for_origin (Some who) calls = calls who
 
-abbrev pub room : Machine → ℕ → HostCall
-room m n = HostCall.Check (has_room m n) error.HoldingWouldOverflow
+abbrev pub room : Machine → ℕ → MachineCall
+room m n = MachineCall.Check (has_room m n) error.HoldingWouldOverflow
 
-abbrev pub receiving : Machine → List Asset → Bool → List HostCall
-receiving m list teleport = HostCall.Check (is_some m.regs.origin) error.BadOrigin ∷ room m (length list) ∷ HostCall.Receive list m.regs.origin teleport ∷ HostCall.Join ∷ []
+abbrev pub receiving : Machine → List Asset → Bool → List MachineCall
+receiving m list teleport = MachineCall.Check (is_some m.regs.origin) error.BadOrigin ∷ room m (length list) ∷ MachineCall.Receive list m.regs.origin teleport ∷ MachineCall.Join ∷ []
 
 -- in fees mode from the origin's account, else from the holding
-abbrev pub charge : Machine → Asset → List HostCall
+abbrev pub charge : Machine → Asset → List MachineCall
 charge m fee =
     if m.regs.fees_mode
-    then for_origin m.regs.origin (λ who. HostCall.Draw fee who ∷ HostCall.HoldFee ∷ [])
-    else HostCall.Pay fee ∷ HostCall.HoldFee ∷ []
+    then for_origin m.regs.origin (λ who. MachineCall.Draw fee who ∷ MachineCall.HoldFee ∷ [])
+    else MachineCall.Pay fee ∷ MachineCall.HoldFee ∷ []
 
-abbrev pub around : Option Asset → Machine → (Machine → List HostCall) → List HostCall
+abbrev pub around : Option Asset → Machine → (Machine → List MachineCall) → List MachineCall
 around None m inside = inside m
-around (Some fee) m inside = charge m fee ++ (inside (after_fee m fee) ++ HostCall.KeepFee ∷ [])
+around (Some fee) m inside = charge m fee ++ (inside (after_fee m fee) ++ MachineCall.KeepFee ∷ [])
 
-abbrev pub sending : Machine → Location → (Machine → List HostCall) → List HostCall
+abbrev pub sending : Machine → Location → (Machine → List MachineCall) → List MachineCall
 sending m dest inside = around (fee_to m.part dest) m inside
 
-abbrev pub buying : Asset → WeightLimit → List HostCall
+abbrev pub buying : Asset → WeightLimit → List MachineCall
 buying fees Unlimited = []
-buying fees (Limited w) = HostCall.Pay fees ∷ HostCall.Buy w ∷ HostCall.Join ∷ []
+buying fees (Limited w) = MachineCall.Pay fees ∷ MachineCall.Buy w ∷ MachineCall.Join ∷ []
 
-abbrev pub refunding : Machine → Option (Location × ℕ) → List HostCall
+abbrev pub refunding : Machine → Option (Location × ℕ) → List MachineCall
 refunding m None = []
-refunding m (Some given) = HostCall.Check (holds_some m given.0 || has_room m 1) error.HoldingWouldOverflow ∷ HostCall.Refund (not_refunded m) ∷ HostCall.Join ∷ []
+refunding m (Some given) = MachineCall.Check (holds_some m given.0 || has_room m 1) error.HoldingWouldOverflow ∷ MachineCall.Refund (not_refunded m) ∷ MachineCall.Join ∷ []
 
-abbrev pub report : Machine → QueryInfo → Response → List HostCall
-report n info answer = HostCall.Respond info answer n.regs.origin ∷ []
+abbrev pub report : Machine → QueryInfo → Response → List MachineCall
+report n info answer = MachineCall.Respond info answer n.regs.origin ∷ []
 
 -- more assets than a list has are in no message
-abbrev pub size_tests : Machine → QueryInfo → Bool → List HostCall
+abbrev pub size_tests : Machine → QueryInfo → Bool → List MachineCall
 size_tests n info true = []
 size_tests n info false =
-    HostCall.Check (is_some (querier_seen n.part info.destination n.regs.origin)) error.ReanchorFailed
-    ∷ HostCall.Check (is_some (channel_to n.part info.destination)) error.Unroutable ∷ never error.ExceedsMaxMessageSize
+    MachineCall.Check (is_some (querier_seen n.part info.destination n.regs.origin)) error.ReanchorFailed
+    ∷ MachineCall.Check (is_some (channel_to n.part info.destination)) error.Unroutable ∷ never error.ExceedsMaxMessageSize
 
-abbrev pub holding_report : Machine → QueryInfo → Option (List Asset) → List HostCall
+abbrev pub holding_report : Machine → QueryInfo → Option (List Asset) → List MachineCall
 holding_report n info None = never error.ReanchorFailed
 holding_report n info (Some list) = size_tests n info (nat_le (length list) 20) ++ report n info (response.Assets list)
 
-abbrev pub pallet_tests : Option PalletInfo → List ℕ → List ℕ → ℕ → ℕ → List HostCall
+abbrev pub pallet_tests : Option PalletInfo → List ℕ → List ℕ → ℕ → ℕ → List MachineCall
 pallet_tests None name module_name major least_minor = never error.PalletNotFound
 pallet_tests (Some info) name module_name major least_minor =
-    HostCall.Check (has_names info name module_name) error.NameMismatch ∷ HostCall.Check (has_version info major least_minor) error.VersionIncompatible ∷ []
+    MachineCall.Check (has_names info name module_name) error.NameMismatch ∷ MachineCall.Check (has_version info major least_minor) error.VersionIncompatible ∷ []
 
-abbrev pub calls : Instruction-F Instruction → Machine → List HostCall
+abbrev pub calls : Instruction-F Instruction → Machine → List MachineCall
 -- assets into the holding register and out of it
-calls (Instruction-F.WithdrawAsset list) m = for_origin m.regs.origin (λ who. room m (length list) ∷ HostCall.Withdraw list who ∷ HostCall.Join ∷ [])
+calls (Instruction-F.WithdrawAsset list) m = for_origin m.regs.origin (λ who. room m (length list) ∷ MachineCall.Withdraw list who ∷ MachineCall.Join ∷ [])
 calls (Instruction-F.ReserveAssetDeposited list) m = receiving m list false
 calls (Instruction-F.ReceiveTeleportedAsset list) m = receiving m list true
 calls (Instruction-F.ClaimAsset list ticket) m =
-    for_origin m.regs.origin (λ who. room m (length list) ∷ HostCall.Check (is_ticket ticket) error.UnknownClaim ∷ HostCall.Claim list who ∷ HostCall.Join ∷ [])
-calls (Instruction-F.DepositAsset filter who) m = HostCall.Take filter ∷ HostCall.Deposit who ∷ []
-calls (Instruction-F.BurnAsset list) m = HostCall.Take (Definite list) ∷ HostCall.Burn ∷ []
+    for_origin m.regs.origin (λ who. room m (length list) ∷ MachineCall.Check (is_ticket ticket) error.UnknownClaim ∷ MachineCall.Claim list who ∷ MachineCall.Join ∷ [])
+calls (Instruction-F.DepositAsset filter who) m = MachineCall.Take filter ∷ MachineCall.Deposit who ∷ []
+calls (Instruction-F.BurnAsset list) m = MachineCall.Take (Definite list) ∷ MachineCall.Burn ∷ []
 calls (Instruction-F.BuyExecution fees limit) m = buying fees limit
 calls Instruction-F.RefundSurplus m = refunding m (refund_now m)
 -- transfers
-calls (Instruction-F.TransferAsset list who) m = for_origin m.regs.origin (λ from. HostCall.Transfer list from who ∷ [])
-calls (Instruction-F.TransferReserveAsset list dest xcm) m = for_origin m.regs.origin (λ who. sending m dest (λ n. HostCall.TransferOut list who dest xcm ∷ []))
-calls (Instruction-F.DepositReserveAsset filter dest xcm) m = sending m dest (λ n. HostCall.Take filter ∷ HostCall.DepositOut dest xcm ∷ [])
-calls (Instruction-F.InitiateReserveWithdraw filter dest xcm) m = sending m dest (λ n. HostCall.Take filter ∷ HostCall.Ship Way.Withdrawal dest xcm ∷ [])
-calls (Instruction-F.InitiateTeleport filter dest xcm) m = sending m dest (λ n. HostCall.Take filter ∷ HostCall.Ship Way.Teleport dest xcm ∷ [])
+calls (Instruction-F.TransferAsset list who) m = for_origin m.regs.origin (λ from. MachineCall.Transfer list from who ∷ [])
+calls (Instruction-F.TransferReserveAsset list dest xcm) m = for_origin m.regs.origin (λ who. sending m dest (λ n. MachineCall.TransferOut list who dest xcm ∷ []))
+calls (Instruction-F.DepositReserveAsset filter dest xcm) m = sending m dest (λ n. MachineCall.Take filter ∷ MachineCall.DepositOut dest xcm ∷ [])
+calls (Instruction-F.InitiateReserveWithdraw filter dest xcm) m = sending m dest (λ n. MachineCall.Take filter ∷ MachineCall.Ship Way.Withdrawal dest xcm ∷ [])
+calls (Instruction-F.InitiateTeleport filter dest xcm) m = sending m dest (λ n. MachineCall.Take filter ∷ MachineCall.Ship Way.Teleport dest xcm ∷ [])
 -- reports
 calls (Instruction-F.ReportError info) m = sending m info.destination (λ n. report n info (response.ExecutionResult n.regs.error))
 calls (Instruction-F.ReportHolding info filter) m = sending m info.destination (λ n. holding_report n info (reported_list n info filter))
 calls (Instruction-F.QueryPallet name info) m = sending m info.destination (λ n. report n info (response.PalletsInfo (pallets_of n.part name)))
 calls (Instruction-F.ReportTransactStatus info) m = sending m info.destination (λ n. report n info (response.DispatchResult n.regs.status))
 -- queries
-calls (Instruction-F.QueryResponse query answer weight querier) m = for_origin m.regs.origin (λ who. HostCall.Answer who query ∷ [])
+calls (Instruction-F.QueryResponse query answer weight querier) m = for_origin m.regs.origin (λ who. MachineCall.Answer who query ∷ [])
 -- the origin register
 calls Instruction-F.ClearOrigin m = []
-calls (Instruction-F.DescendOrigin path) m = for_origin m.regs.origin (λ who. HostCall.Check (fits_below who path) error.LocationFull ∷ [])
+calls (Instruction-F.DescendOrigin path) m = for_origin m.regs.origin (λ who. MachineCall.Check (fits_below who path) error.LocationFull ∷ [])
 -- programs of the run, and registers
 calls (Instruction-F.SetErrorHandler xcm) m = []
 calls (Instruction-F.SetAppendix xcm) m = []
@@ -286,21 +286,21 @@ calls (Instruction-F.SetTopic topic) m = []
 calls Instruction-F.ClearTopic m = []
 calls (Instruction-F.Trap code) m = never (error.Trap code)
 -- expectations
-calls (Instruction-F.ExpectAsset list) m = HostCall.Check (holds_list m list) error.ExpectationFalse ∷ []
-calls (Instruction-F.ExpectOrigin origin) m = HostCall.Check (same_origin m.regs.origin origin) error.ExpectationFalse ∷ []
-calls (Instruction-F.ExpectError failure) m = HostCall.Check (same_failure m.regs.error failure) error.ExpectationFalse ∷ []
-calls (Instruction-F.ExpectTransactStatus status) m = HostCall.Check (same_status m.regs.status status) error.ExpectationFalse ∷ []
+calls (Instruction-F.ExpectAsset list) m = MachineCall.Check (holds_list m list) error.ExpectationFalse ∷ []
+calls (Instruction-F.ExpectOrigin origin) m = MachineCall.Check (same_origin m.regs.origin origin) error.ExpectationFalse ∷ []
+calls (Instruction-F.ExpectError failure) m = MachineCall.Check (same_failure m.regs.error failure) error.ExpectationFalse ∷ []
+calls (Instruction-F.ExpectTransactStatus status) m = MachineCall.Check (same_status m.regs.status status) error.ExpectationFalse ∷ []
 calls (Instruction-F.ExpectPallet place name module_name major least_minor) m = pallet_tests (pallet_at m place) name module_name major least_minor
-calls (Instruction-F.UnpaidExecution limit origin) m = HostCall.Check (is_checked_origin m origin) error.BadOrigin ∷ []
+calls (Instruction-F.UnpaidExecution limit origin) m = MachineCall.Check (is_checked_origin m origin) error.BadOrigin ∷ []
 -- unconfigured
 calls (Instruction-F.Transact kind most call) m = for_origin m.regs.origin (λ who. never error.FailedToDecode)
 calls (Instruction-F.HrmpNewChannelOpenRequest sender size capacity) m = never error.Unimplemented
 calls (Instruction-F.HrmpChannelAccepted recipient) m = never error.Unimplemented
 calls (Instruction-F.HrmpChannelClosing initiator sender recipient) m = never error.Unimplemented
 calls (Instruction-F.ExchangeAsset filter list maximal) m = room m (length list) ∷ never error.NoDeal
-calls (Instruction-F.SubscribeVersion query weight) m = HostCall.Check (is_original m) error.BadOrigin ∷ never error.Unimplemented
-calls Instruction-F.UnsubscribeVersion m = HostCall.Check (is_original m) error.BadOrigin ∷ never error.Unimplemented
-calls (Instruction-F.UniversalOrigin junction) m = HostCall.Check (not (is_own_network m junction)) error.InvalidLocation ∷ for_origin m.regs.origin (λ who. never error.InvalidLocation)
+calls (Instruction-F.SubscribeVersion query weight) m = MachineCall.Check (is_original m) error.BadOrigin ∷ never error.Unimplemented
+calls Instruction-F.UnsubscribeVersion m = MachineCall.Check (is_original m) error.BadOrigin ∷ never error.Unimplemented
+calls (Instruction-F.UniversalOrigin junction) m = MachineCall.Check (not (is_own_network m junction)) error.InvalidLocation ∷ for_origin m.regs.origin (λ who. never error.InvalidLocation)
 calls (Instruction-F.ExportMessage network path xcm) m = for_origin m.regs.origin (λ who. never error.Unroutable)
 calls (Instruction-F.LockAsset asset unlocker) m = for_origin m.regs.origin (λ who. never error.LockError)
 calls (Instruction-F.UnlockAsset asset target) m = for_origin m.regs.origin (λ who. never error.LockError)
@@ -331,9 +331,9 @@ turned (Instruction-F.SetTopic topic) m r = record r { topic = Some topic }
 turned Instruction-F.ClearTopic m r = record r { topic = None }
 turned _ m r = r
 
-abbrev pub turned_at : Instruction-F Instruction → Machine → Midway → Midway
+abbrev pub turned_at : Instruction-F Instruction → Machine → MachineWithGoods → MachineWithGoods
 turned_at l m t = record t { regs = turned l m t.regs }
 
 -- the whole instruction
-abbrev pub through : Instruction-F Instruction → Machine → Midway
+abbrev pub through : Instruction-F Instruction → Machine → MachineWithGoods
 through l m = turned_at l m (after_all (calls l m) (between m))

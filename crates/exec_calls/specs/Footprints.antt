@@ -16,7 +16,7 @@ use Rattle.exec_base.specs.declared.event.Event.{Event}
 use Rattle.exec_base.specs.Part.{ChainPart}
 use Rattle.exec_base.specs.Sending.{leads_to, sent}
 use Rattle.exec_base.specs.Host.{withdrawn, deposited, transferred, received, transferred_out, deposited_out, shipped, querier_seen, report_program, responded, is_query, answered, booked, bought, refunded, joined, burnt, is_trap, claimed, trapped, parked, settled, fee_held, fee_taken, fee_kept, fee_drawn, told}
-use Rattle.exec_calls.specs.Calls.{Midway, HostCall, after, effect}
+use Rattle.exec_calls.specs.Calls.{MachineWithGoods, MachineCall, after, effect}
 
 option_is : {A : Type 0} (shape : ChainPart → ChainPart) (o : Option A) (f : A → ChainPart) (p : ChainPart) → shape p ≡ p → ((x : A) → shape (f x) ≡ f x) → shape (option_map_or f o p) ≡ option_map_or f o p
 option_is shape None f p none some = none
@@ -29,32 +29,32 @@ answer_is : (p : ChainPart) (query : ℕ) (o : Option ℕ)
 answer_is p query None = refl
 answer_is p query (Some place) = refl
 
-pub part_is : (c : HostCall) (t : Midway) → (after c t).part ≡ effect c t
+pub part_is : (c : MachineCall) (t : MachineWithGoods) → (after c t).part ≡ effect c t
 unfolding withdrawn deposited transferred received transferred_out deposited_out shipped responded answered bought refunded joined burnt claimed trapped parked settled fee_held fee_taken fee_kept fee_drawn told booked sent
-part_is (HostCall.Respond info answer querier) t =
+part_is (MachineCall.Respond info answer querier) t =
     option_is (λ (q : ChainPart). record t.part { channels = q.channels; kept_back = q.kept_back }) (querier_seen t.part info.destination querier) (λ (seen : Option Location). sent t.part info.destination (report_program info answer seen) Nothing) t.part refl (λ seen. refl)
-part_is (HostCall.Answer from query) t = answer_is t.part query (position (is_query query from) t.part.queries)
-part_is (HostCall.Buy w) t = option_is (λ (q : ChainPart). record t.part { lines = q.lines; burns = q.burns; kept_back = q.kept_back }) (paying w t.goods t.part.lines) _ t.part refl (λ line. refl)
-part_is (HostCall.Claim list who) t = option_is (λ (q : ChainPart). record t.part { traps = q.traps }) (position (is_trap list who) t.part.traps.traps) _ t.part refl (λ place. refl)
+part_is (MachineCall.Answer from query) t = answer_is t.part query (position (is_query query from) t.part.queries)
+part_is (MachineCall.Buy w) t = option_is (λ (q : ChainPart). record t.part { lines = q.lines; burns = q.burns; kept_back = q.kept_back }) (paying w t.goods t.part.lines) _ t.part refl (λ line. refl)
+part_is (MachineCall.Claim list who) t = option_is (λ (q : ChainPart). record t.part { traps = q.traps }) (position (is_trap list who) t.part.traps.traps) _ t.part refl (λ place. refl)
 part_is _ t = refl
 
 -- ---- what calls change of settings and channels
-pub settings_after : (c : HostCall) (t : Midway) → (after c t).part.settings ≡ t.part.settings
-settings_after (HostCall.Take filter) t = refl
+pub settings_after : (c : MachineCall) (t : MachineWithGoods) → (after c t).part.settings ≡ t.part.settings
+settings_after (MachineCall.Take filter) t = refl
 settings_after _ t = refl
 
 -- what holds of the channels, and of each with a message put last in the one that leads somewhere, holds after each call
-module _ (K : List Outgoing → Type 0) (t : Midway) (sends : (dest : Location) (program : List Instruction) (cargo : Cargo) → K t.part.channels → K (change_first (leads_to t.part dest) (with_waiting program cargo) t.part.channels)) where
+module _ (K : List Outgoing → Type 0) (t : MachineWithGoods) (sends : (dest : Location) (program : List Instruction) (cargo : Cargo) → K t.part.channels → K (change_first (leads_to t.part dest) (with_waiting program cargo) t.part.channels)) where
   reported : (info : QueryInfo) (answer : Response) (o : Option (Option Location)) → K t.part.channels
       → K (option_map_or (λ (seen : Option Location). sent t.part info.destination (report_program info answer seen) Nothing) o t.part).channels
   unfolding sent
   reported info answer None h = h
   reported info answer (Some seen) h = sends info.destination _ _ h
 
-  pub channels_after : (c : HostCall) → K t.part.channels → K (after c t).part.channels
+  pub channels_after : (c : MachineCall) → K t.part.channels → K (after c t).part.channels
   unfolding transferred transferred_out deposited deposited_out shipped responded sent
-  channels_after (HostCall.TransferOut list from dest xcm) h = sends dest _ _ h
-  channels_after (HostCall.DepositOut dest xcm) h = sends dest _ _ h
-  channels_after (HostCall.Ship way dest xcm) h = sends dest _ _ h
-  channels_after (HostCall.Respond info answer querier) h = reported info answer (querier_seen t.part info.destination querier) h
+  channels_after (MachineCall.TransferOut list from dest xcm) h = sends dest _ _ h
+  channels_after (MachineCall.DepositOut dest xcm) h = sends dest _ _ h
+  channels_after (MachineCall.Ship way dest xcm) h = sends dest _ _ h
+  channels_after (MachineCall.Respond info answer querier) h = reported info answer (querier_seen t.part info.destination querier) h
   channels_after _ h = h

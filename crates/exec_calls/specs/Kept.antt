@@ -10,8 +10,8 @@ use Rattle.exec_base.specs.Part.{ChainPart}
 use Rattle.exec_run.specs.Machine.{Machine, machine}
 use Rattle.exec_run.specs.Outcome.{refund_surplus}
 use Rattle.exec_rules.specs.Origins.{descended}
-use Rattle.exec_calls.specs.Calls.{Midway, between, HostCall, why_not, after}
-use Rattle.exec_calls.specs.Reasons.{IsFrom, Asks, ComesAtEnd}
+use Rattle.exec_calls.specs.Calls.{MachineWithGoods, between, MachineCall, why_not, after}
+use Rattle.exec_calls.specs.Reasons.{IsFrom, Moment, HasReason, ComesAtEnd}
 
 -- the origin register stays, is emptied, or goes to a location below the one that it holds
 abbrev pub TurnsOrigin : Option Location → Option Location → Type 0
@@ -24,19 +24,19 @@ pub record Turns (old new : Registers) : Type 0 where
 
 -- a fact that the end of a run keeps, also where memory is refused there: the last refund, the line that tells of it, settlement, and what is
 -- held is trapped or parked
-pub record IsKeptAtEnd (K : Midway → Type 0) : Type 0 where
-  pub closing : (m : Machine) (t : Midway) (c : HostCall) → K (between m) → Asks true Instruction-F.RefundSurplus m t c → ComesAtEnd c → IsFrom m t → why_not c t ≡ None → K t → K (after c t)
-  pub closed : (t : Midway) (r : Registers) → r.holding ≡ t.regs.holding → r.origin ≡ t.regs.origin → K t → K (record t { regs = r })
+pub record IsKeptAtEnd (K : MachineWithGoods → Type 0) : Type 0 where
+  pub closing : (m : Machine) (t : MachineWithGoods) (c : MachineCall) → K (between m) → HasReason Moment.AtEnd Instruction-F.RefundSurplus m t c → ComesAtEnd c → IsFrom m t → why_not c t ≡ None → K t → K (after c t)
+  pub closed : (t : MachineWithGoods) (r : Registers) → r.holding ≡ t.regs.holding → r.origin ≡ t.regs.origin → K t → K (record t { regs = r })
 
 -- a fact that executions keep, where their instructions are of one kind
-pub record IsKeptByCalls (Q : Instruction → Type 0) (K : Midway → Type 0) : Type 0 where
+pub record IsKeptByCalls (Q : Instruction → Type 0) (K : MachineWithGoods → Type 0) : Type 0 where
   pub refunds : Q refund_surplus
   pub called : (x : Instruction) (l : Instruction-F Instruction) → out-Instruction x ≡ l → Q x
-      → (over : Bool) (m : Machine) (t : Midway) (c : HostCall) → K (between m) → Asks over l m t c → IsFrom m t → why_not c t ≡ None → K t → K (after c t)
-  pub turned : (t : Midway) (r : Registers) → Turns t.regs r → K t → K (record t { regs = r })
+      → (moment : Moment) (m : Machine) (t : MachineWithGoods) (c : MachineCall) → K (between m) → HasReason moment l m t c → IsFrom m t → why_not c t ≡ None → K t → K (after c t)
+  pub turned : (t : MachineWithGoods) (r : Registers) → Turns t.regs r → K t → K (record t { regs = r })
 
 -- it holds of a part with some registers, and nothing held or in hand
-pub record Ends (K : Midway → Type 0) (p : ChainPart) : Type 0 where
+pub record Ends (K : MachineWithGoods → Type 0) (p : ChainPart) : Type 0 where
   pub regs : Registers
   pub nothing : regs.holding ≡ empty
   pub kept : K (between (machine regs p))

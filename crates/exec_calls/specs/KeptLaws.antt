@@ -37,9 +37,9 @@ use Rattle.exec_admission.specs.declared.rules.ChainRules.{ChainRules}
 use Rattle.exec_admission.specs.declared.admission.Admitted.{Admitted}
 use Rattle.exec_admission.specs.Admission.{admitted}
 use Rattle.exec_admission.specs.Execution.{first_machine, first_stage, last_machine, executed_by, executed, AbandonedIn, IsAbandoned}
-use Rattle.exec_calls.specs.Calls.{Midway, between, here, HostCall, why_not, after, refund_noted, below_origin, turned, turned_at}
+use Rattle.exec_calls.specs.Calls.{MachineWithGoods, between, here, MachineCall, why_not, after, refund_noted, below_origin, turned, turned_at}
 use Rattle.exec_calls.specs.Footprints.{part_is}
-use Rattle.exec_calls.specs.Reasons.{IsFrom, IsFee, Asks, ComesAtEnd}
+use Rattle.exec_calls.specs.Reasons.{IsFrom, IsFee, Moment, HasReason, ComesAtEnd}
 use Rattle.exec_calls.specs.ReasonLaws.{from_itself, done_keeps, lead_keeps}
 use Rattle.exec_calls.specs.StopLaws.{spilled_lead}
 use Rattle.exec_calls.specs.Kept.{Turns, IsKeptAtEnd, IsKeptByCalls, Ends}
@@ -56,7 +56,7 @@ below_turns : (o : Option Location) (path : List Junction) (r : Registers) → r
 below_turns None path r is = stays_origin r r refl refl
 below_turns (Some who) path r is = record { holding = refl; origin = inr (inr (who, path, is, refl)) }
 
-pub turns : (l : Instruction-F Instruction) (m : Machine) (t : Midway) → IsFrom m t → Turns t.regs (turned l m t.regs)
+pub turns : (l : Instruction-F Instruction) (m : Machine) (t : MachineWithGoods) → IsFrom m t → Turns t.regs (turned l m t.regs)
 turns Instruction-F.RefundSurplus m t f = refund_turns m (refund_now m) t.regs
 turns Instruction-F.ClearOrigin m t f = record { holding = refl; origin = inr (inl refl) }
 turns (Instruction-F.DescendOrigin path) m t f = below_turns m.regs.origin path t.regs (ap (λ (r : Registers). r.origin) f.regs)
@@ -79,70 +79,70 @@ no_rows b e = same_amounts unit_keys b empty (λ u.
     omega (arith, all, none, z))
 
 -- what an instruction may ask, it may ask at the end
-also_over : (l : Instruction-F Instruction) (m : Machine) (t : Midway) (c : HostCall) → Asks false l m t c → Asks true l m t c
-also_over l m t HostCall.Empty asks = absurd (cc asks.0)
-also_over l m t (HostCall.Tell e) asks = absurd (cc asks.0)
-also_over l m t HostCall.Settle asks = absurd (cc asks.0)
-also_over l m t (HostCall.Trap who) asks = absurd (cc asks)
-also_over l m t _ asks = asks
+also_at_end : (l : Instruction-F Instruction) (m : Machine) (t : MachineWithGoods) (c : MachineCall) → HasReason Moment.Inside l m t c → HasReason Moment.AtEnd l m t c
+also_at_end l m t MachineCall.Empty asks = absurd (cc asks.0)
+also_at_end l m t (MachineCall.Tell e) asks = absurd (cc asks.0)
+also_at_end l m t MachineCall.Settle asks = absurd (cc asks.0)
+also_at_end l m t (MachineCall.Trap who) asks = absurd (cc asks)
+also_at_end l m t _ asks = asks
 
 no_fee_at_end : (m : Machine) (fee : Asset) → IsFee Instruction-F.RefundSurplus m fee → ⊥
 no_fee_at_end m fee is = absurd (cc is.1)
 
 -- RefundSurplus asks no more
-comes_at_end : (m : Machine) (t : Midway) (c : HostCall) → Asks false Instruction-F.RefundSurplus m t c → ComesAtEnd c
-comes_at_end m t (HostCall.Pay a) asks = ⊎_elim (λ (is : IsFee Instruction-F.RefundSurplus m a). no_fee_at_end m a is) (λ (is : (w : Weight) × (Instruction-F.RefundSurplus ≡ Instruction-F.BuyExecution a (Limited w))). absurd (cc is.1)) asks.1
-comes_at_end m t (HostCall.Withdraw list who) asks = absurd (cc asks.2)
-comes_at_end m t (HostCall.Draw fee who) asks = no_fee_at_end m fee asks.2
-comes_at_end m t (HostCall.Receive list from true) asks = absurd (cc asks.2)
-comes_at_end m t (HostCall.Receive list from false) asks = absurd (cc asks.2)
-comes_at_end m t (HostCall.Claim list who) asks = absurd (cc asks.2.1)
-comes_at_end m t (HostCall.Deposit who) asks = absurd (cc asks.1)
-comes_at_end m t HostCall.Burn asks = absurd (cc asks.1)
-comes_at_end m t (HostCall.Buy w) asks = absurd (cc asks.1)
-comes_at_end m t (HostCall.DepositOut dest xcm) asks = absurd (cc asks.2.1)
-comes_at_end m t (HostCall.Ship Way.Withdrawal dest xcm) asks = absurd (cc asks.2.1)
-comes_at_end m t (HostCall.Ship Way.Teleport dest xcm) asks = absurd (cc asks.2.1)
-comes_at_end m t (HostCall.Transfer list from to) asks = absurd (cc asks.2)
-comes_at_end m t (HostCall.TransferOut list from dest xcm) asks = absurd (cc asks.2)
-comes_at_end m t (HostCall.Respond info answer querier) asks = absurd asks.2
-comes_at_end m t HostCall.HoldFee asks = no_fee_at_end m asks.0 asks.1
+comes_at_end : (m : Machine) (t : MachineWithGoods) (c : MachineCall) → HasReason Moment.Inside Instruction-F.RefundSurplus m t c → ComesAtEnd c
+comes_at_end m t (MachineCall.Pay a) asks = ⊎_elim (λ (is : IsFee Instruction-F.RefundSurplus m a). no_fee_at_end m a is) (λ (is : (w : Weight) × (Instruction-F.RefundSurplus ≡ Instruction-F.BuyExecution a (Limited w))). absurd (cc is.1)) asks.1
+comes_at_end m t (MachineCall.Withdraw list who) asks = absurd (cc asks.2)
+comes_at_end m t (MachineCall.Draw fee who) asks = no_fee_at_end m fee asks.2
+comes_at_end m t (MachineCall.Receive list from true) asks = absurd (cc asks.2)
+comes_at_end m t (MachineCall.Receive list from false) asks = absurd (cc asks.2)
+comes_at_end m t (MachineCall.Claim list who) asks = absurd (cc asks.2.1)
+comes_at_end m t (MachineCall.Deposit who) asks = absurd (cc asks.1)
+comes_at_end m t MachineCall.Burn asks = absurd (cc asks.1)
+comes_at_end m t (MachineCall.Buy w) asks = absurd (cc asks.1)
+comes_at_end m t (MachineCall.DepositOut dest xcm) asks = absurd (cc asks.2.1)
+comes_at_end m t (MachineCall.Ship Way.Withdrawal dest xcm) asks = absurd (cc asks.2.1)
+comes_at_end m t (MachineCall.Ship Way.Teleport dest xcm) asks = absurd (cc asks.2.1)
+comes_at_end m t (MachineCall.Transfer list from to) asks = absurd (cc asks.2)
+comes_at_end m t (MachineCall.TransferOut list from dest xcm) asks = absurd (cc asks.2)
+comes_at_end m t (MachineCall.Respond info answer querier) asks = absurd asks.2
+comes_at_end m t MachineCall.HoldFee asks = no_fee_at_end m asks.0 asks.1
 comes_at_end m t _ asks = tt
 
-module _ (K : Midway → Type 0) (kept : IsKeptAtEnd K) where
+module _ (K : MachineWithGoods → Type 0) (kept : IsKeptAtEnd K) where
   abbrev Rests : Machine → Type 0
   Rests m = K (between m)
 
   pub told_rests : (m : Machine) (e : Event) → Rests m → Rests (machine m.regs (told m.part e))
-  told_rests m e k = subst (λ (p : ChainPart). Rests (machine m.regs p)) (part_is (HostCall.Tell e) (between m)) (kept.closing m (between m) (HostCall.Tell e) k (refl, refl) tt (from_itself m) refl k)
+  told_rests m e k = subst (λ (p : ChainPart). Rests (machine m.regs p)) (part_is (MachineCall.Tell e) (between m)) (kept.closing m (between m) (MachineCall.Tell e) k (refl, refl) tt (from_itself m) refl k)
 
   settled_rests : (m : Machine) → Rests m → Rests (machine m.regs (settled m.part))
-  settled_rests m k = subst (λ (p : ChainPart). Rests (machine m.regs p)) (part_is HostCall.Settle (between m)) (kept.closing m (between m) HostCall.Settle k (refl, refl) tt (from_itself m) refl k)
+  settled_rests m k = subst (λ (p : ChainPart). Rests (machine m.regs p)) (part_is MachineCall.Settle (between m)) (kept.closing m (between m) MachineCall.Settle k (refl, refl) tt (from_itself m) refl k)
 
-  emptied : (m : Machine) → Rests m → K (after HostCall.Empty (between m))
-  emptied m k = kept.closing m (between m) HostCall.Empty k (refl, refl) tt (from_itself m) refl k
+  emptied : (m : Machine) → Rests m → K (after MachineCall.Empty (between m))
+  emptied m k = kept.closing m (between m) MachineCall.Empty k (refl, refl) tt (from_itself m) refl k
 
-  from_emptied : (m : Machine) → IsFrom m (after HostCall.Empty (between m))
+  from_emptied : (m : Machine) → IsFrom m (after MachineCall.Empty (between m))
   from_emptied m = record { regs = refl; settings = refl }
 
   trapped_rests : (m : Machine) (who : Location) → Rests m → Rests (machine (with_holding m.regs empty) (trapped m.part m.regs.holding who))
-  trapped_rests m who k = let t = after HostCall.Empty (between m) in
-      subst (λ (p : ChainPart). Rests (machine (with_holding m.regs empty) p)) (part_is (HostCall.Trap who) t) (kept.closing m t (HostCall.Trap who) k refl tt (from_emptied m) refl (emptied m k))
+  trapped_rests m who k = let t = after MachineCall.Empty (between m) in
+      subst (λ (p : ChainPart). Rests (machine (with_holding m.regs empty) p)) (part_is (MachineCall.Trap who) t) (kept.closing m t (MachineCall.Trap who) k refl tt (from_emptied m) refl (emptied m k))
 
   pub abandoned_kept : (m : Machine) (now : ChainPart) → now ≡ abandoned m.regs m.part → Rests m → Ends K now
-  abandoned_kept m now is k = let t = after HostCall.Empty (between m) in
+  abandoned_kept m now is k = let t = after MachineCall.Empty (between m) in
       record {
         regs = with_holding m.regs empty;
         nothing = refl;
         kept = subst (λ (p : ChainPart). Rests (machine (with_holding m.regs empty) p)) (sym is)
-            (subst (λ (p : ChainPart). Rests (machine (with_holding m.regs empty) p)) (part_is HostCall.Park t) (kept.closing m t HostCall.Park k refl tt (from_emptied m) refl (emptied m k)));
+            (subst (λ (p : ChainPart). Rests (machine (with_holding m.regs empty) p)) (part_is MachineCall.Park t) (kept.closing m t MachineCall.Park k refl tt (from_emptied m) refl (emptied m k)));
       }
 
   refund_done : (m : Machine) → refused Instruction-F.RefundSurplus m ≡ None → Rests m → Rests (done Instruction-F.RefundSurplus m)
   refund_done m free k =
-      done_keeps Instruction-F.RefundSurplus m K (λ c t asks from ok kt. kept.closing m t c k (also_over Instruction-F.RefundSurplus m t c asks) (comes_at_end m t c asks) from ok kt) (λ t from kt. by_refund (refund_now m) t kt) free k
+      done_keeps Instruction-F.RefundSurplus m K (λ c t asks from ok kt. kept.closing m t c k (also_at_end Instruction-F.RefundSurplus m t c asks) (comes_at_end m t c asks) from ok kt) (λ t from kt. by_refund (refund_now m) t kt) free k
     where
-      by_refund : (o : Option (Location × ℕ)) (t : Midway) → K t → K (record t { regs = refund_noted m o t.regs })
+      by_refund : (o : Option (Location × ℕ)) (t : MachineWithGoods) → K t → K (record t { regs = refund_noted m o t.regs })
       by_refund None t kt = kt
       by_refund (Some given) t kt = kept.closed t (refund_noted m (Some given) t.regs) refl refl kt
 
@@ -164,7 +164,7 @@ module _ (K : Midway → Type 0) (kept : IsKeptAtEnd K) where
 
   refund_spilled : (m now : Machine) (l : Instruction-F Instruction) → l ≡ Instruction-F.RefundSurplus → Spilled l m now → Rests m → Rests now
   refund_spilled m now l is s k =
-      lead_keeps Instruction-F.RefundSurplus m K (λ c t early asks from ok kt. kept.closing m t c k (also_over Instruction-F.RefundSurplus m t c asks) (comes_at_end m t c asks) from ok kt) now (spilled_lead Instruction-F.RefundSurplus m now (subst (λ (l : Instruction-F Instruction). Spilled l m now) is s)) k
+      lead_keeps Instruction-F.RefundSurplus m K (λ c t early asks from ok kt. kept.closing m t c k (also_at_end Instruction-F.RefundSurplus m t c asks) (comes_at_end m t c asks) from ok kt) now (spilled_lead Instruction-F.RefundSurplus m now (subst (λ (l : Instruction-F Instruction). Spilled l m now) is s)) k
 
   pub at_end_kept : (m : Machine) (now : ChainPart) → HaltedAtEnd xcm spills m now → Rests m → Ends K now
   at_end_kept m now h k =
@@ -177,8 +177,8 @@ module _ (K : Midway → Type 0) (kept : IsKeptAtEnd K) where
       (λ e. abandoned_kept (machine last.regs (settled (end_told last))) now e (settled_rests (machine last.regs (end_told last)) told)) more) rest) h
 
 -- ---- one instruction, also where memory is refused
-module _ (x : Instruction) (m : Machine) (K : Midway → Type 0)
-    (step : (c : HostCall) (t : Midway) → Asks false (out-Instruction x) m t c → IsFrom m t → why_not c t ≡ None → K t → K (after c t)) (turn : (t : Midway) → IsFrom m t → K t → K (turned_at (out-Instruction x) m t)) where
+module _ (x : Instruction) (m : Machine) (K : MachineWithGoods → Type 0)
+    (step : (c : MachineCall) (t : MachineWithGoods) → HasReason Moment.Inside (out-Instruction x) m t c → IsFrom m t → why_not c t ≡ None → K t → K (after c t)) (turn : (t : MachineWithGoods) → IsFrom m t → K t → K (turned_at (out-Instruction x) m t)) where
   pub spilled_keeps : (now : Machine) → spills x m now → K (between m) → K (between now)
   spilled_keeps now s k = lead_keeps (out-Instruction x) m K (λ c t early. step c t) now (spilled_lead (out-Instruction x) m now s) k
 
@@ -191,13 +191,13 @@ module _ (x : Instruction) (m : Machine) (K : Midway → Type 0)
       ⊎_elim (λ (s : spills x m now). spilled_keeps now s k) (λ (p : (answer : Result (Unit {0}) XcmError) × Performed xcm x m answer now). performed_keeps now p.0 p.1 k) h
 
 -- ---- a fact that each call keeps
-pub kept_at_end : (Q : Instruction → Type 0) (K : Midway → Type 0) → IsKeptByCalls Q K → IsKeptAtEnd K
+pub kept_at_end : (Q : Instruction → Type 0) (K : MachineWithGoods → Type 0) → IsKeptByCalls Q K → IsKeptAtEnd K
 kept_at_end Q K kept = record {
   closing = λ m t c k asks comes from ok kt. kept.called refund_surplus Instruction-F.RefundSurplus refund_layer kept.refunds true m t c k asks from ok kt;
   closed = λ t r holding origin kt. kept.turned t r (stays_origin t.regs r holding origin) kt;
 }
 
-module _ (Q : Instruction → Type 0) (K : Midway → Type 0) (kept : IsKeptByCalls Q K) where
+module _ (Q : Instruction → Type 0) (K : MachineWithGoods → Type 0) (kept : IsKeptByCalls Q K) where
   abbrev pub At_rest : Machine → Type 0
   At_rest m = K (between m)
 
@@ -298,7 +298,7 @@ any_ahead : (g : Stage) → IsAheadOf any_kind g
 any_ahead (At part place x behind m) = record { ahead_hold = all_any (x ∷ behind); handler_holds = all_any m.regs.handler; appendix_holds = all_any m.regs.appendix }
 any_ahead (Ended m) = record { ahead_hold = tt; handler_holds = all_any m.regs.handler; appendix_holds = all_any m.regs.appendix }
 
-module _ (K : Midway → Type 0) (kept : IsKeptByCalls any_kind K) where
+module _ (K : MachineWithGoods → Type 0) (kept : IsKeptByCalls any_kind K) where
   pub keeps_done : (x : Instruction) (m : Machine) → refusal_of x m ≡ None → K (between m) → K (between (xcm.done x m))
   keeps_done x m free k = done_kept any_kind K kept x m tt free k
 

@@ -29,9 +29,9 @@ use Rattle.exec_rules.specs.Fees.{after_fee}
 use Rattle.exec_rules.specs.Reports.{reported_list}
 use Rattle.exec_rules.specs.Expectations.{pallet_at}
 use Rattle.exec_rules.specs.Instructions.{refused, done}
-use Rattle.exec_calls.specs.Calls.{Midway, between, HostCall, why_not, after, after_all, refusal_along, size_tests, for_origin, charge, around, buying, refunding, report, holding_report, pallet_tests, calls, turned_at}
+use Rattle.exec_calls.specs.Calls.{MachineWithGoods, between, MachineCall, why_not, after, after_all, refusal_along, size_tests, for_origin, charge, around, buying, refunding, report, holding_report, pallet_tests, calls, turned_at}
 use Rattle.exec_calls.specs.CallLaws.{charge_after, refused_is, done_is}
-use Rattle.exec_calls.specs.Reasons.{IsFrom, destination, IsFee, IsReport, Asks, AreAsked, ComesBeforeStop, LeadTo}
+use Rattle.exec_calls.specs.Reasons.{IsFrom, destination, IsFee, IsReport, Moment, HasReason, HaveReasons, ComesBeforeStop, IsLedTo}
 
 -- ---- no call changes other registers, or what the document says
 pub from_itself : (m : Machine) → IsFrom m (between m)
@@ -40,43 +40,43 @@ from_itself m = record { regs = refl; settings = refl }
 other_holding : (m : Machine) (r : Registers) (b : Bundle) → r ≡ with_holding m.regs r.holding → with_holding r b ≡ with_holding m.regs b
 other_holding m r b e = ap (λ (r : Registers). with_holding r b) e
 
-pub from_after : (c : HostCall) (m : Machine) (t : Midway) → IsFrom m t → IsFrom m (after c t)
-from_after (HostCall.Take filter) m t f = record { regs = other_holding m t.regs _ f.regs; settings = f.settings }
-from_after (HostCall.Pay a) m t f = record { regs = other_holding m t.regs _ f.regs; settings = f.settings }
-from_after HostCall.Join m t f = record { regs = other_holding m t.regs _ f.regs; settings = f.settings }
-from_after HostCall.Empty m t f = record { regs = other_holding m t.regs _ f.regs; settings = f.settings }
+pub from_after : (c : MachineCall) (m : Machine) (t : MachineWithGoods) → IsFrom m t → IsFrom m (after c t)
+from_after (MachineCall.Take filter) m t f = record { regs = other_holding m t.regs _ f.regs; settings = f.settings }
+from_after (MachineCall.Pay a) m t f = record { regs = other_holding m t.regs _ f.regs; settings = f.settings }
+from_after MachineCall.Join m t f = record { regs = other_holding m t.regs _ f.regs; settings = f.settings }
+from_after MachineCall.Empty m t f = record { regs = other_holding m t.regs _ f.regs; settings = f.settings }
 from_after _ m t f = record { regs = f.regs; settings = f.settings }
 
 -- ---- some calls and then others
-pub asked_both : (l : Instruction-F Instruction) (m : Machine) (xs ys : List HostCall) (t : Midway) → AreAsked l m xs t → AreAsked l m ys (after_all xs t) → AreAsked l m (xs ++ ys) t
+pub asked_both : (l : Instruction-F Instruction) (m : Machine) (xs ys : List MachineCall) (t : MachineWithGoods) → HaveReasons l m xs t → HaveReasons l m ys (after_all xs t) → HaveReasons l m (xs ++ ys) t
 asked_both l m [] ys t a b = b
 asked_both l m (c ∷ xs) ys t a b = (a.0, asked_both l m xs ys (after c t) a.1 b)
 
-pub early_both : (xs ys : List HostCall) → AllByRecursion ComesBeforeStop xs → AllByRecursion ComesBeforeStop ys → AllByRecursion ComesBeforeStop (xs ++ ys)
+pub early_both : (xs ys : List MachineCall) → AllByRecursion ComesBeforeStop xs → AllByRecursion ComesBeforeStop ys → AllByRecursion ComesBeforeStop (xs ++ ys)
 early_both [] ys a b = b
 early_both (c ∷ xs) ys a b = (a.0, early_both xs ys a.1 b)
 
 module _ (l : Instruction-F Instruction) (m : Machine) where
-  for_origin_asked : (o : Option Location) (made : Location → List HostCall) (t : Midway) → m.regs.origin ≡ o → ((who : Location) → m.regs.origin ≡ Some who → AreAsked l m (made who) t) → AreAsked l m (for_origin o made) t
+  for_origin_asked : (o : Option Location) (made : Location → List MachineCall) (t : MachineWithGoods) → m.regs.origin ≡ o → ((who : Location) → m.regs.origin ≡ Some who → HaveReasons l m (made who) t) → HaveReasons l m (for_origin o made) t
   for_origin_asked None made t is asked = (refl, tt)
   for_origin_asked (Some who) made t is asked = asked who is
 
   -- ---- the fee
-  pub charge_asked : (fee : Asset) → IsFee l m fee → AreAsked l m (charge m fee) (between m)
+  pub charge_asked : (fee : Asset) → IsFee l m fee → HaveReasons l m (charge m fee) (between m)
   charge_asked fee is = by_mode m.regs.fees_mode
     where
-      by_mode : (b : Bool) → AreAsked l m (if b then for_origin m.regs.origin (λ who. HostCall.Draw fee who ∷ HostCall.HoldFee ∷ []) else HostCall.Pay fee ∷ HostCall.HoldFee ∷ []) (between m)
+      by_mode : (b : Bool) → HaveReasons l m (if b then for_origin m.regs.origin (λ who. MachineCall.Draw fee who ∷ MachineCall.HoldFee ∷ []) else MachineCall.Pay fee ∷ MachineCall.HoldFee ∷ []) (between m)
       by_mode true = for_origin_asked m.regs.origin _ (between m) refl (λ who speaks. ((refl, speaks, is), ((fee, is, refl, refl), tt)))
       by_mode false = ((refl, inl is), ((fee, is, refl, refl), tt))
 
   pub charge_early : (fee : Asset) → AllByRecursion ComesBeforeStop (charge m fee)
   charge_early fee = by_mode m.regs.fees_mode
     where
-      by_account : (o : Option Location) → AllByRecursion ComesBeforeStop (for_origin o (λ who. HostCall.Draw fee who ∷ HostCall.HoldFee ∷ []))
+      by_account : (o : Option Location) → AllByRecursion ComesBeforeStop (for_origin o (λ who. MachineCall.Draw fee who ∷ MachineCall.HoldFee ∷ []))
       by_account None = (tt, tt)
       by_account (Some who) = (tt, (tt, tt))
 
-      by_mode : (b : Bool) → AllByRecursion ComesBeforeStop (if b then for_origin m.regs.origin (λ who. HostCall.Draw fee who ∷ HostCall.HoldFee ∷ []) else HostCall.Pay fee ∷ HostCall.HoldFee ∷ [])
+      by_mode : (b : Bool) → AllByRecursion ComesBeforeStop (if b then for_origin m.regs.origin (λ who. MachineCall.Draw fee who ∷ MachineCall.HoldFee ∷ []) else MachineCall.Pay fee ∷ MachineCall.HoldFee ∷ [])
       by_mode true = by_account m.regs.origin
       by_mode false = (tt, (tt, tt))
 
@@ -118,37 +118,37 @@ module _ (l : Instruction-F Instruction) (m : Machine) where
   taken_first : (n : Machine) (filter : Filter) → IsWithin n.regs.holding m.regs.holding → IsWithin (Taken filter n.regs.holding) m.regs.holding
   taken_first n filter less u = let taken = Taken-within filter n.regs.holding u in let held = less u in omega (arith, taken, held)
 
-  around_asked : (dest : Location) (o : Option Asset) (inside : Machine → List HostCall) → destination l ≡ Some dest → fee_to m.part dest ≡ o
-      → ((n : Machine) → n.part.channels ≡ m.part.channels → n.regs.origin ≡ m.regs.origin → IsWithin n.regs.holding m.regs.holding → AreAsked l m (inside n) (between n)) → AreAsked l m (around o m inside) (between m)
+  around_asked : (dest : Location) (o : Option Asset) (inside : Machine → List MachineCall) → destination l ≡ Some dest → fee_to m.part dest ≡ o
+      → ((n : Machine) → n.part.channels ≡ m.part.channels → n.regs.origin ≡ m.regs.origin → IsWithin n.regs.holding m.regs.holding → HaveReasons l m (inside n) (between n)) → HaveReasons l m (around o m inside) (between m)
   around_asked dest None inside goes is asked = asked m refl refl (λ u. omega arith)
   around_asked dest (Some fee) inside goes is asked =
       let n = after_fee m fee in
-      asked_both l m (charge m fee) (inside n ++ HostCall.KeepFee ∷ []) (between m) (charge_asked fee (dest, goes, is))
-      (subst (AreAsked l m (inside n ++ HostCall.KeepFee ∷ [])) (sym (charge_after m fee))
-      (asked_both l m (inside n) (HostCall.KeepFee ∷ []) (between n) (asked n (charge_channels fee) (charge_origin fee) (charge_within fee)) (tt, tt)))
+      asked_both l m (charge m fee) (inside n ++ MachineCall.KeepFee ∷ []) (between m) (charge_asked fee (dest, goes, is))
+      (subst (HaveReasons l m (inside n ++ MachineCall.KeepFee ∷ [])) (sym (charge_after m fee))
+      (asked_both l m (inside n) (MachineCall.KeepFee ∷ []) (between n) (asked n (charge_channels fee) (charge_origin fee) (charge_within fee)) (tt, tt)))
 
-  holding_asked : (n : Machine) (info : QueryInfo) (o : Option (List Asset)) → IsReport l info → n.part.channels ≡ m.part.channels → n.regs.origin ≡ m.regs.origin → AreAsked l m (holding_report n info o) (between n)
+  holding_asked : (n : Machine) (info : QueryInfo) (o : Option (List Asset)) → IsReport l info → n.part.channels ≡ m.part.channels → n.regs.origin ≡ m.regs.origin → HaveReasons l m (holding_report n info o) (between n)
   holding_asked n info None reports unsent same = (refl, tt)
   holding_asked n info (Some list) reports unsent same = by_length (nat_le (length list) 20)
     where
-      by_length : (b : Bool) → AreAsked l m (size_tests n info b ++ report n info (response.Assets list)) (between n)
+      by_length : (b : Bool) → HaveReasons l m (size_tests n info b ++ report n info (response.Assets list)) (between n)
       by_length true = ((unsent, same, reports), tt)
       by_length false = (refl, (refl, (refl, ((unsent, same, reports), tt))))
 
 -- ---- each instruction
-pallet_asked : (l : Instruction-F Instruction) (m : Machine) (o : Option PalletInfo) (name module_name : List ℕ) (major least_minor : ℕ) → AreAsked l m (pallet_tests o name module_name major least_minor) (between m)
+pallet_asked : (l : Instruction-F Instruction) (m : Machine) (o : Option PalletInfo) (name module_name : List ℕ) (major least_minor : ℕ) → HaveReasons l m (pallet_tests o name module_name major least_minor) (between m)
 pallet_asked l m None name module_name major least_minor = (refl, tt)
 pallet_asked l m (Some info) name module_name major least_minor = (refl, (refl, tt))
 
-buying_asked : (m : Machine) (fees : Asset) (limit : WeightLimit) → AreAsked (Instruction-F.BuyExecution fees limit) m (buying fees limit) (between m)
+buying_asked : (m : Machine) (fees : Asset) (limit : WeightLimit) → HaveReasons (Instruction-F.BuyExecution fees limit) m (buying fees limit) (between m)
 buying_asked m fees Unlimited = tt
 buying_asked m fees (Limited w) = ((refl, inr (w, refl)), ((fees, refl, refl), (tt, tt)))
 
-refunding_asked : (m : Machine) (o : Option (Location × ℕ)) → AreAsked Instruction-F.RefundSurplus m (refunding m o) (between m)
+refunding_asked : (m : Machine) (o : Option (Location × ℕ)) → HaveReasons Instruction-F.RefundSurplus m (refunding m o) (between m)
 refunding_asked m None = tt
 refunding_asked m (Some given) = (refl, ((refl, refl), (tt, tt)))
 
-pub asked : (l : Instruction-F Instruction) (m : Machine) → AreAsked l m (calls l m) (between m)
+pub asked : (l : Instruction-F Instruction) (m : Machine) → HaveReasons l m (calls l m) (between m)
 asked (Instruction-F.WithdrawAsset list) m = for_origin_asked (Instruction-F.WithdrawAsset list) m m.regs.origin _ (between m) refl (λ who is. (refl, ((refl, is, refl), (tt, tt))))
 asked (Instruction-F.ReserveAssetDeposited list) m = (refl, (refl, ((refl, refl, refl), (tt, tt))))
 asked (Instruction-F.ReceiveTeleportedAsset list) m = (refl, (refl, ((refl, refl, refl), (tt, tt))))
@@ -192,14 +192,14 @@ asked (Instruction-F.AliasOrigin target) m = for_origin_asked (Instruction-F.Ali
 asked _ m = tt
 
 -- ---- what each call keeps, all calls keep
-pub from_all : (m : Machine) (cs : List HostCall) (t : Midway) → IsFrom m t → IsFrom m (after_all cs t)
+pub from_all : (m : Machine) (cs : List MachineCall) (t : MachineWithGoods) → IsFrom m t → IsFrom m (after_all cs t)
 from_all m [] t f = f
 from_all m (c ∷ cs) t f = from_all m cs (after c t) (from_after c m t f)
 
-module _ (l : Instruction-F Instruction) (m : Machine) (K : Midway → Type 0) where
+module _ (l : Instruction-F Instruction) (m : Machine) (K : MachineWithGoods → Type 0) where
   -- where each call is accepted
-  module _ (step : (c : HostCall) (t : Midway) → Asks false l m t c → IsFrom m t → why_not c t ≡ None → K t → K (after c t)) where
-    pub kept_along : (cs : List HostCall) (t : Midway) → AreAsked l m cs t → IsFrom m t → refusal_along cs t ≡ None → K t → K (after_all cs t)
+  module _ (step : (c : MachineCall) (t : MachineWithGoods) → HasReason Moment.Inside l m t c → IsFrom m t → why_not c t ≡ None → K t → K (after c t)) where
+    pub kept_along : (cs : List MachineCall) (t : MachineWithGoods) → HaveReasons l m cs t → IsFrom m t → refusal_along cs t ≡ None → K t → K (after_all cs t)
     kept_along [] t a from free k = k
     kept_along (c ∷ cs) t a from free k =
         kept_along cs (after c t) a.1 (from_after c m t from) (none_next (why_not c t) (refusal_along cs (after c t)) free) (step c t a.0 from (none_first (why_not c t) (refusal_along cs (after c t)) free) k)
@@ -209,37 +209,37 @@ module _ (l : Instruction-F Instruction) (m : Machine) (K : Midway → Type 0) w
     calls_keep free k = kept_along (calls l m) (between m) (asked l m) (from_itself m) (sym (refused_is l m) ∙ free) k
 
     -- and with them
-    pub done_keeps : ((t : Midway) → IsFrom m t → K t → K (turned_at l m t)) → refused l m ≡ None → K (between m) → K (between (done l m))
+    pub done_keeps : ((t : MachineWithGoods) → IsFrom m t → K t → K (turned_at l m t)) → refused l m ≡ None → K (between m) → K (between (done l m))
     done_keeps turn free k = subst K (sym (done_is l m)) (turn (after_all (calls l m) (between m)) (from_all m (calls l m) (between m) (from_itself m)) (calls_keep free k))
 
   -- wherever accepted calls lead, where memory stops an instruction
-  module _ (step : (c : HostCall) (t : Midway) → ComesBeforeStop c → Asks false l m t c → IsFrom m t → why_not c t ≡ None → K t → K (after c t)) where
-    led_along : (cs : List HostCall) (t : Midway) → AllByRecursion ComesBeforeStop cs → AreAsked l m cs t → IsFrom m t → refusal_along cs t ≡ None → K t → K (after_all cs t)
+  module _ (step : (c : MachineCall) (t : MachineWithGoods) → ComesBeforeStop c → HasReason Moment.Inside l m t c → IsFrom m t → why_not c t ≡ None → K t → K (after c t)) where
+    led_along : (cs : List MachineCall) (t : MachineWithGoods) → AllByRecursion ComesBeforeStop cs → HaveReasons l m cs t → IsFrom m t → refusal_along cs t ≡ None → K t → K (after_all cs t)
     led_along [] t early a from free k = k
     led_along (c ∷ cs) t early a from free k =
         led_along cs (after c t) early.1 a.1 (from_after c m t from) (none_next (why_not c t) (refusal_along cs (after c t)) free)
         (step c t early.0 a.0 from (none_first (why_not c t) (refusal_along cs (after c t)) free) k)
 
-    pub lead_keeps : (now : Machine) → LeadTo l m now → K (between m) → K (between now)
+    pub lead_keeps : (now : Machine) → IsLedTo l m now → K (between m) → K (between now)
     lead_keeps now led k = subst K (sym led.there) (led_along led.made (between m) led.early led.asked (from_itself m) led.free k)
 
   -- whether or not calls are accepted
-  module _ (step : (c : HostCall) (t : Midway) → Asks false l m t c → IsFrom m t → K t → K (after c t)) where
-    each_along : (cs : List HostCall) (t : Midway) → AreAsked l m cs t → IsFrom m t → K t → K (after_all cs t)
+  module _ (step : (c : MachineCall) (t : MachineWithGoods) → HasReason Moment.Inside l m t c → IsFrom m t → K t → K (after c t)) where
+    each_along : (cs : List MachineCall) (t : MachineWithGoods) → HaveReasons l m cs t → IsFrom m t → K t → K (after_all cs t)
     each_along [] t a from k = k
     each_along (c ∷ cs) t a from k = each_along cs (after c t) a.1 (from_after c m t from) (step c t a.0 from k)
 
-    pub each_keeps : ((t : Midway) → IsFrom m t → K t → K (turned_at l m t)) → K (between m) → K (between (done l m))
+    pub each_keeps : ((t : MachineWithGoods) → IsFrom m t → K t → K (turned_at l m t)) → K (between m) → K (between (done l m))
     each_keeps turn k = subst K (sym (done_is l m)) (turn (after_all (calls l m) (between m)) (from_all m (calls l m) (between m) (from_itself m)) (each_along (calls l m) (between m) (asked l m) (from_itself m) k))
 
   -- what is said of each refusal is said of the instruction's
-  module _ (N : Option XcmError → Type 0) (none : N None) (step : (c : HostCall) (t : Midway) → Asks false l m t c → IsFrom m t → why_not c t ≡ None → K t → K (after c t))
-      (why : (c : HostCall) (t : Midway) → Asks false l m t c → IsFrom m t → K t → N (why_not c t)) where
+  module _ (N : Option XcmError → Type 0) (none : N None) (step : (c : MachineCall) (t : MachineWithGoods) → HasReason Moment.Inside l m t c → IsFrom m t → why_not c t ≡ None → K t → K (after c t))
+      (why : (c : MachineCall) (t : MachineWithGoods) → HasReason Moment.Inside l m t c → IsFrom m t → K t → N (why_not c t)) where
     refusal_by : (o rest : Option XcmError) → N o → (o ≡ None → N rest) → N (or_else o rest)
     refusal_by None rest n h = h refl
     refusal_by (Some e) rest n h = n
 
-    refusals_along : (cs : List HostCall) (t : Midway) → AreAsked l m cs t → IsFrom m t → K t → N (refusal_along cs t)
+    refusals_along : (cs : List MachineCall) (t : MachineWithGoods) → HaveReasons l m cs t → IsFrom m t → K t → N (refusal_along cs t)
     refusals_along [] t a from k = none
     refusals_along (c ∷ cs) t a from k =
         refusal_by (why_not c t) (refusal_along cs (after c t)) (why c t a.0 from k) (λ free. refusals_along cs (after c t) a.1 (from_after c m t from) (step c t a.0 from free k))

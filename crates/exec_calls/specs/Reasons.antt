@@ -17,40 +17,40 @@ use Rattle.xcm_program.specs.declared.instruction.Instruction.TheOpen.{Instructi
 use Rattle.exec_base.specs.Host.{fee_to}
 use Rattle.exec_run.specs.Machine.{Machine}
 use Rattle.exec_rules.specs.Holdings.{with_holding, payment_of, not_refunded}
-use Rattle.exec_calls.specs.Calls.{Midway, between, HostCall, after, after_all, refusal_along}
+use Rattle.exec_calls.specs.Calls.{MachineWithGoods, between, MachineCall, after, after_all, refusal_along}
 
 -- what no call of an instruction changes: the registers, but for the holding, and what the network document says of the chain
-pub record IsFrom (m : Machine) (t : Midway) : Type 0 where
+pub record IsFrom (m : Machine) (t : MachineWithGoods) : Type 0 where
   pub regs : t.regs ≡ with_holding m.regs t.regs.holding
   pub settings : t.part.settings ≡ m.part.settings
 
--- the errors that instructions answer by tests of their own
-abbrev pub is_own : XcmError → Bool
-is_own error.Unimplemented = true
-is_own error.LocationFull = true
-is_own error.BadOrigin = true
-is_own error.InvalidLocation = true
-is_own error.ExceedsMaxMessageSize = true
-is_own error.Unroutable = true
-is_own error.UnknownClaim = true
-is_own error.FailedToDecode = true
-is_own (error.Trap code) = true
-is_own error.ExpectationFalse = true
-is_own error.PalletNotFound = true
-is_own error.NameMismatch = true
-is_own error.VersionIncompatible = true
-is_own error.HoldingWouldOverflow = true
-is_own error.ReanchorFailed = true
-is_own error.NoDeal = true
-is_own error.LockError = true
-is_own error.NoPermission = true
-is_own _ = false
+-- the errors that an instruction answers by a test of its own, and not by a call of the host
+abbrev pub is_test_error : XcmError → Bool
+is_test_error error.Unimplemented = true
+is_test_error error.LocationFull = true
+is_test_error error.BadOrigin = true
+is_test_error error.InvalidLocation = true
+is_test_error error.ExceedsMaxMessageSize = true
+is_test_error error.Unroutable = true
+is_test_error error.UnknownClaim = true
+is_test_error error.FailedToDecode = true
+is_test_error (error.Trap code) = true
+is_test_error error.ExpectationFalse = true
+is_test_error error.PalletNotFound = true
+is_test_error error.NameMismatch = true
+is_test_error error.VersionIncompatible = true
+is_test_error error.HoldingWouldOverflow = true
+is_test_error error.ReanchorFailed = true
+is_test_error error.NoDeal = true
+is_test_error error.LockError = true
+is_test_error error.NoPermission = true
+is_test_error _ = false
 
-abbrev pub HasNone : Midway → Type 0
+abbrev pub HasNone : MachineWithGoods → Type 0
 HasNone t = t.goods ≡ empty
 
 -- nothing was asked before, but tests
-abbrev pub IsFirst : Machine → Midway → Type 0
+abbrev pub IsFirst : Machine → MachineWithGoods → Type 0
 IsFirst m t = t ≡ between m
 
 -- for whom the instruction speaks
@@ -58,11 +58,11 @@ abbrev pub Speaks : Machine → Location → Type 0
 Speaks m who = m.regs.origin ≡ Some who
 
 -- nothing was sent before
-abbrev pub IsUnsent : Machine → Midway → Type 0
+abbrev pub IsUnsent : Machine → MachineWithGoods → Type 0
 IsUnsent m t = t.part.channels ≡ m.part.channels
 
 -- what is in hand is part of what was held at first
-abbrev pub HasTaken : Machine → Midway → Type 0
+abbrev pub HasTaken : Machine → MachineWithGoods → Type 0
 HasTaken m t = IsWithin t.goods m.regs.holding
 
 -- where an instruction sends to; all others send nothing
@@ -97,78 +97,83 @@ IsReport (Instruction-F.QueryPallet name to) info = to ≡ info
 IsReport (Instruction-F.ReportTransactStatus to) info = to ≡ info
 IsReport l info = ⊥
 
--- an instruction that began at the machine asks for the call where it has come to; or, where the run is over, its end does
-abbrev pub Asks : Bool → Instruction-F Instruction → Machine → Midway → HostCall → Type 0
-Asks over l m t (HostCall.Check ok e) = IsTrue (is_own e)
-Asks over l m t (HostCall.Take filter) = HasNone t
-Asks over l m t (HostCall.Pay a) = IsFirst m t × (IsFee l m a ⊎ ((w : Weight) × (l ≡ Instruction-F.BuyExecution a (Limited w))))
-Asks over l m t HostCall.Join = ⊤
-Asks over l m t (HostCall.Withdraw list who) = IsFirst m t × Speaks m who × (l ≡ Instruction-F.WithdrawAsset list)
-Asks over l m t (HostCall.Draw fee who) = IsFirst m t × Speaks m who × IsFee l m fee
-Asks over l m t (HostCall.Receive list from teleport) = IsFirst m t × (from ≡ m.regs.origin) × (l ≡ arriving list teleport)
-Asks over l m t (HostCall.Claim list who) = IsFirst m t × Speaks m who × ((ticket : Location) × (l ≡ Instruction-F.ClaimAsset list ticket))
-Asks over l m t (HostCall.Refund w) = IsFirst m t × (w ≡ not_refunded m)
-Asks over l m t (HostCall.Deposit who) = (filter : Filter) × (l ≡ Instruction-F.DepositAsset filter who)
-Asks over l m t HostCall.Burn = (list : List Asset) × (l ≡ Instruction-F.BurnAsset list)
-Asks over l m t (HostCall.Buy w) = (fees : Asset) × (l ≡ Instruction-F.BuyExecution fees (Limited w)) × (t ≡ after (HostCall.Pay fees) (between m))
-Asks over l m t (HostCall.DepositOut dest xcm) = IsUnsent m t × HasTaken m t × ((filter : Filter) × (l ≡ Instruction-F.DepositReserveAsset filter dest xcm))
-Asks over l m t (HostCall.Ship way dest xcm) = IsUnsent m t × HasTaken m t × ((filter : Filter) × (l ≡ shipping way filter dest xcm))
-Asks over l m t (HostCall.Transfer list from to) = IsFirst m t × Speaks m from × (l ≡ Instruction-F.TransferAsset list to)
-Asks over l m t (HostCall.TransferOut list from dest xcm) = IsUnsent m t × Speaks m from × (l ≡ Instruction-F.TransferReserveAsset list dest xcm)
-Asks over l m t (HostCall.Respond info answer querier) = IsUnsent m t × (querier ≡ m.regs.origin) × IsReport l info
-Asks over l m t (HostCall.Answer from query) = IsFirst m t × Speaks m from
-Asks over l m t HostCall.HoldFee = (fee : Asset) × IsFee l m fee × (t.goods ≡ payment_of fee) × (t.part.fee_slot ≡ m.part.fee_slot)
-Asks over l m t HostCall.TakeFee = HasNone t
-Asks over l m t HostCall.KeepFee = ⊤
-Asks over l m t HostCall.Park = t.part.parked ≡ m.part.parked
-Asks over l m t HostCall.Empty = IsTrue over × HasNone t
-Asks over l m t (HostCall.Tell e) = IsTrue over × HasNone t
-Asks over l m t HostCall.Settle = IsTrue over × HasNone t
-Asks over l m t (HostCall.Trap who) = IsTrue over
+-- when a call is asked: inside an instruction, or at the end of a run
+pub data Moment : Type 0 where
+  Inside : Moment
+  AtEnd : Moment
+
+-- why a call is asked where an instruction that began at the machine has come to; what only the end of a run asks has none inside one
+abbrev pub HasReason : Moment → Instruction-F Instruction → Machine → MachineWithGoods → MachineCall → Type 0
+HasReason moment l m t (MachineCall.Check ok e) = IsTrue (is_test_error e)
+HasReason moment l m t (MachineCall.Take filter) = HasNone t
+HasReason moment l m t (MachineCall.Pay a) = IsFirst m t × (IsFee l m a ⊎ ((w : Weight) × (l ≡ Instruction-F.BuyExecution a (Limited w))))
+HasReason moment l m t MachineCall.Join = ⊤
+HasReason moment l m t (MachineCall.Withdraw list who) = IsFirst m t × Speaks m who × (l ≡ Instruction-F.WithdrawAsset list)
+HasReason moment l m t (MachineCall.Draw fee who) = IsFirst m t × Speaks m who × IsFee l m fee
+HasReason moment l m t (MachineCall.Receive list from teleport) = IsFirst m t × (from ≡ m.regs.origin) × (l ≡ arriving list teleport)
+HasReason moment l m t (MachineCall.Claim list who) = IsFirst m t × Speaks m who × ((ticket : Location) × (l ≡ Instruction-F.ClaimAsset list ticket))
+HasReason moment l m t (MachineCall.Refund w) = IsFirst m t × (w ≡ not_refunded m)
+HasReason moment l m t (MachineCall.Deposit who) = (filter : Filter) × (l ≡ Instruction-F.DepositAsset filter who)
+HasReason moment l m t MachineCall.Burn = (list : List Asset) × (l ≡ Instruction-F.BurnAsset list)
+HasReason moment l m t (MachineCall.Buy w) = (fees : Asset) × (l ≡ Instruction-F.BuyExecution fees (Limited w)) × (t ≡ after (MachineCall.Pay fees) (between m))
+HasReason moment l m t (MachineCall.DepositOut dest xcm) = IsUnsent m t × HasTaken m t × ((filter : Filter) × (l ≡ Instruction-F.DepositReserveAsset filter dest xcm))
+HasReason moment l m t (MachineCall.Ship way dest xcm) = IsUnsent m t × HasTaken m t × ((filter : Filter) × (l ≡ shipping way filter dest xcm))
+HasReason moment l m t (MachineCall.Transfer list from to) = IsFirst m t × Speaks m from × (l ≡ Instruction-F.TransferAsset list to)
+HasReason moment l m t (MachineCall.TransferOut list from dest xcm) = IsUnsent m t × Speaks m from × (l ≡ Instruction-F.TransferReserveAsset list dest xcm)
+HasReason moment l m t (MachineCall.Respond info answer querier) = IsUnsent m t × (querier ≡ m.regs.origin) × IsReport l info
+HasReason moment l m t (MachineCall.Answer from query) = IsFirst m t × Speaks m from
+HasReason moment l m t MachineCall.HoldFee = (fee : Asset) × IsFee l m fee × (t.goods ≡ payment_of fee) × (t.part.fee_slot ≡ m.part.fee_slot)
+HasReason moment l m t MachineCall.TakeFee = HasNone t
+HasReason moment l m t MachineCall.KeepFee = ⊤
+HasReason moment l m t MachineCall.Park = t.part.parked ≡ m.part.parked
+HasReason moment l m t MachineCall.Empty = (moment ≡ Moment.AtEnd) × HasNone t
+HasReason moment l m t (MachineCall.Tell e) = (moment ≡ Moment.AtEnd) × HasNone t
+HasReason moment l m t MachineCall.Settle = (moment ≡ Moment.AtEnd) × HasNone t
+HasReason moment l m t (MachineCall.Trap who) = moment ≡ Moment.AtEnd
 
 -- each of some calls, one after the other
-abbrev pub AreAsked : Instruction-F Instruction → Machine → List HostCall → Midway → Type 0
-AreAsked l m [] t = ⊤
-AreAsked l m (c ∷ cs) t = Asks false l m t c × AreAsked l m cs (after c t)
+abbrev pub HaveReasons : Instruction-F Instruction → Machine → List MachineCall → MachineWithGoods → Type 0
+HaveReasons l m [] t = ⊤
+HaveReasons l m (c ∷ cs) t = HasReason Moment.Inside l m t c × HaveReasons l m cs (after c t)
 
 -- what may have been asked where memory stops an instruction: goods came, or were taken out, and are put aside; nothing else is changed yet
-abbrev pub ComesBeforeStop : HostCall → Type 0
-ComesBeforeStop HostCall.Join = ⊥
-ComesBeforeStop (HostCall.Deposit who) = ⊥
-ComesBeforeStop HostCall.Burn = ⊥
-ComesBeforeStop (HostCall.DepositOut dest xcm) = ⊥
-ComesBeforeStop (HostCall.Ship way dest xcm) = ⊥
-ComesBeforeStop (HostCall.Transfer list from to) = ⊥
-ComesBeforeStop (HostCall.TransferOut list from dest xcm) = ⊥
-ComesBeforeStop (HostCall.Respond info answer querier) = ⊥
-ComesBeforeStop (HostCall.Answer from query) = ⊥
-ComesBeforeStop HostCall.KeepFee = ⊥
+abbrev pub ComesBeforeStop : MachineCall → Type 0
+ComesBeforeStop MachineCall.Join = ⊥
+ComesBeforeStop (MachineCall.Deposit who) = ⊥
+ComesBeforeStop MachineCall.Burn = ⊥
+ComesBeforeStop (MachineCall.DepositOut dest xcm) = ⊥
+ComesBeforeStop (MachineCall.Ship way dest xcm) = ⊥
+ComesBeforeStop (MachineCall.Transfer list from to) = ⊥
+ComesBeforeStop (MachineCall.TransferOut list from dest xcm) = ⊥
+ComesBeforeStop (MachineCall.Respond info answer querier) = ⊥
+ComesBeforeStop (MachineCall.Answer from query) = ⊥
+ComesBeforeStop MachineCall.KeepFee = ⊥
 ComesBeforeStop _ = ⊤
 
 -- what the end of a run may ask: its last refund, the line that tells of it, settlement, and what is held is trapped or put aside; no account
 -- is charged, and nothing is sent
-abbrev pub ComesAtEnd : HostCall → Type 0
-ComesAtEnd (HostCall.Check ok e) = ⊤
-ComesAtEnd (HostCall.Take filter) = ⊤
-ComesAtEnd HostCall.Join = ⊤
-ComesAtEnd (HostCall.Refund w) = ⊤
-ComesAtEnd (HostCall.Answer from query) = ⊤
-ComesAtEnd HostCall.TakeFee = ⊤
-ComesAtEnd HostCall.KeepFee = ⊤
-ComesAtEnd HostCall.Park = ⊤
-ComesAtEnd HostCall.Empty = ⊤
-ComesAtEnd (HostCall.Tell e) = ⊤
-ComesAtEnd HostCall.Settle = ⊤
-ComesAtEnd (HostCall.Trap who) = ⊤
+abbrev pub ComesAtEnd : MachineCall → Type 0
+ComesAtEnd (MachineCall.Check ok e) = ⊤
+ComesAtEnd (MachineCall.Take filter) = ⊤
+ComesAtEnd MachineCall.Join = ⊤
+ComesAtEnd (MachineCall.Refund w) = ⊤
+ComesAtEnd (MachineCall.Answer from query) = ⊤
+ComesAtEnd MachineCall.TakeFee = ⊤
+ComesAtEnd MachineCall.KeepFee = ⊤
+ComesAtEnd MachineCall.Park = ⊤
+ComesAtEnd MachineCall.Empty = ⊤
+ComesAtEnd (MachineCall.Tell e) = ⊤
+ComesAtEnd MachineCall.Settle = ⊤
+ComesAtEnd (MachineCall.Trap who) = ⊤
 ComesAtEnd _ = ⊥
 
 -- accepted calls of an instruction that began at the first machine lead from where it has come to, to another machine, where memory stops it
-pub record LeadFrom (l : Instruction-F Instruction) (m : Machine) (t : Midway) (now : Machine) : Type 0 where
-  pub made : List HostCall
-  pub asked : AreAsked l m made t
+pub record IsLedFrom (l : Instruction-F Instruction) (m : Machine) (t : MachineWithGoods) (now : Machine) : Type 0 where
+  pub made : List MachineCall
+  pub asked : HaveReasons l m made t
   pub early : AllByRecursion ComesBeforeStop made
   pub free : refusal_along made t ≡ None
   pub there : between now ≡ after_all made t
 
-abbrev pub LeadTo : Instruction-F Instruction → Machine → Machine → Type 0
-LeadTo l m now = LeadFrom l m (between m) now
+abbrev pub IsLedTo : Instruction-F Instruction → Machine → Machine → Type 0
+IsLedTo l m now = IsLedFrom l m (between m) now

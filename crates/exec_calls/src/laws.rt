@@ -14,7 +14,7 @@ ghost use Rattle.exec_admission.specs.declared.rules.ChainRules.{ChainRules};
 ghost use Rattle.exec_admission.specs.declared.admission.Admitted.{Admitted};
 ghost use Rattle.exec_admission.specs.Execution.{first_machine, first_stage, executed_by, AbandonedIn};
 ghost use Rattle.exec_calls.specs.Calls.{between, refusal_along, calls, through};
-ghost use Rattle.exec_calls.specs.Reasons.{AreAsked, LeadTo};
+ghost use Rattle.exec_calls.specs.Reasons.{HaveReasons, IsLedTo};
 ghost use Rattle.exec_calls.specs.Kept.{Ends};
 
 /// An instruction is refused by the first of its calls that is refused, and else leaves what they leave, with the registers that it changes. Each
@@ -22,21 +22,21 @@ ghost use Rattle.exec_calls.specs.Kept.{Ends};
 pub fn law_of_calls()
     ensures refused { (l : Instruction-F Instruction) (m : Machine) → refused l m ≡ refusal_along (calls l m) (between m) }
     ensures done { (l : Instruction-F Instruction) (m : Machine) → between (done l m) ≡ through l m }
-    ensures asked { (l : Instruction-F Instruction) (m : Machine) → AreAsked l m (calls l m) (between m) }
-    ensures stopped { (l : Instruction-F Instruction) (m now : Machine) → Spilled l m now → LeadTo l m now }
+    ensures asked { (l : Instruction-F Instruction) (m : Machine) → HaveReasons l m (calls l m) (between m) }
+    ensures stopped { (l : Instruction-F Instruction) (m now : Machine) → Spilled l m now → IsLedTo l m now }
 {}
 
 /// A fact that each call keeps, where the instructions are of one kind.
 pub trait KeptByCalls {
     ghost use Rattle.xcm_program.specs.declared.instruction.Instruction.{Instruction};
-    ghost use Rattle.exec_calls.specs.Calls.{Midway};
+    ghost use Rattle.exec_calls.specs.Calls.{MachineWithGoods};
     ghost use Rattle.exec_calls.specs.Kept.{IsKeptByCalls};
 
     /// Of what kind the instructions are.
     ghost kind: { Instruction → Type 0 };
 
     /// The fact.
-    ghost fact: { Midway → Type 0 };
+    ghost fact: { MachineWithGoods → Type 0 };
 
     /// Each call keeps it, and each change of the other registers.
     ghost kept: { IsKeptByCalls kind fact };

@@ -31,9 +31,9 @@ use Rattle.exec_rules.specs.AnswerLaws.{unless_held, none_first, none_next}
 use Rattle.exec_rules.specs.Instructions.{refused, done}
 use Rattle.exec_rules.specs.Readiness.{IsSteady}
 use Rattle.exec_rules.specs.HoldingLaws.{payment_within}
-use Rattle.exec_calls.specs.Calls.{Midway, between, here, HostCall, why_not, after, effect, turned_at}
+use Rattle.exec_calls.specs.Calls.{MachineWithGoods, between, here, MachineCall, why_not, after, effect, turned_at}
 use Rattle.exec_calls.specs.Footprints.{part_is}
-use Rattle.exec_calls.specs.Reasons.{arriving, IsFee, IsFrom, Asks}
+use Rattle.exec_calls.specs.Reasons.{arriving, IsFee, IsFrom, Moment, HasReason}
 use Rattle.exec_calls.specs.ReasonLaws.{done_keeps}
 use Rattle.exec_calls.specs.KeptLaws.{turns}
 use Rattle.host_laws.specs.Wholes.{on_chain, whole, Conserves, BooksBelow, BuysBelow, KeepsBelow}
@@ -97,20 +97,20 @@ unfolding on_chain
 fees_in_whole t p = omega arith
 
 -- ---- inside an instruction, what is in hand counts too
-abbrev pub whole_at : (Listed → Bool) → Midway → ℕ
+abbrev pub whole_at : (Listed → Bool) → MachineWithGoods → ℕ
 whole_at test t = whole test t.part + total (is_unit_where test) t.regs.holding + total (is_unit_where test) t.goods
 
-abbrev pub Whole : Machine → Midway → Type 0
+abbrev pub Whole : Machine → MachineWithGoods → Type 0
 Whole m t = (test : Listed → Bool) → whole_at test t ≡ whole_of test m
 
 nothing : (test : Listed → Bool) → total {R = unit_cmp} (is_unit_where test) empty ≡ 0
 nothing test = total-empty unit_keys (is_unit_where test)
 
-in_hand : (t : Midway) (b : Bundle) (test : Listed → Bool) → t.goods ≡ b → total (is_unit_where test) t.goods ≡ total (is_unit_where test) b
+in_hand : (t : MachineWithGoods) (b : Bundle) (test : Listed → Bool) → t.goods ≡ b → total (is_unit_where test) t.goods ≡ total (is_unit_where test) b
 in_hand t b test e = ap (total (is_unit_where test)) e
 
 -- goods go in, and others come out; what is in hand changes by as much
-moved : (c : HostCall) (t : Midway) (a b : Bundle) → Conserves a b t.part (effect c t) → (after c t).regs.holding ≡ t.regs.holding
+moved : (c : MachineCall) (t : MachineWithGoods) (a b : Bundle) → Conserves a b t.part (effect c t) → (after c t).regs.holding ≡ t.regs.holding
     → ((test : Listed → Bool) → total (is_unit_where test) (after c t).goods + total (is_unit_where test) a ≡ total (is_unit_where test) t.goods + total (is_unit_where test) b)
     → (test : Listed → Bool) → whole_at test (after c t) ≡ whole_at test t
 moved c t a b goes held hand test =
@@ -121,15 +121,15 @@ moved c t a b goes held hand test =
     omega (arith, x, y, h, g)
 
 -- what is in hand goes in
-gave : (c : HostCall) (t : Midway) → Conserves t.goods empty t.part (effect c t) → (after c t).regs.holding ≡ t.regs.holding → (after c t).goods ≡ empty → (test : Listed → Bool) → whole_at test (after c t) ≡ whole_at test t
+gave : (c : MachineCall) (t : MachineWithGoods) → Conserves t.goods empty t.part (effect c t) → (after c t).regs.holding ≡ t.regs.holding → (after c t).goods ≡ empty → (test : Listed → Bool) → whole_at test (after c t) ≡ whole_at test t
 gave c t goes held none = moved c t t.goods empty goes held (λ test. let z = in_hand (after c t) empty test none in omega (arith, z))
 
 -- nothing was in hand, and goods come out
-came : (c : HostCall) (t : Midway) (b : Bundle) → Conserves empty b t.part (effect c t) → (after c t).regs.holding ≡ t.regs.holding → t.goods ≡ empty → (after c t).goods ≡ b → (test : Listed → Bool) → whole_at test (after c t) ≡ whole_at test t
+came : (c : MachineCall) (t : MachineWithGoods) (b : Bundle) → Conserves empty b t.part (effect c t) → (after c t).regs.holding ≡ t.regs.holding → t.goods ≡ empty → (after c t).goods ≡ b → (test : Listed → Bool) → whole_at test (after c t) ≡ whole_at test t
 came c t b goes held none is = moved c t empty b goes held (λ test. let y = in_hand t empty test none in let z = in_hand (after c t) b test is in omega (arith, y, z))
 
 -- neither
-kept : (c : HostCall) (t : Midway) → Conserves empty empty t.part (effect c t) → (after c t).regs.holding ≡ t.regs.holding → (after c t).goods ≡ t.goods → (test : Listed → Bool) → whole_at test (after c t) ≡ whole_at test t
+kept : (c : MachineCall) (t : MachineWithGoods) → Conserves empty empty t.part (effect c t) → (after c t).regs.holding ≡ t.regs.holding → (after c t).goods ≡ t.goods → (test : Listed → Bool) → whole_at test (after c t) ≡ whole_at test t
 kept c t goes held same = moved c t empty empty goes held (λ test. let z = in_hand (after c t) t.goods test same in omega (arith, z))
 
 drawn_slot : (p : ChainPart) (list : List Asset) (who : Location) → (fee_drawn p list who).fee_slot ≡ p.fee_slot
@@ -148,10 +148,10 @@ makes_arriving list false = refl
 
 module _ (withdraws : Withdraws) (moves : MovesAreKept) (l : Instruction-F Instruction) (m : Machine) (steady : IsSteady m) (lists : HasList l) (fees : AreFees m.part) (room : HasRoomFor empty m) (plain : makes l ≡ false) where
   -- the end of a sum of burns isn't passed
-  room_at : (t : Midway) → Whole m t → (k : Listed) → whole_at (eq_by_cmp listed_cmp k) t ≤ most_burned
+  room_at : (t : MachineWithGoods) → Whole m t → (k : Listed) → whole_at (eq_by_cmp listed_cmp k) t ≤ most_burned
   room_at t w k = let e = w (eq_by_cmp listed_cmp k) in let r = room k in omega (arith, e, r)
 
-  keeps_below : (t : Midway) → Whole m t → KeepsBelow t.part
+  keeps_below : (t : MachineWithGoods) → Whole m t → KeepsBelow t.part
   keeps_below t w unit =
       let kept = amount_at_most unit_keys (is_unit_of (listed_of unit)) t.part.fees unit (unit_passes unit) in
       let slot = amount_at_most unit_keys (is_unit_of (listed_of unit)) t.part.fee_slot unit (unit_passes unit) in
@@ -162,55 +162,55 @@ module _ (withdraws : Withdraws) (moves : MovesAreKept) (l : Instruction-F Instr
   one_list : (a : Asset) → IsFee l m a → IsAssetList (a ∷ [])
   one_list a is = fees is.0 a is.2
 
-  step : (c : HostCall) (t : Midway) → Asks false l m t c → why_not c t ≡ None → Whole m t → (test : Listed → Bool) → whole_at test (after c t) ≡ whole_at test t
-  step (HostCall.Check ok e) t asks free w = λ test. refl
-  step (HostCall.Take filter) t asks free w = λ test.
+  step : (c : MachineCall) (t : MachineWithGoods) → HasReason Moment.Inside l m t c → why_not c t ≡ None → Whole m t → (test : Listed → Bool) → whole_at test (after c t) ≡ whole_at test t
+  step (MachineCall.Check ok e) t asks free w = λ test. refl
+  step (MachineCall.Take filter) t asks free w = λ test.
       let parts = taken_conserves (is_unit_where test) filter t.regs.holding in let z = in_hand t empty test asks in let n = nothing test in omega (arith, parts, z, n)
-  step (HostCall.Pay a) t asks free w = λ test.
+  step (MachineCall.Pay a) t asks free w = λ test.
       let parts = total-difference unit_keys (is_unit_where test) t.regs.holding (payment_of a) (payment_within (here t) a (unless_held _ _ _ free)) in
-      let z = ap (λ (u : Midway). total (is_unit_where test) u.goods) asks.0 in let n = nothing test in omega (arith, parts, z, n)
-  step HostCall.Join t asks free w = λ test.
+      let z = ap (λ (u : MachineWithGoods). total (is_unit_where test) u.goods) asks.0 in let n = nothing test in omega (arith, parts, z, n)
+  step MachineCall.Join t asks free w = λ test.
       let held = t.regs.holding in
       let below : BooksBelow t.part (given_up held t.goods) = books_below t.part (merge held t.goods) (given_up held t.goods)
-          (λ k. let a = given_up_total (eq_by_cmp listed_cmp k) held t.goods in let b = joined_total (is_unit_of k) held t.goods in let c = total-merge unit_keys (is_unit_of k) held t.goods in omega (arith, a, b, c))
-          (λ k. let c = total-merge unit_keys (is_unit_of k) held t.goods in let r = room_at t w k in omega (arith, c, r)) in
-      let x = ap (whole test) (part_is HostCall.Join t) in
+      (λ k. let a = given_up_total (eq_by_cmp listed_cmp k) held t.goods in let b = joined_total (is_unit_of k) held t.goods in let c = total-merge unit_keys (is_unit_of k) held t.goods in omega (arith, a, b, c))
+      (λ k. let c = total-merge unit_keys (is_unit_of k) held t.goods in let r = room_at t w k in omega (arith, c, r)) in
+      let x = ap (whole test) (part_is MachineCall.Join t) in
       let all = conserves_join t.part held t.goods below test in
       let sum = total-merge unit_keys (is_unit_where test) held t.goods in
       let n = nothing test in
       omega (arith, x, all, sum, n)
-  step (HostCall.Withdraw list who) t asks free w = came (HostCall.Withdraw list who) t (bundle_of list) (conserves_withdrawal withdraws t.part list who (subst HasList asks.2 lists) free) refl (ap (λ (u : Midway). u.goods) asks.0) refl
-  step (HostCall.Draw fee who) t asks free w = came (HostCall.Draw fee who) t (payment_of fee) (conserves_drawn_fee withdraws t.part (fee ∷ []) who (one_list fee asks.2) free) refl (ap (λ (u : Midway). u.goods) asks.0) refl
-  step (HostCall.Receive list from teleport) t asks free w = absurd (let no : false ≡ true = sym plain ∙ ap makes asks.2 ∙ makes_arriving list teleport in cc)
-  step (HostCall.Claim list who) t asks free w = came (HostCall.Claim list who) t (bundle_of list) (conserves_claim t.part list who free) refl (ap (λ (u : Midway). u.goods) asks.0) refl
-  step (HostCall.Refund v) t asks free w =
-      came (HostCall.Refund v) t (refund_goods t.part v) (conserves_refund moves t.part v (subst (λ (u : Midway). AreWithinEnd u.part.lines) (sym asks.0) steady.rest.order.paid)) refl (ap (λ (u : Midway). u.goods) asks.0) refl
-  step (HostCall.Deposit who) t asks free w = gave (HostCall.Deposit who) t (conserves_deposit t.part t.goods who free) refl refl
-  step HostCall.Burn t asks free w = gave HostCall.Burn t (conserves_burn t.part t.goods (books_below t.part t.goods (burned_for Cause.BurnAsset t.goods)
+  step (MachineCall.Withdraw list who) t asks free w = came (MachineCall.Withdraw list who) t (bundle_of list) (conserves_withdrawal withdraws t.part list who (subst HasList asks.2 lists) free) refl (ap (λ (u : MachineWithGoods). u.goods) asks.0) refl
+  step (MachineCall.Draw fee who) t asks free w = came (MachineCall.Draw fee who) t (payment_of fee) (conserves_drawn_fee withdraws t.part (fee ∷ []) who (one_list fee asks.2) free) refl (ap (λ (u : MachineWithGoods). u.goods) asks.0) refl
+  step (MachineCall.Receive list from teleport) t asks free w = absurd (let no : false ≡ true = sym plain ∙ ap makes asks.2 ∙ makes_arriving list teleport in cc)
+  step (MachineCall.Claim list who) t asks free w = came (MachineCall.Claim list who) t (bundle_of list) (conserves_claim t.part list who free) refl (ap (λ (u : MachineWithGoods). u.goods) asks.0) refl
+  step (MachineCall.Refund v) t asks free w =
+      came (MachineCall.Refund v) t (refund_goods t.part v) (conserves_refund moves t.part v (subst (λ (u : MachineWithGoods). AreWithinEnd u.part.lines) (sym asks.0) steady.rest.order.paid)) refl (ap (λ (u : MachineWithGoods). u.goods) asks.0) refl
+  step (MachineCall.Deposit who) t asks free w = gave (MachineCall.Deposit who) t (conserves_deposit t.part t.goods who free) refl refl
+  step MachineCall.Burn t asks free w = gave MachineCall.Burn t (conserves_burn t.part t.goods (books_below t.part t.goods (burned_for Cause.BurnAsset t.goods)
       (λ k. let a = burned_for_total (eq_by_cmp listed_cmp k) Cause.BurnAsset t.goods in omega (arith, a)) (λ k. let r = room_at t w k in omega (arith, r)))) refl refl
-  step (HostCall.Buy v) t asks free w =
-      let within : AreWithinEnd t.part.lines = subst (λ (u : Midway). AreWithinEnd u.part.lines) (sym asks.2) steady.rest.order.paid in
+  step (MachineCall.Buy v) t asks free w =
+      let within : AreWithinEnd t.part.lines = subst (λ (u : MachineWithGoods). AreWithinEnd u.part.lines) (sym asks.2) steady.rest.order.paid in
       let below : BuysBelow t.part v t.goods = λ line e. books_below t.part t.goods (burned_for Cause.Saturated (above_at v line)) (λ k. saturated_part moves t.part v t.goods line k within e) (λ k. let r = room_at t w k in omega (arith, r)) in
-      moved (HostCall.Buy v) t t.goods (unspent t.part v t.goods) (conserves_purchase moves t.part v t.goods within below) refl (λ test. omega arith)
-  step (HostCall.DepositOut dest xcm) t asks free w = gave (HostCall.DepositOut dest xcm) t (conserves_deposit_out t.part t.goods dest xcm free) refl refl
-  step (HostCall.Ship way dest xcm) t asks free w = gave (HostCall.Ship way dest xcm) t (conserves_shipping t.part t.goods way dest xcm free) refl refl
-  step (HostCall.Transfer list from to) t asks free w = kept (HostCall.Transfer list from to) t (conserves_transfer withdraws t.part list from to (subst HasList asks.2 lists) free) refl refl
-  step (HostCall.TransferOut list from dest xcm) t asks free w = kept (HostCall.TransferOut list from dest xcm) t (conserves_transfer_out withdraws t.part list from dest xcm (subst HasList asks.2 lists) free) refl refl
-  step (HostCall.Respond info answer querier) t asks free w = kept (HostCall.Respond info answer querier) t (conserves_response t.part info answer querier) refl refl
-  step (HostCall.Answer from query) t asks free w = kept (HostCall.Answer from query) t (conserves_answer t.part from query) refl refl
-  step HostCall.HoldFee t asks free w = gave HostCall.HoldFee t (conserves_held_fee t.part t.goods (asks.3 ∙ steady.rest.slot)) refl refl
-  step HostCall.TakeFee t asks free w = came HostCall.TakeFee t t.part.fee_slot (conserves_taken_fee t.part) refl asks refl
-  step HostCall.KeepFee t asks free w = kept HostCall.KeepFee t (conserves_kept_fee t.part (keeps_below t w)) refl refl
-  step HostCall.Park t asks free w = gave HostCall.Park t (conserves_park t.part t.goods) refl refl
-  step HostCall.Empty t asks free w = absurd (cc asks.0)
-  step (HostCall.Tell e) t asks free w = absurd (cc asks.0)
-  step HostCall.Settle t asks free w = absurd (cc asks.0)
-  step (HostCall.Trap who) t asks free w = absurd (cc asks)
+      moved (MachineCall.Buy v) t t.goods (unspent t.part v t.goods) (conserves_purchase moves t.part v t.goods within below) refl (λ test. omega arith)
+  step (MachineCall.DepositOut dest xcm) t asks free w = gave (MachineCall.DepositOut dest xcm) t (conserves_deposit_out t.part t.goods dest xcm free) refl refl
+  step (MachineCall.Ship way dest xcm) t asks free w = gave (MachineCall.Ship way dest xcm) t (conserves_shipping t.part t.goods way dest xcm free) refl refl
+  step (MachineCall.Transfer list from to) t asks free w = kept (MachineCall.Transfer list from to) t (conserves_transfer withdraws t.part list from to (subst HasList asks.2 lists) free) refl refl
+  step (MachineCall.TransferOut list from dest xcm) t asks free w = kept (MachineCall.TransferOut list from dest xcm) t (conserves_transfer_out withdraws t.part list from dest xcm (subst HasList asks.2 lists) free) refl refl
+  step (MachineCall.Respond info answer querier) t asks free w = kept (MachineCall.Respond info answer querier) t (conserves_response t.part info answer querier) refl refl
+  step (MachineCall.Answer from query) t asks free w = kept (MachineCall.Answer from query) t (conserves_answer t.part from query) refl refl
+  step MachineCall.HoldFee t asks free w = gave MachineCall.HoldFee t (conserves_held_fee t.part t.goods (asks.3 ∙ steady.rest.slot)) refl refl
+  step MachineCall.TakeFee t asks free w = came MachineCall.TakeFee t t.part.fee_slot (conserves_taken_fee t.part) refl asks refl
+  step MachineCall.KeepFee t asks free w = kept MachineCall.KeepFee t (conserves_kept_fee t.part (keeps_below t w)) refl refl
+  step MachineCall.Park t asks free w = gave MachineCall.Park t (conserves_park t.part t.goods) refl refl
+  step MachineCall.Empty t asks free w = absurd (cc asks.0)
+  step (MachineCall.Tell e) t asks free w = absurd (cc asks.0)
+  step MachineCall.Settle t asks free w = absurd (cc asks.0)
+  step (MachineCall.Trap who) t asks free w = absurd (cc asks)
 
   at_rest : (n : Machine) (test : Listed → Bool) → whole_at test (between n) ≡ whole_of test n
   at_rest n test = let z = nothing test in omega (arith, z)
 
-  holding_stays : (t : Midway) → IsFrom m t → Whole m t → Whole m (turned_at l m t)
+  holding_stays : (t : MachineWithGoods) → IsFrom m t → Whole m t → Whole m (turned_at l m t)
   holding_stays t from w = λ test. let h = ap (total (is_unit_where test)) (turns l m t from).holding in let e = w test in omega (arith, h, e)
 
   pub whole_done : refused l m ≡ None → (test : Listed → Bool) → whole_of test (done l m) ≡ whole_of test m

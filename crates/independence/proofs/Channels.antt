@@ -131,8 +131,8 @@ module _ (test : Channel → Bool) (to : ChainId) where
 
 -- ---- a refusal
 -- where the test passes, it isn't Transport
-abbrev pub IsQuiet : Bool → Option XcmError → Type 0
-IsQuiet on refusal = on ≡ true → refusal ≡ Some error.Transport → ⊥
+abbrev pub IsNoTransport : Bool → Option XcmError → Type 0
+IsNoTransport on refusal = on ≡ true → refusal ≡ Some error.Transport → ⊥
 
 shorter : (q : List Waiting) → length (drop 1 q) ≤ length q
 shorter [] = omega arith
@@ -153,20 +153,20 @@ module _ (test : Channel → Bool) (to : ChainId) (on : Bool) (is_on : (c : Chan
   one_refused c calm = calm_full (few && is_sendable c program) (nat_lt (length c.queue) c.channel.capacity) (nat_lt (length (drop 1 c.queue)) c.channel.capacity) (room_kept c.queue c.channel.capacity) calm
 
   -- a message less makes no difference to a send that the channel doesn't refuse
-  pub refused_popped : (cs : List Outgoing) → IsQuiet on (channel_refusal (find (by_channel test) cs) few program)
+  pub refused_popped : (cs : List Outgoing) → IsNoTransport on (channel_refusal (find (by_channel test) cs) few program)
       → channel_refusal (find (by_channel test) (popped to cs)) few program ≡ channel_refusal (find (by_channel test) cs) few program
-  refused_popped [] quiet = refl
-  refused_popped (c ∷ cs) quiet =
+  refused_popped [] no_transport = refl
+  refused_popped (c ∷ cs) no_transport =
       elim (same_chain c.channel.to to) as (λ b. same_chain c.channel.to to ≡ b
       → channel_refusal (find (by_channel test) (if b then without_oldest c ∷ cs else c ∷ popped to cs)) few program ≡ channel_refusal (find (by_channel test) (c ∷ cs)) few program) [
-        | true ↦ λ t. elim (test c.channel) as (λ l. test c.channel ≡ l → IsQuiet on (channel_refusal (if l then Some c else find (by_channel test) cs) few program)
+        | true ↦ λ t. elim (test c.channel) as (λ l. test c.channel ≡ l → IsNoTransport on (channel_refusal (if l then Some c else find (by_channel test) cs) few program)
             → channel_refusal (if l then Some (without_oldest c) else find (by_channel test) cs) few program ≡ channel_refusal (if l then Some c else find (by_channel test) cs) few program) [
               | true ↦ λ l q. one_refused c (q (is_on c.channel t l))
               | false ↦ λ l q. refl
-            ] refl quiet
-        | false ↦ λ t. elim (test c.channel) as (λ l. IsQuiet on (channel_refusal (if l then Some c else find (by_channel test) cs) few program)
+            ] refl no_transport
+        | false ↦ λ t. elim (test c.channel) as (λ l. IsNoTransport on (channel_refusal (if l then Some c else find (by_channel test) cs) few program)
             → channel_refusal (if l then Some c else find (by_channel test) (popped to cs)) few program ≡ channel_refusal (if l then Some c else find (by_channel test) cs) few program) [
               | true ↦ λ q. refl
               | false ↦ λ q. refused_popped cs q
-            ] quiet
+            ] no_transport
       ] refl

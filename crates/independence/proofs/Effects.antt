@@ -29,13 +29,13 @@ use Rattle.exec_run.specs.Machine.{Machine, machine}
 use Rattle.exec_rules.specs.Fees.{after_fee}
 use Rattle.exec_rules.specs.Reports.{reported_list}
 use Rattle.exec_rules.specs.Instructions.{refused, done}
-use Rattle.exec_calls.specs.Calls.{Midway, between, here, HostCall, why_not, after, effect, after_all, refusal_along, for_origin, around, charge, size_tests, report, holding_report, calls, turned, turned_at}
+use Rattle.exec_calls.specs.Calls.{MachineWithGoods, between, here, MachineCall, why_not, after, effect, after_all, refusal_along, for_origin, around, charge, size_tests, report, holding_report, calls, turned, turned_at}
 use Rattle.exec_calls.specs.Footprints.{part_is}
 use Rattle.exec_calls.specs.CallLaws.{refused_is, done_is}
-use Rattle.exec_calls.specs.Reasons.{IsFrom, IsReport, shipping, Asks, AreAsked}
+use Rattle.exec_calls.specs.Reasons.{IsFrom, IsReport, shipping, Moment, HasReason, HaveReasons}
 use Rattle.exec_calls.specs.ReasonLaws.{from_itself, from_after, asked}
 use Rattle.independence.specs.Freedom.{sent_to, sends_on}
-use Rattle.independence.proofs.Channels.{IsThere, IsQuiet, read_popped, found_sent}
+use Rattle.independence.proofs.Channels.{IsThere, IsNoTransport, read_popped, found_sent}
 use Rattle.independence.proofs.Keeping.{View, with_sent, call_kept}
 use Rattle.independence.proofs.Calls.{framed, joined_framed, burnt_framed, bought_framed, refunded_framed, claimed_framed, answered_framed, withdrawn_framed, received_framed, deposited_framed, transferred_framed, transferred_out_framed, deposited_out_framed, shipped_framed, responded_framed, told_framed, trapped_framed, settled_framed, fee_to_framed, querier_framed}
 use Rattle.independence.proofs.Refusals.{or_else_same, framed_machine, fee_framed, here_to, transfer_out_refused, deposit_out_refused, ship_refused, respond_refused}
@@ -45,37 +45,37 @@ finds_kept : (to : ChainId) (v : View) (dest : Location) (program : List Instruc
 finds_kept to v dest program cargo there = λ e. there (sym (found_sent _ to program cargo v.channels there) ∙ e)
 
 module _ (to : ChainId) (lost : Bundle) where
-  abbrev frame : Midway → Midway
+  abbrev frame : MachineWithGoods → MachineWithGoods
   frame t = record t { part = framed to lost t.part }
 
   -- ---- what is asked
   tests_framed : (m : Machine) (info : QueryInfo) (b : Bool) → size_tests (framed_machine to lost m) info b ≡ size_tests m info b
   tests_framed m info true = refl
   tests_framed m info false = λ i.
-      HostCall.Check (is_some (querier_framed to lost m.part info.destination m.regs.origin i)) error.ReanchorFailed
-      ∷ HostCall.Check (read_popped (λ (c : Channel). is_location_of m.part.site.chain c.to info.destination) to (λ (o : Option Outgoing). is_some o) (λ c. refl) m.part.channels i) error.Unroutable
-      ∷ HostCall.Check false error.ExceedsMaxMessageSize ∷ []
+      MachineCall.Check (is_some (querier_framed to lost m.part info.destination m.regs.origin i)) error.ReanchorFailed
+      ∷ MachineCall.Check (read_popped (λ (c : Channel). is_location_of m.part.site.chain c.to info.destination) to (λ (o : Option Outgoing). is_some o) (λ c. refl) m.part.channels i) error.Unroutable
+      ∷ MachineCall.Check false error.ExceedsMaxMessageSize ∷ []
 
   report_framed : (m : Machine) (info : QueryInfo) (o : Option (List Asset)) → holding_report (framed_machine to lost m) info o ≡ holding_report m info o
   report_framed m info None = refl
-  report_framed m info (Some list) = ap (λ (cs : List HostCall). cs ++ report m info (Response.Assets list)) (tests_framed m info (nat_le (length list) 20))
+  report_framed m info (Some list) = ap (λ (cs : List MachineCall). cs ++ report m info (Response.Assets list)) (tests_framed m info (nat_le (length list) 20))
 
-  around_framed : (o : Option Asset) (m : Machine) (inside : Machine → List HostCall) → ((n : Machine) → inside (framed_machine to lost n) ≡ inside n) → around o (framed_machine to lost m) inside ≡ around o m inside
+  around_framed : (o : Option Asset) (m : Machine) (inside : Machine → List MachineCall) → ((n : Machine) → inside (framed_machine to lost n) ≡ inside n) → around o (framed_machine to lost m) inside ≡ around o m inside
   around_framed None m inside same = same m
   around_framed (Some fee) m inside same =
-      ap (λ (n : Machine). charge m fee ++ (inside n ++ HostCall.KeepFee ∷ [])) (fee_framed to lost m fee) ∙ ap (λ (cs : List HostCall). charge m fee ++ (cs ++ HostCall.KeepFee ∷ [])) (same (after_fee m fee))
+      ap (λ (n : Machine). charge m fee ++ (inside n ++ MachineCall.KeepFee ∷ [])) (fee_framed to lost m fee) ∙ ap (λ (cs : List MachineCall). charge m fee ++ (cs ++ MachineCall.KeepFee ∷ [])) (same (after_fee m fee))
 
-  sending_framed : (dest : Location) (m : Machine) (inside : Machine → List HostCall) → ((n : Machine) → inside (framed_machine to lost n) ≡ inside n)
+  sending_framed : (dest : Location) (m : Machine) (inside : Machine → List MachineCall) → ((n : Machine) → inside (framed_machine to lost n) ≡ inside n)
       → around (fee_to (framed to lost m.part) dest) (framed_machine to lost m) inside ≡ around (fee_to m.part dest) m inside
   sending_framed dest m inside same = ap (λ o. around o (framed_machine to lost m) inside) (fee_to_framed to lost m.part dest) ∙ around_framed (fee_to m.part dest) m inside same
 
   calls_framed : (l : Instruction-F Instruction) (m : Machine) → calls l (framed_machine to lost m) ≡ calls l m
   calls_framed (Instruction-F.TransferReserveAsset list dest program) m = by_origin m.regs.origin
     where
-      by_origin : (o : Option Location) → for_origin o (λ who. around (fee_to (framed to lost m.part) dest) (framed_machine to lost m) (λ n. HostCall.TransferOut list who dest program ∷ []))
-          ≡ for_origin o (λ who. around (fee_to m.part dest) m (λ n. HostCall.TransferOut list who dest program ∷ []))
+      by_origin : (o : Option Location) → for_origin o (λ who. around (fee_to (framed to lost m.part) dest) (framed_machine to lost m) (λ n. MachineCall.TransferOut list who dest program ∷ []))
+          ≡ for_origin o (λ who. around (fee_to m.part dest) m (λ n. MachineCall.TransferOut list who dest program ∷ []))
       by_origin None = refl
-      by_origin (Some who) = sending_framed dest m (λ n. HostCall.TransferOut list who dest program ∷ []) (λ n. refl)
+      by_origin (Some who) = sending_framed dest m (λ n. MachineCall.TransferOut list who dest program ∷ []) (λ n. refl)
   calls_framed (Instruction-F.DepositReserveAsset filter dest program) m = sending_framed dest m _ (λ n. refl)
   calls_framed (Instruction-F.InitiateReserveWithdraw filter dest program) m = sending_framed dest m _ (λ n. refl)
   calls_framed (Instruction-F.InitiateTeleport filter dest program) m = sending_framed dest m _ (λ n. refl)
@@ -86,43 +86,43 @@ module _ (to : ChainId) (lost : Bundle) where
   calls_framed _ m = refl
 
   -- ---- what a call leaves
-  effect_framed : (c : HostCall) (t : Midway) → IsThere to t.part.channels → effect c (frame t) ≡ framed to lost (effect c t)
+  effect_framed : (c : MachineCall) (t : MachineWithGoods) → IsThere to t.part.channels → effect c (frame t) ≡ framed to lost (effect c t)
   unfolding fee_held fee_taken fee_kept fee_drawn parked
-  effect_framed HostCall.Join t there = joined_framed to lost t.part t.regs.holding t.goods
-  effect_framed (HostCall.Withdraw list who) t there = withdrawn_framed to lost t.part list who
-  effect_framed (HostCall.Receive list from teleport) t there = received_framed to lost t.part list teleport
-  effect_framed (HostCall.Claim list who) t there = claimed_framed to lost t.part list who
-  effect_framed (HostCall.Refund w) t there = refunded_framed to lost t.part w
-  effect_framed (HostCall.Deposit who) t there = deposited_framed to lost t.part t.goods who
-  effect_framed HostCall.Burn t there = burnt_framed to lost t.part t.goods
-  effect_framed (HostCall.Buy w) t there = bought_framed to lost t.part w t.goods
-  effect_framed (HostCall.DepositOut dest program) t there = deposited_out_framed to lost t.part t.goods dest program there
-  effect_framed (HostCall.Ship way dest program) t there = shipped_framed to lost t.part t.goods way dest program there
-  effect_framed (HostCall.Transfer list from who) t there = transferred_framed to lost t.part list from who
-  effect_framed (HostCall.TransferOut list from dest program) t there = transferred_out_framed to lost t.part list from dest program there
-  effect_framed (HostCall.Respond info answer querier) t there = responded_framed to lost t.part info answer querier there
-  effect_framed (HostCall.Answer from query) t there = answered_framed to lost t.part from query
-  effect_framed (HostCall.Tell e) t there = told_framed to lost t.part e
-  effect_framed HostCall.Settle t there = settled_framed to lost t.part
-  effect_framed (HostCall.Trap who) t there = trapped_framed to lost t.part t.goods who
+  effect_framed MachineCall.Join t there = joined_framed to lost t.part t.regs.holding t.goods
+  effect_framed (MachineCall.Withdraw list who) t there = withdrawn_framed to lost t.part list who
+  effect_framed (MachineCall.Receive list from teleport) t there = received_framed to lost t.part list teleport
+  effect_framed (MachineCall.Claim list who) t there = claimed_framed to lost t.part list who
+  effect_framed (MachineCall.Refund w) t there = refunded_framed to lost t.part w
+  effect_framed (MachineCall.Deposit who) t there = deposited_framed to lost t.part t.goods who
+  effect_framed MachineCall.Burn t there = burnt_framed to lost t.part t.goods
+  effect_framed (MachineCall.Buy w) t there = bought_framed to lost t.part w t.goods
+  effect_framed (MachineCall.DepositOut dest program) t there = deposited_out_framed to lost t.part t.goods dest program there
+  effect_framed (MachineCall.Ship way dest program) t there = shipped_framed to lost t.part t.goods way dest program there
+  effect_framed (MachineCall.Transfer list from who) t there = transferred_framed to lost t.part list from who
+  effect_framed (MachineCall.TransferOut list from dest program) t there = transferred_out_framed to lost t.part list from dest program there
+  effect_framed (MachineCall.Respond info answer querier) t there = responded_framed to lost t.part info answer querier there
+  effect_framed (MachineCall.Answer from query) t there = answered_framed to lost t.part from query
+  effect_framed (MachineCall.Tell e) t there = told_framed to lost t.part e
+  effect_framed MachineCall.Settle t there = settled_framed to lost t.part
+  effect_framed (MachineCall.Trap who) t there = trapped_framed to lost t.part t.goods who
   effect_framed _ t there = refl
 
   -- beside the part it leaves the same
-  rest_framed : (c : HostCall) (t : Midway) → after c (frame t) ≡ record (after c t) { part = (after c (frame t)).part }
+  rest_framed : (c : MachineCall) (t : MachineWithGoods) → after c (frame t) ≡ record (after c t) { part = (after c (frame t)).part }
   unfolding unspent refund_goods
-  rest_framed (HostCall.Take filter) t = refl
+  rest_framed (MachineCall.Take filter) t = refl
   rest_framed _ t = refl
 
-  pub after_framed : (c : HostCall) (t : Midway) → IsThere to t.part.channels → after c (frame t) ≡ frame (after c t)
+  pub after_framed : (c : MachineCall) (t : MachineWithGoods) → IsThere to t.part.channels → after c (frame t) ≡ frame (after c t)
   after_framed c t there =
       rest_framed c t
       ∙ ap (λ (p : ChainPart). record (after c t) { part = p }) (part_is c (frame t) ∙ effect_framed c t there ∙ sym (ap (framed to lost) (part_is c t)))
 
   -- ---- what is still found there
-  stays_there : (c : HostCall) (t : Midway) → IsThere to t.part.channels → IsThere to (after c t).part.channels
+  stays_there : (c : MachineCall) (t : MachineWithGoods) → IsThere to t.part.channels → IsThere to (after c t).part.channels
   stays_there c t there = call_kept (λ (v : View). IsThere to v.channels) (finds_kept to) c t there
 
-  along_framed : (cs : List HostCall) (t : Midway) → IsThere to t.part.channels → after_all cs (frame t) ≡ frame (after_all cs t)
+  along_framed : (cs : List MachineCall) (t : MachineWithGoods) → IsThere to t.part.channels → after_all cs (frame t) ≡ frame (after_all cs t)
   along_framed [] t there = refl
   along_framed (c ∷ cs) t there = ap (after_all cs) (after_framed c t there) ∙ along_framed cs (after c t) (stays_there c t there)
 
@@ -133,15 +133,15 @@ module _ (to : ChainId) (lost : Bundle) where
   pub done_framed : (l : Instruction-F Instruction) (m : Machine) → IsThere to m.part.channels → done l (framed_machine to lost m) ≡ framed_machine to lost (done l m)
   done_framed l m there = ap here
       (done_is l (framed_machine to lost m)
-      ∙ ap (λ (cs : List HostCall). turned_at l (framed_machine to lost m) (after_all cs (frame (between m)))) (calls_framed l m)
+      ∙ ap (λ (cs : List MachineCall). turned_at l (framed_machine to lost m) (after_all cs (frame (between m)))) (calls_framed l m)
       ∙ ap (turned_at l (framed_machine to lost m)) (along_framed (calls l m) (between m) there)
-      ∙ ap (λ (r : Registers). let t : Midway = frame (after_all (calls l m) (between m)) in let u : Midway = record t { regs = r } in u) (turned_framed l m (after_all (calls l m) (between m)).regs)
+      ∙ ap (λ (r : Registers). let t : MachineWithGoods = frame (after_all (calls l m) (between m)) in let u : MachineWithGoods = record t { regs = r } in u) (turned_framed l m (after_all (calls l m) (between m)).regs)
       ∙ sym (ap frame (done_is l m)))
 
   -- ---- what is refused
-  not_quiet : (on : Bool) (a b : Option XcmError) → IsQuiet on (or_else a b) → IsQuiet on a
-  not_quiet on None b quiet is e = absurd cc
-  not_quiet on (Some x) b quiet is e = quiet is e
+  first_no_transport : (on : Bool) (a b : Option XcmError) → IsNoTransport on (or_else a b) → IsNoTransport on a
+  first_no_transport on None b no_transport is e = absurd cc
+  first_no_transport on (Some x) b no_transport is e = no_transport is e
 
   module _ (l : Instruction-F Instruction) (m : Machine) where
     abbrev on : Bool
@@ -158,30 +158,30 @@ module _ (to : ChainId) (lost : Bundle) where
     ships_to Way.Withdrawal filter dest program = refl
     ships_to Way.Teleport filter dest program = refl
 
-    quiet_at : (t : Midway) (dest : Location) (o : Option XcmError) → IsFrom m t → sent_to l ≡ Some dest → IsQuiet on o → IsQuiet (here_to to lost t.part dest) o
-    quiet_at t dest o from goes quiet = subst (λ (b : Bool). IsQuiet b o)
-        (sym (ap (λ (s : Settings). is_location_of s.site.chain to dest) from.settings ∙ sym (ap (λ (o : Option Location). option_map_or (λ (d : Location). is_location_of m.part.site.chain to d) o false) goes))) quiet
+    no_transport_at : (t : MachineWithGoods) (dest : Location) (o : Option XcmError) → IsFrom m t → sent_to l ≡ Some dest → IsNoTransport on o → IsNoTransport (here_to to lost t.part dest) o
+    no_transport_at t dest o from goes no_transport = subst (λ (b : Bool). IsNoTransport b o)
+        (sym (ap (λ (s : Settings). is_location_of s.site.chain to dest) from.settings ∙ sym (ap (λ (o : Option Location). option_map_or (λ (d : Location). is_location_of m.part.site.chain to d) o false) goes))) no_transport
 
-    why_framed : (c : HostCall) (t : Midway) → Asks false l m t c → IsFrom m t → IsQuiet on (why_not c t) → why_not c (frame t) ≡ why_not c t
+    why_framed : (c : MachineCall) (t : MachineWithGoods) → HasReason Moment.Inside l m t c → IsFrom m t → IsNoTransport on (why_not c t) → why_not c (frame t) ≡ why_not c t
     unfolding withdraw_refusal receive_refusal deposit_refusal transfer_refusal claim_refusal buy_refusal
-    why_framed (HostCall.TransferOut list from dest program) t asks at quiet = transfer_out_refused to lost t.part list from dest program (quiet_at t dest _ at (ap sent_to asks.2) quiet)
-    why_framed (HostCall.DepositOut dest program) t asks at quiet = deposit_out_refused to lost t.part t.goods dest program (quiet_at t dest _ at (ap sent_to asks.2.1) quiet)
-    why_framed (HostCall.Ship way dest program) t asks at quiet = ship_refused to lost t.part t.goods way dest program (quiet_at t dest _ at (ap sent_to asks.2.1 ∙ ships_to way asks.2.0 dest program) quiet)
-    why_framed (HostCall.Respond info answer querier) t asks at quiet = respond_refused to lost t.part info answer querier (quiet_at t info.destination _ at (report_goes l info asks.2) quiet)
-    why_framed (HostCall.Receive list None teleport) t asks at quiet = refl
-    why_framed (HostCall.Receive list (Some who) teleport) t asks at quiet = refl
-    why_framed _ t asks at quiet = refl
+    why_framed (MachineCall.TransferOut list from dest program) t asks at no_transport = transfer_out_refused to lost t.part list from dest program (no_transport_at t dest _ at (ap sent_to asks.2) no_transport)
+    why_framed (MachineCall.DepositOut dest program) t asks at no_transport = deposit_out_refused to lost t.part t.goods dest program (no_transport_at t dest _ at (ap sent_to asks.2.1) no_transport)
+    why_framed (MachineCall.Ship way dest program) t asks at no_transport = ship_refused to lost t.part t.goods way dest program (no_transport_at t dest _ at (ap sent_to asks.2.1 ∙ ships_to way asks.2.0 dest program) no_transport)
+    why_framed (MachineCall.Respond info answer querier) t asks at no_transport = respond_refused to lost t.part info answer querier (no_transport_at t info.destination _ at (report_goes l info asks.2) no_transport)
+    why_framed (MachineCall.Receive list None teleport) t asks at no_transport = refl
+    why_framed (MachineCall.Receive list (Some who) teleport) t asks at no_transport = refl
+    why_framed _ t asks at no_transport = refl
 
-    refusals_framed : (cs : List HostCall) (t : Midway) → AreAsked l m cs t → IsFrom m t → IsThere to t.part.channels → IsQuiet on (refusal_along cs t) → refusal_along cs (frame t) ≡ refusal_along cs t
-    refusals_framed [] t asks at there quiet = refl
-    refusals_framed (c ∷ cs) t asks at there quiet =
-        ap (λ (o : Option XcmError). or_else o (refusal_along cs (after c (frame t)))) (why_framed c t asks.0 at (not_quiet on (why_not c t) (refusal_along cs (after c t)) quiet))
+    refusals_framed : (cs : List MachineCall) (t : MachineWithGoods) → HaveReasons l m cs t → IsFrom m t → IsThere to t.part.channels → IsNoTransport on (refusal_along cs t) → refusal_along cs (frame t) ≡ refusal_along cs t
+    refusals_framed [] t asks at there no_transport = refl
+    refusals_framed (c ∷ cs) t asks at there no_transport =
+        ap (λ (o : Option XcmError). or_else o (refusal_along cs (after c (frame t)))) (why_framed c t asks.0 at (first_no_transport on (why_not c t) (refusal_along cs (after c t)) no_transport))
         ∙ or_else_same on (why_not c t) (refusal_along cs (after c t)) (refusal_along cs (after c (frame t)))
-        (λ q. ap (refusal_along cs) (after_framed c t there) ∙ refusals_framed cs (after c t) asks.1 (from_after c m t at) (stays_there c t there) q) quiet
+        (λ q. ap (refusal_along cs) (after_framed c t there) ∙ refusals_framed cs (after c t) asks.1 (from_after c m t at) (stays_there c t there) q) no_transport
 
-    pub refused_framed : IsThere to m.part.channels → IsQuiet on (refused l m) → refused l (framed_machine to lost m) ≡ refused l m
-    refused_framed there quiet =
+    pub refused_framed : IsThere to m.part.channels → IsNoTransport on (refused l m) → refused l (framed_machine to lost m) ≡ refused l m
+    refused_framed there no_transport =
         refused_is l (framed_machine to lost m)
-        ∙ ap (λ (cs : List HostCall). refusal_along cs (frame (between m))) (calls_framed l m)
-        ∙ refusals_framed (calls l m) (between m) (asked l m) (from_itself m) there (subst (IsQuiet on) (refused_is l m) quiet)
+        ∙ ap (λ (cs : List MachineCall). refusal_along cs (frame (between m))) (calls_framed l m)
+        ∙ refusals_framed (calls l m) (between m) (asked l m) (from_itself m) there (subst (IsNoTransport on) (refused_is l m) no_transport)
         ∙ sym (refused_is l m)

@@ -16,7 +16,7 @@ use Rattle.exec_run.specs.Machine.{Machine}
 use Rattle.exec_run.specs.Run.{Stage, begin, next, steps, machine_of}
 use Rattle.exec_rules.specs.Instructions.{xcm}
 use Rattle.exec_admission.specs.declared.rules.ChainRules.{ChainRules}
-use Rattle.exec_calls.specs.Calls.{Midway, HostCall, after}
+use Rattle.exec_calls.specs.Calls.{MachineWithGoods, MachineCall, after}
 use Rattle.exec_calls.specs.Footprints.{settings_after, channels_after}
 use Rattle.exec_calls.specs.Kept.{IsKeptByCalls}
 use Rattle.exec_calls.specs.KeptLaws.{any_kind, keeps_reached, keeps_executed}
@@ -37,20 +37,20 @@ with_sent dest program cargo v = record v { channels = change_first (by_channel 
 
 -- ---- a fact that sends keep, a run keeps
 module _ (K : View → Type 0) (keeps : (v : View) (dest : Location) (program : List Instruction) (cargo : Cargo) → K v → K (with_sent dest program cargo v)) where
-  pub call_kept : (c : HostCall) (t : Midway) → K (view_of t.part) → K (view_of (after c t).part)
+  pub call_kept : (c : MachineCall) (t : MachineWithGoods) → K (view_of t.part) → K (view_of (after c t).part)
   call_kept c t h =
       subst (λ (s : Settings). K (record { site = s.site; channels = (after c t).part.channels })) (sym (settings_after c t))
       (channels_after (λ (cs : List Outgoing). K (record { site = t.part.site; channels = cs })) t (λ dest program cargo k. keeps (view_of t.part) dest program cargo k) c h)
 
-  views_kept : IsKeptByCalls any_kind (λ (t : Midway). K (view_of t.part))
-  views_kept = record { refunds = tt; called = λ x l is q over m t c k asks from ok h. call_kept c t h; turned = λ t r turns h. h }
+  views_kept : IsKeptByCalls any_kind (λ (t : MachineWithGoods). K (view_of t.part))
+  views_kept = record { refunds = tt; called = λ x l is q moment m t c k asks from ok h. call_kept c t h; turned = λ t r turns h. h }
 
   pub begin_kept : (part : Part) (program : List Instruction) (m : Machine) → K (view_of m.part) → K (view_of (machine_of (begin part program m)).part)
   begin_kept part [] m h = h
   begin_kept part (x ∷ behind) m h = h
 
   pub steps_kept : (n : ℕ) (g : Stage) → K (view_of (machine_of g).part) → K (view_of (machine_of (steps xcm n g)).part)
-  steps_kept n g h = keeps_reached (λ (t : Midway). K (view_of t.part)) views_kept g (steps xcm n g) (n, refl) h
+  steps_kept n g h = keeps_reached (λ (t : MachineWithGoods). K (view_of t.part)) views_kept g (steps xcm n g) (n, refl) h
 
   pub next_kept : (g : Stage) → K (view_of (machine_of g).part) → K (view_of (machine_of (next xcm g)).part)
   unfolding steps
@@ -58,4 +58,4 @@ module _ (K : View → Type 0) (keeps : (v : View) (dest : Location) (program : 
 
   -- an execution keeps it
   pub acted_kept : (rules : ChainRules) (origin : Location) (credit : Weight) (program : List Instruction) (p : ChainPart) → K (view_of p) → K (view_of (acted rules origin credit program p).part)
-  acted_kept rules origin credit program p h = (keeps_executed (λ (t : Midway). K (view_of t.part)) views_kept rules origin credit program p h).kept
+  acted_kept rules origin credit program p h = (keeps_executed (λ (t : MachineWithGoods). K (view_of t.part)) views_kept rules origin credit program p h).kept

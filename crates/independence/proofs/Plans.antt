@@ -36,7 +36,7 @@ use Rattle.network_steps.specs.Steps.{is_sovereign, exec_by, exec_at, exec, name
 use Rattle.message_shapes.specs.StepLaws.{between_at, place_says}
 use Rattle.independence.specs.Acts.{Act, acts_at, takes_from, stepped_by, member_named}
 use Rattle.independence.specs.Freedom.{RunsCalmly, SendsCalmly}
-use Rattle.independence.proofs.Channels.{found_to, IsThere, IsQuiet, read_popped, sent_swap, found_sent, refused_popped}
+use Rattle.independence.proofs.Channels.{found_to, IsThere, IsNoTransport, read_popped, sent_swap, found_sent, refused_popped}
 use Rattle.independence.proofs.Calls.{framed, lines_same}
 use Rattle.independence.proofs.Runs.{acted_framed, acted_finds}
 use Rattle.independence.proofs.Moves.{Source, set_back, framed_member, Left, Move, moved, IsSteady}
@@ -471,34 +471,34 @@ module _ (to : ChainId) (lost : Bundle) (there : ChainId) (m : Member) (some : I
   next_same : next_of popped_here ≡ next_of here
   next_same = read_popped leads to next_of (λ c. refl) m.part.channels
 
-  why_same : (program : List Instruction) → IsQuiet (same_chain there to) (why here program) → why popped_here program ≡ why here program
-  why_same program quiet =
-      refused_popped leads to (same_chain there to) (λ c is_to is_there. ap (λ (d : ChainId). same_chain d to) (sym (same_chain_told c.to there is_there)) ∙ is_to) true program m.part.channels quiet
+  why_same : (program : List Instruction) → IsNoTransport (same_chain there to) (why here program) → why popped_here program ≡ why here program
+  why_same program no_transport =
+      refused_popped leads to (same_chain there to) (λ c is_to is_there. ap (λ (d : ChainId). same_chain d to) (sym (same_chain_told c.to there is_there)) ∙ is_to) true program m.part.channels no_transport
 
-  posting_quiet : (program : List Instruction) (next : ℕ) (refusal again : Option XcmError) (n : Member) → ((same_chain there to ≡ true → refusal ≡ Some error.Transport → ⊥) → again ≡ refusal)
+  posting_no_transport : (program : List Instruction) (next : ℕ) (refusal again : Option XcmError) (n : Member) → ((same_chain there to ≡ true → refusal ≡ Some error.Transport → ⊥) → again ≡ refusal)
       → (same_chain there to ≡ true → (let l = posting_run there program next refusal m in l.answer) ≡ StepResult.Unsent error.Transport → ⊥) → posting_run there program next again n ≡ posting_run there program next refusal n
-  posting_quiet program next refusal again n same calm =
+  posting_no_transport program next refusal again n same calm =
       ap (λ o. posting_run there program next o n) (same (λ on e. calm on (ap (λ o. let l = posting_run there program next o m in l.answer) e)))
 
-  claiming_quiet : (program : List Instruction) (next : ℕ) (refusal again : Option XcmError) (n : Member) (b : Bool) → ((same_chain there to ≡ true → refusal ≡ Some error.Transport → ⊥) → again ≡ refusal)
+  claiming_no_transport : (program : List Instruction) (next : ℕ) (refusal again : Option XcmError) (n : Member) (b : Bool) → ((same_chain there to ≡ true → refusal ≡ Some error.Transport → ⊥) → again ≡ refusal)
       → (same_chain there to ≡ true → (let l = if b then posting_run there program next refusal m else refused_left StepResult.NotAClaim m in l.answer) ≡ StepResult.Unsent error.Transport → ⊥)
       → (if b then posting_run there program next again n else refused_left StepResult.NotAClaim n) ≡ (if b then posting_run there program next refusal n else refused_left StepResult.NotAClaim n)
-  claiming_quiet program next refusal again n true same calm = posting_quiet program next refusal again n same calm
-  claiming_quiet program next refusal again n false same calm = refl
+  claiming_no_transport program next refusal again n true same calm = posting_no_transport program next refusal again n same calm
+  claiming_no_transport program next refusal again n false same calm = refl
 
-  left_quiet : (next : Option ℕ) (refusal again : List Instruction → Option XcmError) (read : Result (List Instruction) MessageFault) (n : Member)
+  left_no_transport : (next : Option ℕ) (refusal again : List Instruction → Option XcmError) (read : Result (List Instruction) MessageFault) (n : Member)
       → ((program : List Instruction) → (same_chain there to ≡ true → refusal program ≡ Some error.Transport → ⊥) → again program ≡ refusal program)
       → (same_chain there to ≡ true → (let l = claim_left there next refusal read m in l.answer) ≡ StepResult.Unsent error.Transport → ⊥) → claim_left there next again read n ≡ claim_left there next refusal read n
-  left_quiet None refusal again read n same calm = refl
-  left_quiet (Some next) refusal again (Err fault) n same calm = refl
-  left_quiet (Some next) refusal again (Ok program) n same calm = claiming_quiet program next (refusal program) (again program) n (is_claim program) (same program) calm
+  left_no_transport None refusal again read n same calm = refl
+  left_no_transport (Some next) refusal again (Err fault) n same calm = refl
+  left_no_transport (Some next) refusal again (Ok program) n same calm = claiming_no_transport program next (refusal program) (again program) n (is_claim program) (same program) calm
 
   claim_steady : (bytes : List ℕ) → (there ≡ to → (let l = claim_run there bytes m in l.answer) ≡ StepResult.Unsent error.Transport → ⊥) → IsSteady (claim_run there bytes) (framed_member to lost) m
   claim_steady bytes calm =
       let n = framed_member to lost m in
       let same : claim_run there bytes n ≡ claim_left there (next_of here) (why here) (message_of bytes) n =
       ap (λ next. claim_left there next (why popped_here) (message_of bytes) n) next_same
-      ∙ left_quiet (next_of here) (why here) (why popped_here) (message_of bytes) n why_same (λ on e. calm (same_chain_told there to on) e) in
+      ∙ left_no_transport (next_of here) (why here) (why popped_here) (message_of bytes) n why_same (λ on e. calm (same_chain_told there to on) e) in
       let s = left_steady (next_of here) (why here) (message_of bytes) in
       record {
         answer = ap (λ (l : Left). l.answer) same ∙ s.answer;

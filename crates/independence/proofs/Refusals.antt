@@ -29,13 +29,13 @@ use Rattle.exec_rules.specs.Fees.{fee_refusal, after_fee, refused_around, refuse
 use Rattle.exec_rules.specs.Reports.{report_refused, pallets_of, reported_list, holding_report_refused, too_many_refused}
 use Rattle.exec_rules.specs.Instructions.{refused}
 use Rattle.independence.specs.Freedom.{sends_on}
-use Rattle.independence.proofs.Channels.{IsQuiet, read_popped, refused_popped}
+use Rattle.independence.proofs.Channels.{IsNoTransport, read_popped, refused_popped}
 use Rattle.independence.proofs.Calls.{framed, querier_framed, fee_to_framed}
 
 -- ---- refusals that come one after the other
-pub or_else_same : (on : Bool) (a b c : Option XcmError) → (IsQuiet on b → c ≡ b) → IsQuiet on (or_else a b) → or_else a c ≡ or_else a b
-or_else_same on None b c h quiet = h quiet
-or_else_same on (Some e) b c h quiet = refl
+pub or_else_same : (on : Bool) (a b c : Option XcmError) → (IsNoTransport on b → c ≡ b) → IsNoTransport on (or_else a b) → or_else a c ≡ or_else a b
+or_else_same on None b c h no_transport = h no_transport
+or_else_same on (Some e) b c h no_transport = refl
 
 module _ (to : ChainId) (lost : Bundle) where
   abbrev pub framed_machine : Machine → Machine
@@ -58,55 +58,55 @@ module _ (to : ChainId) (lost : Bundle) where
   abbrev pub here_to : ChainPart → Location → Bool
   here_to p dest = is_location_of p.site.chain to dest
 
-  send_refused : (p : ChainPart) (dest : Location) (few : Bool) (program : List Instruction) → IsQuiet (here_to p dest) (send_refusal p dest few program) → send_refusal (framed to lost p) dest few program ≡ send_refusal p dest few program
+  send_refused : (p : ChainPart) (dest : Location) (few : Bool) (program : List Instruction) → IsNoTransport (here_to p dest) (send_refusal p dest few program) → send_refusal (framed to lost p) dest few program ≡ send_refusal p dest few program
   unfolding send_refusal
-  send_refused p dest few program quiet =
-      refused_popped (λ (c : Channel). is_location_of p.site.chain c.to dest) to (here_to p dest) (λ c same on. sym (ap (λ (d : ChainId). is_location_of p.site.chain d dest) (same_chain_told c.to to same)) ∙ on) few program p.channels quiet
+  send_refused p dest few program no_transport =
+      refused_popped (λ (c : Channel). is_location_of p.site.chain c.to dest) to (here_to p dest) (λ c same on. sym (ap (λ (d : ChainId). is_location_of p.site.chain d dest) (same_chain_told c.to to same)) ∙ on) few program p.channels no_transport
 
-  listed_refused : (p : ChainPart) (dest : Location) (program : List Asset → List Instruction) (o : Option (List Asset)) → IsQuiet (here_to p dest) (listed_refusal p dest program o)
+  listed_refused : (p : ChainPart) (dest : Location) (program : List Asset → List Instruction) (o : Option (List Asset)) → IsNoTransport (here_to p dest) (listed_refusal p dest program o)
       → listed_refusal (framed to lost p) dest program o ≡ listed_refusal p dest program o
-  listed_refused p dest program None quiet = refl
-  listed_refused p dest program (Some list) quiet = send_refused p dest (nat_le (length list) 20) (program list) quiet
+  listed_refused p dest program None no_transport = refl
+  listed_refused p dest program (Some list) no_transport = send_refused p dest (nat_le (length list) 20) (program list) no_transport
 
   transfer_refused : (p : ChainPart) (list : List Asset) (from who : Location) → transfer_refusal (framed to lost p) list from who ≡ transfer_refusal p list from who
   unfolding transfer_refusal
   transfer_refused p list from who = refl
 
-  pub transfer_out_refused : (p : ChainPart) (list : List Asset) (from dest : Location) (program : List Instruction) → IsQuiet (here_to p dest) (transfer_out_refusal p list from dest program)
+  pub transfer_out_refused : (p : ChainPart) (list : List Asset) (from dest : Location) (program : List Instruction) → IsNoTransport (here_to p dest) (transfer_out_refusal p list from dest program)
       → transfer_out_refusal (framed to lost p) list from dest program ≡ transfer_out_refusal p list from dest program
   unfolding transfer_out_refusal
-  transfer_out_refused p list from dest program quiet =
+  transfer_out_refused p list from dest program no_transport =
       ap (λ a. or_else a (listed_refusal (framed to lost p) dest (λ l. deposit_program l program) (seen_from p dest list))) (transfer_refused p list from dest)
-      ∙ or_else_same (here_to p dest) (transfer_refusal p list from dest) _ _ (listed_refused p dest (λ l. deposit_program l program) (seen_from p dest list)) quiet
+      ∙ or_else_same (here_to p dest) (transfer_refusal p list from dest) _ _ (listed_refused p dest (λ l. deposit_program l program) (seen_from p dest list)) no_transport
 
   deposit_refused : (p : ChainPart) (goods : Bundle) (who : Location) → deposit_refusal (framed to lost p) goods who ≡ deposit_refusal p goods who
   unfolding deposit_refusal
   deposit_refused p goods who = refl
 
-  pub deposit_out_refused : (p : ChainPart) (goods : Bundle) (dest : Location) (program : List Instruction) → IsQuiet (here_to p dest) (deposit_out_refusal p goods dest program)
+  pub deposit_out_refused : (p : ChainPart) (goods : Bundle) (dest : Location) (program : List Instruction) → IsNoTransport (here_to p dest) (deposit_out_refusal p goods dest program)
       → deposit_out_refusal (framed to lost p) goods dest program ≡ deposit_out_refusal p goods dest program
   unfolding deposit_out_refusal
-  deposit_out_refused p goods dest program quiet =
+  deposit_out_refused p goods dest program no_transport =
       ap (λ a. or_else a (listed_refusal (framed to lost p) dest (λ l. deposit_program l program) (seen_from p dest (held_assets goods)))) (deposit_refused p goods dest)
-      ∙ or_else_same (here_to p dest) (deposit_refusal p goods dest) _ _ (listed_refused p dest (λ l. deposit_program l program) (seen_from p dest (held_assets goods))) quiet
+      ∙ or_else_same (here_to p dest) (deposit_refusal p goods dest) _ _ (listed_refused p dest (λ l. deposit_program l program) (seen_from p dest (held_assets goods))) no_transport
 
-  pub ship_refused : (p : ChainPart) (goods : Bundle) (way : Way) (dest : Location) (program : List Instruction) → IsQuiet (here_to p dest) (ship_refusal p goods way dest program)
+  pub ship_refused : (p : ChainPart) (goods : Bundle) (way : Way) (dest : Location) (program : List Instruction) → IsNoTransport (here_to p dest) (ship_refusal p goods way dest program)
       → ship_refusal (framed to lost p) goods way dest program ≡ ship_refusal p goods way dest program
   unfolding ship_refusal
-  ship_refused p goods way dest program quiet =
+  ship_refused p goods way dest program no_transport =
       let trusted = first_fault (trust_fault p dest (is_teleport way)) (held_assets goods) in
       let raised = if is_teleport way then first_fault (raise_fault p) (held_assets goods) else None in
       or_else_same (here_to p dest) trusted _ _
-      (λ q. or_else_same (here_to p dest) raised _ _ (listed_refused p dest (λ l. away_program way l program) (seen_from p dest (held_assets goods))) q) quiet
+      (λ q. or_else_same (here_to p dest) raised _ _ (listed_refused p dest (λ l. away_program way l program) (seen_from p dest (held_assets goods))) q) no_transport
 
   -- ---- reports
-  report_by : (p : ChainPart) (info : QueryInfo) (response : Response) (o : Option (Option Location)) → IsQuiet (here_to p info.destination) (report_refusal p info response o)
+  report_by : (p : ChainPart) (info : QueryInfo) (response : Response) (o : Option (Option Location)) → IsNoTransport (here_to p info.destination) (report_refusal p info response o)
       → report_refusal (framed to lost p) info response o ≡ report_refusal p info response o
-  report_by p info response None quiet = refl
-  report_by p info response (Some querier) quiet = send_refused p info.destination true (report_program info response querier) quiet
+  report_by p info response None no_transport = refl
+  report_by p info response (Some querier) no_transport = send_refused p info.destination true (report_program info response querier) no_transport
 
-  pub respond_refused : (p : ChainPart) (info : QueryInfo) (response : Response) (querier : Option Location) → IsQuiet (here_to p info.destination) (respond_refusal p info response querier)
+  pub respond_refused : (p : ChainPart) (info : QueryInfo) (response : Response) (querier : Option Location) → IsNoTransport (here_to p info.destination) (respond_refusal p info response querier)
       → respond_refusal (framed to lost p) info response querier ≡ respond_refusal p info response querier
   unfolding respond_refusal
-  respond_refused p info response querier quiet =
-      ap (report_refusal (framed to lost p) info response) (querier_framed to lost p info.destination querier) ∙ report_by p info response (querier_seen p info.destination querier) quiet
+  respond_refused p info response querier no_transport =
+      ap (report_refusal (framed to lost p) info response) (querier_framed to lost p info.destination querier) ∙ report_by p info response (querier_seen p info.destination querier) no_transport

@@ -97,14 +97,14 @@ too_far l target context far = sym (below 8 target.parents (Err Full) _ far)
 pub whole_way : (l target own seen put simple : Location) (context : List Junction)
     → length l.interior ≤ 8 → length target.interior ≤ 8 → target.parents ≤ 8 → own ≡ inverted context target → seen ≡ l
     → prepended own seen ≡ Ok put → simple ≡ simplified target.interior put → Ok simple ≡ reanchored l target context
-whole_way l target own seen put simple context few few_too near is_own is_seen is_put is_simple =
+whole_way l target own seen put simple context few few_too near is_test_error is_seen is_put is_simple =
     ap Ok is_simple
-    ∙ ap (then_simplified target.interior) (sym is_put ∙ (λ i. prepended (is_own i) (is_seen i)))
+    ∙ ap (then_simplified target.interior) (sym is_put ∙ (λ i. prepended (is_test_error i) (is_seen i)))
     ∙ three_steps l target context few few_too near
 
 pub refused_way : (l target own seen : Location) (fault : LocationFault) (context : List Junction)
     → length l.interior ≤ 8 → length target.interior ≤ 8 → target.parents ≤ 8 → own ≡ inverted context target → seen ≡ l
     → prepended own seen ≡ Err fault → Err fault ≡ reanchored l target context
-refused_way l target own seen fault context few few_too near is_own is_seen is_put =
-    ap (then_simplified target.interior) (sym is_put ∙ (λ i. prepended (is_own i) (is_seen i)))
+refused_way l target own seen fault context few few_too near is_test_error is_seen is_put =
+    ap (then_simplified target.interior) (sym is_put ∙ (λ i. prepended (is_test_error i) (is_seen i)))
     ∙ three_steps l target context few few_too near

@@ -8,25 +8,25 @@ use Rattle.exec_run.specs.Run.{Stage, machine_of, Reaches}
 use Rattle.exec_rules.specs.Instructions.{xcm}
 use Rattle.exec_admission.specs.declared.rules.ChainRules.{ChainRules}
 use Rattle.exec_admission.specs.Execution.{executed, IsAbandoned}
-use Rattle.exec_calls.specs.Calls.{Midway, HostCall, why_not, after}
+use Rattle.exec_calls.specs.Calls.{MachineWithGoods, MachineCall, why_not, after}
 use Rattle.exec_calls.specs.Footprints.{part_is}
 use Rattle.exec_calls.specs.Kept.{IsKeptByCalls}
 use Rattle.exec_calls.specs.KeptLaws.{any_kind, keeps_reached, keeps_executed, keeps_abandoned}
 use Rattle.message_shapes.specs.Shapes.{AreShapedAt}
 use Rattle.message_shapes.proofs.Channels.{transferred_shaped, deposited_shaped, shipped_shaped, responded_shaped}
 
-abbrev Shaped : Midway → Type 0
+abbrev Shaped : MachineWithGoods → Type 0
 Shaped t = AreShapedAt t.part
 
-call_shaped : (c : HostCall) (t : Midway) → why_not c t ≡ None → Shaped t → Shaped (after c t)
-call_shaped (HostCall.TransferOut list from dest xcm) t ok all = subst AreShapedAt (sym (part_is (HostCall.TransferOut list from dest xcm) t)) (transferred_shaped t.part list from dest xcm ok all)
-call_shaped (HostCall.DepositOut dest xcm) t ok all = subst AreShapedAt (sym (part_is (HostCall.DepositOut dest xcm) t)) (deposited_shaped t.part t.goods dest xcm ok all)
-call_shaped (HostCall.Ship way dest xcm) t ok all = subst AreShapedAt (sym (part_is (HostCall.Ship way dest xcm) t)) (shipped_shaped t.part t.goods way dest xcm ok all)
-call_shaped (HostCall.Respond info answer querier) t ok all = subst AreShapedAt (sym (part_is (HostCall.Respond info answer querier) t)) (responded_shaped t.part info answer querier all)
+call_shaped : (c : MachineCall) (t : MachineWithGoods) → why_not c t ≡ None → Shaped t → Shaped (after c t)
+call_shaped (MachineCall.TransferOut list from dest xcm) t ok all = subst AreShapedAt (sym (part_is (MachineCall.TransferOut list from dest xcm) t)) (transferred_shaped t.part list from dest xcm ok all)
+call_shaped (MachineCall.DepositOut dest xcm) t ok all = subst AreShapedAt (sym (part_is (MachineCall.DepositOut dest xcm) t)) (deposited_shaped t.part t.goods dest xcm ok all)
+call_shaped (MachineCall.Ship way dest xcm) t ok all = subst AreShapedAt (sym (part_is (MachineCall.Ship way dest xcm) t)) (shipped_shaped t.part t.goods way dest xcm ok all)
+call_shaped (MachineCall.Respond info answer querier) t ok all = subst AreShapedAt (sym (part_is (MachineCall.Respond info answer querier) t)) (responded_shaped t.part info answer querier all)
 call_shaped _ t ok all = all
 
 shapes_kept : IsKeptByCalls any_kind Shaped
-shapes_kept = record { refunds = tt; called = λ x l is q over m t c k asks from ok all. call_shaped c t ok all; turned = λ t r turns all. all }
+shapes_kept = record { refunds = tt; called = λ x l is q moment m t c k asks from ok all. call_shaped c t ok all; turned = λ t r turns all. all }
 
 -- whatever a run reaches
 pub reached_shaped : (g h : Stage) → Reaches xcm g h → AreShapedAt (machine_of g).part → AreShapedAt (machine_of h).part

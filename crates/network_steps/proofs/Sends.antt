@@ -47,8 +47,8 @@ use Rattle.exec_admission.specs.declared.rules.ChainRules.{ChainRules}
 use Rattle.exec_admission.specs.declared.admission.Admitted.{Admitted}
 use Rattle.exec_admission.specs.Admission.{by_barriers, by_limit, by_weight, admitted}
 use Rattle.exec_admission.specs.Execution.{first_machine, first_stage, last_machine, executed_by, executed}
-use Rattle.exec_calls.specs.Calls.{Midway, HostCall, after}
-use Rattle.exec_calls.specs.Reasons.{shipping, IsReport, Asks, ComesAtEnd}
+use Rattle.exec_calls.specs.Calls.{MachineWithGoods, MachineCall, after}
+use Rattle.exec_calls.specs.Reasons.{shipping, IsReport, Moment, HasReason, ComesAtEnd}
 use Rattle.exec_calls.specs.ReasonLaws.{each_keeps}
 use Rattle.exec_calls.specs.Kept.{IsKeptAtEnd}
 use Rattle.exec_calls.specs.KeptLaws.{finished_kept}
@@ -173,17 +173,17 @@ ships_one Way.Withdrawal filter dest program = refl
 ships_one Way.Teleport filter dest program = refl
 
 -- nothing was sent yet, or no more than the instruction sends
-abbrev IsSentBy : Instruction-F Instruction → Machine → Midway → Type 0
+abbrev IsSentBy : Instruction-F Instruction → Machine → MachineWithGoods → Type 0
 IsSentBy l m t = (t.part.channels ≡ m.part.channels) ⊎ (queued t.part.channels ≤ queued m.part.channels + sent_in l)
 
-first_sent : (l : Instruction-F Instruction) (m : Machine) (t : Midway) (c : HostCall) (n : ℕ) → t.part.channels ≡ m.part.channels → sent_in l ≡ n → queued (after c t).part.channels ≤ queued t.part.channels + n → IsSentBy l m (after c t)
+first_sent : (l : Instruction-F Instruction) (m : Machine) (t : MachineWithGoods) (c : MachineCall) (n : ℕ) → t.part.channels ≡ m.part.channels → sent_in l ≡ n → queued (after c t).part.channels ≤ queued t.part.channels + n → IsSentBy l m (after c t)
 first_sent l m t c n unsent is more = let a = ap queued unsent in inr (omega (arith, more, a, is))
 
-call_sent : (l : Instruction-F Instruction) (m : Machine) (c : HostCall) (t : Midway) → Asks false l m t c → IsSentBy l m t → IsSentBy l m (after c t)
-call_sent l m (HostCall.TransferOut list from dest program) t asks h = first_sent l m t (HostCall.TransferOut list from dest program) (1 + sends program) asks.0 (ap sent_in asks.2) (transferred_more t.part list from dest program)
-call_sent l m (HostCall.DepositOut dest program) t asks h = first_sent l m t (HostCall.DepositOut dest program) (1 + sends program) asks.0 (ap sent_in asks.2.1) (deposited_more t.part t.goods dest program)
-call_sent l m (HostCall.Ship way dest program) t asks h = first_sent l m t (HostCall.Ship way dest program) (1 + sends program) asks.0 (ap sent_in asks.2.1 ∙ ships_one way asks.2.0 dest program) (shipped_more t.part t.goods way dest program)
-call_sent l m (HostCall.Respond info answer querier) t asks h = first_sent l m t (HostCall.Respond info answer querier) 1 asks.0 (reports_one l info asks.2) (responded_more t.part info answer querier)
+call_sent : (l : Instruction-F Instruction) (m : Machine) (c : MachineCall) (t : MachineWithGoods) → HasReason Moment.Inside l m t c → IsSentBy l m t → IsSentBy l m (after c t)
+call_sent l m (MachineCall.TransferOut list from dest program) t asks h = first_sent l m t (MachineCall.TransferOut list from dest program) (1 + sends program) asks.0 (ap sent_in asks.2) (transferred_more t.part list from dest program)
+call_sent l m (MachineCall.DepositOut dest program) t asks h = first_sent l m t (MachineCall.DepositOut dest program) (1 + sends program) asks.0 (ap sent_in asks.2.1) (deposited_more t.part t.goods dest program)
+call_sent l m (MachineCall.Ship way dest program) t asks h = first_sent l m t (MachineCall.Ship way dest program) (1 + sends program) asks.0 (ap sent_in asks.2.1 ∙ ships_one way asks.2.0 dest program) (shipped_more t.part t.goods way dest program)
+call_sent l m (MachineCall.Respond info answer querier) t asks h = first_sent l m t (MachineCall.Respond info answer querier) 1 asks.0 (reports_one l info asks.2) (responded_more t.part info answer querier)
 call_sent l m _ t asks h = h
 
 done_more : (l : Instruction-F Instruction) (m : Machine) → queued (channels_of (done l m)) ≤ queued (channels_of m) + sent_in l
@@ -276,18 +276,18 @@ module _ (orderly : IsOrderly xcm) where
   run_sends g = let a = machine_due (run xcm g) in let b = steps_due (still_to_run g) g in omega (arith, a, b)
 
 -- ---- the end of a run sends nothing
-end_same : (c : HostCall) (t : Midway) → ComesAtEnd c → (after c t).part.channels ≡ t.part.channels
-end_same (HostCall.TransferOut list from dest program) t comes = absurd comes
-end_same (HostCall.DepositOut dest program) t comes = absurd comes
-end_same (HostCall.Ship way dest program) t comes = absurd comes
-end_same (HostCall.Respond info answer querier) t comes = absurd comes
+end_same : (c : MachineCall) (t : MachineWithGoods) → ComesAtEnd c → (after c t).part.channels ≡ t.part.channels
+end_same (MachineCall.TransferOut list from dest program) t comes = absurd comes
+end_same (MachineCall.DepositOut dest program) t comes = absurd comes
+end_same (MachineCall.Ship way dest program) t comes = absurd comes
+end_same (MachineCall.Respond info answer querier) t comes = absurd comes
 end_same _ t comes = refl
 
-sends_none : (cs : List Outgoing) → IsKeptAtEnd (λ (t : Midway). t.part.channels ≡ cs)
+sends_none : (cs : List Outgoing) → IsKeptAtEnd (λ (t : MachineWithGoods). t.part.channels ≡ cs)
 sends_none cs = record { closing = λ m t c k asks comes from ok h. end_same c t comes ∙ h; closed = λ t r holding origin h. h }
 
 pub finished_same : (m : Machine) → (finished xcm m).channels ≡ channels_of m
-finished_same m = (finished_kept (λ (t : Midway). t.part.channels ≡ channels_of m) (sends_none (channels_of m)) m refl).kept
+finished_same m = (finished_kept (λ (t : MachineWithGoods). t.part.channels ≡ channels_of m) (sends_none (channels_of m)) m refl).kept
 
 -- ---- admission changes a limit alone
 sends-with_limit : (limit : WeightLimit) (l : Instruction-F Instruction) → sending (with_limit limit l) + sends_inside (inner (with_limit limit l)) ≡ sending l + sends_inside (inner l)

@@ -12,7 +12,7 @@ use Rattle.exec_base.specs.declared.settings.Settings as declared
 use Rattle.exec_base.specs.Sending.{leads_to}
 use Rattle.exec_admission.specs.declared.rules.ChainRules.{ChainRules}
 use Rattle.exec_admission.specs.Execution.{executed}
-use Rattle.exec_calls.specs.Calls.{Midway, HostCall, after}
+use Rattle.exec_calls.specs.Calls.{MachineWithGoods, MachineCall, after}
 use Rattle.exec_calls.specs.Footprints.{settings_after, channels_after}
 use Rattle.exec_calls.specs.Kept.{IsKeptByCalls}
 use Rattle.exec_calls.specs.KeptLaws.{any_kind, keeps_executed}
@@ -32,15 +32,15 @@ channels_kept test change same (c ∷ cs) =
 abbrev said : declared.Settings → List Channel → Settings
 said s channels = record { site = s.site; rows = s.rows; pallets = s.pallets; fee_account = s.fee_account; channels = channels }
 
-call_fixed : (c : HostCall) (t : Midway) → settings_of (after c t).part ≡ settings_of t.part
+call_fixed : (c : MachineCall) (t : MachineWithGoods) → settings_of (after c t).part ≡ settings_of t.part
 call_fixed c t =
     let same : map (λ (c : Outgoing). c.channel) (after c t).part.channels ≡ map (λ (c : Outgoing). c.channel) t.part.channels =
     channels_after (λ (cs : List Outgoing). map (λ (c : Outgoing). c.channel) cs ≡ map (λ (c : Outgoing). c.channel) t.part.channels) t
     (λ dest program cargo h. channels_kept (leads_to t.part dest) (with_waiting program cargo) (λ c. refl) t.part.channels ∙ h) c refl in
     λ i. said (settings_after c t i) (same i)
 
-fixed_is_kept : (says : Settings) → IsKeptByCalls any_kind (λ (t : Midway). settings_of t.part ≡ says)
-fixed_is_kept says = record { refunds = tt; called = λ x l is q over m t c k asks from ok h. call_fixed c t ∙ h; turned = λ t r turns h. h }
+fixed_is_kept : (says : Settings) → IsKeptByCalls any_kind (λ (t : MachineWithGoods). settings_of t.part ≡ says)
+fixed_is_kept says = record { refunds = tt; called = λ x l is q moment m t c k asks from ok h. call_fixed c t ∙ h; turned = λ t r turns h. h }
 
 pub executed_fixed : (rules : ChainRules) (origin : Location) (credit : Weight) (program : List Instruction) (p : ChainPart) → settings_of (executed rules origin credit program p).1 ≡ settings_of p
-executed_fixed rules origin credit program p = (keeps_executed (λ (t : Midway). settings_of t.part ≡ settings_of p) (fixed_is_kept (settings_of p)) rules origin credit program p refl).kept
+executed_fixed rules origin credit program p = (keeps_executed (λ (t : MachineWithGoods). settings_of t.part ≡ settings_of p) (fixed_is_kept (settings_of p)) rules origin credit program p refl).kept

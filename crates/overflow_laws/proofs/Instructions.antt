@@ -1,4 +1,4 @@
--- Lemmas: an accepted instruction of a quiet origin burns no excess, where of each unit no more is there than one bundle may hold. A reader
+-- Lemmas: an accepted instruction of a own_origin origin burns no excess, where of each unit no more is there than one bundle may hold. A reader
 -- may skip this file.
 use Rattle.std.proofs.Common.{◌≡◌, ℕ, inr, sym, subst, ◌+◌, ◌≤◌, List, None, refl, arith}
 use Rattle.amounts.specs.Amounts.{total}
@@ -15,7 +15,7 @@ use Rattle.exec_rules.specs.Readiness.{IsSteady}
 use Rattle.conserved_runs.specs.Sums.{sum_of, none, Call, in_places, HasRoom}
 use Rattle.conserved_runs.specs.Calls.{Withdraws, Trapping}
 use Rattle.conserved_runs.specs.Safety.{HasList, hold, AreLists, AreFees, IsFine, Safely}
-use Rattle.conserved_runs.specs.Accepted.{IsQuiet, pooled, hold_pooled, called_safely, turned_safely, at_first}
+use Rattle.conserved_runs.specs.Accepted.{IsOwnOrigin, pooled, hold_pooled, called_safely, turned_safely, at_first}
 use Rattle.overflow_laws.proofs.Fitting.{just_unit, FitsBundle}
 use Rattle.overflow_laws.proofs.Calls.{BurnsNoExcess, same_burns, no_excess_then, settled_no_excess, burnt_no_excess, joined_no_excess, bought_no_excess}
 use Rattle.asset_lists.specs.Units.{Unit}
@@ -23,7 +23,7 @@ use Rattle.asset_bundles.specs.Joins.{most_of}
 use Rattle.xcm_program.specs.Everywhere.{AllInside}
 use Rattle.xcm_program.specs.Measure.{inner}
 use Rattle.coherence.specs.Networks.{Table, Agrees}
-use Rattle.exec_calls.specs.Calls.{Midway, between, HostCall, after, effect}
+use Rattle.exec_calls.specs.Calls.{MachineWithGoods, between, MachineCall, after, effect}
 use Rattle.exec_calls.specs.Footprints.{part_is}
 use Rattle.exec_calls.specs.ReasonLaws.{done_keeps}
 use Rattle.exec_calls.specs.Kept.{IsKeptAtEnd}
@@ -41,41 +41,41 @@ more_no_excess may m p goods x fits same =
 -- ---- each call
 
 -- of each unit the places, the holding and the hand have no more than one bundle may hold
-abbrev pub FitsInHand : Midway → Type 0
+abbrev pub FitsInHand : MachineWithGoods → Type 0
 FitsInHand t = (u : Unit) → in_places (just_unit u) t.part + (total (just_unit u) t.regs.holding + total (just_unit u) t.goods) ≤ most_of u.1
 
-pub then_called : (p : ChainPart) (c : HostCall) (t : Midway) → BurnsNoExcess p t.part → BurnsNoExcess t.part (effect c t) → BurnsNoExcess p (after c t).part
+pub then_called : (p : ChainPart) (c : MachineCall) (t : MachineWithGoods) → BurnsNoExcess p t.part → BurnsNoExcess t.part (effect c t) → BurnsNoExcess p (after c t).part
 then_called p c t x y = no_excess_then p t.part (after c t).part x (subst (BurnsNoExcess t.part) (sym (part_is c t)) y)
 
-pub call_no_excess : (p : ChainPart) (c : HostCall) (t : Midway) → FitsInHand t → BurnsNoExcess p t.part → BurnsNoExcess p (after c t).part
-call_no_excess p HostCall.Join t fits x = then_called p HostCall.Join t x (joined_no_excess t.part t.regs.holding t.goods (λ u. let fit = fits u in omega (arith, fit)))
-call_no_excess p HostCall.Burn t fits x = then_called p HostCall.Burn t x (burnt_no_excess t.part t.goods)
-call_no_excess p (HostCall.Buy w) t fits x = then_called p (HostCall.Buy w) t x (bought_no_excess t.part w t.goods (λ u. let fit = fits u in omega (arith, fit)))
-call_no_excess p HostCall.Settle t fits x = then_called p HostCall.Settle t x (settled_no_excess t.part (λ u. let fit = fits u in omega (arith, fit)))
+pub call_no_excess : (p : ChainPart) (c : MachineCall) (t : MachineWithGoods) → FitsInHand t → BurnsNoExcess p t.part → BurnsNoExcess p (after c t).part
+call_no_excess p MachineCall.Join t fits x = then_called p MachineCall.Join t x (joined_no_excess t.part t.regs.holding t.goods (λ u. let fit = fits u in omega (arith, fit)))
+call_no_excess p MachineCall.Burn t fits x = then_called p MachineCall.Burn t x (burnt_no_excess t.part t.goods)
+call_no_excess p (MachineCall.Buy w) t fits x = then_called p (MachineCall.Buy w) t x (bought_no_excess t.part w t.goods (λ u. let fit = fits u in omega (arith, fit)))
+call_no_excess p MachineCall.Settle t fits x = then_called p MachineCall.Settle t x (settled_no_excess t.part (λ u. let fit = fits u in omega (arith, fit)))
 call_no_excess p _ t fits x = x
 
 -- ---- an instruction
 module _ (withdraws : Withdraws) (moves : MovesAreKept) (n : List Table) (l : Instruction-F Instruction) (m : Machine)
-    (fine : IsFine n m) (quiet : IsQuiet m.regs.origin) (steady : IsSteady m) (fees : AreFees m.part.channels) (in_order : HasList Instruction l) (nested : AllInside AreLists (inner l)) where
-  abbrev KeepsInHand : Midway → Type 0
+    (fine : IsFine n m) (own_origin : IsOwnOrigin m.regs.origin) (steady : IsSteady m) (fees : AreFees m.part.channels) (in_order : HasList Instruction l) (nested : AllInside AreLists (inner l)) where
+  abbrev KeepsInHand : MachineWithGoods → Type 0
   KeepsInHand t = Safely m (pooled t) × BurnsNoExcess m.part t.part
 
-  fits_in_hand : (t : Midway) → FitsBundle m → Safely m (pooled t) → FitsInHand t
+  fits_in_hand : (t : MachineWithGoods) → FitsBundle m → Safely m (pooled t) → FitsInHand t
   fits_in_hand t fits x u = let le = x.units (just_unit u) in let e = hold_pooled t (just_unit u) in let fit = fits u in omega (arith, le, e, fit)
 
   pub done_no_excess : Agrees n → FitsBundle m → refused l m ≡ None → BurnsNoExcess m.part (done l m).part
   done_no_excess agrees fits ok =
       (done_keeps l m KeepsInHand
-      (λ c t asks from free k. (called_safely withdraws moves n l m fine quiet steady fees in_order nested c t (inr agrees) asks from free k.0, call_no_excess m.part c t (fits_in_hand t fits k.0) k.1))
-      (λ t from k. (turned_safely withdraws moves n l m fine quiet steady fees in_order nested t from k.0, k.1)) ok
-      (at_first withdraws moves n l m fine quiet steady fees in_order nested, same_burns m.part m.part refl)).1
+      (λ c t asks from free k. (called_safely withdraws moves n l m fine own_origin steady fees in_order nested c t (inr agrees) asks from free k.0, call_no_excess m.part c t (fits_in_hand t fits k.0) k.1))
+      (λ t from k. (turned_safely withdraws moves n l m fine own_origin steady fees in_order nested t from k.0, k.1)) ok
+      (at_first withdraws moves n l m fine own_origin steady fees in_order nested, same_burns m.part m.part refl)).1
 
 -- ---- the end of a run
 module _ (moves : MovesAreKept) (trapping : Trapping) (m : Machine) (steady : IsSteady m) (room : HasRoom (hold m) m.part) (fits : FitsBundle m) where
-  abbrev EndsInHand : Midway → Type 0
+  abbrev EndsInHand : MachineWithGoods → Type 0
   EndsInHand t = IsEnding m t × BurnsNoExcess m.part t.part
 
-  fits_at_end : (t : Midway) → IsEnding m t → FitsInHand t
+  fits_at_end : (t : MachineWithGoods) → IsEnding m t → FitsInHand t
   fits_at_end t e u = let moved = e.call.amounts (just_unit u) in let sum = hold_pooled t (just_unit u) in let fit = fits u in omega (arith, moved, sum, fit)
 
   no_excess_at_end : IsKeptAtEnd EndsInHand

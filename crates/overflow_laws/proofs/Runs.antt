@@ -1,4 +1,4 @@
--- Lemmas: a run for a quiet origin burns no excess, wherever it comes, nor does its end. A reader may skip this file.
+-- Lemmas: a run for an origin of the chain's own burns no excess, wherever it comes, nor does its end. A reader may skip this file.
 use Rattle.std.proofs.Common.{◌≡◌, None, List, refl, arith}
 use Rattle.weight_trader.specs.Laws.{MovesAreKept}
 use Rattle.xcm_program.specs.declared.instruction.Instruction.{Instruction, out-Instruction}
@@ -37,7 +37,7 @@ module _ (withdraws : Withdraws) (moves : MovesAreKept) (stays : StaysSteady) (n
   pub done_without_excess : (x : Instruction) (m : Machine) → AreLists x → refusal_of x m ≡ None → IsSafeAt n m → FitsBundle m → BurnsNoExcess m.part (xcm.done x m).part
   done_without_excess x m lists ok safe fits =
       let opened = everywhere_open HasList HasList-IsOfLayer x lists in
-      done_no_excess withdraws moves n (out-Instruction x) m safe.fine safe.quiet safe.steady safe.fees opened.0 opened.1 agrees fits ok
+      done_no_excess withdraws moves n (out-Instruction x) m safe.fine safe.own_origin safe.steady safe.fees opened.0 opened.1 agrees fits ok
 
   pub runs_without_excess : IsKeptByRuns xcm AreLists (GoesWithoutExcess n)
   runs_without_excess = record {

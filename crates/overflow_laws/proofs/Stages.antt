@@ -73,7 +73,7 @@ module _ (laws : LawsBelow) (n : List Table) (agrees : Agrees n) where
       let stands = (all (run xcm g) (still_to_run g, refl)).0 in
       no_excess_then p last.part now stands.no_excess (halted_no_excess laws.moves laws.trapping last stands.steady stands.room stands.fits now e)) h
 
-  -- ---- for a quiet origin
+  -- ---- for an origin of the chain's own
   accepts : (p : ChainPart) (h : Stage) → IsSafeAt n (machine_of h) → FitsBundle (machine_of h) → BurnsNoExcess p (machine_of h).part → IsAheadOf AreLists h → Accepts p h
   accepts p (At part place x behind m) safe fits so_far ahead = λ way. no_excess_then p m.part (xcm.done x m).part so_far (done_without_excess laws.withdraws laws.moves laws.stays n agrees x m ahead.ahead_hold.0 way safe fits)
   accepts p (Ended m) safe fits so_far ahead = tt

@@ -15,8 +15,8 @@ use Rattle.exec_rules.specs.AnswerLaws.{unless_held}
 use Rattle.exec_rules.specs.Stopping.{parking, BuyingStops, Spilled}
 use Rattle.overflow_laws.proofs.Fitting.{just_unit, FitsBundle, units_within}
 use Rattle.overflow_laws.proofs.Calls.{BurnsNoExcess, same_burns, no_excess_then, bought_no_excess}
-use Rattle.exec_calls.specs.Calls.{Midway, HostCall, after}
-use Rattle.exec_calls.specs.Reasons.{Asks, ComesBeforeStop}
+use Rattle.exec_calls.specs.Calls.{MachineWithGoods, MachineCall, after}
+use Rattle.exec_calls.specs.Reasons.{Moment, HasReason, ComesBeforeStop}
 use Rattle.exec_calls.specs.ReasonLaws.{lead_keeps}
 use Rattle.exec_calls.specs.StopLaws.{spilled_lead}
 use Rattle.message_parts.specs.declared.weight.Weight.{Weight}
@@ -41,16 +41,16 @@ buying_stops m fees (Limited w) now fits h = ⊎_elim
 abbrev IsNoPurchase : Instruction-F Instruction → Type 0
 IsNoPurchase l = (fees : Asset) (w : Weight) → l ≡ Instruction-F.BuyExecution fees (Limited w) → ⊥
 
-early_no_excess : (l : Instruction-F Instruction) (m : Machine) → IsNoPurchase l → (c : HostCall) (t : Midway) → ComesBeforeStop c → Asks false l m t c → BurnsNoExcess m.part t.part → BurnsNoExcess m.part (after c t).part
-early_no_excess l m other HostCall.Join t early asks x = absurd early
-early_no_excess l m other HostCall.Burn t early asks x = absurd early
-early_no_excess l m other (HostCall.Buy w) t early asks x = absurd (other asks.0 w asks.1)
-early_no_excess l m other HostCall.Settle t early asks x = absurd (cc asks.0)
+early_no_excess : (l : Instruction-F Instruction) (m : Machine) → IsNoPurchase l → (c : MachineCall) (t : MachineWithGoods) → ComesBeforeStop c → HasReason Moment.Inside l m t c → BurnsNoExcess m.part t.part → BurnsNoExcess m.part (after c t).part
+early_no_excess l m other MachineCall.Join t early asks x = absurd early
+early_no_excess l m other MachineCall.Burn t early asks x = absurd early
+early_no_excess l m other (MachineCall.Buy w) t early asks x = absurd (other asks.0 w asks.1)
+early_no_excess l m other MachineCall.Settle t early asks x = absurd (cc asks.0)
 early_no_excess l m other _ t early asks x = x
 
 others_no_excess : (l : Instruction-F Instruction) (m now : Machine) → IsNoPurchase l → Spilled l m now → BurnsNoExcess m.part now.part
 others_no_excess l m now other h =
-    lead_keeps l m (λ (t : Midway). BurnsNoExcess m.part t.part) (λ c t early asks from free x. early_no_excess l m other c t early asks x) now (spilled_lead l m now h) (same_burns m.part m.part refl)
+    lead_keeps l m (λ (t : MachineWithGoods). BurnsNoExcess m.part t.part) (λ c t early asks from free x. early_no_excess l m other c t early asks x) now (spilled_lead l m now h) (same_burns m.part m.part refl)
 
 pub spilled_no_excess : (l : Instruction-F Instruction) (m now : Machine) → FitsBundle m → Spilled l m now → BurnsNoExcess m.part now.part
 spilled_no_excess (Instruction-F.BuyExecution fees limit) m now fits h =

@@ -31,8 +31,8 @@ use Rattle.network_steps.specs.Acting.{caller}
 use Rattle.network_steps.specs.Steps.{Link, Step, worlds}
 use Rattle.message_shapes.specs.Shapes.{IsLedBy, IsAnswer, IsLedByClaim, IsShape}
 use Rattle.conservation.specs.Histories.{safe_history}
-use Rattle.conserved_runs.specs.Accepted.{IsCaller, IsQuiet}
-use Rattle.conserved_runs.specs.Runs.{quiet_done}
+use Rattle.conserved_runs.specs.Accepted.{IsCaller, IsOwnOrigin}
+use Rattle.conserved_runs.specs.Runs.{own_origin_done}
 use Rattle.conserved_steps.specs.Bounds.{agrees_now, checked_now}
 use Rattle.conserved_steps.specs.Firsts.{second}
 use Rattle.conserved_steps.specs.Insides.{all_at}
@@ -47,46 +47,46 @@ use Rattle.paid_messages.proofs.Messages.{teleport_taken}
 use Rattle.paid_messages.proofs.Refusals.{IsNoShortage, none_other, withdrawal_other, deposited_other, claiming_other, answer_other, taken_other, other_refusal}
 
 -- ---- the origin stays one of the chain itself, or none
-abbrev IsQuietAt : Stage → Type 0
-IsQuietAt g = IsQuiet (machine_of g).regs.origin
+abbrev IsOwnOriginAt : Stage → Type 0
+IsOwnOriginAt g = IsOwnOrigin (machine_of g).regs.origin
 
-begin_quiet : (part : Part) (program : List Instruction) (m : Machine) → IsQuiet m.regs.origin → IsQuietAt (begin part program m)
-begin_quiet part program m quiet = subst (λ (z : Machine). IsQuiet z.regs.origin) (sym (begin_machine part program m)) quiet
+begin_own_origin : (part : Part) (program : List Instruction) (m : Machine) → IsOwnOrigin m.regs.origin → IsOwnOriginAt (begin part program m)
+begin_own_origin part program m own_origin = subst (λ (z : Machine). IsOwnOrigin z.regs.origin) (sym (begin_machine part program m)) own_origin
 
-to_appendix_quiet : (m : Machine) → IsQuiet m.regs.origin → IsQuietAt (to_appendix m)
-to_appendix_quiet m quiet = begin_quiet parts.Appendix m.regs.appendix (record m { regs = without_appendix m.regs }) quiet
+to_appendix_own_origin : (m : Machine) → IsOwnOrigin m.regs.origin → IsOwnOriginAt (to_appendix m)
+to_appendix_own_origin m own_origin = begin_own_origin parts.Appendix m.regs.appendix (record m { regs = without_appendix m.regs }) own_origin
 
-to_handler_quiet : (handler : List Instruction) (m : Machine) → IsQuiet m.regs.origin → IsQuietAt (to_handler handler m)
-to_handler_quiet [] m quiet = to_appendix_quiet m quiet
-to_handler_quiet (x ∷ behind) m quiet = quiet
+to_handler_own_origin : (handler : List Instruction) (m : Machine) → IsOwnOrigin m.regs.origin → IsOwnOriginAt (to_handler handler m)
+to_handler_own_origin [] m own_origin = to_appendix_own_origin m own_origin
+to_handler_own_origin (x ∷ behind) m own_origin = own_origin
 
-go_on_quiet : (part : Part) (place : ℕ) (behind : List Instruction) (m : Machine) → IsQuiet m.regs.origin → IsQuietAt (go_on part place behind m)
-go_on_quiet part place [] m quiet = to_appendix_quiet (record m { regs = handler_dropped m.regs }) quiet
-go_on_quiet part place (x ∷ behind) m quiet = quiet
+go_on_own_origin : (part : Part) (place : ℕ) (behind : List Instruction) (m : Machine) → IsOwnOrigin m.regs.origin → IsOwnOriginAt (go_on part place behind m)
+go_on_own_origin part place [] m own_origin = to_appendix_own_origin (record m { regs = handler_dropped m.regs }) own_origin
+go_on_own_origin part place (x ∷ behind) m own_origin = own_origin
 
-answer_quiet : (part : Part) (place : ℕ) (x : Instruction) (behind : List Instruction) (m : Machine) (o : Option XcmError) → IsQuiet m.regs.origin → IsQuietAt (by_answer xcm part place x behind m o)
-answer_quiet part place x behind m None quiet = go_on_quiet part (place + 1) behind (traced part place x None (xcm.done x m)) (quiet_done (out-Instruction x) m quiet)
-answer_quiet part place x behind m (Some e) quiet = to_handler_quiet m.regs.handler (record (traced part place x (Some e) m) { regs = failed place e behind m.regs }) quiet
+answer_own_origin : (part : Part) (place : ℕ) (x : Instruction) (behind : List Instruction) (m : Machine) (o : Option XcmError) → IsOwnOrigin m.regs.origin → IsOwnOriginAt (by_answer xcm part place x behind m o)
+answer_own_origin part place x behind m None own_origin = go_on_own_origin part (place + 1) behind (traced part place x None (xcm.done x m)) (own_origin_done (out-Instruction x) m own_origin)
+answer_own_origin part place x behind m (Some e) own_origin = to_handler_own_origin m.regs.handler (record (traced part place x (Some e) m) { regs = failed place e behind m.regs }) own_origin
 
-next_quiet : (g : Stage) → IsQuietAt g → IsQuietAt (next xcm g)
-next_quiet (At part place x behind m) quiet = answer_quiet part place x behind m (refusal_of x m) quiet
-next_quiet (Ended m) quiet = quiet
+next_own_origin : (g : Stage) → IsOwnOriginAt g → IsOwnOriginAt (next xcm g)
+next_own_origin (At part place x behind m) own_origin = answer_own_origin part place x behind m (refusal_of x m) own_origin
+next_own_origin (Ended m) own_origin = own_origin
 
-steps_quiet : (n : ℕ) (g : Stage) → IsQuietAt g → IsQuietAt (steps xcm n g)
+steps_own_origin : (n : ℕ) (g : Stage) → IsOwnOriginAt g → IsOwnOriginAt (steps xcm n g)
 unfolding steps
-steps_quiet zero g quiet = quiet
-steps_quiet (suc n) g quiet = steps_quiet n (next xcm g) (next_quiet g quiet)
+steps_own_origin zero g own_origin = own_origin
+steps_own_origin (suc n) g own_origin = steps_own_origin n (next xcm g) (next_own_origin g own_origin)
 
-covered_at : (g : Stage) → IsQuietAt g → IsCovered g
-covered_at (At part place x behind m) quiet = other_refusal (out-Instruction x) m quiet
-covered_at (Ended m) quiet = tt
+covered_at : (g : Stage) → IsOwnOriginAt g → IsCovered g
+covered_at (At part place x behind m) own_origin = other_refusal (out-Instruction x) m own_origin
+covered_at (Ended m) own_origin = tt
 
 -- ---- from a stage on
 abbrev AllCoveredFrom : Stage → Type 0
 AllCoveredFrom g = (n : ℕ) → IsCovered (steps xcm n g)
 
-from_quiet : (g : Stage) → IsQuietAt g → AllCoveredFrom g
-from_quiet g quiet n = covered_at (steps xcm n g) (steps_quiet n g quiet)
+from_own_origin : (g : Stage) → IsOwnOriginAt g → AllCoveredFrom g
+from_own_origin g own_origin n = covered_at (steps xcm n g) (steps_own_origin n g own_origin)
 
 from_end : (m : Machine) → AllCoveredFrom (Ended m)
 from_end m n = subst IsCovered (sym (steps_end xcm n (Ended m) tt)) tt
@@ -101,8 +101,8 @@ to_appendix_from [] m none_left = from_end m
 to_appendix_from (x ∷ behind) m none_left = absurd cc
 
 -- ---- behind ClearOrigin
-quiet_none : IsQuiet None
-quiet_none l e = absurd cc
+own_origin_none : IsOwnOrigin None
+own_origin_none l e = absurd cc
 
 clear_from : (behind : List Instruction) (k : Machine) → AllCoveredFrom (At parts.Program (0 + 1) second behind k)
 clear_from behind k =
@@ -110,8 +110,8 @@ clear_from behind k =
     let goes : next xcm (At parts.Program (0 + 1) second behind k) ≡ go_on parts.Program ((0 + 1) + 1) behind (traced parts.Program (0 + 1) second None (done Instruction-F.ClearOrigin k)) =
     ap (by_answer xcm parts.Program (0 + 1) second behind k) clears
     ∙ ap (λ (l : Instruction-F Instruction). go_on parts.Program ((0 + 1) + 1) behind (traced parts.Program (0 + 1) second None (done l k))) (out-roll-Instruction Instruction-F.ClearOrigin) in
-    let there = go_on_quiet parts.Program ((0 + 1) + 1) behind (traced parts.Program (0 + 1) second None (done Instruction-F.ClearOrigin k)) quiet_none in
-    from_next (At parts.Program (0 + 1) second behind k) (subst IsNoShortage (sym clears) none_other) (from_quiet (next xcm (At parts.Program (0 + 1) second behind k)) (subst IsQuietAt (sym goes) there))
+    let there = go_on_own_origin parts.Program ((0 + 1) + 1) behind (traced parts.Program (0 + 1) second None (done Instruction-F.ClearOrigin k)) own_origin_none in
+    from_next (At parts.Program (0 + 1) second behind k) (subst IsNoShortage (sym clears) none_other) (from_own_origin (next xcm (At parts.Program (0 + 1) second behind k)) (subst IsOwnOriginAt (sym goes) there))
 
 -- ---- the run of a message
 module _ (rules : ChainRules) (origin : Location) (p : ChainPart) (a : Admitted) where
@@ -190,5 +190,5 @@ module _ (laws : LawsBelow) (shapes : ShapeLaws) (decodes : Decodes) (order : Li
 pub executions_covered : (order : List Link) (w : networks.World) (steps : List Step) → ExecutionsCovered order w steps
 executions_covered order w steps account program x a g ok reach =
     let is_caller : IsCaller (caller account) = record { account = account; rest = []; is = refl; own = not_sovereign account x.own } in
-    let quiet : IsQuiet (Some (caller account)) = λ l e. let same : caller account ≡ l = cc in subst IsCaller same is_caller in
-    subst IsCovered reach.1 (from_quiet _ (begin_quiet parts.Program a.program _ quiet) reach.0)
+    let own_origin : IsOwnOrigin (Some (caller account)) = λ l e. let same : caller account ≡ l = cc in subst IsCaller same is_caller in
+    subst IsCovered reach.1 (from_own_origin _ (begin_own_origin parts.Program a.program _ own_origin) reach.0)

@@ -24,10 +24,10 @@ use Rattle.exec_base.specs.Host.{first_fault, with_account, give_fault, take_fau
 use Rattle.exec_run.specs.Machine.{Machine}
 use Rattle.exec_rules.specs.Holdings.{with_origin, holds_asset, has_room, is_ticket}
 use Rattle.exec_rules.specs.Instructions.{refused}
-use Rattle.exec_calls.specs.Calls.{Midway, here, HostCall, why_not}
-use Rattle.exec_calls.specs.Reasons.{is_own, Asks}
+use Rattle.exec_calls.specs.Calls.{MachineWithGoods, here, MachineCall, why_not}
+use Rattle.exec_calls.specs.Reasons.{is_test_error, Moment, HasReason}
 use Rattle.exec_calls.specs.ReasonLaws.{refusal_shows}
-use Rattle.conserved_runs.specs.Accepted.{IsQuiet, receive_by}
+use Rattle.conserved_runs.specs.Accepted.{IsOwnOrigin, receive_by}
 
 -- ---- refusals for other reasons than a checking account that is below the amount, or none
 abbrev pub IsNoShortage : Option XcmError → Type 0
@@ -150,22 +150,22 @@ unfolding receive_refusal
 accepted_unchecked p a from trusts =
     both_none (trust_fault p from true a) (lower_fault (unchecked p) a) (ap (λ (b : Bool). unless b error.UntrustedTeleportLocation None) trusts) (no_account (amount_of a) (position (is_row_of a) p.rows))
 
-untrusted_by : (p : ChainPart) (a : Asset) (from : Location) → IsQuiet (Some from) → (b : Bool) → is_partner p.rows p.site a from ≡ b → b ≡ false
-untrusted_by p a from quiet false e = refl
-untrusted_by p a from quiet true e =
-    let none_of : a ∷ [] ≡ [] = receive_by (unchecked p) (Some from) (a ∷ []) true error.HoldingWouldOverflow true quiet (accepted_unchecked p a from e) in
+untrusted_by : (p : ChainPart) (a : Asset) (from : Location) → IsOwnOrigin (Some from) → (b : Bool) → is_partner p.rows p.site a from ≡ b → b ≡ false
+untrusted_by p a from own_origin false e = refl
+untrusted_by p a from own_origin true e =
+    let none_of : a ∷ [] ≡ [] = receive_by (unchecked p) (Some from) (a ∷ []) true error.HoldingWouldOverflow true own_origin (accepted_unchecked p a from e) in
     absurd cc
 
 first_decides : (a b c : Option XcmError) → a ≡ Some error.UntrustedTeleportLocation → IsNoShortage (or_else (or_else a b) c)
 first_decides None b c is h = absurd cc
 first_decides (Some e) b c is h = let same : e ≡ error.UntrustedTeleportLocation = cc in let other : e ≡ error.NotWithdrawable = cc in absurd cc
 
-teleport_comes_other : (p : ChainPart) (list : List Asset) (from : Location) → IsQuiet (Some from) → IsNoShortage (receive_refusal p list from true)
+teleport_comes_other : (p : ChainPart) (list : List Asset) (from : Location) → IsOwnOrigin (Some from) → IsNoShortage (receive_refusal p list from true)
 unfolding receive_refusal
-teleport_comes_other p [] from quiet = none_other
-teleport_comes_other p (a ∷ list) from quiet =
+teleport_comes_other p [] from own_origin = none_other
+teleport_comes_other p (a ∷ list) from own_origin =
     first_decides (trust_fault p from true a) (first_fault (trust_fault p from true) list) (first_fault (lower_fault p) (a ∷ list))
-    (ap (λ (b : Bool). unless b error.UntrustedTeleportLocation None) (untrusted_by p a from quiet (is_partner p.rows p.site a from) refl))
+    (ap (λ (b : Bool). unless b error.UntrustedTeleportLocation None) (untrusted_by p a from own_origin (is_partner p.rows p.site a from) refl))
 
 -- ---- weight
 line_other : (o : Option Line) → IsNoShortage (no_line_refusal o)
@@ -203,29 +203,29 @@ taken_other m list taken = by_taken m.regs.origin taken
     by_taken (Some who) h = unless_other (has_room m (length list)) error.HoldingWouldOverflow _ (λ e. absurd cc) (subst IsNoShortage (sym (h who refl)) none_other)
 
 -- ---- each instruction, for an account of the chain itself or for nobody: no test of its own answers so, and no other call
-own_other : (e : XcmError) → IsTrue (is_own e) → e ≡ error.NotWithdrawable → ⊥
-own_other e own is = let no_way : IsTrue (is_own error.NotWithdrawable) = subst (λ (e : XcmError). IsTrue (is_own e)) is own in absurd (cc no_way)
+own_other : (e : XcmError) → IsTrue (is_test_error e) → e ≡ error.NotWithdrawable → ⊥
+own_other e own is = let no_way : IsTrue (is_test_error error.NotWithdrawable) = subst (λ (e : XcmError). IsTrue (is_test_error e)) is own in absurd (cc no_way)
 
-comes_other : (p : ChainPart) (o : Option Location) (list : List Asset) (teleport : Bool) → IsQuiet o → IsNoShortage (with_origin o (λ who. receive_refusal p list who teleport))
-comes_other p None list teleport quiet = λ h. absurd cc
-comes_other p (Some who) list true quiet = teleport_comes_other p list who quiet
-comes_other p (Some who) list false quiet = deposit_comes_other p list who
+comes_other : (p : ChainPart) (o : Option Location) (list : List Asset) (teleport : Bool) → IsOwnOrigin o → IsNoShortage (with_origin o (λ who. receive_refusal p list who teleport))
+comes_other p None list teleport own_origin = λ h. absurd cc
+comes_other p (Some who) list true own_origin = teleport_comes_other p list who own_origin
+comes_other p (Some who) list false own_origin = deposit_comes_other p list who
 
-call_other : (l : Instruction-F Instruction) (m : Machine) → IsQuiet m.regs.origin → (c : HostCall) (t : Midway) → Asks false l m t c → IsNoShortage (why_not c t)
-call_other l m quiet (HostCall.Check ok e) t asks = test_other ok e (own_other e asks)
-call_other l m quiet (HostCall.Pay a) t asks = test_other (holds_asset (here t) a) error.NotHoldingFees (λ e. absurd cc)
-call_other l m quiet (HostCall.Withdraw list who) t asks = withdraw_other t.part list who
-call_other l m quiet (HostCall.Draw fee who) t asks = withdraw_other t.part (fee ∷ []) who
-call_other l m quiet (HostCall.Receive list from teleport) t asks = comes_other t.part from list teleport (subst IsQuiet (sym asks.1) quiet)
-call_other l m quiet (HostCall.Claim list who) t asks = claim_other t.part list who
-call_other l m quiet (HostCall.Deposit who) t asks = deposit_other t.part t.goods who
-call_other l m quiet (HostCall.Buy w) t asks = buy_other t.part w t.goods
-call_other l m quiet (HostCall.DepositOut dest xcm) t asks = deposit_out_other t.part t.goods dest xcm
-call_other l m quiet (HostCall.Ship way dest xcm) t asks = ship_other t.part t.goods way dest xcm
-call_other l m quiet (HostCall.Transfer list from to) t asks = transfer_other t.part list from to
-call_other l m quiet (HostCall.TransferOut list from dest xcm) t asks = transfer_out_other t.part list from dest xcm
-call_other l m quiet (HostCall.Respond info answer querier) t asks = respond_other t.part info answer querier
-call_other l m quiet _ t asks = none_other
+call_other : (l : Instruction-F Instruction) (m : Machine) → IsOwnOrigin m.regs.origin → (c : MachineCall) (t : MachineWithGoods) → HasReason Moment.Inside l m t c → IsNoShortage (why_not c t)
+call_other l m own_origin (MachineCall.Check ok e) t asks = test_other ok e (own_other e asks)
+call_other l m own_origin (MachineCall.Pay a) t asks = test_other (holds_asset (here t) a) error.NotHoldingFees (λ e. absurd cc)
+call_other l m own_origin (MachineCall.Withdraw list who) t asks = withdraw_other t.part list who
+call_other l m own_origin (MachineCall.Draw fee who) t asks = withdraw_other t.part (fee ∷ []) who
+call_other l m own_origin (MachineCall.Receive list from teleport) t asks = comes_other t.part from list teleport (subst IsOwnOrigin (sym asks.1) own_origin)
+call_other l m own_origin (MachineCall.Claim list who) t asks = claim_other t.part list who
+call_other l m own_origin (MachineCall.Deposit who) t asks = deposit_other t.part t.goods who
+call_other l m own_origin (MachineCall.Buy w) t asks = buy_other t.part w t.goods
+call_other l m own_origin (MachineCall.DepositOut dest xcm) t asks = deposit_out_other t.part t.goods dest xcm
+call_other l m own_origin (MachineCall.Ship way dest xcm) t asks = ship_other t.part t.goods way dest xcm
+call_other l m own_origin (MachineCall.Transfer list from to) t asks = transfer_other t.part list from to
+call_other l m own_origin (MachineCall.TransferOut list from dest xcm) t asks = transfer_out_other t.part list from dest xcm
+call_other l m own_origin (MachineCall.Respond info answer querier) t asks = respond_other t.part info answer querier
+call_other l m own_origin _ t asks = none_other
 
-pub other_refusal : (l : Instruction-F Instruction) (m : Machine) → IsQuiet m.regs.origin → IsNoShortage (refused l m)
-other_refusal l m quiet = refusal_shows l m (λ (t : Midway). ⊤) IsNoShortage none_other (λ c t asks from free k. tt) (λ c t asks from k. call_other l m quiet c t asks) tt
+pub other_refusal : (l : Instruction-F Instruction) (m : Machine) → IsOwnOrigin m.regs.origin → IsNoShortage (refused l m)
+other_refusal l m own_origin = refusal_shows l m (λ (t : MachineWithGoods). ⊤) IsNoShortage none_other (λ c t asks from free k. tt) (λ c t asks from k. call_other l m own_origin c t asks) tt

@@ -1,4 +1,4 @@
 pub mod Saturating
 pub mod Naming
 pub mod Tables
-pub mod Quiet
+pub mod Idle

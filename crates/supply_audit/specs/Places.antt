@@ -96,8 +96,8 @@ is_towards None c = true
 is_towards (Some chain) c = same_chain c.channel.to chain
 
 -- no message waits in the channel, or it doesn't lead there
-abbrev pub is_quiet : Option ChainId → Outgoing → Bool
-is_quiet to c = not (is_towards to c) || nat_eq (length c.queue) 0
+abbrev pub is_idle : Option ChainId → Outgoing → Bool
+is_idle to c = not (is_towards to c) || nat_eq (length c.queue) 0
 
 -- what the messages of a channel carry, and those of all channels that lead there
 abbrev pub in_channel : Carried → AssetId → Kind → Outgoing → ℕ

@@ -12,7 +12,7 @@ ghost use Rattle.supply_audit.specs.Supply.{home, flight, burned, at_homes, chai
 ghost use Rattle.supply_audit.specs.Covering.{CoversBy};
 
 use crate::figures::{Carried, Figure};
-use crate::messages::{are_quiet, same_chain};
+use crate::messages::{are_idle, same_chain};
 use crate::places::{if_home, over_rows};
 use crate::totals::none;
 use crate::{Backing, Supply};
@@ -102,7 +102,7 @@ fn sent_of_row(
 ) -> Total
     ensures { total_value result ≡ min (over_rows (part_of at.now) (asset_of_row (table_of (part_of here.now)) row.now) (sent what (Some to) (part_of at.now).channels)) most_burned }
 {
-    if are_quiet(Some(to), at.queues()) {
+    if are_idle(Some(to), at.queues()) {
         return none();
     }
     of_row(Figure::Sent(what, Some(to)), at, here, row)

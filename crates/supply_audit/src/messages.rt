@@ -7,7 +7,7 @@ ghost use Rattle.asset_bundles.specs.Books.{most_burned};
 ghost use Rattle.asset_bundles.specs.Totals.{total_value};
 ghost use Rattle.chain_queues.specs.Queues.{channels_of, outgoing_of, waiting_of};
 ghost use Rattle.chain_ids.specs.Chains.{same_chain};
-ghost use Rattle.supply_audit.specs.Places.{asset_in, by_way, carried, channel_share, in_channel, is_quiet, is_towards, list_share, sent};
+ghost use Rattle.supply_audit.specs.Places.{asset_in, by_way, carried, channel_share, in_channel, is_idle, is_towards, list_share, sent};
 
 use crate::figures::Carried;
 use crate::totals::none;
@@ -112,24 +112,24 @@ fn is_towards(to: Option<ChainId>, queue: &Queue) -> bool
 }
 
 /// Whether no message waits in a channel, or it doesn't lead to the chain, or anywhere where none is given.
-fn is_quiet(to: Option<ChainId>, queue: &Queue) -> bool
-    ensures { result ≡ is_quiet to (outgoing_of queue.now) }
+fn is_idle(to: Option<ChainId>, queue: &Queue) -> bool
+    ensures { result ≡ is_idle to (outgoing_of queue.now) }
 {
     !is_towards(to, queue) || queue.waiting.is_empty()
 }
 
 /// Whether so it is of each of these channels.
-fn all_quiet(to: Option<ChainId>, channels: &[Queue]) -> bool
-    ensures { result ≡ list_all (λ queue. is_quiet to (outgoing_of queue)) channels.now }
+fn all_idle(to: Option<ChainId>, channels: &[Queue]) -> bool
+    ensures { result ≡ list_all (λ queue. is_idle to (outgoing_of queue)) channels.now }
 {
-    channels.iter().all(|queue| is_quiet(to, queue))
+    channels.iter().all(|queue| is_idle(to, queue))
 }
 
 /// Whether no message waits in any channel that leads to the chain, or anywhere where none is given.
-pub(crate) fn are_quiet(to: Option<ChainId>, queues: &Queues) -> bool
-    ensures { result ≡ list_all (is_quiet to) (channels_of queues.now) }
+pub(crate) fn are_idle(to: Option<ChainId>, queues: &Queues) -> bool
+    ensures { result ≡ list_all (is_idle to) (channels_of queues.now) }
 {
-    all_quiet(to, queues.channels())
+    all_idle(to, queues.channels())
 }
 
 /// What a channel counts for.

@@ -14,7 +14,7 @@ use Rattle.exec_rules.specs.Instructions.{refusal_of, xcm}
 use Rattle.exec_rules.specs.Readiness.{IsSteady}
 use Rattle.exec_rules.specs.Stopping.{spills}
 use Rattle.xcm_executor.specs.Running.{IsReadyThroughout}
-use Rattle.exec_calls.specs.Calls.{Midway, HostCall, after}
+use Rattle.exec_calls.specs.Calls.{MachineWithGoods, MachineCall, after}
 use Rattle.exec_calls.specs.Reasons.{Asks}
 use Rattle.exec_calls.specs.ReasonLaws.{lead_keeps}
 use Rattle.exec_calls.specs.StopLaws.{spilled_lead}
@@ -42,13 +42,13 @@ few_as : (now k : Machine) → now ≡ k → HasFew k → HasFew now
 few_as now k e h = subst HasFew (sym e) h
 
 -- ---- an instruction that memory stops
-call_few : (l : Instruction-F Instruction) (m : Machine) → m.part.parked ≡ [] → (c : HostCall) (t : Midway) → Asks false l m t c → length t.part.parked ≤ 1 → length (after c t).part.parked ≤ 1
-call_few l m none HostCall.Park t asks few = one_parked t.part t.part t.goods (asks ∙ none) refl
+call_few : (l : Instruction-F Instruction) (m : Machine) → m.part.parked ≡ [] → (c : MachineCall) (t : MachineWithGoods) → Asks false l m t c → length t.part.parked ≤ 1 → length (after c t).part.parked ≤ 1
+call_few l m none MachineCall.Park t asks few = one_parked t.part t.part t.goods (asks ∙ none) refl
 call_few l m none _ t asks few = few
 
 pub spilled_few : (x : Instruction) (m now : Machine) → m.part.parked ≡ [] → spills x m now → HasFew now
 spilled_few x m now none h =
-    lead_keeps (out-Instruction x) m (λ (t : Midway). length t.part.parked ≤ 1) (λ c t early asks from free few. call_few (out-Instruction x) m none c t asks few) now (spilled_lead (out-Instruction x) m now h) (none_parked m.part none)
+    lead_keeps (out-Instruction x) m (λ (t : MachineWithGoods). length t.part.parked ≤ 1) (λ c t early asks from free few. call_few (out-Instruction x) m none c t asks few) now (spilled_lead (out-Instruction x) m now h) (none_parked m.part none)
 
 -- ---- runs
 abbrev StaysSteady : Type 0

@@ -19,5 +19,5 @@ returns c =
       ended = λ n m agrees safe. finished_safely withdraws moves stays n agrees c.law_of_traps.ensures.kept m safe.steady safe.fine.room;
       stopped = λ n x m now safe lists h.
           let opened = everywhere_open HasList HasList-IsOfLayer x lists in
-          spilled_safely withdraws moves n (out-Instruction x) m safe.fine safe.quiet safe.steady safe.fees opened.0 opened.1 now h;
+          spilled_safely withdraws moves n (out-Instruction x) m safe.fine safe.own_origin safe.steady safe.fees opened.0 opened.1 now h;
     }

@@ -18,8 +18,8 @@ pub returns-then-not-contains : goal.returns-then-not-contains
 returns-then-not-contains c =
     let p = part_of c.args.chain.now in
     let own = listed_at p.site c.args.row.now in
-    let is_own : c.listed_at-asset.result ≡ own = c.listed_at-asset.ensures ∙ ap (λ (s : Site). listed_at s c.args.row.now) c.site.ensures in
-    let told : c.contains.result ≡ is_home own (table_of p) = c.contains.ensures ∙ ap (contains asset_cmp c.args.homes.now) is_own ∙ c.requires.homes own in
+    let is_test_error : c.listed_at-asset.result ≡ own = c.listed_at-asset.ensures ∙ ap (λ (s : Site). listed_at s c.args.row.now) c.site.ensures in
+    let told : c.contains.result ≡ is_home own (table_of p) = c.contains.ensures ∙ ap (contains asset_cmp c.args.homes.now) is_test_error ∙ c.requires.homes own in
     row_away c.args.sums.now.entries p c.args.row.now (sym told ∙ c.if-not-contains.true)
 
 pub returns : goal.returns
@@ -27,12 +27,12 @@ returns c =
     let p = part_of c.args.chain.now in
     let row = c.args.row.now in
     let own = listed_at p.site row in
-    let is_own : c.listed_at-asset.result ≡ own = c.listed_at-asset.ensures ∙ ap (λ (s : Site). listed_at s row) c.site.ensures in
-    let told : c.contains.result ≡ is_home own (table_of p) = c.contains.ensures ∙ ap (contains asset_cmp c.args.homes.now) is_own ∙ c.requires.homes own in
+    let is_test_error : c.listed_at-asset.result ≡ own = c.listed_at-asset.ensures ∙ ap (λ (s : Site). listed_at s row) c.site.ensures in
+    let told : c.contains.result ≡ is_home own (table_of p) = c.contains.ensures ∙ ap (contains asset_cmp c.args.homes.now) is_test_error ∙ c.requires.homes own in
     let at_home : is_home own (table_of p) ≡ true = sym told ∙ c.if-not-contains.false in
     on_ok_weaker c.raise.result
     (λ rises. raises_along c.args.sums.now.entries c.raise.new.sums.entries
     (λ a w. if eq_by_cmp asset_cmp c.listed_at-asset.result a then figure w p (Concrete row.id) row.kind else 0) (row_part p row)
-    (λ a w. ap (λ (x : UniversalAsset). if eq_by_cmp asset_cmp x a then figure w p (Concrete row.id) row.kind else 0) is_own ∙ part_is p row true at_home a w)
+    (λ a w. ap (λ (x : UniversalAsset). if eq_by_cmp asset_cmp x a then figure w p (Concrete row.id) row.kind else 0) is_test_error ∙ part_is p row true at_home a w)
     (rises (λ w. figure w p (Concrete row.id) row.kind) c.row_supply.ensures))
     c.raise.ensures

@@ -14,7 +14,7 @@ use Rattle.coherence.specs.UniversalAssets.{UniversalAsset}
 use Rattle.exec_base.specs.Part.{ChainPart}
 use Rattle.asset_bundles.specs.Books.{most_burned}
 use Rattle.supply_audit.specs.declared.figures.Carried.{Carried}
-use Rattle.supply_audit.specs.Places.{is_quiet, is_towards, in_channel, carried, channel_share, sent, is_row_of, row_share, over_rows}
+use Rattle.supply_audit.specs.Places.{is_idle, is_towards, in_channel, carried, channel_share, sent, is_row_of, row_share, over_rows}
 
 -- a sum of what is nothing each time
 no_sum : {X : Type 0} (f : X → ℕ) (xs : List X) → ((x : X) → f x ≡ 0) → sum_by f xs ≡ 0
@@ -25,17 +25,17 @@ none_waits : (what : Carried) (id : AssetId) (kind : Kind) (c : Outgoing) (queue
 none_waits what id kind c [] is empty = ap (λ (ws : List Waiting). sum_by (λ (w : Waiting). carried what id kind w.cargo) ws) is
 none_waits what id kind c (w ∷ ws) is empty = let none = eqb-true (length (w ∷ ws)) 0 empty in absurd (omega (arith, none))
 
-no_share : (what : Carried) (to : Option ChainId) (id : AssetId) (kind : Kind) (c : Outgoing) → is_quiet to c ≡ true → channel_share what to id kind c ≡ 0
-no_share what to id kind c quiet =
+no_share : (what : Carried) (to : Option ChainId) (id : AssetId) (kind : Kind) (c : Outgoing) → is_idle to c ≡ true → channel_share what to id kind c ≡ 0
+no_share what to id kind c idle =
     elim (is_towards to c) as (λ b. (not b || nat_eq (length c.queue) 0) ≡ true → (if b then in_channel what id kind c else 0) ≡ 0) [
       | true ↦ λ q. none_waits what id kind c c.queue refl q
       | false ↦ λ q. refl
-    ] quiet
+    ] idle
 
-none_sent : (what : Carried) (to : Option ChainId) (id : AssetId) (kind : Kind) (cs : List Outgoing) → list_all (is_quiet to) cs ≡ true → sent what to cs id kind ≡ 0
-none_sent what to id kind [] quiet = refl
-none_sent what to id kind (c ∷ cs) quiet =
-    let parts = and_parts (is_quiet to c) (list_all (is_quiet to) cs) quiet in
+none_sent : (what : Carried) (to : Option ChainId) (id : AssetId) (kind : Kind) (cs : List Outgoing) → list_all (is_idle to) cs ≡ true → sent what to cs id kind ≡ 0
+none_sent what to id kind [] idle = refl
+none_sent what to id kind (c ∷ cs) idle =
+    let parts = and_parts (is_idle to c) (list_all (is_idle to) cs) idle in
     let here = no_share what to id kind c parts.0 in
     let rest = none_sent what to id kind cs parts.1 in
     let all = sum_by-cons (channel_share what to id kind) c cs in
@@ -46,8 +46,8 @@ nothing_listed p a has none = no_sum (row_share p a has) p.rows each where
   each : (row : AssetRow) → row_share p a has row ≡ 0
   each row = elim (is_row_of p a row) as (λ b. (if b then has (Concrete row.id) row.kind else 0) ≡ 0) [ true ↦ none (Concrete row.id) row.kind | false ↦ refl ]
 
-pub nothing_sent : (p : ChainPart) (a : UniversalAsset) (what : Carried) (to : Option ChainId) (quiet : Bool) → quiet ≡ list_all (is_quiet to) p.channels → quiet ≡ true
+pub nothing_sent : (p : ChainPart) (a : UniversalAsset) (what : Carried) (to : Option ChainId) (idle : Bool) → idle ≡ list_all (is_idle to) p.channels → idle ≡ true
     → 0 ≡ min (over_rows p a (sent what to p.channels)) most_burned
-nothing_sent p a what to quiet says so =
+nothing_sent p a what to idle says so =
     let none = nothing_listed p a (sent what to p.channels) (λ id kind. none_sent what to id kind p.channels (sym says ∙ so)) in
     omega (arith, none)
