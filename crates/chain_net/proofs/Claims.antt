@@ -20,13 +20,14 @@ use Rattle.exec_base.specs.Sending.{channel_refusal}
 use Rattle.exec_admission.specs.declared.rules.ChainRules.{ChainRules}
 use Rattle.network_steps.specs.declared.step_result.StepResult.{StepResult}
 use Rattle.network_steps.specs.Worlds.{Member, World, with_part, unchanged}
-use Rattle.network_steps.specs.Settings.{settings_of}
+use Rattle.network_steps.specs.Fixed.{fixed_of}
+use Rattle.network_steps.specs.FixedLaws.{channels_kept}
 use Rattle.network_steps.specs.Steps.{is_claim, posted, posting, claim_by, claim_on}
 use Rattle.chain_state.specs.declared.state.ChainState.{ChainState}
 use Rattle.chain_state.specs.PartOf.{part_of}
 use Rattle.chain_net.specs.Chains.{member_in, world_in}
 use Rattle.chain_net.specs.Sound.{IsBetweenSteps}
-use Rattle.chain_net.proofs.Shipments.{changed_listed, waiting_listed, channels_kept}
+use Rattle.chain_net.proofs.Shipments.{changed_listed, waiting_listed}
 use Rattle.chain_net.proofs.Runs.{same_leads}
 use Rattle.chain_net.proofs.Members.{member_at, set_member}
 
@@ -62,7 +63,7 @@ between_posted to program p h = record {
   landed = h.landed;
   told = h.told;
   shipped = changed_listed (listing p.rows) (leads_to to) (with_waiting program Nothing) (waiting_listed (listing p.rows) program Nothing tt) p.channels h.shipped;
-  apart = same_leads p (posted to program p) (ap (λ (cs : List Channel). record (settings_of p) { channels = cs }) (channels_kept (leads_to to) (with_waiting program Nothing) (λ c. refl) p.channels)) ∙ h.apart;
+  apart = same_leads p (posted to program p) (ap (λ (cs : List Channel). record (fixed_of p) { channels = cs }) (channels_kept (leads_to to) (with_waiting program Nothing) (λ c. refl) p.channels)) ∙ h.apart;
 }
 
 pub answer_chain : (refusal : Option XcmError) (number : ℕ) (to : ChainId) (program : List Instruction) (p now : ChainPart) (r : Result ℕ HostFault) → Answers refusal number (posted to program p) p r now → now.site.chain ≡ p.site.chain

@@ -18,7 +18,8 @@ use Rattle.exec_base.specs.Host.{burned_lines}
 use Rattle.exec_admission.specs.declared.rules.ChainRules.{ChainRules}
 use Rattle.network_steps.specs.declared.step_result.StepResult.{StepResult}
 use Rattle.network_steps.specs.Worlds.{Member, chain_of, World, place_of, with_part, Stepped, unchanged}
-use Rattle.network_steps.specs.Settings.{settings_of}
+use Rattle.network_steps.specs.Fixed.{fixed_of}
+use Rattle.network_steps.specs.FixedLaws.{channels_kept}
 use Rattle.network_steps.specs.Acting.{Acted, lost_of, booking_lost, lost_lines}
 use Rattle.network_steps.specs.Steps.{without_message, run_for, sender_after, receiver_after, delivered, delivery_of, deliver}
 use Rattle.chain_state.specs.declared.state.ChainState.{ChainState}
@@ -28,7 +29,7 @@ use Rattle.chain_net.specs.Nets.{told_at}
 use Rattle.chain_net.specs.Sound.{IsListedCargo, AreListedIn, IsBetweenSteps, AreBetweenSteps}
 use Rattle.chain_net.specs.Stops.{DeliverStops, IsStoppedThere}
 use Rattle.chain_net.specs.Passing.{IsOther, IsCarried, AreChanged, run_at, IsPassed, IsPassStopped}
-use Rattle.chain_net.proofs.Shipments.{changed_listed, channels_kept}
+use Rattle.chain_net.proofs.Shipments.{changed_listed}
 use Rattle.chain_net.proofs.Runs.{same_leads}
 use Rattle.chain_net.proofs.Members.{member_at, set_member, got_set, got_other, set_many, set_names, set_between}
 use Rattle.chain_net.proofs.Passes.{set_twice, same_seen}
@@ -61,7 +62,7 @@ between_popped to p h = record {
   landed = h.landed;
   told = h.told;
   shipped = changed_listed (listing p.rows) (leads_to to) without_oldest (dropped_listed (listing p.rows)) p.channels h.shipped;
-  apart = same_leads p (without_message to p) (ap (λ (cs : List Channel). record (settings_of p) { channels = cs }) (channels_kept (leads_to to) without_oldest (λ c. refl) p.channels)) ∙ h.apart;
+  apart = same_leads p (without_message to p) (ap (λ (cs : List Channel). record (fixed_of p) { channels = cs }) (channels_kept (leads_to to) without_oldest (λ c. refl) p.channels)) ∙ h.apart;
 }
 
 lines_same : (to : ChainId) (p : ChainPart) (goods : Bundle) → lost_lines goods (without_message to p) ≡ lost_lines goods p

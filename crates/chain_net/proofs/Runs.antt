@@ -31,7 +31,7 @@ use Rattle.exec_admission.specs.declared.rules.ChainRules.{ChainRules}
 use Rattle.exec_admission.specs.Execution.{executed}
 use Rattle.network_steps.specs.Acting.{begun, ended, acted, caller}
 use Rattle.network_steps.specs.Steps.{nowhere, name_at}
-use Rattle.network_steps.specs.Settings.{Settings, settings_of}
+use Rattle.network_steps.specs.Fixed.{Fixed, fixed_of}
 use Rattle.chain_net.specs.Stops.{IsStoppedHere, IsActed, IsUnread, arrived, StandsAt, IsStoppedThere}
 use Rattle.chain_net.specs.Sound.{IsListedCargo, IsBetweenSteps}
 use Rattle.chain_net.proofs.Shipments.{StaysSteady, IsCarrying, executed_ships, executed_lands, executed_said, executed_quiet, abandoned_lands, abandoned_site}
@@ -50,9 +50,9 @@ leads_by to (c ∷ cs) =
       | false ↦ leads_by to cs
     ]
 
-pub same_leads : (p q : ChainPart) → settings_of q ≡ settings_of p → is_some (channel_to q.site.chain q.channels) ≡ is_some (channel_to p.site.chain p.channels)
+pub same_leads : (p q : ChainPart) → fixed_of q ≡ fixed_of p → is_some (channel_to q.site.chain q.channels) ≡ is_some (channel_to p.site.chain p.channels)
 same_leads p q said =
-    leads_by q.site.chain q.channels ∙ ap (λ (x : Settings). leads x.site.chain x.channels) said ∙ sym (leads_by p.site.chain p.channels)
+    leads_by q.site.chain q.channels ∙ ap (λ (x : Fixed). leads x.site.chain x.channels) said ∙ sym (leads_by p.site.chain p.channels)
 
 -- ---- the beginning and the end of a step
 pub begun_is : (p : ChainPart) (sender : ChainId) (cargo : Cargo) → p.kept_back ≡ [] → record p { cargo = record { sender = sender; cargo = cargo }; events = [] } ≡ begun sender cargo p
@@ -116,7 +116,7 @@ here_stopped_site stays rules account program p now h s =
     ap (λ (q : ChainPart). q.site) s.2 ∙ abandoned_site stays [] rules (caller account) rules.limit program (begun p.site.chain Nothing p) s.0 (carrying_nothing p p.site.chain h) s.1
 
 pub site_of_run : StaysSteady → (far : List Listed) (rules : ChainRules) (origin : Location) (credit : Weight) (program : List Instruction) (p : ChainPart) → IsCarrying far p → (executed rules origin credit program p).1.site ≡ p.site
-site_of_run stays far rules origin credit program p h = ap (λ (x : Settings). x.site) (executed_said stays far rules origin credit program p h)
+site_of_run stays far rules origin credit program p h = ap (λ (x : Fixed). x.site) (executed_said stays far rules origin credit program p h)
 
 -- ---- a message at its receiver
 read_program : (program : List Instruction) (r : Result (List Instruction) MessageFault) → (Ok program ≡ Err Memory) ⊎ (Ok program ≡ r) → program ≡ program_read r

@@ -30,7 +30,6 @@ use Rattle.exec_base.specs.declared.event.Part.{Part}
 use Rattle.exec_base.specs.declared.event.Part.TheVariants as parts
 use Rattle.exec_base.specs.declared.event.Part.TheVariants.{Appendix}
 use Rattle.exec_base.specs.declared.registers.Registers.{Registers}
-use Rattle.exec_base.specs.declared.settings.Settings as declared
 use Rattle.exec_base.specs.Part.{ChainPart, Taken}
 use Rattle.exec_base.specs.Sending as sending_to
 use Rattle.exec_base.specs.Sending.{sent}
@@ -45,12 +44,12 @@ use Rattle.exec_admission.specs.declared.admission.Admitted.{Admitted}
 use Rattle.exec_admission.specs.Admission.{admitted}
 use Rattle.exec_admission.specs.Execution.{first_machine, first_stage, last_machine, executed_by, executed, IsAbandoned}
 use Rattle.exec_calls.specs.Calls.{MachineWithGoods, MachineCall, after}
-use Rattle.exec_calls.specs.Footprints.{settings_after, channels_after}
 use Rattle.exec_calls.specs.Reasons.{Moment, HasReason}
 use Rattle.exec_calls.specs.ReasonLaws.{each_keeps}
 use Rattle.exec_calls.specs.Kept.{IsKeptByCalls}
 use Rattle.exec_calls.specs.KeptLaws.{any_kind, keeps_executed, keeps_abandoned}
-use Rattle.network_steps.specs.Settings.{Settings, settings_of}
+use Rattle.network_steps.specs.Fixed.{Fixed, fixed_of}
+use Rattle.network_steps.specs.FixedLaws.{call_fixed, fixed_is_kept, executed_fixed}
 use Rattle.chain_net.specs.Sound.{IsListedCargo, AreListedIn}
 
 -- ---- queues
@@ -79,30 +78,7 @@ module _ (listed : List Listed) where
   unfolding sent
   sent_listed p dest program cargo h all = changed_listed (sending_to.leads_to p dest) (with_waiting program cargo) (waiting_listed program cargo h) p.channels all
 
-pub channels_kept : (test : Outgoing → Bool) (change : Outgoing → Outgoing) → ((c : Outgoing) → (change c).channel ≡ c.channel) → (cs : List Outgoing)
-    → map (λ (c : Outgoing). c.channel) (change_first test change cs) ≡ map (λ (c : Outgoing). c.channel) cs
-channels_kept test change same [] = refl
-channels_kept test change same (c ∷ cs) =
-    elim (test c) as (λ b. map (λ (c : Outgoing). c.channel) (if b then change c ∷ cs else c ∷ change_first test change cs) ≡ map (λ (c : Outgoing). c.channel) (c ∷ cs)) [
-      | true ↦ ap (λ x. x ∷ map (λ (c : Outgoing). c.channel) cs) (same c)
-      | false ↦ ap (λ xs. c.channel ∷ xs) (channels_kept test change same cs)
-    ]
-
--- ---- what a call keeps of what the document says
-abbrev said : declared.Settings → List Channel → Settings
-said s channels = record { site = s.site; rows = s.rows; pallets = s.pallets; fee_account = s.fee_account; channels = channels }
-
-call_said : (c : MachineCall) (t : MachineWithGoods) → settings_of (after c t).part ≡ settings_of t.part
-call_said c t =
-    let same : map (λ (c : Outgoing). c.channel) (after c t).part.channels ≡ map (λ (c : Outgoing). c.channel) t.part.channels =
-    channels_after (λ (cs : List Outgoing). map (λ (c : Outgoing). c.channel) cs ≡ map (λ (c : Outgoing). c.channel) t.part.channels) t
-    (λ dest program cargo h. channels_kept (sending_to.leads_to t.part dest) (with_waiting program cargo) (λ c. refl) t.part.channels ∙ h) c refl in
-    λ i. said (settings_after c t i) (same i)
-
-said_is_kept : (says : Settings) → IsKeptByCalls any_kind (λ (t : MachineWithGoods). settings_of t.part ≡ says)
-said_is_kept says = record { refunds = tt; called = λ x l is q moment m t c k asks from ok h. call_said c t ∙ h; turned = λ t r turns h. h }
-
--- ---- what it keeps of the cargo that is being delivered: it may have ended it
+-- ---- what a call keeps of the cargo that is being delivered: it may have ended it
 ended_or_not : (listed : List Listed) (b : Bool) (old : Taken) → IsListedCargo listed old.cargo → IsListedCargo listed (if b then (record { sender = old.sender; cargo = Nothing }) else old).cargo
 ended_or_not listed true old h = tt
 ended_or_not listed false old h = h
@@ -155,33 +131,33 @@ call_ships l m held _ t asks all = all
 done_ships : (l : Instruction-F Instruction) (m : Machine) → Holds m → AreListedIn (listing m.part.rows) m.part.channels → AreListedIn (listing m.part.rows) (done l m).part.channels
 done_ships l m held all = each_keeps l m (λ (t : MachineWithGoods). AreListedIn (listing m.part.rows) t.part.channels) (λ c t asks from k. call_ships l m held c t asks k) (λ t from k. k) all
 
-done_said : (l : Instruction-F Instruction) (m : Machine) → settings_of (done l m).part ≡ settings_of m.part
-done_said l m = each_keeps l m (λ (t : MachineWithGoods). settings_of t.part ≡ settings_of m.part) (λ c t asks from k. call_said c t ∙ k) (λ t from k. k) refl
+done_said : (l : Instruction-F Instruction) (m : Machine) → fixed_of (done l m).part ≡ fixed_of m.part
+done_said l m = each_keeps l m (λ (t : MachineWithGoods). fixed_of t.part ≡ fixed_of m.part) (λ c t asks from k. call_fixed c t ∙ k) (λ t from k. k) refl
 
 -- ---- a run
 -- a steady machine, of whose chain the document says this, and which lists what it shipped
-record IsListing (says : Settings) (m : Machine) : Type 0 where
+record IsListing (says : Fixed) (m : Machine) : Type 0 where
   steady : IsSteady m
-  said : settings_of m.part ≡ says
+  said : fixed_of m.part ≡ says
   shipped_is : AreListedIn (listing says.rows) m.part.channels
 
 -- a chain of which the document says this, and which lists what it shipped
-record ListsWaiting (says : Settings) (p : ChainPart) : Type 0 where
-  said : settings_of p ≡ says
+record ListsWaiting (says : Fixed) (p : ChainPart) : Type 0 where
+  said : fixed_of p ≡ says
   shipped_is : AreListedIn (listing says.rows) p.channels
 
 abbrev pub StaysSteady : Type 0
 StaysSteady = (x : Instruction) (m : Machine) → IsSteady m → refusal_of x m ≡ None → IsSteady (xcm.done x m)
 
 -- the registers change, but not what is held
-with_regs : (says : Settings) (m : Machine) (r : Registers) → r.holding ≡ m.regs.holding → IsListing says m → IsListing says (machine r m.part)
+with_regs : (says : Fixed) (m : Machine) (r : Registers) → r.holding ≡ m.regs.holding → IsListing says m → IsListing says (machine r m.part)
 with_regs says m r same h = record {
   steady = record { rest = h.steady.rest; holding = subst (AreListed (listing m.part.rows)) (sym same) h.steady.holding };
   said = h.said;
   shipped_is = h.shipped_is;
 }
 
-with_line : (says : Settings) (m : Machine) (e : Event) → IsListing says m → IsListing says (record m { part = told m.part e })
+with_line : (says : Fixed) (m : Machine) (e : Event) → IsListing says m → IsListing says (record m { part = told m.part e })
 unfolding told
 with_line says m e h = record {
   steady = record {
@@ -192,7 +168,7 @@ with_line says m e h = record {
   shipped_is = h.shipped_is;
 }
 
-module _ (stays : StaysSteady) (says : Settings) where
+module _ (stays : StaysSteady) (says : Fixed) where
   abbrev Lists : Machine → Type 0
   Lists m = IsListing says m
 
@@ -200,8 +176,8 @@ module _ (stays : StaysSteady) (says : Settings) where
   done_listing x m ok h = record {
     steady = stays x m h.steady ok;
     said = done_said (out-Instruction x) m ∙ h.said;
-    shipped_is = subst (λ (y : Settings). AreListedIn (listing y.rows) (xcm.done x m).part.channels) h.said
-        (done_ships (out-Instruction x) m h.steady.holding (subst (λ (y : Settings). AreListedIn (listing y.rows) m.part.channels) (sym h.said) h.shipped_is));
+    shipped_is = subst (λ (y : Fixed). AreListedIn (listing y.rows) (xcm.done x m).part.channels) h.said
+        (done_ships (out-Instruction x) m h.steady.holding (subst (λ (y : Fixed). AreListedIn (listing y.rows) m.part.channels) (sym h.said) h.shipped_is));
   }
 
   begin_listing : (part : Part) (p : List Instruction) (m : Machine) → Lists m → Lists (machine_of (begin part p m))
@@ -261,8 +237,8 @@ module _ (stays : StaysSteady) (says : Settings) where
 nothing_held : (listed : List Listed) → AreListed listed empty
 nothing_held listed u some = let none = amount-empty unit_keys u in absurd (omega (arith, none, some))
 
-own_rows : (says : Settings) (p : ChainPart) → ListsWaiting says p → AreListedIn (listing p.rows) p.channels
-own_rows says p h = subst (λ (y : Settings). AreListedIn (listing y.rows) p.channels) (sym h.said) h.shipped_is
+own_rows : (says : Fixed) (p : ChainPart) → ListsWaiting says p → AreListedIn (listing p.rows) p.channels
+own_rows says p h = subst (λ (y : Fixed). AreListedIn (listing y.rows) p.channels) (sym h.said) h.shipped_is
 
 -- a chain at rest that lists what it shipped, and to which what is listed far from here is delivered
 pub record IsCarrying (far : List Listed) (p : ChainPart) : Type 0 where
@@ -271,28 +247,28 @@ pub record IsCarrying (far : List Listed) (p : ChainPart) : Type 0 where
   pub landing : IsListedCargo far p.cargo.cargo
 
 module _ (stays : StaysSteady) (far : List Listed) (rules : ChainRules) (origin : Location) where
-  first_listing : (a : Admitted) (p : ChainPart) → IsCarrying far p → IsListing (settings_of p) (machine_of (first_stage rules origin a p))
-  first_listing a p h = begin_listing stays (settings_of p) parts.Program a.program (first_machine rules origin p)
+  first_listing : (a : Admitted) (p : ChainPart) → IsCarrying far p → IsListing (fixed_of p) (machine_of (first_stage rules origin a p))
+  first_listing a p h = begin_listing stays (fixed_of p) parts.Program a.program (first_machine rules origin p)
       (record { steady = record { rest = h.rest; holding = nothing_held (listing p.rows) }; said = refl; shipped_is = h.shipped_is })
 
-  last_is_listing : (a : Admitted) (p : ChainPart) → IsCarrying far p → IsListing (settings_of p) (last_machine rules origin a p)
-  last_is_listing a p h = steps_listing stays (settings_of p) (still_to_run (first_stage rules origin a p)) (first_stage rules origin a p) (first_listing a p h)
+  last_is_listing : (a : Admitted) (p : ChainPart) → IsCarrying far p → IsListing (fixed_of p) (last_machine rules origin a p)
+  last_is_listing a p h = steps_listing stays (fixed_of p) (still_to_run (first_stage rules origin a p)) (first_stage rules origin a p) (first_listing a p h)
 
-  executed_by_waits : (r : Result Admitted Outcome) (p : ChainPart) → IsCarrying far p → ListsWaiting (settings_of p) (executed_by rules origin r p).1
+  executed_by_waits : (r : Result Admitted Outcome) (p : ChainPart) → IsCarrying far p → ListsWaiting (fixed_of p) (executed_by rules origin r p).1
   executed_by_waits (Err outcome) p h = record { said = refl; shipped_is = h.shipped_is }
-  executed_by_waits (Ok a) p h = finished_waits stays (settings_of p) (last_machine rules origin a p) (last_is_listing a p h)
+  executed_by_waits (Ok a) p h = finished_waits stays (fixed_of p) (last_machine rules origin a p) (last_is_listing a p h)
 
   -- what an execution ships is listed
   pub executed_ships : (credit : Weight) (program : List Instruction) (p : ChainPart) → IsCarrying far p → AreListedIn (listing (executed rules origin credit program p).1.rows) (executed rules origin credit program p).1.channels
-  executed_ships credit program p h = own_rows (settings_of p) (executed rules origin credit program p).1 (executed_by_waits (admitted rules origin credit p.queries program) p h)
+  executed_ships credit program p h = own_rows (fixed_of p) (executed rules origin credit program p).1 (executed_by_waits (admitted rules origin credit p.queries program) p h)
 
   -- and so is the cargo that it leaves
   pub executed_lands : (credit : Weight) (program : List Instruction) (p : ChainPart) → IsCarrying far p → IsListedCargo far (executed rules origin credit program p).1.cargo.cargo
   executed_lands credit program p h = (keeps_executed (λ (t : MachineWithGoods). IsListedCargo far t.part.cargo.cargo) (cargo_is_kept far) rules origin credit program p h.landing).kept
 
   -- what the document says stays
-  pub executed_said : (credit : Weight) (program : List Instruction) (p : ChainPart) → IsCarrying far p → settings_of (executed rules origin credit program p).1 ≡ settings_of p
-  executed_said credit program p h = (keeps_executed (λ (t : MachineWithGoods). settings_of t.part ≡ settings_of p) (said_is_kept (settings_of p)) rules origin credit program p refl).kept
+  pub executed_said : (credit : Weight) (program : List Instruction) (p : ChainPart) → IsCarrying far p → fixed_of (executed rules origin credit program p).1 ≡ fixed_of p
+  executed_said credit program p h = executed_fixed rules origin credit program p
 
   -- the cargo that is left where memory was refused is listed too
   pub abandoned_lands : (credit : Weight) (program : List Instruction) (p q : ChainPart) → IsCarrying far p → IsAbandoned rules origin credit program p q → IsListedCargo far q.cargo.cargo
@@ -300,7 +276,7 @@ module _ (stays : StaysSteady) (far : List Listed) (rules : ChainRules) (origin 
 
   pub abandoned_site : (credit : Weight) (program : List Instruction) (p q : ChainPart) → IsCarrying far p → IsAbandoned rules origin credit program p q → q.site ≡ p.site
   abandoned_site credit program p q h e =
-      ap (λ (x : Settings). x.site) (keeps_abandoned (λ (t : MachineWithGoods). settings_of t.part ≡ settings_of p) (said_is_kept (settings_of p)) rules origin credit program p q e refl).kept
+      ap (λ (x : Fixed). x.site) (keeps_abandoned (λ (t : MachineWithGoods). fixed_of t.part ≡ fixed_of p) (fixed_is_kept (fixed_of p)) rules origin credit program p q e refl).kept
 
 -- ---- what is kept back is told at the end
 rest_quiet : (r : Registers) (p : ChainPart) (b : Bool) → p.kept_back ≡ [] → (if b then p else trapped p r.holding (owner_of r)).kept_back ≡ []

@@ -193,7 +193,7 @@ module _ (x : Instruction) (m : Machine) (K : MachineWithGoods → Type 0)
 -- ---- a fact that each call keeps
 pub kept_at_end : (Q : Instruction → Type 0) (K : MachineWithGoods → Type 0) → IsKeptByCalls Q K → IsKeptAtEnd K
 kept_at_end Q K kept = record {
-  closing = λ m t c k asks comes from ok kt. kept.called refund_surplus Instruction-F.RefundSurplus refund_layer kept.refunds true m t c k asks from ok kt;
+  closing = λ m t c k asks comes from ok kt. kept.called refund_surplus Instruction-F.RefundSurplus refund_layer kept.refunds Moment.AtEnd m t c k asks from ok kt;
   closed = λ t r holding origin kt. kept.turned t r (stays_origin t.regs r holding origin) kt;
 }
 
@@ -206,12 +206,12 @@ module _ (Q : Instruction → Type 0) (K : MachineWithGoods → Type 0) (kept : 
 
   pub done_kept : (x : Instruction) (m : Machine) → Q x → refusal_of x m ≡ None → At_rest m → At_rest (xcm.done x m)
   done_kept x m q free k =
-      done_keeps (out-Instruction x) m K (λ c t asks from ok kt. kept.called x (out-Instruction x) refl q false m t c k asks from ok kt)
+      done_keeps (out-Instruction x) m K (λ c t asks from ok kt. kept.called x (out-Instruction x) refl q Moment.Inside m t c k asks from ok kt)
       (λ t from kt. kept.turned t (turned (out-Instruction x) m t.regs) (turns (out-Instruction x) m t from) kt) free k
 
   pub spilled_kept : (x : Instruction) (m now : Machine) → Q x → spills x m now → At_rest m → At_rest now
   spilled_kept x m now q s k =
-      spilled_keeps x m K (λ c t asks from ok kt. kept.called x (out-Instruction x) refl q false m t c k asks from ok kt)
+      spilled_keeps x m K (λ c t asks from ok kt. kept.called x (out-Instruction x) refl q Moment.Inside m t c k asks from ok kt)
       (λ t from kt. kept.turned t (turned (out-Instruction x) m t.regs) (turns (out-Instruction x) m t from) kt) now s k
 
   registers_kept : (m : Machine) (r : Registers) → r.holding ≡ m.regs.holding → r.origin ≡ m.regs.origin → At_rest m → At_rest (machine r m.part)
@@ -246,7 +246,7 @@ module _ (Q : Instruction → Type 0) (K : MachineWithGoods → Type 0) (kept : 
   -- ---- memory is refused
   pub halted_kept : (x : Instruction) (m now : Machine) → Q x → Halted xcm spills x m now → At_rest m → At_rest now
   halted_kept x m now q h k =
-      halted_keeps x m K (λ c t asks from ok kt. kept.called x (out-Instruction x) refl q false m t c k asks from ok kt)
+      halted_keeps x m K (λ c t asks from ok kt. kept.called x (out-Instruction x) refl q Moment.Inside m t c k asks from ok kt)
       (λ t from kt. kept.turned t (turned (out-Instruction x) m t.regs) (turns (out-Instruction x) m t from) kt) now h k
 
   -- ---- wherever a run comes

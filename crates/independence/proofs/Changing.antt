@@ -11,7 +11,7 @@ use Rattle.trust_tables.specs.Trust.{listing}
 use Rattle.channel_parts.specs.Channels.{Outgoing}
 use Rattle.exec_base.specs.Part.{ChainPart}
 use Rattle.network_steps.specs.Worlds.{Member, World, place_of, with_part, Stepped, unchanged}
-use Rattle.network_steps.specs.Settings.{all_settings}
+use Rattle.network_steps.specs.Fixed.{all_settings}
 use Rattle.network_steps.specs.Steps.{Link}
 use Rattle.message_shapes.specs.StepLaws.{same_one, place_says}
 use Rattle.independence.specs.Acts.{Act, acts_at, takes_from, stepped_by}

@@ -30,7 +30,7 @@ use Rattle.exec_base.specs.Host.{told}
 use Rattle.exec_admission.specs.declared.rules.ChainRules.{ChainRules}
 use Rattle.network_steps.specs.declared.step_result.StepResult.{StepResult}
 use Rattle.network_steps.specs.Worlds.{Member, chain_of, World, place_of, with_part, Stepped, unchanged}
-use Rattle.network_steps.specs.Settings.{Settings, settings_of, all_settings}
+use Rattle.network_steps.specs.Fixed.{Fixed, fixed_of, all_settings}
 use Rattle.network_steps.specs.Acting.{begun, Acted, acted, caller, lost_of, lost_lines}
 use Rattle.network_steps.specs.Steps.{is_sovereign, exec_by, exec_at, exec, name_at, run_for, receiver_after, delivered, delivery_of, deliver, waiting, is_claim, posted, posting, claim_by, claim_on, claim, Link}
 use Rattle.message_shapes.specs.StepLaws.{between_at, place_says}
@@ -43,10 +43,10 @@ use Rattle.independence.proofs.Moves.{Source, set_back, framed_member, Left, Mov
 
 -- ---- worlds with the same settings
 abbrev Said : Type 0
-Said = ChainRules × Settings
+Said = ChainRules × Fixed
 
 abbrev said : Member → Said
-said m = (m.rules, settings_of m.part)
+said m = (m.rules, fixed_of m.part)
 
 abbrev is_chain : ChainId → Said → Bool
 is_chain chain s = same_chain s.1.site.chain chain

@@ -51,8 +51,8 @@ abbrev pub site_of : NetworkSpec → ChainSpec → Site
 site_of spec c = record { network = spec.network; chain = c.chain }
 
 -- what the document says of a chain
-abbrev pub said_of : NetworkSpec → ChainSpec → Settings
-said_of spec c = record { site = site_of spec c; rows = c.assets; pallets = c.pallets; fee_account = c.fee_account }
+abbrev pub settings_of : NetworkSpec → ChainSpec → Settings
+settings_of spec c = record { site = site_of spec c; rows = c.assets; pallets = c.pallets; fee_account = c.fee_account }
 
 -- an open query, by how the chain names the one that may answer it
 abbrev pub query_of : ChainId → ℕ × ChainId → OpenQuery
@@ -73,7 +73,7 @@ with_balances held (b ∷ bs) = with_balances (with_balance held b) bs
 
 -- the chain as nothing has happened on it, but for what accounts hold
 abbrev pub bare_part : NetworkSpec → ChainSpec → ChainPart
-bare_part spec c = fresh (said_of spec c) c.rates (map (query_of c.chain) c.queries) (channels_from c.chain spec.channels)
+bare_part spec c = fresh (settings_of spec c) c.rates (map (query_of c.chain) c.queries) (channels_from c.chain spec.channels)
 
 -- the chain's part of the first world
 abbrev pub part_at : NetworkSpec → ChainSpec → ChainPart

@@ -24,15 +24,15 @@ use Rattle.network_steps.specs.declared.step_result.StepResult.{StepResult}
 use Rattle.network_steps.specs.Worlds.{Member, chain_of, World, place_of, with_part, unchanged}
 use Rattle.network_steps.specs.Acting.{begun, Acted, acted, caller}
 use Rattle.network_steps.specs.Steps.{is_sovereign, exec_by, exec_at, exec, name_at, run_for, sender_after, receiver_after, delivered, delivery_of, deliver, is_claim, posted, posting, claim_by, claim_on, claim}
-use Rattle.network_steps.specs.Settings.{Settings, settings_of, all_settings}
+use Rattle.network_steps.specs.Fixed.{Fixed, fixed_of, all_settings}
 use Rattle.network_steps.proofs.Stillness.{between_says}
-use Rattle.network_steps.proofs.Settings.{channels_kept, executed_fixed}
+use Rattle.network_steps.specs.FixedLaws.{channels_kept, executed_fixed}
 
 abbrev Said : Type 0
-Said = ChainRules × Settings
+Said = ChainRules × Fixed
 
 abbrev said : Member → Said
-said m = (m.rules, settings_of m.part)
+said m = (m.rules, fixed_of m.part)
 
 same_said : (a b : Said) → Some a ≡ Some b → a ≡ b
 same_said a b e = cc
@@ -51,18 +51,18 @@ said_at [] i m e = absurd (cc e)
 said_at (x ∷ xs) zero m e = ap (λ (y : Member). Some (said y)) (same_member x m e)
 said_at (x ∷ xs) (suc i) m e = said_at xs i m e
 
-part_same : (w : World) (i : ℕ) (m : Member) (p : ChainPart) → slice_get (all_settings w) i ≡ Some (said m) → settings_of p ≡ settings_of m.part → all_settings (slice_set w i (with_part p m)) ≡ all_settings w
-part_same w i m p at same = set_same w i (with_part p m) (at ∙ ap (λ (s : Settings). Some (m.rules, s)) (sym same))
+part_same : (w : World) (i : ℕ) (m : Member) (p : ChainPart) → slice_get (all_settings w) i ≡ Some (said m) → fixed_of p ≡ fixed_of m.part → all_settings (slice_set w i (with_part p m)) ≡ all_settings w
+part_same w i m p at same = set_same w i (with_part p m) (at ∙ ap (λ (s : Fixed). Some (m.rules, s)) (sym same))
 
 -- ---- a program at a chain
-begun_fixed : (sender : ChainId) (cargo : Cargo) (p : ChainPart) → settings_of (begun sender cargo p) ≡ settings_of p
+begun_fixed : (sender : ChainId) (cargo : Cargo) (p : ChainPart) → fixed_of (begun sender cargo p) ≡ fixed_of p
 begun_fixed sender cargo p = refl
 
-told_begun : (sender : ChainId) (cargo : Cargo) (p : ChainPart) (e : Event) → settings_of (told (begun sender cargo p) e) ≡ settings_of p
+told_begun : (sender : ChainId) (cargo : Cargo) (p : ChainPart) (e : Event) → fixed_of (told (begun sender cargo p) e) ≡ fixed_of p
 unfolding told
 told_begun sender cargo p e = refl
 
-acted_fixed : (rules : ChainRules) (origin : Location) (credit : Weight) (program : List Instruction) (p : ChainPart) → settings_of (acted rules origin credit program p).part ≡ settings_of p
+acted_fixed : (rules : ChainRules) (origin : Location) (credit : Weight) (program : List Instruction) (p : ChainPart) → fixed_of (acted rules origin credit program p).part ≡ fixed_of p
 acted_fixed rules origin credit program p = executed_fixed rules origin credit program p
 
 -- ---- local executions
@@ -90,10 +90,10 @@ unfolding exec
 exec_keeps w chain account bytes = exec_at_same w (place_of w chain) account bytes
 
 -- ---- deliveries
-popped_fixed : (to : ChainId) (a : Acted) (p : ChainPart) → settings_of (sender_after to a p) ≡ settings_of p
-popped_fixed to a p = ap (λ (cs : List Channel). record (settings_of p) { channels = cs }) (channels_kept (leads_to to) without_oldest (λ c. refl) p.channels)
+popped_fixed : (to : ChainId) (a : Acted) (p : ChainPart) → fixed_of (sender_after to a p) ≡ fixed_of p
+popped_fixed to a p = ap (λ (cs : List Channel). record (fixed_of p) { channels = cs }) (channels_kept (leads_to to) without_oldest (λ c. refl) p.channels)
 
-ran_fixed : (s r : Member) (x : Waiting) → settings_of (receiver_after s.part (run_for s r x)) ≡ settings_of r.part
+ran_fixed : (s r : Member) (x : Waiting) → fixed_of (receiver_after s.part (run_for s r x)) ≡ fixed_of r.part
 ran_fixed s r x =
     acted_fixed r.rules (name_at (chain_of r) (chain_of s)) no_weight x.program (told (begun (chain_of s) x.cargo r.part) (Event.Message (chain_of s) (chain_of r) x.number))
     ∙ told_begun (chain_of s) x.cargo r.part (Event.Message (chain_of s) (chain_of r) x.number)
@@ -120,8 +120,8 @@ deliver_keeps w from to =
     (λ i j s r at_i at_j is_s is_r. delivery_same w i j s r (channel_to (chain_of r) s.part.channels) is_s is_r)
 
 -- ---- claims
-posted_fixed : (to : ChainId) (program : List Instruction) (p : ChainPart) → settings_of (posted to program p) ≡ settings_of p
-posted_fixed to program p = ap (λ (cs : List Channel). record (settings_of p) { channels = cs }) (channels_kept (leads_to to) (with_waiting program Nothing) (λ c. refl) p.channels)
+posted_fixed : (to : ChainId) (program : List Instruction) (p : ChainPart) → fixed_of (posted to program p) ≡ fixed_of p
+posted_fixed to program p = ap (λ (cs : List Channel). record (fixed_of p) { channels = cs }) (channels_kept (leads_to to) (with_waiting program Nothing) (λ c. refl) p.channels)
 
 posting_same : (w : World) (i : ℕ) (s : Member) (to : ChainId) (c : Outgoing) (program : List Instruction) (o : Option XcmError) → slice_get w i ≡ Some s → all_settings (posting w i s to c program o).world ≡ all_settings w
 posting_same w i s to c program None is_s = part_same w i s (posted to program s.part) (said_at w i s is_s) (posted_fixed to program s.part)

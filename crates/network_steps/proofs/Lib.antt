@@ -1,5 +1,4 @@
 pub mod Stillness
 pub mod Sends
 pub mod Drains
-pub mod Settings
 pub mod Keeping

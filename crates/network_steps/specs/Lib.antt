@@ -4,4 +4,5 @@ pub mod Sends
 pub mod Steps
 pub mod Still
 pub mod Drains
-pub mod Settings
+pub mod Fixed
+pub mod FixedLaws

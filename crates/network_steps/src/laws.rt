@@ -8,7 +8,7 @@ ghost use Rattle.xcm_program.specs.declared.instruction.Instruction.{Instruction
 ghost use Rattle.network_steps.specs.Worlds.{World, place_of};
 ghost use Rattle.network_steps.specs.Sends.{deliveries_left};
 ghost use Rattle.network_steps.specs.Steps.{exec, deliver, claim, Link, waiting, next_channel, drain, world_behind};
-ghost use Rattle.network_steps.specs.Settings.{all_settings};
+ghost use Rattle.network_steps.specs.Fixed.{all_settings};
 ghost use Rattle.network_steps.specs.Still.{IsStill};
 ghost use Rattle.network_steps.specs.Drains.{AreApart};
 

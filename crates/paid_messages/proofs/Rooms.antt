@@ -5,7 +5,7 @@ use Rattle.std.specs.List.{AllByRecursion}
 use Rattle.std.specs.Option.{option_map_or}
 use Rattle.chain_ids.specs.declared.chain.ChainId.{ChainId}
 use Rattle.exec_admission.specs.declared.rules.ChainRules.{ChainRules}
-use Rattle.network_steps.specs.Settings.{Settings, all_settings}
+use Rattle.network_steps.specs.Fixed.{Fixed, all_settings}
 use Rattle.network_steps.specs.Sends.{deliveries_left}
 use Rattle.network_steps.specs.Steps.{exec, deliver, claim, Link, next_channel, deliveries, world_behind, Step, Exec, Deliver, Claim, Drain, Balances, Traps, Queues, Supply, after, worlds}
 use Rattle.network_steps.specs.Worlds.{Member, World}
@@ -39,7 +39,7 @@ module _ (keep : KeepSettings) where
   step_keeps order w Supply = refl
 
   -- ---- room
-  abbrev IsRoomy : ChainRules × Settings → Type 0
+  abbrev IsRoomy : ChainRules × Fixed → Type 0
   IsRoomy chain = 20 ≤ chain.0.max_holding
 
   by_settings : (w : World) → HaveRoom w → AllByRecursion IsRoomy (all_settings w)

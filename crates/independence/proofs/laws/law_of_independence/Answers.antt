@@ -1,6 +1,6 @@
 use Rattle.std.proofs.Common.{◌≡◌, refl}
 use Rattle.network_steps.specs.Steps.{after}
-use Rattle.network_steps.specs.Settings.{all_settings}
+use Rattle.network_steps.specs.Fixed.{all_settings}
 use Rattle.network_steps.specs.Worlds.{World}
 use Rattle.independence.specs.Acts.{Act, step_of, stepped_by}
 use Rattle.independence.proofs.Changing.{free}
