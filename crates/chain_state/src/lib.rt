@@ -11,7 +11,6 @@ mod carried;
 mod channels;
 mod checking;
 mod fees;
-mod goods_moves;
 mod hosting;
 mod lines;
 mod losses;

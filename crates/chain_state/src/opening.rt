@@ -31,13 +31,13 @@ use chain_lists::{
     places,
 };
 use chain_queues::{Cargo, Channel, Queues};
+use exec_base::Settings;
 use fee_rows::FeeRows;
 use ledgers::{DepositFault, Ledger, TrapStore};
-use exec_base::Settings;
 use message_parts::OpenQuery;
 use network_spec::{Balance, ChainSpec, NetworkSpec};
-use std::alloc::{AllocError, Global};
 use plain_lists::Listed;
+use std::alloc::{AllocError, Global};
 use trust_tables::Site;
 use weight_trader::{Rate, Trader};
 
@@ -133,13 +133,7 @@ impl ChainState {
         };
         let queries = open_queries(alloc, entry.chain, entry.queries.items())?;
         let channels = channels_from(alloc, entry.chain, spec.channels.items())?;
-        ChainState::new(
-            alloc,
-            settings,
-            entry.rates.items(),
-            queries,
-            channels,
-        )
+        ChainState::new(alloc, settings, entry.rates.items(), queries, channels)
     }
 
     /// Places what the document says that an account holds, which the conditions on it never refuse.

@@ -34,7 +34,10 @@ impl ChainState {
             (IsSendFault (deposit_out_refusal (part_of self.now) goods.now dest.now xcm.now)) }
     {
         let list = goods.list()?;
-        if let Some(error) = self.take_refusal(&account_of(dest, &self.settings.site), list.as_slice()) {
+        if let Some(error) = self.take_refusal(
+            &account_of(dest, &self.settings.site),
+            list.as_slice(),
+        ) {
             return Err(HostFault::Xcm(error));
         }
         let (to, bytes) = match self.encoded_around(

@@ -55,7 +55,12 @@ impl ChainState {
         self.events.reserve(lines.len())?;
         self.spare.close()?.melt();
         let alloc = *self.events.allocator();
-        deposit_into(&mut self.ledger, alloc, &self.settings.fee_account, coins.as_slice())?;
+        deposit_into(
+            &mut self.ledger,
+            alloc,
+            &self.settings.fee_account,
+            coins.as_slice(),
+        )?;
         swap(&mut self.trader, &mut self.spare);
         self.fees.clear();
         book_all(&mut self.book, above.as_slice());

@@ -108,9 +108,6 @@ each_unit P b goods all u held = find_trusted P (held_assets b) u all (asset_of_
 -- ---- lists as the receiver names them
 pub HasList-IsOfLayer : IsOfLayer HasList
 HasList-IsOfLayer X Y f (Instruction-F.WithdrawAsset list) = refl
-HasList-IsOfLayer X Y f (Instruction-F.ReceiveTeleportedAsset list) = refl
-HasList-IsOfLayer X Y f (Instruction-F.TransferAsset list who) = refl
-HasList-IsOfLayer X Y f (Instruction-F.TransferReserveAsset list dest xcm) = refl
 HasList-IsOfLayer X Y f _ = refl
 
 at_most : (a b : ℕ) → nat_le a b ≡ true → a ≤ b

@@ -32,9 +32,9 @@ use Rattle.exec_rules.specs.Instructions.{refused, done}
 use Rattle.exec_calls.specs.Calls.{MachineWithGoods, between, here, MachineCall, why_not, after, effect, after_all, refusal_along, for_origin, around, charge, size_tests, report, holding_report, calls, turned, turned_at}
 use Rattle.exec_calls.specs.Footprints.{part_is}
 use Rattle.exec_calls.specs.CallLaws.{refused_is, done_is}
-use Rattle.exec_calls.specs.Reasons.{IsFrom, IsReport, shipping, Moment, HasReason, HaveReasons}
+use Rattle.exec_calls.specs.Reasons.{IsFrom, destination, IsReport, shipping, Moment, HasReason, HaveReasons}
 use Rattle.exec_calls.specs.ReasonLaws.{from_itself, from_after, asked}
-use Rattle.independence.specs.Freedom.{sent_to, sends_on}
+use Rattle.independence.specs.Freedom.{sends_on}
 use Rattle.independence.proofs.Channels.{IsThere, IsNoTransport, read_popped, found_sent}
 use Rattle.independence.proofs.Keeping.{View, with_sent, call_kept}
 use Rattle.independence.proofs.Calls.{framed, joined_framed, burnt_framed, bought_framed, refunded_framed, claimed_framed, answered_framed, withdrawn_framed, received_framed, deposited_framed, transferred_framed, transferred_out_framed, deposited_out_framed, shipped_framed, responded_framed, told_framed, trapped_framed, settled_framed, fee_to_framed, querier_framed}
@@ -147,26 +147,26 @@ module _ (to : ChainId) (lost : Bundle) where
     abbrev on : Bool
     on = sends_on m.part.site.chain to l
 
-    report_goes : (k : Instruction-F Instruction) (info : QueryInfo) → IsReport k info → sent_to k ≡ Some info.destination
+    report_goes : (k : Instruction-F Instruction) (info : QueryInfo) → IsReport k info → destination k ≡ Some info.destination
     report_goes (Instruction-F.ReportError i) info is = ap (λ (q : QueryInfo). Some q.destination) is
     report_goes (Instruction-F.ReportHolding i filter) info is = ap (λ (q : QueryInfo). Some q.destination) is
     report_goes (Instruction-F.QueryPallet name i) info is = ap (λ (q : QueryInfo). Some q.destination) is
     report_goes (Instruction-F.ReportTransactStatus i) info is = ap (λ (q : QueryInfo). Some q.destination) is
     report_goes k info is = absurd is
 
-    ships_to : (way : Way) (filter : Filter) (dest : Location) (program : List Instruction) → sent_to (shipping way filter dest program) ≡ Some dest
+    ships_to : (way : Way) (filter : Filter) (dest : Location) (program : List Instruction) → destination (shipping way filter dest program) ≡ Some dest
     ships_to Way.Withdrawal filter dest program = refl
     ships_to Way.Teleport filter dest program = refl
 
-    no_transport_at : (t : MachineWithGoods) (dest : Location) (o : Option XcmError) → IsFrom m t → sent_to l ≡ Some dest → IsNoTransport on o → IsNoTransport (here_to to lost t.part dest) o
+    no_transport_at : (t : MachineWithGoods) (dest : Location) (o : Option XcmError) → IsFrom m t → destination l ≡ Some dest → IsNoTransport on o → IsNoTransport (here_to to lost t.part dest) o
     no_transport_at t dest o from goes no_transport = subst (λ (b : Bool). IsNoTransport b o)
         (sym (ap (λ (s : Settings). is_location_of s.site.chain to dest) from.settings ∙ sym (ap (λ (o : Option Location). option_map_or (λ (d : Location). is_location_of m.part.site.chain to d) o false) goes))) no_transport
 
     why_framed : (c : MachineCall) (t : MachineWithGoods) → HasReason Moment.Inside l m t c → IsFrom m t → IsNoTransport on (why_not c t) → why_not c (frame t) ≡ why_not c t
     unfolding withdraw_refusal receive_refusal deposit_refusal transfer_refusal claim_refusal buy_refusal
-    why_framed (MachineCall.TransferOut list from dest program) t asks at no_transport = transfer_out_refused to lost t.part list from dest program (no_transport_at t dest _ at (ap sent_to asks.2) no_transport)
-    why_framed (MachineCall.DepositOut dest program) t asks at no_transport = deposit_out_refused to lost t.part t.goods dest program (no_transport_at t dest _ at (ap sent_to asks.2.1) no_transport)
-    why_framed (MachineCall.Ship way dest program) t asks at no_transport = ship_refused to lost t.part t.goods way dest program (no_transport_at t dest _ at (ap sent_to asks.2.1 ∙ ships_to way asks.2.0 dest program) no_transport)
+    why_framed (MachineCall.TransferOut list from dest program) t asks at no_transport = transfer_out_refused to lost t.part list from dest program (no_transport_at t dest _ at (ap destination asks.2) no_transport)
+    why_framed (MachineCall.DepositOut dest program) t asks at no_transport = deposit_out_refused to lost t.part t.goods dest program (no_transport_at t dest _ at (ap destination asks.2.1) no_transport)
+    why_framed (MachineCall.Ship way dest program) t asks at no_transport = ship_refused to lost t.part t.goods way dest program (no_transport_at t dest _ at (ap destination asks.2.1 ∙ ships_to way asks.2.0 dest program) no_transport)
     why_framed (MachineCall.Respond info answer querier) t asks at no_transport = respond_refused to lost t.part info answer querier (no_transport_at t info.destination _ at (report_goes l info asks.2) no_transport)
     why_framed (MachineCall.Receive list None teleport) t asks at no_transport = refl
     why_framed (MachineCall.Receive list (Some who) teleport) t asks at no_transport = refl

@@ -21,6 +21,7 @@ use Rattle.exec_base.specs.Part.{ChainPart}
 use Rattle.exec_base.specs.Host.{told}
 use Rattle.exec_run.specs.Run.{Stage, At, Ended, Reaches}
 use Rattle.exec_rules.specs.Instructions.{refusal_of, xcm}
+use Rattle.exec_calls.specs.Reasons.{destination}
 use Rattle.exec_admission.specs.declared.rules.ChainRules.{ChainRules}
 use Rattle.exec_admission.specs.declared.admission.Admitted.{Admitted}
 use Rattle.exec_admission.specs.Admission.{admitted}
@@ -33,21 +34,9 @@ use Rattle.independence.specs.Acts.{Act, acts_at, takes_from, stepped_by, member
 
 -- ---- sends
 
--- where an instruction sends to; all others send nothing
-abbrev pub sent_to : Instruction-F Instruction → Option Location
-sent_to (Instruction-F.TransferReserveAsset list dest program) = Some dest
-sent_to (Instruction-F.DepositReserveAsset filter dest program) = Some dest
-sent_to (Instruction-F.InitiateReserveWithdraw filter dest program) = Some dest
-sent_to (Instruction-F.InitiateTeleport filter dest program) = Some dest
-sent_to (Instruction-F.ReportError info) = Some info.destination
-sent_to (Instruction-F.ReportHolding info filter) = Some info.destination
-sent_to (Instruction-F.QueryPallet name info) = Some info.destination
-sent_to (Instruction-F.ReportTransactStatus info) = Some info.destination
-sent_to _ = None
-
 -- it sends on the channel from the first chain to the second
 abbrev pub sends_on : ChainId → ChainId → Instruction-F Instruction → Bool
-sends_on here to l = option_map_or (λ (dest : Location). is_location_of here to dest) (sent_to l) false
+sends_on here to l = option_map_or (λ (dest : Location). is_location_of here to dest) (destination l) false
 
 -- where a run stands: not before a send on the chain's channel to that chain which answers Transport
 abbrev pub IsCalmAt : ChainId → Stage → Type 0
