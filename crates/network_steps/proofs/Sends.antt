@@ -203,11 +203,6 @@ kept_more _ c d e = subst (λ (d : Control). sends d.handler + sends d.appendix 
 
 sent_and_kept : (l : Instruction-F Instruction) → sent_in l + sends_inside (kept l) ≤ sending l + sends_inside (inner l)
 sent_and_kept (Instruction-F.TransferReserveAsset list dest program) = omega arith
-sent_and_kept (Instruction-F.DepositReserveAsset taken dest program) = omega arith
-sent_and_kept (Instruction-F.InitiateReserveWithdraw taken dest program) = omega arith
-sent_and_kept (Instruction-F.InitiateTeleport taken dest program) = omega arith
-sent_and_kept (Instruction-F.SetErrorHandler program) = omega arith
-sent_and_kept (Instruction-F.SetAppendix program) = omega arith
 sent_and_kept _ = omega arith
 
 -- what is queued, and what the programs that are kept may send
