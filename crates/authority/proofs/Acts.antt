@@ -16,7 +16,7 @@ use Rattle.exec_rules.specs.Instructions.{done, xcm}
 use Rattle.exec_calls.specs.Calls.{MachineWithGoods, MachineCall, after}
 use Rattle.exec_calls.specs.Reasons.{IsFrom, Moment, HasReason}
 use Rattle.exec_calls.specs.ReasonLaws.{each_keeps}
-use Rattle.exec_calls.specs.KeptLaws.{halted_keeps}
+use Rattle.exec_keeping.specs.KeptLaws.{halted_keeps}
 use Rattle.authority.specs.Origins.{speaker_at, speaker_of, LowersOnly}
 use Rattle.authority.proofs.Lowering.{same_lowers, then_lowers, given_lowers, got_lowers, moved_lowers, settled_lowers}
 

@@ -32,7 +32,7 @@ use Rattle.exec_admission.specs.declared.rules.ChainRules.{ChainRules}
 use Rattle.exec_admission.specs.declared.admission.Admitted.{Admitted}
 use Rattle.exec_admission.specs.Execution.{first_machine, first_stage, last_machine, executed_by, AbandonedIn}
 use Rattle.exec_calls.specs.Calls.{between}
-use Rattle.exec_calls.specs.KeptLaws.{any_kind, keeps_reached, go_on_kept}
+use Rattle.exec_keeping.specs.KeptLaws.{any_kind, keeps_reached, go_on_kept}
 use Rattle.message_shapes.specs.Shapes.{IsAnswer, IsLedByClaim, IsShape}
 use Rattle.authority.specs.Origins.{speaker_at, speaker_of, LowersOnly}
 use Rattle.authority.proofs.Lowering.{same_lowers, then_lowers, none_lowers}

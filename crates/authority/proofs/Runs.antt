@@ -22,8 +22,8 @@ use Rattle.exec_admission.specs.declared.admission.Admitted.{Admitted}
 use Rattle.exec_admission.specs.Execution.{started, first_stage, executed, IsAbandoned}
 use Rattle.exec_calls.specs.Calls.{MachineWithGoods, MachineCall, after}
 use Rattle.exec_calls.specs.Reasons.{IsFrom, Moment, HasReason, ComesAtEnd}
-use Rattle.exec_calls.specs.Kept.{TurnsOrigin, IsKeptAtEnd, IsKeptByCalls}
-use Rattle.exec_calls.specs.KeptLaws.{any_kind, abandoned_kept, finished_kept, at_end_kept, keeps_run, keeps_executed, keeps_abandoned}
+use Rattle.exec_keeping.specs.Kept.{TurnsOrigin, IsKeptAtEnd, IsKeptByCalls}
+use Rattle.exec_keeping.specs.KeptLaws.{any_kind, abandoned_kept, finished_kept, at_end_kept, keeps_run, keeps_executed, keeps_abandoned}
 use Rattle.network_steps.specs.Acting.{caller}
 use Rattle.authority.specs.Origins.{speaker_at, LowersOnly, IsAtOrBelow}
 use Rattle.authority.proofs.Lowering.{same_lowers, then_lowers, none_lowers, settled_lowers}

@@ -46,8 +46,8 @@ use Rattle.exec_admission.specs.Execution.{first_machine, first_stage, last_mach
 use Rattle.exec_calls.specs.Calls.{MachineWithGoods, MachineCall, after}
 use Rattle.exec_calls.specs.Reasons.{Moment, HasReason}
 use Rattle.exec_calls.specs.ReasonLaws.{each_keeps}
-use Rattle.exec_calls.specs.Kept.{IsKeptByCalls}
-use Rattle.exec_calls.specs.KeptLaws.{any_kind, keeps_executed, keeps_abandoned}
+use Rattle.exec_keeping.specs.Kept.{IsKeptByCalls}
+use Rattle.exec_keeping.specs.KeptLaws.{any_kind, keeps_executed, keeps_abandoned}
 use Rattle.network_steps.specs.Fixed.{Fixed, fixed_of}
 use Rattle.network_steps.specs.FixedLaws.{call_fixed, fixed_is_kept, executed_fixed}
 use Rattle.chain_net.specs.Sound.{IsListedCargo, AreListedIn}

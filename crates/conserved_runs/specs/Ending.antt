@@ -21,8 +21,8 @@ use Rattle.exec_rules.specs.Stopping.{spills}
 use Rattle.exec_calls.specs.Calls.{MachineWithGoods, between, MachineCall, after, effect}
 use Rattle.exec_calls.specs.Footprints.{part_is}
 use Rattle.exec_calls.specs.Reasons.{Moment, HasReason, ComesAtEnd}
-use Rattle.exec_calls.specs.Kept.{IsKeptAtEnd, Ends}
-use Rattle.exec_calls.specs.KeptLaws.{finished_kept, at_end_kept}
+use Rattle.exec_keeping.specs.Kept.{IsKeptAtEnd, Ends}
+use Rattle.exec_keeping.specs.KeptLaws.{finished_kept, at_end_kept}
 use Rattle.conserved_runs.specs.Sums.{Sum, sum_of, none, with, nobody, Call, HasRoom}
 use Rattle.conserved_runs.specs.Calls.{Trapping, call_then, call_with, still, room_kept, room_with, joining, telling, answering, refunding, parking_goods, keeping, settling, trapping_goods}
 use Rattle.conserved_runs.specs.Safety.{hold}

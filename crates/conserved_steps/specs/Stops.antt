@@ -36,8 +36,8 @@ use Rattle.conserved_runs.specs.Stopping.{abandoned_call}
 use Rattle.conserved_runs.specs.Ending.{halted_call}
 use Rattle.exec_calls.specs.Calls.{MachineWithGoods, MachineCall, after}
 use Rattle.exec_calls.specs.Reasons.{ComesAtEnd}
-use Rattle.exec_calls.specs.Kept.{IsKeptAtEnd}
-use Rattle.exec_calls.specs.KeptLaws.{at_end_kept}
+use Rattle.exec_keeping.specs.Kept.{IsKeptAtEnd}
+use Rattle.exec_keeping.specs.KeptLaws.{at_end_kept}
 use Rattle.conserved_steps.specs.Soundness.{LawsBelow}
 use Rattle.conserved_steps.specs.Firsts.{IsSetBehind, second, stopped, alone, told_safely, told_cargo, step_on, stays_here, refused_next, refused_last, alone_next, alone_last, led_once, led_on, led_last}
 

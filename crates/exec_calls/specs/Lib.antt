@@ -1,8 +1,6 @@
 pub mod Calls
 pub mod Reasons
-pub mod Kept
 pub mod Footprints
 pub mod CallLaws
 pub mod ReasonLaws
 pub mod StopLaws
-pub mod KeptLaws

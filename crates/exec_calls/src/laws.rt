@@ -1,21 +1,12 @@
-//! What instructions ask of their chain, and what executions keep: laws, as the contracts of functions that do nothing.
-ghost use Rattle.std.specs.Prelude.{◌≡◌, ℕ, None, Ok, Result};
-ghost use Rattle.locations.specs.declared.relative.Location.{Location};
+//! What instructions ask of their chain: laws, as the contracts of functions that do nothing.
+ghost use Rattle.std.specs.Prelude.{◌≡◌};
 ghost use Rattle.xcm_program.specs.declared.instruction.Instruction.{Instruction};
 ghost use Rattle.xcm_program.specs.declared.instruction.Instruction.TheOpen.{Instruction-F};
-ghost use Rattle.xcm_program.specs.declared.outcome.Outcome.{Outcome};
-ghost use Rattle.exec_base.specs.Part.{ChainPart};
 ghost use Rattle.exec_run.specs.Machine.{Machine};
-ghost use Rattle.exec_run.specs.Run.{Stage, machine_of, steps, Reaches};
-ghost use Rattle.exec_run.specs.Keeping.{IsAheadOf};
-ghost use Rattle.exec_rules.specs.Instructions.{refused, done, refusal_of, xcm};
-ghost use Rattle.exec_rules.specs.Stopping.{Spilled, spills};
-ghost use Rattle.exec_admission.specs.declared.rules.ChainRules.{ChainRules};
-ghost use Rattle.exec_admission.specs.declared.admission.Admitted.{Admitted};
-ghost use Rattle.exec_admission.specs.Execution.{first_machine, first_stage, executed_by, AbandonedIn};
+ghost use Rattle.exec_rules.specs.Instructions.{refused, done};
+ghost use Rattle.exec_rules.specs.Stopping.{Spilled};
 ghost use Rattle.exec_calls.specs.Calls.{between, refusal_along, calls, through};
 ghost use Rattle.exec_calls.specs.Reasons.{HaveReasons, IsLedTo};
-ghost use Rattle.exec_calls.specs.Kept.{Ends};
 
 /// An instruction is refused by the first of its calls that is refused, and else leaves what they leave, with the registers that it changes. Each
 /// call has its reason, and where memory stops an instruction, accepted calls that change nothing else yet have led there.
@@ -24,34 +15,4 @@ pub fn law_of_calls()
     ensures done { (l : Instruction-F Instruction) (m : Machine) → between (done l m) ≡ through l m }
     ensures asked { (l : Instruction-F Instruction) (m : Machine) → HaveReasons l m (calls l m) (between m) }
     ensures stopped { (l : Instruction-F Instruction) (m now : Machine) → Spilled l m now → IsLedTo l m now }
-{}
-
-/// A fact that each call keeps, where the instructions are of one kind.
-pub trait KeptByCalls {
-    ghost use Rattle.xcm_program.specs.declared.instruction.Instruction.{Instruction};
-    ghost use Rattle.exec_calls.specs.Calls.{MachineWithGoods};
-    ghost use Rattle.exec_calls.specs.Kept.{IsKeptByCalls};
-
-    /// Of what kind the instructions are.
-    ghost kind: { Instruction → Type 0 };
-
-    /// The fact.
-    ghost fact: { MachineWithGoods → Type 0 };
-
-    /// Each call keeps it, and each change of the other registers.
-    ghost kept: { IsKeptByCalls kind fact };
-}
-
-/// A fact that each call keeps, each accepted instruction keeps, each that memory stops, each run wherever it comes, and each execution, at its end
-/// and where memory was refused to it.
-pub fn law_of_kept_facts<K: KeptByCalls>()
-    ensures done { (x : Instruction) (m : Machine) → K.kind x → refusal_of x m ≡ None → K.fact (between m) → K.fact (between (xcm.done x m)) }
-    ensures stopped { (x : Instruction) (m now : Machine) → K.kind x → spills x m now → K.fact (between m) → K.fact (between now) }
-    ensures reached { (rules : ChainRules) (origin : Location) (a : Admitted) (p : ChainPart) → ((j : ℕ) → IsAheadOf K.kind (steps xcm j (first_stage rules origin a p)))
-        → K.fact (between (first_machine rules origin p)) → (g : Stage) → Reaches xcm (first_stage rules origin a p) g → K.fact (between (machine_of g)) }
-    ensures executed { (rules : ChainRules) (origin : Location) (r : Result Admitted Outcome) (p : ChainPart)
-        → ((a : Admitted) → r ≡ Ok a → (j : ℕ) → IsAheadOf K.kind (steps xcm j (first_stage rules origin a p)))
-        → K.fact (between (first_machine rules origin p)) → Ends K.fact (executed_by rules origin r p).1 }
-    ensures abandoned { (rules : ChainRules) (origin : Location) (a : Admitted) (p now : ChainPart) → ((j : ℕ) → IsAheadOf K.kind (steps xcm j (first_stage rules origin a p)))
-        → AbandonedIn rules origin a p now → K.fact (between (first_machine rules origin p)) → Ends K.fact now }
 {}

@@ -3,4 +3,4 @@
 
 mod laws;
 
-pub use laws::{KeptByCalls, law_of_calls, law_of_kept_facts};
+pub use laws::law_of_calls;

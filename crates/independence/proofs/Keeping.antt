@@ -18,8 +18,8 @@ use Rattle.exec_rules.specs.Instructions.{xcm}
 use Rattle.exec_admission.specs.declared.rules.ChainRules.{ChainRules}
 use Rattle.exec_calls.specs.Calls.{MachineWithGoods, MachineCall, after}
 use Rattle.exec_calls.specs.Footprints.{settings_after, channels_after}
-use Rattle.exec_calls.specs.Kept.{IsKeptByCalls}
-use Rattle.exec_calls.specs.KeptLaws.{any_kind, keeps_reached, keeps_executed}
+use Rattle.exec_keeping.specs.Kept.{IsKeptByCalls}
+use Rattle.exec_keeping.specs.KeptLaws.{any_kind, keeps_reached, keeps_executed}
 use Rattle.network_steps.specs.Acting.{acted}
 use Rattle.independence.proofs.Channels.{by_channel}
 

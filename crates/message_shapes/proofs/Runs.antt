@@ -10,8 +10,8 @@ use Rattle.exec_admission.specs.declared.rules.ChainRules.{ChainRules}
 use Rattle.exec_admission.specs.Execution.{executed, IsAbandoned}
 use Rattle.exec_calls.specs.Calls.{MachineWithGoods, MachineCall, why_not, after}
 use Rattle.exec_calls.specs.Footprints.{part_is}
-use Rattle.exec_calls.specs.Kept.{IsKeptByCalls}
-use Rattle.exec_calls.specs.KeptLaws.{any_kind, keeps_reached, keeps_executed, keeps_abandoned}
+use Rattle.exec_keeping.specs.Kept.{IsKeptByCalls}
+use Rattle.exec_keeping.specs.KeptLaws.{any_kind, keeps_reached, keeps_executed, keeps_abandoned}
 use Rattle.message_shapes.specs.Shapes.{AreShapedAt}
 use Rattle.message_shapes.proofs.Channels.{transferred_shaped, deposited_shaped, shipped_shaped, responded_shaped}
 

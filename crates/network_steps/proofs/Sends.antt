@@ -50,8 +50,8 @@ use Rattle.exec_admission.specs.Execution.{first_machine, first_stage, last_mach
 use Rattle.exec_calls.specs.Calls.{MachineWithGoods, MachineCall, after}
 use Rattle.exec_calls.specs.Reasons.{shipping, IsReport, Moment, HasReason, ComesAtEnd}
 use Rattle.exec_calls.specs.ReasonLaws.{each_keeps}
-use Rattle.exec_calls.specs.Kept.{IsKeptAtEnd}
-use Rattle.exec_calls.specs.KeptLaws.{finished_kept}
+use Rattle.exec_keeping.specs.Kept.{IsKeptAtEnd}
+use Rattle.exec_keeping.specs.KeptLaws.{finished_kept}
 use Rattle.asset_lists.specs.declared.filters.Filter.{Filter}
 use Rattle.network_steps.specs.Worlds.{Member, chain_of, World, with_part}
 use Rattle.network_steps.specs.Sends.{message_count, queue_count, queued, deliveries_left}

@@ -26,8 +26,8 @@ use Rattle.coherence.specs.Networks.{Table, Agrees}
 use Rattle.exec_calls.specs.Calls.{MachineWithGoods, between, MachineCall, after, effect}
 use Rattle.exec_calls.specs.Footprints.{part_is}
 use Rattle.exec_calls.specs.ReasonLaws.{done_keeps}
-use Rattle.exec_calls.specs.Kept.{IsKeptAtEnd}
-use Rattle.exec_calls.specs.KeptLaws.{finished_kept, at_end_kept}
+use Rattle.exec_keeping.specs.Kept.{IsKeptAtEnd}
+use Rattle.exec_keeping.specs.KeptLaws.{finished_kept, at_end_kept}
 use Rattle.exec_run.specs.Outcome.{finished, HaltedAtEnd}
 use Rattle.exec_rules.specs.Stopping.{spills}
 use Rattle.conserved_runs.specs.Ending.{IsEnding, begins_ending, ending_is_kept}

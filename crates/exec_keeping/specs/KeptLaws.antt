@@ -42,7 +42,7 @@ use Rattle.exec_calls.specs.Footprints.{part_is}
 use Rattle.exec_calls.specs.Reasons.{IsFrom, IsFee, Moment, HasReason, ComesAtEnd}
 use Rattle.exec_calls.specs.ReasonLaws.{from_itself, done_keeps, lead_keeps}
 use Rattle.exec_calls.specs.StopLaws.{spilled_lead}
-use Rattle.exec_calls.specs.Kept.{Turns, IsKeptAtEnd, IsKeptByCalls, Ends}
+use Rattle.exec_keeping.specs.Kept.{Turns, IsKeptAtEnd, IsKeptByCalls, Ends}
 
 -- ---- an instruction's registers
 pub stays_origin : (old new : Registers) → new.holding ≡ old.holding → new.origin ≡ old.origin → Turns old new
