@@ -23,7 +23,7 @@ use chain_queues::{Cargo, Queued};
 use chain_state::ChainState;
 use exec_admission::ChainRules;
 use exec_base::{Event, Host};
-use exec_rules::law_of_readiness;
+use exec_calls::law_of_readiness;
 use locations::{Junction, Junctions, Location};
 use message_parts::Weight;
 use network_steps::law_of_decoded_programs;

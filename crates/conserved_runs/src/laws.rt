@@ -14,7 +14,7 @@ ghost use Rattle.coherence.specs.Networks.{Table, Agrees};
 ghost use Rattle.conserved_runs.specs.Safety.{AreLists, Safely};
 ghost use Rattle.conserved_runs.specs.Runs.{IsSafeAt, Goes};
 
-use exec_rules::{law_of_readiness, law_of_rules};
+use exec_calls::{law_of_readiness, law_of_rules};
 use ledgers::law_of_ledgers;
 use trap_store::law_of_traps;
 use weight_trader::law_of_trading;

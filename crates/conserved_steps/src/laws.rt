@@ -19,7 +19,7 @@ ghost use Rattle.conserved_steps.specs.Views.{views};
 ghost use Rattle.conserved_steps.specs.Worlds.{IsFirst, AllKept, IsExecution, begins, while_running, where_stopped, IsDelivery, arrives, while_delivered, StopsAt, where_delivery_stopped, AccountsMayRise};
 
 use exec_admission::law_of_admission;
-use exec_rules::{law_of_readiness, law_of_rules};
+use exec_calls::{law_of_readiness, law_of_rules};
 use ledgers::law_of_ledgers;
 use message_shapes::{law_of_admitted_messages, law_of_shapes};
 use trap_store::law_of_traps;

@@ -3,15 +3,12 @@ use Rattle.std.proofs.Common.{◌≡◌, ℕ, zero, suc, Bool, true, false, ◌&
 use Rattle.std.specs.Prelude.{slice_get, slice_set, find}
 use Rattle.std.specs.List.{AllByRecursion}
 use Rattle.std.specs.Option.{option_map_or}
-use Rattle.amounts.specs.Amounts.{empty, amount-empty}
 use Rattle.locations.specs.declared.relative.Location.{Location}
 use Rattle.message_parts.specs.declared.query.OpenQuery.{OpenQuery}
 use Rattle.message_parts.specs.declared.weight.Weight.{Weight}
 use Rattle.message_parts.specs.declared.weight.WeightLimit.{WeightLimit}
 use Rattle.message_parts.specs.declared.weight.WeightLimit.TheVariants.{Limited}
 use Rattle.message_parts.specs.Weights.{is_within}
-use Rattle.asset_bundles.specs.Bundles.{unit_keys}
-use Rattle.asset_bundles.specs.Books.{AreListed}
 use Rattle.trust_tables.specs.Trust.{listing}
 use Rattle.xcm_program.specs.declared.instruction.Instruction.{Instruction, out-Instruction, out-roll-Instruction}
 use Rattle.xcm_program.specs.declared.instruction.Instruction.TheOpen.{Instruction-F}
@@ -31,6 +28,7 @@ use Rattle.exec_run.specs.Run.{begin, machine_of}
 use Rattle.exec_run.specs.Keeping.{AllAhead, IsAheadOf}
 use Rattle.exec_run.specs.KeepingLaws.{begin_machine}
 use Rattle.exec_rules.specs.Readiness.{IsAtRest, IsSteady, IsSound}
+use Rattle.exec_calls.specs.ListingLaws.{nothing_listed}
 use Rattle.exec_admission.specs.declared.rules.ChainRules.{ChainRules}
 use Rattle.exec_admission.specs.declared.admission.Admitted.{Admitted}
 use Rattle.exec_admission.specs.Admission as admitting
@@ -124,11 +122,8 @@ module _ (rules : ChainRules) (origin : Location) (credit : Weight) (queries : L
   admitted_forwardable a e = by_weight_forwardable (weight_of rules.weight p) a e
 
 -- ---- the beginning
-nothing_listed : (p : ChainPart) → AreListed (listing p.rows) empty
-nothing_listed p u some = let none = amount-empty unit_keys u in absurd (omega (arith, none, some))
-
 pub first_steady : (rules : ChainRules) (origin : Location) (a : Admitted) (p : ChainPart) → IsAtRest p → IsSteady (machine_of (first_stage rules origin a p))
-first_steady rules origin a p rest = subst IsSteady (sym (begin_machine parts.Program a.program (first_machine rules origin p))) (record { rest = rest; holding = nothing_listed p })
+first_steady rules origin a p rest = subst IsSteady (sym (begin_machine parts.Program a.program (first_machine rules origin p))) (record { rest = rest; holding = nothing_listed (listing p.rows) })
 
 begin_ahead : (Q : Instruction → Type 0) (program : List Instruction) (m : Machine) → AllAhead Q program (control_of m.regs) → IsAheadOf Q (begin parts.Program program m)
 begin_ahead Q [] m h = h

@@ -1,21 +1,12 @@
 -- An execution from a chain at rest leaves it at rest.
-use Rattle.std.proofs.Common.{◌≡◌, ℕ, zero, suc, ◌+◌, ◌<◌, Bool, true, false, List, [], ◌∷◌, ◌++◌, take, drop, length, Option, Some, None, refl, sym, ◌∙◌, subst, arith}
-use Rattle.std.specs.Prelude.{nat_eq, if◌then◌else◌, IsTrue}
-use Rattle.std.specs.Ordering.{eq_by_cmp}
-use Rattle.amounts.specs.Rows.{sum_where}
-use Rattle.amounts.specs.Amounts.{rows, from_rows}
-use Rattle.amounts.specs.Laws.{amount-from_rows, amount-rows}
+use Rattle.std.proofs.Common.{◌≡◌, Bool, true, false, length, Option, Some, None, refl, sym, ◌∙◌, subst}
+use Rattle.std.specs.Prelude.{nat_eq, if◌then◌else◌}
+use Rattle.amounts.specs.Amounts.{rows}
 use Rattle.locations.specs.declared.relative.Location.{Location}
 use Rattle.message_parts.specs.declared.error.XcmError.{XcmError}
-use Rattle.asset_lists.specs.Units.{Unit, unit_cmp}
-use Rattle.asset_lists.specs.Listed.{Listed, listed_of, lists}
-use Rattle.asset_bundles.specs.Bundles.{Bundle, unit_keys}
+use Rattle.asset_bundles.specs.Bundles.{Bundle}
 use Rattle.asset_bundles.specs.Books.{AreListed}
 use Rattle.trust_tables.specs.Trust.{listing}
-use Rattle.trap_store.specs.declared.trap.Trap.{Trap}
-use Rattle.trap_store.specs.Traps.{number_after, piece_count, traps_of, pieces_of}
-use Rattle.weight_trader.specs.Purchases.{Line, AreWithinEnd}
-use Rattle.weight_trader.specs.Refunds.{Closed}
 use Rattle.weight_trader.specs.ListedLaws.{closed_listed}
 use Rattle.xcm_program.specs.declared.instruction.Instruction.{Instruction}
 use Rattle.exec_base.specs.declared.event.Event.{Event}
@@ -25,41 +16,15 @@ use Rattle.exec_run.specs.Machine.{Machine}
 use Rattle.exec_run.specs.Run.{left_after}
 use Rattle.exec_run.specs.Outcome.{owner_of, end_event, end_told, rest_trapped, refund_surplus, refunded_last, finished}
 use Rattle.exec_rules.specs.Instructions.{refusal_of, xcm}
-use Rattle.exec_rules.specs.Readiness.{AreTrapsListed, IsAtRest, IsSteady}
+use Rattle.exec_rules.specs.Readiness.{IsAtRest, IsSteady}
+use Rattle.exec_calls.specs.ListingLaws.{trapped_listed, closed_within}
 
 -- ---- what is trapped is listed
-cut : (p : Unit → Bool) (n : ℕ) (xs : List (Unit × ℕ)) → sum_where p (take n xs) + sum_where p (drop n xs) ≡ sum_where p xs
-cut p zero [] = omega arith
-cut p zero (r ∷ xs) = omega arith
-cut p (suc n) [] = omega arith
-cut p (suc n) (r ∷ xs) = let rest = cut p n xs in omega (arith, rest)
-
-abbrev AreUnitsListed : List Listed → List (Unit × ℕ) → Type 0
-AreUnitsListed listed es = (u : Unit) → 0 < sum_where (eq_by_cmp unit_cmp u) es → IsTrue (lists listed (listed_of u))
-
-piece_listed : (listed : List Listed) (es : List (Unit × ℕ)) → AreUnitsListed listed es → AreListed listed (from_rows es)
-piece_listed listed es all u some = all u (subst (λ (n : ℕ). 0 < n) (amount-from_rows unit_keys es u) some)
-
-pieces_listed : (listed : List Listed) (count number : ℕ) (origin : Location) (es : List (Unit × ℕ)) → AreUnitsListed listed es → AreTrapsListed listed (traps_of count number origin es)
-pieces_listed listed zero number origin es all = tt
-pieces_listed listed (suc count) number origin es all = (
-  piece_listed listed (take 20 es) (λ u some. all u (let parts = cut (eq_by_cmp unit_cmp u) 20 es in omega (arith, parts, some))),
-  pieces_listed listed count (number_after number) origin (drop 20 es) (λ u some. all u (let parts = cut (eq_by_cmp unit_cmp u) 20 es in omega (arith, parts, some))),
-)
-
-goods_listed : (listed : List Listed) (goods : Bundle) → AreListed listed goods → AreUnitsListed listed (rows goods)
-goods_listed listed goods all u some = all u (subst (λ (n : ℕ). 0 < n) (sym (amount-rows unit_keys goods u)) some)
-
-both_listed : (listed : List Listed) (xs ys : List Trap) → AreTrapsListed listed xs → AreTrapsListed listed ys → AreTrapsListed listed (xs ++ ys)
-both_listed listed [] ys all more = more
-both_listed listed (t ∷ xs) ys all more = (all.0, both_listed listed xs ys all.1 more)
-
 trapped_rests : (p : ChainPart) (goods : Bundle) (origin : Location) → IsAtRest p → AreListed (listing p.rows) goods → IsAtRest (trapped p goods origin)
 unfolding trapped
 trapped_rests p goods origin rest all = record {
   order = record {
-    traps = both_listed (listing p.rows) p.traps.traps (pieces_of p.traps.next origin goods) rest.order.traps
-        (pieces_listed (listing p.rows) (piece_count (length (rows goods))) p.traps.next origin (rows goods) (goods_listed (listing p.rows) goods all));
+    traps = trapped_listed (listing p.rows) p goods origin rest.order.traps all;
     rates = rest.order.rates;
     paid = rest.order.paid;
     unparked = rest.order.unparked;
@@ -75,10 +40,6 @@ told_rests p e rest = record { order = record { traps = rest.order.traps; rates 
 told_rows : (p : ChainPart) (e : Event) → (told p e).rows ≡ p.rows
 unfolding told
 told_rows p e = refl
-
-closed_within : (lines : List Line) → AreWithinEnd (Closed lines)
-closed_within [] = tt
-closed_within (line ∷ lines) = (omega arith, closed_within lines)
 
 settled_rests : (p : ChainPart) → IsAtRest p → IsAtRest (settled p)
 unfolding settled

@@ -23,7 +23,7 @@ ghost use Rattle.exec_admission.specs.declared.admission.Admitted.{Admitted};
 ghost use Rattle.exec_admission.specs.Admission.{admitted, IsWeighed};
 ghost use Rattle.exec_admission.specs.Execution.{first_stage, last_machine, executed};
 
-use exec_rules::{law_of_readiness, law_of_rules};
+use exec_calls::{law_of_readiness, law_of_rules};
 use exec_run::law_of_runs;
 
 /// What is admitted weighs what is said; its run begins balanced with that weight, so wherever it comes the surplus is at most the weight,

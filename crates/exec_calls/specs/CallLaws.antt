@@ -1,7 +1,7 @@
 -- Lemmas that proofs cite, in this crate and above it: an instruction refuses what its calls refuse, and leaves what they leave. A reader of
 -- the contracts may skip this file.
 use Rattle.std.proofs.Common.{◌≡◌, ℕ, Bool, true, false, List, [], ◌∷◌, ◌++◌, Option, Some, None, refl, sym, ap, ◌∙◌}
-use Rattle.std.specs.Prelude.{if◌then◌else◌, nat_le, is_some, not, length}
+use Rattle.std.specs.Prelude.{if◌then◌else◌, nat_le, is_some, length}
 use Rattle.locations.specs.declared.grammar.Junction.{Junction}
 use Rattle.locations.specs.declared.relative.Location.{Location}
 use Rattle.message_parts.specs.declared.error.XcmError.{XcmError}
@@ -23,16 +23,16 @@ use Rattle.xcm_program.specs.declared.instruction.Instruction.TheOpen.{Instructi
 use Rattle.exec_base.specs.declared.registers.Registers.{Registers}
 use Rattle.exec_base.specs.Part.{ChainPart}
 use Rattle.exec_base.specs.Sending.{unless, or_else, channel_to}
-use Rattle.exec_base.specs.Host.{transfer_out_refusal, transferred_out, deposit_out_refusal, deposited_out, ship_refusal, shipped, querier_seen, fee_to, fee_held, receive_refusal, received, joined, refund_goods}
+use Rattle.exec_base.specs.Host.{querier_seen, fee_to, fee_held, receive_refusal, joined, refund_goods}
 use Rattle.exec_run.specs.Machine.{Machine, machine}
-use Rattle.exec_rules.specs.Holdings.{with_origin, at_origin, with_holding, holding_paid, payment_of, with_room, has_room, holding_more, taken_of, holding_left, buying_refusal, buying_done, not_refunded, refund_now, refund_refusal, refund_done}
+use Rattle.exec_rules.specs.Holdings.{with_origin, at_origin, with_holding, holding_paid, payment_of, with_room, has_room, holding_more, holding_left, buying_refusal, buying_done, not_refunded, refund_now, refund_refusal, refund_done}
 use Rattle.exec_rules.specs.Fees.{fee_refusal, after_fee, keeping_fee, refused_around, done_around}
 use Rattle.exec_rules.specs.Reports.{report_refused, report_done, pallets_of, reported_list, too_many_refused, holding_report_refused, holding_report_done}
-use Rattle.exec_rules.specs.Origins.{is_original, fits_below, descended, is_own_network}
+use Rattle.exec_rules.specs.Origins.{is_original, fits_below, descended}
 use Rattle.exec_rules.specs.Programs.{with_registers}
 use Rattle.exec_rules.specs.Expectations.{pallet_refusal, pallet_at}
 use Rattle.exec_rules.specs.Instructions.{refused, done}
-use Rattle.exec_calls.specs.Calls.{room, size_tests, refund_noted, below_origin, MachineWithGoods, between, here, MachineCall, why_not, after, effect, after_all, refusal_along, never, for_origin, charge, around, buying, refunding, report, holding_report, pallet_tests, calls, turned, turned_at, through}
+use Rattle.exec_calls.specs.Calls.{room, size_tests, refund_noted, below_origin, MachineWithGoods, between, MachineCall, why_not, after, effect, after_all, refusal_along, never, for_origin, charge, around, buying, refunding, report, holding_report, pallet_tests, calls, through}
 use Rattle.exec_calls.specs.Footprints.{part_is}
 
 -- ---- refusals

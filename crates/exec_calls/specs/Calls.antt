@@ -7,7 +7,7 @@
 --   after       what it leaves. It is written field by field: what isn't named stays
 --   calls       those of an instruction, in order; the first refusal is the instruction's
 --   turned      what the instruction does to the other registers, at its end
-use Rattle.std.specs.Prelude.{◌≡◌, ⊤, ℕ, ◌||◌, ◌&&◌, nat_le, not, is_some, Bool, true, false, IsTrue, if◌then◌else◌, length, List, [], ◌∷◌, ◌++◌, Option, Some, None}
+use Rattle.std.specs.Prelude.{ℕ, ◌||◌, nat_le, not, is_some, Bool, true, false, if◌then◌else◌, length, List, [], ◌∷◌, ◌++◌, Option, Some, None}
 use Rattle.amounts.specs.Amounts.{empty, difference}
 use Rattle.locations.specs.declared.grammar.Junction.{Junction}
 use Rattle.locations.specs.declared.relative.Location.{Location}

@@ -4,3 +4,4 @@ pub mod Footprints
 pub mod CallLaws
 pub mod ReasonLaws
 pub mod StopLaws
+pub mod ListingLaws

@@ -5,6 +5,7 @@ use Rattle.amounts.specs.Amounts.{IsWithin}
 use Rattle.amounts.specs.Laws.{amount-difference}
 use Rattle.std.specs.List.{AllByRecursion}
 use Rattle.std.specs.Prelude.{if◌then◌else◌, nat_le, length}
+use Rattle.locations.specs.declared.grammar.Junction.{Junction}
 use Rattle.locations.specs.declared.relative.Location.{Location}
 use Rattle.message_parts.specs.declared.error.XcmError.{XcmError}
 use Rattle.message_parts.specs.declared.pallet.PalletInfo.{PalletInfo}
@@ -29,9 +30,9 @@ use Rattle.exec_rules.specs.Fees.{after_fee}
 use Rattle.exec_rules.specs.Reports.{reported_list}
 use Rattle.exec_rules.specs.Expectations.{pallet_at}
 use Rattle.exec_rules.specs.Instructions.{refused, done}
-use Rattle.exec_calls.specs.Calls.{MachineWithGoods, between, MachineCall, why_not, after, after_all, refusal_along, size_tests, for_origin, charge, around, buying, refunding, report, holding_report, pallet_tests, calls, turned_at}
+use Rattle.exec_calls.specs.Calls.{MachineWithGoods, between, MachineCall, why_not, after, after_all, refusal_along, size_tests, for_origin, charge, around, buying, refunding, report, holding_report, pallet_tests, calls, refund_noted, below_origin, turned, turned_at}
 use Rattle.exec_calls.specs.CallLaws.{charge_after, refused_is, done_is}
-use Rattle.exec_calls.specs.Reasons.{IsFrom, destination, IsFee, IsReport, Moment, HasReason, HaveReasons, ComesBeforeStop, IsLedTo}
+use Rattle.exec_calls.specs.Reasons.{IsFrom, Turns, destination, IsFee, IsReport, Moment, HasReason, HaveReasons, ComesBeforeStop, IsLedTo}
 
 -- ---- no call changes other registers, or what the document says
 pub from_itself : (m : Machine) → IsFrom m (between m)
@@ -46,6 +47,24 @@ from_after (MachineCall.Pay a) m t f = record { regs = other_holding m t.regs _ 
 from_after MachineCall.Join m t f = record { regs = other_holding m t.regs _ f.regs; settings = f.settings }
 from_after MachineCall.Empty m t f = record { regs = other_holding m t.regs _ f.regs; settings = f.settings }
 from_after _ m t f = record { regs = f.regs; settings = f.settings }
+
+-- ---- an instruction's registers
+pub stays_origin : (old new : Registers) → new.holding ≡ old.holding → new.origin ≡ old.origin → Turns old new
+stays_origin old new holding origin = record { holding = holding; origin = inl origin }
+
+refund_turns : (m : Machine) (o : Option (Location × ℕ)) (r : Registers) → Turns r (refund_noted m o r)
+refund_turns m None r = stays_origin r r refl refl
+refund_turns m (Some given) r = stays_origin r _ refl refl
+
+below_turns : (o : Option Location) (path : List Junction) (r : Registers) → r.origin ≡ o → Turns r (below_origin o path r)
+below_turns None path r is = stays_origin r r refl refl
+below_turns (Some who) path r is = record { holding = refl; origin = inr (inr (who, path, is, refl)) }
+
+pub turns : (l : Instruction-F Instruction) (m : Machine) (t : MachineWithGoods) → IsFrom m t → Turns t.regs (turned l m t.regs)
+turns Instruction-F.RefundSurplus m t f = refund_turns m (refund_now m) t.regs
+turns Instruction-F.ClearOrigin m t f = record { holding = refl; origin = inr (inl refl) }
+turns (Instruction-F.DescendOrigin path) m t f = below_turns m.regs.origin path t.regs (ap (λ (r : Registers). r.origin) f.regs)
+turns l m t f = stays_origin t.regs _ refl refl
 
 -- ---- some calls and then others
 pub asked_both : (l : Instruction-F Instruction) (m : Machine) (xs ys : List MachineCall) (t : MachineWithGoods) → HaveReasons l m xs t → HaveReasons l m ys (after_all xs t) → HaveReasons l m (xs ++ ys) t

@@ -3,6 +3,7 @@
 use Rattle.std.specs.List.{AllByRecursion}
 use Rattle.std.specs.Prelude.{◌≡◌, ◌⊎◌, ⊤, Bool, true, false, IsTrue, List, [], ◌∷◌, Option, Some, None}
 use Rattle.amounts.specs.Amounts.{empty, IsWithin}
+use Rattle.locations.specs.declared.grammar.Junction.{Junction}
 use Rattle.locations.specs.declared.relative.Location.{Location}
 use Rattle.message_parts.specs.declared.error.XcmError.{XcmError}
 use Rattle.message_parts.specs.declared.error.XcmError.TheVariants as error
@@ -14,15 +15,26 @@ use Rattle.asset_lists.specs.declared.filters.Filter.{Filter}
 use Rattle.asset_bundles.specs.declared.shipment.Way.{Way}
 use Rattle.xcm_program.specs.declared.instruction.Instruction.{Instruction}
 use Rattle.xcm_program.specs.declared.instruction.Instruction.TheOpen.{Instruction-F}
+use Rattle.exec_base.specs.declared.registers.Registers.{Registers}
 use Rattle.exec_base.specs.Host.{fee_to}
 use Rattle.exec_run.specs.Machine.{Machine}
 use Rattle.exec_rules.specs.Holdings.{with_holding, payment_of, not_refunded}
+use Rattle.exec_rules.specs.Origins.{descended}
 use Rattle.exec_calls.specs.Calls.{MachineWithGoods, between, MachineCall, after, after_all, refusal_along}
 
 -- what no call of an instruction changes: the registers, but for the holding, and what the network document says of the chain
 pub record IsFrom (m : Machine) (t : MachineWithGoods) : Type 0 where
   pub regs : t.regs ≡ with_holding m.regs t.regs.holding
   pub settings : t.part.settings ≡ m.part.settings
+
+-- the origin register stays, is emptied, or goes to a location below the one that it holds
+abbrev pub TurnsOrigin : Option Location → Option Location → Type 0
+TurnsOrigin old new = (new ≡ old) ⊎ (new ≡ None) ⊎ ((who : Location) × (path : List Junction) × (old ≡ Some who) × (new ≡ Some (descended who path)))
+
+-- other registers; the holding stays
+pub record Turns (old new : Registers) : Type 0 where
+  pub holding : new.holding ≡ old.holding
+  pub origin : TurnsOrigin old.origin new.origin
 
 -- the errors that an instruction answers by a test of its own, and not by a call of the host
 abbrev pub is_test_error : XcmError → Bool

@@ -48,6 +48,18 @@ held_none : (ok : Bool) (e : XcmError) → ok ≡ true → unless ok e None ≡ 
 held_none true e h = refl
 held_none false e h = absurd cc
 
+-- a fee parks nothing
+pub charge_parks : (m : Machine) (fee : Asset) → (after_fee m fee).part.parked ≡ m.part.parked
+charge_parks m fee = sym (ap (λ (t : MachineWithGoods). t.part.parked) (charge_after m fee)) ∙ by_mode m.regs.fees_mode
+  where
+    by_account : (o : Option Location) → (after_all (for_origin o (λ who. MachineCall.Draw fee who ∷ MachineCall.HoldFee ∷ [])) (between m)).part.parked ≡ m.part.parked
+    by_account None = refl
+    by_account (Some who) = refl
+
+    by_mode : (b : Bool) → (after_all (if b then for_origin m.regs.origin (λ who. MachineCall.Draw fee who ∷ MachineCall.HoldFee ∷ []) else MachineCall.Pay fee ∷ MachineCall.HoldFee ∷ []) (between m)).part.parked ≡ m.part.parked
+    by_mode true = by_account m.regs.origin
+    by_mode false = refl
+
 module _ (l : Instruction-F Instruction) (m : Machine) where
   lead_as : (t : MachineWithGoods) (now k : Machine) → now ≡ k → IsLedFrom l m t k → IsLedFrom l m t now
   lead_as t now k e led = record { made = led.made; asked = led.asked; early = led.early; free = led.free; there = ap (λ (x : Machine). between x) e ∙ led.there }
@@ -105,17 +117,6 @@ module _ (l : Instruction-F Instruction) (m : Machine) where
     there = sym (parked_is k.regs (after MachineCall.TakeFee (between k)).part (fee_taken k.part) k.part.fee_slot (part_is MachineCall.TakeFee (between k)));
   }
 
-  charge_parks : (fee : Asset) → (after_fee m fee).part.parked ≡ m.part.parked
-  charge_parks fee = sym (ap (λ (t : MachineWithGoods). t.part.parked) (charge_after m fee)) ∙ by_mode m.regs.fees_mode
-    where
-      by_account : (o : Option Location) → (after_all (for_origin o (λ who. MachineCall.Draw fee who ∷ MachineCall.HoldFee ∷ [])) (between m)).part.parked ≡ m.part.parked
-      by_account None = refl
-      by_account (Some who) = refl
-
-      by_mode : (b : Bool) → (after_all (if b then for_origin m.regs.origin (λ who. MachineCall.Draw fee who ∷ MachineCall.HoldFee ∷ []) else MachineCall.Pay fee ∷ MachineCall.HoldFee ∷ []) (between m)).part.parked ≡ m.part.parked
-      by_mode true = by_account m.regs.origin
-      by_mode false = refl
-
   around_stops : (dest : Location) (o : Option Asset) (inside : Machine → Machine → Type 0) (now : Machine) → destination l ≡ Some dest → fee_to m.part dest ≡ o
       → ((k : Machine) → k.part.parked ≡ m.part.parked → inside k now → IsLedFrom l m (between k) now) → StopsAround o m inside now → IsLedTo l m now
   around_stops dest None inside now goes is led stops = led m refl stops
@@ -124,7 +125,7 @@ module _ (l : Instruction-F Instruction) (m : Machine) where
       let first : IsLedFrom l m (between n) now → IsLedTo l m now = lead_before (charge m fee) (between m) (between n) now (charge_asked l m fee (dest, goes, is)) (charge_early l m fee) (sym (charge_refused m fee) ∙ stops.0) (charge_after m fee) in
       first (⊎_elim (λ (e : now ≡ n). lead_as (between n) now n e (lead_nowhere n))
       (λ (e : inside n now ⊎ (now ≡ fee_parked n)).
-      ⊎_elim (λ (i : inside n now). led n (charge_parks fee) i) (λ (i : now ≡ fee_parked n). lead_as (between n) now (fee_parked n) i (fee_aside n (charge_parks fee))) e) stops.1)
+      ⊎_elim (λ (i : inside n now). led n (charge_parks m fee) i) (λ (i : now ≡ fee_parked n). lead_as (between n) now (fee_parked n) i (fee_aside n (charge_parks m fee))) e) stops.1)
 
 -- ---- purchases
 buying_stops : (m : Machine) (fees : Asset) (limit : WeightLimit) (now : Machine) → BuyingStops m fees limit now → IsLedTo (Instruction-F.BuyExecution fees limit) m now

@@ -1,12 +1,23 @@
-//! What instructions ask of their chain: laws, as the contracts of functions that do nothing.
-ghost use Rattle.std.specs.Prelude.{◌≡◌};
+//! What instructions ask of their chain, and what holds of all of them: laws, as the contracts of functions that do nothing.
+ghost use Rattle.std.specs.Prelude.{◌≡◌, ℕ, List, Some, None};
+ghost use Rattle.std.specs.List.{AllByRecursion};
+ghost use Rattle.message_parts.specs.declared.weight.Weight.{Weight};
+ghost use Rattle.message_parts.specs.declared.error.XcmError.{XcmError};
 ghost use Rattle.xcm_program.specs.declared.instruction.Instruction.{Instruction};
 ghost use Rattle.xcm_program.specs.declared.instruction.Instruction.TheOpen.{Instruction-F};
-ghost use Rattle.exec_run.specs.Machine.{Machine};
-ghost use Rattle.exec_rules.specs.Instructions.{refused, done};
+ghost use Rattle.exec_base.specs.Sending.{IsForwardable};
+ghost use Rattle.exec_base.specs.declared.event.Part.{Part};
+ghost use Rattle.exec_run.specs.Machine.{Machine, IsOrderly};
+ghost use Rattle.exec_run.specs.Run.{Stage, At, next, machine_of, Reaches};
+ghost use Rattle.exec_run.specs.Accounts.{IsBalanced};
+ghost use Rattle.exec_run.specs.Keeping.{LeavesAll, IsAheadOf};
+ghost use Rattle.exec_rules.specs.Instructions.{refused, done, refusal_of, xcm};
+ghost use Rattle.exec_rules.specs.Readiness.{IsSteady, IsSound, IsReady};
 ghost use Rattle.exec_rules.specs.Stopping.{Spilled};
 ghost use Rattle.exec_calls.specs.Calls.{between, refusal_along, calls, through};
 ghost use Rattle.exec_calls.specs.Reasons.{HaveReasons, IsLedTo};
+
+use exec_run::law_of_runs;
 
 /// An instruction is refused by the first of its calls that is refused, and else leaves what they leave, with the registers that it changes. Each
 /// call has its reason, and where memory stops an instruction, accepted calls that change nothing else yet have led there.
@@ -15,4 +26,24 @@ pub fn law_of_calls()
     ensures done { (l : Instruction-F Instruction) (m : Machine) → between (done l m) ≡ through l m }
     ensures asked { (l : Instruction-F Instruction) (m : Machine) → HaveReasons l m (calls l m) (between m) }
     ensures stopped { (l : Instruction-F Instruction) (m now : Machine) → Spilled l m now → IsLedTo l m now }
+{}
+
+/// The instructions steer a run only as they may, so the laws of runs hold of it; and a refused instruction leaves accounts, queues,
+/// traps, burns, checking accounts and the holding as they were.
+pub fn law_of_rules()
+    ensures steers { IsOrderly xcm }
+    ensures refused { (part : Part) (place : ℕ) (x : Instruction) (behind : List Instruction) (m : Machine) (e : XcmError)
+        → refusal_of x m ≡ Some e → LeavesAll m (machine_of (next xcm (At part place x behind m))) }
+{
+    law_of_runs();
+}
+
+/// Each instruction leaves a steady machine steady, so a run that begins so stays so; and where its instructions are sound it is ready for
+/// whichever comes next. A program that may be sent is made of sound instructions.
+pub fn law_of_readiness()
+    ensures done { (x : Instruction) (m : Machine) → IsSteady m → refusal_of x m ≡ None → IsSteady (xcm.done x m) }
+    ensures reached { (most : Weight) (g h : Stage) → IsBalanced most g → Reaches xcm g h → IsSteady (machine_of g) → IsSteady (machine_of h) }
+    ensures sound { (program : List Instruction) → IsForwardable program → AllByRecursion IsSound program }
+    ensures ready { (most : Weight) (g : Stage) (part : Part) (place : ℕ) (x : Instruction) (behind : List Instruction) (m : Machine)
+        → IsBalanced most g → IsAheadOf IsSound g → IsSteady (machine_of g) → Reaches xcm g (At part place x behind m) → IsReady x m }
 {}

@@ -3,4 +3,4 @@
 
 mod laws;
 
-pub use laws::law_of_calls;
+pub use laws::{law_of_calls, law_of_readiness, law_of_rules};

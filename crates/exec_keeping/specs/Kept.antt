@@ -1,26 +1,14 @@
 -- What every execution keeps: a fact that each call keeps, and each change of the other registers. This project's own vocabulary.
-use Rattle.std.specs.Prelude.{◌≡◌, ◌⊎◌, Bool, true, List, Option, Some, None}
+use Rattle.std.specs.Prelude.{◌≡◌, None}
 use Rattle.amounts.specs.Amounts.{empty}
-use Rattle.locations.specs.declared.grammar.Junction.{Junction}
-use Rattle.locations.specs.declared.relative.Location.{Location}
 use Rattle.xcm_program.specs.declared.instruction.Instruction.{Instruction, out-Instruction}
 use Rattle.xcm_program.specs.declared.instruction.Instruction.TheOpen.{Instruction-F}
 use Rattle.exec_base.specs.declared.registers.Registers.{Registers}
 use Rattle.exec_base.specs.Part.{ChainPart}
 use Rattle.exec_run.specs.Machine.{Machine, machine}
 use Rattle.exec_run.specs.Outcome.{refund_surplus}
-use Rattle.exec_rules.specs.Origins.{descended}
 use Rattle.exec_calls.specs.Calls.{MachineWithGoods, between, MachineCall, why_not, after}
-use Rattle.exec_calls.specs.Reasons.{IsFrom, Moment, HasReason, ComesAtEnd}
-
--- the origin register stays, is emptied, or goes to a location below the one that it holds
-abbrev pub TurnsOrigin : Option Location → Option Location → Type 0
-TurnsOrigin old new = (new ≡ old) ⊎ (new ≡ None) ⊎ ((who : Location) × (path : List Junction) × (old ≡ Some who) × (new ≡ Some (descended who path)))
-
--- other registers; the holding stays
-pub record Turns (old new : Registers) : Type 0 where
-  pub holding : new.holding ≡ old.holding
-  pub origin : TurnsOrigin old.origin new.origin
+use Rattle.exec_calls.specs.Reasons.{IsFrom, Turns, Moment, HasReason, ComesAtEnd}
 
 -- a fact that the end of a run keeps, also where memory is refused there: the last refund, the line that tells of it, settlement, and what is
 -- held is trapped or parked

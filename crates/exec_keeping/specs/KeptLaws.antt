@@ -1,6 +1,6 @@
 -- Lemmas that proofs cite, in this crate and above it: a fact that each call keeps, instructions, runs and executions keep, also where memory
 -- is refused. A reader of the contracts may skip this file.
-use Rattle.std.proofs.Common.{◌≡◌, ◌⊎◌, ℕ, zero, suc, ◌+◌, Bool, true, false, List, [], ◌∷◌, Option, Some, None, Result, Ok, Err, ⊎_elim, inl, inr, refl, sym, ap, ◌∙◌, subst, arith}
+use Rattle.std.proofs.Common.{◌≡◌, ◌⊎◌, ℕ, zero, suc, ◌+◌, Bool, true, false, List, [], ◌∷◌, Option, Some, None, Result, Ok, Err, ⊎_elim, refl, sym, ap, ◌∙◌, subst, arith}
 use Rattle.std.specs.Prelude.{⊤, if◌then◌else◌, nat_eq, length}
 use Rattle.std.specs.List.{AllByRecursion}
 use Rattle.std.specs.Ordering.{eq_by_cmp}
@@ -10,7 +10,6 @@ use Rattle.amounts.specs.Rows.{sum_where}
 use Rattle.amounts.specs.Laws.{amount-rows}
 use Rattle.asset_lists.specs.Units.{unit_cmp}
 use Rattle.asset_bundles.specs.Bundles.{Bundle, unit_keys}
-use Rattle.locations.specs.declared.grammar.Junction.{Junction}
 use Rattle.locations.specs.declared.relative.Location.{Location}
 use Rattle.message_parts.specs.declared.error.XcmError.{XcmError}
 use Rattle.message_parts.specs.declared.weight.Weight.{Weight}
@@ -37,30 +36,12 @@ use Rattle.exec_admission.specs.declared.rules.ChainRules.{ChainRules}
 use Rattle.exec_admission.specs.declared.admission.Admitted.{Admitted}
 use Rattle.exec_admission.specs.Admission.{admitted}
 use Rattle.exec_admission.specs.Execution.{first_machine, first_stage, last_machine, executed_by, executed, AbandonedIn, IsAbandoned}
-use Rattle.exec_calls.specs.Calls.{MachineWithGoods, between, here, MachineCall, why_not, after, refund_noted, below_origin, turned, turned_at}
+use Rattle.exec_calls.specs.Calls.{MachineWithGoods, between, MachineCall, why_not, after, refund_noted, turned, turned_at}
 use Rattle.exec_calls.specs.Footprints.{part_is}
 use Rattle.exec_calls.specs.Reasons.{IsFrom, IsFee, Moment, HasReason, ComesAtEnd}
-use Rattle.exec_calls.specs.ReasonLaws.{from_itself, done_keeps, lead_keeps}
+use Rattle.exec_calls.specs.ReasonLaws.{stays_origin, turns, from_itself, done_keeps, lead_keeps}
 use Rattle.exec_calls.specs.StopLaws.{spilled_lead}
-use Rattle.exec_keeping.specs.Kept.{Turns, IsKeptAtEnd, IsKeptByCalls, Ends}
-
--- ---- an instruction's registers
-pub stays_origin : (old new : Registers) → new.holding ≡ old.holding → new.origin ≡ old.origin → Turns old new
-stays_origin old new holding origin = record { holding = holding; origin = inl origin }
-
-refund_turns : (m : Machine) (o : Option (Location × ℕ)) (r : Registers) → Turns r (refund_noted m o r)
-refund_turns m None r = stays_origin r r refl refl
-refund_turns m (Some given) r = stays_origin r _ refl refl
-
-below_turns : (o : Option Location) (path : List Junction) (r : Registers) → r.origin ≡ o → Turns r (below_origin o path r)
-below_turns None path r is = stays_origin r r refl refl
-below_turns (Some who) path r is = record { holding = refl; origin = inr (inr (who, path, is, refl)) }
-
-pub turns : (l : Instruction-F Instruction) (m : Machine) (t : MachineWithGoods) → IsFrom m t → Turns t.regs (turned l m t.regs)
-turns Instruction-F.RefundSurplus m t f = refund_turns m (refund_now m) t.regs
-turns Instruction-F.ClearOrigin m t f = record { holding = refl; origin = inr (inl refl) }
-turns (Instruction-F.DescendOrigin path) m t f = below_turns m.regs.origin path t.regs (ap (λ (r : Registers). r.origin) f.regs)
-turns l m t f = stays_origin t.regs _ refl refl
+use Rattle.exec_keeping.specs.Kept.{IsKeptAtEnd, IsKeptByCalls, Ends}
 
 -- ---- the end of a run
 refund_layer : out-Instruction refund_surplus ≡ Instruction-F.RefundSurplus

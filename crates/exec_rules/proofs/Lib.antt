@@ -1,5 +1,1 @@
-mod Steering
 mod Origins
-mod Steady
-mod SteadyDone
-mod Sound

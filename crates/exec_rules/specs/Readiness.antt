@@ -30,11 +30,6 @@ pub record IsAtRest (p : ChainPart) : Type 0 where
   pub order : IsInOrder p
   pub slot : p.fee_slot ≡ empty
 
--- inside an instruction: what is held is listed too
-pub record IsCalm (m : Machine) : Type 0 where
-  pub order : IsInOrder m.part
-  pub holding : AreListed (listing m.part.rows) m.regs.holding
-
 -- before and after each instruction
 pub record IsSteady (m : Machine) : Type 0 where
   pub rest : IsAtRest m.part

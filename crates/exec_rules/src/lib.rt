@@ -3,4 +3,4 @@
 
 mod laws;
 
-pub use laws::{law_of_origins, law_of_readiness, law_of_rules};
+pub use laws::law_of_origins;

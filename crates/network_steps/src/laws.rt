@@ -12,7 +12,7 @@ ghost use Rattle.network_steps.specs.Fixed.{all_settings};
 ghost use Rattle.network_steps.specs.Still.{IsStill};
 ghost use Rattle.network_steps.specs.Drains.{AreApart};
 
-use exec_rules::law_of_rules;
+use exec_calls::law_of_rules;
 use program_wire::law_of_writable;
 use versioned_xcm::law_of_messages;
 

@@ -11,7 +11,7 @@ ghost use Rattle.xcm_executor.specs.Running.{wound_up, HaltedBefore};
 use asset_bundles::AssetBundle;
 use exec_assets::refund_surplus;
 use exec_base::{Event, Host, Registers};
-use exec_rules::law_of_readiness;
+use exec_calls::law_of_readiness;
 use locations::Location;
 use message_parts::Weight;
 use std::alloc::AllocError;

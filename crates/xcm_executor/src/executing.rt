@@ -12,7 +12,7 @@ use crate::weights::NOTHING;
 use asset_bundles::AssetBundle;
 use exec_admission::{Admitted, ChainRules, admit, law_of_admission};
 use exec_base::{Host, Registers};
-use exec_rules::{law_of_readiness, law_of_rules};
+use exec_calls::{law_of_readiness, law_of_rules};
 use locations::Location;
 use message_parts::{MaybeError, Weight};
 use std::alloc::{AllocError, Global};

@@ -8,7 +8,7 @@ ghost use Rattle.xcm_executor.specs.Running.{IsRunnable};
 
 use crate::taking::take_program;
 use exec_base::{Host, Part, Registers};
-use exec_rules::law_of_rules;
+use exec_calls::law_of_rules;
 use std::alloc::{AllocError, Global};
 use xcm_program::Program;
 

@@ -10,7 +10,7 @@ ghost use Rattle.xcm_executor.specs.Running.{IsRunnable};
 use crate::performing::perform;
 use crate::weights::{NOTHING, added, weigh_behind};
 use exec_base::{Event, Host, Part, Registers};
-use exec_rules::law_of_rules;
+use exec_calls::law_of_rules;
 use message_parts::{Weight, XcmError};
 use plain_lists::Listed;
 use std::alloc::{AllocError, Global};

@@ -23,8 +23,8 @@ use Rattle.exec_run.specs.RunLaws.{reached_balanced}
 use Rattle.exec_run.specs.KeepingLaws.{reached_hold, reached_keeps}
 use Rattle.exec_rules.specs.Instructions.{xcm}
 use Rattle.exec_rules.specs.Readiness.{IsSteady, IsSound, IsReady}
-use Rattle.exec_rules.proofs.Steering.{xcm_steers}
-use Rattle.exec_rules.proofs.SteadyDone.{steady_after, registers_steady}
+use Rattle.exec_calls.proofs.Steering.{xcm_steers}
+use Rattle.exec_calls.proofs.Steady.{steady_after, registers_steady}
 
 -- ---- sound instructions
 first_true : (a b : Bool) → (a && b) ≡ true → a ≡ true

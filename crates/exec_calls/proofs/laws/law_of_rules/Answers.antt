@@ -1,6 +1,6 @@
 use Rattle.exec_rules.specs.Instructions.{xcm}
-use Rattle.exec_rules.proofs.Steering.{xcm_steers}
-use Rattle.exec_rules.proofs.laws.law_of_rules.Goals as goal
+use Rattle.exec_calls.proofs.Steering.{xcm_steers}
+use Rattle.exec_calls.proofs.laws.law_of_rules.Goals as goal
 
 pub returns-clause-steers : goal.returns-clause-steers
 returns-clause-steers c = xcm_steers

@@ -1,6 +1,6 @@
-use Rattle.exec_rules.proofs.SteadyDone.{steady_after}
-use Rattle.exec_rules.proofs.Sound.{reached_steady, sound_all, reached_ready}
-use Rattle.exec_rules.proofs.laws.law_of_readiness.Goals as goal
+use Rattle.exec_calls.proofs.Steady.{steady_after}
+use Rattle.exec_calls.proofs.Sound.{reached_steady, sound_all, reached_ready}
+use Rattle.exec_calls.proofs.laws.law_of_readiness.Goals as goal
 
 pub returns-clause-done : goal.returns-clause-done
 returns-clause-done c = steady_after

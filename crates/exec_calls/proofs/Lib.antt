@@ -1,0 +1,3 @@
+mod Steering
+mod Steady
+mod Sound

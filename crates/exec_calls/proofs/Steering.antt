@@ -1,0 +1,50 @@
+-- The instructions change the registers by which a run is steered only as they may.
+use Rattle.std.proofs.Common.{◌≡◌, ◌⊎◌, inl, inr, ℕ, List, Option, Some, None, refl, sym, ap, ◌∙◌, subst}
+use Rattle.locations.specs.declared.grammar.Junction.{Junction}
+use Rattle.locations.specs.declared.relative.Location.{Location}
+use Rattle.message_parts.specs.declared.error.XcmError.{XcmError}
+use Rattle.asset_bundles.specs.Bundles.{Bundle}
+use Rattle.xcm_program.specs.declared.instruction.Instruction.{Instruction, out-Instruction}
+use Rattle.xcm_program.specs.declared.instruction.Instruction.TheOpen.{Instruction-F}
+use Rattle.exec_base.specs.declared.registers.Registers.{Registers}
+use Rattle.exec_run.specs.Machine.{Machine, Control, control_of, Steers, IsOrderly}
+use Rattle.exec_rules.specs.Holdings.{with_origin, with_holding, refund_now}
+use Rattle.exec_rules.specs.Instructions.{refused, done, xcm}
+use Rattle.exec_calls.specs.Calls.{MachineWithGoods, between, after_all, calls, refund_noted, below_origin, turned}
+use Rattle.exec_calls.specs.CallLaws.{done_is}
+use Rattle.exec_calls.specs.ReasonLaws.{from_itself, from_all}
+
+refund_steers : (m : Machine) (o : Option (Location × ℕ)) (r : Registers) → control_of r ≡ control_of m.regs
+    → (control_of (refund_noted m o r) ≡ control_of m.regs) ⊎ (control_of (refund_noted m o r) ≡ record (control_of m.regs) { refunded = m.regs.surplus })
+refund_steers m None r same = inl same
+refund_steers m (Some given) r same = inr (ap (λ (c : Control). record c { refunded = m.regs.surplus }) same)
+
+below_steers : (o : Option Location) (path : List Junction) (r : Registers) → control_of (below_origin o path r) ≡ control_of r
+below_steers None path r = refl
+below_steers (Some who) path r = refl
+
+-- what is refused in any case isn't done
+never_done : (o : Option Location) (e : XcmError) → with_origin o (λ who. Some e) ≡ None → ⊥
+never_done None e h = absurd cc
+never_done (Some who) e h = absurd cc
+
+-- whatever is held at its end
+turned_steers : (l : Instruction-F Instruction) (m : Machine) (held : Bundle) → refused l m ≡ None
+    → Steers (λ p. p) l (control_of m.regs) (control_of (turned l m (with_holding m.regs held)))
+turned_steers Instruction-F.RefundSurplus m held ok = refund_steers m (refund_now m) (with_holding m.regs held) refl
+turned_steers (Instruction-F.DescendOrigin path) m held ok = below_steers m.regs.origin path (with_holding m.regs held)
+turned_steers (Instruction-F.Transact kind most call) m held ok = absurd (never_done m.regs.origin _ ok)
+turned_steers _ m held ok = refl
+
+registers_done : (l : Instruction-F Instruction) (m : Machine) → (done l m).regs ≡ turned l m (with_holding m.regs (after_all (calls l m) (between m)).regs.holding)
+registers_done l m =
+    ap (λ (t : MachineWithGoods). t.regs) (done_is l m)
+    ∙ ap (turned l m) (from_all m (calls l m) (between m) (from_itself m)).regs
+
+steered : (l : Instruction-F Instruction) (m : Machine) → refused l m ≡ None → Steers (λ p. p) l (control_of m.regs) (control_of (done l m).regs)
+steered l m ok =
+    subst (λ (r : Registers). Steers (λ p. p) l (control_of m.regs) (control_of r)) (sym (registers_done l m))
+    (turned_steers l m (after_all (calls l m) (between m)).regs.holding ok)
+
+pub xcm_steers : IsOrderly xcm
+xcm_steers x m ok = steered (out-Instruction x) m ok
