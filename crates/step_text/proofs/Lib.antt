@@ -1,8 +1,5 @@
-pub mod AccountLines
-pub mod BalanceRows
 pub mod Balances
 pub mod ChannelLines
 pub mod Checking
 pub mod NamesFit
 pub mod Queued
-pub mod Shown

@@ -4,12 +4,12 @@ use Rattle.std.specs.Option.{option_and_then, option_map_or}
 use Rattle.amounts.specs.Amounts.{rows}
 use Rattle.chain_ids.specs.Chains.{same_chain}
 use Rattle.chain_ids.specs.declared.chain.ChainId.{ChainId}
-use Rattle.asset_lists.specs.declared.units.Asset.{Asset}
 use Rattle.asset_wire.specs.declared.version.Version.{Version}
-use Rattle.asset_bundles.specs.Bundles.{fun_of, held_assets}
+use Rattle.asset_bundles.specs.Bundles.{held_assets}
 use Rattle.trust_tables.specs.declared.rows.AssetRow.{AssetRow}
 use Rattle.trap_store.specs.declared.trap.Trap.{Trap}
 use Rattle.ledgers.specs.Ledgers.{Holder, Held}
+use Rattle.account_holdings.specs.Holdings.{asset_held}
 use Rattle.xcm_format.specs.Messages.{message, version_byte}
 use Rattle.channel_parts.specs.Channels.{Waiting, Outgoing}
 use Rattle.chain_queues.specs.declared.queues.Queued.{Queued}
@@ -18,10 +18,6 @@ use Rattle.exec_base.specs.Part.{ChainPart}
 use Rattle.step_text.specs.Lines.{balance_line, checking_line, trap_line, queue_line}
 
 -- ---- under `balances`
-
--- what an account holds of a unit, as an asset
-abbrev pub asset_held : Holder × ℕ → Asset
-asset_held row = record { id = row.0.1.0; fun = fun_of row.0.1.1 row.1 }
 
 abbrev pub holder_line : ChainId → Holder × ℕ → List ℕ
 holder_line chain row = balance_line chain row.0.0 (asset_held row)

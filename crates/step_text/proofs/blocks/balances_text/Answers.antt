@@ -1,6 +1,7 @@
 use Rattle.std.proofs.Common.{◌∙◌, ap, flat_map}
 use Rattle.step_text.specs.Blocks.{balances_text, holder_line}
-use Rattle.step_text.proofs.Balances.{nothing_shown, lines_next, rows_fewer, whole_shown, next_as, none_as}
+use Rattle.account_holdings.specs.Laws.{rows_fewer, whole_shown, next_as, none_as}
+use Rattle.step_text.proofs.Balances.{nothing_shown, lines_next}
 use Rattle.step_text.proofs.blocks.balances_text.Goals as goal
 
 pub loop-who-init : goal.loop-who-init

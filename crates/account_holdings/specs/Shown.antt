@@ -1,4 +1,5 @@
--- The rows of what accounts hold that are shown when all accounts up to one were. This project's own rule.
+-- What proofs that go from account to account speak of; a reader of the contracts may skip this file. The rows of what accounts hold that are
+-- shown when all accounts up to one were.
 use Rattle.std.specs.Prelude.{ℕ, Bool, false, not, List, Option, Some, None, filter}
 use Rattle.std.specs.Ordering.{is_lt}
 use Rattle.ledgers.specs.Ledgers.{Holder, account_cmp, is_account}

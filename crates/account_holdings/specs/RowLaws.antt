@@ -1,3 +1,4 @@
+-- Lemmas that proofs cite. A reader of the definitions may skip this file.
 -- The rows of what all accounts hold, account by account.
 use Rattle.std.proofs.Common.{◌≡◌, ◌∙◌, ℕ, suc, ◌+◌, ◌<◌, ◌≤◌, Bool, true, false, not, cond, List, [], ◌∷◌, ◌++◌, length, Option, Some, None, refl, sym, ap, subst, arith, true≢false}
 use Rattle.std.specs.Ordering.{eq_by_cmp, is_eq, is_lt, ordering_then, ordering_reverse}
@@ -11,7 +12,7 @@ use Rattle.amounts.specs.Rows.{IsPositive, sum_where, amount_if}
 use Rattle.amounts.specs.Laws.{same_key}
 use Rattle.ledgers.specs.Ledgers.{Holder, account_cmp, holder_cmp, is_account, IsAfter}
 use Rattle.ledgers.specs.Laws.{account_keys}
-use Rattle.step_text.proofs.Shown.{is_upto, shown, rows_of_account}
+use Rattle.account_holdings.specs.Shown.{is_upto, shown, rows_of_account}
 
 abbrev Row : Type 0
 Row = Holder × ℕ

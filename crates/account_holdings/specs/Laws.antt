@@ -1,5 +1,5 @@
--- The lines of an account, of what it holds as a bundle and of its rows.
-use Rattle.std.proofs.Common.{◌≡◌, ◌∙◌, ℕ, ◌+◌, Bool, true, false, ◌&&◌, cond, List, [], ◌∷◌, ◌++◌, flat_map, refl, sym, ap, subst, arith, T}
+-- Lemmas that proofs cite. A reader of the definitions may skip this file.
+use Rattle.std.proofs.Common.{◌≡◌, ◌∙◌, ℕ, ◌+◌, ◌-◌, ◌<◌, Bool, true, false, ◌&&◌, cond, List, [], ◌∷◌, ◌++◌, length, length-append, map, Option, Some, refl, sym, ap, subst, arith, T}
 use Rattle.std.specs.Ordering.{eq_by_cmp, is_eq, is_lt, ordering_then}
 use Rattle.std.specs.declared.cmp.Ordering.{Ordering}
 use Rattle.std.specs.declared.cmp.Ordering.TheVariants.{Less, Equal, Greater}
@@ -10,13 +10,13 @@ use Rattle.amounts.specs.Rows.{IsPositive, sum_where, rows_at, amount_if, sum_wh
 use Rattle.amounts.specs.Amounts.{rows, restriction, from_rows, rows_sorted, rows_positive, same_amounts, total-restriction, total-rows}
 use Rattle.amounts.specs.Laws.{key_same, same_key, rows-from_rows, amount-from_rows, amount-map_keys}
 use Rattle.asset_lists.specs.Units.{Unit, unit_cmp}
+use Rattle.asset_lists.specs.declared.units.Asset.{Asset}
 use Rattle.asset_bundles.specs.Bundles.{unit_keys, assets_at, held_assets}
-use Rattle.chain_ids.specs.declared.chain.ChainId.{ChainId}
-use Rattle.ledgers.specs.Ledgers.{Holder, Held, account_cmp, holder_cmp, is_account, account_goods}
+use Rattle.ledgers.specs.Ledgers.{Holder, Held, account_cmp, holder_cmp, is_account, account_goods, holding_of, IsNext, NoneNext}
 use Rattle.ledgers.specs.Laws.{account_keys, holder_keys}
-use Rattle.step_text.specs.Lines.{balance_line}
-use Rattle.step_text.specs.Blocks.{asset_held, holder_line}
-use Rattle.step_text.proofs.Shown.{rows_of_account}
+use Rattle.account_holdings.specs.Holdings.{asset_held, holding_at}
+use Rattle.account_holdings.specs.Shown.{shown, rows_of_account}
+use Rattle.account_holdings.specs.RowLaws.{next_rows, row_holds, all_from, all_shown, none_after, some_rows, shown_most}
 
 abbrev Row : Type 0
 Row = Holder × ℕ
@@ -95,20 +95,54 @@ rows_are who held =
     ap rows (sym (goods_are who held))
     ∙ rows-from_rows unit_keys (units (rows_of_account who (rows held))) (is_T _ (sorted_units who (rows held) (true_of _ (rows_sorted held)))) (positive_units who (rows held) (rows_positive held))
 
--- ---- lines
-abbrev AreLines : ChainId → List ℕ → List Row → Type 0
-AreLines chain who es = flat_map (holder_line chain) (rows_of_account who es) ≡ flat_map (balance_line chain who) (assets_at (units (rows_of_account who es)))
+-- ---- the assets of an account, and of its rows
+abbrev AreHeld : List ℕ → List Row → Type 0
+AreHeld who es = map holding_at (rows_of_account who es) ≡ map (λ (a : Asset). (who, a)) (assets_at (units (rows_of_account who es)))
 
-lines_on : (chain : ChainId) (who : List ℕ) (e : Row) (es : List Row) (c : Bool) → is_account who e.0 ≡ c → AreLines chain who es → AreLines chain who (e ∷ es)
-lines_on chain who e es true k rest =
+held_on : (who : List ℕ) (e : Row) (es : List Row) (c : Bool) → is_account who e.0 ≡ c → AreHeld who es → AreHeld who (e ∷ es)
+held_on who e es true k rest =
     let account : who ≡ e.0.0 = key_same account_keys who e.0.0 k in
-    rw k (ap (λ a. balance_line chain a (asset_held e) ++ flat_map (holder_line chain) (rows_of_account who es)) (sym account) ∙ ap (λ t. balance_line chain who (asset_held e) ++ t) rest)
-lines_on chain who e es false k rest = rw k rest
+    rw k (ap (λ (a : List ℕ). (a, asset_held e) ∷ map holding_at (rows_of_account who es)) (sym account) ∙ ap (λ (t : List (List ℕ × Asset)). (who, asset_held e) ∷ t) rest)
+held_on who e es false k rest = rw k rest
 
-lines_are : (chain : ChainId) (who : List ℕ) (es : List Row) → AreLines chain who es
-lines_are chain who [] = refl
-lines_are chain who (e ∷ es) = lines_on chain who e es (is_account who e.0) refl (lines_are chain who es)
+are_held : (who : List ℕ) (es : List Row) → AreHeld who es
+are_held who [] = refl
+are_held who (e ∷ es) = held_on who e es (is_account who e.0) refl (are_held who es)
 
-pub account_lines : (chain : ChainId) (who : List ℕ) (held : Held) → flat_map (balance_line chain who) (held_assets (account_goods who held)) ≡ flat_map (holder_line chain) (rows_of_account who (rows held))
+pub account_assets : (who : List ℕ) (held : Held) → map (λ (a : Asset). (who, a)) (held_assets (account_goods who held)) ≡ map holding_at (rows_of_account who (rows held))
 unfolding held_assets
-account_lines chain who held = ap (λ rs. flat_map (balance_line chain who) (assets_at rs)) (rows_are who held) ∙ sym (lines_are chain who (rows held))
+account_assets who held = ap (λ rs. map (λ (a : Asset). (who, a)) (assets_at rs)) (rows_are who held) ∙ sym (are_held who (rows held))
+
+-- ---- what an account holds, by the rows
+held_some : (who : List ℕ) (held : Held) → 0 < sum_where (is_account who) (rows held) → 0 < holding_of who held
+held_some who held some = (let same = total-rows (is_account who) held in omega (arith, same, some))
+
+some_held : (who : List ℕ) (held : Held) → 0 < holding_of who held → 0 < sum_where (is_account who) (rows held)
+some_held who held some = (let same = total-rows (is_account who) held in omega (arith, same, some))
+
+-- ---- what is shown when the next account is
+pub shown_next : (after : Option (List ℕ)) (who : List ℕ) (held : Held) → IsNext after held who → shown (Some who) (rows held) ≡ shown after (rows held) ++ rows_of_account who (rows held)
+shown_next after who held n =
+    next_rows after who (rows held) n.later (true_of _ (rows_sorted held))
+    (all_from _ _ (λ r some later before. n.least r.0.0 later (held_some r.0.0 held some) before) (rows held) (row_holds (rows held) (rows_positive held)))
+
+-- fewer rows are left
+pub rows_fewer : (after : Option (List ℕ)) (who : List ℕ) (held : Held) → IsNext after held who
+    → length (rows held) - length (shown (Some who) (rows held)) < length (rows held) - length (shown after (rows held))
+rows_fewer after who held n =
+    let all = ap length (shown_next after who held n) ∙ length-append (shown after (rows held)) (rows_of_account who (rows held)) in
+    let some = some_rows who (rows held) (some_held who held n.holds) in
+    let most = shown_most (Some who) (rows held) in
+    omega (arith, all, some, most)
+
+-- where no account is next, all rows are shown
+pub whole_shown : (after : Option (List ℕ)) (held : Held) → NoneNext after held → shown after (rows held) ≡ rows held
+whole_shown after held none =
+    all_shown after (rows held) (all_from _ _ (λ r some. none_after after r.0.0 (λ later. (let zero = none r.0.0 later in absurd (omega (arith, held_some r.0.0 held some, zero))))) (rows held) (row_holds (rows held) (rows_positive held)))
+
+-- ---- the same for the account as a call was handed it
+pub next_as : (given after : Option (List ℕ)) (held : Held) (who : List ℕ) → given ≡ after → IsNext given held who → IsNext after held who
+next_as given after held who e n = subst (λ a. IsNext a held who) e n
+
+pub none_as : (given after : Option (List ℕ)) (held : Held) → given ≡ after → NoneNext given held → NoneNext after held
+none_as given after held e n = subst (λ a. NoneNext a held) e n
