@@ -150,8 +150,11 @@ impl ChainState {
         }
     }
 
-    /// Places what the document says that accounts hold.
-    fn place_all(&mut self, balances: &[Balance]) -> Result<(), AllocError>
+    /// Makes what accounts hold when the chain opens, where none holds anything yet. Each asset is of
+    /// a row, and an amount above 0 and below 2^127, or an instance; no account has a fungible asset
+    /// twice, and an instance stands there once. An `Err` is out of memory, and then a part of it may
+    /// stand there.
+    pub fn place_all(&mut self, balances: &[Balance]) -> Result<(), AllocError>
         requires empty { (part_of self.old).held ≡ empty }
         requires balances { IsTrue (list_all (is_balance (part_of self.old).rows) balances.now) }
         requires once { IsDistinct same_holding balances.now }

@@ -1,10 +1,13 @@
--- The assets of the rows.
-use Rattle.std.specs.Prelude.{ℕ, List, [], ◌∷◌, nat_eq, if◌then◌else◌}
+-- The assets of the rows, and what stands on the first account.
+use Rattle.std.specs.Prelude.{ℕ, List, [], ◌∷◌, nat_eq, if◌then◌else◌, replicate}
 use Rattle.locations.specs.declared.grammar.Junction.{Junction}
 use Rattle.locations.specs.declared.relative.Location.{Location}
 use Rattle.asset_lists.specs.declared.units.Kind.{Kind}
+use Rattle.asset_lists.specs.declared.units.Fun.{Fun}
+use Rattle.asset_lists.specs.declared.units.Asset.{Asset}
 use Rattle.asset_lists.specs.declared.units.AssetId.TheVariants.{Concrete}
 use Rattle.asset_lists.specs.Listed.{Listed}
+use Rattle.network_spec.specs.declared.chain.Balance.{Balance}
 
 -- the chain itself, or a general index
 abbrev pub place_of : ℕ → Location
@@ -12,3 +15,14 @@ place_of n = record { parents = 0; interior = if nat_eq n 0 then [] else Junctio
 
 abbrev pub listed : List Listed
 listed = (Concrete (place_of 0), Kind.Fungible) ∷ (Concrete (place_of 1), Kind.Fungible) ∷ (Concrete (place_of 2), Kind.Fungible) ∷ []
+
+-- 5 of an asset
+abbrev pub five_of : ℕ → Asset
+five_of n = record { id = Concrete (place_of n); fun = Fun.Fungible 5 }
+
+-- the first account has 5 of each
+abbrev pub first_holding : ℕ → Balance
+first_holding n = record { who = replicate 32 1; asset = five_of n }
+
+abbrev pub balances : List Balance
+balances = first_holding 0 ∷ first_holding 1 ∷ first_holding 2 ∷ []

@@ -1,20 +1,19 @@
 //! A relay chain with three native assets, of each of which an account has 5, and the execution of messages there.
-ghost use Rattle.std.specs.Prelude.{◌≡◌, [], ◌∷◌, true, length, IfOk, OnOk};
-ghost use Rattle.asset_lists.specs.declared.units.Fun.{Fun};
+ghost use Rattle.std.specs.Prelude.{◌≡◌, [], ◌∷◌, true, None, length, map, IfOk, OnOk};
+ghost use Rattle.std.specs.List.{list_all};
 ghost use Rattle.asset_lists.specs.declared.units.Kind.{Kind};
-ghost use Rattle.asset_lists.specs.declared.units.AssetId.TheVariants.{Concrete};
 ghost use Rattle.trust_tables.specs.Chains.{path_of_site};
 ghost use Rattle.trust_tables.specs.Trust.{listing};
-ghost use Rattle.fake_host.specs.Opening.{have_paths};
+ghost use Rattle.network_genesis.specs.Tests.{have_paths, row_checking, is_balance};
+ghost use Rattle.fake_host.specs.Opening.{have_no_checkings, balance_of};
 ghost use Rattle.fake_host.specs.PartOf.{part_of};
 ghost use Rattle.exec_base.specs.Sending.{IsForwardable};
 ghost use Rattle.exec_rules.specs.Readiness.{IsAtRest};
-ghost use Rattle.exec_function_rows.specs.Rows.{place_of, listed};
+ghost use Rattle.exec_function_rows.specs.Rows.{place_of, listed, five_of, balances};
 
 use asset_lists::{Asset, AssetId, Fun, Kind};
 use barriers::Barrier;
 use fake_host::FakeHost;
-use ledgers::DepositFault;
 use locations::{Junction, Junctions, Location, NetworkId};
 use message_parts::{OpenQuery, Weight};
 use plain_lists::Listed;
@@ -57,7 +56,7 @@ fn place(number: u128) -> Location
 }
 
 /// The place behind a junction.
-fn at(junction: Junction) -> Location
+pub(crate) fn at(junction: Junction) -> Location
     ensures { result ≡ record { parents = 0; interior = junction ∷ [] } }
 {
     let mut interior = Junctions::empty();
@@ -79,8 +78,8 @@ pub(crate) fn of(account: [u8; 32]) -> Location {
 }
 
 /// 5 of the asset of a number.
-fn five(number: u128) -> Asset
-    ensures { result ≡ record { id = Concrete (place_of number); fun = Fun.Fungible 5 } }
+pub(crate) fn five(number: u128) -> Asset
+    ensures { result ≡ five_of number }
 {
     Asset {
         id: AssetId::Concrete(place(number)),
@@ -92,6 +91,7 @@ fn five(number: u128) -> Asset
 fn row(alloc: Global, number: u128) -> AssetRow
     ensures id { result.id ≡ place_of number }
     ensures kind { result.kind ≡ Kind.Fungible }
+    ensures unchecked { row_checking result ≡ None }
 {
     AssetRow {
         id: place(number),
@@ -108,6 +108,8 @@ fn rows(alloc: Global) -> Result<Vec<AssetRow>, AllocError>
     ensures listed { IfOk result (λ rows. listing rows.items ≡ listed) }
     ensures count { IfOk result (λ rows. length rows.items ≡ 3) }
     ensures paths { IfOk result (λ rows. have_paths (path_of_site RELAY) rows.items ≡ true) }
+    ensures unchecked { IfOk result (λ rows. have_no_checkings rows.items ≡ true) }
+    ensures balances { IfOk result (λ rows. list_all (is_balance rows.items) balances ≡ true) }
 {
     let mut rows = Vec::new(alloc);
     rows.push(row(alloc, 0))?;
@@ -126,24 +128,32 @@ fn queries(alloc: Global) -> Result<Vec<OpenQuery>, AllocError> {
     Ok(queries)
 }
 
+/// What accounts hold: the first one 5 of each asset.
+fn accounts(alloc: Global) -> Result<Vec<([u8; 32], Asset)>, AllocError>
+    ensures { IfOk result (λ list. map balance_of list.items ≡ balances) }
+{
+    let mut list = Vec::new(alloc);
+    list.push((A1, five(0)))?;
+    list.push((A1, five(1)))?;
+    list.push((A1, five(2)))?;
+    Ok(list)
+}
+
 /// The chain that lists them, with that query.
-pub(crate) fn opened(alloc: Global) -> Result<FakeHost, DepositFault>
+pub(crate) fn opened(alloc: Global) -> Result<FakeHost, AllocError>
     ensures rests { IfOk result (λ host. IsAtRest (part_of host)) }
 {
-    let mut host = FakeHost::new(alloc, RELAY, rows(alloc)?, queries(alloc)?)?;
-    host.place(&A1, five(0))?;
-    host.place(&A1, five(1))?;
-    host.place(&A1, five(2))?;
-    Ok(host)
+    let rows = rows(alloc)?;
+    let accounts = accounts(alloc)?;
+    FakeHost::new(alloc, RELAY, rows, accounts, queries(alloc)?)
 }
 
 /// What an account has of each asset.
 pub(crate) fn holdings(host: &FakeHost, who: &[u8; 32]) -> [u128; 3] {
-    let ledger = host.ledger();
     [
-        ledger.held_of(who, &five(0)),
-        ledger.held_of(who, &five(1)),
-        ledger.held_of(who, &five(2)),
+        host.amount(who, &five(0)),
+        host.amount(who, &five(1)),
+        host.amount(who, &five(2)),
     ]
 }
 

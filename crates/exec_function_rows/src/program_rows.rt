@@ -1,6 +1,8 @@
 //! Messages in hexadecimal digits, and what their execution tells.
-use crate::chain::{A1, A2, executed, holdings, opened, rules};
+use crate::chain::{A1, A2, executed, five, holdings, opened, rules};
 use crate::texts::report;
+use asset_bundles::{Cause, Total};
+use asset_lists::Kind;
 use std::test::Fail;
 
 /// A message that is executed on a new chain, and its trace and outcome: each instruction at least once, and runs with handlers and
@@ -285,5 +287,20 @@ fn what_no_account_takes_is_claimed_once(rt: HostRuntime) -> Result<(), Fail> {
     }
     assert!(rt; holdings(&host, &A1) == [0, 0, 0]);
     assert!(rt; holdings(&host, &A2) == [5, 5, 5]);
+    Ok(())
+}
+
+#[test]
+fn what_a_program_burns_is_booked(rt: HostRuntime) -> Result<(), Fail> {
+    let alloc = rt.alloc();
+    let rules = rules(alloc)?;
+    let id = five(0).id;
+    let none = Total { high: 0, low: 0 };
+    let one = Total { high: 0, low: 1 };
+    let mut host = opened(alloc)?;
+    executed(alloc, &mut host, &rules, "04080004000000041c0400000004")?;
+    assert!(rt; host.burns().total(&id, Kind::Fungible, Cause::BurnAsset) == one);
+    assert!(rt; host.burns().total(&id, Kind::Fungible, Cause::Saturated) == none);
+    assert!(rt; holdings(&host, &A1) == [4, 5, 5]);
     Ok(())
 }

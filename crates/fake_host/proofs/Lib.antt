@@ -1,12 +1,1 @@
-pub mod Rows
-pub mod BurnedLines
-pub mod Moving
-pub mod Nothing
-pub mod Queries
-pub mod Rising
-pub mod NamedLists
-pub mod Claims
-pub mod Listings
-pub mod Bundles
-pub mod Unsent
-pub mod Returning
+pub mod Unchecked

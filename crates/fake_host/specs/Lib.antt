@@ -1,4 +1,2 @@
 pub mod PartOf
 pub mod Opening
-pub mod Lines
-pub mod Sending

@@ -1,37 +1,29 @@
 -- What a chain is that is opened here, and what must hold of its rows. This project's own.
-use Rattle.std.specs.Prelude.{◌&&◌, nat_le, Bool, List, [], length}
+use Rattle.std.specs.Prelude.{ℕ, Bool, List, [], map, replicate, is_none}
 use Rattle.std.specs.List.{list_all}
 use Rattle.amounts.specs.Amounts.{empty}
-use Rattle.locations.specs.declared.grammar.Junction.{Junction}
-use Rattle.locations.specs.Chains.{path_of}
+use Rattle.asset_lists.specs.declared.units.Asset.{Asset}
 use Rattle.message_parts.specs.declared.query.OpenQuery.{OpenQuery}
 use Rattle.trust_tables.specs.declared.chains.Site.{Site}
 use Rattle.trust_tables.specs.declared.rows.AssetRow.{AssetRow}
-use Rattle.channel_parts.specs.declared.cargo.Cargo.{Cargo}
+use Rattle.exec_base.specs.declared.settings.Settings.{Settings}
 use Rattle.exec_base.specs.Part.{ChainPart}
+use Rattle.network_spec.specs.declared.chain.Balance.{Balance}
+use Rattle.network_genesis.specs.Tests.{row_checking}
+use Rattle.network_genesis.specs.Genesis.{fresh, with_balances}
 
--- the row's id has a path of at most 8 junctions
-abbrev pub has_path : List Junction → AssetRow → Bool
-has_path context row = nat_le row.id.parents (length context) && nat_le (length (path_of context row.id)) 8
+-- no row has a checking account
+abbrev pub have_no_checkings : List AssetRow → Bool
+have_no_checkings rows = list_all (λ (row : AssetRow). is_none (row_checking row)) rows
 
-abbrev pub have_paths : List Junction → List AssetRow → Bool
-have_paths context rows = list_all (has_path context) rows
+-- an account, and an asset that it has
+abbrev pub balance_of : List ℕ × Asset → Balance
+balance_of holding = record { who = holding.0; asset = holding.1 }
 
--- a chain on which nothing has happened, and no account holds anything
-abbrev pub opened : Site → List AssetRow → List OpenQuery → ChainPart
-opened site rows queries = record {
-  settings = record { site = site; rows = rows; pallets = []; fee_account = [] };
-  held = empty;
-  traps = record { traps = []; next = 1 };
-  lines = [];
-  fee_slot = empty;
-  fees = empty;
-  parked = [];
-  burns = empty;
-  checking = [];
-  queries = queries;
-  channels = [];
-  cargo = record { sender = site.chain; cargo = Cargo.Nothing };
-  events = [];
-  kept_back = [];
-}
+-- no pallets, and an account for fees whose 32 bytes are 0
+abbrev pub plain_settings : Site → List AssetRow → Settings
+plain_settings site rows = record { site = site; rows = rows; pallets = []; fee_account = replicate 32 0 }
+
+-- no rates and no channels; nothing happened, and accounts hold just these
+abbrev pub opened : Site → List AssetRow → List (List ℕ × Asset) → List OpenQuery → ChainPart
+opened site rows accounts queries = record (fresh (plain_settings site rows) [] queries []) { held = with_balances empty (map balance_of accounts) }

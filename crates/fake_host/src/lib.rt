@@ -1,13 +1,7 @@
-//! A chain without rates, channels, pallets and checking accounts, to try instructions on.
+//! A chain without rates, channels, pallets and checking accounts, to try calls and programs on.
 #![tactic(auto)]
 
-mod goods_moves;
+mod chain;
 mod hosting;
-mod lines;
-mod naming;
-mod opening;
-mod reading;
-mod refusals;
-mod state;
 
-pub use state::FakeHost;
+pub use chain::FakeHost;
