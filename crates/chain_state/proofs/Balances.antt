@@ -1,7 +1,7 @@
 -- What a document says that accounts hold, placed one by one.
 use Rattle.std.proofs.Common.{◌≡◌, ℕ, zero, suc, ◌+◌, ◌-◌, ◌^◌, ◌<◌, ◌≤◌, Bool, true, false, ◌&&◌, ◌||◌, if◌then◌else◌, List, [], ◌∷◌, ◌++◌, length, get_or, take, refl, sym, ap, ◌∙◌, subst, arith, true≢false, inl, inr}
 use Rattle.std.specs.Prelude.{Option, None, Some, nat_lt, nat_eq, is_some, IsSomeAnd}
-use Rattle.std.specs.List.{list_any, find, AllByRecursion, IsDistinct}
+use Rattle.std.specs.List.{list_any, find, AllByRecursion, IsDistinct, list_all}
 use Rattle.std.specs.List.Sorted.{IsStrictlySortedBy}
 use Rattle.std.specs.Ordering.{eq_by_cmp, is_eq}
 use Rattle.std.proofs.lemmas.Bool.{and_parts, and_from, cases_Bool}
@@ -30,7 +30,7 @@ use Rattle.ledgers.specs.LedgerFaults.{IsBarred, IsDepositFault}
 use Rattle.ledgers.specs.Laws.{holder_keys, held_by_total}
 use Rattle.network_spec.specs.declared.chain.Balance.{Balance}
 use Rattle.network_spec.specs.Networks.{same_fun, same_holding}
-use Rattle.network_genesis.specs.Tests.{past_amounts, is_balance}
+use Rattle.network_genesis.specs.Tests.{past_amounts, is_placeable, is_balance}
 use Rattle.network_genesis.specs.Genesis.{with_balance, with_balances}
 
 -- ---- balances, one after another
@@ -118,21 +118,20 @@ nobody_owns b bs i is others =
     ∙ total-empty holder_keys test
 
 -- ---- so nothing bars it
-within_end : (most past have n : ℕ) → have ≡ 0 → nat_lt n past ≡ true → past ≤ most → nat_lt most (have + n) ≡ false
-within_end most past have n none small end = grind (arith, none, small, end)
+within_end : (most have n : ℕ) → have ≡ 0 → n ≤ most → nat_lt most (have + n) ≡ false
+within_end most have n none small = grind (arith, none, small)
 
 none_owns : (owners : ℕ) → owners ≡ 0 → nat_lt 0 owners ≡ false
 none_owns owners none = ap (nat_lt 0) none
 
-unbarred : (f : Fun) (have owners : ℕ) → ((n : ℕ) → f ≡ Fun.Fungible n → have ≡ 0) → ((i : Instance) → f ≡ Fun.NonFungible i → owners ≡ 0) → nat_lt (amount_in f) past_amounts ≡ true → is_barred_fun f have owners ≡ false
-unbarred (Fun.Fungible n) have owners none nobody small = within_end (2 ^ 128 - 1) past_amounts have n (none n refl) small (omega arith)
+unbarred : (f : Fun) (have owners : ℕ) → ((n : ℕ) → f ≡ Fun.Fungible n → have ≡ 0) → ((i : Instance) → f ≡ Fun.NonFungible i → owners ≡ 0) → amount_in f ≤ 2 ^ 128 - 1 → is_barred_fun f have owners ≡ false
+unbarred (Fun.Fungible n) have owners none nobody small = within_end (2 ^ 128 - 1) have n (none n refl) small
 unbarred (Fun.NonFungible i) have owners none nobody small = none_owns owners (nobody i refl)
 
 pub record IsPlaceable (rows : List AssetRow) (b : Balance) : Type 0 where
   pub some : is_zero b.asset ≡ false
   pub listed : lists (listing rows) (listed_of (unit_of b.asset)) ≡ true
   pub positive : 0 < amount_of b.asset
-  pub small : nat_lt (amount_of b.asset) past_amounts ≡ true
 
 not_zero : (n : ℕ) → nat_lt 0 n ≡ true → (nat_eq n 0 ≡ false) × (0 < n)
 not_zero n some = (grind (arith, some), grind (arith, some))
@@ -144,27 +143,36 @@ any_found {A} p (x ∷ xs) = elim (p x) as (λ b. is_some (if b then Some x else
   | false ↦ any_found p xs
 ]
 
-pub placeable : (rows : List AssetRow) (b : Balance) → is_balance rows b ≡ true → IsPlaceable rows b
+pub placeable : (rows : List AssetRow) (b : Balance) → is_placeable rows b ≡ true → IsPlaceable rows b
 placeable rows b is =
-    let parts = and_parts (list_any (is_row_of b.asset) rows) (nat_lt 0 (amount_of b.asset) && nat_lt (amount_of b.asset) past_amounts) is in
-    let sizes = and_parts (nat_lt 0 (amount_of b.asset)) (nat_lt (amount_of b.asset) past_amounts) parts.1 in
-    let some = not_zero (amount_of b.asset) sizes.0 in
-    record {
-      some = some.0;
-      listed = listing_says rows b.asset ∙ any_found (is_row_of b.asset) rows ∙ parts.0;
-      positive = some.1;
-      small = sizes.1;
-    }
+    let parts = and_parts (list_any (is_row_of b.asset) rows) (nat_lt 0 (amount_of b.asset)) is in
+    let some = not_zero (amount_of b.asset) parts.1 in
+    record { some = some.0; listed = listing_says rows b.asset ∙ any_found (is_row_of b.asset) rows ∙ parts.0; positive = some.1 }
+
+first_two : (a b c : Bool) → (a && (b && c)) ≡ true → (a && b) ≡ true
+first_two true true c h = refl
+first_two true false c h = absurd cc
+first_two false b c h = absurd cc
+
+-- what a document may say that accounts hold can be placed
+pub balances_placeable : (rows : List AssetRow) (bs : List Balance) → list_all (is_balance rows) bs ≡ true → list_all (is_placeable rows) bs ≡ true
+balances_placeable rows [] all = refl
+balances_placeable rows (b ∷ bs) all =
+    let parts = and_parts (is_balance rows b) (list_all (is_balance rows) bs) all in
+    and_from _ _ (first_two (list_any (is_row_of b.asset) rows) (nat_lt 0 (amount_of b.asset)) (nat_lt (amount_of b.asset) past_amounts) parts.0) (balances_placeable rows bs parts.1)
+
+pub small_amount : (a : Asset) (n : ℕ) → n ≡ amount_of a → n < 2 ^ 128 → amount_of a ≤ 2 ^ 128 - 1
+small_amount a n is small = grind (arith, is, small)
 
 alone_held : (a : Asset) → 0 < amount_of a → held_assets (bundle_of (a ∷ [])) ≡ a ∷ []
 unfolding IsStrictlySortedBy
 alone_held a some = held_assets-holding (a ∷ []) (record { rising = (tt, tt); positive = (some, tt) })
 
-pub free_balance : (rows : List AssetRow) (bs : List Balance) (b : Balance) → IsPlaceable rows b → AreOthers b bs → barred (with_balances empty bs) b.who (held_assets (bundle_of (b.asset ∷ []))) ≡ None
-free_balance rows bs b is others =
+pub free_balance : (rows : List AssetRow) (bs : List Balance) (b : Balance) → IsPlaceable rows b → amount_of b.asset ≤ 2 ^ 128 - 1 → AreOthers b bs → barred (with_balances empty bs) b.who (held_assets (bundle_of (b.asset ∷ []))) ≡ None
+free_balance rows bs b is small others =
     let held = with_balances empty bs in
     let free : is_barred held b.who b.asset ≡ false =
-    unbarred b.asset.fun (amount held (b.who, unit_of b.asset)) (owners_of (unit_of b.asset) held) (λ n fungible. nothing_held b bs n fungible others) (λ i instance. nobody_owns b bs i instance others) is.small in
+    unbarred b.asset.fun (amount held (b.who, unit_of b.asset)) (owners_of (unit_of b.asset) held) (λ n fungible. nothing_held b bs n fungible others) (λ i instance. nobody_owns b bs i instance others) small in
     ap (barred held b.who) (alone_held b.asset is.positive) ∙ ap (λ t. if t then Some b.asset else None) free
 
 -- ---- those before it

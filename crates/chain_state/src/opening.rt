@@ -1,5 +1,5 @@
 //! A chain as the network opens.
-ghost use Rattle.std.specs.Prelude.{◌≡◌, ◌<◌, ◌≤◌, ◌^◌, length, map, find, IsTrue, IsFalse, None, IfOk, IfErr, IsSomeAnd, OnOk, OnErr, [], ◌∷◌};
+ghost use Rattle.std.specs.Prelude.{◌≡◌, ◌<◌, ◌≤◌, ◌^◌, ℕ, length, map, take, find, IsTrue, IsFalse, None, IfOk, IfErr, IsSomeAnd, OnOk, OnErr, [], ◌∷◌};
 ghost use Rattle.std.specs.Ordering.{eq_by_cmp};
 ghost use Rattle.std.specs.List.{IsDistinct, list_all};
 ghost use Rattle.amounts.specs.Amounts.{empty};
@@ -16,7 +16,7 @@ ghost use Rattle.weight_trader.specs.Purchases.{NameEachOnce, new_lines};
 ghost use Rattle.exec_base.specs.Part.{accounts_of};
 ghost use Rattle.network_spec.specs.declared.chain.ChainSpec.{ChainSpec};
 ghost use Rattle.network_spec.specs.Networks.{same_holding, has_chain};
-ghost use Rattle.network_genesis.specs.Tests.{have_paths, have_prices, are_rates_listed, may_have_checkings, is_balance};
+ghost use Rattle.network_genesis.specs.Tests.{have_paths, have_prices, are_rates_listed, may_have_checkings, is_placeable};
 ghost use Rattle.network_genesis.specs.Genesis.{fresh, bare_part, part_at, with_balance, with_balances};
 ghost use Rattle.network_genesis.specs.Openable.{IsOpenableChain, IsOpenable};
 ghost use Rattle.chain_state.specs.PartOf.{part_of};
@@ -142,6 +142,7 @@ impl ChainState {
         requires listed { IsTrue (lists (listing (part_of self.old).rows) (listed_of (unit_of balance.now.asset))) }
         requires free { barred (part_of self.old).held balance.now.who (held_assets (bundle_of (balance.now.asset ∷ []))) ≡ None }
         ensures placed { OnOk result (part_of self.new ≡ record (part_of self.old) { held = with_balance (part_of self.old).held balance.now }) }
+        ensures kept { OnErr result (part_of self.new ≡ part_of self.old) }
     {
         match self.place(&balance.who, balance.asset.copy()) {
             Ok(()) => Ok(()),
@@ -151,16 +152,17 @@ impl ChainState {
     }
 
     /// Makes what accounts hold when the chain opens, where none holds anything yet. Each asset is of
-    /// a row, and an amount above 0 and below 2^127, or an instance; no account has a fungible asset
-    /// twice, and an instance stands there once. An `Err` is out of memory, and then a part of it may
-    /// stand there.
+    /// a row, and an amount above 0 or an instance; no account has a fungible asset twice, and an
+    /// instance stands there once. An `Err` is out of memory, and then the first of them stand there.
     pub fn place_all(&mut self, balances: &[Balance]) -> Result<(), AllocError>
         requires empty { (part_of self.old).held ≡ empty }
-        requires balances { IsTrue (list_all (is_balance (part_of self.old).rows) balances.now) }
+        requires balances { IsTrue (list_all (is_placeable (part_of self.old).rows) balances.now) }
         requires once { IsDistinct same_holding balances.now }
         ensures placed { OnOk result (part_of self.new ≡ record (part_of self.old) { held = with_balances empty balances.now }) }
+        ensures left { OnErr result ((k : ℕ) × (part_of self.new ≡ record (part_of self.old) { held = with_balances empty (take k balances.now) })) }
     {
         for balance in balances {
+            let _amount = balance.asset.amount(); // For the prover alone: it is below 2^128.
             self.place_balance(balance)?;
         }
         Ok(())

@@ -4,7 +4,7 @@ ghost use Rattle.std.specs.List.{list_all};
 ghost use Rattle.asset_lists.specs.declared.units.Kind.{Kind};
 ghost use Rattle.trust_tables.specs.Chains.{path_of_site};
 ghost use Rattle.trust_tables.specs.Trust.{listing};
-ghost use Rattle.network_genesis.specs.Tests.{have_paths, row_checking, is_balance};
+ghost use Rattle.network_genesis.specs.Tests.{have_paths, row_checking, is_placeable};
 ghost use Rattle.fake_host.specs.Opening.{have_no_checkings, balance_of};
 ghost use Rattle.fake_host.specs.PartOf.{part_of};
 ghost use Rattle.exec_base.specs.Sending.{IsForwardable};
@@ -109,7 +109,7 @@ fn rows(alloc: Global) -> Result<Vec<AssetRow>, AllocError>
     ensures count { IfOk result (λ rows. length rows.items ≡ 3) }
     ensures paths { IfOk result (λ rows. have_paths (path_of_site RELAY) rows.items ≡ true) }
     ensures unchecked { IfOk result (λ rows. have_no_checkings rows.items ≡ true) }
-    ensures balances { IfOk result (λ rows. list_all (is_balance rows.items) balances ≡ true) }
+    ensures balances { IfOk result (λ rows. list_all (is_placeable rows.items) balances ≡ true) }
 {
     let mut rows = Vec::new(alloc);
     rows.push(row(alloc, 0))?;

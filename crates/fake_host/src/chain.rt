@@ -13,7 +13,7 @@ ghost use Rattle.trust_tables.specs.Chains.{path_of_site};
 ghost use Rattle.trust_tables.specs.Trust.{listing};
 ghost use Rattle.exec_base.specs.Part.{book_of};
 ghost use Rattle.network_spec.specs.Networks.{same_holding};
-ghost use Rattle.network_genesis.specs.Tests.{have_paths, is_balance};
+ghost use Rattle.network_genesis.specs.Tests.{have_paths, is_placeable};
 ghost use Rattle.fake_host.specs.PartOf.{part_of};
 ghost use Rattle.fake_host.specs.Opening.{have_no_checkings, balance_of, opened};
 
@@ -51,9 +51,8 @@ impl FakeHost {
     /// A chain with these rows and open queries, on whose accounts just this stands: each an
     /// account's 32 bytes, and an asset that it has. No two rows list the same asset, there are fewer
     /// than 2^32 of them, the id of each has a path of at most 8 junctions, and none has a checking
-    /// account. Each asset is of a row, and an amount above 0 and below 2^127, or an instance; no
-    /// account has a fungible asset twice, and an instance stands there once. An `Err` is out of
-    /// memory.
+    /// account. Each asset is of a row, and an amount above 0 or an instance; no account has a
+    /// fungible asset twice, and an instance stands there once. An `Err` is out of memory.
     #[tactic(auto, using(crate::proofs::Unchecked::unchecked_may))]
     pub fn new(
         alloc: Global,
@@ -66,7 +65,7 @@ impl FakeHost {
         requires few { length rows.items < 2 ^ 32 }
         requires paths { IsTrue (have_paths (path_of_site site) rows.items) }
         requires unchecked { IsTrue (have_no_checkings rows.items) }
-        requires balances { IsTrue (list_all (is_balance rows.items) (map balance_of accounts.items)) }
+        requires balances { IsTrue (list_all (is_placeable rows.items) (map balance_of accounts.items)) }
         requires once { IsDistinct same_holding (map balance_of accounts.items) }
         ensures opened { IfOk result (λ host. part_of host ≡ opened site rows.items accounts.items queries.items) }
     {

@@ -70,7 +70,11 @@ is_low (Some amount) = nat_lt amount past_amounts
 abbrev pub have_low_checkings : List AssetRow → Bool
 have_low_checkings rows = list_all (λ (row : AssetRow). is_low (row_checking row)) rows
 
--- a listed asset, of an amount above 0 and below 2^127
+-- a listed asset, of an amount above 0
+abbrev pub is_placeable : List AssetRow → Balance → Bool
+is_placeable rows b = list_any (is_row_of b.asset) rows && nat_lt 0 (amount_of b.asset)
+
+-- and of one below 2^127
 abbrev pub is_balance : List AssetRow → Balance → Bool
 is_balance rows b = list_any (is_row_of b.asset) rows && (nat_lt 0 (amount_of b.asset) && nat_lt (amount_of b.asset) past_amounts)
 

@@ -8,11 +8,11 @@ use Rattle.chain_ids.specs.Chains.{same_chain}
 use Rattle.exec_base.specs.Part.{ChainPart}
 use Rattle.network_spec.specs.declared.chain.ChainSpec.{ChainSpec}
 use Rattle.network_spec.specs.Networks.{same_holding}
-use Rattle.network_genesis.specs.Tests.{is_balance}
+use Rattle.network_genesis.specs.Tests.{is_placeable}
 use Rattle.network_genesis.specs.Genesis.{part_at, with_balances}
 use Rattle.network_genesis.specs.Openable.{IsOpenableChain, IsOpenableChannel}
 use Rattle.chain_state.specs.PartOf.{part_of}
-use Rattle.chain_state.proofs.Balances.{any_found}
+use Rattle.chain_state.proofs.Balances.{any_found, balances_placeable}
 use Rattle.chain_state.proofs.Entries.{prices_from, fees_from, lists_its_fee, found_so, none_is_some}
 use Rattle.chain_state.proofs.state.ChainState.open.Goals as goal
 
@@ -50,8 +50,8 @@ place_all-requires-clause-balances c =
     let test : ChainSpec → Bool = λ d. same_chain d.chain c.args.chain in
     let found : find test spec.chains ≡ Some entry = ap (find test) (sym c.items.ensures) ∙ sym c.entry_of.ensures ∙ ap option_copied c.in-Some.is in
     let is = found_so (IsOpenableChain spec.network) test spec.chains entry (recursion_from_All (IsOpenableChain spec.network) spec.chains c.requires.openable.chains) found in
-    subst (λ rows. list_all (is_balance rows) c.items-2.result.now ≡ true) (sym (ap (λ (p : ChainPart). p.rows) c.in_ok-state.ensures))
-    (subst (λ balances. list_all (is_balance entry.assets) balances ≡ true) (sym c.items-2.ensures) is.balances)
+    subst (λ rows. list_all (is_placeable rows) c.items-2.result.now ≡ true) (sym (ap (λ (p : ChainPart). p.rows) c.in_ok-state.ensures))
+    (subst (λ balances. list_all (is_placeable entry.assets) balances ≡ true) (sym c.items-2.ensures) (balances_placeable entry.assets entry.accounts is.balances))
 
 pub place_all-requires-clause-once : goal.place_all-requires-clause-once
 place_all-requires-clause-once c =

@@ -7,23 +7,23 @@ use Rattle.asset_bundles.specs.Bundles.{bundle_of, held_assets}
 use Rattle.trust_tables.specs.Trust.{listing}
 use Rattle.ledgers.specs.Ledgers.{barred}
 use Rattle.exec_base.specs.Part.{ChainPart}
-use Rattle.network_genesis.specs.Tests.{is_balance}
+use Rattle.network_genesis.specs.Tests.{is_placeable}
 use Rattle.network_genesis.specs.Genesis.{with_balance}
 use Rattle.chain_state.specs.PartOf.{part_of}
-use Rattle.chain_state.proofs.Balances.{next_balances, placeable, free_balance, others_before}
+use Rattle.chain_state.proofs.Balances.{next_balances, placeable, small_amount, free_balance, others_before}
 use Rattle.chain_state.proofs.BurnedLines.{all_at}
 use Rattle.chain_state.proofs.state.ChainState.place_all.Goals as goal
 
 pub place_balance-requires-clause-some : goal.place_balance-requires-clause-some
 place_balance-requires-clause-some c =
     let rows = c.args.self.now.settings.rows in
-    (placeable rows c.balance-item.result (all_at (is_balance rows) c.args.balances.now c.loop-balance.balance-index c.balance-item.result c.requires.balances c.loop-balance-test.true c.balance-item.is)).some
+    (placeable rows c.balance-item.result (all_at (is_placeable rows) c.args.balances.now c.loop-balance.balance-index c.balance-item.result c.requires.balances c.loop-balance-test.true c.balance-item.is)).some
 
 pub place_balance-requires-clause-listed : goal.place_balance-requires-clause-listed
 place_balance-requires-clause-listed c =
     let rows = c.args.self.now.settings.rows in
     let b = c.balance-item.result in
-    let is = placeable rows b (all_at (is_balance rows) c.args.balances.now c.loop-balance.balance-index b c.requires.balances c.loop-balance-test.true c.balance-item.is) in
+    let is = placeable rows b (all_at (is_placeable rows) c.args.balances.now c.loop-balance.balance-index b c.requires.balances c.loop-balance-test.true c.balance-item.is) in
     subst (λ table. lists (listing table) (listed_of (unit_of b.asset)) ≡ true) (sym (ap (λ (p : ChainPart). p.rows) c.loop-balance.invariant)) is.listed
 
 pub place_balance-requires-clause-free : goal.place_balance-requires-clause-free
@@ -32,9 +32,9 @@ place_balance-requires-clause-free c =
     let b = c.balance-item.result in
     let list = c.args.balances.now in
     let i = c.loop-balance.balance-index in
-    let is = placeable rows b (all_at (is_balance rows) list i b c.requires.balances c.loop-balance-test.true c.balance-item.is) in
+    let is = placeable rows b (all_at (is_placeable rows) list i b c.requires.balances c.loop-balance-test.true c.balance-item.is) in
     subst (λ held. barred held b.who (held_assets (bundle_of (b.asset ∷ []))) ≡ None) (sym (ap (λ (p : ChainPart). p.held) c.loop-balance.invariant))
-    (free_balance rows (take i list) b is (others_before list i b c.requires.once c.loop-balance-test.true c.balance-item.is))
+    (free_balance rows (take i list) b is (small_amount b.asset _ c.amount-amount.ensures c.amount-amount.type_inv) (others_before list i b c.requires.once c.loop-balance-test.true c.balance-item.is))
 
 pub loop-balance-preserved : goal.loop-balance-preserved
 loop-balance-preserved c =
