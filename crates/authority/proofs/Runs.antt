@@ -21,8 +21,8 @@ use Rattle.exec_admission.specs.declared.rules.ChainRules.{ChainRules}
 use Rattle.exec_admission.specs.declared.admission.Admitted.{Admitted}
 use Rattle.exec_admission.specs.Execution.{started, first_stage, executed, IsAbandoned}
 use Rattle.exec_calls.specs.Calls.{MachineWithGoods, MachineCall, after}
-use Rattle.exec_calls.specs.Reasons.{IsFrom, Moment, HasReason, ComesAtEnd}
-use Rattle.exec_keeping.specs.Kept.{TurnsOrigin, IsKeptAtEnd, IsKeptByCalls}
+use Rattle.exec_calls.specs.Reasons.{IsFrom, Moment, HasReason, ComesAtEnd, TurnsOrigin}
+use Rattle.exec_keeping.specs.Kept.{IsKeptAtEnd, IsKeptByCalls}
 use Rattle.exec_keeping.specs.KeptLaws.{any_kind, abandoned_kept, finished_kept, at_end_kept, keeps_run, keeps_executed, keeps_abandoned}
 use Rattle.network_steps.specs.Acting.{caller}
 use Rattle.authority.specs.Origins.{speaker_at, LowersOnly, IsAtOrBelow}

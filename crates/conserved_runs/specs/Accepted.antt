@@ -49,9 +49,8 @@ use Rattle.exec_rules.specs.Stopping.{Spilled}
 use Rattle.exec_calls.specs.Calls.{MachineWithGoods, between, here, MachineCall, why_not, after, effect, turned, turned_at}
 use Rattle.exec_calls.specs.Footprints.{part_is}
 use Rattle.exec_calls.specs.Reasons.{IsFrom, IsFee, Moment, HasReason, ComesBeforeStop}
-use Rattle.exec_calls.specs.ReasonLaws.{done_keeps, lead_keeps}
+use Rattle.exec_calls.specs.ReasonLaws.{done_keeps, lead_keeps, turns}
 use Rattle.exec_calls.specs.StopLaws.{spilled_lead}
-use Rattle.exec_keeping.specs.KeptLaws.{turns}
 use Rattle.weight_trader.specs.Purchases.{AreWithinEnd}
 use Rattle.conserved_runs.specs.Views.{table_of}
 

@@ -34,10 +34,8 @@ use Rattle.exec_rules.specs.Origins.{descended}
 use Rattle.exec_rules.specs.Instructions.{refusal_of, done, xcm}
 use Rattle.exec_rules.specs.Readiness.{IsSteady}
 use Rattle.exec_calls.specs.Calls.{MachineWithGoods, MachineCall, after, turned}
-use Rattle.exec_calls.specs.Reasons.{Moment, HasReason}
-use Rattle.exec_calls.specs.ReasonLaws.{each_keeps}
-use Rattle.exec_keeping.specs.Kept.{TurnsOrigin}
-use Rattle.exec_keeping.specs.KeptLaws.{turns}
+use Rattle.exec_calls.specs.Reasons.{Moment, HasReason, TurnsOrigin}
+use Rattle.exec_calls.specs.ReasonLaws.{each_keeps, turns}
 use Rattle.coherence.specs.Networks.{Table, IsIn, Agrees}
 use Rattle.conserved_runs.specs.Views.{table_of}
 use Rattle.conserved_runs.specs.Sums.{sum_of, none, nobody, HasRoom}

@@ -34,8 +34,7 @@ use Rattle.exec_rules.specs.HoldingLaws.{payment_within}
 use Rattle.exec_calls.specs.Calls.{MachineWithGoods, between, here, MachineCall, why_not, after, effect, turned_at}
 use Rattle.exec_calls.specs.Footprints.{part_is}
 use Rattle.exec_calls.specs.Reasons.{arriving, IsFee, IsFrom, Moment, HasReason}
-use Rattle.exec_calls.specs.ReasonLaws.{done_keeps}
-use Rattle.exec_keeping.specs.KeptLaws.{turns}
+use Rattle.exec_calls.specs.ReasonLaws.{done_keeps, turns}
 use Rattle.host_laws.specs.Wholes.{on_chain, whole, Conserves, BooksBelow, BuysBelow, KeepsBelow}
 use Rattle.host_laws.specs.Accepted.{whole_of, HasList, AreFees, HasRoomFor}
 use Rattle.host_laws.proofs.Booking.{conserves_join, conserves_burn, conserves_park, conserves_answer, conserves_held_fee, conserves_taken_fee, conserves_kept_fee}
