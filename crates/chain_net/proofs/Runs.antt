@@ -34,7 +34,7 @@ use Rattle.network_steps.specs.Steps.{nowhere, name_at}
 use Rattle.network_steps.specs.Fixed.{Fixed, fixed_of}
 use Rattle.chain_net.specs.Stops.{IsStoppedHere, IsActed, IsUnread, arrived, StandsAt, IsStoppedThere}
 use Rattle.chain_net.specs.Sound.{IsListedCargo, IsBetweenSteps}
-use Rattle.chain_net.proofs.Shipments.{StaysSteady, IsCarrying, executed_ships, executed_lands, executed_said, executed_quiet, abandoned_lands, abandoned_site}
+use Rattle.chain_net.proofs.Shipments.{IsCarrying, executed_ships, executed_lands, executed_said, executed_quiet, abandoned_lands, abandoned_site}
 
 -- ---- whether a channel leads somewhere is said by the document
 leads : ChainId → List Channel → Bool
@@ -80,14 +80,14 @@ carrying_told far p e h = record {
 }
 
 -- a run from a chain that carries something ends between two steps
-pub between_after : StaysSteady → (rules : ChainRules) (origin : Location) (credit : Weight) (program : List Instruction) (p : ChainPart) (far : List Listed) → IsCarrying far p → p.kept_back ≡ []
+pub between_after : (rules : ChainRules) (origin : Location) (credit : Weight) (program : List Instruction) (p : ChainPart) (far : List Listed) → IsCarrying far p → p.kept_back ≡ []
     → is_some (channel_to p.site.chain p.channels) ≡ false → IsAtRest (executed rules origin credit program p).1 → IsBetweenSteps (ended (executed rules origin credit program p).1)
-between_after stays rules origin credit program p far h quiet apart rest = record {
+between_after rules origin credit program p far h quiet apart rest = record {
   rest = rest_ended (executed rules origin credit program p).1 rest;
   landed = refl;
   told = executed_quiet rules origin credit program p quiet;
-  shipped = executed_ships stays far rules origin credit program p h;
-  apart = same_leads p (executed rules origin credit program p).1 (executed_said stays far rules origin credit program p h) ∙ apart;
+  shipped = executed_ships far rules origin credit program p h;
+  apart = same_leads p (executed rules origin credit program p).1 (executed_said far rules origin credit program p h) ∙ apart;
 }
 
 -- a cargo of nothing is listed
@@ -98,10 +98,10 @@ pub carrying_nothing : (p : ChainPart) (sender : ChainId) → IsBetweenSteps p �
 carrying_nothing p sender h = carrying_begun [] p sender Nothing h tt
 
 -- the chain's own step
-pub here_between : StaysSteady → (rules : ChainRules) (origin : Location) (credit : Weight) (program : List Instruction) (p now : ChainPart) (sender : ChainId) → IsBetweenSteps p
+pub here_between : (rules : ChainRules) (origin : Location) (credit : Weight) (program : List Instruction) (p now : ChainPart) (sender : ChainId) → IsBetweenSteps p
     → now ≡ ended (executed rules origin credit program (begun sender Nothing p)).1 → IsAtRest (executed rules origin credit program (begun sender Nothing p)).1 → IsBetweenSteps now
-here_between stays rules origin credit program p now sender h is rest =
-    subst IsBetweenSteps (sym is) (between_after stays rules origin credit program (begun sender Nothing p) [] (carrying_nothing p sender h) refl h.apart rest)
+here_between rules origin credit program p now sender h is rest =
+    subst IsBetweenSteps (sym is) (between_after rules origin credit program (begun sender Nothing p) [] (carrying_nothing p sender h) refl h.apart rest)
 
 -- ---- the same run in other words
 pub same_run : (P : Location → List Instruction → ChainPart → Type 0) (l m : Location) (program other : List Instruction) (p q : ChainPart) → l ≡ m → program ≡ other → p ≡ q → P l program p → P m other q
@@ -111,12 +111,12 @@ same_run P l m program other p q same_place same_program same_part h =
 pub started_is : (p q : ChainPart) (site : Site) (cargo : Cargo) → q ≡ record p { cargo = record { sender = site.chain; cargo = cargo }; events = [] } → site ≡ p.site → p.kept_back ≡ [] → q ≡ begun p.site.chain cargo p
 started_is p q site cargo is same quiet = is ∙ ap (λ (s : Site). record p { cargo = record { sender = s.chain; cargo = cargo }; events = [] }) same ∙ begun_is p p.site.chain cargo quiet
 
-pub here_stopped_site : StaysSteady → (rules : ChainRules) (account : List ℕ) (program : List Instruction) (p now : ChainPart) → IsBetweenSteps p → IsStoppedHere rules account program p now → now.site ≡ p.site
-here_stopped_site stays rules account program p now h s =
-    ap (λ (q : ChainPart). q.site) s.2 ∙ abandoned_site stays [] rules (caller account) rules.limit program (begun p.site.chain Nothing p) s.0 (carrying_nothing p p.site.chain h) s.1
+pub here_stopped_site : (rules : ChainRules) (account : List ℕ) (program : List Instruction) (p now : ChainPart) → IsBetweenSteps p → IsStoppedHere rules account program p now → now.site ≡ p.site
+here_stopped_site rules account program p now h s =
+    ap (λ (q : ChainPart). q.site) s.2 ∙ abandoned_site [] rules (caller account) rules.limit program (begun p.site.chain Nothing p) s.0 (carrying_nothing p p.site.chain h) s.1
 
-pub site_of_run : StaysSteady → (far : List Listed) (rules : ChainRules) (origin : Location) (credit : Weight) (program : List Instruction) (p : ChainPart) → IsCarrying far p → (executed rules origin credit program p).1.site ≡ p.site
-site_of_run stays far rules origin credit program p h = ap (λ (x : Fixed). x.site) (executed_said stays far rules origin credit program p h)
+pub site_of_run : (far : List Listed) (rules : ChainRules) (origin : Location) (credit : Weight) (program : List Instruction) (p : ChainPart) → IsCarrying far p → (executed rules origin credit program p).1.site ≡ p.site
+site_of_run far rules origin credit program p h = ap (λ (x : Fixed). x.site) (executed_said far rules origin credit program p h)
 
 -- ---- a message at its receiver
 read_program : (program : List Instruction) (r : Result (List Instruction) MessageFault) → (Ok program ≡ Err Memory) ⊎ (Ok program ≡ r) → program ≡ program_read r
@@ -135,12 +135,12 @@ pub stands : (rules : ChainRules) (from : ChainId) (message : Waiting) (p q : Ch
 stands rules from message p q h = ⊎_elim (λ e. inl e) (λ e. inr (inl e)) h
 
 -- what is left of its cargo is what came, or nothing of it
-pub stands_lands : StaysSteady → (rules : ChainRules) (from : ChainId) (message : Waiting) (p q : ChainPart) (far : List Listed) → IsBetweenSteps p → StandsAt rules from message p q → IsListedCargo far message.cargo → IsListedCargo far q.cargo.cargo
-stands_lands stays rules from message p q far h s listed =
+pub stands_lands : (rules : ChainRules) (from : ChainId) (message : Waiting) (p q : ChainPart) (far : List Listed) → IsBetweenSteps p → StandsAt rules from message p q → IsListedCargo far message.cargo → IsListedCargo far q.cargo.cargo
+stands_lands rules from message p q far h s listed =
     let carrying = carrying_told far (begun from message.cargo p) (events.Message from p.site.chain message.number) (carrying_begun far p from message.cargo h listed) in
     ⊎_elim (λ e. subst (λ (r : ChainPart). IsListedCargo far r.cargo.cargo) (sym e) listed)
-    (⊎_elim (λ e. abandoned_lands stays far rules (name_at p.site.chain from) no_weight message.program (arrived from p message) q carrying e)
-    (λ e. subst (λ (r : ChainPart). IsListedCargo far r.cargo.cargo) (sym e) (executed_lands stays far rules (name_at p.site.chain from) no_weight message.program (arrived from p message) carrying))) s
+    (⊎_elim (λ e. abandoned_lands far rules (name_at p.site.chain from) no_weight message.program (arrived from p message) q carrying e)
+    (λ e. subst (λ (r : ChainPart). IsListedCargo far r.cargo.cargo) (sym e) (executed_lands far rules (name_at p.site.chain from) no_weight message.program (arrived from p message) carrying))) s
 
 arrived_site : (from : ChainId) (p : ChainPart) (message : Waiting) → (arrived from p message).site ≡ p.site
 unfolding told
@@ -161,12 +161,12 @@ unfolding told
 apart_arrived from p message h = h
 
 -- the chain is where it was
-pub stands_site : StaysSteady → (rules : ChainRules) (from : ChainId) (message : Waiting) (p q : ChainPart) (far : List Listed) → IsBetweenSteps p → IsListedCargo far message.cargo → StandsAt rules from message p q → q.site ≡ p.site
-stands_site stays rules from message p q far h listed s =
+pub stands_site : (rules : ChainRules) (from : ChainId) (message : Waiting) (p q : ChainPart) (far : List Listed) → IsBetweenSteps p → IsListedCargo far message.cargo → StandsAt rules from message p q → q.site ≡ p.site
+stands_site rules from message p q far h listed s =
     let carrying = carrying_arrived far from p message h listed in
     ⊎_elim (λ e. ap (λ (r : ChainPart). r.site) e)
-    (⊎_elim (λ e. abandoned_site stays far rules (name_at p.site.chain from) no_weight message.program (arrived from p message) q carrying e ∙ arrived_site from p message)
-    (λ e. ap (λ (r : ChainPart). r.site) e ∙ site_of_run stays far rules (name_at p.site.chain from) no_weight message.program (arrived from p message) carrying ∙ arrived_site from p message)) s
+    (⊎_elim (λ e. abandoned_site far rules (name_at p.site.chain from) no_weight message.program (arrived from p message) q carrying e ∙ arrived_site from p message)
+    (λ e. ap (λ (r : ChainPart). r.site) e ∙ site_of_run far rules (name_at p.site.chain from) no_weight message.program (arrived from p message) carrying ∙ arrived_site from p message)) s
 
 -- ---- a whole message
 module _ (rules : ChainRules) (from : ChainId) (message : Waiting) (p : ChainPart) where
@@ -204,24 +204,24 @@ module _ (rules : ChainRules) (from : ChainId) (message : Waiting) (p : ChainPar
     ran_stopped (Ok o) h = tt
     ran_stopped (Err e) h = (q, stands rules from message p q h.stopped, finished, left_is)
 
-    module _ (stays : StaysSteady) (between : IsBetweenSteps p) where
+    module _ (between : IsBetweenSteps p) where
       pub ran_between : (far : List Listed) → IsListedCargo far message.cargo → (r : Result Outcome AllocError) → Ran r q → OnOk r (IsBetweenSteps now)
       ran_between far listed (Ok o) h =
           subst IsBetweenSteps (sym (finished ∙ ap (λ (x : ChainPart). ended x) h.part))
-          (between_after stays rules (name_at p.site.chain from) no_weight message.program (arrived from p message) far (carrying_arrived far from p message between listed) (quiet_arrived from p message) (apart_arrived from p message between.apart) (subst IsAtRest h.part h.rests))
+          (between_after rules (name_at p.site.chain from) no_weight message.program (arrived from p message) far (carrying_arrived far from p message between listed) (quiet_arrived from p message) (apart_arrived from p message between.apart) (subst IsAtRest h.part h.rests))
       ran_between far listed (Err e) h = tt
 
       pub ran_listed : (far : List Listed) → IsListedCargo far message.cargo → (r : Result Outcome AllocError) → Ran r q → IsListedCargo far left
       ran_listed far listed (Ok o) h =
           subst (IsListedCargo far) (sym (left_is ∙ ap (λ (x : ChainPart). x.cargo.cargo) h.part))
-          (executed_lands stays far rules (name_at p.site.chain from) no_weight message.program (arrived from p message) (carrying_arrived far from p message between listed))
-      ran_listed far listed (Err e) h = subst (IsListedCargo far) (sym left_is) (stands_lands stays rules from message p q far between (stands rules from message p q h.stopped) listed)
+          (executed_lands far rules (name_at p.site.chain from) no_weight message.program (arrived from p message) (carrying_arrived far from p message between listed))
+      ran_listed far listed (Err e) h = subst (IsListedCargo far) (sym left_is) (stands_lands rules from message p q far between (stands rules from message p q h.stopped) listed)
 
       pub ran_site : (far : List Listed) → IsListedCargo far message.cargo → (r : Result Outcome AllocError) → Ran r q → now.site ≡ p.site
       ran_site far listed (Ok o) h =
           ap (λ (x : ChainPart). x.site) (finished ∙ ap (λ (x : ChainPart). ended x) h.part)
-          ∙ site_of_run stays far rules (name_at p.site.chain from) no_weight message.program (arrived from p message) (carrying_arrived far from p message between listed) ∙ arrived_site from p message
-      ran_site far listed (Err e) h = ap (λ (x : ChainPart). x.site) finished ∙ stands_site stays rules from message p q far between listed (stands rules from message p q h.stopped)
+          ∙ site_of_run far rules (name_at p.site.chain from) no_weight message.program (arrived from p message) (carrying_arrived far from p message between listed) ∙ arrived_site from p message
+      ran_site far listed (Err e) h = ap (λ (x : ChainPart). x.site) finished ∙ stands_site rules from message p q far between listed (stands rules from message p q h.stopped)
 
 abbrev waiting_with : ℕ → Cargo → List ℕ → Waiting
 waiting_with number cargo bytes = record { number = number; program = program_read (message_of bytes); cargo = cargo }

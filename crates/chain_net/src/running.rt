@@ -23,7 +23,6 @@ use chain_queues::{Cargo, Queued};
 use chain_state::ChainState;
 use exec_admission::ChainRules;
 use exec_base::{Event, Host};
-use exec_calls::law_of_readiness;
 use locations::{Junction, Junctions, Location};
 use message_parts::Weight;
 use network_steps::law_of_decoded_programs;
@@ -73,7 +72,6 @@ pub(crate) fn run_here(
     ensures stopped { OnErr result (IsStoppedHere rules.now account.now program (part_of here.old) (part_of here.new)) }
     ensures place { (part_of here.new).site ≡ (part_of here.old).site }
 {
-    law_of_readiness(); // For the prover alone.
     let chain = here.site().chain;
     here.begin(chain, Cargo::Nothing);
     let ran = execute(alloc, &caller(account), program, rules, rules.limit, here);
@@ -139,7 +137,6 @@ pub(crate) fn run_message(
     ensures place { (part_of there.new).site ≡ (part_of there.old).site }
     ensures stopped { OnErr result.0 (IsStoppedThere rules.now from (waiting_of queued) (part_of there.old) (part_of there.new) result.1) }
 {
-    law_of_readiness(); // For the prover alone.
     let Queued {
         number,
         bytes,

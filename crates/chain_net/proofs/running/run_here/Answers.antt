@@ -37,13 +37,13 @@ returns-clause-between c =
     let begun_is = started_is (part_of c.args.here.now) (part_of c.begin.new.self) c.site.result.now Nothing c.begin.ensures.begun c.site.ensures c.requires.between.told in
     let ran = same_run (λ l program p. ((c.in_ok-outcome.outcome, c.in_ok-outcome.field-0-1), part_of c.execute-ran.new.h) ≡ executed c.args.rules.now l c.args.rules.now.limit program p) c.caller.result (caller c.args.account.now) c.args.program c.args.program (part_of c.begin.new.self) (begun (part_of c.args.here.now).site.chain Nothing (part_of c.args.here.now))
     c.caller.ensures refl begun_is c.in_ok-outcome.ensures.ok in
-    here_between c.law_of_readiness.ensures.done c.args.rules.now (caller c.args.account.now) c.args.rules.now.limit c.args.program (part_of c.args.here.now) (part_of c.finish.new.self) (part_of c.args.here.now).site.chain c.requires.between
+    here_between c.args.rules.now (caller c.args.account.now) c.args.rules.now.limit c.args.program (part_of c.args.here.now) (part_of c.finish.new.self) (part_of c.args.here.now).site.chain c.requires.between
     (c.finish.ensures.finished ∙ ap (λ x. ended x.1) ran) (subst IsAtRest (ap (λ x. x.1) ran) c.in_ok-outcome.ensures.rests)
 
 pub returns-in_err-outcome-clause-place : goal.returns-in_err-outcome-clause-place
 returns-in_err-outcome-clause-place c =
     let begun_is = started_is (part_of c.args.here.now) (part_of c.begin.new.self) c.site.result.now Nothing c.begin.ensures.begun c.site.ensures c.requires.between.told in
-    here_stopped_site c.law_of_readiness.ensures.done c.args.rules.now c.args.account.now c.args.program (part_of c.args.here.now) (part_of c.finish.new.self) c.requires.between (
+    here_stopped_site c.args.rules.now c.args.account.now c.args.program (part_of c.args.here.now) (part_of c.finish.new.self) c.requires.between (
       part_of c.execute-ran.new.h,
       same_run (λ l program p. IsAbandoned c.args.rules.now l c.args.rules.now.limit program p (part_of c.execute-ran.new.h)) c.caller.result (caller c.args.account.now) c.args.program c.args.program (part_of c.begin.new.self) (begun (part_of c.args.here.now).site.chain Nothing (part_of c.args.here.now))
           c.caller.ensures refl begun_is c.in_err-outcome.ensures.err,
@@ -56,4 +56,4 @@ returns-clause-place c =
     let ran = same_run (λ l program p. ((c.in_ok-outcome.outcome, c.in_ok-outcome.field-0-1), part_of c.execute-ran.new.h) ≡ executed c.args.rules.now l c.args.rules.now.limit program p) c.caller.result (caller c.args.account.now) c.args.program c.args.program (part_of c.begin.new.self) (begun (part_of c.args.here.now).site.chain Nothing (part_of c.args.here.now))
     c.caller.ensures refl begun_is c.in_ok-outcome.ensures.ok in
     ap (λ (p : ChainPart). p.site) c.finish.ensures.finished ∙ ap (λ x. x.1.site) ran
-    ∙ site_of_run c.law_of_readiness.ensures.done [] c.args.rules.now (caller c.args.account.now) c.args.rules.now.limit c.args.program (begun (part_of c.args.here.now).site.chain Nothing (part_of c.args.here.now)) (carrying_nothing (part_of c.args.here.now) (part_of c.args.here.now).site.chain c.requires.between)
+    ∙ site_of_run [] c.args.rules.now (caller c.args.account.now) c.args.rules.now.limit c.args.program (begun (part_of c.args.here.now).site.chain Nothing (part_of c.args.here.now)) (carrying_nothing (part_of c.args.here.now) (part_of c.args.here.now).site.chain c.requires.between)
