@@ -90,36 +90,37 @@ comes_at_end m t (MachineCall.Respond info answer querier) asks = absurd asks.2
 comes_at_end m t MachineCall.HoldFee asks = no_fee_at_end m asks.0 asks.1
 comes_at_end m t _ asks = tt
 
+-- the fact holds of a machine where nothing is in hand
+abbrev Rests : (MachineWithGoods → Type 0) → Machine → Type 0
+Rests K m = K (between m)
+
 module _ (K : MachineWithGoods → Type 0) (kept : IsKeptAtEnd K) where
-  abbrev Rests : Machine → Type 0
-  Rests m = K (between m)
+  pub told_rests : (m : Machine) (e : Event) → Rests K m → Rests K (machine m.regs (told m.part e))
+  told_rests m e k = subst (λ (p : ChainPart). Rests K (machine m.regs p)) (part_is (MachineCall.Tell e) (between m)) (kept.closing m (between m) (MachineCall.Tell e) k (refl, refl) tt (from_itself m) refl k)
 
-  pub told_rests : (m : Machine) (e : Event) → Rests m → Rests (machine m.regs (told m.part e))
-  told_rests m e k = subst (λ (p : ChainPart). Rests (machine m.regs p)) (part_is (MachineCall.Tell e) (between m)) (kept.closing m (between m) (MachineCall.Tell e) k (refl, refl) tt (from_itself m) refl k)
+  settled_rests : (m : Machine) → Rests K m → Rests K (machine m.regs (settled m.part))
+  settled_rests m k = subst (λ (p : ChainPart). Rests K (machine m.regs p)) (part_is MachineCall.Settle (between m)) (kept.closing m (between m) MachineCall.Settle k (refl, refl) tt (from_itself m) refl k)
 
-  settled_rests : (m : Machine) → Rests m → Rests (machine m.regs (settled m.part))
-  settled_rests m k = subst (λ (p : ChainPart). Rests (machine m.regs p)) (part_is MachineCall.Settle (between m)) (kept.closing m (between m) MachineCall.Settle k (refl, refl) tt (from_itself m) refl k)
-
-  emptied : (m : Machine) → Rests m → K (after MachineCall.Empty (between m))
+  emptied : (m : Machine) → Rests K m → K (after MachineCall.Empty (between m))
   emptied m k = kept.closing m (between m) MachineCall.Empty k (refl, refl) tt (from_itself m) refl k
 
   from_emptied : (m : Machine) → IsFrom m (after MachineCall.Empty (between m))
   from_emptied m = record { regs = refl; settings = refl }
 
-  trapped_rests : (m : Machine) (who : Location) → Rests m → Rests (machine (with_holding m.regs empty) (trapped m.part m.regs.holding who))
+  trapped_rests : (m : Machine) (who : Location) → Rests K m → Rests K (machine (with_holding m.regs empty) (trapped m.part m.regs.holding who))
   trapped_rests m who k = let t = after MachineCall.Empty (between m) in
-      subst (λ (p : ChainPart). Rests (machine (with_holding m.regs empty) p)) (part_is (MachineCall.Trap who) t) (kept.closing m t (MachineCall.Trap who) k refl tt (from_emptied m) refl (emptied m k))
+      subst (λ (p : ChainPart). Rests K (machine (with_holding m.regs empty) p)) (part_is (MachineCall.Trap who) t) (kept.closing m t (MachineCall.Trap who) k refl tt (from_emptied m) refl (emptied m k))
 
-  pub abandoned_kept : (m : Machine) (now : ChainPart) → now ≡ abandoned m.regs m.part → Rests m → Ends K now
+  pub abandoned_kept : (m : Machine) (now : ChainPart) → now ≡ abandoned m.regs m.part → Rests K m → Ends K now
   abandoned_kept m now is k = let t = after MachineCall.Empty (between m) in
       record {
         regs = with_holding m.regs empty;
         nothing = refl;
-        kept = subst (λ (p : ChainPart). Rests (machine (with_holding m.regs empty) p)) (sym is)
-            (subst (λ (p : ChainPart). Rests (machine (with_holding m.regs empty) p)) (part_is MachineCall.Park t) (kept.closing m t MachineCall.Park k refl tt (from_emptied m) refl (emptied m k)));
+        kept = subst (λ (p : ChainPart). Rests K (machine (with_holding m.regs empty) p)) (sym is)
+            (subst (λ (p : ChainPart). Rests K (machine (with_holding m.regs empty) p)) (part_is MachineCall.Park t) (kept.closing m t MachineCall.Park k refl tt (from_emptied m) refl (emptied m k)));
       }
 
-  refund_done : (m : Machine) → refused Instruction-F.RefundSurplus m ≡ None → Rests m → Rests (done Instruction-F.RefundSurplus m)
+  refund_done : (m : Machine) → refused Instruction-F.RefundSurplus m ≡ None → Rests K m → Rests K (done Instruction-F.RefundSurplus m)
   refund_done m free k =
       done_keeps Instruction-F.RefundSurplus m K (λ c t asks from ok kt. kept.closing m t c k (also_at_end Instruction-F.RefundSurplus m t c asks) (comes_at_end m t c asks) from ok kt) (λ t from kt. by_refund (refund_now m) t kt) free k
     where
@@ -127,27 +128,27 @@ module _ (K : MachineWithGoods → Type 0) (kept : IsKeptAtEnd K) where
       by_refund None t kt = kt
       by_refund (Some given) t kt = kept.closed t (refund_noted m (Some given) t.regs) refl refl kt
 
-  last_by : (m : Machine) (o : Option XcmError) → refusal_of refund_surplus m ≡ o → Rests m → Rests (left_after xcm refund_surplus m o)
-  last_by m None e k = subst (λ (l : Instruction-F Instruction). Rests (done l m)) (sym refund_layer) (refund_done m (ap (λ (l : Instruction-F Instruction). refused l m) (sym refund_layer) ∙ e) k)
+  last_by : (m : Machine) (o : Option XcmError) → refusal_of refund_surplus m ≡ o → Rests K m → Rests K (left_after xcm refund_surplus m o)
+  last_by m None e k = subst (λ (l : Instruction-F Instruction). Rests K (done l m)) (sym refund_layer) (refund_done m (ap (λ (l : Instruction-F Instruction). refused l m) (sym refund_layer) ∙ e) k)
   last_by m (Some error) e k = k
 
-  last_kept : (m : Machine) → Rests m → Rests (refunded_last xcm m)
+  last_kept : (m : Machine) → Rests K m → Rests K (refunded_last xcm m)
   last_kept m k = last_by m (refusal_of refund_surplus m) refl k
 
-  rest_kept : (b : Bool) (r : Registers) (p : ChainPart) → (b ≡ true → r.holding ≡ empty) → Rests (machine r p) → Ends K (if b then p else trapped p r.holding (owner_of r))
+  rest_kept : (b : Bool) (r : Registers) (p : ChainPart) → (b ≡ true → r.holding ≡ empty) → Rests K (machine r p) → Ends K (if b then p else trapped p r.holding (owner_of r))
   rest_kept true r p none k = record { regs = r; nothing = none refl; kept = k }
   rest_kept false r p none k = record { regs = with_holding r empty; nothing = refl; kept = trapped_rests (machine r p) (owner_of r) k }
 
-  pub finished_kept : (m : Machine) → Rests m → Ends K (finished xcm m)
+  pub finished_kept : (m : Machine) → Rests K m → Ends K (finished xcm m)
   finished_kept m k =
       let last = refunded_last xcm m in
       rest_kept (nat_eq (length (rows last.regs.holding)) 0) last.regs (settled (end_told last)) (no_rows last.regs.holding) (settled_rests (machine last.regs (end_told last)) (told_rests last (end_event last.regs) (last_kept m k)))
 
-  refund_spilled : (m now : Machine) (l : Instruction-F Instruction) → l ≡ Instruction-F.RefundSurplus → Spilled l m now → Rests m → Rests now
+  refund_spilled : (m now : Machine) (l : Instruction-F Instruction) → l ≡ Instruction-F.RefundSurplus → Spilled l m now → Rests K m → Rests K now
   refund_spilled m now l is s k =
       lead_keeps Instruction-F.RefundSurplus m K (λ c t early asks from ok kt. kept.closing m t c k (also_at_end Instruction-F.RefundSurplus m t c asks) (comes_at_end m t c asks) from ok kt) now (spilled_lead Instruction-F.RefundSurplus m now (subst (λ (l : Instruction-F Instruction). Spilled l m now) is s)) k
 
-  pub at_end_kept : (m : Machine) (now : ChainPart) → HaltedAtEnd xcm spills m now → Rests m → Ends K now
+  pub at_end_kept : (m : Machine) (now : ChainPart) → HaltedAtEnd xcm spills m now → Rests K m → Ends K now
   at_end_kept m now h k =
       let last = refunded_last xcm m in
       let ended = last_kept m k in
@@ -179,89 +180,86 @@ kept_at_end Q K kept = record {
 }
 
 module _ (Q : Instruction → Type 0) (K : MachineWithGoods → Type 0) (kept : IsKeptByCalls Q K) where
-  abbrev pub At_rest : Machine → Type 0
-  At_rest m = K (between m)
-
   abbrev at_end : IsKeptAtEnd K
   at_end = kept_at_end Q K kept
 
-  pub done_kept : (x : Instruction) (m : Machine) → Q x → refusal_of x m ≡ None → At_rest m → At_rest (xcm.done x m)
+  pub done_kept : (x : Instruction) (m : Machine) → Q x → refusal_of x m ≡ None → Rests K m → Rests K (xcm.done x m)
   done_kept x m q free k =
       done_keeps (out-Instruction x) m K (λ c t asks from ok kt. kept.called x (out-Instruction x) refl q Moment.Inside m t c k asks from ok kt)
       (λ t from kt. kept.turned t (turned (out-Instruction x) m t.regs) (turns (out-Instruction x) m t from) kt) free k
 
-  pub spilled_kept : (x : Instruction) (m now : Machine) → Q x → spills x m now → At_rest m → At_rest now
+  pub spilled_kept : (x : Instruction) (m now : Machine) → Q x → spills x m now → Rests K m → Rests K now
   spilled_kept x m now q s k =
       spilled_keeps x m K (λ c t asks from ok kt. kept.called x (out-Instruction x) refl q Moment.Inside m t c k asks from ok kt)
       (λ t from kt. kept.turned t (turned (out-Instruction x) m t.regs) (turns (out-Instruction x) m t from) kt) now s k
 
-  registers_kept : (m : Machine) (r : Registers) → r.holding ≡ m.regs.holding → r.origin ≡ m.regs.origin → At_rest m → At_rest (machine r m.part)
+  registers_kept : (m : Machine) (r : Registers) → r.holding ≡ m.regs.holding → r.origin ≡ m.regs.origin → Rests K m → Rests K (machine r m.part)
   registers_kept m r holding origin k = kept.turned (between m) r (stays_origin m.regs r holding origin) k
 
   -- ---- a run
-  begin_kept : (part : Part) (program : List Instruction) (m : Machine) → At_rest m → At_rest (machine_of (begin part program m))
+  begin_kept : (part : Part) (program : List Instruction) (m : Machine) → Rests K m → Rests K (machine_of (begin part program m))
   begin_kept part [] m k = k
   begin_kept part (x ∷ behind) m k = k
 
-  to_appendix_kept : (m : Machine) → At_rest m → At_rest (machine_of (to_appendix m))
+  to_appendix_kept : (m : Machine) → Rests K m → Rests K (machine_of (to_appendix m))
   to_appendix_kept m k = begin_kept parts.Appendix m.regs.appendix (record m { regs = without_appendix m.regs }) (registers_kept m (without_appendix m.regs) refl refl k)
 
-  to_handler_kept : (handler : List Instruction) (m : Machine) → At_rest m → At_rest (machine_of (to_handler handler m))
+  to_handler_kept : (handler : List Instruction) (m : Machine) → Rests K m → Rests K (machine_of (to_handler handler m))
   to_handler_kept [] m k = to_appendix_kept m k
   to_handler_kept (x ∷ behind) m k = registers_kept m (without_handler m.regs) refl refl k
 
-  pub go_on_kept : (part : Part) (place : ℕ) (behind : List Instruction) (m : Machine) → At_rest m → At_rest (machine_of (go_on part place behind m))
+  pub go_on_kept : (part : Part) (place : ℕ) (behind : List Instruction) (m : Machine) → Rests K m → Rests K (machine_of (go_on part place behind m))
   go_on_kept part place [] m k = to_appendix_kept (record m { regs = handler_dropped m.regs }) (registers_kept m (handler_dropped m.regs) refl refl k)
   go_on_kept part place (x ∷ behind) m k = k
 
-  by_answer_kept : (part : Part) (place : ℕ) (x : Instruction) (behind : List Instruction) (m : Machine) (o : Option XcmError) → refusal_of x m ≡ o → Q x → At_rest m → At_rest (machine_of (by_answer xcm part place x behind m o))
+  by_answer_kept : (part : Part) (place : ℕ) (x : Instruction) (behind : List Instruction) (m : Machine) (o : Option XcmError) → refusal_of x m ≡ o → Q x → Rests K m → Rests K (machine_of (by_answer xcm part place x behind m o))
   by_answer_kept part place x behind m None e q k = go_on_kept part (place + 1) behind (traced part place x None (xcm.done x m)) (told_rests K at_end (xcm.done x m) _ (done_kept x m q e k))
   by_answer_kept part place x behind m (Some error) e q k =
       let n = traced part place x (Some error) m in
       to_handler_kept m.regs.handler (record n { regs = failed place error behind m.regs }) (registers_kept n (failed place error behind m.regs) refl refl (told_rests K at_end m _ k))
 
-  pub next_kept : (g : Stage) → IsAheadOf Q g → At_rest (machine_of g) → At_rest (machine_of (next xcm g))
+  pub next_kept : (g : Stage) → IsAheadOf Q g → Rests K (machine_of g) → Rests K (machine_of (next xcm g))
   next_kept (At part place x behind m) ahead k = by_answer_kept part place x behind m (refusal_of x m) refl ahead.ahead_hold.0 k
   next_kept (Ended m) ahead k = k
 
   -- ---- memory is refused
-  pub halted_kept : (x : Instruction) (m now : Machine) → Q x → Halted xcm spills x m now → At_rest m → At_rest now
+  pub halted_kept : (x : Instruction) (m now : Machine) → Q x → Halted xcm spills x m now → Rests K m → Rests K now
   halted_kept x m now q h k =
       halted_keeps x m K (λ c t asks from ok kt. kept.called x (out-Instruction x) refl q Moment.Inside m t c k asks from ok kt)
       (λ t from kt. kept.turned t (turned (out-Instruction x) m t.regs) (turns (out-Instruction x) m t from) kt) now h k
 
   -- ---- wherever a run comes
-  steps_kept : (n : ℕ) (g : Stage) → ((k : ℕ) → IsAheadOf Q (steps xcm k g)) → At_rest (machine_of g) → At_rest (machine_of (steps xcm n g))
+  steps_kept : (n : ℕ) (g : Stage) → ((k : ℕ) → IsAheadOf Q (steps xcm k g)) → Rests K (machine_of g) → Rests K (machine_of (steps xcm n g))
   unfolding steps
   steps_kept zero g ahead k = k
   steps_kept (suc n) g ahead k = steps_kept n (next xcm g) (λ j. ahead (suc j)) (next_kept g (ahead 0) k)
 
-  pub reached_kept : (g h : Stage) → ((k : ℕ) → IsAheadOf Q (steps xcm k g)) → Reaches xcm g h → At_rest (machine_of g) → At_rest (machine_of h)
-  reached_kept g h ahead r k = subst (λ (h : Stage). At_rest (machine_of h)) r.1 (steps_kept r.0 g ahead k)
+  pub reached_kept : (g h : Stage) → ((k : ℕ) → IsAheadOf Q (steps xcm k g)) → Reaches xcm g h → Rests K (machine_of g) → Rests K (machine_of h)
+  reached_kept g h ahead r k = subst (λ (h : Stage). Rests K (machine_of h)) r.1 (steps_kept r.0 g ahead k)
 
   module _ (rules : ChainRules) (origin : Location) where
-    begun_kept : (a : Admitted) (p : ChainPart) → At_rest (first_machine rules origin p) → At_rest (machine_of (first_stage rules origin a p))
+    begun_kept : (a : Admitted) (p : ChainPart) → Rests K (first_machine rules origin p) → Rests K (machine_of (first_stage rules origin a p))
     begun_kept a p k = begin_kept parts.Program a.program (first_machine rules origin p) k
 
-    pub run_kept : (a : Admitted) (p : ChainPart) → ((k : ℕ) → IsAheadOf Q (steps xcm k (first_stage rules origin a p))) → At_rest (first_machine rules origin p)
-        → (g : Stage) → Reaches xcm (first_stage rules origin a p) g → At_rest (machine_of g)
+    pub run_kept : (a : Admitted) (p : ChainPart) → ((k : ℕ) → IsAheadOf Q (steps xcm k (first_stage rules origin a p))) → Rests K (first_machine rules origin p)
+        → (g : Stage) → Reaches xcm (first_stage rules origin a p) g → Rests K (machine_of g)
     run_kept a p ahead k g r = reached_kept (first_stage rules origin a p) g ahead r (begun_kept a p k)
 
-    pub ran_kept : (a : Admitted) (p : ChainPart) → ((k : ℕ) → IsAheadOf Q (steps xcm k (first_stage rules origin a p))) → At_rest (first_machine rules origin p) → At_rest (last_machine rules origin a p)
+    pub ran_kept : (a : Admitted) (p : ChainPart) → ((k : ℕ) → IsAheadOf Q (steps xcm k (first_stage rules origin a p))) → Rests K (first_machine rules origin p) → Rests K (last_machine rules origin a p)
     ran_kept a p ahead k = run_kept a p ahead k (run xcm (first_stage rules origin a p)) (still_to_run (first_stage rules origin a p), refl)
 
-    pub executed_by_kept : (r : Result Admitted Outcome) (p : ChainPart) → ((a : Admitted) → r ≡ Ok a → (k : ℕ) → IsAheadOf Q (steps xcm k (first_stage rules origin a p))) → At_rest (first_machine rules origin p) → Ends K (executed_by rules origin r p).1
+    pub executed_by_kept : (r : Result Admitted Outcome) (p : ChainPart) → ((a : Admitted) → r ≡ Ok a → (k : ℕ) → IsAheadOf Q (steps xcm k (first_stage rules origin a p))) → Rests K (first_machine rules origin p) → Ends K (executed_by rules origin r p).1
     executed_by_kept (Err outcome) p ahead k = record { regs = (first_machine rules origin p).regs; nothing = refl; kept = k }
     executed_by_kept (Ok a) p ahead k = finished_kept K at_end (last_machine rules origin a p) (ran_kept a p (ahead a refl) k)
 
-    pub abandoned_in_kept : (a : Admitted) (p now : ChainPart) → ((k : ℕ) → IsAheadOf Q (steps xcm k (first_stage rules origin a p))) → AbandonedIn rules origin a p now → At_rest (first_machine rules origin p) → Ends K now
+    pub abandoned_in_kept : (a : Admitted) (p now : ChainPart) → ((k : ℕ) → IsAheadOf Q (steps xcm k (first_stage rules origin a p))) → AbandonedIn rules origin a p now → Rests K (first_machine rules origin p) → Ends K now
     abandoned_in_kept a p now ahead h k =
         ⊎_elim
         (λ (s : (stopped : Machine) × StoppedIn xcm spills (first_stage rules origin a p) stopped × (now ≡ abandoned stopped.regs stopped.part)).
         abandoned_kept K at_end s.0 now s.2 (stopped_kept s.0 s.1))
         (λ (e : HaltedAtEnd xcm spills (last_machine rules origin a p) now). at_end_kept K at_end (last_machine rules origin a p) now e (ran_kept a p ahead k)) h
       where
-        stopped_kept : (left : Machine) → StoppedIn xcm spills (first_stage rules origin a p) left → At_rest left
+        stopped_kept : (left : Machine) → StoppedIn xcm spills (first_stage rules origin a p) left → Rests K left
         stopped_kept left s =
             let before = run_kept a p ahead k (At s.part s.place s.which s.behind s.before) s.reached in
             let here = subst (IsAheadOf Q) s.reached.1 (ahead s.reached.0) in
