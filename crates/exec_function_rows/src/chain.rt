@@ -145,7 +145,8 @@ pub(crate) fn opened(alloc: Global) -> Result<FakeHost, AllocError>
 {
     let rows = rows(alloc)?;
     let accounts = accounts(alloc)?;
-    FakeHost::new(alloc, RELAY, rows, accounts, queries(alloc)?)
+    let queries = queries(alloc)?;
+    FakeHost::new(alloc, RELAY, rows, accounts, queries)
 }
 
 /// What an account has of each asset.

@@ -18,4 +18,4 @@ pub new-requires-clause-once : goal.new-requires-clause-once
 new-requires-clause-once c = subst (λ bs. IsDistinct same_holding bs) (sym c.in_ok-accounts.ensures) each_held_once
 
 pub returns : goal.returns
-returns c = record { rests = if_opened _ _ _ _ c.new.result c.new.ensures.opened }
+returns c = record { rests = if_opened _ _ c.in_ok-accounts.accounts.items c.in_ok-queries.queries.items c.new.result c.new.ensures.opened }
