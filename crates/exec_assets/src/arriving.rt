@@ -9,8 +9,8 @@ ghost use Rattle.exec_assets.specs.Arriving.{arriving};
 
 use asset_lists::Assets;
 use exec_base::{Host, Registers};
-use exec_holding::{answer_of, has_room, hold};
 use exec_calls::law_of_readiness;
+use exec_holding::{answer_of, has_room, hold};
 use locations::{Junction, Location};
 use message_parts::XcmError;
 use std::alloc::AllocError;

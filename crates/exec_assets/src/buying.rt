@@ -10,8 +10,8 @@ ghost use Rattle.weight_trader.specs.Refunds.{weight_minus};
 
 use asset_lists::{Asset, AssetId};
 use exec_base::{Host, Registers};
-use exec_holding::{answer_of, has_room, hold, put_back, take_asset};
 use exec_calls::law_of_readiness;
+use exec_holding::{answer_of, has_room, hold, put_back, take_asset};
 use locations::Location;
 use message_parts::{Weight, WeightLimit, XcmError};
 use std::alloc::{AllocError, Global};
