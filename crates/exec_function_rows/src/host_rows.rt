@@ -73,29 +73,37 @@ fn claimed(host: &mut FakeHost, list: &Assets) -> Result<(), HostFault> {
     }
 }
 
+/// The list is offered to a location without account and trapped, then claimed, and once more: whether
+/// each of these is so in its turn.
+fn played(host: &mut FakeHost, list: &Assets, nobody: &Location) -> Result<[bool; 13], AllocError> {
+    let none = Total { high: 0, low: 0 };
+    let all = Total { high: 0, low: 5 };
+    let refused = Ok(Some(HostFault::Xcm(XcmError::FailedToTransactAsset)));
+    let unknown = Err(HostFault::Xcm(XcmError::UnknownClaim));
+    Ok([
+        holdings(host, &A1) == [5, 5, 5],
+        are_all_of(host, &A1)?,
+        trapped(host) == [none, none, none],
+        offered(host, list, nobody) == refused,
+        holdings(host, &A1) == [0, 0, 0],
+        host.accounts()?.is_empty(),
+        trapped(host) == [all, all, all],
+        matches!(host.events(), [Event::Trapped { number: 1 }]),
+        claimed(host, list).is_ok(),
+        holdings(host, &A2) == [5, 5, 5],
+        are_all_of(host, &A2)?,
+        trapped(host) == [none, none, none],
+        claimed(host, list) == unknown,
+    ])
+}
+
 #[test]
 fn what_no_account_takes_is_trapped_and_claimed(rt: HostRuntime) -> Result<(), Fail> {
     let alloc = rt.alloc();
     let list = Assets::from_sorted(vec![in alloc; five(0), five(1), five(2)]?)?;
     let nobody = at(Junction::PalletInstance(9));
-    let none = Total { high: 0, low: 0 };
-    let all = Total { high: 0, low: 5 };
     let mut host = opened(alloc)?;
-    assert!(rt; holdings(&host, &A1) == [5, 5, 5]);
-    assert!(rt; are_all_of(&host, &A1)?);
-    assert!(rt; trapped(&host) == [none, none, none]);
-    assert!(rt;
-        offered(&mut host, &list, &nobody)
-            == Ok(Some(HostFault::Xcm(XcmError::FailedToTransactAsset)))
-    );
-    assert!(rt; holdings(&host, &A1) == [0, 0, 0]);
-    assert!(rt; host.accounts()?.is_empty());
-    assert!(rt; trapped(&host) == [all, all, all]);
-    assert!(rt; matches!(host.events(), [Event::Trapped { number: 1 }]));
-    assert!(rt; claimed(&mut host, &list).is_ok());
-    assert!(rt; holdings(&host, &A2) == [5, 5, 5]);
-    assert!(rt; are_all_of(&host, &A2)?);
-    assert!(rt; trapped(&host) == [none, none, none]);
-    assert!(rt; claimed(&mut host, &list) == Err(HostFault::Xcm(XcmError::UnknownClaim)));
+    let so = played(&mut host, &list, &nobody)?;
+    assert!(rt; so == [true; 13]);
     Ok(())
 }

@@ -1,9 +1,16 @@
 //! Messages in hexadecimal digits, and what their execution tells.
+ghost use Rattle.std.specs.Prelude.{OnOk};
+ghost use Rattle.exec_rules.specs.Readiness.{IsAtRest};
+ghost use Rattle.fake_host.specs.PartOf.{part_of};
+
 use crate::chain::{A1, A2, executed, five, holdings, opened, rules};
 use crate::texts::report;
 use asset_bundles::{Cause, Total};
 use asset_lists::Kind;
+use fake_host::FakeHost;
+use std::alloc::Global;
 use std::test::Fail;
+use xcm_executor::ChainRules;
 
 /// A message that is executed on a new chain, and its trace and outcome: each instruction at least once, and runs with handlers and
 /// appendices.
@@ -251,14 +258,39 @@ const CLAIMS: [(&str, &str); 3] = [
     ),
 ];
 
+/// Executes a message on the chain: the lines that it tells, and its outcome.
+fn told(
+    alloc: Global,
+    host: &mut FakeHost,
+    rules: &ChainRules,
+    message: &str,
+) -> Result<String, Fail>
+    requires rest { IsAtRest (part_of host.old) }
+    ensures rests { OnOk result (IsAtRest (part_of host.new)) }
+{
+    let before = host.events().len();
+    let (outcome, _) = executed(alloc, host, rules, message)?;
+    Ok(report(alloc, host.events(), before, outcome)?)
+}
+
+/// The flags of three messages: the first instruction is done, it is refused, and there is none.
+fn flags(alloc: Global, host: &mut FakeHost, rules: &ChainRules) -> Result<[bool; 3], Fail>
+    requires rest { IsAtRest (part_of host.old) }
+{
+    let first = executed(alloc, host, rules, "04080a1914")?.1;
+    let refused = executed(alloc, host, rules, "040819140a")?.1;
+    let none = executed(alloc, host, rules, "0400")?.1;
+    Ok([first, refused, none])
+}
+
 #[test]
 fn each_instruction_answers_as_its_rule_says(rt: HostRuntime) -> Result<(), Fail> {
     let alloc = rt.alloc();
     let rules = rules(alloc)?;
-    for (message, told) in &MESSAGES {
+    for (message, text) in &MESSAGES {
         let mut host = opened(alloc)?;
-        let (outcome, _) = executed(alloc, &mut host, &rules, message)?;
-        assert!(rt; report(alloc, host.events(), 0, outcome)?.as_str() == *told);
+        let told = told(alloc, &mut host, &rules, message)?;
+        assert!(rt; told.as_str() == *text);
     }
     Ok(())
 }
@@ -268,9 +300,8 @@ fn the_flag_is_of_the_first_instruction(rt: HostRuntime) -> Result<(), Fail> {
     let alloc = rt.alloc();
     let rules = rules(alloc)?;
     let mut host = opened(alloc)?;
-    assert!(rt; executed(alloc, &mut host, &rules, "04080a1914")?.1);
-    assert!(rt; !executed(alloc, &mut host, &rules, "040819140a")?.1);
-    assert!(rt; !executed(alloc, &mut host, &rules, "0400")?.1);
+    let flags = flags(alloc, &mut host, &rules)?;
+    assert!(rt; flags == [true, false, false]);
     Ok(())
 }
 
@@ -279,11 +310,9 @@ fn what_no_account_takes_is_claimed_once(rt: HostRuntime) -> Result<(), Fail> {
     let alloc = rt.alloc();
     let rules = rules(alloc)?;
     let mut host = opened(alloc)?;
-    let mut told = 0;
     for (message, text) in &CLAIMS {
-        let (outcome, _) = executed(alloc, &mut host, &rules, message)?;
-        assert!(rt; report(alloc, host.events(), told, outcome)?.as_str() == *text);
-        told = host.events().len();
+        let told = told(alloc, &mut host, &rules, message)?;
+        assert!(rt; told.as_str() == *text);
     }
     assert!(rt; holdings(&host, &A1) == [0, 0, 0]);
     assert!(rt; holdings(&host, &A2) == [5, 5, 5]);
