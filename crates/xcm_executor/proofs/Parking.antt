@@ -15,7 +15,7 @@ use Rattle.exec_rules.specs.Readiness.{IsSteady}
 use Rattle.exec_rules.specs.Stopping.{spills}
 use Rattle.xcm_executor.specs.Running.{IsReadyThroughout}
 use Rattle.exec_calls.specs.Calls.{MachineWithGoods, MachineCall, after}
-use Rattle.exec_calls.specs.Reasons.{Asks}
+use Rattle.exec_calls.specs.Reasons.{Moment, HasReason}
 use Rattle.exec_calls.specs.ReasonLaws.{lead_keeps}
 use Rattle.exec_calls.specs.StopLaws.{spilled_lead}
 
@@ -42,7 +42,7 @@ few_as : (now k : Machine) → now ≡ k → HasFew k → HasFew now
 few_as now k e h = subst HasFew (sym e) h
 
 -- ---- an instruction that memory stops
-call_few : (l : Instruction-F Instruction) (m : Machine) → m.part.parked ≡ [] → (c : MachineCall) (t : MachineWithGoods) → Asks false l m t c → length t.part.parked ≤ 1 → length (after c t).part.parked ≤ 1
+call_few : (l : Instruction-F Instruction) (m : Machine) → m.part.parked ≡ [] → (c : MachineCall) (t : MachineWithGoods) → HasReason Moment.Inside l m t c → length t.part.parked ≤ 1 → length (after c t).part.parked ≤ 1
 call_few l m none MachineCall.Park t asks few = one_parked t.part t.part t.goods (asks ∙ none) refl
 call_few l m none _ t asks few = few
 
