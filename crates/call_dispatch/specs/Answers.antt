@@ -1,0 +1,11 @@
+-- Why bytes aren't read as a call.
+use Rattle.std.specs.Prelude.{ℕ, List, ⊤}
+use Rattle.scale_codec.specs.Spelling.{Spells}
+use Rattle.call_dispatch.specs.declared.faults.CallFault.{CallFault}
+use Rattle.call_dispatch.specs.declared.faults.CallFault.TheVariants.{NotACall, Memory}
+use Rattle.call_dispatch.specs.Spelling.{AnyCall, call, FitsCall}
+
+-- no call is spelled so
+abbrev pub IsCause : List ℕ → CallFault → Type 0
+IsCause bytes NotACall = (c : AnyCall) → Spells call FitsCall c bytes → ⊥
+IsCause bytes Memory = ⊤
