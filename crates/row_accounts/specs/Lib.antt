@@ -1,0 +1,3 @@
+pub mod RowAccounts
+pub mod Calls
+pub mod Laws
