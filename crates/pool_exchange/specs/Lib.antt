@@ -1,0 +1,4 @@
+pub mod Pools
+pub mod Trading
+pub mod Products
+pub mod Laws
