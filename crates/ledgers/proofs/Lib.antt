@@ -12,6 +12,7 @@ pub mod AccountMoves
 pub mod Totals
 pub mod Reading
 pub mod Opening
+pub mod Exchanging
 pub mod Transferring
 pub mod LedgerLaws
 pub mod AccountOrders

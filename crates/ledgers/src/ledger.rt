@@ -1,8 +1,8 @@
 //! The ledger of a chain.
-ghost use Rattle.std.specs.Prelude.{◌≡◌, ◌-◌, ◌^◌, ◌<◌, None, Some, map, min, option_copied, length, slice_get, IfOk, IfErr, IfSome, OnOk, OnErr, MatchOption};
+ghost use Rattle.std.specs.Prelude.{◌≡◌, ◌+◌, ◌-◌, ◌^◌, ◌<◌, ◌≤◌, None, Some, map, min, option_copied, length, slice_get, IfOk, IfErr, IfSome, OnOk, OnErr, MatchOption};
 ghost use Rattle.std.specs.Ordering.{eq_by_cmp};
 ghost use Rattle.std.specs.List.{IsDistinct};
-ghost use Rattle.amounts.specs.Amounts.{amount, empty};
+ghost use Rattle.amounts.specs.Amounts.{amount, empty, plus, minus};
 ghost use Rattle.asset_lists.specs.declared.units.Kind.{Kind};
 ghost use Rattle.asset_bundles.specs.Bundles.{bundle_of, held_assets};
 ghost use Rattle.asset_lists.specs.Units.{unit_of};
@@ -19,7 +19,7 @@ use crate::rows::Rows;
 use crate::sums::zero_sums;
 use crate::{DepositFault, LedgerFault, TransferFault};
 use asset_bundles::{AssetBundle, Total};
-use asset_lists::{Asset, AssetId, Assets, Instance, Kind};
+use asset_lists::{Asset, AssetId, Assets, Fun, Instance, Kind};
 use locations::Location;
 use std::alloc::{AllocError, Global};
 use std::collections::BTreeMap;
@@ -217,6 +217,34 @@ impl Ledger {
         give_all(&mut self.rows, who, goods.items());
         goods.melt();
         Ok(())
+    }
+
+    /// Takes some of one fungible asset out of an account, and puts some of another into it. The account has so much of the first, and some
+    /// of the second, which doesn't pass 2^128-1. It takes no memory, since both rows are there.
+    pub fn exchange(
+        &mut self,
+        who: &[u8; 32],
+        out: &AssetId,
+        less: u128,
+        into: &AssetId,
+        more: u128,
+    )
+        requires some { 0 < less }
+        requires enough { less ≤ amount self.old.held (who.now, (out.now, None)) }
+        requires there { 0 < amount self.old.held (who.now, (into.now, None)) }
+        requires room { amount self.old.held (who.now, (into.now, None)) + more ≤ 2 ^ 128 - 1 }
+        ensures { self.new ≡ record { listed = self.old.listed; held = plus (minus self.old.held (who.now, (out.now, None)) less) (who.now, (into.now, None)) more } }
+    {
+        let taken = Asset {
+            id: out.copy(),
+            fun: Fun::Fungible(less),
+        };
+        let given = Asset {
+            id: into.copy(),
+            fun: Fun::Fungible(more),
+        };
+        self.rows.take(who, &taken);
+        self.rows.give(who, &given);
     }
 
     /// Why `transfer` would be refused, before it is made; None where only memory can refuse it. It takes no memory.
