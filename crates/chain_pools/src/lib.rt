@@ -1,0 +1,10 @@
+//! The pools of a chain: which pool exchanges two assets, and what an exchange does to accounts.
+#![tactic(auto)]
+
+mod exchanges;
+mod laws;
+mod pool;
+
+pub use exchanges::{Exchange, exchange_of};
+pub use laws::{law_of_exchanges, law_of_pool_accounts, law_of_spending};
+pub use pool::{Pool, pool_account};
