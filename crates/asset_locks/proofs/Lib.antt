@@ -1,0 +1,5 @@
+pub mod Edits
+pub mod Standing
+pub mod Searching
+pub mod Noting
+pub mod Booked

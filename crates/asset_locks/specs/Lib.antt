@@ -1,0 +1,6 @@
+pub mod Greatest
+pub mod LockMaps
+pub mod LockCode
+pub mod LockRows
+pub mod NoteRows
+pub mod Laws

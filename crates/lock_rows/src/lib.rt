@@ -1,0 +1,5 @@
+//! Locks and notes, with expected values worked out by hand.
+#![tactic(auto)]
+
+#[cfg(test)]
+mod course;
