@@ -75,7 +75,8 @@ impl LockBook {
         unlocker: &Location,
     ) -> Result<(), AllocError>
         requires some { 0 < amount }
-        ensures locked { OnOk result (self.new ≡ Locked (who.now, id.now, unlocker.now) amount self.old) }
+        ensures locked { OnOk result
+            (self.new ≡ Locked (who.now, id.now, unlocker.now) amount self.old) }
         ensures kept { OnErr result (self.new ≡ self.old) }
     {
         raise_lock(&mut self.locks, who, id, unlocker, amount)
@@ -90,8 +91,10 @@ impl LockBook {
         unlocker: &Location,
     ) -> Result<(), NotLocked>
         ensures enough { IsOk result ↔ (amount ≤ lock_at (who.now, id.now, unlocker.now) self.old) }
-        ensures unlocked { OnOk result (self.new ≡ Unlocked (who.now, id.now, unlocker.now) amount self.old) }
-        ensures have { IfErr result (λ fault. fault.have ≡ lock_at (who.now, id.now, unlocker.now) self.old) }
+        ensures unlocked { OnOk result
+            (self.new ≡ Unlocked (who.now, id.now, unlocker.now) amount self.old) }
+        ensures have { IfErr result
+            (λ fault. fault.have ≡ lock_at (who.now, id.now, unlocker.now) self.old) }
         ensures kept { OnErr result (self.new ≡ self.old) }
     {
         let have = lock_in(self.locks.as_slice(), who, id, unlocker);
@@ -111,7 +114,8 @@ impl LockBook {
         owner: &[u8; 32],
     ) -> Result<(), AllocError>
         requires some { 0 < amount }
-        ensures noted { OnOk result (self.new ≡ Noted (locker.now, id.now, owner.now) amount self.old) }
+        ensures noted { OnOk result
+            (self.new ≡ Noted (locker.now, id.now, owner.now) amount self.old) }
         ensures kept { OnErr result (self.new ≡ self.old) }
     {
         raise_note(&mut self.notes, locker, id, owner, amount)
@@ -126,8 +130,10 @@ impl LockBook {
         owner: &[u8; 32],
     ) -> Result<(), NotNoted>
         ensures enough { IsOk result ↔ (amount ≤ noted (locker.now, id.now, owner.now) self.old) }
-        ensures reduced { OnOk result (self.new ≡ Reduced (locker.now, id.now, owner.now) amount self.old) }
-        ensures have { IfErr result (λ fault. fault.have ≡ noted (locker.now, id.now, owner.now) self.old) }
+        ensures reduced { OnOk result
+            (self.new ≡ Reduced (locker.now, id.now, owner.now) amount self.old) }
+        ensures have { IfErr result
+            (λ fault. fault.have ≡ noted (locker.now, id.now, owner.now) self.old) }
         ensures kept { OnErr result (self.new ≡ self.old) }
     {
         let noted = note_in(&self.notes, locker, id, owner);

@@ -30,7 +30,10 @@ pub(crate) fn raise_lock(
     requires order { AreInOrder locks.old.items }
     requires some { 0 < amount }
     ensures order { AreInOrder locks.new.items }
-    ensures raised { OnOk result (locks_in locks.new.items ≡ with_amount (locks_in locks.old.items) (who.now, id.now, unlocker.now) (max (amount_in locks.old.items (who.now, id.now, unlocker.now)) amount)) }
+    ensures raised { OnOk result
+        (locks_in locks.new.items ≡ with_amount (locks_in locks.old.items)
+        (who.now, id.now, unlocker.now)
+        (max (amount_in locks.old.items (who.now, id.now, unlocker.now)) amount)) }
     ensures kept { OnErr result (locks_in locks.new.items ≡ locks_in locks.old.items) }
 {
     match place_of(locks.as_slice(), who, id, unlocker) {
@@ -62,7 +65,8 @@ pub(crate) fn lower_lock(
     requires order { AreInOrder locks.old.items }
     requires most { amount ≤ amount_in locks.old.items (who.now, id.now, unlocker.now) }
     ensures order { AreInOrder locks.new.items }
-    ensures lowered { locks_in locks.new.items ≡ with_amount (locks_in locks.old.items) (who.now, id.now, unlocker.now) amount }
+    ensures lowered { locks_in locks.new.items ≡ with_amount (locks_in locks.old.items)
+        (who.now, id.now, unlocker.now) amount }
 {
     let Ok(place) = place_of(locks.as_slice(), who, id, unlocker) else {
         return;

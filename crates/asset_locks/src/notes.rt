@@ -27,7 +27,10 @@ pub(crate) fn raise_note(
     owner: &[u8; 32],
     amount: u128,
 ) -> Result<(), AllocError>
-    ensures raised { OnOk result (notes_in rows.new.entries ≡ with_amount (notes_in rows.old.entries) (locker.now, id.now, owner.now) (max (note_at rows.old.entries (locker.now, id.now, owner.now)) amount)) }
+    ensures raised { OnOk result
+        (notes_in rows.new.entries ≡ with_amount (notes_in rows.old.entries)
+        (locker.now, id.now, owner.now)
+        (max (note_at rows.old.entries (locker.now, id.now, owner.now)) amount)) }
     ensures kept { OnErr result (notes_in rows.new.entries ≡ notes_in rows.old.entries) }
 {
     if amount > note_in(rows, locker, id, owner) {
@@ -45,7 +48,8 @@ pub(crate) fn lower_note(
     amount: u128,
 )
     requires { amount ≤ note_at rows.old.entries (locker.now, id.now, owner.now) }
-    ensures { notes_in rows.new.entries ≡ with_amount (notes_in rows.old.entries) (locker.now, id.now, owner.now) amount }
+    ensures { notes_in rows.new.entries ≡ with_amount (notes_in rows.old.entries)
+        (locker.now, id.now, owner.now) amount }
 {
     let key = (locker.copy(), id.copy(), *owner);
     if amount == 0 {

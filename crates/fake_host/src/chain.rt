@@ -28,8 +28,7 @@ use plain_lists::Listed;
 use std::alloc::{AllocError, Global};
 use trust_tables::{AssetRow, Site};
 
-/// A chain that opens with no rate, no channel, no pallet and no checking account. No call of a host
-/// makes one.
+/// A chain that opens with no rate, no channel, no pallet and no checking account.
 #[derive(Drop)]
 pub struct FakeHost {
     pub(crate) chain: ChainState,

@@ -8,7 +8,7 @@ use Rattle.std.specs.Map.{lookup, remove_entry, set_value}
 use Rattle.std.specs.BTreeMap.{insert_entry}
 use Rattle.amounts.specs.Rows.{IsKeyOrder}
 use Rattle.amounts.specs.Laws.{key_same}
-use Rattle.ledgers.specs.LedgerRows.{AmountKey, amount_key_cmp, amount_in_row, AreSmall}
+use Rattle.ledgers.specs.LedgerRows.{AmountKey, amount_key_cmp, amount_in_row, AreSmall, HasAmountRow}
 
 module _ {K X : Type 0} (R : K → K → Ordering) (k : K) (v : X) (es fs : List (K × X)) (wrote : (q : K) → lookup (eq_by_cmp R q) fs ≡ (if eq_by_cmp R k q then Some v else lookup (eq_by_cmp R q) es)) where
   -- rows stay
@@ -45,6 +45,18 @@ pub small_set : (test : AmountKey → Bool) (v : ℕ) (es : List (AmountKey × �
 small_set test v [] h small = small
 small_set test v (e ∷ es) h small =
     elim (test e.0) as (λ b. AreSmall (if b then (e.0, v) ∷ es else e ∷ set_value test es v)) [ true ↦ (h, small.1) | false ↦ (small.0, small_set test v es h small.1) ]
+
+-- a row that is found says what stands at its key
+pub found_says : (rows : List (AmountKey × ℕ)) (number have : ℕ) (who key : List ℕ) → Some have ≡ lookup (eq_by_cmp amount_key_cmp (number, key)) rows → key ≡ who → have ≡ amount_in_row rows (number, who)
+found_says rows number have who key found same = ap (λ o. unwrap_or o 0) found ∙ ap (λ w. amount_in_row rows (number, w)) same
+
+-- and a row of the account is one at a key of the same number and account
+pub there_too : (rows : List (AmountKey × ℕ)) (number : ℕ) (who key : List ℕ) → key ≡ who → HasAmountRow rows (number, who) → HasAmountRow rows (number, key)
+there_too rows number who key same there = subst (λ w. HasAmountRow rows (number, w)) (sym same) there
+
+-- small amounts stay small where one of them is written anew
+pub small_written : (old new : List (AmountKey × ℕ)) (test : AmountKey → Bool) (v : ℕ) → new ≡ set_value test old v → v ≤ 2 ^ 128 - 1 → AreSmall old → AreSmall new
+small_written old new test v set most small = subst AreSmall (sym set) (small_set test v old most small)
 
 -- what stands in a row of small ones is small
 pub small_at : (rows : List (AmountKey × ℕ)) (k : AmountKey) → AreSmall rows → amount_in_row rows k ≤ 2 ^ 128 - 1

@@ -233,7 +233,11 @@ impl Ledger {
         requires enough { less ≤ amount self.old.held (who.now, (out.now, None)) }
         requires there { 0 < amount self.old.held (who.now, (into.now, None)) }
         requires room { amount self.old.held (who.now, (into.now, None)) + more ≤ 2 ^ 128 - 1 }
-        ensures { self.new ≡ record { listed = self.old.listed; held = plus (minus self.old.held (who.now, (out.now, None)) less) (who.now, (into.now, None)) more } }
+        ensures { self.new ≡ record {
+          listed = self.old.listed;
+          held = plus (minus self.old.held (who.now, (out.now, None)) less)
+              (who.now, (into.now, None)) more;
+        } }
     {
         let taken = Asset {
             id: out.copy(),
