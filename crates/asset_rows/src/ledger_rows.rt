@@ -21,14 +21,14 @@ const A3: [u8; 32] = [3; 32];
 
 /// Why a move is refused.
 #[derive(Clone, Copy, PartialEq, Eq)]
-enum Refusal {
+pub(crate) enum Refusal {
     Less(u128),
     Over(u128),
     Owned([u8; 32]),
     Memory,
 }
 
-fn here() -> Location
+pub(crate) fn here() -> Location
     ensures { result ≡ record { parents = 0; interior = [] } }
 {
     Location {
@@ -56,7 +56,7 @@ fn asset(amount: u128, number: u128) -> Asset
 }
 
 /// A ledger of a fungible asset and a class.
-fn opened(alloc: Global) -> Result<Ledger, AllocError>
+pub(crate) fn opened(alloc: Global) -> Result<Ledger, AllocError>
     ensures { IfOk result (λ ledger. ledger.listed ≡ (Concrete (record { parents = 0; interior = [] }), Kind.Fungible) ∷ (Concrete (record { parents = 0; interior = [] }), Kind.Class) ∷ []) }
 {
     let list = Vec::from_array(alloc, [(here(), Kind::Fungible), (here(), Kind::Class)])?;
@@ -64,7 +64,7 @@ fn opened(alloc: Global) -> Result<Ledger, AllocError>
 }
 
 /// Deposits an asset, made for it.
-fn put(
+pub(crate) fn put(
     ledger: &mut Ledger,
     alloc: Global,
     who: &[u8; 32],

@@ -6,6 +6,8 @@ mod barrier_rows;
 #[cfg(test)]
 mod bundle_rows;
 #[cfg(test)]
+mod dispatch_rows;
+#[cfg(test)]
 mod ledger_rows;
 #[cfg(test)]
 mod list_rows;

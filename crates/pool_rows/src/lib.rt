@@ -1,5 +1,7 @@
-//! Exchanges with a pool, with expected values worked out by another program.
+//! Exchanges with a pool, worked out by hand.
 #![tactic(auto)]
 
 #[cfg(test)]
 mod exchanges;
+#[cfg(test)]
+mod ledger_exchanges;

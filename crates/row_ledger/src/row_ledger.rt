@@ -30,6 +30,13 @@ impl RowLedger {
     {
         RowLedger { rows, ledger }
     }
+
+    /// The ledger as it is now.
+    pub fn ledger(&self) -> &Ledger
+        ensures { result.now ≡ self.now.ledger }
+    {
+        &self.ledger
+    }
 }
 
 impl Mover for RowLedger {
