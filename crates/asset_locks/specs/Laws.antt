@@ -143,17 +143,21 @@ pub lock_at-Unlocked : (key : LockKey) (a : ℕ) (l : LocksAndNotes) (q : LockKe
 unfolding Unlocked
 lock_at-Unlocked key a l q = amount-minus lock_keys l.locks key a q
 
-pub locked_more : (key : LockKey) (a : ℕ) (l : LocksAndNotes) (q : LockKey) → lock_at q l ≤ lock_at q (Locked key a l)
-locked_more key a l q =
+-- a lock that is set lowers none, and none passes the greater of what it was and what was asked
+locked_between : (key : LockKey) (a : ℕ) (l : LocksAndNotes) (q : LockKey) → (lock_at q l ≤ lock_at q (Locked key a l)) × (lock_at q (Locked key a l) ≤ max (lock_at q l) a)
+locked_between key a l q =
     elim (cases_Bool (eq_by_cmp lock_cmp q key)) [
       | inl t ↦ (
           let is : lock_at q (Locked key a l) ≡ max (lock_at key l) a = lock_at-Locked key a l q ∙ ap (λ b. if b then max (lock_at key l) a else lock_at q l) t in
           let same : lock_at q l ≡ lock_at key l = ap (λ k. lock_at k l) (key_same lock_keys q key t) in
-          omega (arith, is, same))
+          (omega (arith, is, same), omega (arith, is, same)))
       | inr f ↦ (
           let is : lock_at q (Locked key a l) ≡ lock_at q l = lock_at-Locked key a l q ∙ ap (λ b. if b then max (lock_at key l) a else lock_at q l) f in
-          omega (arith, is))
+          (omega (arith, is), omega (arith, is)))
     ]
+
+pub locked_more : (key : LockKey) (a : ℕ) (l : LocksAndNotes) (q : LockKey) → lock_at q l ≤ lock_at q (Locked key a l)
+locked_more key a l q = (locked_between key a l q).0
 
 -- the lock itself is at least what was asked
 pub locked_enough : (key : LockKey) (a : ℕ) (l : LocksAndNotes) → lock_at key (Locked key a l) ≡ max (lock_at key l) a
@@ -162,18 +166,8 @@ locked_enough key a l = lock_at-Locked key a l key ∙ ap (λ b. if b then max (
 pub locked_other : (key : LockKey) (a : ℕ) (l : LocksAndNotes) (q : LockKey) → q ≢ key → lock_at q (Locked key a l) ≡ lock_at q l
 locked_other key a l q other = lock_at-Locked key a l q ∙ ap (λ b. if b then max (lock_at key l) a else lock_at q l) (apart lock_keys q key other)
 
--- no lock passes the greater of what it was and what was asked
 locked_most : (key : LockKey) (a : ℕ) (l : LocksAndNotes) (q : LockKey) → lock_at q (Locked key a l) ≤ max (lock_at q l) a
-locked_most key a l q =
-    elim (cases_Bool (eq_by_cmp lock_cmp q key)) [
-      | inl t ↦ (
-          let is : lock_at q (Locked key a l) ≡ max (lock_at key l) a = lock_at-Locked key a l q ∙ ap (λ b. if b then max (lock_at key l) a else lock_at q l) t in
-          let same : lock_at q l ≡ lock_at key l = ap (λ k. lock_at k l) (key_same lock_keys q key t) in
-          omega (arith, is, same))
-      | inr f ↦ (
-          let is : lock_at q (Locked key a l) ≡ lock_at q l = lock_at-Locked key a l q ∙ ap (λ b. if b then max (lock_at key l) a else lock_at q l) f in
-          omega (arith, is))
-    ]
+locked_most key a l q = (locked_between key a l q).1
 
 pub unlocked_less : (key : LockKey) (a : ℕ) (l : LocksAndNotes) (q : LockKey) → lock_at q (Unlocked key a l) ≤ lock_at q l
 unlocked_less key a l q = let is = lock_at-Unlocked key a l q in omega (arith, is)
