@@ -12,7 +12,7 @@ ghost use Rattle.call_dispatch.specs.Dispatches.{dispatch, IsInterrupted, sum_of
 
 /// The reader takes the spelling of each call, whatever follows it, and nothing else. A call has one spelling, by definition; none is
 /// a proper prefix of another; and what is written is read again.
-pub fn law_of_calls()
+pub fn law_of_spelled_calls()
     ensures reads { Reads call FitsCall call_at }
     ensures one { HasOneSpelling call FitsCall }
     ensures no_prefix { IsPrefixFree call FitsCall }

@@ -18,7 +18,7 @@ pub use call::{Batch, Call, NoBatch};
 pub use dispatching::dispatch;
 pub use end::CallEnd;
 pub use faults::{CallFault, ShiftFault};
-pub use laws::{law_of_calls, law_of_dispatches, law_of_interruptions, law_of_moving_back};
+pub use laws::{law_of_dispatches, law_of_interruptions, law_of_moving_back, law_of_spelled_calls};
 pub use mover::Mover;
 pub use reading::read_call;
 pub use units::call_units;

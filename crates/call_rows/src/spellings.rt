@@ -2,8 +2,8 @@
 
 use crate::values::{B2, batch, transfer};
 use call_dispatch::{
-    Call, CallFault, call_units, law_of_calls, law_of_dispatches, law_of_interruptions,
-    law_of_moving_back, read_call, write_call,
+    Call, CallFault, call_units, law_of_dispatches, law_of_interruptions, law_of_moving_back,
+    law_of_spelled_calls, read_call, write_call,
 };
 use plain_lists::BoundedVec;
 use scale_codec::Out;
@@ -88,7 +88,7 @@ fn limits(rt: HostRuntime) -> Result<(), Fail> {
     assert!(rt; read_call(alloc, eight.as_slice()).is_ok());
     let nine = filled(alloc, &[0x03, 0x24], 18, 2)?;
     assert!(rt; read_call(alloc, nine.as_slice()) == Err(CallFault::NotACall));
-    law_of_calls();
+    law_of_spelled_calls();
     law_of_dispatches();
     law_of_interruptions();
     law_of_moving_back();

@@ -2,7 +2,7 @@ use Rattle.scale_codec.specs.Laws.ReadLaws.{one_spelling, prefix_free}
 use Rattle.call_dispatch.specs.Spelling.{call, FitsCall}
 use Rattle.call_dispatch.specs.Laws.FieldLaws.{call_reads}
 use Rattle.call_dispatch.specs.Laws.CallLaws.{call_again}
-use Rattle.call_dispatch.proofs.laws.law_of_calls.Goals as goal
+use Rattle.call_dispatch.proofs.laws.law_of_spelled_calls.Goals as goal
 
 pub returns : goal.returns
 returns c = record {
