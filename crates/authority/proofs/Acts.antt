@@ -1,5 +1,5 @@
 -- What a call of an instruction does to accounts: none falls but the speaker's.
-use Rattle.std.proofs.Common.{◌≡◌, ◌⊎◌, ℕ, Bool, false, List, [], ◌∷◌, Option, Some, None, Result, Ok, Err, ⊎_elim, refl, sym, subst}
+use Rattle.std.proofs.Common.{◌≡◌, ◌⊎◌, ℕ, Bool, false, List, [], ◌∷◌, Option, Some, None, Result, Ok, Err, ⊎_elim, refl, sym, ap, ◌∙◌, subst}
 use Rattle.message_parts.specs.declared.error.XcmError.{XcmError}
 use Rattle.locations.specs.declared.relative.Location.{Location}
 use Rattle.trust_tables.specs.Accounts.{account_of}
@@ -14,15 +14,21 @@ use Rattle.exec_run.specs.Run.{Halted}
 use Rattle.exec_rules.specs.Stopping.{Stops, Spilled, spills}
 use Rattle.exec_rules.specs.Instructions.{done, xcm}
 use Rattle.exec_calls.specs.Calls.{MachineWithGoods, MachineCall, after}
-use Rattle.exec_calls.specs.Reasons.{IsFrom, Moment, HasReason}
+use Rattle.exec_calls.specs.Reasons.{IsFrom, IsFirst, SpeaksBy, Moment, HasReason}
 use Rattle.exec_calls.specs.ReasonLaws.{each_keeps}
 use Rattle.exec_keeping.specs.KeptLaws.{halted_keeps}
 use Rattle.authority.specs.Origins.{speaker_at, speaker_of, LowersOnly}
-use Rattle.authority.proofs.Lowering.{same_lowers, then_lowers, given_lowers, got_lowers, moved_lowers, settled_lowers}
+use Rattle.authority.proofs.Lowering.{same_lowers, then_lowers, given_lowers, got_lowers, moved_lowers, dispatched_lowers, settled_lowers}
 
 -- the account that speaks is the origin's
 spoken : (m : Machine) (t : MachineWithGoods) (who : Location) (new : Held) → m.regs.origin ≡ Some who → LowersOnly (account_of who t.part.site) t.part.held new → LowersOnly (speaker_at t.part.site m.regs.origin) t.part.held new
 spoken m t who new is h = subst (λ (o : Option Location). LowersOnly (speaker_at t.part.site o) t.part.held new) (sym is) h
+
+-- the account of the origin's location
+by_account : (m : Machine) (t : MachineWithGoods) (account : List ℕ) (new : Held) → IsFirst m t → SpeaksBy m account → LowersOnly (Some account) t.part.held new → LowersOnly (speaker_at t.part.site m.regs.origin) t.part.held new
+by_account m t account new first speaks h =
+    let there : account_of speaks.0 t.part.site ≡ Some account = ap (λ (u : MachineWithGoods). account_of speaks.0 u.part.site) first ∙ speaks.2 in
+    spoken m t speaks.0 new speaks.1 (subst (λ (o : Option (List ℕ)). LowersOnly o t.part.held new) (sym there) h)
 
 pub call_lowers : (moment : Moment) (l : Instruction-F Instruction) (m : Machine) (c : MachineCall) (t : MachineWithGoods) → HasReason moment l m t c → LowersOnly (speaker_at t.part.site m.regs.origin) t.part.held (after c t).part.held
 unfolding withdrawn deposited transferred transferred_out deposited_out fee_drawn sent
@@ -30,6 +36,7 @@ call_lowers moment l m (MachineCall.Withdraw list who) t asks = spoken m t who _
 call_lowers moment l m (MachineCall.Draw fee who) t asks = spoken m t who _ asks.1 (given_lowers t.part (fee ∷ []) who)
 call_lowers moment l m (MachineCall.Transfer list from to) t asks = spoken m t from _ asks.1 (moved_lowers t.part list from to)
 call_lowers moment l m (MachineCall.TransferOut list from dest xcm) t asks = spoken m t from _ asks.1 (moved_lowers t.part list from dest)
+call_lowers moment l m (MachineCall.Dispatch account c) t asks = by_account m t account _ asks.0 asks.1 (dispatched_lowers t.part account c)
 call_lowers moment l m (MachineCall.Deposit who) t asks = got_lowers _ t.part t.goods who
 call_lowers moment l m (MachineCall.DepositOut dest xcm) t asks = got_lowers _ t.part t.goods dest
 call_lowers moment l m MachineCall.Settle t asks = settled_lowers _ t.part

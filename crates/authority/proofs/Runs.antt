@@ -67,6 +67,7 @@ module _ (s : Option (List ℕ)) (start : Held) where
   end_lowers (MachineCall.Draw fee who) t comes h = absurd comes
   end_lowers (MachineCall.Transfer list from to) t comes h = absurd comes
   end_lowers (MachineCall.TransferOut list from dest xcm) t comes h = absurd comes
+  end_lowers (MachineCall.Dispatch account c) t comes h = absurd comes
   end_lowers (MachineCall.Deposit who) t comes h = absurd comes
   end_lowers (MachineCall.DepositOut dest xcm) t comes h = absurd comes
   end_lowers MachineCall.Settle t comes h = then_lowers s start t.part.held (after MachineCall.Settle t).part.held h (settled_lowers s t.part)

@@ -33,7 +33,7 @@ use Rattle.exec_rules.specs.Instructions.{refused, done}
 use Rattle.exec_rules.specs.Readiness.{IsSteady}
 use Rattle.coherence.specs.Networks.{Table, Agrees, IsIn}
 use Rattle.conserved_runs.specs.Sums.{sum_of, none, nobody, only, HasRoom, Sum, Kept, kept_of, in_kept, in_places, burned_where, account_total, with, Call}
-use Rattle.conserved_runs.specs.Calls.{Withdraws, total_nothing, call_with, call_by, receiving_none, answering, withdrawing, depositing, transferring, claiming, burn, still, joining, drawing, refunding, buying, parking_goods, holding_fee, keeping, room_with}
+use Rattle.conserved_runs.specs.Calls.{Withdraws, total_nothing, call_with, call_by, receiving_none, answering, withdrawing, depositing, transferring, claiming, burn, still, joining, dispatching, drawing, refunding, buying, parking_goods, holding_fee, keeping, room_with}
 use Rattle.conserved_runs.specs.Safety.{origins, IsSpared, hold, Safely, IsFine, AreFees, HasList, AreLists, turn_safely, sends_safely, fee_in_order, Sends, safely_then, keeps_room, same_table}
 use Rattle.conserved_runs.specs.Turns.{same_turn, paid_parts}
 use Rattle.conserved_runs.specs.Shipping.{withdrawal_sends, teleport_sends, deposit_sends, transfer_sends, report_sends, Leaves}
@@ -277,6 +277,10 @@ module _ (withdraws : Withdraws) (moves : MovesAreKept) (n : List Table) (l : In
       (transfer_sends n agrees withdraws (pooled t) list who dest xcm (speaks_at t who from asks.1) (list_of (Instruction-F.TransferReserveAsset list dest xcm) asks.2) (inside_of (Instruction-F.TransferReserveAsset list dest xcm) asks.2) free) from k) which
   called_safely (MachineCall.Respond info answer querier) t which asks from free k = ⊎_elim (λ (early : ⊥). absurd early) (λ (agrees : Agrees n). sends_on (MachineCall.Respond info answer querier) t (report_sends n agrees (pooled t) info answer querier free) from k) which
   called_safely (MachineCall.Answer who query) t which asks from free k = gives none none (MachineCall.Answer who query) t (answering t.part who query) (λ q. omega arith) from k
+  called_safely (MachineCall.Dispatch account call) t which asks from free k =
+      moves_on (λ w. w ≡ account) none none (MachineCall.Dispatch account call) t (dispatching t.part account call)
+      (λ w same. let spoken = asks.1 in (spoken.0, speaks_at t spoken.0 from spoken.1, ap (λ (t : MachineWithGoods). account_of spoken.0 t.part.site) asks.0 ∙ spoken.2 ∙ ap Some (sym same))) (λ q. omega arith) from k
+  called_safely (MachineCall.KeepBack e) t which asks from free k = gives none none (MachineCall.KeepBack e) t (still t.part (effect (MachineCall.KeepBack e) t) refl) (λ q. omega arith) from k
   called_safely MachineCall.HoldFee t which asks from free k = gives (sum_of t.goods) none MachineCall.HoldFee t (holding_fee t.part t.goods (asks.3 ∙ steady.rest.slot)) (λ q. let z = total-empty unit_keys q in omega (arith, z)) from k
   called_safely MachineCall.TakeFee t which asks from free k = gives none (sum_of t.part.fee_slot) MachineCall.TakeFee t (taking_fee t.part) (λ q. let z = nothing_in_hand t asks q in omega (arith, z)) from k
   called_safely MachineCall.KeepFee t which asks from free k = gives none none MachineCall.KeepFee t (keeping t.part (room_with (hold (pooled t)) none t.part (room_at t k) (λ q. omega arith))) (λ q. omega arith) from k

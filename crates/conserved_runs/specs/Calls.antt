@@ -1,5 +1,6 @@
 -- Lemmas: what each call of a host does to the places of a chain. A reader may skip this file.
-use Rattle.std.proofs.Common.{◌≡◌, ℕ, zero, suc, ◌+◌, ◌-◌, ◌^◌, ◌<◌, ◌≤◌, Bool, true, false, ◌&&◌, List, [], ◌∷◌, length, Option, Some, None, get_or, refl, sym, ap, ◌∙◌, subst, arith}
+use Rattle.std.proofs.Common.{◌≡◌, ◌⊎◌, inl, inr, ℕ, zero, suc, ◌+◌, ◌-◌, ◌^◌, ◌<◌, ◌≤◌, Bool, true, false, ◌&&◌, List, [], ◌∷◌, length, Option, Some, None, get_or, refl, sym, ap, ◌∙◌, subst, arith}
+use Rattle.std.proofs.lemmas.Bool.{cases_Bool}
 use Rattle.std.specs.Prelude.{◌++◌, nat_le, nat_lt, is_some, if◌then◌else◌, remove, position, IsTrue, min}
 use Rattle.std.specs.Option.{option_map_or}
 use Rattle.std.specs.List.{sum_by}
@@ -33,6 +34,9 @@ use Rattle.trap_store.specs.Traps.{Store, with_trapped, trapped_where}
 use Rattle.weight_trader.specs.Purchases.{Line, coin_of, paying, unspent_at, excess, Bought, paid_goods, AreWithinEnd}
 use Rattle.weight_trader.specs.Refunds.{refund_of, goods_of, Refunded, Closed}
 use Rattle.weight_trader.specs.Laws.{Purchase, Refund, Closing, MovesAreKept, paid_by, saturated_by, unspent_by}
+use Rattle.call_dispatch.specs.Spelling.{AnyCall}
+use Rattle.row_accounts.specs.Laws.{total_called, more_called}
+use Rattle.exec_base.specs.Calls.{floors_of, held_dispatched}
 use Rattle.exec_base.specs.declared.event.Event.{Event}
 use Rattle.chain_ids.specs.declared.chain.ChainId.{ChainId}
 use Rattle.channel_parts.specs.declared.cargo.Cargo.TheVariants.{Nothing}
@@ -767,3 +771,34 @@ settling law p within room =
         let all = room k.0 in
         let end = most_is in
         omega (arith, sum, old, new, of_goods, all, end)
+
+-- ---- calls of the chain
+-- amounts that moved between accounts, and only one account's fell
+held_call : (p : ChainPart) (held : Held) (who : List ℕ)
+    → ((t : Unit → Bool) → total (λ (h : Holder). t h.1) held ≡ total (λ (h : Holder). t h.1) p.held)
+    → ((t : Holder → Bool) → ((u : Unit) → t (who, u) ≡ false) → total t p.held ≤ total t held)
+    → Call (λ w. w ≡ who) none none p (record p { held = held })
+unfolding in_kept
+held_call p held who sums others = record {
+  site = refl;
+  rows = refl;
+  channels = refl;
+  checking = refl;
+  cargo = λ h. h;
+  gone = empty;
+  amounts = λ t. let same = sums t in let z = nothing_gone t in omega (arith, same, z);
+  books = λ test. let z = nothing_gone (is_unit_where test) in omega (arith, z);
+  accounts = λ w t other. others (λ (h : Holder). is_account w h && t h.1) (λ u. ap (λ (b : Bool). b && t u) (apart w other));
+}
+  where
+    apart : (w : List ℕ) → (w ≡ who → ⊥) → eq_by_cmp account_cmp w who ≡ false
+    apart w other =
+        elim (cases_Bool (eq_by_cmp account_cmp w who)) [
+          | inl same ↦ absurd (other (key_same account_keys w who same))
+          | inr is ↦ is
+        ]
+
+pub dispatching : (p : ChainPart) (who : List ℕ) (c : AnyCall) → Call (λ w. w ≡ who) none none p (record p { held = held_dispatched p who c })
+dispatching p who c = held_call p (held_dispatched p who c) who
+    (λ t. total_called p.rows p.held (floors_of p) who c (λ (h : Holder). t h.1) (λ a b u. refl))
+    (λ t without. more_called p.rows p.held (floors_of p) who c t without)

@@ -3,3 +3,4 @@ pub mod Arrivals
 pub mod Answers
 pub mod Sending
 pub mod Host
+pub mod Calls

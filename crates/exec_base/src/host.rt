@@ -3,6 +3,7 @@
 use crate::{Event, HostFault};
 use asset_bundles::{AssetBundle, Way};
 use asset_lists::{Asset, Assets};
+use call_dispatch::{Call, CallEnd};
 use locations::Location;
 use message_parts::{OpenQuery, PalletInfo, QueryInfo, Response, Weight};
 use std::alloc::AllocError;
@@ -22,6 +23,7 @@ pub trait Host {
     ghost use Rattle.exec_base.specs.Part.{ChainPart};
     ghost use Rattle.exec_base.specs.Answers.{Answers, TakesIn, Keeps, Gives, JoinedInto};
     ghost use Rattle.exec_base.specs.Sending.{channel_to, number_to, IsForwardable};
+    ghost use Rattle.exec_base.specs.Calls.{Dispatches};
     ghost use Rattle.exec_base.specs.Host.{withdraw_refusal, withdrawn, deposit_refusal, deposited, transfer_refusal, transferred, receive_refusal, received, transfer_out_refusal, transferred_out, deposit_out_refusal, deposited_out, ship_refusal, shipped, respond_refusal, responded, report_program, IsPrice, IsFeeOrNothing, is_open, answered, buy_refusal, unspent, bought, refund_goods, refunded, joined, burnt, claim_refusal, claimed, trapped, parked, settled, fee_to, fee_held, fee_taken, fee_kept, fee_drawn, told};
 
     /// The chain's part of the world.
@@ -185,6 +187,16 @@ pub trait Host {
         requires price { IsPrice fee.now }
         ensures step { Answers (withdraw_refusal (part self.old) (fee.now ∷ []) who.now) (bundle_of (fee.now ∷ [])) (fee_drawn (part self.old) (fee.now ∷ []) who.now) (part self.old) result (part self.new) }
         ensures back { OnOk result (deposit_refusal (part self.new) (bundle_of (fee.now ∷ [])) who.now ≡ None) };
+
+    /// Whether the chain serves calls.
+    fn calls(&self) -> bool
+        ensures { result ≡ (part self.now).calls };
+
+    /// Does a call for an account, and keeps the line back that tells of it. Where memory is refused a front of a batch may have been done.
+    /// Where the chain serves no calls it changes nothing.
+    fn dispatch(&mut self, who: &[u8; 32], call: &Call) -> Result<CallEnd, AllocError>
+        ensures step { Dispatches (part self.old).calls (part self.old) who.now call.now result
+            (part self.new) };
 
     /// Tells an event, and behind it what is kept back.
     fn event(&mut self, e: Event) -> Result<(), AllocError>

@@ -14,4 +14,6 @@ pub struct Settings {
     pub pallets: Listed<PalletInfo>,
     /// The account that fees are paid to.
     pub fee_account: [u8; 32],
+    /// Whether it serves calls.
+    pub calls: bool,
 }

@@ -1,7 +1,8 @@
-//! The functions of the instructions about the origin, registers, programs of a run, queries and expectations, and of those that nothing
+//! The functions of the instructions about the origin, registers, programs of a run, calls, queries and expectations, and of those that nothing
 //! serves.
 #![tactic(auto)]
 
+mod calls;
 mod comparing;
 mod expectations;
 mod origin;
@@ -10,6 +11,7 @@ mod queries;
 mod registers;
 mod unconfigured;
 
+pub use calls::transact;
 pub use expectations::{
     expect_error, expect_origin, expect_pallet, expect_transact_status, unpaid_execution,
 };
@@ -22,5 +24,5 @@ pub use registers::{
 pub use unconfigured::{
     alias_origin, export_message, hrmp_channel_accepted, hrmp_channel_closing,
     hrmp_new_channel_open_request, lock_asset, note_unlockable, request_unlock, subscribe_version,
-    transact, universal_origin, unlock_asset, unsubscribe_version,
+    universal_origin, unlock_asset, unsubscribe_version,
 };

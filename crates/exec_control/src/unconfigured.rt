@@ -1,4 +1,4 @@
-//! Instructions that nothing serves on these chains: dispatch, channels by request, versions, other consensus systems, locks and aliases.
+//! Instructions that nothing serves on these chains: channels by request, versions, other consensus systems, locks and aliases.
 ghost use Rattle.std.specs.Prelude.{IfOk, OnErr};
 ghost use Rattle.xcm_program.specs.declared.instruction.Instruction.TheOpen.{Instruction-F};
 ghost use Rattle.exec_run.specs.Machine.{machine};
@@ -9,27 +9,9 @@ use crate::comparing::{is_original, is_own_network};
 use asset_lists::Asset;
 use exec_base::{Host, Registers};
 use locations::{Junction, Junctions, Location, NetworkId};
-use message_parts::{LongBytes, OriginKind, Weight, XcmError};
+use message_parts::{Weight, XcmError};
 use std::alloc::AllocError;
 use xcm_program::Program;
-
-/// 6 Transact: no call can be decoded.
-pub fn transact<H: Host>(
-    r: &mut Registers,
-    h: &mut H,
-    origin_kind: OriginKind,
-    require_weight_at_most: Weight,
-    call: &LongBytes,
-) -> Result<Result<(), XcmError>, AllocError>
-    requires ready { IsReadyFor (Instruction-F.Transact origin_kind require_weight_at_most call.now) (machine r.old (H.part h.old)) }
-    ensures ok { IfOk result (λ answer. Ran (Instruction-F.Transact origin_kind require_weight_at_most call.now) (machine r.old (H.part h.old)) answer (machine r.new (H.part h.new))) }
-    ensures err { OnErr result (Spilled (Instruction-F.Transact origin_kind require_weight_at_most call.now) (machine r.old (H.part h.old)) (machine r.new (H.part h.new))) }
-{
-    if r.origin.is_none() {
-        return Ok(Err(XcmError::BadOrigin));
-    }
-    Ok(Err(XcmError::FailedToDecode))
-}
 
 /// 7 HrmpNewChannelOpenRequest: unimplemented.
 pub fn hrmp_new_channel_open_request<H: Host>(

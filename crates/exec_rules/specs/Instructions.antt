@@ -19,6 +19,7 @@ use Rattle.exec_rules.specs.Fees.{refused_sending, done_sending}
 use Rattle.exec_rules.specs.Reports.{report_refused, report_done, pallets_of, reported_list, holding_report_refused, holding_report_done}
 use Rattle.exec_rules.specs.Origins.{same_origin, if_original, is_checked_origin, fits_below, descended, is_own_network}
 use Rattle.exec_rules.specs.Programs.{with_registers, with_handler, with_appendix}
+use Rattle.exec_rules.specs.Calls.{call_in, caller_in, call_refusal, call_done}
 use Rattle.exec_rules.specs.Expectations.{expected, same_failure, same_status, pallet_refusal, pallet_at}
 
 -- ---- the first refusal, or none
@@ -45,6 +46,8 @@ refused (Instruction-F.QueryPallet name info) m = refused_sending m info.destina
 refused (Instruction-F.ReportTransactStatus info) m = refused_sending m info.destination (λ n. report_refused n info (response.DispatchResult n.regs.status))
 -- queries
 refused (Instruction-F.QueryResponse query answer weight querier) m = with_origin m.regs.origin (λ who. None)
+-- calls
+refused (Instruction-F.Transact kind most bytes) m = with_origin m.regs.origin (λ who. call_refusal m.regs.rule most (call_in m.part.calls bytes) (caller_in m kind who))
 -- the origin register
 refused Instruction-F.ClearOrigin m = None
 refused (Instruction-F.DescendOrigin path) m = with_origin m.regs.origin (λ who. unless (fits_below who path) error.LocationFull None)
@@ -65,7 +68,6 @@ refused (Instruction-F.ExpectTransactStatus status) m = expected (same_status m.
 refused (Instruction-F.ExpectPallet place name module_name major least_minor) m = pallet_refusal (pallet_at m place) name module_name major least_minor
 refused (Instruction-F.UnpaidExecution limit origin) m = unless (is_checked_origin m origin) error.BadOrigin None
 -- unconfigured
-refused (Instruction-F.Transact kind most call) m = with_origin m.regs.origin (λ who. Some error.FailedToDecode)
 refused (Instruction-F.HrmpNewChannelOpenRequest sender size capacity) m = Some error.Unimplemented
 refused (Instruction-F.HrmpChannelAccepted recipient) m = Some error.Unimplemented
 refused (Instruction-F.HrmpChannelClosing initiator sender recipient) m = Some error.Unimplemented
@@ -104,6 +106,8 @@ done (Instruction-F.QueryPallet name info) m = done_sending m info.destination (
 done (Instruction-F.ReportTransactStatus info) m = done_sending m info.destination (λ n. report_done n info (response.DispatchResult n.regs.status))
 -- queries
 done (Instruction-F.QueryResponse query answer weight querier) m = at_origin m.regs.origin (λ who. machine m.regs (answered m.part who query)) m
+-- calls
+done (Instruction-F.Transact kind most bytes) m = at_origin m.regs.origin (λ who. call_done m most (call_in m.part.calls bytes) (caller_in m kind who)) m
 -- the origin register
 done Instruction-F.ClearOrigin m = with_registers m (record m.regs { origin = None })
 done (Instruction-F.DescendOrigin path) m = at_origin m.regs.origin (λ who. with_registers m (record m.regs { origin = Some (descended who path) })) m
@@ -124,7 +128,6 @@ done (Instruction-F.ExpectTransactStatus status) m = m
 done (Instruction-F.ExpectPallet place name module_name major least_minor) m = m
 done (Instruction-F.UnpaidExecution limit origin) m = m
 -- unconfigured
-done (Instruction-F.Transact kind most call) m = m
 done (Instruction-F.HrmpNewChannelOpenRequest sender size capacity) m = m
 done (Instruction-F.HrmpChannelAccepted recipient) m = m
 done (Instruction-F.HrmpChannelClosing initiator sender recipient) m = m

@@ -15,6 +15,7 @@ use Rattle.exec_base.specs.Host.{withdrawn, received, claimed, unspent, bought, 
 use Rattle.exec_run.specs.Machine.{Machine, machine}
 use Rattle.exec_rules.specs.Holdings.{at_origin, holds_asset, taken_of, holding_left, holding_paid, payment_of, not_refunded, refund_now, refund_refusal, buying_refusal}
 use Rattle.exec_rules.specs.Fees.{fee_refusal, after_fee}
+use Rattle.exec_rules.specs.Calls.{CallStopsAt}
 use Rattle.exec_rules.specs.Instructions.{refused}
 
 -- goods are parked
@@ -77,6 +78,8 @@ Stops (Instruction-F.QueryPallet name info) m now = StopsSending m info.destinat
 Stops (Instruction-F.ReportTransactStatus info) m now = StopsSending m info.destination (λ n left. ⊥) now
 -- queries
 Stops (Instruction-F.QueryResponse query answer weight querier) m now = ⊥
+-- calls
+Stops (Instruction-F.Transact kind most bytes) m now = CallStopsAt m kind bytes m.regs.origin now
 -- the origin register
 Stops Instruction-F.ClearOrigin m now = ⊥
 Stops (Instruction-F.DescendOrigin path) m now = ⊥
@@ -97,7 +100,6 @@ Stops (Instruction-F.ExpectTransactStatus status) m now = ⊥
 Stops (Instruction-F.ExpectPallet place name module_name major least_minor) m now = ⊥
 Stops (Instruction-F.UnpaidExecution limit origin) m now = ⊥
 -- unconfigured
-Stops (Instruction-F.Transact kind most call) m now = ⊥
 Stops (Instruction-F.HrmpNewChannelOpenRequest sender size capacity) m now = ⊥
 Stops (Instruction-F.HrmpChannelAccepted recipient) m now = ⊥
 Stops (Instruction-F.HrmpChannelClosing initiator sender recipient) m now = ⊥

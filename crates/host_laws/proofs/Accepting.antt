@@ -21,6 +21,7 @@ use Rattle.weight_trader.specs.Purchases.{Line, paying, unspent_at, AreWithinEnd
 use Rattle.weight_trader.specs.Laws.{Purchase, MovesAreKept, paid_by, saturated_by, unspent_by}
 use Rattle.xcm_program.specs.declared.instruction.Instruction.{Instruction}
 use Rattle.xcm_program.specs.declared.instruction.Instruction.TheOpen.{Instruction-F}
+use Rattle.exec_base.specs.declared.event.Event.{Event}
 use Rattle.exec_base.specs.Part.{ChainPart}
 use Rattle.exec_base.specs.Sending.{unless}
 use Rattle.exec_base.specs.Host.{burnt, unspent, bought, refund_goods, refunded, fee_held, fee_kept, fee_drawn, withdraw_refusal}
@@ -40,6 +41,7 @@ use Rattle.host_laws.specs.Accepted.{whole_of, HasList, AreFees, HasRoomFor}
 use Rattle.host_laws.proofs.Booking.{conserves_join, conserves_burn, conserves_park, conserves_answer, conserves_held_fee, conserves_taken_fee, conserves_kept_fee}
 use Rattle.host_laws.proofs.Moving.{Withdraws, conserves_withdrawal, conserves_drawn_fee, conserves_deposit, conserves_transfer}
 use Rattle.host_laws.proofs.Claiming.{conserves_claim}
+use Rattle.host_laws.proofs.Dispatching.{conserves_moves}
 use Rattle.host_laws.proofs.Sending.{conserves_shipping, conserves_deposit_out, conserves_transfer_out, conserves_response}
 use Rattle.host_laws.proofs.Trading.{above_at, above_total, conserves_purchase, conserves_refund}
 
@@ -131,6 +133,10 @@ came c t b goes held none is = moved c t empty b goes held (λ test. let y = in_
 kept : (c : MachineCall) (t : MachineWithGoods) → Conserves empty empty t.part (effect c t) → (after c t).regs.holding ≡ t.regs.holding → (after c t).goods ≡ t.goods → (test : Listed → Bool) → whole_at test (after c t) ≡ whole_at test t
 kept c t goes held same = moved c t empty empty goes held (λ test. let z = in_hand (after c t) t.goods test same in omega (arith, z))
 
+kept_line : (e : Event) (t : MachineWithGoods) (test : Listed → Bool) → whole_at test (after (MachineCall.KeepBack e) t) ≡ whole_at test t
+unfolding on_chain
+kept_line e t test = refl
+
 drawn_slot : (p : ChainPart) (list : List Asset) (who : Location) → (fee_drawn p list who).fee_slot ≡ p.fee_slot
 unfolding fee_drawn
 drawn_slot p list who = refl
@@ -197,6 +203,8 @@ module _ (withdraws : Withdraws) (moves : MovesAreKept) (l : Instruction-F Instr
   step (MachineCall.TransferOut list from dest xcm) t asks free w = kept (MachineCall.TransferOut list from dest xcm) t (conserves_transfer_out withdraws t.part list from dest xcm (subst HasList asks.2 lists) free) refl refl
   step (MachineCall.Respond info answer querier) t asks free w = kept (MachineCall.Respond info answer querier) t (conserves_response t.part info answer querier) refl refl
   step (MachineCall.Answer from query) t asks free w = kept (MachineCall.Answer from query) t (conserves_answer t.part from query) refl refl
+  step (MachineCall.Dispatch who c) t asks free w = kept (MachineCall.Dispatch who c) t (conserves_moves t.part who c) refl refl
+  step (MachineCall.KeepBack e) t asks free w = λ test. kept_line e t test
   step MachineCall.HoldFee t asks free w = gave MachineCall.HoldFee t (conserves_held_fee t.part t.goods (asks.3 ∙ steady.rest.slot)) refl refl
   step MachineCall.TakeFee t asks free w = came MachineCall.TakeFee t t.part.fee_slot (conserves_taken_fee t.part) refl asks refl
   step MachineCall.KeepFee t asks free w = kept MachineCall.KeepFee t (conserves_kept_fee t.part (keeps_below t w)) refl refl

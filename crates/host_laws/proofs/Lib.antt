@@ -1,6 +1,7 @@
 mod Booking
 mod Moving
 mod Claiming
+mod Dispatching
 mod Sending
 mod Trading
 mod Accepting

@@ -7,6 +7,8 @@ use Rattle.chain_ids.specs.declared.chain.ChainId.{ChainId}
 use Rattle.locations.specs.declared.relative.Location.{Location}
 use Rattle.message_parts.specs.declared.error.XcmError.{XcmError}
 use Rattle.message_parts.specs.declared.error.XcmError.TheVariants as error
+use Rattle.message_parts.specs.declared.origin.OriginKind.{OriginKind}
+use Rattle.message_parts.specs.declared.weight.Weight.{Weight}
 use Rattle.message_parts.specs.declared.query.QueryInfo.{QueryInfo}
 use Rattle.message_parts.specs.declared.query.Response.{Response}
 use Rattle.asset_lists.specs.declared.units.Asset.{Asset}
@@ -19,17 +21,20 @@ use Rattle.xcm_program.specs.declared.instruction.Instruction.TheOpen.{Instructi
 use Rattle.channel_parts.specs.declared.cargo.Cargo.{Cargo}
 use Rattle.channel_parts.specs.declared.channel.Channel.{Channel}
 use Rattle.channel_parts.specs.Channels.{Outgoing}
+use Rattle.call_dispatch.specs.Spelling.{AnyCall}
 use Rattle.exec_base.specs.declared.registers.Registers.{Registers}
 use Rattle.exec_base.specs.declared.settings.Settings.{Settings}
 use Rattle.exec_base.specs.Part.{ChainPart}
 use Rattle.exec_base.specs.Sending as sending_to
 use Rattle.exec_base.specs.Sending.{or_else}
 use Rattle.exec_base.specs.Host.{withdraw_refusal, receive_refusal, deposit_refusal, transfer_refusal, claim_refusal, buy_refusal, unspent, refund_goods, querier_seen, fee_to, fee_held, fee_taken, fee_kept, fee_drawn, parked, told, trapped, settled}
+use Rattle.exec_base.specs.Calls.{dispatch_end}
 use Rattle.exec_run.specs.Machine.{Machine, machine}
 use Rattle.exec_rules.specs.Fees.{after_fee}
+use Rattle.exec_rules.specs.Calls.{call_in, caller_in}
 use Rattle.exec_rules.specs.Reports.{reported_list}
 use Rattle.exec_rules.specs.Instructions.{refused, done}
-use Rattle.exec_calls.specs.Calls.{MachineWithGoods, between, here, MachineCall, why_not, after, effect, after_all, refusal_along, for_origin, around, charge, size_tests, report, holding_report, calls, turned, turned_at}
+use Rattle.exec_calls.specs.Calls.{MachineWithGoods, between, here, MachineCall, why_not, after, effect, after_all, refusal_along, for_origin, around, charge, size_tests, report, holding_report, dispatching, calls, call_noted, call_noted_for, turned, turned_at}
 use Rattle.exec_calls.specs.Footprints.{part_is}
 use Rattle.exec_calls.specs.CallLaws.{refused_is, done_is}
 use Rattle.exec_calls.specs.Reasons.{IsFrom, destination, IsReport, shipping, Moment, HasReason, HaveReasons}
@@ -69,6 +74,12 @@ module _ (to : ChainId) (lost : Bundle) where
       → around (fee_to (framed to lost m.part) dest) (framed_machine to lost m) inside ≡ around (fee_to m.part dest) m inside
   sending_framed dest m inside same = ap (λ o. around o (framed_machine to lost m) inside) (fee_to_framed to lost m.part dest) ∙ around_framed (fee_to m.part dest) m inside same
 
+  dispatching_framed : (m : Machine) (most : Weight) (c : Option AnyCall) (o : Option (List ℕ)) → dispatching (framed_machine to lost m) most c o ≡ dispatching m most c o
+  unfolding dispatch_end
+  dispatching_framed m most None o = refl
+  dispatching_framed m most (Some c) None = refl
+  dispatching_framed m most (Some c) (Some account) = refl
+
   calls_framed : (l : Instruction-F Instruction) (m : Machine) → calls l (framed_machine to lost m) ≡ calls l m
   calls_framed (Instruction-F.TransferReserveAsset list dest program) m = by_origin m.regs.origin
     where
@@ -83,6 +94,12 @@ module _ (to : ChainId) (lost : Bundle) where
   calls_framed (Instruction-F.ReportHolding info filter) m = sending_framed info.destination m _ (λ n. report_framed n info (reported_list n info filter))
   calls_framed (Instruction-F.QueryPallet name info) m = sending_framed info.destination m _ (λ n. refl)
   calls_framed (Instruction-F.ReportTransactStatus info) m = sending_framed info.destination m _ (λ n. refl)
+  calls_framed (Instruction-F.Transact kind most bytes) m = by_origin m.regs.origin
+    where
+      by_origin : (o : Option Location) → for_origin o (λ who. dispatching (framed_machine to lost m) most (call_in m.part.calls bytes) (caller_in m kind who))
+          ≡ for_origin o (λ who. dispatching m most (call_in m.part.calls bytes) (caller_in m kind who))
+      by_origin None = refl
+      by_origin (Some who) = dispatching_framed m most (call_in m.part.calls bytes) (caller_in m kind who)
   calls_framed _ m = refl
 
   -- ---- what a call leaves
@@ -126,8 +143,19 @@ module _ (to : ChainId) (lost : Bundle) where
   along_framed [] t there = refl
   along_framed (c ∷ cs) t there = ap (after_all cs) (after_framed c t there) ∙ along_framed cs (after c t) (stays_there c t there)
 
+  noted_framed : (m : Machine) (most : Weight) (c : Option AnyCall) (o : Option (List ℕ)) (r : Registers) → call_noted (framed_machine to lost m) most c o r ≡ call_noted m most c o r
+  unfolding dispatch_end
+  noted_framed m most None o r = refl
+  noted_framed m most (Some c) None r = refl
+  noted_framed m most (Some c) (Some account) r = refl
+
+  noted_framed_for : (o : Option Location) (m : Machine) (kind : OriginKind) (most : Weight) (bytes : List ℕ) (r : Registers) → call_noted_for o (framed_machine to lost m) kind most bytes r ≡ call_noted_for o m kind most bytes r
+  noted_framed_for None m kind most bytes r = refl
+  noted_framed_for (Some who) m kind most bytes r = noted_framed m most (call_in m.part.calls bytes) (caller_in m kind who) r
+
   turned_framed : (l : Instruction-F Instruction) (m : Machine) (r : Registers) → turned l (framed_machine to lost m) r ≡ turned l m r
   turned_framed Instruction-F.RefundSurplus m r = refl
+  turned_framed (Instruction-F.Transact kind most bytes) m r = noted_framed_for m.regs.origin m kind most bytes r
   turned_framed _ m r = refl
 
   pub done_framed : (l : Instruction-F Instruction) (m : Machine) → IsThere to m.part.channels → done l (framed_machine to lost m) ≡ framed_machine to lost (done l m)

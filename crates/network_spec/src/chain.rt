@@ -42,4 +42,6 @@ pub struct ChainSpec {
     pub pallets: Listed<PalletInfo>,
     /// The queries that are open: each its number, and the chain that may answer it.
     pub queries: Listed<(u64, ChainId)>,
+    /// Whether it serves calls.
+    pub calls: bool,
 }

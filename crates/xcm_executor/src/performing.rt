@@ -62,7 +62,7 @@ pub(crate) fn perform<H: Host>(
             origin_kind,
             require_weight_at_most,
             call,
-        } => transact(r, h, *origin_kind, *require_weight_at_most, call),
+        } => transact(alloc, r, h, *origin_kind, *require_weight_at_most, call),
         Instruction::HrmpNewChannelOpenRequest {
             sender,
             max_message_size,
