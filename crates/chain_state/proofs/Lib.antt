@@ -25,3 +25,4 @@ pub mod Shipped
 pub mod Widths
 pub mod FeeSlot
 pub mod Settled
+pub mod Called

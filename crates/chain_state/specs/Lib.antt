@@ -6,3 +6,4 @@ pub mod Claims
 pub mod ListedFees
 pub mod Settling
 pub mod Aside
+pub mod Calls

@@ -2,6 +2,7 @@
 use crate::ChainState;
 use asset_bundles::{AssetBundle, Way};
 use asset_lists::{Asset, Assets};
+use call_dispatch::{Call, CallEnd};
 use exec_base::{Event, Host, HostFault};
 use locations::Location;
 use message_parts::{OpenQuery, PalletInfo, QueryInfo, Response, Weight};
@@ -155,6 +156,14 @@ impl Host for ChainState {
 
     fn draw_fee(&mut self, fee: &Asset, who: &Location) -> Result<AssetBundle, HostFault> {
         self.take_fee_out(fee, who)
+    }
+
+    fn calls(&self) -> bool {
+        self.settings.calls
+    }
+
+    fn dispatch(&mut self, who: &[u8; 32], call: &Call) -> Result<CallEnd, AllocError> {
+        self.dispatch_call(who, call)
     }
 
     fn event(&mut self, e: Event) -> Result<(), AllocError> {

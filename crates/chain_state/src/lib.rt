@@ -10,6 +10,7 @@ mod burning;
 mod carried;
 mod channels;
 mod checking;
+mod dispatching;
 mod fees;
 mod hosting;
 mod lines;

@@ -130,6 +130,7 @@ impl ChainState {
             rows: Listed::from_vec(rows),
             pallets: Listed::from_vec(pallets),
             fee_account: entry.fee_account,
+            calls: entry.calls,
         };
         let queries = open_queries(alloc, entry.chain, entry.queries.items())?;
         let channels = channels_from(alloc, entry.chain, spec.channels.items())?;

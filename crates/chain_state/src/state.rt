@@ -1,5 +1,9 @@
 //! What a chain keeps.
 ghost use Rattle.std.specs.Prelude.{◌≡◌, ◌≤◌, length, vec_capacity, IsTrue};
+ghost use Rattle.std.specs.List.{IsDistinct};
+ghost use Rattle.std.specs.List.{IsDistinct-prop};
+ghost use Rattle.std.specs.Ordering.{eq_by_cmp};
+ghost use Rattle.asset_lists.specs.Listed.{listed_cmp};
 ghost use Rattle.trust_tables.specs.Chains.{path_of_site};
 ghost use Rattle.trust_tables.specs.Trust.{listing};
 ghost use Rattle.network_genesis.specs.Tests.{are_rates_listed, have_paths, have_prices};
@@ -18,8 +22,8 @@ use ledgers::{Ledger, TrapStore};
 use message_parts::OpenQuery;
 use weight_trader::Trader;
 
-/// A chain of the network: what its document says, what stands at it, what it sends, and what is told. The ledger and the book list what
-/// the rows list, the id of each has a path, each rate's asset is listed, each channel's fee is an amount above 0 of a fungible asset that
+/// A chain of the network: what its document says, what stands at it, what it sends, and what is told. No two rows list one asset, the
+/// ledger and the book list what the rows list, the id of each has a path, each rate's asset is listed, each channel's fee is an amount above 0 of a fungible asset that
 /// is listed, just the fungible ones of the listed assets have a row of kept fees, what is in the fee slot has one, the spare trader has
 /// the rates of the trader, there are at most 64 pallets, four bundles can be parked without memory, and only rows of fungible assets
 /// have a checking account.
@@ -42,6 +46,7 @@ pub struct ChainState {
     pub(crate) cargo: Cargo,
     pub(crate) events: Vec<Event>,
     pub(crate) kept_back: Vec<Event>,
+    ghost apart: { IsDistinct (eq_by_cmp listed_cmp) (listing settings.rows) } by { IsDistinct-prop (eq_by_cmp listed_cmp) (listing settings.rows) },
     ghost ledger_lists: { ledger.listed ≡ listing settings.rows },
     ghost book_lists: { book.listed ≡ listing settings.rows },
     ghost paths: { IsTrue (have_paths (path_of_site settings.site) settings.rows) },

@@ -47,6 +47,7 @@ invariant_of-self-in-Break-branch-5 c =
     record {
       ledger_lists = ledger_after f.settings.fee_account _ f.ledger c.deposit_into.new.ledger c.deposit_into.result c.deposit_into.ensures.deposited c.deposit_into.ensures.kept ∙ f.ledger_lists;
       book_lists = f.book_lists;
+      apart = f.apart;
       paths = f.paths;
       rates = f.rates;
       prices = f.prices;
@@ -77,6 +78,7 @@ invariant_of-self-2 c =
     record {
       ledger_lists = ledger_after f.settings.fee_account _ f.ledger c.deposit_into.new.ledger c.deposit_into.result c.deposit_into.ensures.deposited c.deposit_into.ensures.kept ∙ f.ledger_lists;
       book_lists = rows_stay f.book _ _ c.book_all.ensures ∙ f.book_lists;
+      apart = f.apart;
       paths = f.paths;
       rates = ap (are_rates_listed (listing f.settings.rows)) closed ∙ closed_rates (listing f.settings.rows) f.trader ∙ f.rates;
       prices = f.prices;
