@@ -1,6 +1,6 @@
 -- A list whose keys strictly rise, changed at the place of a key: the entry put there, or the entries but that one.
-use Rattle.std.proofs.Common.{◌≡◌, ℕ, zero, suc, ◌<◌, ◌≤◌, Bool, true, false, not, List, [], ◌∷◌, length, map, get_or, set, take, drop, Some, None, refl, sym, ap, ◌∙◌, subst, arith, T, true≢false}
-use Rattle.std.specs.Prelude.{if◌then◌else◌, ◌++◌, ◌&&◌}
+use Rattle.std.proofs.Common.{◌≡◌, ℕ, zero, suc, ◌<◌, ◌≤◌, Bool, true, false, not, List, [], ◌∷◌, length, map, get_or, set, Some, None, refl, sym, ap, ◌∙◌, arith, T}
+use Rattle.std.specs.Prelude.{if◌then◌else◌, ◌&&◌}
 use Rattle.std.specs.List.{insert, remove}
 use Rattle.std.specs.Ordering.{eq_by_cmp, is_eq, is_lt, ordering_reverse}
 use Rattle.std.specs.declared.cmp.Ordering.{Ordering}
@@ -9,7 +9,6 @@ use Rattle.std.specs.Cmp.{tied_itself}
 use Rattle.std.specs.FinMap.{find, put, is_sorted}
 use Rattle.std.specs.FinMap.Entries.{where_key, below_all, by_order}
 use Rattle.amounts.specs.Rows.{IsKeyOrder, IsPositive}
-use Rattle.amounts.specs.Laws.{same_key, key_same}
 
 first : (a b : Bool) → T (a && b) → T a
 first true b h = tt

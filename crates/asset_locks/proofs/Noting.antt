@@ -1,10 +1,10 @@
 -- The notes after one is written.
-use Rattle.std.proofs.Common.{◌≡◌, ℕ, ◌<◌, ◌≤◌, Bool, true, false, List, [], ◌∷◌, Some, None, refl, sym, ap, ◌∙◌, subst, arith}
-use Rattle.std.specs.Prelude.{if◌then◌else◌, Option, unwrap_or, max}
+use Rattle.std.proofs.Common.{◌≡◌, ℕ, ◌≤◌, List, None, sym, ap, ◌∙◌, arith}
+use Rattle.std.specs.Prelude.{if◌then◌else◌, Option, unwrap_or}
 use Rattle.std.specs.Ordering.{eq_by_cmp}
 use Rattle.std.specs.Cmp.{eq_by_cmp_equiv}
 use Rattle.std.specs.Map.{lookup}
-use Rattle.amounts.specs.Amounts.{amount, with_amount}
+use Rattle.amounts.specs.Amounts.{with_amount}
 use Rattle.amounts.specs.Entries.{amount-from_entries, from_entries_changed}
 use Rattle.asset_locks.specs.LockMaps.{NoteKey, note_cmp}
 use Rattle.asset_locks.specs.NoteRows.{notes_in, note_at}

@@ -1,6 +1,6 @@
 -- For proofs alone: a reader may skip this file. The orders of the keys, what the greatest amount is, and what the four
 -- changes do to each lock, each note and each floor. The laws of `laws.rt` say it.
-use Rattle.std.specs.Prelude.{◌≡◌, ◌≢◌, ℕ, zero, suc, ◌+◌, ◌-◌, ◌<◌, ◌≤◌, max, Bool, true, false, IsTrue, if◌then◌else◌, List, [], ◌∷◌, Some, unwrap_or, refl}
+use Rattle.std.specs.Prelude.{◌≡◌, ◌≢◌, ℕ, ◌+◌, ◌-◌, ◌<◌, ◌≤◌, max, Bool, true, false, IsTrue, if◌then◌else◌, List, [], ◌∷◌, Some, unwrap_or, refl}
 use Rattle.std.specs.Ordering.{nat_cmp, eq_by_cmp}
 use Rattle.std.specs.declared.cmp.Ordering.{Ordering}
 use Rattle.std.specs.Cmp.Lexicographic.{slice_cmp}
@@ -36,6 +36,52 @@ note_keys = keys_by (λ (k : NoteKey). ((k.0, k.1), k.2)) (λ x y e i. ((e i).0.
 module _ {K : Type 0} {R : K → K → Ordering} (o : IsKeyOrder R) where
   pub apart : (j k : K) → j ≢ k → eq_by_cmp R j k ≡ false
   apart j k other = elim (cases_Bool (eq_by_cmp R j k)) [ inl t ↦ absurd (other (key_same o j k t)) | inr f ↦ f ]
+
+  differs : (j k : K) → eq_by_cmp R j k ≡ false → j ≢ k
+  differs j k f e = true≢false (sym (subst (λ x. eq_by_cmp R j x ≡ true) e (same_key o j)) ∙ f)
+
+-- ---- one amount of a map, raised to the greater of old and new, or lowered
+module _ {K : Type 0} {R : K → K → Ordering} (o : IsKeyOrder R) (m : Amounts R) (key : K) (a : ℕ) where
+  abbrev raised : Amounts R
+  raised = with_amount m key (max (amount m key) a)
+
+  raised_itself : amount raised key ≡ max (amount m key) a
+  raised_itself = amount-with_amount o m key (max (amount m key) a) key ∙ ap (λ b. if b then max (amount m key) a else amount m key) (same_key o key)
+
+  raised_other : (q : K) → q ≢ key → amount raised q ≡ amount m q
+  raised_other q other = amount-with_amount o m key (max (amount m key) a) q ∙ ap (λ b. if b then max (amount m key) a else amount m q) (apart o q key other)
+
+  -- none falls, and none passes the greater of what it was and what was asked
+  raised_between : (q : K) → (amount m q ≤ amount raised q) × (amount raised q ≤ max (amount m q) a)
+  raised_between q = elim (cases_Bool (eq_by_cmp R q key)) [
+    | inl t ↦ (
+        let is : amount raised q ≡ amount raised key = ap (amount raised) (key_same o q key t) in
+        let old : amount m q ≡ amount m key = ap (amount m) (key_same o q key t) in
+        (omega (arith, is, raised_itself, old), omega (arith, is, raised_itself, old)))
+    | inr f ↦ (
+        let is : amount raised q ≡ amount m q = raised_other q (differs o q key f) in
+        (omega (arith, is), omega (arith, is)))
+  ]
+
+  lowered_itself : amount (minus m key a) key ≡ amount m key - a
+  lowered_itself = amount-minus o m key a key ∙ ap (λ b. amount m key - amount_if b a) (same_key o key)
+
+  lowered_other : (q : K) → q ≢ key → amount (minus m key a) q ≡ amount m q
+  lowered_other q other =
+      let is : amount (minus m key a) q ≡ amount m q - 0 = amount-minus o m key a q ∙ ap (λ b. amount m q - amount_if b a) (apart o q key other) in
+      omega (arith, is)
+
+-- what wasn't there, raised and lowered again by as much, is as it was
+raised_and_lowered : {K : Type 0} {R : K → K → Ordering} (o : IsKeyOrder R) (m : Amounts R) (key : K) (a : ℕ) → amount m key ≡ 0 → minus (raised o m key a) key a ≡ m
+raised_and_lowered {R = R} o m key a none =
+    let more = raised o m key a in
+    same_amounts o (minus more key a) m (λ q. elim (cases_Bool (eq_by_cmp R q key)) [
+      | inl t ↦ (
+          let is : amount (minus more key a) q ≡ amount (minus more key a) key = ap (amount (minus more key a)) (key_same o q key t) in
+          let old : amount m q ≡ amount m key = ap (amount m) (key_same o q key t) in
+          omega (arith, is, old, lowered_itself o more key a, raised_itself o m key a, none))
+      | inr f ↦ lowered_other o more key a q (differs o q key f) ∙ raised_other o m key a q (differs o q key f)
+    ])
 
 -- ---- the greatest amount
 passed_most : (b : Bool) (n g : ℕ) → IsTrue b → n ≤ max (amount_if b n) g
@@ -135,50 +181,33 @@ floor_at_most who id l n within = greatest_at_most lock_keys (is_lock_of (who, i
     subst (λ (x : LockedAsset). amount l.locks (x.0, x.1, key.2) ≤ n) (asset_told (who, id) key passes) (within key.2))
 
 -- ---- what the changes of locks do
-pub lock_at-Locked : (key : LockKey) (a : ℕ) (l : LocksAndNotes) (q : LockKey) → lock_at q (Locked key a l) ≡ (if eq_by_cmp lock_cmp q key then max (lock_at key l) a else lock_at q l)
-unfolding Locked
-lock_at-Locked key a l q = amount-with_amount lock_keys l.locks key (max (amount l.locks key) a) q
-
-pub lock_at-Unlocked : (key : LockKey) (a : ℕ) (l : LocksAndNotes) (q : LockKey) → lock_at q (Unlocked key a l) ≡ lock_at q l - amount_if (eq_by_cmp lock_cmp q key) a
-unfolding Unlocked
-lock_at-Unlocked key a l q = amount-minus lock_keys l.locks key a q
-
--- a lock that is set lowers none, and none passes the greater of what it was and what was asked
-locked_between : (key : LockKey) (a : ℕ) (l : LocksAndNotes) (q : LockKey) → (lock_at q l ≤ lock_at q (Locked key a l)) × (lock_at q (Locked key a l) ≤ max (lock_at q l) a)
-locked_between key a l q =
-    elim (cases_Bool (eq_by_cmp lock_cmp q key)) [
-      | inl t ↦ (
-          let is : lock_at q (Locked key a l) ≡ max (lock_at key l) a = lock_at-Locked key a l q ∙ ap (λ b. if b then max (lock_at key l) a else lock_at q l) t in
-          let same : lock_at q l ≡ lock_at key l = ap (λ k. lock_at k l) (key_same lock_keys q key t) in
-          (omega (arith, is, same), omega (arith, is, same)))
-      | inr f ↦ (
-          let is : lock_at q (Locked key a l) ≡ lock_at q l = lock_at-Locked key a l q ∙ ap (λ b. if b then max (lock_at key l) a else lock_at q l) f in
-          (omega (arith, is), omega (arith, is)))
-    ]
-
 pub locked_more : (key : LockKey) (a : ℕ) (l : LocksAndNotes) (q : LockKey) → lock_at q l ≤ lock_at q (Locked key a l)
-locked_more key a l q = (locked_between key a l q).0
+unfolding Locked
+locked_more key a l q = (raised_between lock_keys l.locks key a q).0
 
--- the lock itself is at least what was asked
+pub locked_most : (key : LockKey) (a : ℕ) (l : LocksAndNotes) (q : LockKey) → lock_at q (Locked key a l) ≤ max (lock_at q l) a
+unfolding Locked
+locked_most key a l q = (raised_between lock_keys l.locks key a q).1
+
 pub locked_enough : (key : LockKey) (a : ℕ) (l : LocksAndNotes) → lock_at key (Locked key a l) ≡ max (lock_at key l) a
-locked_enough key a l = lock_at-Locked key a l key ∙ ap (λ b. if b then max (lock_at key l) a else lock_at key l) (same_key lock_keys key)
+unfolding Locked
+locked_enough key a l = raised_itself lock_keys l.locks key a
 
 pub locked_other : (key : LockKey) (a : ℕ) (l : LocksAndNotes) (q : LockKey) → q ≢ key → lock_at q (Locked key a l) ≡ lock_at q l
-locked_other key a l q other = lock_at-Locked key a l q ∙ ap (λ b. if b then max (lock_at key l) a else lock_at q l) (apart lock_keys q key other)
-
-locked_most : (key : LockKey) (a : ℕ) (l : LocksAndNotes) (q : LockKey) → lock_at q (Locked key a l) ≤ max (lock_at q l) a
-locked_most key a l q = (locked_between key a l q).1
+unfolding Locked
+locked_other key a l q other = raised_other lock_keys l.locks key a q other
 
 pub unlocked_less : (key : LockKey) (a : ℕ) (l : LocksAndNotes) (q : LockKey) → lock_at q (Unlocked key a l) ≤ lock_at q l
-unlocked_less key a l q = let is = lock_at-Unlocked key a l q in omega (arith, is)
+unfolding Unlocked
+unlocked_less key a l q = let is = amount-minus lock_keys l.locks key a q in omega (arith, is)
 
 pub unlocked_itself : (key : LockKey) (a : ℕ) (l : LocksAndNotes) → lock_at key (Unlocked key a l) ≡ lock_at key l - a
-unlocked_itself key a l = lock_at-Unlocked key a l key ∙ ap (λ b. lock_at key l - amount_if b a) (same_key lock_keys key)
+unfolding Unlocked
+unlocked_itself key a l = lowered_itself lock_keys l.locks key a
 
 pub unlocked_other : (key : LockKey) (a : ℕ) (l : LocksAndNotes) (q : LockKey) → q ≢ key → lock_at q (Unlocked key a l) ≡ lock_at q l
-unlocked_other key a l q other =
-    let is : lock_at q (Unlocked key a l) ≡ lock_at q l - 0 = lock_at-Unlocked key a l q ∙ ap (λ b. lock_at q l - amount_if b a) (apart lock_keys q key other) in
-    omega (arith, is)
+unfolding Unlocked
+unlocked_other key a l q other = lowered_other lock_keys l.locks key a q other
 
 -- ---- what they do to floors
 pub floor-Locked : (who : List ℕ) (id unlocker : Location) (a : ℕ) (l : LocksAndNotes) → floor who id (Locked (who, id, unlocker) a l) ≡ max (floor who id l) a
@@ -272,55 +301,27 @@ floor_stays-Noted key a l who id = floor_alike who id (Noted key a l) l (λ unlo
 pub floor_stays-Reduced : (key : NoteKey) (a : ℕ) (l : LocksAndNotes) (who : List ℕ) (id : Location) → floor who id (Reduced key a l) ≡ floor who id l
 floor_stays-Reduced key a l who id = floor_alike who id (Reduced key a l) l (λ unlocker. locks_stay-Reduced key a l (who, id, unlocker))
 
-noted_at-Noted : (key : NoteKey) (a : ℕ) (l : LocksAndNotes) (q : NoteKey) → noted q (Noted key a l) ≡ (if eq_by_cmp note_cmp q key then max (noted key l) a else noted q l)
-unfolding Noted
-noted_at-Noted key a l q = amount-with_amount note_keys l.notes key (max (amount l.notes key) a) q
-
-noted_at-Reduced : (key : NoteKey) (a : ℕ) (l : LocksAndNotes) (q : NoteKey) → noted q (Reduced key a l) ≡ noted q l - amount_if (eq_by_cmp note_cmp q key) a
-unfolding Reduced
-noted_at-Reduced key a l q = amount-minus note_keys l.notes key a q
-
 pub noted_enough : (key : NoteKey) (a : ℕ) (l : LocksAndNotes) → noted key (Noted key a l) ≡ max (noted key l) a
-noted_enough key a l = noted_at-Noted key a l key ∙ ap (λ b. if b then max (noted key l) a else noted key l) (same_key note_keys key)
+unfolding Noted
+noted_enough key a l = raised_itself note_keys l.notes key a
 
 pub noted_other : (key : NoteKey) (a : ℕ) (l : LocksAndNotes) (q : NoteKey) → q ≢ key → noted q (Noted key a l) ≡ noted q l
-noted_other key a l q other = noted_at-Noted key a l q ∙ ap (λ b. if b then max (noted key l) a else noted q l) (apart note_keys q key other)
+unfolding Noted
+noted_other key a l q other = raised_other note_keys l.notes key a q other
 
 pub reduced_itself : (key : NoteKey) (a : ℕ) (l : LocksAndNotes) → noted key (Reduced key a l) ≡ noted key l - a
-reduced_itself key a l = noted_at-Reduced key a l key ∙ ap (λ b. noted key l - amount_if b a) (same_key note_keys key)
+unfolding Reduced
+reduced_itself key a l = lowered_itself note_keys l.notes key a
 
 pub reduced_other : (key : NoteKey) (a : ℕ) (l : LocksAndNotes) (q : NoteKey) → q ≢ key → noted q (Reduced key a l) ≡ noted q l
-reduced_other key a l q other =
-    let is : noted q (Reduced key a l) ≡ noted q l - 0 = noted_at-Reduced key a l q ∙ ap (λ b. noted q l - amount_if b a) (apart note_keys q key other) in
-    omega (arith, is)
+unfolding Reduced
+reduced_other key a l q other = lowered_other note_keys l.notes key a q other
 
--- ---- whole maps
-same_books : (l n : LocksAndNotes) → ((q : LockKey) → lock_at q l ≡ lock_at q n) → ((q : NoteKey) → noted q l ≡ noted q n) → l ≡ n
-same_books l n locks notes = λ i. record { locks = same_amounts lock_keys l.locks n.locks locks i; notes = same_amounts note_keys l.notes n.notes notes i }
-
--- what wasn't locked, locked and unlocked again, is as it was
+-- ---- set and lowered again
 pub undone : (key : LockKey) (a : ℕ) (l : LocksAndNotes) → lock_at key l ≡ 0 → Unlocked key a (Locked key a l) ≡ l
-undone key a l none = same_books (Unlocked key a (Locked key a l)) l
-    (λ q. elim (cases_Bool (eq_by_cmp lock_cmp q key)) [
-      | inl t ↦ (
-          let same : lock_at q (Unlocked key a (Locked key a l)) ≡ lock_at key (Unlocked key a (Locked key a l)) = ap (λ k. lock_at k (Unlocked key a (Locked key a l))) (key_same lock_keys q key t) in
-          let old : lock_at q l ≡ lock_at key l = ap (λ k. lock_at k l) (key_same lock_keys q key t) in
-          omega (arith, same, old, unlocked_itself key a (Locked key a l), locked_enough key a l, none))
-      | inr f ↦ (
-          let other : q ≢ key = λ e. true≢false (sym (subst (λ k. eq_by_cmp lock_cmp q k ≡ true) e (same_key lock_keys q)) ∙ f) in
-          unlocked_other key a (Locked key a l) q other ∙ locked_other key a l q other)
-    ])
-    (λ q. notes_stay-Unlocked key a (Locked key a l) q ∙ notes_stay-Locked key a l q)
+unfolding Locked Unlocked
+undone key a l none = λ i. record l { locks = raised_and_lowered lock_keys l.locks key a none i }
 
 pub note_undone : (key : NoteKey) (a : ℕ) (l : LocksAndNotes) → noted key l ≡ 0 → Reduced key a (Noted key a l) ≡ l
-note_undone key a l none = same_books (Reduced key a (Noted key a l)) l
-    (λ q. locks_stay-Reduced key a (Noted key a l) q ∙ locks_stay-Noted key a l q)
-    (λ q. elim (cases_Bool (eq_by_cmp note_cmp q key)) [
-      | inl t ↦ (
-          let same : noted q (Reduced key a (Noted key a l)) ≡ noted key (Reduced key a (Noted key a l)) = ap (λ k. noted k (Reduced key a (Noted key a l))) (key_same note_keys q key t) in
-          let old : noted q l ≡ noted key l = ap (λ k. noted k l) (key_same note_keys q key t) in
-          omega (arith, same, old, reduced_itself key a (Noted key a l), noted_enough key a l, none))
-      | inr f ↦ (
-          let other : q ≢ key = λ e. true≢false (sym (subst (λ k. eq_by_cmp note_cmp q k ≡ true) e (same_key note_keys q)) ∙ f) in
-          reduced_other key a (Noted key a l) q other ∙ noted_other key a l q other)
-    ])
+unfolding Noted Reduced
+note_undone key a l none = λ i. record l { notes = raised_and_lowered note_keys l.notes key a none i }

@@ -9,7 +9,7 @@
 --     Locked, Noted      a lock, a note becomes the greater of old and new
 --     Unlocked, Reduced      a lock, a note falls by an amount
 --     locks_of      all locks by account, asset and unlocker
-use Rattle.std.specs.Prelude.{◌≡◌, ℕ, max, Bool, ◌&&◌, List, map}
+use Rattle.std.specs.Prelude.{ℕ, max, Bool, List, map}
 use Rattle.std.specs.Ordering.{nat_cmp, on, then_cmp, eq_by_cmp}
 use Rattle.std.specs.declared.cmp.Ordering.{Ordering}
 use Rattle.std.specs.Cmp.Lexicographic.{slice_cmp}

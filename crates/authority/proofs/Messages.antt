@@ -1,11 +1,9 @@
--- A message of one of the five shapes lowers its origin's account alone: what isn't behind ClearOrigin is one instruction.
-use Rattle.std.proofs.Common.{◌≡◌, ℕ, zero, suc, ◌+◌, List, [], ◌∷◌, Option, Some, None, Result, Ok, Err, ⊎_elim, refl, sym, ap, subst}
+-- A message of one of the seven shapes lowers its origin's account alone: what isn't behind ClearOrigin is one instruction.
+use Rattle.std.proofs.Common.{◌≡◌, ℕ, zero, suc, ◌+◌, true, List, [], ◌∷◌, Option, Some, None, Result, Ok, Err, ⊎_elim, refl, sym, ap, ◌∙◌, subst}
 use Rattle.std.specs.Prelude.{⊤}
 use Rattle.chain_ids.specs.declared.chain.ChainId.{ChainId}
 use Rattle.locations.specs.declared.relative.Location.{Location}
 use Rattle.message_parts.specs.declared.error.XcmError.{XcmError}
-use Rattle.message_parts.specs.declared.query.Response.{Response}
-use Rattle.message_parts.specs.declared.weight.Weight.{Weight}
 use Rattle.asset_lists.specs.declared.units.Asset.{Asset}
 use Rattle.asset_bundles.specs.declared.shipment.Way.{Way}
 use Rattle.trust_tables.specs.declared.chains.Site.{Site}
@@ -18,7 +16,7 @@ use Rattle.channel_parts.specs.declared.cargo.Cargo.{Cargo}
 use Rattle.channel_parts.specs.declared.cargo.Cargo.TheVariants.{Nothing, Deposit, Away}
 use Rattle.exec_base.specs.declared.event.Event.{Event}
 use Rattle.exec_base.specs.declared.event.Part.{Part}
-use Rattle.exec_base.specs.declared.event.Part.TheVariants.{Program}
+use Rattle.exec_base.specs.declared.event.Part.TheVariants.{Program, Appendix}
 use Rattle.exec_base.specs.Part.{ChainPart}
 use Rattle.exec_base.specs.Sending.{led_by, away_program}
 use Rattle.exec_base.specs.Host.{told}
@@ -33,7 +31,7 @@ use Rattle.exec_admission.specs.declared.admission.Admitted.{Admitted}
 use Rattle.exec_admission.specs.Execution.{first_machine, first_stage, last_machine, executed_by, AbandonedIn}
 use Rattle.exec_calls.specs.Calls.{between}
 use Rattle.exec_keeping.specs.KeptLaws.{any_kind, keeps_reached, go_on_kept}
-use Rattle.message_shapes.specs.Shapes.{IsAnswer, IsLedByClaim, IsShape}
+use Rattle.message_shapes.specs.Shapes.{stands_alone, IsAlone, IsLedByClaim, IsShape}
 use Rattle.authority.specs.Origins.{speaker_at, speaker_of, LowersOnly}
 use Rattle.authority.proofs.Lowering.{same_lowers, then_lowers, none_lowers}
 use Rattle.authority.proofs.Acts.{done_lowers, halted_lowers, clear_halted}
@@ -111,22 +109,31 @@ module _ (rules : ChainRules) (origin : Location) (p : ChainPart) where
   led_safe zero first behind = safe_start (roll-Instruction first) (roll-Instruction Instruction-F.ClearOrigin ∷ behind)
   led_safe (suc n) first behind = led_by_answer n (roll-Instruction first) behind (refusal_of (roll-Instruction first) start)
 
-  -- a response alone
-  alone_by_answer : (n query : ℕ) (answer : Response) (weight : Weight) (querier : Option Location) (o : Option XcmError)
-      → Safe (steps xcm n (by_answer xcm Program 0 (roll-Instruction (Instruction-F.QueryResponse query answer weight querier)) [] start o))
+  -- one instruction alone
+  no_appendix : (l : Instruction-F Instruction) → stands_alone l ≡ true → (done l start).regs.appendix ≡ []
+  no_appendix (Instruction-F.QueryResponse query answer weight querier) kind = refl
+  no_appendix (Instruction-F.NoteUnlockable asset owner) kind = refl
+  no_appendix (Instruction-F.UnlockAsset asset target) kind = refl
+  no_appendix _ kind = absurd cc
+
+  nothing_kept : (l : Instruction-F Instruction) → stands_alone l ≡ true → (xcm.done (roll-Instruction l) start).regs.appendix ≡ []
+  nothing_kept l kind = ap (λ (k : Instruction-F Instruction). (done k start).regs.appendix) (out-roll-Instruction l) ∙ no_appendix l kind
+
+  none_safe : (n : ℕ) (part : Part) (program : List Instruction) (m : Machine) → program ≡ [] → LowersOnly may p.held m.part.held → Safe (steps xcm n (begin part program m))
+  none_safe n part [] m e h = at_end n m h
+  none_safe n part (x ∷ behind) m e h = absurd cc
+
+  alone_by_answer : (n : ℕ) (l : Instruction-F Instruction) (o : Option XcmError) → stands_alone l ≡ true → Safe (steps xcm n (by_answer xcm Program 0 (roll-Instruction l) [] start o))
   unfolding told
-  alone_by_answer n query answer weight querier None =
-      let l : Instruction-F Instruction = Instruction-F.QueryResponse query answer weight querier in
-      let x = roll-Instruction l in
-      subst (λ (d : Machine). Safe (steps xcm n (go_on Program (0 + 1) [] (traced Program 0 x None d)))) (sym (ap (λ (k : Instruction-F Instruction). done k start) (out-roll-Instruction l))) (at_end n _ (subst (λ (k : Instruction-F Instruction). LowersOnly may p.held (done k start).part.held) (out-roll-Instruction l) (done_lowers x start)))
-  alone_by_answer n query answer weight querier (Some e) = refused_first n (roll-Instruction (Instruction-F.QueryResponse query answer weight querier)) [] e
+  alone_by_answer n l None kind = none_safe n Appendix (xcm.done (roll-Instruction l) start).regs.appendix _ (nothing_kept l kind) (first_lowers (roll-Instruction l))
+  alone_by_answer n l (Some e) kind = refused_first n (roll-Instruction l) [] e
 
-  alone_safe : (n query : ℕ) (answer : Response) (weight : Weight) (querier : Option Location) → Safe (steps xcm n (begin Program (roll-Instruction (Instruction-F.QueryResponse query answer weight querier) ∷ []) start))
+  alone_safe : (n : ℕ) (l : Instruction-F Instruction) → stands_alone l ≡ true → Safe (steps xcm n (begin Program (roll-Instruction l ∷ []) start))
   unfolding steps
-  alone_safe zero query answer weight querier = safe_start (roll-Instruction (Instruction-F.QueryResponse query answer weight querier)) []
-  alone_safe (suc n) query answer weight querier = alone_by_answer n query answer weight querier (refusal_of (roll-Instruction (Instruction-F.QueryResponse query answer weight querier)) start)
+  alone_safe zero l kind = safe_start (roll-Instruction l) []
+  alone_safe (suc n) l kind = alone_by_answer n l (refusal_of (roll-Instruction l) start) kind
 
-  -- ---- the five shapes
+  -- ---- the seven shapes
   away_safe : (n : ℕ) (way : Way) (list : List Asset) (behind : List Instruction) → Safe (steps xcm n (begin Program (away_program way list behind) start))
   away_safe n Way.Withdrawal list behind = led_safe n (Instruction-F.WithdrawAsset list) behind
   away_safe n Way.Teleport list behind = led_safe n (Instruction-F.ReceiveTeleportedAsset list) behind
@@ -138,7 +145,7 @@ module _ (rules : ChainRules) (origin : Location) (p : ChainPart) where
   shape_safe n here there program (Deposit list) s = subst (Begun n) (sym s.is) (led_safe n (Instruction-F.ReserveAssetDeposited s.list) s.behind)
   shape_safe n here there program (Away shipment) s = subst (Begun n) (sym s.is) (away_safe n shipment.way s.list s.behind)
   shape_safe n here there program Nothing s =
-      ⊎_elim (λ (a : IsAnswer program). subst (Begun n) (sym a.is) (alone_safe n a.query a.answer a.weight a.querier))
+      ⊎_elim (λ (a : IsAlone program). subst (Begun n) (sym a.is) (alone_safe n a.what a.kind))
       (λ (c : IsLedByClaim program). subst (Begun n) (sym c.is) (led_safe n (Instruction-F.ClaimAsset c.list c.ticket) c.behind)) s
 
   safe_at : (here : Site) (there : ChainId) (cargo : Cargo) (a : Admitted) (g : Stage) → IsShape here there a.program cargo → Reaches xcm (first_stage rules origin a p) g → Safe g
@@ -189,17 +196,17 @@ module _ (rules : ChainRules) (origin : Location) (p : ChainPart) where
   unfolding steps
   led_silent n first behind = silent_by_answer n (roll-Instruction first) behind (refusal_of (roll-Instruction first) start)
 
-  alone_silent_by : (n query : ℕ) (answer : Response) (weight : Weight) (querier : Option Location) (o : Option XcmError)
-      → Silent (steps xcm n (by_answer xcm Program 0 (roll-Instruction (Instruction-F.QueryResponse query answer weight querier)) [] start o))
-  alone_silent_by n query answer weight querier None =
-      let l : Instruction-F Instruction = Instruction-F.QueryResponse query answer weight querier in
-      let x = roll-Instruction l in
-      subst (λ (d : Machine). Silent (steps xcm n (go_on Program (0 + 1) [] (traced Program 0 x None d)))) (sym (ap (λ (k : Instruction-F Instruction). done k start) (out-roll-Instruction l))) (silent_end n _)
-  alone_silent_by n query answer weight querier (Some e) = silent_end n _
+  none_silent : (n : ℕ) (part : Part) (program : List Instruction) (m : Machine) → program ≡ [] → Silent (steps xcm n (begin part program m))
+  none_silent n part [] m e = silent_end n m
+  none_silent n part (x ∷ behind) m e = absurd cc
 
-  alone_silent : (n query : ℕ) (answer : Response) (weight : Weight) (querier : Option Location) → Silent (steps xcm (suc n) (begin Program (roll-Instruction (Instruction-F.QueryResponse query answer weight querier) ∷ []) start))
+  alone_silent_by : (n : ℕ) (l : Instruction-F Instruction) (o : Option XcmError) → stands_alone l ≡ true → Silent (steps xcm n (by_answer xcm Program 0 (roll-Instruction l) [] start o))
+  alone_silent_by n l None kind = none_silent n Appendix (xcm.done (roll-Instruction l) start).regs.appendix _ (nothing_kept l kind)
+  alone_silent_by n l (Some e) kind = silent_end n _
+
+  alone_silent : (n : ℕ) (l : Instruction-F Instruction) → stands_alone l ≡ true → Silent (steps xcm (suc n) (begin Program (roll-Instruction l ∷ []) start))
   unfolding steps
-  alone_silent n query answer weight querier = alone_silent_by n query answer weight querier (refusal_of (roll-Instruction (Instruction-F.QueryResponse query answer weight querier)) start)
+  alone_silent n l kind = alone_silent_by n l (refusal_of (roll-Instruction l) start) kind
 
   away_silent : (n : ℕ) (way : Way) (list : List Asset) (behind : List Instruction) → Silent (steps xcm (suc (suc n)) (begin Program (away_program way list behind) start))
   away_silent n Way.Withdrawal list behind = led_silent n (Instruction-F.WithdrawAsset list) behind
@@ -212,7 +219,7 @@ module _ (rules : ChainRules) (origin : Location) (p : ChainPart) where
   shape_silent n here there program (Deposit list) s = subst (Went n) (sym s.is) (led_silent n (Instruction-F.ReserveAssetDeposited s.list) s.behind)
   shape_silent n here there program (Away shipment) s = subst (Went n) (sym s.is) (away_silent n shipment.way s.list s.behind)
   shape_silent n here there program Nothing s =
-      ⊎_elim (λ (a : IsAnswer program). subst (Went n) (sym a.is) (alone_silent (suc n) a.query a.answer a.weight a.querier))
+      ⊎_elim (λ (a : IsAlone program). subst (Went n) (sym a.is) (alone_silent (suc n) a.what a.kind))
       (λ (c : IsLedByClaim program). subst (Went n) (sym c.is) (led_silent n (Instruction-F.ClaimAsset c.list c.ticket) c.behind)) s
 
   pub cleared : (here : Site) (there : ChainId) (cargo : Cargo) (a : Admitted) (n : ℕ) (part : Part) (place : ℕ) (x : Instruction) (behind : List Instruction) (m : Machine) → IsShape here there a.program cargo

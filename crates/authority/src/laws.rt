@@ -33,14 +33,14 @@ pub fn law_of_speakers()
 {}
 
 /// Wherever a run comes, its origin register is empty or holds a location that begins with the origin for which it began. In a run of one of
-/// the five messages it is empty before each instruction from the third on.
+/// the seven messages it is empty before each instruction from the third on.
 pub fn law_of_origin_registers()
     ensures reached { (rules : ChainRules) (origin : Location) (a : Admitted) (p : ChainPart) (g : Stage) → Reaches xcm (first_stage rules origin a p) g → IsAtOrBelow origin (machine_of g).regs.origin }
     ensures cleared { (here : Site) (there : ChainId) (cargo : Cargo) (rules : ChainRules) (origin : Location) (a : Admitted) (p : ChainPart) (n : ℕ) (part : Part) (place : ℕ) (x : Instruction) (behind : List Instruction) (m : Machine)
         → IsShape here there a.program cargo → steps xcm (suc (suc n)) (first_stage rules origin a p) ≡ At part place x behind m → m.regs.origin ≡ None }
 {}
 
-/// An execution for a local caller lowers the caller's account alone, and an execution of one of the five messages the account of its origin
+/// An execution for a local caller lowers the caller's account alone, and an execution of one of the seven messages the account of its origin
 /// alone; also where memory is refused and the run stops.
 pub fn law_of_executions()
     ensures caller { (rules : ChainRules) (account : List ℕ) (credit : Weight) (program : List Instruction) (p : ChainPart) → LowersOnly (Some account) p.held (executed rules (caller account) credit program p).1.held }

@@ -10,7 +10,7 @@ use Rattle.std.specs.Map.{lookup}
 use Rattle.amounts.specs.Amounts.{amount, with_amount, amount-with_amount}
 use Rattle.amounts.specs.Entries.{amount-from_entries, from_entries_changed}
 use Rattle.call_dispatch.specs.Shifts.{AccountRow, account_row_cmp, RowAmounts, is_same_account, spare, shifted, AreKept}
-use Rattle.call_dispatch.specs.Laws.ShiftLaws.{account_row_keys, floors_keep, shifted_written}
+use Rattle.call_dispatch.specs.Laws.ShiftLaws.{account_row_keys, floor_keeps, shifted_written}
 use Rattle.call_rows.specs.Books.{amounts_in, one_floor}
 
 pub amount_is : (es : List (AccountRow × ℕ)) (q : AccountRow) → amount (amounts_in es) q ≡ unwrap_or (lookup (eq_by_cmp account_row_cmp q) es) 0
@@ -53,7 +53,7 @@ pub floor_kept_after : {T E : Type 0} (result : Result T E) (m now : RowAmounts)
     → AreKept m (one_floor keeper floor) → n ≤ spare m (one_floor keeper floor) (from, row) → OnOk result (now ≡ shifted m row from to n) → OnErr result (now ≡ m) → floor ≤ amount now keeper
 floor_kept_after (Ok x) m now keeper floor row from to n kept enough ok err =
     let is : one_floor keeper floor keeper ≡ floor = ap (λ (b : Bool). if b then floor else 0) (same_key account_row_keys keeper) in
-    let low = floors_keep m row from to n (one_floor keeper floor) kept enough keeper in
+    let low = floor_keeps m row from to n (one_floor keeper floor) enough keeper (kept keeper) in
     let here : amount now keeper ≡ amount (shifted m row from to n) keeper = ap (λ (x : RowAmounts). amount x keeper) ok in
     omega (arith, is, low, here)
 floor_kept_after (Err e) m now keeper floor row from to n kept enough ok err =

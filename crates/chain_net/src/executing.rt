@@ -11,6 +11,7 @@ ghost use Rattle.chain_net.specs.Stops.{ExecStops};
 use crate::Net;
 use crate::running::run_here;
 use chain_ids::ChainId;
+use message_shapes::law_of_shapes;
 use network_steps::{StepResult, law_of_decoded_programs};
 use std::alloc::AllocError;
 use trust_tables::is_sovereign;
@@ -56,6 +57,7 @@ impl Net {
         ensures stops { OnErr result (ExecStops (world_of self.old) chain account.now bytes.now (world_of self.new)) }
         ensures spec { spec_of self.new ≡ spec_of self.old }
     {
+        law_of_shapes(); // For the prover alone.
         self.stopped = true;
         self.acted = None;
         let answer = self.try_exec(chain, account, bytes)?;

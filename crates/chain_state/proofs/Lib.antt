@@ -26,3 +26,5 @@ pub mod Widths
 pub mod FeeSlot
 pub mod Settled
 pub mod Called
+pub mod Locked
+pub mod Floored

@@ -7,3 +7,4 @@ pub mod ListedFees
 pub mod Settling
 pub mod Aside
 pub mod Calls
+pub mod Locks

@@ -2,8 +2,10 @@
 ghost use Rattle.std.specs.Prelude.{◌≡◌, vec_capacity};
 ghost use Rattle.exec_base.specs.Calls.{call_index, is_success, Dispatches};
 ghost use Rattle.chain_state.specs.PartOf.{part_of};
+ghost use Rattle.chain_state.specs.Calls.{shortage_above_floor};
 
 use crate::ChainState;
+use asset_lists::{AssetId, Kind};
 use call_dispatch::{Call, CallEnd, Mover, ShiftFault, dispatch};
 use exec_base::Event;
 use row_ledger::shift_row;
@@ -41,16 +43,35 @@ fn line_of(call: &Call, end: CallEnd) -> Event
     }
 }
 
+impl ChainState {
+    /// What the account may give of a fungible row above its floor, where that is less than the amount.
+    fn shortage_above_floor(&self, row: u32, who: &[u8; 32], amount: u128) -> Option<u128>
+        ensures { result ≡ shortage_above_floor (part_of self.now) row who.now amount }
+    {
+        let found = self.settings.rows.items().get(row as usize)?;
+        let Kind::Fungible = found.kind else {
+            return None;
+        };
+        let has = self.ledger.amount(who, &AssetId::Concrete(found.id.copy()));
+        let may_give = has.saturating_sub(self.locked.floor(who, &found.id));
+        if amount <= may_give {
+            return None;
+        }
+        Some(may_give)
+    }
+}
+
 impl Mover for ChainState {
     ghost use Rattle.std.specs.Prelude.{ℕ};
     ghost use Rattle.exec_base.specs.Part.{ChainPart};
-    ghost use Rattle.row_accounts.specs.RowAccounts.{fungible_rows, row_amounts, held_aside, no_floors};
-    ghost use Rattle.row_ledger.specs.Laws.{nothing_kept};
+    ghost use Rattle.exec_base.specs.Calls.{floors_of};
+    ghost use Rattle.account_floors.specs.Laws.{floors_kept};
+    ghost use Rattle.row_accounts.specs.RowAccounts.{fungible_rows, row_amounts};
     ghost use Rattle.chain_state.specs.Calls.{beside_calls};
 
     ghost amounts = { λ s. row_amounts s.settings.rows s.ledger.held };
 
-    ghost floors = { λ s. no_floors };
+    ghost floors = { λ s. floors_of (part_of s) };
 
     ghost rows = { λ s. fungible_rows s.settings.rows };
 
@@ -58,7 +79,7 @@ impl Mover for ChainState {
 
     ghost other = { λ s. (beside_calls (part_of s), vec_capacity s.kept_back) };
 
-    ghost kept = { λ s. nothing_kept (row_amounts s.settings.rows s.ledger.held) };
+    ghost kept = { λ s. floors_kept (part_of s) s.apart s.floored };
 
     fn shift(
         &mut self,
@@ -67,6 +88,9 @@ impl Mover for ChainState {
         to: &[u8; 32],
         amount: u128,
     ) -> Result<(), ShiftFault> {
+        if let Some(have) = self.shortage_above_floor(row, from, amount) {
+            return Err(ShiftFault::NotEnough { have });
+        }
         let alloc = *self.events.allocator();
         let rows = self.settings.rows.items();
         shift_row(alloc, &mut self.ledger, rows, row, from, to, amount)

@@ -166,6 +166,41 @@ impl Host for ChainState {
         self.dispatch_call(who, call)
     }
 
+    fn locks(&self) -> bool {
+        self.settings.locks
+    }
+
+    fn lock(
+        &mut self,
+        asset: &Asset,
+        owner: &Location,
+        unlocker: &Location,
+    ) -> Result<u64, HostFault> {
+        self.lock_for(asset, owner, unlocker)
+    }
+
+    fn unlock(
+        &mut self,
+        asset: &Asset,
+        target: &Location,
+        from: &Location,
+    ) -> Result<(), HostFault> {
+        self.unlock_for(asset, target, from)
+    }
+
+    fn note(&mut self, asset: &Asset, owner: &Location, from: &Location) -> Result<(), HostFault> {
+        self.note_for(asset, owner, from)
+    }
+
+    fn request(
+        &mut self,
+        asset: &Asset,
+        owner: &Location,
+        locker: &Location,
+    ) -> Result<u64, HostFault> {
+        self.request_for(asset, owner, locker)
+    }
+
     fn event(&mut self, e: Event) -> Result<(), AllocError> {
         self.tell(e)
     }

@@ -14,6 +14,7 @@ mod dispatching;
 mod fees;
 mod hosting;
 mod lines;
+mod locks;
 mod losses;
 mod opening;
 mod outgoing;

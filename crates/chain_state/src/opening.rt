@@ -25,6 +25,7 @@ ghost use Rattle.chain_state.specs.ListedFees.{are_fees_listed};
 use crate::ChainState;
 use asset_bundles::{AssetBundle, BurnBook};
 use asset_lists::Asset;
+use asset_locks::LockBook;
 use chain_ids::ChainId;
 use chain_lists::{
     channels_from, checking_accounts, copied_pallets, copied_rows, entry_of, ids, open_queries,
@@ -73,6 +74,7 @@ impl ChainState {
         let spare = Trader::new(alloc, rates)?;
         let queues = Queues::open(alloc, channels)?;
         let parked = Vec::with_capacity(alloc, 4)?;
+        let locked = LockBook::new(alloc);
         Ok(ChainState {
             sender: settings.site.chain,
             settings,
@@ -85,6 +87,7 @@ impl ChainState {
             parked,
             book,
             checking,
+            locked,
             queries,
             queues,
             cargo: Cargo::Nothing,
@@ -131,6 +134,7 @@ impl ChainState {
             pallets: Listed::from_vec(pallets),
             fee_account: entry.fee_account,
             calls: entry.calls,
+            locks: entry.locks,
         };
         let queries = open_queries(alloc, entry.chain, entry.queries.items())?;
         let channels = channels_from(alloc, entry.chain, spec.channels.items())?;

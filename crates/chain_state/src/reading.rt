@@ -6,6 +6,7 @@ ghost use Rattle.chain_state.specs.PartOf.{part_of};
 
 use crate::ChainState;
 use asset_bundles::{BurnBook, Units};
+use asset_locks::LockBook;
 use chain_queues::Queues;
 use exec_base::Event;
 use ledgers::{Ledger, TrapStore};
@@ -47,6 +48,13 @@ impl ChainState {
         ensures ledger { result.now ≡ accounts_of (part_of self.now) }
     {
         &self.ledger
+    }
+
+    /// What is locked, and what is noted of locks elsewhere.
+    pub fn lock_book(&self) -> &LockBook
+        ensures locks { result.now ≡ (part_of self.now).locked }
+    {
+        &self.locked
     }
 
     /// What is trapped.

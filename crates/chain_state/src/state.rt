@@ -8,12 +8,14 @@ ghost use Rattle.trust_tables.specs.Chains.{path_of_site};
 ghost use Rattle.trust_tables.specs.Trust.{listing};
 ghost use Rattle.network_genesis.specs.Tests.{are_rates_listed, have_paths, have_prices};
 ghost use Rattle.chain_queues.specs.Queues.{channels_of};
+ghost use Rattle.account_floors.specs.Floors.{HasFloors};
 ghost use Rattle.weight_trader.specs.Refunds.{Closed};
 ghost use Rattle.fee_rows.specs.Fees.{HaveRows, HaveRowsFor};
 ghost use Rattle.chain_lists.specs.Checked.{are_checked};
 ghost use Rattle.chain_state.specs.ListedFees.{are_fees_listed};
 
 use asset_bundles::{BurnBook, Units};
+use asset_locks::LockBook;
 use chain_ids::ChainId;
 use chain_queues::{Cargo, Queues};
 use exec_base::{Event, Settings};
@@ -22,8 +24,8 @@ use ledgers::{Ledger, TrapStore};
 use message_parts::OpenQuery;
 use weight_trader::Trader;
 
-/// A chain of the network: what its document says, what stands at it, what it sends, and what is told. No two rows list one asset, the
-/// ledger and the book list what the rows list, the id of each has a path, each rate's asset is listed, each channel's fee is an amount above 0 of a fungible asset that
+/// A chain of the network: what its document says, what stands at it, what it sends, and what is told. No two rows list one asset, each
+/// account has what is locked on it, the ledger and the book list what the rows list, the id of each has a path, each rate's asset is listed, each channel's fee is an amount above 0 of a fungible asset that
 /// is listed, just the fungible ones of the listed assets have a row of kept fees, what is in the fee slot has one, the spare trader has
 /// the rates of the trader, there are at most 64 pallets, four bundles can be parked without memory, and only rows of fungible assets
 /// have a checking account.
@@ -40,6 +42,7 @@ pub struct ChainState {
     pub(crate) parked: Vec<Units>,
     pub(crate) book: BurnBook,
     pub(crate) checking: Vec<Option<u128>>,
+    pub(crate) locked: LockBook,
     pub(crate) queries: Vec<OpenQuery>,
     pub(crate) queues: Queues,
     pub(crate) sender: ChainId,
@@ -47,6 +50,7 @@ pub struct ChainState {
     pub(crate) events: Vec<Event>,
     pub(crate) kept_back: Vec<Event>,
     ghost apart: { IsDistinct (eq_by_cmp listed_cmp) (listing settings.rows) } by { IsDistinct-prop (eq_by_cmp listed_cmp) (listing settings.rows) },
+    ghost floored: { HasFloors locked ledger.held },
     ghost ledger_lists: { ledger.listed ≡ listing settings.rows },
     ghost book_lists: { book.listed ≡ listing settings.rows },
     ghost paths: { IsTrue (have_paths (path_of_site settings.site) settings.rows) },

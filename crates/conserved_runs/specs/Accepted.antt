@@ -33,10 +33,10 @@ use Rattle.exec_rules.specs.Instructions.{refused, done}
 use Rattle.exec_rules.specs.Readiness.{IsSteady}
 use Rattle.coherence.specs.Networks.{Table, Agrees, IsIn}
 use Rattle.conserved_runs.specs.Sums.{sum_of, none, nobody, only, HasRoom, Sum, Kept, kept_of, in_kept, in_places, burned_where, account_total, with, Call}
-use Rattle.conserved_runs.specs.Calls.{Withdraws, total_nothing, call_with, call_by, receiving_none, answering, withdrawing, depositing, transferring, claiming, burn, still, joining, dispatching, drawing, refunding, buying, parking_goods, holding_fee, keeping, room_with}
+use Rattle.conserved_runs.specs.Calls.{Withdraws, total_nothing, call_with, call_by, receiving_none, answering, unlocking, noting, withdrawing, depositing, transferring, claiming, burn, still, joining, dispatching, drawing, refunding, buying, parking_goods, holding_fee, keeping, room_with}
 use Rattle.conserved_runs.specs.Safety.{origins, IsSpared, hold, Safely, IsFine, AreFees, HasList, AreLists, turn_safely, sends_safely, fee_in_order, Sends, safely_then, keeps_room, same_table}
 use Rattle.conserved_runs.specs.Turns.{same_turn, paid_parts}
-use Rattle.conserved_runs.specs.Shipping.{withdrawal_sends, teleport_sends, deposit_sends, transfer_sends, report_sends, Leaves}
+use Rattle.conserved_runs.specs.Shipping.{withdrawal_sends, teleport_sends, deposit_sends, transfer_sends, report_sends, lock_sends, request_sends, Leaves}
 use Rattle.amounts.specs.Laws.{total-merge, merge-empty}
 use Rattle.asset_lists.specs.Lists.{IsAssetList}
 use Rattle.asset_lists.specs.Units.{Unit}
@@ -281,6 +281,10 @@ module _ (withdraws : Withdraws) (moves : MovesAreKept) (n : List Table) (l : In
       moves_on (λ w. w ≡ account) none none (MachineCall.Dispatch account call) t (dispatching t.part account call)
       (λ w same. let spoken = asks.1 in (spoken.0, speaks_at t spoken.0 from spoken.1, ap (λ (t : MachineWithGoods). account_of spoken.0 t.part.site) asks.0 ∙ spoken.2 ∙ ap Some (sym same))) (λ q. omega arith) from k
   called_safely (MachineCall.KeepBack e) t which asks from free k = gives none none (MachineCall.KeepBack e) t (still t.part (effect (MachineCall.KeepBack e) t) refl) (λ q. omega arith) from k
+  called_safely (MachineCall.Lock asset who unlocker) t which asks from free k = ⊎_elim (λ (early : ⊥). absurd early) (λ (agrees : Agrees n). sends_on (MachineCall.Lock asset who unlocker) t (lock_sends n agrees (pooled t) asset who unlocker free) from k) which
+  called_safely (MachineCall.Unlock asset target who) t which asks from free k = gives none none (MachineCall.Unlock asset target who) t (unlocking t.part asset target who) (λ q. omega arith) from k
+  called_safely (MachineCall.Note asset owner who) t which asks from free k = gives none none (MachineCall.Note asset owner who) t (noting t.part asset owner who) (λ q. omega arith) from k
+  called_safely (MachineCall.Request asset who locker) t which asks from free k = ⊎_elim (λ (early : ⊥). absurd early) (λ (agrees : Agrees n). sends_on (MachineCall.Request asset who locker) t (request_sends n agrees (pooled t) asset who locker free) from k) which
   called_safely MachineCall.HoldFee t which asks from free k = gives (sum_of t.goods) none MachineCall.HoldFee t (holding_fee t.part t.goods (asks.3 ∙ steady.rest.slot)) (λ q. let z = total-empty unit_keys q in omega (arith, z)) from k
   called_safely MachineCall.TakeFee t which asks from free k = gives none (sum_of t.part.fee_slot) MachineCall.TakeFee t (taking_fee t.part) (λ q. let z = nothing_in_hand t asks q in omega (arith, z)) from k
   called_safely MachineCall.KeepFee t which asks from free k = gives none none MachineCall.KeepFee t (keeping t.part (room_with (hold (pooled t)) none t.part (room_at t k) (λ q. omega arith))) (λ q. omega arith) from k

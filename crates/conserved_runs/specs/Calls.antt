@@ -41,7 +41,7 @@ use Rattle.exec_base.specs.declared.event.Event.{Event}
 use Rattle.chain_ids.specs.declared.chain.ChainId.{ChainId}
 use Rattle.channel_parts.specs.declared.cargo.Cargo.TheVariants.{Nothing}
 use Rattle.exec_base.specs.Part.{Taken, ChainPart, accounts_of, book_of}
-use Rattle.exec_base.specs.Host.{Arrival, ByWithdrawal, arrival_of, is_cargo, cargo_after, first_fault, at_account, give_fault, take_fault, given, got, withdraw_refusal, withdrawn, deposit_refusal, deposited, transfer_refusal, transferred, received, answered, is_query, unspent, bought, booked, burned_lines, above, refund_goods, refunded, joined, burnt, is_trap, claim_refusal, claimed, trapped, parked, all_fees, fees_above, fees_within, settled_burns, settled, fee_held, fees_with, fee_kept, fee_drawn, told}
+use Rattle.exec_base.specs.Host.{asset_unlocked, asset_noted, Arrival, ByWithdrawal, arrival_of, is_cargo, cargo_after, first_fault, at_account, floor_of, give_fault, take_fault, given, got, withdraw_refusal, withdrawn, deposit_refusal, deposited, transfer_refusal, transferred, received, answered, is_query, unspent, bought, booked, burned_lines, above, refund_goods, refunded, joined, burnt, is_trap, claim_refusal, claimed, trapped, parked, all_fees, fees_above, fees_within, settled_burns, settled, fee_held, fees_with, fee_kept, fee_drawn, told}
 use Rattle.exec_rules.specs.AnswerLaws.{unless_held, unless_next, none_first, none_next, goods_of_trap, found_somewhere}
 use Rattle.conserved_runs.specs.Sums.{Kept, kept_of, in_kept, in_places, burned_where, account_total, Sum, sum_of, none, with, nobody, only, Call, most, HasRoom}
 
@@ -251,6 +251,15 @@ pub answering : (p : ChainPart) (from : Location) (query : ℕ) → Call nobody 
 unfolding answered
 answering p from query = still p (answered p from query) (answered_at p query (position (is_query query from) p.queries))
 
+-- locks and notes are beside all amounts
+pub unlocking : (p : ChainPart) (a : Asset) (target from : Location) → Call nobody none none p (asset_unlocked p a target from)
+unfolding asset_unlocked
+unlocking p a target from = still p (asset_unlocked p a target from) refl
+
+pub noting : (p : ChainPart) (a : Asset) (owner from : Location) → Call nobody none none p (asset_noted p a owner from)
+unfolding asset_noted
+noting p a owner from = still p (asset_noted p a owner from) refl
+
 -- ---- accounts and bundles
 no_account_gives : (p : ChainPart) (a : Asset) → give_fault p None a ≡ None → ⊥
 no_account_gives p a h = let k = unless_next (is_some (row_of p.rows a)) _ _ h in absurd cc
@@ -259,7 +268,10 @@ no_account_takes : (p : ChainPart) (a : Asset) → take_fault p None a ≡ None 
 no_account_takes p a h = let k = unless_next (is_some (row_of p.rows a)) _ _ h in absurd cc
 
 holds_enough : (p : ChainPart) (who : List ℕ) (a : Asset) → give_fault p (Some who) a ≡ None → nat_le (amount_of a) (amount p.held (who, unit_of a)) ≡ true
-holds_enough p who a h = unless_held _ _ _ (unless_next (is_some (row_of p.rows a)) _ _ h)
+holds_enough p who a h = enough (amount_of a) (floor_of p who (unit_of a)) _ (unless_held _ _ _ (unless_next (is_some (row_of p.rows a)) _ _ h))
+  where
+    enough : (n f m : ℕ) → nat_le (n + f) m ≡ true → nat_le n m ≡ true
+    enough n f m h = grind (arith, nat_tests, h)
 
 not_less : (n m : ℕ) → nat_le n m ≡ true → nat_lt m n ≡ false
 not_less n m h = grind (arith, nat_tests, h)

@@ -1,5 +1,5 @@
 -- What a call that is dispatched for an account leaves of a chain. This project's own rule.
-use Rattle.std.specs.Prelude.{◌≡◌, ℕ, Bool, true, false, List, [], ◌∷◌, ◌++◌, Result, Ok, Err}
+use Rattle.std.specs.Prelude.{◌≡◌, ℕ, Bool, true, false, if◌then◌else◌, List, [], ◌∷◌, ◌++◌, slice_get, Result, Ok, Err}
 use Rattle.std.specs.declared.alloc.AllocError.{AllocError}
 use Rattle.ledgers.specs.Ledgers.{Held}
 use Rattle.call_dispatch.specs.declared.call.Call.TheVariants.{Remark, Transfer, Fail, Batch}
@@ -7,14 +7,15 @@ use Rattle.call_dispatch.specs.declared.end.CallEnd.{CallEnd}
 use Rattle.call_dispatch.specs.declared.end.CallEnd.TheVariants.{Success, Error}
 use Rattle.call_dispatch.specs.Spelling.{AnyCall}
 use Rattle.call_dispatch.specs.Shifts.{Floors}
-use Rattle.row_accounts.specs.RowAccounts.{no_floors}
+use Rattle.row_accounts.specs.RowAccounts.{is_fungible_row, unit_at}
 use Rattle.row_accounts.specs.Calls.{call_end, held_called, IsHeldInPart}
 use Rattle.exec_base.specs.declared.event.Event.{Event}
 use Rattle.exec_base.specs.Part.{ChainPart}
+use Rattle.exec_base.specs.Host.{floor_of}
 
--- what must stay of accounts: nothing
+-- what must stay of accounts: what is locked there of a fungible row
 abbrev pub floors_of : ChainPart → Floors
-floors_of p = no_floors
+floors_of p k = if is_fungible_row (slice_get p.rows k.1) then floor_of p k.0 (unit_at p.rows k.1) else 0
 
 abbrev pub call_index : AnyCall → ℕ
 call_index (Remark bytes) = 0

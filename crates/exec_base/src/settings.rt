@@ -16,4 +16,6 @@ pub struct Settings {
     pub fee_account: [u8; 32],
     /// Whether it serves calls.
     pub calls: bool,
+    /// Whether assets may be locked there.
+    pub locks: bool,
 }

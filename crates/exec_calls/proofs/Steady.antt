@@ -101,6 +101,12 @@ aside_by (Instruction-F.Transact kind most bytes) r None p = (refl, λ none. non
 aside_by (Instruction-F.Transact kind most bytes) r (Some who) p =
     let m = of_origin r (Some who) p in
     dispatching_aside m most (call_in p.calls bytes) (caller_in m kind who)
+aside_by (Instruction-F.LockAsset asset unlocker) r None p = (refl, λ none. none)
+aside_by (Instruction-F.LockAsset asset unlocker) r (Some who) p =
+    around_aside (fee_to p unlocker) (of_origin r (Some who) p) _ (λ n. (refl, λ none. none))
+aside_by (Instruction-F.RequestUnlock asset locker) r None p = (refl, λ none. none)
+aside_by (Instruction-F.RequestUnlock asset locker) r (Some who) p =
+    around_aside (fee_to p locker) (of_origin r (Some who) p) _ (λ n. (refl, λ none. none))
 aside_by _ r None p = (refl, λ none. none)
 aside_by _ r (Some who) p = (refl, λ none. none)
 

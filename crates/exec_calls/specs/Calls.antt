@@ -37,7 +37,7 @@ use Rattle.exec_base.specs.declared.event.Event.{Event}
 use Rattle.exec_base.specs.declared.registers.Registers.{Registers}
 use Rattle.exec_base.specs.Part.{ChainPart}
 use Rattle.exec_base.specs.Sending.{unless, or_else, channel_to}
-use Rattle.exec_base.specs.Host.{withdraw_refusal, withdrawn, deposit_refusal, deposited, transfer_refusal, transferred, receive_refusal, received, transfer_out_refusal, transferred_out, deposit_out_refusal, deposited_out, ship_refusal, shipped, querier_seen, respond_refusal, responded, answered, buy_refusal, unspent, bought, refund_goods, refunded, joined, burnt, claim_refusal, claimed, trapped, parked, settled, fee_to, fee_held, fee_taken, fee_kept, fee_drawn, told}
+use Rattle.exec_base.specs.Host.{withdraw_refusal, withdrawn, deposit_refusal, deposited, transfer_refusal, transferred, receive_refusal, received, transfer_out_refusal, transferred_out, deposit_out_refusal, deposited_out, ship_refusal, shipped, querier_seen, respond_refusal, responded, answered, buy_refusal, unspent, bought, refund_goods, refunded, joined, burnt, claim_refusal, claimed, trapped, parked, settled, lock_refusal, asset_locked, unlock_refusal, asset_unlocked, note_refusal, asset_noted, request_refusal, asset_requested, fee_to, fee_held, fee_taken, fee_kept, fee_drawn, told}
 use Rattle.exec_base.specs.Calls.{held_dispatched, call_line, dispatch_end}
 use Rattle.exec_run.specs.Machine.{Machine, machine, weight_added}
 use Rattle.exec_rules.specs.Holdings.{with_origin, with_holding, has_room, holds_asset, holds_list, payment_of, is_ticket, not_refunded, refund_now, holds_some}
@@ -89,6 +89,11 @@ pub data MachineCall : Type 0 where
   -- amounts move between accounts; and a line is kept back
   Dispatch : List ℕ → AnyCall → MachineCall
   KeepBack : Event → MachineCall
+  -- locks, and notes of them
+  Lock : Asset → Location → Location → MachineCall
+  Unlock : Asset → Location → Location → MachineCall
+  Note : Asset → Location → Location → MachineCall
+  Request : Asset → Location → Location → MachineCall
   -- the slot of the delivery fee
   HoldFee : MachineCall
   TakeFee : MachineCall
@@ -122,6 +127,10 @@ why_not (MachineCall.Respond info answer querier) t = respond_refusal t.part inf
 why_not (MachineCall.Answer from query) t = None
 why_not (MachineCall.Dispatch who c) t = None
 why_not (MachineCall.KeepBack e) t = None
+why_not (MachineCall.Lock a owner unlocker) t = lock_refusal t.part a owner unlocker
+why_not (MachineCall.Unlock a target from) t = unlock_refusal t.part a target from
+why_not (MachineCall.Note a owner from) t = note_refusal t.part a owner from
+why_not (MachineCall.Request a owner locker) t = request_refusal t.part a owner locker
 why_not MachineCall.HoldFee t = None
 why_not MachineCall.TakeFee t = None
 why_not MachineCall.KeepFee t = None
@@ -157,6 +166,12 @@ after (MachineCall.Respond info answer querier) t = let q = responded t.part inf
 after (MachineCall.Answer from query) t = let q = answered t.part from query in record t { part = record t.part { queries = q.queries; kept_back = q.kept_back } }
 after (MachineCall.Dispatch who c) t = record t { part = record t.part { held = held_dispatched t.part who c } }
 after (MachineCall.KeepBack e) t = record t { part = record t.part { kept_back = t.part.kept_back ++ e ∷ [] } }
+after (MachineCall.Lock a owner unlocker) t =
+    let q = asset_locked t.part a owner unlocker in record t { part = record t.part { locked = q.locked; channels = q.channels; kept_back = q.kept_back } }
+after (MachineCall.Unlock a target from) t = let q = asset_unlocked t.part a target from in record t { part = record t.part { locked = q.locked } }
+after (MachineCall.Note a owner from) t = let q = asset_noted t.part a owner from in record t { part = record t.part { locked = q.locked } }
+after (MachineCall.Request a owner locker) t =
+    let q = asset_requested t.part a owner locker in record t { part = record t.part { locked = q.locked; channels = q.channels; kept_back = q.kept_back } }
 after MachineCall.HoldFee t = record t { part = record t.part { fee_slot = t.goods }; goods = empty }
 after MachineCall.TakeFee t = record t { part = record t.part { fee_slot = empty }; goods = t.part.fee_slot }
 after MachineCall.KeepFee t = let q = fee_kept t.part in record t { part = record t.part { fee_slot = empty; fees = q.fees } }
@@ -186,6 +201,10 @@ effect (MachineCall.Respond info answer querier) t = responded t.part info answe
 effect (MachineCall.Answer from query) t = answered t.part from query
 effect (MachineCall.Dispatch who c) t = record t.part { held = held_dispatched t.part who c }
 effect (MachineCall.KeepBack e) t = record t.part { kept_back = t.part.kept_back ++ e ∷ [] }
+effect (MachineCall.Lock a owner unlocker) t = asset_locked t.part a owner unlocker
+effect (MachineCall.Unlock a target from) t = asset_unlocked t.part a target from
+effect (MachineCall.Note a owner from) t = asset_noted t.part a owner from
+effect (MachineCall.Request a owner locker) t = asset_requested t.part a owner locker
 effect MachineCall.HoldFee t = fee_held t.part t.goods
 effect MachineCall.TakeFee t = fee_taken t.part
 effect MachineCall.KeepFee t = fee_kept t.part
@@ -244,6 +263,10 @@ abbrev pub refunding : Machine → Option (Location × ℕ) → List MachineCall
 refunding m None = []
 refunding m (Some given) = MachineCall.Check (holds_some m given.0 || has_room m 1) error.HoldingWouldOverflow ∷ MachineCall.Refund (not_refunded m) ∷ MachineCall.Join ∷ []
 
+-- assets may be locked here
+abbrev pub locking : Machine → MachineCall
+locking m = MachineCall.Check m.part.locks error.LockError
+
 abbrev pub report : Machine → QueryInfo → Response → List MachineCall
 report n info answer = MachineCall.Respond info answer n.regs.origin ∷ []
 
@@ -298,6 +321,11 @@ calls (Instruction-F.QueryResponse query answer weight querier) m = for_origin m
 -- calls of the chain
 calls (Instruction-F.Transact kind most bytes) m =
     for_origin m.regs.origin (λ who. dispatching m most (call_in m.part.calls bytes) (caller_in m kind who))
+-- locks
+calls (Instruction-F.LockAsset asset unlocker) m = for_origin m.regs.origin (λ who. locking m ∷ sending m unlocker (λ n. MachineCall.Lock asset who unlocker ∷ []))
+calls (Instruction-F.UnlockAsset asset target) m = for_origin m.regs.origin (λ who. MachineCall.Unlock asset target who ∷ [])
+calls (Instruction-F.NoteUnlockable asset owner) m = for_origin m.regs.origin (λ who. MachineCall.Note asset owner who ∷ [])
+calls (Instruction-F.RequestUnlock asset locker) m = for_origin m.regs.origin (λ who. locking m ∷ sending m locker (λ n. MachineCall.Request asset who locker ∷ []))
 -- the origin register
 calls Instruction-F.ClearOrigin m = []
 calls (Instruction-F.DescendOrigin path) m = for_origin m.regs.origin (λ who. MachineCall.Check (fits_below who path) error.LocationFull ∷ [])
@@ -326,10 +354,6 @@ calls (Instruction-F.SubscribeVersion query weight) m = MachineCall.Check (is_or
 calls Instruction-F.UnsubscribeVersion m = MachineCall.Check (is_original m) error.BadOrigin ∷ never error.Unimplemented
 calls (Instruction-F.UniversalOrigin junction) m = MachineCall.Check (not (is_own_network m junction)) error.InvalidLocation ∷ for_origin m.regs.origin (λ who. never error.InvalidLocation)
 calls (Instruction-F.ExportMessage network path xcm) m = for_origin m.regs.origin (λ who. never error.Unroutable)
-calls (Instruction-F.LockAsset asset unlocker) m = for_origin m.regs.origin (λ who. never error.LockError)
-calls (Instruction-F.UnlockAsset asset target) m = for_origin m.regs.origin (λ who. never error.LockError)
-calls (Instruction-F.NoteUnlockable asset owner) m = for_origin m.regs.origin (λ who. never error.LockError)
-calls (Instruction-F.RequestUnlock asset locker) m = for_origin m.regs.origin (λ who. never error.LockError)
 calls (Instruction-F.AliasOrigin target) m = for_origin m.regs.origin (λ who. never error.NoPermission)
 
 -- what was refunded is noted where something was

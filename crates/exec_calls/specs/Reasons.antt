@@ -89,6 +89,8 @@ destination (Instruction-F.ReportError info) = Some info.destination
 destination (Instruction-F.ReportHolding info filter) = Some info.destination
 destination (Instruction-F.QueryPallet name info) = Some info.destination
 destination (Instruction-F.ReportTransactStatus info) = Some info.destination
+destination (Instruction-F.LockAsset asset unlocker) = Some unlocker
+destination (Instruction-F.RequestUnlock asset locker) = Some locker
 destination _ = None
 
 -- the delivery fee of the channel that it sends on
@@ -146,6 +148,10 @@ HasReason moment l m t (MachineCall.Respond info answer querier) = IsUnsent m t 
 HasReason moment l m t (MachineCall.Answer from query) = IsFirst m t × Speaks m from
 HasReason moment l m t (MachineCall.Dispatch account c) = IsFirst m t × SpeaksBy m account × IsTransact l
 HasReason moment l m t (MachineCall.KeepBack e) = IsTransact l
+HasReason moment l m t (MachineCall.Lock a owner unlocker) = IsUnsent m t × Speaks m owner × (l ≡ Instruction-F.LockAsset a unlocker)
+HasReason moment l m t (MachineCall.Unlock a target from) = Speaks m from × (l ≡ Instruction-F.UnlockAsset a target)
+HasReason moment l m t (MachineCall.Note a owner from) = Speaks m from × (l ≡ Instruction-F.NoteUnlockable a owner)
+HasReason moment l m t (MachineCall.Request a owner locker) = IsUnsent m t × Speaks m owner × (l ≡ Instruction-F.RequestUnlock a locker)
 HasReason moment l m t MachineCall.HoldFee = (fee : Asset) × IsFee l m fee × (t.goods ≡ payment_of fee) × (t.part.fee_slot ≡ m.part.fee_slot)
 HasReason moment l m t MachineCall.TakeFee = HasNone t
 HasReason moment l m t MachineCall.KeepFee = ⊤
@@ -173,6 +179,10 @@ ComesBeforeStop (MachineCall.TransferOut list from dest xcm) = ⊥
 ComesBeforeStop (MachineCall.Respond info answer querier) = ⊥
 ComesBeforeStop (MachineCall.Answer from query) = ⊥
 ComesBeforeStop (MachineCall.KeepBack e) = ⊥
+ComesBeforeStop (MachineCall.Lock a owner unlocker) = ⊥
+ComesBeforeStop (MachineCall.Unlock a target from) = ⊥
+ComesBeforeStop (MachineCall.Note a owner from) = ⊥
+ComesBeforeStop (MachineCall.Request a owner locker) = ⊥
 ComesBeforeStop MachineCall.KeepFee = ⊥
 ComesBeforeStop _ = ⊤
 

@@ -207,6 +207,8 @@ stops_lead (Instruction-F.ReportHolding info filter) m now stops = around_stops 
 stops_lead (Instruction-F.QueryPallet name info) m now stops = around_stops (Instruction-F.QueryPallet name info) m info.destination (fee_to m.part info.destination) (λ n left. ⊥) now refl refl (λ n none i. absurd i) stops
 stops_lead (Instruction-F.ReportTransactStatus info) m now stops = around_stops (Instruction-F.ReportTransactStatus info) m info.destination (fee_to m.part info.destination) (λ n left. ⊥) now refl refl (λ n none i. absurd i) stops
 stops_lead (Instruction-F.Transact kind most bytes) m now stops = call_stops_at m now kind most bytes m.regs.origin refl stops
+stops_lead (Instruction-F.LockAsset asset unlocker) m now stops = around_stops (Instruction-F.LockAsset asset unlocker) m unlocker (fee_to m.part unlocker) (λ n left. ⊥) now refl refl (λ n none i. absurd i) stops.1
+stops_lead (Instruction-F.RequestUnlock asset locker) m now stops = around_stops (Instruction-F.RequestUnlock asset locker) m locker (fee_to m.part locker) (λ n left. ⊥) now refl refl (λ n none i. absurd i) stops.1
 stops_lead _ m now stops = absurd stops
 
 -- all as it was, or one of these

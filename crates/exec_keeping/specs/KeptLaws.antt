@@ -87,6 +87,12 @@ comes_at_end m t (MachineCall.Ship Way.Teleport dest xcm) asks = absurd (cc asks
 comes_at_end m t (MachineCall.Transfer list from to) asks = absurd (cc asks.2)
 comes_at_end m t (MachineCall.TransferOut list from dest xcm) asks = absurd (cc asks.2)
 comes_at_end m t (MachineCall.Respond info answer querier) asks = absurd asks.2
+comes_at_end m t (MachineCall.Dispatch who c) asks = absurd asks.2
+comes_at_end m t (MachineCall.KeepBack e) asks = absurd asks
+comes_at_end m t (MachineCall.Lock a owner unlocker) asks = absurd (cc asks.2)
+comes_at_end m t (MachineCall.Unlock a target from) asks = absurd (cc asks.1)
+comes_at_end m t (MachineCall.Note a owner from) asks = absurd (cc asks.1)
+comes_at_end m t (MachineCall.Request a owner locker) asks = absurd (cc asks.2)
 comes_at_end m t MachineCall.HoldFee asks = no_fee_at_end m asks.0 asks.1
 comes_at_end m t _ asks = tt
 

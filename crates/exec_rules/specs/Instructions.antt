@@ -12,7 +12,7 @@ use Rattle.asset_bundles.specs.declared.shipment.Way.{Way}
 use Rattle.xcm_program.specs.declared.instruction.Instruction.{Instruction, out-Instruction}
 use Rattle.xcm_program.specs.declared.instruction.Instruction.TheOpen.{Instruction-F}
 use Rattle.exec_base.specs.Sending.{unless}
-use Rattle.exec_base.specs.Host.{withdraw_refusal, withdrawn, deposit_refusal, deposited, transfer_refusal, transferred, receive_refusal, received, transfer_out_refusal, transferred_out, deposit_out_refusal, deposited_out, ship_refusal, shipped, answered, burnt, claim_refusal, claimed}
+use Rattle.exec_base.specs.Host.{withdraw_refusal, withdrawn, deposit_refusal, deposited, transfer_refusal, transferred, receive_refusal, received, transfer_out_refusal, transferred_out, deposit_out_refusal, deposited_out, ship_refusal, shipped, answered, burnt, claim_refusal, claimed, where_locks, lock_refusal, asset_locked, unlock_refusal, asset_unlocked, note_refusal, asset_noted, request_refusal, asset_requested}
 use Rattle.exec_run.specs.Machine.{Machine, machine, Rules}
 use Rattle.exec_rules.specs.Holdings.{with_origin, at_origin, with_room, holds_list, holding_more, taken_of, holding_left, is_ticket, buying_refusal, buying_done, refund_now, refund_refusal, refund_done}
 use Rattle.exec_rules.specs.Fees.{refused_sending, done_sending}
@@ -48,6 +48,11 @@ refused (Instruction-F.ReportTransactStatus info) m = refused_sending m info.des
 refused (Instruction-F.QueryResponse query answer weight querier) m = with_origin m.regs.origin (λ who. None)
 -- calls
 refused (Instruction-F.Transact kind most bytes) m = with_origin m.regs.origin (λ who. call_refusal m.regs.rule most (call_in m.part.calls bytes) (caller_in m kind who))
+-- locks
+refused (Instruction-F.LockAsset asset unlocker) m = with_origin m.regs.origin (λ who. where_locks m.part (refused_sending m unlocker (λ n. lock_refusal n.part asset who unlocker)))
+refused (Instruction-F.UnlockAsset asset target) m = with_origin m.regs.origin (λ who. unlock_refusal m.part asset target who)
+refused (Instruction-F.NoteUnlockable asset owner) m = with_origin m.regs.origin (λ who. note_refusal m.part asset owner who)
+refused (Instruction-F.RequestUnlock asset locker) m = with_origin m.regs.origin (λ who. where_locks m.part (refused_sending m locker (λ n. request_refusal n.part asset who locker)))
 -- the origin register
 refused Instruction-F.ClearOrigin m = None
 refused (Instruction-F.DescendOrigin path) m = with_origin m.regs.origin (λ who. unless (fits_below who path) error.LocationFull None)
@@ -76,10 +81,6 @@ refused (Instruction-F.SubscribeVersion query weight) m = if_original m (Some er
 refused Instruction-F.UnsubscribeVersion m = if_original m (Some error.Unimplemented)
 refused (Instruction-F.UniversalOrigin junction) m = unless (not (is_own_network m junction)) error.InvalidLocation (with_origin m.regs.origin (λ who. Some error.InvalidLocation))
 refused (Instruction-F.ExportMessage network path xcm) m = with_origin m.regs.origin (λ who. Some error.Unroutable)
-refused (Instruction-F.LockAsset asset unlocker) m = with_origin m.regs.origin (λ who. Some error.LockError)
-refused (Instruction-F.UnlockAsset asset target) m = with_origin m.regs.origin (λ who. Some error.LockError)
-refused (Instruction-F.NoteUnlockable asset owner) m = with_origin m.regs.origin (λ who. Some error.LockError)
-refused (Instruction-F.RequestUnlock asset locker) m = with_origin m.regs.origin (λ who. Some error.LockError)
 refused (Instruction-F.AliasOrigin target) m = with_origin m.regs.origin (λ who. Some error.NoPermission)
 
 -- ---- what is left where nothing is refused; those that are always refused have nothing to say
@@ -108,6 +109,11 @@ done (Instruction-F.ReportTransactStatus info) m = done_sending m info.destinati
 done (Instruction-F.QueryResponse query answer weight querier) m = at_origin m.regs.origin (λ who. machine m.regs (answered m.part who query)) m
 -- calls
 done (Instruction-F.Transact kind most bytes) m = at_origin m.regs.origin (λ who. call_done m most (call_in m.part.calls bytes) (caller_in m kind who)) m
+-- locks
+done (Instruction-F.LockAsset asset unlocker) m = at_origin m.regs.origin (λ who. done_sending m unlocker (λ n. machine n.regs (asset_locked n.part asset who unlocker))) m
+done (Instruction-F.UnlockAsset asset target) m = at_origin m.regs.origin (λ who. machine m.regs (asset_unlocked m.part asset target who)) m
+done (Instruction-F.NoteUnlockable asset owner) m = at_origin m.regs.origin (λ who. machine m.regs (asset_noted m.part asset owner who)) m
+done (Instruction-F.RequestUnlock asset locker) m = at_origin m.regs.origin (λ who. done_sending m locker (λ n. machine n.regs (asset_requested n.part asset who locker))) m
 -- the origin register
 done Instruction-F.ClearOrigin m = with_registers m (record m.regs { origin = None })
 done (Instruction-F.DescendOrigin path) m = at_origin m.regs.origin (λ who. with_registers m (record m.regs { origin = Some (descended who path) })) m
@@ -136,10 +142,6 @@ done (Instruction-F.SubscribeVersion query weight) m = m
 done Instruction-F.UnsubscribeVersion m = m
 done (Instruction-F.UniversalOrigin junction) m = m
 done (Instruction-F.ExportMessage network path xcm) m = m
-done (Instruction-F.LockAsset asset unlocker) m = m
-done (Instruction-F.UnlockAsset asset target) m = m
-done (Instruction-F.NoteUnlockable asset owner) m = m
-done (Instruction-F.RequestUnlock asset locker) m = m
 done (Instruction-F.AliasOrigin target) m = m
 
 -- ---- of whole instructions

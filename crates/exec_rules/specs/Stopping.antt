@@ -80,6 +80,11 @@ Stops (Instruction-F.ReportTransactStatus info) m now = StopsSending m info.dest
 Stops (Instruction-F.QueryResponse query answer weight querier) m now = ⊥
 -- calls
 Stops (Instruction-F.Transact kind most bytes) m now = CallStopsAt m kind bytes m.regs.origin now
+-- locks
+Stops (Instruction-F.LockAsset asset unlocker) m now = (m.part.locks ≡ true) × StopsSending m unlocker (λ n left. ⊥) now
+Stops (Instruction-F.UnlockAsset asset target) m now = ⊥
+Stops (Instruction-F.NoteUnlockable asset owner) m now = ⊥
+Stops (Instruction-F.RequestUnlock asset locker) m now = (m.part.locks ≡ true) × StopsSending m locker (λ n left. ⊥) now
 -- the origin register
 Stops Instruction-F.ClearOrigin m now = ⊥
 Stops (Instruction-F.DescendOrigin path) m now = ⊥
@@ -108,10 +113,6 @@ Stops (Instruction-F.SubscribeVersion query weight) m now = ⊥
 Stops Instruction-F.UnsubscribeVersion m now = ⊥
 Stops (Instruction-F.UniversalOrigin junction) m now = ⊥
 Stops (Instruction-F.ExportMessage network path xcm) m now = ⊥
-Stops (Instruction-F.LockAsset asset unlocker) m now = ⊥
-Stops (Instruction-F.UnlockAsset asset target) m now = ⊥
-Stops (Instruction-F.NoteUnlockable asset owner) m now = ⊥
-Stops (Instruction-F.RequestUnlock asset locker) m now = ⊥
 Stops (Instruction-F.AliasOrigin target) m now = ⊥
 
 -- what an instruction may leave where memory was refused: all as it was, or one of these

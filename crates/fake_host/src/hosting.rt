@@ -166,6 +166,41 @@ impl Host for FakeHost {
         self.chain.dispatch(who, call)
     }
 
+    fn locks(&self) -> bool {
+        self.chain.locks()
+    }
+
+    fn lock(
+        &mut self,
+        asset: &Asset,
+        owner: &Location,
+        unlocker: &Location,
+    ) -> Result<u64, HostFault> {
+        self.chain.lock(asset, owner, unlocker)
+    }
+
+    fn unlock(
+        &mut self,
+        asset: &Asset,
+        target: &Location,
+        from: &Location,
+    ) -> Result<(), HostFault> {
+        self.chain.unlock(asset, target, from)
+    }
+
+    fn note(&mut self, asset: &Asset, owner: &Location, from: &Location) -> Result<(), HostFault> {
+        self.chain.note(asset, owner, from)
+    }
+
+    fn request(
+        &mut self,
+        asset: &Asset,
+        owner: &Location,
+        locker: &Location,
+    ) -> Result<u64, HostFault> {
+        self.chain.request(asset, owner, locker)
+    }
+
     fn event(&mut self, e: Event) -> Result<(), AllocError> {
         self.chain.event(e)
     }

@@ -42,7 +42,7 @@ use Rattle.host_laws.proofs.Booking.{conserves_join, conserves_burn, conserves_p
 use Rattle.host_laws.proofs.Moving.{Withdraws, conserves_withdrawal, conserves_drawn_fee, conserves_deposit, conserves_transfer}
 use Rattle.host_laws.proofs.Claiming.{conserves_claim}
 use Rattle.host_laws.proofs.Dispatching.{conserves_moves}
-use Rattle.host_laws.proofs.Sending.{conserves_shipping, conserves_deposit_out, conserves_transfer_out, conserves_response}
+use Rattle.host_laws.proofs.Sending.{conserves_shipping, conserves_deposit_out, conserves_transfer_out, conserves_response, conserves_locking, conserves_unlocking, conserves_noting, conserves_requesting}
 use Rattle.host_laws.proofs.Trading.{above_at, above_total, conserves_purchase, conserves_refund}
 
 -- ---- room in the book
@@ -205,6 +205,10 @@ module _ (withdraws : Withdraws) (moves : MovesAreKept) (l : Instruction-F Instr
   step (MachineCall.Answer from query) t asks free w = kept (MachineCall.Answer from query) t (conserves_answer t.part from query) refl refl
   step (MachineCall.Dispatch who c) t asks free w = kept (MachineCall.Dispatch who c) t (conserves_moves t.part who c) refl refl
   step (MachineCall.KeepBack e) t asks free w = λ test. kept_line e t test
+  step (MachineCall.Lock a owner unlocker) t asks free w = kept (MachineCall.Lock a owner unlocker) t (conserves_locking t.part a owner unlocker) refl refl
+  step (MachineCall.Unlock a target from) t asks free w = kept (MachineCall.Unlock a target from) t (conserves_unlocking t.part a target from) refl refl
+  step (MachineCall.Note a owner from) t asks free w = kept (MachineCall.Note a owner from) t (conserves_noting t.part a owner from) refl refl
+  step (MachineCall.Request a owner locker) t asks free w = kept (MachineCall.Request a owner locker) t (conserves_requesting t.part a owner locker) refl refl
   step MachineCall.HoldFee t asks free w = gave MachineCall.HoldFee t (conserves_held_fee t.part t.goods (asks.3 ∙ steady.rest.slot)) refl refl
   step MachineCall.TakeFee t asks free w = came MachineCall.TakeFee t t.part.fee_slot (conserves_taken_fee t.part) refl asks refl
   step MachineCall.KeepFee t asks free w = kept MachineCall.KeepFee t (conserves_kept_fee t.part (keeps_below t w)) refl refl

@@ -1,4 +1,4 @@
--- Each step of a network leaves only messages of the five shapes.
+-- Each step of a network leaves only messages of the seven shapes.
 use Rattle.std.proofs.Common.{◌≡◌, ℕ, zero, suc, Bool, true, false, ◌&&◌, List, [], ◌∷◌, Option, Some, None, Result, Ok, Err, inr, refl, sym, ap, ◌∙◌, subst}
 use Rattle.std.specs.Prelude.{if◌then◌else◌, slice_get, slice_set, find}
 use Rattle.std.specs.List.{AllByRecursion}

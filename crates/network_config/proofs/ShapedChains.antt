@@ -22,7 +22,8 @@ use Rattle.document_forms.specs.declared.fault.Section.TheVariants.{Rates, Asset
 use Rattle.document_forms.specs.Forms.{Form, ◌>>=◌, ◌>>◌, where_true, fields, of_optional, defaulted, number_within, bytes, onto, next_index, entries, count, list_field}
 use Rattle.document_entries.specs.Entries.{made, u32, rate, asset_row, account, pallet, query, channel_entry}
 use Rattle.network_config.specs.declared.head.ChainHead.{ChainHead}
-use Rattle.network_config.specs.Chains.{top, fields_of, in_chain, channel_at, para_field, weight_field, no_account, head, truth, short_list, lists, entries_field, barriers_field, chain_fields, with_head, own_fields, chain_entry}
+use Rattle.network_config.specs.declared.head.Served.{Served}
+use Rattle.network_config.specs.Chains.{top, fields_of, in_chain, channel_at, para_field, weight_field, no_account, head, flag, short_list, lists, entries_field, barriers_field, chain_fields, with_head, own_fields, chain_entry}
 use Rattle.network_config.specs.Document.{network, has_fees, is_relay_entry, has_relay, chain_count, chains_list, top_fields, shapes}
 use Rattle.network_config.specs.Valid.{is_within, fits_rate, fits_role, fits_asset, fits_pallet, fits_chain, fits_channel}
 use Rattle.network_config.specs.Faultless.{ok_both}
@@ -149,7 +150,7 @@ lists_give place value h =
     parts : {A B : Type 0} (r : Result A NetworkFault) (s : Result B NetworkFault) → is_ok (r >> s) ≡ true → (is_ok r ≡ true) × (is_ok s ≡ true)
     parts r s h = and_parts (is_ok r) (is_ok s) (sym (ok_both r s) ∙ h)
 
-abbrev FitsOwn : Place → Data → ChainHead × Bool → Type 0
+abbrev FitsOwn : Place → Data → ChainHead × Served → Type 0
 FitsOwn place value own = FitsHead (get (codes "para") value) own.0 × FitsLists place value × (is_some (as_object value) ≡ true)
 
 is_object : (names : List (List ℕ)) (place : Place) (value : Data) → is_ok (fields names place value) ≡ true → is_some (as_object value) ≡ true
@@ -167,8 +168,9 @@ own_gives more place value =
     after_ok (fields (chain_fields more) place value) _ (λ o.
     with_first (head place value) _ (head_gives place value) (λ h fits.
     after_ok (lists place value) _ (λ l.
-    one_by_one (defaulted (codes "calls") false truth place value) _ (λ calls c.
-    ok_gives (FitsOwn place value) (h, calls) (fits, lists_give place value l, is_object (chain_fields more) place value o)))))
+    one_by_one (flag (codes "calls") place value) _ (λ calls c.
+    one_by_one (flag (codes "locks") place value) _ (λ locks k.
+    ok_gives (FitsOwn place value) (h, record { calls = calls; locks = locks }) (fits, lists_give place value l, is_object (chain_fields more) place value o))))))
 
 -- ---- a chain
 
@@ -195,11 +197,11 @@ chain_gives more chain value =
       relay = own.0.relay ∙ ap (λ b. b && is_none (get (codes "para") value)) (sym own.2);
     }))))))))
   where
-    all_fit : (h : ChainHead) (barriers : List _) (rates : List _) (assets : List _) (accounts : List _) (pallets : List _) (queries : List _) (calls : Bool)
+    all_fit : (h : ChainHead) (barriers : List _) (rates : List _) (assets : List _) (accounts : List _) (pallets : List _) (queries : List _) (served : Served)
         → (is_within 1 100 h.rules.max_instructions && is_within 20 64 h.max_holding) ≡ true → nat_le (length assets) 128 ≡ true → nat_le (length pallets) 64 ≡ true
         → list_all fits_rate rates ≡ true → list_all (λ (row : AssetRow). fits_role row.kind row.role) assets ≡ true → list_all (λ (b : Balance). fits_asset b.asset) accounts ≡ true → list_all fits_pallet pallets ≡ true
-        → fits_chain (with_head h barriers rates assets accounts pallets queries calls) ≡ true
-    all_fit h barriers rates assets accounts pallets queries calls l m n r a b p = and_from _ _ l (and_from _ _ (and_from _ _ m n) (and_from _ _ r (and_from _ _ a (and_from _ _ b p))))
+        → fits_chain (with_head h barriers rates assets accounts pallets queries served) ≡ true
+    all_fit h barriers rates assets accounts pallets queries served l m n r a b p = and_from _ _ l (and_from _ _ (and_from _ _ m n) (and_from _ _ r (and_from _ _ a (and_from _ _ b p))))
 
 -- ---- the document
 

@@ -20,6 +20,7 @@ use Rattle.document_forms.specs.declared.fault.Section.TheVariants.{Top, Fields,
 use Rattle.document_forms.specs.Forms.{Form, ◌>>=◌, ◌>>◌, or_fault, where_true, fields, defaulted, number_within, bytes, pair, list_field, entries, count}
 use Rattle.document_entries.specs.Entries.{made, u32, barrier, rate, asset_row, account, pallet, query}
 use Rattle.network_config.specs.declared.head.ChainHead.{ChainHead}
+use Rattle.network_config.specs.declared.head.Served.{Served}
 
 -- ---- places
 
@@ -100,10 +101,10 @@ barriers_or (Some listed) chain value = entries_field (codes "barriers") Barrier
 unfoldable pub barriers_field : ℕ → Data → Result (List Barrier) NetworkFault
 barriers_field chain value = barriers_or (get (codes "barriers") value) chain value
 
--- the fields of a chain; format 2 has calls
+-- the fields of a chain; format 2 has calls and locks
 abbrev pub chain_fields : Bool → List (List ℕ)
 chain_fields true = codes "para" ∷ codes "unit_weight" ∷ codes "max_weight" ∷ codes "max_instructions" ∷ codes "max_holding" ∷ codes "fee_account"
-    ∷ codes "barriers" ∷ codes "rates" ∷ codes "assets" ∷ codes "accounts" ∷ codes "pallets" ∷ codes "queries" ∷ codes "calls" ∷ []
+    ∷ codes "barriers" ∷ codes "rates" ∷ codes "assets" ∷ codes "accounts" ∷ codes "pallets" ∷ codes "queries" ∷ codes "calls" ∷ codes "locks" ∷ []
 chain_fields false = codes "para" ∷ codes "unit_weight" ∷ codes "max_weight" ∷ codes "max_instructions" ∷ codes "max_holding" ∷ codes "fee_account"
     ∷ codes "barriers" ∷ codes "rates" ∷ codes "assets" ∷ codes "accounts" ∷ codes "pallets" ∷ codes "queries" ∷ []
 
@@ -111,10 +112,14 @@ chain_fields false = codes "para" ∷ codes "unit_weight" ∷ codes "max_weight"
 unfoldable pub truth : Form Bool
 truth place value = or_fault (WrongKind place) (as_bool value)
 
--- a chain with its own fields and its lists
-abbrev pub with_head : ChainHead → List Barrier → List Rate → List AssetRow → List Balance → List PalletInfo → List (ℕ × ChainId) → Bool
+-- false where it isn't there
+abbrev pub flag : List ℕ → Form Bool
+flag name = defaulted name false truth
+
+-- a chain with its own fields, its lists and what it serves
+abbrev pub with_head : ChainHead → List Barrier → List Rate → List AssetRow → List Balance → List PalletInfo → List (ℕ × ChainId) → Served
     → ChainSpec
-with_head head barriers rates assets accounts pallets queries calls = record {
+with_head head barriers rates assets accounts pallets queries served = record {
   chain = head.chain;
   rules = head.rules;
   limit = head.limit;
@@ -126,17 +131,19 @@ with_head head barriers rates assets accounts pallets queries calls = record {
   accounts = accounts;
   pallets = pallets;
   queries = queries;
-  calls = calls;
+  calls = served.calls;
+  locks = served.locks;
 }
 
--- its own fields, and whether it serves calls
-unfoldable pub own_fields : Bool → Form (ChainHead × Bool)
+-- its own fields, and what it serves
+unfoldable pub own_fields : Bool → Form (ChainHead × Served)
 own_fields more place value = do
   fields (chain_fields more) place value
   head ← head place value
   lists place value
-  calls ← defaulted (codes "calls") false truth place value
-  Ok (head, calls)
+  calls ← flag (codes "calls") place value
+  locks ← flag (codes "locks") place value
+  Ok (head, record { calls = calls; locks = locks })
 
 -- the entry of a chain by its index; format 2 has more fields
 unfoldable pub chain_entry : Bool → ℕ → Data → Result ChainSpec NetworkFault

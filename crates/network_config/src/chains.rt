@@ -191,10 +191,10 @@ fn barriers_field(alloc: Global, list: InChain, value: &Value) -> Result<Listed<
     read_entries(alloc, &list, items)
 }
 
-/// A reader of the entries of chains, by whether the format has calls.
+/// A reader of the entries of chains, by whether the format has calls and locks.
 #[derive(Clone, Copy)]
 pub(crate) struct ChainEntries {
-    /// Whether the format has calls.
+    /// Whether the format has calls and locks.
     pub(crate) more: bool,
 }
 
@@ -206,7 +206,7 @@ impl Entry<ChainSpec> for ChainEntries {
     #[tactic(auto, unfolding(crate::specs::Chains::chain_entry))]
     fn read(&self, alloc: Global, index: u32, value: &Value) -> Result<ChainSpec, Stop> {
         let list = InChain { chain: index };
-        let (head, calls) = own_fields(list.fields(), self.more, value)?;
+        let (head, served) = own_fields(list.fields(), self.more, value)?;
         let barriers = barriers_field(alloc, list, value)?;
         let rates = rates_field(alloc, list, value)?;
         let assets = assets_field(alloc, list, value)?;
@@ -226,7 +226,8 @@ impl Entry<ChainSpec> for ChainEntries {
             accounts,
             pallets,
             queries,
-            calls,
+            calls: served.calls,
+            locks: served.locks,
         })
     }
 }

@@ -1,11 +1,11 @@
 //! The lists of a document.
-ghost use Rattle.std.specs.Prelude.{◌≡◌, ◌≤◌, codes, false, length};
+ghost use Rattle.std.specs.Prelude.{◌≡◌, ◌≤◌, codes, length};
 ghost use Rattle.serde_json.specs.View.{view, items_view};
 ghost use Rattle.document_forms.specs.Answers.{Answers, AnswersAs};
-ghost use Rattle.document_forms.specs.Forms.{defaulted, list_field, fields};
-ghost use Rattle.network_config.specs.Chains.{short_list, lists, chain_fields, truth, own_fields};
+ghost use Rattle.document_forms.specs.Forms.{list_field, fields};
+ghost use Rattle.network_config.specs.Chains.{short_list, lists, chain_fields, truth, flag, own_fields};
 
-use crate::head::{ChainHead, head_of};
+use crate::head::{ChainHead, Served, head_of};
 use document_forms::{NetworkFault, Place, Stop, check_fields, list_of};
 use serde_json::Value;
 
@@ -76,6 +76,7 @@ fn check_chain_fields(place: Place, more: bool, value: &Value) -> Result<(), Sto
                 "pallets",
                 "queries",
                 "calls",
+                "locks",
             ],
             value,
         );
@@ -111,24 +112,29 @@ fn truth_of(place: Place, value: &Value) -> Result<bool, Stop>
     }
 }
 
-/// Whether the chain serves calls; the field may be absent.
-fn calls_field(place: Place, value: &Value) -> Result<bool, Stop>
-    ensures { Answers result (defaulted (codes "calls") false truth place (view value.now)) }
+/// True or false, and false where it isn't there.
+fn flag_field(place: Place, name: &str, value: &Value) -> Result<bool, Stop>
+    ensures { Answers result (flag name.now place (view value.now)) }
 {
-    match value.get("calls") {
-        Some(calls) => truth_of(place, calls),
+    match value.get(name) {
+        Some(flag) => truth_of(place, flag),
         None => Ok(false),
     }
 }
 
-/// A chain's own fields, where the shapes of its lists are right too, and whether it serves calls.
+/// A chain's own fields, where the shapes of its lists are right too, and what it serves.
 #[tactic(auto, unfolding(crate::specs::Chains::own_fields, document_forms::specs::Forms::fields))]
-pub(crate) fn own_fields(place: Place, more: bool, value: &Value) -> Result<(ChainHead, bool), Stop>
+pub(crate) fn own_fields(
+    place: Place,
+    more: bool,
+    value: &Value,
+) -> Result<(ChainHead, Served), Stop>
     ensures { Answers result (own_fields more place (view value.now)) }
 {
     check_chain_fields(place, more, value)?;
     let head = head_of(place, value)?;
     check_lists(place, value)?;
-    let calls = calls_field(place, value)?;
-    Ok((head, calls))
+    let calls = flag_field(place, "calls", value)?;
+    let locks = flag_field(place, "locks", value)?;
+    Ok((head, Served { calls, locks }))
 }

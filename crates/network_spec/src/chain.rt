@@ -44,4 +44,6 @@ pub struct ChainSpec {
     pub queries: Listed<(u64, ChainId)>,
     /// Whether it serves calls.
     pub calls: bool,
+    /// Whether it serves locks.
+    pub locks: bool,
 }

@@ -8,7 +8,7 @@ use Rattle.std.proofs.lemmas.List.Quantifiers.{position-Some}
 use Rattle.std.proofs.lemmas.Option.{slice_get-get_or}
 use Rattle.amounts.specs.Rows.{amount_if}
 use Rattle.amounts.specs.Amounts.{amount, total, plus, minus, merge, difference, restriction, map_keys, same_amounts, total_alike, amount-restriction, total-restriction, amount-total}
-use Rattle.amounts.specs.Laws.{key_same, same_key, amount-plus, amount-minus, amount-merge, amount-difference, amount-map_keys, total-plus, total-minus, total-merge, total-map_keys, total_alike_held}
+use Rattle.amounts.specs.Laws.{amount_at_most, key_same, same_key, amount-plus, amount-minus, amount-merge, amount-difference, amount-map_keys, total-plus, total-minus, total-merge, total-map_keys, total_alike_held}
 use Rattle.asset_lists.specs.declared.units.AssetId.TheVariants.{Concrete}
 use Rattle.asset_lists.specs.declared.units.Instance.{Instance}
 use Rattle.asset_lists.specs.declared.units.Kind.{Kind}
@@ -29,7 +29,7 @@ use Rattle.call_dispatch.specs.Spelling.{AnyCall}
 use Rattle.call_dispatch.specs.Shifts.{AccountRow, account_row_cmp, RowAmounts, Floors, is_row, shifted}
 use Rattle.call_dispatch.specs.Dispatches.{Done, dispatch}
 use Rattle.call_dispatch.specs.Laws.ShiftLaws.{account_row_keys, amount-shifted}
-use Rattle.call_dispatch.specs.Laws.DispatchLaws.{total-dispatch, total_others, total_interrupted, total_others_interrupted, error_stays}
+use Rattle.call_dispatch.specs.Laws.DispatchLaws.{total-dispatch, total_others, floor_stays, total_interrupted, total_others_interrupted, error_stays}
 use Rattle.row_accounts.specs.RowAccounts.{is_fungible_kind, is_fungible, is_fungible_row, fungible_from, fungible_rows, row_of_unit, has_row_number, numbered, unit_of_row, unit_at, holder_at, row_amounts, held_aside, with_row_amounts}
 use Rattle.row_accounts.specs.Calls.{call_end, held_called, IsHeldInPart}
 
@@ -50,6 +50,17 @@ pub unit_found : (rows : List AssetRow) (u : Unit) (r : ℕ) → row_of_unit row
 unfolding row_of_unit unit_at
 unit_found rows (id, None) r e = row_says rows r (id, Fungible) (number_at (listing rows) (id, Fungible) r e)
 unit_found rows (id, Some instance) r e = absurd cc
+
+-- and is fungible
+fungible_at : (rows : List AssetRow) (r : ℕ) (k : Listed) → slice_get (listing rows) r ≡ Some k → is_fungible_kind k.1 ≡ true → is_fungible_row (slice_get rows r) ≡ true
+fungible_at [] r k e kind = absurd cc
+fungible_at (x ∷ xs) zero k e kind = (let same : listed_row x ≡ k = cc in ap (λ (l : Listed). is_fungible_kind l.1) same ∙ kind)
+fungible_at (x ∷ xs) (suc r) k e kind = fungible_at xs r k e kind
+
+pub fungible_found : (rows : List AssetRow) (u : Unit) (r : ℕ) → row_of_unit rows u ≡ Some r → is_fungible_row (slice_get rows r) ≡ true
+unfolding row_of_unit
+fungible_found rows (id, None) r e = fungible_at rows r (id, Fungible) (number_at (listing rows) (id, Fungible) r e) refl
+fungible_found rows (id, Some instance) r e = absurd cc
 
 -- a fungible row is the one of its unit, where no asset is listed twice
 kind_is : (k : Kind) → is_fungible_kind k ≡ true → k ≡ Fungible
@@ -351,3 +362,43 @@ transferred_one ledger from to a = same_amounts holder_keys _ _ (λ q.
     let more = amount-plus holder_keys (minus ledger.held (from, unit_of a) (amount_of a)) (to, unit_of a) (amount_of a) q in
     let less = amount-minus holder_keys ledger.held (from, unit_of a) (amount_of a) q in
     omega (arith, sum, left, given, got, more, less))
+
+-- ---- what stays with an account
+module _ (rows : List AssetRow) (held : Held) (m : RowAmounts) where
+  row_at_most : (u : Unit) (row : ℕ) → row_of_unit rows u ≡ Some row → (one : List ℕ) → amount m (one, row) ≤ amount (with_row_amounts rows held m) (one, u)
+  unfolding with_row_amounts
+  row_at_most u row is one =
+      let sum = amount-merge holder_keys (held_aside rows held) (map_keys (holder_at rows) m) (one, u) in
+      let of_rows = amount-map_keys {S = account_row_cmp} holder_keys (holder_at rows) m (one, u) in
+      let here : eq_by_cmp holder_cmp (one, u) (holder_at rows (one, row)) ≡ true = ap (λ (v : Unit). eq_by_cmp holder_cmp (one, u) (one, v)) (unit_found rows u row is) ∙ same_key holder_keys (one, u) in
+      let most = amount_at_most account_row_keys (λ (k : AccountRow). eq_by_cmp holder_cmp (one, u) (holder_at rows k)) m (one, row) here in
+      omega (arith, sum, of_rows, most)
+
+  aside_at_most : (h : Holder) → has_row_number rows h ≡ false → amount held h ≤ amount (with_row_amounts rows held m) h
+  unfolding with_row_amounts held_aside
+  aside_at_most h unlisted =
+      let sum = amount-merge holder_keys (held_aside rows held) (map_keys (holder_at rows) m) h in
+      let aside = amount-restriction holder_keys (λ (g : Holder). not (has_row_number rows g)) held h ∙ ap (λ (b : Bool). amount_if (not b) (amount held h)) unlisted in
+      omega (arith, sum, aside)
+
+  -- an account has at least so much of a unit, where it has as much of its row now, if there is one, and had as much
+  pub enough_with_rows : (one : List ℕ) (u : Unit) (n : ℕ) → ((row : ℕ) → row_of_unit rows u ≡ Some row → n ≤ amount m (one, row)) → n ≤ amount held (one, u)
+      → n ≤ amount (with_row_amounts rows held m) (one, u)
+  enough_with_rows one u n has low = by_row (row_of_unit rows u) refl
+    where
+      by_row : (o : Option ℕ) → row_of_unit rows u ≡ o → n ≤ amount (with_row_amounts rows held m) (one, u)
+      by_row None e = let more = aside_at_most (one, u) (ap (λ (o : Option ℕ). is_some o) e) in omega (arith, low, more)
+      by_row (Some row) e = let there = has row e in let more = row_at_most u row e one in omega (arith, there, more)
+
+-- a call leaves an account what is its floor of the unit's row, if there is one
+pub floor_called : (rows : List AssetRow) (held : Held) (floors : Floors) (who : List ℕ) (c : AnyCall) (one : List ℕ) (u : Unit) (n : ℕ)
+    → ((row : ℕ) → row_of_unit rows u ≡ Some row → floors (one, row) ≡ n) → n ≤ amount held (one, u) → n ≤ amount (held_called rows held floors who c) (one, u)
+unfolding held_called
+floor_called rows held floors who c one u n says low =
+    enough_with_rows rows held (dispatch (row_amounts rows held) floors (fungible_rows rows) who c).0 one u n
+    (λ row e.
+    let has = amount_of_row rows u row e held one in
+    let is = says row e in
+    let stays = floor_stays (row_amounts rows held) floors (fungible_rows rows) who c (one, row) (omega (arith, low, has, is)) in
+    omega (arith, is, stays))
+    low

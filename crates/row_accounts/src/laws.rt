@@ -42,7 +42,7 @@ pub fn law_of_moved_rows()
 {}
 
 /// A call leaves each sum over all accounts as it is, and lowers no account but the caller's; so does what stands of it where memory was
-/// refused. A call that fails changes nothing.
+/// refused. It leaves each account what must stay there of the unit's row. A call that fails changes nothing.
 pub fn law_of_calls_of_accounts()
     ensures sums { (rows : List AssetRow) (held : Held) (floors : Floors) (who : List ℕ)
         (c : AnyCall) (t : Holder → Bool)
@@ -52,6 +52,10 @@ pub fn law_of_calls_of_accounts()
         (c : AnyCall) (t : Holder → Bool)
         → ((u : Unit) → IsFalse (t (who, u)))
         → total t held ≤ total t (held_called rows held floors who c) }
+    ensures floors { (rows : List AssetRow) (held : Held) (floors : Floors) (who : List ℕ)
+        (c : AnyCall) (one : List ℕ) (u : Unit) (n : ℕ)
+        → ((row : ℕ) → row_of_unit rows u ≡ Some row → floors (one, row) ≡ n)
+        → n ≤ amount held (one, u) → n ≤ amount (held_called rows held floors who c) (one, u) }
     ensures error { (rows : List AssetRow) (held : Held) (floors : Floors) (who : List ℕ)
         (c : AnyCall) (code : ℕ)
         → call_end rows held floors who c ≡ Error code → held_called rows held floors who c ≡ held }

@@ -22,6 +22,8 @@ mod hostile;
 #[cfg(test)]
 mod inputs;
 #[cfg(test)]
+mod locks;
+#[cfg(test)]
 mod messages;
 #[cfg(test)]
 mod openings;

@@ -11,7 +11,7 @@ use Rattle.call_dispatch.specs.declared.faults.ShiftFault.{ShiftFault}
 use Rattle.call_dispatch.specs.Spelling.{Item, AnyCall}
 use Rattle.call_dispatch.specs.Shifts.{AccountRow, RowAmounts, Floors, shift_fault, shifted, IsNumberAt, AreKept}
 use Rattle.call_dispatch.specs.Dispatches.{Done, moved_unless, dispatch_item, next_or, dispatch_items, dispatch, items_of, IsInterrupted, sum_of_row, item_names, names_row}
-use Rattle.call_dispatch.specs.Laws.ShiftLaws.{IsAccepted, accepted, enough_held, total-shifted, total_grows, others_keep, rows_keep, floors_keep, numbers_stay}
+use Rattle.call_dispatch.specs.Laws.ShiftLaws.{IsAccepted, accepted, enough_held, total-shifted, total_grows, others_keep, rows_keep, floor_keeps, numbers_stay}
 
 -- a fact of the row that an item names
 abbrev pub OfRow : {B : Type 0} → (ℕ → Type 0) → (B → Type 0) → Call B → Type 0
@@ -128,11 +128,11 @@ module _ (floors : Floors) (rows who : List ℕ) where
     moved = λ m row dest n other h. rows_keep m row who dest n q other;
   }
 
-  floors_kept : IsKept IsAny (λ m now. AreKept m floors → AreKept now floors)
-  floors_kept = record {
-    same = λ m kept. kept;
-    chained = λ a b c h k kept. k (h kept);
-    moved = λ m row dest n _ h kept. floors_keep m row who dest n floors kept h.enough;
+  floor_kept : (q : AccountRow) → IsKept IsAny (λ m now. floors q ≤ amount m q → floors q ≤ amount now q)
+  floor_kept q = record {
+    same = λ m low. low;
+    chained = λ a b c h k low. k (h low);
+    moved = λ m row dest n _ h low. floor_keeps m row who dest n floors h.enough q low;
   }
 
   numbers_kept : IsKept IsAny (λ m now. ((k : AccountRow) → IsNumberAt m k) → (k : AccountRow) → IsNumberAt now k)
@@ -211,8 +211,11 @@ module _ (m : RowAmounts) (floors : Floors) (rows who : List ℕ) (c : AnyCall) 
   pub others_stay : (q : AccountRow) → q.0 ≢ who → amount m q ≤ amount (dispatch m floors rows who c).0 q
   others_stay q other = dispatch_keeps floors rows who IsAny (λ a b. amount a q ≤ amount b q) (others_kept floors rows who q other) m c (any_call c)
 
+  pub floor_stays : (q : AccountRow) → floors q ≤ amount m q → floors q ≤ amount (dispatch m floors rows who c).0 q
+  floor_stays q = dispatch_keeps floors rows who IsAny (λ a b. floors q ≤ amount a q → floors q ≤ amount b q) (floor_kept floors rows who q) m c (any_call c)
+
   pub floors_stay : AreKept m floors → AreKept (dispatch m floors rows who c).0 floors
-  floors_stay = dispatch_keeps floors rows who IsAny (λ a b. AreKept a floors → AreKept b floors) (floors_kept floors rows who) m c (any_call c)
+  floors_stay kept q = floor_stays q (kept q)
 
   pub numbers_stay_so : ((k : AccountRow) → IsNumberAt m k) → (k : AccountRow) → IsNumberAt (dispatch m floors rows who c).0 k
   numbers_stay_so = dispatch_keeps floors rows who IsAny (λ a b. ((k : AccountRow) → IsNumberAt a k) → (k : AccountRow) → IsNumberAt b k) (numbers_kept floors rows who) m c (any_call c)
@@ -234,7 +237,7 @@ module _ (m : RowAmounts) (floors : Floors) (rows who : List ℕ) (c : AnyCall) 
     interrupted_others q other = interrupted_keeps floors rows who IsAny (λ a b. amount a q ≤ amount b q) (others_kept floors rows who q other) m c now (any_call c) h
 
     pub interrupted_floors : AreKept m floors → AreKept now floors
-    interrupted_floors = interrupted_keeps floors rows who IsAny (λ a b. AreKept a floors → AreKept b floors) (floors_kept floors rows who) m c now (any_call c) h
+    interrupted_floors kept q = interrupted_keeps floors rows who IsAny (λ a b. floors q ≤ amount a q → floors q ≤ amount b q) (floor_kept floors rows who q) m c now (any_call c) h (kept q)
 
     pub interrupted_numbers : ((k : AccountRow) → IsNumberAt m k) → (k : AccountRow) → IsNumberAt now k
     interrupted_numbers = interrupted_keeps floors rows who IsAny (λ a b. ((k : AccountRow) → IsNumberAt a k) → (k : AccountRow) → IsNumberAt b k) (numbers_kept floors rows who) m c now (any_call c) h

@@ -114,8 +114,8 @@ module _ (m : RowAmounts) (row : ℕ) (from to : List ℕ) (n : ℕ) where
       let nor : amount_if (eq_by_cmp account_row_cmp q (to, row)) n ≡ 0 = ap (λ b. amount_if b n) (differ q (to, row) (λ e. other (ap (λ (k : AccountRow). k.1) e))) in
       omega (arith, is, none, nor)
 
-  pub floors_keep : (floors : Floors) → AreKept m floors → n ≤ spare m floors (from, row) → AreKept (shifted m row from to n) floors
-  floors_keep floors kept enough q = by_case (cases_Bool (eq_by_cmp account_row_cmp q (from, row)))
+  pub floor_keeps : (floors : Floors) → n ≤ spare m floors (from, row) → (q : AccountRow) → floors q ≤ amount m q → floors q ≤ amount (shifted m row from to n) q
+  floor_keeps floors enough q low = by_case (cases_Bool (eq_by_cmp account_row_cmp q (from, row)))
     where
       by_case : (eq_by_cmp account_row_cmp q (from, row) ≡ true) ⊎ (eq_by_cmp account_row_cmp q (from, row) ≡ false) → floors q ≤ amount (shifted m row from to n) q
       by_case (inl here) =
@@ -123,12 +123,10 @@ module _ (m : RowAmounts) (row : ℕ) (from to : List ℕ) (n : ℕ) where
           let key : q ≡ (from, row) = key_same account_row_keys q (from, row) here in
           let given : amount_if (eq_by_cmp account_row_cmp q (from, row)) n ≡ n = ap (λ b. amount_if b n) here in
           let left : n ≤ amount m q - floors q = subst (λ (k : AccountRow). n ≤ spare m floors k) (sym key) enough in
-          let low = kept q in
           omega (arith, is, given, left, low)
       by_case (inr apart) =
           let is = amount-shifted q in
           let none : amount_if (eq_by_cmp account_row_cmp q (from, row)) n ≡ 0 = ap (λ b. amount_if b n) apart in
-          let low = kept q in
           omega (arith, is, none, low)
 
   -- amounts of 128 bits stay so

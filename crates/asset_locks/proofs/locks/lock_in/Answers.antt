@@ -1,4 +1,4 @@
-use Rattle.std.proofs.Common.{sym, ap, ◌∙◌}
+use Rattle.std.proofs.Common.{sym}
 use Rattle.asset_locks.specs.LockMaps.{LockKey}
 use Rattle.asset_locks.proofs.Standing.{amount_at, amount_gap}
 use Rattle.asset_locks.proofs.locks.lock_in.Goals as goal

@@ -1,4 +1,4 @@
-use Rattle.std.proofs.Common.{◌≡◌, ap, ◌∙◌}
+use Rattle.std.proofs.Common.{◌≡◌, ◌∙◌}
 use Rattle.std.specs.Prelude.{unwrap_or}
 use Rattle.asset_locks.specs.LockMaps.{NoteKey}
 use Rattle.asset_locks.proofs.Noting.{note_read}

@@ -1,8 +1,8 @@
-use Rattle.std.proofs.Common.{◌≡◌, ℕ, ◌<◌, ◌≤◌, Some, ap, ◌∙◌, subst, sym, arith}
+use Rattle.std.proofs.Common.{◌≡◌, ℕ, ◌<◌, ◌≤◌, Some, ap, ◌∙◌, arith}
 use Rattle.std.specs.Prelude.{max}
 use Rattle.amounts.specs.Amounts.{with_amount}
 use Rattle.asset_locks.specs.LockMaps.{NoteKey}
-use Rattle.asset_locks.specs.NoteRows.{notes_in, note_at}
+use Rattle.asset_locks.specs.NoteRows.{notes_in}
 use Rattle.asset_locks.specs.Laws.{note_keys}
 use Rattle.asset_locks.proofs.Standing.{as_raised}
 use Rattle.asset_locks.proofs.Noting.{note_written}

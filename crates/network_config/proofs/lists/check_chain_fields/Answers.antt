@@ -5,8 +5,8 @@ use Rattle.document_forms.specs.Forms.{fields}
 use Rattle.network_config.specs.Chains.{chain_fields}
 use Rattle.network_config.proofs.lists.check_chain_fields.Goals as goal
 
-pub returns-in-if-more : goal.returns-in-if-more
-returns-in-if-more c =
+pub returns-then-more : goal.returns-then-more
+returns-then-more c =
     subst (λ more. Answers c.check_fields.result (fields (chain_fields more) c.args.place (view c.args.value.now))) (sym c.if-more.true) c.check_fields.ensures
 
 pub returns : goal.returns

@@ -1,5 +1,3 @@
-use Rattle.asset_locks.specs.LockRows.{locks_in}
-use Rattle.asset_locks.specs.NoteRows.{notes_in}
 use Rattle.asset_locks.proofs.Booked.{nothing_locked}
 use Rattle.asset_locks.proofs.book.LockBook.new.Goals as goal
 

@@ -15,6 +15,7 @@ invariant_of-self c =
       ledger_lists = f.ledger_lists;
       book_lists = ap (λ (b : Book). b.listed) c.burn.ensures ∙ listed-Booked f.book (burned_for Cause.BurnAsset c.args.goods) ∙ f.book_lists;
       apart = f.apart;
+      floored = f.floored;
       paths = f.paths;
       rates = f.rates;
       prices = f.prices;

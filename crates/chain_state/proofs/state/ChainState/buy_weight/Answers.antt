@@ -29,6 +29,7 @@ invariant_of-self-in-Ok-buy c =
       ledger_lists = f.ledger_lists;
       book_lists = ap (λ (b : Book). b.listed) is.book_is ∙ saturated_rows (listed_of (coin_of is.line.rate)) (excess c.args.w is.line) f.book ∙ f.book_lists;
       apart = f.apart;
+      floored = f.floored;
       paths = f.paths;
       rates = ap (are_rates_listed (listing f.settings.rows)) is.lines_are ∙ bought_rates c.args.w c.args.payment (listing f.settings.rows) f.trader f.rates;
       prices = f.prices;

@@ -19,6 +19,7 @@ invariant_of-self c =
       ledger_lists = f.ledger_lists;
       book_lists = f.book_lists;
       apart = f.apart;
+      floored = f.floored;
       paths = f.paths;
       rates = f.rates;
       prices = f.prices;

@@ -14,6 +14,7 @@ invariant_of-self-2 c =
       ledger_lists = f.ledger_lists;
       book_lists = ap (λ (b : Book). b.listed) c.in_ok-join.ensures.booked ∙ listed-Booked f.book (given_up c.args.into.now c.args.goods) ∙ f.book_lists;
       apart = f.apart;
+      floored = f.floored;
       paths = f.paths;
       rates = f.rates;
       prices = f.prices;

@@ -18,6 +18,7 @@ invariant_of-self c =
       ledger_lists = f.ledger_lists;
       book_lists = ap (λ (b : Book). b.listed) c.lose.ensures ∙ lost_listed s.way s.units f.book ∙ f.book_lists;
       apart = f.apart;
+      floored = f.floored;
       paths = f.paths;
       rates = f.rates;
       prices = f.prices;

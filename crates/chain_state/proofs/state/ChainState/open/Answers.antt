@@ -77,6 +77,7 @@ invariant_of-state c =
     let s = c.place_all.new.self in
     record {
       apart = s.apart;
+      floored = s.floored;
       ledger_lists = s.ledger_lists;
       book_lists = s.book_lists;
       paths = s.paths;

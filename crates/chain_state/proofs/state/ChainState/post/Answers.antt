@@ -16,6 +16,7 @@ invariant_of-self c =
       ledger_lists = f.ledger_lists;
       book_lists = f.book_lists;
       apart = f.apart;
+      floored = f.floored;
       paths = f.paths;
       rates = f.rates;
       prices = ap have_prices c.in-Ok.ensures.queued ∙ prices_kept (leads_to c.args.to) (with_waiting (program_read (message_of c.args.bytes.items)) c.args.cargo) (λ o. refl) (channels_of f.queues) ∙ f.prices;

@@ -27,6 +27,7 @@ invariant_of-self c =
       ledger_lists = f.ledger_lists;
       book_lists = f.book_lists;
       apart = f.apart;
+      floored = f.floored;
       paths = f.paths;
       rates = f.rates;
       prices = ap have_prices c.put.ensures.queued ∙ prices_kept (leads_to c.args.to) (with_waiting (program_read (message_of c.in-Ok.bytes.items)) Nothing) (λ o. refl) (channels_of f.queues) ∙ f.prices;

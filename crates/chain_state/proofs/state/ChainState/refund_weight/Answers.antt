@@ -10,6 +10,7 @@ invariant_of-self c =
       ledger_lists = f.ledger_lists;
       book_lists = f.book_lists;
       apart = f.apart;
+      floored = f.floored;
       paths = f.paths;
       rates = rates_after c.args.w (listing f.settings.rows) f.trader c.refund.new.self c.refund.result c.refund.ensures.lines c.refund.ensures.err f.rates;
       prices = f.prices;

@@ -13,6 +13,7 @@ invariant_of-self c =
       ledger_lists = f.ledger_lists;
       book_lists = f.book_lists;
       apart = f.apart;
+      floored = f.floored;
       paths = f.paths;
       rates = f.rates;
       prices = ap have_prices c.pop.ensures.rest ∙ prices_kept (leads_to c.args.to) without_oldest (λ o. refl) (channels_of f.queues) ∙ f.prices;
