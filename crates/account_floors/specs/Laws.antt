@@ -1,11 +1,12 @@
 -- Lemmas that proofs cite, in crates above: what accounts give and get, calls that are dispatched, and locks that are set and fall leave each
 -- account its floor. A reader of the contracts may skip this file.
 use Rattle.std.proofs.Common.{◌≡◌, ◌⊎◌, ℕ, ◌+◌, ◌-◌, ◌≤◌, Bool, true, false, if◌then◌else◌, List, [], ◌∷◌, Option, Some, None, ⊎_elim, inl, inr, refl, sym, ap, ◌∙◌, subst, arith, true≢false}
-use Rattle.std.specs.Prelude.{slice_get, nat_le, is_some, unwrap_or, ◌&&◌, if◌then◌else◌}
+use Rattle.std.specs.Prelude.{slice_get, not, ◌<◌, nat_le, is_some, unwrap_or, ◌&&◌, if◌then◌else◌}
 use Rattle.std.specs.FinMap.{find}
 use Rattle.std.specs.Ordering.{eq_by_cmp}
 use Rattle.std.specs.declared.cmp.Ordering.{Ordering}
-use Rattle.std.proofs.lemmas.Bool.{cases_Bool}
+use Rattle.std.proofs.lemmas.Bool.{cases_Bool, cases_lt}
+use Rattle.std.proofs.lemmas.Option.{slice_get_within}
 use Rattle.std.proofs.lemmas.Bool.Decides.{nat_tests}
 use Rattle.amounts.specs.Rows.{IsKeyOrder, amount_if}
 use Rattle.amounts.specs.Amounts.{amount, merge, difference, total_alike, amount-total, amount-empty}
@@ -15,7 +16,7 @@ use Rattle.asset_lists.specs.declared.units.Asset.{Asset}
 use Rattle.asset_lists.specs.Units.{Unit, unit_of, unit_cmp, amount_of}
 use Rattle.asset_bundles.specs.Bundles.{Bundle, unit_keys, rows_of, bundle_of, IsHolding, found}
 use Rattle.asset_bundles.specs.BundleLaws.{amount-bundle_of, found-holding}
-use Rattle.asset_locks.specs.LockMaps.{LocksAndNotes, LockKey, LockedAsset, locked_asset_cmp, NoteKey, no_locks, floor, Locked, Unlocked, Noted, Reduced}
+use Rattle.asset_locks.specs.LockMaps.{LocksAndNotes, lock_at, LockKey, LockedAsset, locked_asset_cmp, NoteKey, no_locks, floor, Locked, Unlocked, Noted, Reduced}
 use Rattle.trust_tables.specs.Accounts.{account_of}
 use Rattle.trust_tables.specs.Trust.{row_of}
 use Rattle.ledgers.specs.Ledgers.{Holder, account_cmp, holder_cmp, Held, held_by, Withdrawn, Deposited}
@@ -28,7 +29,7 @@ use Rattle.message_parts.specs.declared.error.XcmError.TheVariants as error
 use Rattle.asset_lists.specs.declared.units.AssetId.{AssetId}
 use Rattle.asset_lists.specs.declared.units.Fun.{Fun}
 use Rattle.asset_lists.specs.declared.units.Instance.{Instance}
-use Rattle.asset_locks.specs.Laws.{locked_asset_keys, lock_keys, floor_at_most, floor-Locked, floor_other-Locked, floor_less-Unlocked, floor_stays-Noted, floor_stays-Reduced}
+use Rattle.asset_locks.specs.Laws.{locked_asset_keys, lock_keys, floor_at_most, locked_other, unlocked_less, locks_stay-Noted, locks_stay-Reduced, floor-Locked, floor_other-Locked, floor_less-Unlocked, floor_stays-Noted, floor_stays-Reduced}
 use Rattle.call_dispatch.specs.declared.call.Call.TheVariants.{Batch}
 use Rattle.call_dispatch.specs.Spelling.{AnyCall}
 use Rattle.row_accounts.specs.RowAccounts.{is_fungible_row, row_of_unit, unit_at, row_amounts, held_aside}
@@ -39,7 +40,12 @@ use Rattle.asset_lists.specs.Listed.{listed_cmp}
 use Rattle.trust_tables.specs.Trust.{listing}
 use Rattle.std.specs.List.{IsDistinct}
 use Rattle.exec_base.specs.Calls.{floors_of, held_dispatched, dispatched, IsDispatchedInPart}
-use Rattle.account_floors.specs.Floors.{HasFloors, HoldsFloors}
+use Rattle.chain_pools.specs.declared.pool.Pool.{Pool}
+use Rattle.chain_pools.specs.declared.exchanges.Exchange.{Exchange}
+use Rattle.chain_pools.specs.Exchanges.{pool_account, is_pool_account, held_after}
+use Rattle.chain_pools.specs.Keeping.{IsMade, exchange_says, exchange_lowers, pool_found}
+use Rattle.exec_base.specs.Pools.{exchange_at, exchanged}
+use Rattle.account_floors.specs.Floors.{HasFloors, HoldsFloors, NoPoolLocks, FreesPools}
 
 -- ---- what an account has of goods
 apart : {K : Type 0} {R : K → K → Ordering} (o : IsKeyOrder R) (j k : K) → (j ≡ k → ⊥) → eq_by_cmp R j k ≡ false
@@ -195,7 +201,7 @@ locked_by : (p : ChainPart) (aid : AssetId) (fun : Fun) (o : Option (List ℕ)) 
 locked_by p (AssetId.Concrete id) (Fun.Fungible n) None unlocker floors ok = floors
 locked_by p (AssetId.Concrete id) (Fun.Fungible n) (Some who) unlocker floors ok =
     let a : Asset = record { id = AssetId.Concrete id; fun = Fun.Fungible n } in
-    set_floors who id unlocker n p.locked p.held (at_most n _ (both_hold (is_some (row_of p.rows a)) _ ok)) floors
+    set_floors who id unlocker n p.locked p.held (at_most n _ (both_hold (not (is_pool_account p.pools who)) _ (both_hold (is_some (row_of p.rows a)) _ ok))) floors
   where
     at_most : (a b : ℕ) → nat_le a b ≡ true → a ≤ b
     at_most a b h = grind (arith, nat_tests, h)
@@ -268,3 +274,91 @@ module _ (p : ChainPart) (apart : IsDistinct (eq_by_cmp listed_cmp) (listing p.r
       let low = floor_keeps (row_amounts p.rows p.held) row from to n (floors_of p) enough (one, r) (floors_kept floors (one, r)) in
       omega (arith, floor, low))
       (floors one u))
+
+-- ---- pools
+both_first : (a b : Bool) → (a && b) ≡ true → a ≡ true
+both_first true b h = refl
+both_first false b h = absurd cc
+
+isnt_true : (a : Bool) → not a ≡ true → a ≡ true → ⊥
+isnt_true true h k = absurd cc
+isnt_true false h k = absurd cc
+
+-- what is locked is on no pool's account
+pub lockable_apart : (p : ChainPart) (a : Asset) (key : LockKey) → is_lockable p a key ≡ true → is_pool_account p.pools key.0 ≡ true → ⊥
+lockable_apart p a key ok pool = isnt_true (is_pool_account p.pools key.0) (both_first _ _ (both_hold (is_some (row_of p.rows a)) _ ok)) pool
+
+isnt : (a : Bool) → (a ≡ true → ⊥) → a ≡ false
+isnt true h = absurd (h refl)
+isnt false h = refl
+
+pub lockable_not : (p : ChainPart) (a : Asset) (key : LockKey) → is_lockable p a key ≡ true → is_pool_account p.pools key.0 ≡ false
+lockable_not p a key ok = isnt (is_pool_account p.pools key.0) (lockable_apart p a key ok)
+
+-- so their accounts stay without locks
+pub locked_frees : (pools : List Pool) (key : LockKey) (n : ℕ) (l : LocksAndNotes) → (is_pool_account pools key.0 ≡ true → ⊥) → NoPoolLocks pools l → NoPoolLocks pools (Locked key n l)
+locked_frees pools key n l apart free q pool =
+    let other = locked_other key n l q (λ (same : q ≡ key). apart (subst (λ (k : LockKey). is_pool_account pools k.0 ≡ true) same pool)) in
+    let none = free q pool in
+    omega (arith, other, none)
+
+pub unlocked_frees : (pools : List Pool) (key : LockKey) (n : ℕ) (l : LocksAndNotes) → NoPoolLocks pools l → NoPoolLocks pools (Unlocked key n l)
+unlocked_frees pools key n l free q pool = let less = unlocked_less key n l q in let none = free q pool in omega (arith, less, none)
+
+pub noted_frees : (pools : List Pool) (key : NoteKey) (n : ℕ) (l : LocksAndNotes) → NoPoolLocks pools l → NoPoolLocks pools (Noted key n l)
+noted_frees pools key n l free q pool = let same = locks_stay-Noted key n l q in let none = free q pool in omega (arith, same, none)
+
+pub reduced_frees : (pools : List Pool) (key : NoteKey) (n : ℕ) (l : LocksAndNotes) → NoPoolLocks pools l → NoPoolLocks pools (Reduced key n l)
+reduced_frees pools key n l free q pool = let same = locks_stay-Reduced key n l q in let none = free q pool in omega (arith, same, none)
+
+-- an account that has no lock may give all
+no_floor : (who : List ℕ) (l : LocksAndNotes) → ((id unlocker : Location) → lock_at (who, id, unlocker) l ≡ 0) → (id : AssetId) (i : Option Instance) → floor_at l who id i ≡ 0
+no_floor who l none (AssetId.Concrete id) None = let most = floor_at_most who id l 0 (λ unlocker. let e = none id unlocker in omega (arith, e)) in omega (arith, most)
+no_floor who l none (AssetId.Concrete id) (Some i) = refl
+no_floor who l none (AssetId.Abstract bytes) i = refl
+
+pub exchange_floors : (pools : List Pool) (locked : LocksAndNotes) (held : Held) (give : Bundle) (e : Exchange) → IsMade pools held give e → NoPoolLocks pools locked → HasFloors locked held → HasFloors locked (held_after e held)
+exchange_floors pools locked held give e is free floors who unit =
+    elim (cases_lt (amount (held_after e held) (who, unit)) (amount held (who, unit))) [
+      | inl less ↦ (
+          let pool : who ≡ pool_account e.place = exchange_lowers pools held give e is who unit less in
+          let there : is_pool_account pools who ≡ true = ap (is_pool_account pools) pool ∙ pool_found pools e.place (slice_get_within pools e.place is.pool is.at) in
+          let none = no_floor who locked (λ id unlocker. free (who, id, unlocker) there) unit.0 unit.1 in
+          omega (arith, none))
+      | inr most ↦ (let had = floors who unit in omega (arith, had, most))
+    ]
+
+exchanged_by : (p : ChainPart) (give : Bundle) (want : List Asset) (maximal : Bool) (o : Option Exchange) → exchange_at p give want maximal ≡ o → FreesPools p → HoldsFloors p
+    → HasFloors p.locked (option_map_or (λ (e : Exchange). let q : ChainPart = record p { held = held_after e p.held } in q) o p).held
+exchanged_by p give want maximal None is free floors = floors
+exchanged_by p give want maximal (Some e) is free floors = exchange_floors p.pools p.locked p.held give e (exchange_says p.pools p.held give want maximal e is) free floors
+
+pub exchanged_floors : (p : ChainPart) (give : Bundle) (want : List Asset) (maximal : Bool) → FreesPools p → HoldsFloors p → HasFloors p.locked (exchanged p give want maximal).held
+unfolding exchanged
+exchanged_floors p give want maximal free floors = exchanged_by p give want maximal (exchange_at p give want maximal) refl free floors
+
+-- ---- calls that change locks leave pools' accounts without any
+pub lock_frees : (p : ChainPart) (a : Asset) (o : Option LockKey) → option_map_or (is_lockable p a) o false ≡ true → FreesPools p → NoPoolLocks p.pools (option_map_or (λ (k : LockKey). Locked k (amount_of a) p.locked) o p.locked)
+lock_frees p a None ok free = free
+lock_frees p a (Some key) ok free = locked_frees p.pools key (amount_of a) p.locked (lockable_apart p a key ok) free
+
+pub locking_frees : (p : ChainPart) (a : Asset) (owner unlocker : Location) → lock_refusal p a owner unlocker ≡ None → FreesPools p
+    → NoPoolLocks p.pools (option_map_or (λ (k : LockKey). Locked k (amount_of a) p.locked) (lock_key p a owner unlocker) p.locked)
+unfolding lock_refusal
+locking_frees p a owner unlocker ok free =
+    lock_frees p a (lock_key p a owner unlocker) (unless_held (option_map_or (is_lockable p a) (lock_key p a owner unlocker) false) error.LockError _ (unless_next p.locks error.LockError _ ok)) free
+
+pub unlocking_frees : (pools : List Pool) (o : Option LockKey) (n : ℕ) (l : LocksAndNotes) → NoPoolLocks pools l → NoPoolLocks pools (option_map_or (λ (k : LockKey). Unlocked k n l) o l)
+unlocking_frees pools None n l free = free
+unlocking_frees pools (Some key) n l free = unlocked_frees pools key n l free
+
+pub noting_frees : (pools : List Pool) (o : Option NoteKey) (n : ℕ) (l : LocksAndNotes) → NoPoolLocks pools l → NoPoolLocks pools (option_map_or (λ (k : NoteKey). Noted k n l) o l)
+noting_frees pools None n l free = free
+noting_frees pools (Some key) n l free = noted_frees pools key n l free
+
+pub reducing_frees : (pools : List Pool) (o : Option NoteKey) (n : ℕ) (l : LocksAndNotes) → NoPoolLocks pools l → NoPoolLocks pools (option_map_or (λ (k : NoteKey). Reduced k n l) o l)
+reducing_frees pools None n l free = free
+reducing_frees pools (Some key) n l free = reduced_frees pools key n l free
+
+pub none_frees : (pools : List Pool) → NoPoolLocks pools no_locks
+none_frees pools key pool = amount-empty lock_keys key

@@ -3,4 +3,7 @@
 
 mod laws;
 
-pub use laws::{law_of_floors_under_calls, law_of_floors_under_moves};
+pub use laws::{
+    law_of_floors_under_calls, law_of_floors_under_exchanges, law_of_floors_under_moves,
+    law_of_free_pools,
+};

@@ -1,5 +1,5 @@
 -- What moves between accounts lower.
-use Rattle.std.proofs.Common.{◌≡◌, ◌⊎◌, ℕ, ◌≤◌, Bool, true, false, List, Option, Some, None, inl, inr, sym, ap, ◌∙◌, arith, true≢false, ltb-true, ltb-false}
+use Rattle.std.proofs.Common.{◌≡◌, ◌⊎◌, ℕ, ◌<◌, ◌≤◌, Bool, true, false, List, Option, Some, None, inl, inr, sym, ap, ◌∙◌, arith, true≢false, ltb-true, ltb-false}
 use Rattle.std.specs.Prelude.{nat_lt}
 use Rattle.std.specs.Ordering.{eq_by_cmp}
 use Rattle.std.proofs.lemmas.Bool.{cases_Bool}
@@ -17,9 +17,12 @@ use Rattle.row_accounts.specs.Laws.{more_called}
 use Rattle.exec_base.specs.Calls.{floors_of, held_dispatched}
 use Rattle.exec_base.specs.Part.{ChainPart, accounts_of}
 use Rattle.exec_base.specs.Host.{at_account, given, got, settled}
-use Rattle.authority.specs.Origins.{LowersOnly}
 
 -- ---- the relation
+-- no account but this one, or none at all, has less of any unit than before
+abbrev pub LowersOnly : Option (List ℕ) → Held → Held → Type 0
+LowersOnly speaker old new = (who : List ℕ) (unit : Unit) → amount new (who, unit) < amount old (who, unit) → speaker ≡ Some who
+
 pub raises_lower : (s : Option (List ℕ)) (a b : Held) → ((h : Holder) → amount a h ≤ amount b h) → LowersOnly s a b
 raises_lower s a b more = λ who unit less. absurd (let m = more (who, unit) in omega (arith, m, less))
 
@@ -31,9 +34,6 @@ then_lowers s a b c h k = λ who unit less. elim (cases_Bool (nat_lt (amount b (
   | inl lower ↦ h who unit (ltb-true _ _ lower)
   | inr higher ↦ k who unit (let m = ltb-false _ _ higher in omega (arith, m, less))
 ]
-
-pub none_lowers : (s : Option (List ℕ)) (a b : Held) → LowersOnly None a b → LowersOnly s a b
-none_lowers s a b h = λ who unit less. absurd (let e = h who unit less in cc)
 
 -- ---- out of an account
 other_unless : (held : Held) (who : List ℕ) (goods : Bundle) (one : List ℕ) (unit : Unit) → (who ≡ one → ⊥) → amount (difference held (held_by who goods)) (one, unit) ≡ amount held (one, unit)

@@ -153,7 +153,7 @@ module _ (far : List Listed) (rules : ChainRules) (origin : Location) where
   first_ships p h =
       let none = nothing_listed (listing p.rows) in
       let order = h.rest.order in
-      ((none, none, subst (AreListed (listing p.rows)) (sym h.rest.slot) none, (order.traps, order.rates, order.paid)), h.shipped_is)
+      ((none, none, subst (AreListed (listing p.rows)) (sym h.rest.slot) none, (order.traps, order.rates, order.paid, order.pools)), h.shipped_is)
 
   -- what an execution ships is listed
   pub executed_ships : (credit : Weight) (program : List Instruction) (p : ChainPart) → IsCarrying far p → AreListedIn (listing (executed rules origin credit program p).1.rows) (executed rules origin credit program p).1.channels

@@ -1,5 +1,5 @@
 -- Lemmas that proofs cite, in this crate and above it. A reader of the contracts may skip this file.
-use Rattle.std.proofs.Common.{◌≡◌, ◌∙◌, ℕ, ◌≤◌, sym}
+use Rattle.std.proofs.Common.{◌∙◌, ℕ, ◌≤◌, sym}
 use Rattle.std.specs.Prelude.{nat_le}
 use Rattle.std.proofs.lemmas.Bool.{leb-true, le-leb, true_from_ne_false, false≢true}
 use Rattle.network_steps.specs.Worlds.{World}

@@ -40,7 +40,7 @@ pub(crate) fn answer_to(fault: MessageFault) -> Result<StepResult, AllocError>
 
 impl Net {
     /// Has a message executed for a local account of the chain, with the chain's limit as its credit: NoSuchChain; SovereignCaller, where
-    /// the account is that of a whole chain; Message, where the bytes are no message; or Ran. `Err` is out of memory: then the network is
+    /// the account is that of a whole chain or of one of the chain's pools; Message, where the bytes are no message; or Ran. `Err` is out of memory: then the network is
     /// stopped.
     pub fn exec(
         &mut self,
@@ -88,13 +88,17 @@ impl Net {
         if is_whole(account) {
             return Ok(StepResult::SovereignCaller);
         }
+        let rules = &self.rules[place];
+        let here = &self.chains[place];
+        if here.has_pool_account(account) {
+            return Ok(StepResult::SovereignCaller);
+        }
         let alloc = *self.chains.allocator();
         let program = match decode_message(alloc, bytes) {
             Ok(program) => program,
             Err(fault) => return answer_to(fault),
         };
         self.acted = Some(place);
-        let rules = &self.rules[place];
         let outcome = run_here(alloc, rules, account, program, &mut self.chains[place])?;
         Ok(StepResult::Ran(outcome))
     }

@@ -3,7 +3,9 @@
 --     place      where a pool stands in the chain's list of pools
 --     give       the list of what is offered
 --     want       the list of what is wanted
-use Rattle.std.specs.Prelude.{ℕ, ◌-◌, ◌*◌, Bool, not, ◌&&◌, ◌||◌, List, [], ◌∷◌, codes, Option, Some, None, option_and_then, position, slice_get}
+use Rattle.std.specs.Prelude.{ℕ, ◌-◌, ◌*◌, Bool, not, ◌&&◌, ◌||◌, List, [], ◌∷◌, codes, length, Option, Some, None, option_and_then, position, slice_get}
+use Rattle.std.specs.List.{list_any, range_with_len}
+use Rattle.std.specs.Str.{bytes_eq}
 use Rattle.std.specs.Option.{option_map}
 use Rattle.std.specs.Ordering.{eq_by_cmp}
 use Rattle.amounts.specs.Amounts.{amount, plus, minus}
@@ -26,6 +28,11 @@ use Rattle.chain_pools.specs.declared.exchanges.Exchange.{Exchange}
 -- the account of the pool at a place
 abbrev pub pool_account : ℕ → List ℕ
 pool_account place = labelled (codes "pool") place
+
+-- the account of one of so many pools
+abbrev pub is_pool_account : List Pool → List ℕ → Bool
+is_pool_account pools account =
+    list_any (λ (place : ℕ). bytes_eq account (pool_account place)) (range_with_len 0 (length pools))
 
 -- how many thousandths of what is given count
 abbrev pub pool_share : Pool → ℕ

@@ -1,10 +1,13 @@
 -- For proofs alone: a reader may skip this file. What an exchange that is made says, and what it keeps of accounts and goods.
-use Rattle.std.proofs.Common.{◌≡◌, ℕ, ◌+◌, ◌-◌, ◌*◌, ◌^◌, ◌<◌, ◌≤◌, Bool, true, false, ◌&&◌, ◌⊎◌, inl, inr, List, [], ◌∷◌, take, drop, get_or, Option, Some, None, refl, sym, ap, ◌∙◌, subst, arith, true≢false}
+use Rattle.std.proofs.Common.{◌≡◌, ℕ, zero, suc, length, ◌+◌, ◌-◌, ◌*◌, ◌^◌, ◌<◌, ◌≤◌, Bool, true, false, ◌&&◌, ◌⊎◌, inl, inr, List, [], ◌∷◌, take, drop, get_or, Option, Some, None, refl, sym, ap, ◌∙◌, subst, arith, true≢false}
 use Rattle.std.specs.Prelude.{not, ◌||◌, option_and_then, position, slice_get}
 use Rattle.std.specs.Option.{option_map}
+use Rattle.std.specs.List.{list_any, range_with_len}
+use Rattle.std.specs.Str.{bytes_eq}
 use Rattle.std.specs.Ordering.{eq_by_cmp}
 use Rattle.std.specs.Int.{from_le_bytes, w32}
-use Rattle.std.proofs.lemmas.Bool.{cases_eq}
+use Rattle.std.proofs.lemmas.Bool.{cases_eq, cases_lt}
+use Rattle.std.proofs.lemmas.Slice.Eq.{bytes_eq-Decides}
 use Rattle.std.proofs.lemmas.Option.{get_or_from_slice_get}
 use Rattle.std.proofs.lemmas.List.Quantifiers.{position-Some}
 use Rattle.std.proofs.lemmas.Nat.{from_le_bytes-to_le_bytes_4}
@@ -25,7 +28,7 @@ use Rattle.pool_exchange.specs.Pools.{deal_at}
 use Rattle.pool_exchange.specs.Laws.{deal_says, deal_keeps, no_share}
 use Rattle.chain_pools.specs.declared.pool.Pool.{Pool}
 use Rattle.chain_pools.specs.declared.exchanges.Exchange.{Exchange}
-use Rattle.chain_pools.specs.Exchanges.{pool_account, pool_share, coin, same_id, has_pair, reserve, reserve_product, one_fungible, exchange_with, exchange_of_pair, exchange_of, held_after, goods_after}
+use Rattle.chain_pools.specs.Exchanges.{pool_account, is_pool_account, pool_share, coin, same_id, has_pair, reserve, reserve_product, one_fungible, exchange_with, exchange_of_pair, exchange_of, held_after, goods_after}
 use Rattle.chain_pools.specs.Swaps.{other_key, amount_beside, swap_lowers, total_no_less, product_swapped, total_exchanged}
 
 -- ---- what an exchange says
@@ -33,9 +36,13 @@ pub record IsMade (pools : List Pool) (held : Held) (give : Bundle) (e : Exchang
   pub pool : Pool
   pub at : slice_get pools e.place ≡ Some pool
   pub pair : has_pair e.given e.wanted pool ≡ true
+  pub one : rows give ≡ (coin e.given, amount give (coin e.given)) ∷ []
   pub taken : e.deal.to_pool ≤ amount give (coin e.given)
+  pub some : 0 < e.deal.to_holding
+  pub there : 0 < reserve held (pool_account e.place) e.given
   pub left : e.deal.to_holding < reserve held (pool_account e.place) e.wanted
   pub first_end : reserve held (pool_account e.place) e.given + e.deal.to_pool < 2 ^ 58
+  pub second_end : reserve held (pool_account e.place) e.wanted < 2 ^ 58
   pub kept : reserve held (pool_account e.place) e.given * reserve held (pool_account e.place) e.wanted
       ≤ (reserve held (pool_account e.place) e.given + e.deal.to_pool) * (reserve held (pool_account e.place) e.wanted - e.deal.to_holding)
 
@@ -58,6 +65,10 @@ if_same : (b : Bool) (n : ℕ) → b ≡ true → amount_if b n + 0 ≡ n
 if_same true n h = omega arith
 if_same false n h = absurd (cc)
 
+row_of_offer : (give : Bundle) (g : AssetId × ℕ) → one_fungible (held_assets give) ≡ Some g → rows give ≡ (coin g.0, g.1) ∷ []
+unfolding held_assets
+row_of_offer give g h = row_of_one (rows give) g h
+
 pub amount_of_offer : (give : Bundle) (g : AssetId × ℕ) → one_fungible (held_assets give) ≡ Some g → amount give (coin g.0) ≡ g.1
 unfolding held_assets
 amount_of_offer give g h =
@@ -67,9 +78,9 @@ amount_of_offer give g h =
 at_position : {A : Type 0} (p : A → Bool) (xs : List A) (i : ℕ) (x : A) → position p xs ≡ Some i → slice_get xs i ≡ Some x → p x ≡ true
 at_position p xs i x there at = subst (λ y. p y ≡ true) (get_or_from_slice_get xs i x x at) (position-Some p xs i x there).1
 
-deal_at_pool : (pools : List Pool) (held : Held) (give : Bundle) (g w : AssetId × ℕ) (maximal : Bool) (place : ℕ) (pool : Pool) (e : Exchange) → amount give (coin g.0) ≡ g.1
+deal_at_pool : (pools : List Pool) (held : Held) (give : Bundle) (g w : AssetId × ℕ) (maximal : Bool) (place : ℕ) (pool : Pool) (e : Exchange) → rows give ≡ (coin g.0, g.1) ∷ [] → amount give (coin g.0) ≡ g.1
     → has_pair g.0 w.0 pool ≡ true → slice_get pools place ≡ Some pool → exchange_with held g w maximal place pool ≡ Some e → IsMade pools held give e
-deal_at_pool pools held give g w maximal place pool e offer pair at made =
+deal_at_pool pools held give g w maximal place pool e row offer pair at made =
     let x = reserve held (pool_account place) g.0 in
     let y = reserve held (pool_account place) w.0 in
     let got = map_some (λ (d : Deal). let e : Exchange = record { place = place; given = g.0; wanted = w.0; deal = d } in e) (deal_at x y (pool_share pool) g.1 w.1 maximal) e made in
@@ -79,24 +90,28 @@ deal_at_pool pools held give g w maximal place pool e offer pair at made =
       pool = pool;
       at = at;
       pair = pair;
+      one = row ∙ ap (λ (n : ℕ). let rs : List (Unit × ℕ) = (coin g.0, n) ∷ [] in rs) (sym offer);
       taken = omega (arith, says.has, offer);
+      some = says.some;
+      there = says.first;
       left = says.below;
       first_end = says.first_end;
+      second_end = says.second_end;
       kept = deal_keeps x y (pool_share pool) g.1 w.1 maximal got.0 (omega arith) got.1;
     })
 
-made_of_pair : (pools : List Pool) (held : Held) (give : Bundle) (g w : AssetId × ℕ) (maximal : Bool) (e : Exchange) → amount give (coin g.0) ≡ g.1 → exchange_of_pair pools held g w maximal ≡ Some e → IsMade pools held give e
-made_of_pair pools held give g w maximal e offer made =
+made_of_pair : (pools : List Pool) (held : Held) (give : Bundle) (g w : AssetId × ℕ) (maximal : Bool) (e : Exchange) → rows give ≡ (coin g.0, g.1) ∷ [] → amount give (coin g.0) ≡ g.1 → exchange_of_pair pools held g w maximal ≡ Some e → IsMade pools held give e
+made_of_pair pools held give g w maximal e row offer made =
     let there = and_then_some (λ (place : ℕ). option_and_then (exchange_with held g w maximal place) (slice_get pools place)) (position (has_pair g.0 w.0) pools) e made in
     let at = and_then_some (exchange_with held g w maximal there.0) (slice_get pools there.0) e there.2 in
-    deal_at_pool pools held give g w maximal there.0 at.0 e offer (at_position (has_pair g.0 w.0) pools there.0 at.0 there.1 at.1) at.1 at.2
+    deal_at_pool pools held give g w maximal there.0 at.0 e row offer (at_position (has_pair g.0 w.0) pools there.0 at.0 there.1 at.1) at.1 at.2
 
 pub exchange_says : (pools : List Pool) (held : Held) (give : Bundle) (want : List Asset) (maximal : Bool) (e : Exchange) → exchange_of pools held (held_assets give) want maximal ≡ Some e → IsMade pools held give e
 unfolding exchange_of
 exchange_says pools held give want maximal e made =
     let offered = and_then_some (λ (g : AssetId × ℕ). option_and_then (λ (w : AssetId × ℕ). exchange_of_pair pools held g w maximal) (one_fungible want)) (one_fungible (held_assets give)) e made in
     let wanted = and_then_some (λ (w : AssetId × ℕ). exchange_of_pair pools held offered.0 w maximal) (one_fungible want) e offered.2 in
-    made_of_pair pools held give offered.0 wanted.0 maximal e (amount_of_offer give offered.0 offered.1) wanted.2
+    made_of_pair pools held give offered.0 wanted.0 maximal e (row_of_offer give offered.0 offered.1) (amount_of_offer give offered.0 offered.1) wanted.2
 
 -- ---- the two assets
 ids : IsKeyOrder asset_id_cmp
@@ -138,6 +153,31 @@ number_in-pool_account n small = from_le_bytes-to_le_bytes_4 n small
 
 pub one_pool : (m n : ℕ) → m < 2 ^ 32 → n < 2 ^ 32 → pool_account m ≡ pool_account n → m ≡ n
 one_pool m n small_m small_n same = sym (number_in-pool_account m small_m) ∙ ap number_in same ∙ number_in-pool_account n small_n
+
+-- the account of one of the pools is found
+itself : (xs : List ℕ) → bytes_eq xs xs ≡ true
+itself xs = (bytes_eq-Decides xs xs).1 refl
+
+either_first : (a b : Bool) → a ≡ true → (a || b) ≡ true
+either_first a b h = ap (λ (v : Bool). v || b) h
+
+either_second : (a b : Bool) → b ≡ true → (a || b) ≡ true
+either_second true b h = refl
+either_second false b h = h
+
+some_in : (test : ℕ → Bool) (from n place : ℕ) → from ≤ place → place < from + n → test place ≡ true → list_any test (range_with_len from n) ≡ true
+some_in test from zero place low high h = absurd (omega (arith, low, high))
+some_in test from (suc n) place low high h =
+    elim (cases_eq from place) [
+      | inl same ↦ either_first (test from) _ (subst (λ (i : ℕ). test i ≡ true) (sym same) h)
+      | inr other ↦ either_second (test from) _ (some_in test (from + 1) n place (above from place low other) (omega (arith, high)) h)
+    ]
+  where
+    above : (a b : ℕ) → a ≤ b → (a ≡ b → ⊥) → a + 1 ≤ b
+    above a b less apart = elim (cases_lt a b) [ inl lower ↦ omega (arith, lower) | inr higher ↦ absurd (apart (omega (arith, less, higher))) ]
+
+pub pool_found : (pools : List Pool) (place : ℕ) → place < length pools → is_pool_account pools (pool_account place) ≡ true
+pool_found pools place inside = some_in (λ (i : ℕ). bytes_eq (pool_account place) (pool_account i)) 0 (length pools) place (omega arith) (omega (arith, inside)) (itself (pool_account place))
 
 -- a pool's account is no account of a whole chain
 pub not_sovereign : (n : ℕ) → IsSovereign (pool_account n) → ⊥

@@ -1,4 +1,5 @@
 pub mod Exchanges
+pub mod Making
 pub mod Spending
 pub mod Swaps
 pub mod Keeping

@@ -1,6 +1,6 @@
--- Whose amounts a change of accounts may lower where a chain has pools: the speaker's, and a pool's of which the product doesn't fall. And
+-- Whose amounts a change of accounts may lower where a chain has pools: some accounts', and a pool's of which the product doesn't fall. And
 -- what the pools need of a chain. This project's own rule.
-use Rattle.std.specs.Prelude.{◌≡◌, ◌⊎◌, ℕ, ◌<◌, ◌≤◌, IsTrue, List, length, Option, Some, slice_get}
+use Rattle.std.specs.Prelude.{◌≡◌, ◌⊎◌, ℕ, ◌<◌, ◌≤◌, ◌^◌, IsTrue, List, length, Option, Some, slice_get}
 use Rattle.std.specs.List.{AllByRecursion}
 use Rattle.amounts.specs.Amounts.{amount}
 use Rattle.asset_lists.specs.declared.units.AssetId.TheVariants.{Concrete}
@@ -20,20 +20,25 @@ ArePoolsListed listed pools =
     AllByRecursion (λ (pool : Pool). IsTrue (lists listed (listed_of (coin (Concrete pool.first))))
     × IsTrue (lists listed (listed_of (coin (Concrete pool.second))))) pools
 
--- no pool's product falls, but that of a pool for whose account the change speaks
-abbrev pub KeepsProducts : Option (List ℕ) → List Pool → Held → Held → Type 0
-KeepsProducts speaker pools old new =
-    (place : ℕ) (pool : Pool) → slice_get pools place ≡ Some pool
-    → (speaker ≡ Some (pool_account place) → ⊥)
+-- no pool's product falls, but that of a pool whose account may be spent by others; of so many pools no two have
+-- one account
+abbrev pub KeepsProducts : (List ℕ → Type 0) → List Pool → Held → Held → Type 0
+KeepsProducts may pools old new =
+    length pools ≤ 2 ^ 32 → (place : ℕ) (pool : Pool) → slice_get pools place ≡ Some pool
+    → (may (pool_account place) → ⊥)
     → reserve_product old place pool ≤ reserve_product new place pool
 
--- an account that has less of some unit is the speaker's or a pool's
-abbrev pub LowersOf : Option (List ℕ) → List Pool → Held → Held → Type 0
-LowersOf speaker pools old new =
+-- an account that has less of some unit is one that may, or a pool's
+abbrev pub LowersOf : (List ℕ → Type 0) → List Pool → Held → Held → Type 0
+LowersOf may pools old new =
     (who : List ℕ) (unit : Unit) → amount new (who, unit) < amount old (who, unit)
-    → (speaker ≡ Some who) ⊎ IsPoolAccount pools who
+    → may who ⊎ IsPoolAccount pools who
 
--- what an instruction does to accounts
-pub record Spends (speaker : Option (List ℕ)) (pools : List Pool) (old new : Held) : Type 0 where
-  pub lowers : LowersOf speaker pools old new
-  pub products : KeepsProducts speaker pools old new
+-- the account that a change speaks for, if it speaks for one
+abbrev pub IsSpeaker : Option (List ℕ) → List ℕ → Type 0
+IsSpeaker speaker who = speaker ≡ Some who
+
+-- what a change does to accounts, which may lower some besides those of pools
+pub record Spends (may : List ℕ → Type 0) (pools : List Pool) (old new : Held) : Type 0 where
+  pub lowers : LowersOf may pools old new
+  pub products : KeepsProducts may pools old new

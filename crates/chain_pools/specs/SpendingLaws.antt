@@ -1,4 +1,4 @@
--- For proofs alone: a reader may skip this file. Changes of accounts one after another, those for a speaker alone, and exchanges.
+-- For proofs alone: a reader may skip this file. Changes of accounts one after another, those that lower no pool's account, and exchanges.
 use Rattle.std.proofs.Common.{◌≡◌, ℕ, zero, suc, ◌^◌, ◌<◌, ◌≤◌, inl, inr, List, [], ◌∷◌, length, Option, Some, sym, subst, arith}
 use Rattle.std.specs.Prelude.{slice_get, IsTrue}
 use Rattle.std.specs.Ordering.{eq_by_cmp}
@@ -21,39 +21,39 @@ use Rattle.chain_pools.specs.Spending.{ArePoolsListed, LowersOf, Spends}
 use Rattle.chain_pools.specs.Swaps.{amount_swapped, if_elsewhere}
 use Rattle.chain_pools.specs.Keeping.{IsMade, in_order, exchange_lowers, exchange_keeps_products}
 
-then_lowers : (s : Option (List ℕ)) (pools : List Pool) (a b c : Held) → LowersOf s pools a b → LowersOf s pools b c → LowersOf s pools a c
-then_lowers s pools a b c h k = λ who unit less. elim (cases_lt (amount b (who, unit)) (amount a (who, unit))) [
+then_lowers : (may : List ℕ → Type 0) (pools : List Pool) (a b c : Held) → LowersOf may pools a b → LowersOf may pools b c → LowersOf may pools a c
+then_lowers may pools a b c h k = λ who unit less. elim (cases_lt (amount b (who, unit)) (amount a (who, unit))) [
   | inl lower ↦ h who unit lower
   | inr higher ↦ k who unit (omega (arith, higher, less))
 ]
 
 -- one after another
-pub spends_then : (s : Option (List ℕ)) (pools : List Pool) (a b c : Held) → Spends s pools a b → Spends s pools b c → Spends s pools a c
-spends_then s pools a b c h k = record {
-  lowers = then_lowers s pools a b c h.lowers k.lowers;
-  products = λ place pool at other. let one = h.products place pool at other in let two = k.products place pool at other in omega (arith, one, two);
+pub spends_then : (may : List ℕ → Type 0) (pools : List Pool) (a b c : Held) → Spends may pools a b → Spends may pools b c → Spends may pools a c
+spends_then may pools a b c h k = record {
+  lowers = then_lowers may pools a b c h.lowers k.lowers;
+  products = λ few place pool at other. let one = h.products few place pool at other in let two = k.products few place pool at other in omega (arith, one, two);
 }
 
 no_less : (n m : ℕ) → (m < n → ⊥) → n ≤ m
 no_less n m h = elim (cases_lt m n) [ inl less ↦ absurd (h less) | inr more ↦ more ]
 
--- a change that lowers the speaker's account alone, as all but exchanges do
-pub spends_speaker : (s : Option (List ℕ)) (pools : List Pool) (old new : Held) → ((who : List ℕ) (unit : Unit) → amount new (who, unit) < amount old (who, unit) → s ≡ Some who) → Spends s pools old new
-spends_speaker s pools old new h = record {
+-- a change that lowers no pool's account, as all but exchanges do
+pub spends_others : (may : List ℕ → Type 0) (pools : List Pool) (old new : Held) → ((who : List ℕ) (unit : Unit) → amount new (who, unit) < amount old (who, unit) → may who) → Spends may pools old new
+spends_others may pools old new h = record {
   lowers = λ who unit less. inl (h who unit less);
-  products = λ place pool at other.
+  products = λ few place pool at other.
       let first : reserve old (pool_account place) (Concrete pool.first) ≤ reserve new (pool_account place) (Concrete pool.first) = no_less _ _ (λ less. other (h (pool_account place) (coin (Concrete pool.first)) less)) in
       let second : reserve old (pool_account place) (Concrete pool.second) ≤ reserve new (pool_account place) (Concrete pool.second) = no_less _ _ (λ less. other (h (pool_account place) (coin (Concrete pool.second)) less)) in
       mul-le-mul first second;
 }
 
--- an exchange, whoever speaks
-pub spends_exchange : (s : Option (List ℕ)) (pools : List Pool) (held : Held) (give : Bundle) (e : Exchange) → length pools ≤ 2 ^ 32 → IsMade pools held give e → Spends s pools held (held_after e held)
-spends_exchange s pools held give e few is =
+-- an exchange, whoever else may be lowered
+pub spends_exchange : (may : List ℕ → Type 0) (pools : List Pool) (held : Held) (give : Bundle) (e : Exchange) → IsMade pools held give e → Spends may pools held (held_after e held)
+spends_exchange may pools held give e is =
     let inside = slice_get_within pools e.place is.pool is.at in
     record {
       lowers = λ who unit less. inr (e.place, inside, exchange_lowers pools held give e is who unit less);
-      products = λ place pool at other. let there = slice_get_within pools place pool at in exchange_keeps_products pools held give e is place pool at (omega (arith, there, few)) (omega (arith, inside, few));
+      products = λ few place pool at other. let there = slice_get_within pools place pool at in exchange_keeps_products pools held give e is place pool at (omega (arith, there, few)) (omega (arith, inside, few));
     }
 
 -- ---- what comes of an exchange is listed
@@ -65,8 +65,8 @@ pool_listed listed (p ∷ pools) zero pool all at =
     subst (λ (q : Pool). IsTrue (lists listed (listed_of (coin (Concrete q.first)))) × IsTrue (lists listed (listed_of (coin (Concrete q.second))))) same all.0
 pool_listed listed (p ∷ pools) (suc place) pool all at = pool_listed listed pools place pool all.1 at
 
-pub goods_listed : (listed : List Listed) (pools : List Pool) (held : Held) (give : Bundle) (e : Exchange) → IsMade pools held give e → ArePoolsListed listed pools → AreListed listed give → AreListed listed (goods_after e give)
-goods_listed listed pools held give e is all offered unit some =
+pub exchange_listed : (listed : List Listed) (pools : List Pool) (held : Held) (give : Bundle) (e : Exchange) → IsMade pools held give e → ArePoolsListed listed pools → AreListed listed give → AreListed listed (goods_after e give)
+exchange_listed listed pools held give e is all offered unit some =
     let both = pool_listed listed pools e.place is.pool all is.at in
     let wanted : IsTrue (lists listed (listed_of (coin e.wanted))) =
     elim (in_order e.given e.wanted is.pool is.pair) [

@@ -1,5 +1,5 @@
 //! What exchanges keep: laws, as the contracts of functions that do nothing.
-ghost use Rattle.std.specs.Prelude.{◌≡◌, ℕ, ◌+◌, ◌<◌, ◌≤◌, ◌^◌, Bool, List, length, Option, Some, slice_get};
+ghost use Rattle.std.specs.Prelude.{◌≡◌, ℕ, ◌+◌, ◌<◌, ◌^◌, Bool, List, Option, Some};
 ghost use Rattle.amounts.specs.Amounts.{amount, total};
 ghost use Rattle.asset_lists.specs.declared.units.Asset.{Asset};
 ghost use Rattle.asset_lists.specs.Units.{Unit};
@@ -11,7 +11,7 @@ ghost use Rattle.ledgers.specs.Ledgers.{Holder, Held};
 ghost use Rattle.chain_pools.specs.declared.pool.Pool.{Pool};
 ghost use Rattle.chain_pools.specs.declared.exchanges.Exchange.{Exchange};
 ghost use Rattle.chain_pools.specs.Exchanges.{pool_account, exchange_of, held_after, goods_after};
-ghost use Rattle.chain_pools.specs.Spending.{ArePoolsListed, Spends};
+ghost use Rattle.chain_pools.specs.Spending.{ArePoolsListed, IsSpeaker, Spends};
 
 /// No two pools have one account, and none is the account of a whole chain.
 pub fn law_of_pool_accounts()
@@ -20,7 +20,7 @@ pub fn law_of_pool_accounts()
 {}
 
 /// An exchange that is made keeps what accounts and goods have together of each unit. Of accounts it lowers the pool's alone, and no pool's
-/// product falls. What comes of it is listed.
+/// product falls, where there are at most 2^32. What comes of it is listed.
 pub fn law_of_exchanges()
     ensures kept { (pools : List Pool) (held : Held) (give : Bundle) (want : List Asset)
         (maximal : Bool) (e : Exchange)
@@ -31,8 +31,8 @@ pub fn law_of_exchanges()
     ensures spends { (pools : List Pool) (held : Held) (give : Bundle) (want : List Asset)
         (maximal : Bool) (e : Exchange)
         → exchange_of pools held (held_assets give) want maximal ≡ Some e
-        → length pools ≤ 2 ^ 32 → (speaker : Option (List ℕ))
-        → Spends speaker pools held (held_after e held) }
+        → (speaker : Option (List ℕ))
+        → Spends (IsSpeaker speaker) pools held (held_after e held) }
     ensures listed { (pools : List Pool) (held : Held) (give : Bundle) (want : List Asset)
         (maximal : Bool) (e : Exchange)
         → exchange_of pools held (held_assets give) want maximal ≡ Some e
@@ -42,10 +42,11 @@ pub fn law_of_exchanges()
 
 /// Changes one after another lower what each of them may; one that lowers the speaker's account alone is one of them.
 pub fn law_of_spending()
-    ensures after { (s : Option (List ℕ)) (pools : List Pool) (a b c : Held) → Spends s pools a b
-        → Spends s pools b c → Spends s pools a c }
-    ensures speaker { (s : Option (List ℕ)) (pools : List Pool) (old new : Held)
+    ensures after { (speaker : Option (List ℕ)) (pools : List Pool) (a b c : Held)
+        → Spends (IsSpeaker speaker) pools a b → Spends (IsSpeaker speaker) pools b c
+        → Spends (IsSpeaker speaker) pools a c }
+    ensures others { (speaker : Option (List ℕ)) (pools : List Pool) (old new : Held)
         → ((who : List ℕ) (unit : Unit)
-        → amount new (who, unit) < amount old (who, unit) → s ≡ Some who)
-        → Spends s pools old new }
+        → amount new (who, unit) < amount old (who, unit) → IsSpeaker speaker who)
+        → Spends (IsSpeaker speaker) pools old new }
 {}

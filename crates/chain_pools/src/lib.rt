@@ -2,9 +2,13 @@
 #![tactic(auto)]
 
 mod exchanges;
+mod faults;
 mod laws;
+mod making;
 mod pool;
 
 pub use exchanges::{Exchange, exchange_of};
+pub use faults::ExchangeFault;
 pub use laws::{law_of_exchanges, law_of_pool_accounts, law_of_spending};
-pub use pool::{Pool, pool_account};
+pub use making::exchange;
+pub use pool::{Pool, is_pool_account, pool_account};

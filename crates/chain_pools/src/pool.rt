@@ -1,7 +1,7 @@
 //! A pool of a chain.
-ghost use Rattle.std.specs.Prelude.{◌≡◌};
+ghost use Rattle.std.specs.Prelude.{◌≡◌, ◌<◌, ◌^◌, length};
 ghost use Rattle.asset_lists.specs.declared.units.AssetId.TheVariants.{Concrete};
-ghost use Rattle.chain_pools.specs.Exchanges.{pool_account, has_pair, same_id};
+ghost use Rattle.chain_pools.specs.Exchanges.{pool_account, is_pool_account, has_pair, same_id};
 
 use asset_lists::AssetId;
 use locations::Location;
@@ -26,6 +26,14 @@ pub fn pool_account(place: u32) -> [u8; 32]
         b'p', b'o', b'o', b'l', a, b, c, d, 0, 0, 0, 0, 0, 0, 0, 0, 0, 0, 0, 0, 0, 0, 0, 0, 0, 0,
         0, 0, 0, 0, 0, 0,
     ]
+}
+
+/// Whether the account is that of one of the pools of a chain.
+pub fn is_pool_account(pools: &[Pool], account: &[u8; 32]) -> bool
+    requires few { length pools.now < 2 ^ 32 }
+    ensures { result ≡ is_pool_account pools.now account.now }
+{
+    (0..pools.len()).any(|place| *account == pool_account(place as u32))
 }
 
 /// Whether the id is that of the place.

@@ -28,3 +28,4 @@ pub mod Settled
 pub mod Called
 pub mod Locked
 pub mod Floored
+pub mod Exchanged

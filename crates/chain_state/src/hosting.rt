@@ -201,6 +201,15 @@ impl Host for ChainState {
         self.request_for(asset, owner, locker)
     }
 
+    fn exchange(
+        &mut self,
+        give: AssetBundle,
+        want: &Assets,
+        maximal: bool,
+    ) -> Result<AssetBundle, (AssetBundle, HostFault)> {
+        self.exchange_for(give, want, maximal)
+    }
+
     fn event(&mut self, e: Event) -> Result<(), AllocError> {
         self.tell(e)
     }

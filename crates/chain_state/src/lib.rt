@@ -11,6 +11,7 @@ mod carried;
 mod channels;
 mod checking;
 mod dispatching;
+mod exchanging;
 mod fees;
 mod hosting;
 mod lines;

@@ -40,6 +40,10 @@ use Rattle.exec_base.specs.Calls.{floors_of, held_dispatched}
 use Rattle.exec_base.specs.declared.event.Event.{Event}
 use Rattle.chain_ids.specs.declared.chain.ChainId.{ChainId}
 use Rattle.channel_parts.specs.declared.cargo.Cargo.TheVariants.{Nothing}
+use Rattle.chain_pools.specs.declared.exchanges.Exchange.{Exchange}
+use Rattle.chain_pools.specs.Exchanges.{pool_account, held_after, goods_after}
+use Rattle.chain_pools.specs.Keeping.{exchange_says, exchange_keeps_total, exchange_spares}
+use Rattle.exec_base.specs.Pools.{exchange_at, exchanged, exchange_goods}
 use Rattle.exec_base.specs.Part.{Taken, ChainPart, accounts_of, book_of}
 use Rattle.exec_base.specs.Host.{asset_unlocked, asset_noted, Arrival, ByWithdrawal, arrival_of, is_cargo, cargo_after, first_fault, at_account, floor_of, give_fault, take_fault, given, got, withdraw_refusal, withdrawn, deposit_refusal, deposited, transfer_refusal, transferred, received, answered, is_query, unspent, bought, booked, burned_lines, above, refund_goods, refunded, joined, burnt, is_trap, claim_refusal, claimed, trapped, parked, all_fees, fees_above, fees_within, settled_burns, settled, fee_held, fees_with, fee_kept, fee_drawn, told}
 use Rattle.exec_rules.specs.AnswerLaws.{unless_held, unless_next, none_first, none_next, goods_of_trap, found_somewhere}
@@ -814,3 +818,31 @@ pub dispatching : (p : ChainPart) (who : List ℕ) (c : AnyCall) → Call (λ w.
 dispatching p who c = held_call p (held_dispatched p who c) who
     (λ t. total_called p.rows p.held (floors_of p) who c (λ (h : Holder). t h.1) (λ a b u. refl))
     (λ t without. more_called p.rows p.held (floors_of p) who c t without)
+
+-- ---- exchanges
+
+-- the account of a pool
+abbrev pub of_a_pool : List ℕ → Type 0
+of_a_pool who = (place : ℕ) × (who ≡ pool_account place)
+
+exchanging_by : (p : ChainPart) (give : Bundle) (want : List Asset) (maximal : Bool) (o : Option Exchange) → exchange_at p give want maximal ≡ o
+    → Call of_a_pool (sum_of give) (sum_of (option_map_or (λ (e : Exchange). goods_after e give) o give)) p (option_map_or (λ (e : Exchange). record p { held = held_after e p.held }) o p)
+unfolding in_kept
+exchanging_by p give want maximal None is = call_with of_a_pool none none (sum_of give) (sum_of give) p p (call_by nobody of_a_pool none none p p (still p p refl) (λ who h. absurd h)) (λ t. omega arith)
+exchanging_by p give want maximal (Some e) is =
+    let made = exchange_says p.pools p.held give want maximal e is in
+    record {
+      site = refl;
+      rows = refl;
+      channels = refl;
+      checking = refl;
+      cargo = λ h. h;
+      gone = empty;
+      amounts = λ t. let both = exchange_keeps_total p.pools p.held give e made (λ (h : Holder). t h.1) t (λ unit. refl) in let z = nothing_gone t in omega (arith, both, z);
+      books = λ test. let z = nothing_gone (is_unit_where test) in omega (arith, z);
+      accounts = λ who t other. exchange_spares p.pools p.held give e made who t (λ same. other (e.place, sym same));
+    }
+
+pub exchanging : (p : ChainPart) (give : Bundle) (want : List Asset) (maximal : Bool) → Call of_a_pool (sum_of give) (sum_of (exchange_goods p give want maximal)) p (exchanged p give want maximal)
+unfolding exchanged exchange_goods
+exchanging p give want maximal = exchanging_by p give want maximal (exchange_at p give want maximal) refl

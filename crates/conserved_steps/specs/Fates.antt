@@ -52,7 +52,7 @@ KeepsShapes = (here : Site) (there : ChainId) (program : List Instruction) (carg
 not_admitted : (ps pr : ChainPart) (cargo : carried.Cargo) (sender : ChainId) (e : Event) → IsSoundPart pr → Fate ps pr cargo (taken sender cargo e pr).cargo.cargo (ended (taken sender cargo e pr)) (λ m. ⊥)
 unfolding told in_kept
 not_admitted ps pr cargo sender e s = Left refl (same_safe (seen empty pr)) (record {
-  rest = record { order = record { traps = s.rest.order.traps; rates = s.rest.order.rates; paid = s.rest.order.paid; unparked = s.rest.order.unparked }; slot = s.rest.slot };
+  rest = record { order = record { traps = s.rest.order.traps; rates = s.rest.order.rates; paid = s.rest.order.paid; pools = s.rest.order.pools; unparked = s.rest.order.unparked }; slot = s.rest.slot };
   cargo = refl;
   listed = s.listed;
   trusted = s.trusted;

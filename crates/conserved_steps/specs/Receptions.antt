@@ -158,7 +158,7 @@ module _ (laws : LawsBelow) (first : World) (genesis : IsSoundGenesis first) (v 
   -- ---- the receiver as it begins
   rest0 : IsAtRest (taken ps.site.chain cargo e pr)
   unfolding told
-  rest0 = let s = sound_r.rest in record { order = record { traps = s.order.traps; rates = s.order.rates; paid = s.order.paid; unparked = s.order.unparked }; slot = s.slot }
+  rest0 = let s = sound_r.rest in record { order = record { traps = s.order.traps; rates = s.order.rates; paid = s.order.paid; pools = s.order.pools; unparked = s.order.unparked }; slot = s.slot }
 
   listed0 : AllListed none (taken ps.site.chain cargo e pr)
   unfolding told in_kept

@@ -47,6 +47,7 @@ use Rattle.weight_trader.specs.Purchases.{Line, coin_of, paying, unspent_at, exc
 use Rattle.weight_trader.specs.Refunds.{refund_of, goods_of, Refunded, Closed}
 use Rattle.xcm_program.specs.declared.instruction.Instruction.{Instruction, roll-Instruction}
 use Rattle.xcm_program.specs.declared.instruction.Instruction.TheOpen.{Instruction-F}
+use Rattle.chain_pools.specs.Exchanges.{is_pool_account}
 use Rattle.exec_base.specs.declared.event.Event.{Event}
 use Rattle.exec_base.specs.Part.{Taken, ChainPart, accounts_of, book_of}
 use Rattle.exec_base.specs.Arrivals.{arrived_list, is_this_list}
@@ -413,9 +414,11 @@ abbrev pub lock_key : ChainPart → Asset → Location → Location → Option L
 lock_key p a owner unlocker =
     option_and_then (λ (id : Location). option_map (λ (who : List ℕ). let key : LockKey = (who, id, unlocker) in key) (account_of owner p.site)) (lock_id a)
 
--- the account may be locked so far: it has as much
+-- the account may be locked so far: it has as much, and is no pool's
 abbrev pub is_lockable : ChainPart → Asset → LockKey → Bool
-is_lockable p a key = is_some (row_of p.rows a) && nat_le (amount_of a) (amount p.held (key.0, unit_of a))
+is_lockable p a key =
+    is_some (row_of p.rows a)
+    && (not (is_pool_account p.pools key.0) && nat_le (amount_of a) (amount p.held (key.0, unit_of a)))
 
 -- a place, and an asset, as the destination names them
 abbrev pub place_seen : ChainPart → Location → Location → Option Location

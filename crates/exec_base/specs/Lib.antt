@@ -4,3 +4,4 @@ pub mod Answers
 pub mod Sending
 pub mod Host
 pub mod Calls
+pub mod Pools

@@ -26,6 +26,7 @@ pub trait Host {
     ghost use Rattle.exec_base.specs.Answers.{Answers, TakesIn, Keeps, Gives, JoinedInto};
     ghost use Rattle.exec_base.specs.Sending.{channel_to, number_to, IsForwardable};
     ghost use Rattle.exec_base.specs.Calls.{Dispatches};
+    ghost use Rattle.exec_base.specs.Pools.{exchange_refusal, exchanged, exchange_goods};
     ghost use Rattle.exec_base.specs.Host.{withdraw_refusal, withdrawn, deposit_refusal, deposited, transfer_refusal, transferred, receive_refusal, received, transfer_out_refusal, transferred_out, deposit_out_refusal, deposited_out, ship_refusal, shipped, respond_refusal, responded, report_program, IsPrice, IsFeeOrNothing, is_open, answered, buy_refusal, unspent, bought, refund_goods, refunded, joined, burnt, claim_refusal, claimed, lock_refusal, asset_locked, unlock_refusal, asset_unlocked, note_refusal, asset_noted, request_refusal, asset_requested, trapped, parked, settled, fee_to, fee_held, fee_taken, fee_kept, fee_drawn, told};
 
     /// The chain's part of the world.
@@ -232,6 +233,19 @@ pub trait Host {
     ) -> Result<u64, HostFault>
         requires forwardable { IsForwardable (roll-Instruction (Instruction-F.RequestUnlock asset.now locker.now) ∷ []) }
         ensures step { Answers (request_refusal (part self.old) asset.now owner.now locker.now) (number_to (part self.old) locker.now) (asset_requested (part self.old) asset.now owner.now locker.now) (part self.old) result (part self.new) };
+
+    /// Exchanges goods for what is wanted with one of the chain's pools, and hands back all that comes of them: as much as there is for the
+    /// goods where `maximal`, else just what is wanted for as little as it costs.
+    fn exchange(
+        &mut self,
+        give: AssetBundle,
+        want: &Assets,
+        maximal: bool,
+    ) -> Result<AssetBundle, (AssetBundle, HostFault)>
+        ensures step { TakesIn (exchange_refusal (part self.old) give want.now maximal) give
+            (exchange_goods (part self.old) give want.now maximal)
+            (exchanged (part self.old) give want.now maximal) (part self.old) result
+            (part self.new) };
 
     /// Tells an event, and behind it what is kept back.
     fn event(&mut self, e: Event) -> Result<(), AllocError>

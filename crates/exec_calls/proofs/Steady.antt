@@ -122,7 +122,7 @@ steady_done l m steady ok =
     let listed = listing m.part.rows in
     let order = steady.rest.order in
     let slot = subst (AreListed listed) (sym steady.rest.slot) (nothing_listed listed) in
-    let first : HasListed (between m) = (steady.holding, nothing_listed listed, slot, (order.traps, order.rates, order.paid)) in
+    let first : HasListed (between m) = (steady.holding, nothing_listed listed, slot, (order.traps, order.rates, order.paid, order.pools)) in
     let left = done_keeps l m HasListed (λ c t asks from free h. listed_after c t free h) (turned_listed l m) ok first in
     record {
       rest = record {
@@ -130,6 +130,7 @@ steady_done l m steady ok =
           traps = left.3.0;
           rates = left.3.1;
           paid = left.3.2;
+          pools = left.3.3;
           unparked = ap (λ (t : MachineWithGoods). t.part.parked) (done_is l m) ∙ (none_aside l m).0 ∙ order.unparked;
         };
         slot = ap (λ (t : MachineWithGoods). t.part.fee_slot) (done_is l m) ∙ (none_aside l m).1 steady.rest.slot;

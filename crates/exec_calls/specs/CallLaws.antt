@@ -177,7 +177,7 @@ refused_is (Instruction-F.ExpectTransactStatus status) m = one_is _
 refused_is (Instruction-F.ExpectPallet place name module_name major least_minor) m = pallet_answer m (pallet_at m place) name module_name major least_minor
 refused_is (Instruction-F.UnpaidExecution limit origin) m = one_is _
 refused_is (Instruction-F.Transact kind most bytes) m = by_origin m.regs.origin _ _ (between m) (λ who. call_answer m most (call_in m.part.calls bytes) (caller_in m kind who))
-refused_is (Instruction-F.ExchangeAsset filter list maximal) m = test_first (has_room m (length list)) error.HoldingWouldOverflow (Some error.NoDeal)
+refused_is (Instruction-F.ExchangeAsset filter list maximal) m = test_then (has_room m (length list)) error.HoldingWouldOverflow _ _ (one_is _)
 refused_is (Instruction-F.SubscribeVersion query weight) m = test_first (is_original m) error.BadOrigin (Some error.Unimplemented)
 refused_is Instruction-F.UnsubscribeVersion m = test_first (is_original m) error.BadOrigin (Some error.Unimplemented)
 refused_is (Instruction-F.UniversalOrigin junction) m = test_then _ error.InvalidLocation _ _ (by_origin m.regs.origin _ _ (between m) (λ who. refl))
@@ -287,6 +287,10 @@ done_is (Instruction-F.DepositAsset filter who) m = left_is m filter (MachineCal
 done_is (Instruction-F.BurnAsset list) m = left_is m (Definite list) MachineCall.Burn
 done_is (Instruction-F.BuyExecution fees limit) m = buying_is m fees limit
 done_is Instruction-F.RefundSurplus m = refunding_is m (refund_now m)
+done_is (Instruction-F.ExchangeAsset filter list maximal) m =
+    let t = after (MachineCall.Take filter) (between m) in
+    let c = MachineCall.Exchange list maximal in
+    sym (more_is t.regs (after c t).part (effect c t) (after c t).goods (part_is c t))
 done_is (Instruction-F.TransferAsset list who) m = at_origin_is m.regs.origin _ _ m (λ from. sym (put_is m.regs (MachineCall.Transfer list from who) (between m)))
 done_is (Instruction-F.TransferReserveAsset list dest xcm) m = at_origin_is m.regs.origin _ _ m
     (λ who. around_is (fee_to m.part dest) m _ _ (λ n. sym (put_is n.regs (MachineCall.TransferOut list who dest xcm) (between n))))

@@ -39,6 +39,7 @@ use Rattle.exec_base.specs.Part.{ChainPart}
 use Rattle.exec_base.specs.Sending.{unless, or_else, channel_to}
 use Rattle.exec_base.specs.Host.{withdraw_refusal, withdrawn, deposit_refusal, deposited, transfer_refusal, transferred, receive_refusal, received, transfer_out_refusal, transferred_out, deposit_out_refusal, deposited_out, ship_refusal, shipped, querier_seen, respond_refusal, responded, answered, buy_refusal, unspent, bought, refund_goods, refunded, joined, burnt, claim_refusal, claimed, trapped, parked, settled, lock_refusal, asset_locked, unlock_refusal, asset_unlocked, note_refusal, asset_noted, request_refusal, asset_requested, fee_to, fee_held, fee_taken, fee_kept, fee_drawn, told}
 use Rattle.exec_base.specs.Calls.{held_dispatched, call_line, dispatch_end}
+use Rattle.exec_base.specs.Pools.{exchange_refusal, exchanged, exchange_goods}
 use Rattle.exec_run.specs.Machine.{Machine, machine, weight_added}
 use Rattle.exec_rules.specs.Holdings.{with_origin, with_holding, has_room, holds_asset, holds_list, payment_of, is_ticket, not_refunded, refund_now, holds_some}
 use Rattle.exec_rules.specs.Fees.{after_fee}
@@ -79,6 +80,7 @@ pub data MachineCall : Type 0 where
   Deposit : Location → MachineCall
   Burn : MachineCall
   Buy : Weight → MachineCall
+  Exchange : List Asset → Bool → MachineCall
   DepositOut : Location → List Instruction → MachineCall
   Ship : Way → Location → List Instruction → MachineCall
   -- no goods are in hand
@@ -119,6 +121,7 @@ why_not (MachineCall.Refund w) t = None
 why_not (MachineCall.Deposit who) t = deposit_refusal t.part t.goods who
 why_not MachineCall.Burn t = None
 why_not (MachineCall.Buy w) t = buy_refusal t.part w t.goods
+why_not (MachineCall.Exchange want maximal) t = exchange_refusal t.part t.goods want maximal
 why_not (MachineCall.DepositOut dest xcm) t = deposit_out_refusal t.part t.goods dest xcm
 why_not (MachineCall.Ship way dest xcm) t = ship_refusal t.part t.goods way dest xcm
 why_not (MachineCall.Transfer list from to) t = transfer_refusal t.part list from to
@@ -155,6 +158,12 @@ after (MachineCall.Refund w) t = let q = refunded t.part w in record t { part = 
 after (MachineCall.Deposit who) t = let q = deposited t.part t.goods who in record t { part = record t.part { held = q.held }; goods = empty }
 after MachineCall.Burn t = let q = burnt t.part t.goods in record t { part = record t.part { burns = q.burns; kept_back = q.kept_back }; goods = empty }
 after (MachineCall.Buy w) t = let q = bought t.part w t.goods in record t { part = record t.part { lines = q.lines; burns = q.burns; kept_back = q.kept_back }; goods = unspent t.part w t.goods }
+after (MachineCall.Exchange want maximal) t =
+    let q = exchanged t.part t.goods want maximal in
+    record t {
+      part = record t.part { held = q.held };
+      goods = exchange_goods t.part t.goods want maximal;
+    }
 after (MachineCall.DepositOut dest xcm) t =
     let q = deposited_out t.part t.goods dest xcm in record t { part = record t.part { held = q.held; channels = q.channels; kept_back = q.kept_back }; goods = empty }
 after (MachineCall.Ship way dest xcm) t =
@@ -193,6 +202,7 @@ effect (MachineCall.Refund w) t = refunded t.part w
 effect (MachineCall.Deposit who) t = deposited t.part t.goods who
 effect MachineCall.Burn t = burnt t.part t.goods
 effect (MachineCall.Buy w) t = bought t.part w t.goods
+effect (MachineCall.Exchange want maximal) t = exchanged t.part t.goods want maximal
 effect (MachineCall.DepositOut dest xcm) t = deposited_out t.part t.goods dest xcm
 effect (MachineCall.Ship way dest xcm) t = shipped t.part t.goods way dest xcm
 effect (MachineCall.Transfer list from to) t = transferred t.part list from to
@@ -305,6 +315,8 @@ calls (Instruction-F.DepositAsset filter who) m = MachineCall.Take filter ∷ Ma
 calls (Instruction-F.BurnAsset list) m = MachineCall.Take (Definite list) ∷ MachineCall.Burn ∷ []
 calls (Instruction-F.BuyExecution fees limit) m = buying fees limit
 calls Instruction-F.RefundSurplus m = refunding m (refund_now m)
+calls (Instruction-F.ExchangeAsset filter list maximal) m =
+    room m (length list) ∷ MachineCall.Take filter ∷ MachineCall.Exchange list maximal ∷ MachineCall.Join ∷ []
 -- transfers
 calls (Instruction-F.TransferAsset list who) m = for_origin m.regs.origin (λ from. MachineCall.Transfer list from who ∷ [])
 calls (Instruction-F.TransferReserveAsset list dest xcm) m = for_origin m.regs.origin (λ who. sending m dest (λ n. MachineCall.TransferOut list who dest xcm ∷ []))
@@ -349,7 +361,6 @@ calls (Instruction-F.UnpaidExecution limit origin) m = MachineCall.Check (is_che
 calls (Instruction-F.HrmpNewChannelOpenRequest sender size capacity) m = never error.Unimplemented
 calls (Instruction-F.HrmpChannelAccepted recipient) m = never error.Unimplemented
 calls (Instruction-F.HrmpChannelClosing initiator sender recipient) m = never error.Unimplemented
-calls (Instruction-F.ExchangeAsset filter list maximal) m = room m (length list) ∷ never error.NoDeal
 calls (Instruction-F.SubscribeVersion query weight) m = MachineCall.Check (is_original m) error.BadOrigin ∷ never error.Unimplemented
 calls Instruction-F.UnsubscribeVersion m = MachineCall.Check (is_original m) error.BadOrigin ∷ never error.Unimplemented
 calls (Instruction-F.UniversalOrigin junction) m = MachineCall.Check (not (is_own_network m junction)) error.InvalidLocation ∷ for_origin m.regs.origin (λ who. never error.InvalidLocation)

@@ -140,6 +140,9 @@ HasReason moment l m t (MachineCall.Refund w) = IsFirst m t × (w ≡ not_refund
 HasReason moment l m t (MachineCall.Deposit who) = (filter : Filter) × (l ≡ Instruction-F.DepositAsset filter who)
 HasReason moment l m t MachineCall.Burn = (list : List Asset) × (l ≡ Instruction-F.BurnAsset list)
 HasReason moment l m t (MachineCall.Buy w) = (fees : Asset) × (l ≡ Instruction-F.BuyExecution fees (Limited w)) × (t ≡ after (MachineCall.Pay fees) (between m))
+HasReason moment l m t (MachineCall.Exchange want maximal) =
+    (filter : Filter) × (l ≡ Instruction-F.ExchangeAsset filter want maximal)
+    × (t ≡ after (MachineCall.Take filter) (between m))
 HasReason moment l m t (MachineCall.DepositOut dest xcm) = IsUnsent m t × HasTaken m t × ((filter : Filter) × (l ≡ Instruction-F.DepositReserveAsset filter dest xcm))
 HasReason moment l m t (MachineCall.Ship way dest xcm) = IsUnsent m t × HasTaken m t × ((filter : Filter) × (l ≡ shipping way filter dest xcm))
 HasReason moment l m t (MachineCall.Transfer list from to) = IsFirst m t × Speaks m from × (l ≡ Instruction-F.TransferAsset list to)

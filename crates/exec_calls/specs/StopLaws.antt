@@ -25,13 +25,14 @@ use Rattle.exec_base.specs.Part.{ChainPart}
 use Rattle.exec_base.specs.Sending.{unless, or_else}
 use Rattle.exec_base.specs.Host.{receive_refusal, unspent, bought, refund_goods, parked, fee_to, fee_taken}
 use Rattle.exec_base.specs.Calls.{floors_of}
+use Rattle.exec_base.specs.Pools.{exchanged, exchange_goods}
 use Rattle.exec_run.specs.Machine.{Machine, machine}
 use Rattle.exec_rules.specs.AnswerLaws.{unless_held, unless_next}
 use Rattle.exec_rules.specs.Holdings.{with_origin, at_origin, has_room, holds_asset, taken_of, holding_left, holding_paid, payment_of, is_ticket, not_refunded, buying_refusal}
 use Rattle.exec_rules.specs.Fees.{after_fee}
 use Rattle.exec_rules.specs.Calls.{call_in, caller_in, CallStops, CallStopsAt}
 use Rattle.exec_rules.specs.Instructions.{refused}
-use Rattle.exec_rules.specs.Stopping.{parking, NotJoined, NotPutBack, BuyingStops, fee_parked, StopsAround, Stops, Spilled}
+use Rattle.exec_rules.specs.Stopping.{parking, NotJoined, NotPutBack, BuyingStops, ExchangeStops, fee_parked, StopsAround, Stops, Spilled}
 use Rattle.exec_calls.specs.Calls.{MachineWithGoods, between, MachineCall, why_not, after, effect, after_all, refusal_along, for_origin, charge}
 use Rattle.exec_calls.specs.Footprints.{part_is}
 use Rattle.exec_calls.specs.CallLaws.{along_both, after_both, charge_refused, charge_after}
@@ -157,6 +158,22 @@ buying_stops m fees (Limited w) now stops =
       there = sym (parked_is t.regs (after (MachineCall.Buy w) t).part (effect (MachineCall.Buy w) t) (unspent m.part w (payment_of fees)) (part_is (MachineCall.Buy w) t));
     })) stops
 
+-- ---- exchanges
+exchange_stops : (m : Machine) (filter : Filter) (list : List Asset) (maximal : Bool) (now : Machine) → ExchangeStops m filter list maximal now → IsLedTo (Instruction-F.ExchangeAsset filter list maximal) m now
+exchange_stops m filter list maximal now stops =
+    let l = Instruction-F.ExchangeAsset filter list maximal in
+    let c = MachineCall.Exchange list maximal in
+    let t = after (MachineCall.Take filter) (between m) in
+    ⊎_elim (λ (e : NotPutBack m filter now). lead_as l m (between m) now _ e (not_put_back l m m filter refl))
+    (λ (e : (refused l m ≡ None) × (now ≡ parking (holding_left m filter m.part) (exchanged m.part t.goods list maximal) (exchange_goods m.part t.goods list maximal))).
+    lead_as l m (between m) now _ e.1 (record {
+      made = MachineCall.Take filter ∷ c ∷ MachineCall.Park ∷ [];
+      asked = (refl, ((filter, refl, refl), (refl, tt)));
+      early = (tt, (tt, (tt, tt)));
+      free = none_else (why_not c t) (unless_next (has_room m (length list)) _ _ e.0);
+      there = sym (parked_is t.regs (after c t).part (effect c t) (exchange_goods m.part t.goods list maximal) (part_is c t));
+    })) stops
+
 -- ---- each instruction
 not_joined : (l : Instruction-F Instruction) (m : Machine) (rule : Location → Option XcmError) (change : Location → ChainPart) (goods : Bundle) (now : Machine) → refused l m ≡ with_origin m.regs.origin rule → NotJoined l m change goods now
     → ((who : Location) → m.regs.origin ≡ Some who → rule who ≡ None → IsLedTo l m (parking m (change who) goods)) → IsLedTo l m now
@@ -195,6 +212,7 @@ stops_lead (Instruction-F.DepositAsset filter who) m now stops = lead_as (Instru
 stops_lead (Instruction-F.BurnAsset list) m now stops = lead_as (Instruction-F.BurnAsset list) m (between m) now _ stops (not_put_back (Instruction-F.BurnAsset list) m m (Definite list) refl)
 stops_lead (Instruction-F.BuyExecution fees limit) m now stops = buying_stops m fees limit now stops
 stops_lead Instruction-F.RefundSurplus m now stops = lead_as Instruction-F.RefundSurplus m (between m) now _ stops.1 (came Instruction-F.RefundSurplus m (MachineCall.Refund (not_refunded m)) (refund_goods m.part (not_refunded m)) tt (refl, refl) refl (refl, refl, refl))
+stops_lead (Instruction-F.ExchangeAsset filter list maximal) m now stops = exchange_stops m filter list maximal now stops
 stops_lead (Instruction-F.TransferReserveAsset list dest xcm) m now stops = around_stops (Instruction-F.TransferReserveAsset list dest xcm) m dest (fee_to m.part dest) (λ n left. ⊥) now refl refl (λ n none i. absurd i) stops
 stops_lead (Instruction-F.DepositReserveAsset filter dest xcm) m now stops =
     around_stops (Instruction-F.DepositReserveAsset filter dest xcm) m dest (fee_to m.part dest) (λ n left. NotPutBack n filter left) now refl refl (λ n none i. lead_as (Instruction-F.DepositReserveAsset filter dest xcm) m (between n) now _ i (not_put_back (Instruction-F.DepositReserveAsset filter dest xcm) m n filter none)) stops

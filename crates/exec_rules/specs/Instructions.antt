@@ -13,6 +13,7 @@ use Rattle.xcm_program.specs.declared.instruction.Instruction.{Instruction, out-
 use Rattle.xcm_program.specs.declared.instruction.Instruction.TheOpen.{Instruction-F}
 use Rattle.exec_base.specs.Sending.{unless}
 use Rattle.exec_base.specs.Host.{withdraw_refusal, withdrawn, deposit_refusal, deposited, transfer_refusal, transferred, receive_refusal, received, transfer_out_refusal, transferred_out, deposit_out_refusal, deposited_out, ship_refusal, shipped, answered, burnt, claim_refusal, claimed, where_locks, lock_refusal, asset_locked, unlock_refusal, asset_unlocked, note_refusal, asset_noted, request_refusal, asset_requested}
+use Rattle.exec_base.specs.Pools.{exchange_refusal, exchanged, exchange_goods}
 use Rattle.exec_run.specs.Machine.{Machine, machine, Rules}
 use Rattle.exec_rules.specs.Holdings.{with_origin, at_origin, with_room, holds_list, holding_more, taken_of, holding_left, is_ticket, buying_refusal, buying_done, refund_now, refund_refusal, refund_done}
 use Rattle.exec_rules.specs.Fees.{refused_sending, done_sending}
@@ -33,6 +34,8 @@ refused (Instruction-F.DepositAsset filter who) m = deposit_refusal m.part (take
 refused (Instruction-F.BurnAsset list) m = None
 refused (Instruction-F.BuyExecution fees limit) m = buying_refusal m fees limit
 refused Instruction-F.RefundSurplus m = refund_refusal m (refund_now m)
+refused (Instruction-F.ExchangeAsset filter list maximal) m =
+    with_room m (length list) (exchange_refusal m.part (taken_of m filter) list maximal)
 -- transfers
 refused (Instruction-F.TransferAsset list who) m = with_origin m.regs.origin (λ from. transfer_refusal m.part list from who)
 refused (Instruction-F.TransferReserveAsset list dest xcm) m = with_origin m.regs.origin (λ who. refused_sending m dest (λ n. transfer_out_refusal n.part list who dest xcm))
@@ -76,7 +79,6 @@ refused (Instruction-F.UnpaidExecution limit origin) m = unless (is_checked_orig
 refused (Instruction-F.HrmpNewChannelOpenRequest sender size capacity) m = Some error.Unimplemented
 refused (Instruction-F.HrmpChannelAccepted recipient) m = Some error.Unimplemented
 refused (Instruction-F.HrmpChannelClosing initiator sender recipient) m = Some error.Unimplemented
-refused (Instruction-F.ExchangeAsset filter list maximal) m = with_room m (length list) (Some error.NoDeal)
 refused (Instruction-F.SubscribeVersion query weight) m = if_original m (Some error.Unimplemented)
 refused Instruction-F.UnsubscribeVersion m = if_original m (Some error.Unimplemented)
 refused (Instruction-F.UniversalOrigin junction) m = unless (not (is_own_network m junction)) error.InvalidLocation (with_origin m.regs.origin (λ who. Some error.InvalidLocation))
@@ -94,6 +96,10 @@ done (Instruction-F.DepositAsset filter who) m = holding_left m filter (deposite
 done (Instruction-F.BurnAsset list) m = holding_left m (Definite list) (burnt m.part (taken_of m (Definite list)))
 done (Instruction-F.BuyExecution fees limit) m = buying_done m fees limit
 done Instruction-F.RefundSurplus m = refund_done m (refund_now m)
+done (Instruction-F.ExchangeAsset filter list maximal) m =
+    let give = taken_of m filter in
+    holding_more (holding_left m filter m.part) (exchanged m.part give list maximal)
+    (exchange_goods m.part give list maximal)
 -- transfers
 done (Instruction-F.TransferAsset list who) m = at_origin m.regs.origin (λ from. machine m.regs (transferred m.part list from who)) m
 done (Instruction-F.TransferReserveAsset list dest xcm) m = at_origin m.regs.origin (λ who. done_sending m dest (λ n. machine n.regs (transferred_out n.part list who dest xcm))) m
@@ -137,7 +143,6 @@ done (Instruction-F.UnpaidExecution limit origin) m = m
 done (Instruction-F.HrmpNewChannelOpenRequest sender size capacity) m = m
 done (Instruction-F.HrmpChannelAccepted recipient) m = m
 done (Instruction-F.HrmpChannelClosing initiator sender recipient) m = m
-done (Instruction-F.ExchangeAsset filter list maximal) m = m
 done (Instruction-F.SubscribeVersion query weight) m = m
 done Instruction-F.UnsubscribeVersion m = m
 done (Instruction-F.UniversalOrigin junction) m = m

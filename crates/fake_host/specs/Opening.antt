@@ -20,9 +20,9 @@ have_no_checkings rows = list_all (λ (row : AssetRow). is_none (row_checking ro
 abbrev pub balance_of : List ℕ × Asset → Balance
 balance_of holding = record { who = holding.0; asset = holding.1 }
 
--- no pallets, an account for fees whose 32 bytes are 0, no calls and no locks
+-- no pallets, an account for fees whose 32 bytes are 0, no calls, no locks and no pools
 abbrev pub plain_settings : Site → List AssetRow → Settings
-plain_settings site rows = record { site = site; rows = rows; pallets = []; fee_account = replicate 32 0; calls = false; locks = false }
+plain_settings site rows = record { site = site; rows = rows; pallets = []; fee_account = replicate 32 0; calls = false; locks = false; pools = [] }
 
 -- no rates and no channels; nothing happened, and accounts hold just these
 abbrev pub opened : Site → List AssetRow → List (List ℕ × Asset) → List OpenQuery → ChainPart

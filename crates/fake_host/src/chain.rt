@@ -28,8 +28,8 @@ use plain_lists::Listed;
 use std::alloc::{AllocError, Global};
 use trust_tables::{AssetRow, Site};
 
-/// A chain that opens with no rate, no channel, no pallet and no checking account, and serves neither
-/// calls nor locks.
+/// A chain that opens with no rate, no channel, no pallet and no checking account, and has
+/// neither calls nor locks nor pools.
 #[derive(Drop)]
 pub struct FakeHost {
     pub(crate) chain: ChainState,
@@ -77,6 +77,7 @@ impl FakeHost {
             fee_account: [0; 32],
             calls: false,
             locks: false,
+            pools: Listed::from_vec(Vec::new(alloc)),
         };
         let mut chain = ChainState::new(alloc, settings, &[], queries, Vec::new(alloc))?;
         chain.place_all(balances.as_slice())?;

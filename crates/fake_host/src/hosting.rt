@@ -201,6 +201,15 @@ impl Host for FakeHost {
         self.chain.request(asset, owner, locker)
     }
 
+    fn exchange(
+        &mut self,
+        give: AssetBundle,
+        want: &Assets,
+        maximal: bool,
+    ) -> Result<AssetBundle, (AssetBundle, HostFault)> {
+        self.chain.exchange(give, want, maximal)
+    }
+
     fn event(&mut self, e: Event) -> Result<(), AllocError> {
         self.chain.event(e)
     }

@@ -25,6 +25,7 @@ use Rattle.exec_base.specs.declared.event.Event.{Event}
 use Rattle.exec_base.specs.Part.{ChainPart}
 use Rattle.exec_base.specs.Sending.{unless}
 use Rattle.exec_base.specs.Host.{burnt, unspent, bought, refund_goods, refunded, fee_held, fee_kept, fee_drawn, withdraw_refusal}
+use Rattle.exec_base.specs.Pools.{exchange_goods}
 use Rattle.exec_run.specs.Machine.{Machine, machine}
 use Rattle.exec_rules.specs.Holdings.{with_origin, at_origin, holds_asset, holding_more, taken_of, holding_left, payment_of, holding_paid, not_refunded, refund_done}
 use Rattle.exec_rules.specs.Fees.{fee_refusal, after_fee, refused_around, keeping_fee, done_around}
@@ -42,6 +43,7 @@ use Rattle.host_laws.proofs.Booking.{conserves_join, conserves_burn, conserves_p
 use Rattle.host_laws.proofs.Moving.{Withdraws, conserves_withdrawal, conserves_drawn_fee, conserves_deposit, conserves_transfer}
 use Rattle.host_laws.proofs.Claiming.{conserves_claim}
 use Rattle.host_laws.proofs.Dispatching.{conserves_moves}
+use Rattle.host_laws.proofs.Exchanging.{conserves_exchange}
 use Rattle.host_laws.proofs.Sending.{conserves_shipping, conserves_deposit_out, conserves_transfer_out, conserves_response, conserves_locking, conserves_unlocking, conserves_noting, conserves_requesting}
 use Rattle.host_laws.proofs.Trading.{above_at, above_total, conserves_purchase, conserves_refund}
 
@@ -197,6 +199,7 @@ module _ (withdraws : Withdraws) (moves : MovesAreKept) (l : Instruction-F Instr
       let within : AreWithinEnd t.part.lines = subst (λ (u : MachineWithGoods). AreWithinEnd u.part.lines) (sym asks.2) steady.rest.order.paid in
       let below : BuysBelow t.part v t.goods = λ line e. books_below t.part t.goods (burned_for Cause.Saturated (above_at v line)) (λ k. saturated_part moves t.part v t.goods line k within e) (λ k. let r = room_at t w k in omega (arith, r)) in
       moved (MachineCall.Buy v) t t.goods (unspent t.part v t.goods) (conserves_purchase moves t.part v t.goods within below) refl (λ test. omega arith)
+  step (MachineCall.Exchange want maximal) t asks free w = moved (MachineCall.Exchange want maximal) t t.goods (exchange_goods t.part t.goods want maximal) (conserves_exchange t.part t.goods want maximal) refl (λ test. omega arith)
   step (MachineCall.DepositOut dest xcm) t asks free w = gave (MachineCall.DepositOut dest xcm) t (conserves_deposit_out t.part t.goods dest xcm free) refl refl
   step (MachineCall.Ship way dest xcm) t asks free w = gave (MachineCall.Ship way dest xcm) t (conserves_shipping t.part t.goods way dest xcm free) refl refl
   step (MachineCall.Transfer list from to) t asks free w = kept (MachineCall.Transfer list from to) t (conserves_transfer withdraws t.part list from to (subst HasList asks.2 lists) free) refl refl

@@ -2,6 +2,7 @@ mod Booking
 mod Moving
 mod Claiming
 mod Dispatching
+mod Exchanging
 mod Sending
 mod Trading
 mod Accepting

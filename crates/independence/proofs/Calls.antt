@@ -35,6 +35,7 @@ use Rattle.exec_base.specs.Part.{ChainPart}
 use Rattle.exec_base.specs.Sending as sending_to
 use Rattle.exec_base.specs.Sending.{sent, sent_event, deposit_program, away_program, listed_program, named_sent}
 use Rattle.exec_base.specs.Host.{lock_key, note_program, with_lock, asset_locked, asset_unlocked, asset_noted, request_key, unlock_program, with_less_noted, asset_requested, path_in, burned_line, burned_lines, total_of, booked, is_cargo, cargo_after, withdrawn, received, deposited, transferred, seen_from, transferred_out, deposited_out, raised_for, shipped, querier_seen, report_program, responded, is_query, answered, above, bought, refunded, joined, burnt, is_trap, claimed, trapped, fees_above, settled_burns, settled, fee_to, told}
+use Rattle.exec_base.specs.Pools.{exchange_at, exchanged}
 use Rattle.independence.specs.Beside.{beside}
 use Rattle.independence.proofs.Channels.{IsThere, read_popped, sent_swap}
 
@@ -106,6 +107,10 @@ module _ (to : ChainId) (lost : Bundle) where
       (λ line.
       ap (booked (record (framed p) { lines = Bought w payment p.lines }) (burned_for Cause.Saturated (excess_of w line))) (lines_same (framed p) p refl (λ unit. Cause.Saturated) (excess_of w line))
       ∙ booked_framed (record p { lines = Bought w payment p.lines }) (burned_for Cause.Saturated (excess_of w line)) (burned_lines p (λ unit. Cause.Saturated) (excess_of w line)))
+
+  pub exchanged_framed : (p : ChainPart) (give : Bundle) (want : List Asset) (maximal : Bool) → exchanged (framed p) give want maximal ≡ framed (exchanged p give want maximal)
+  unfolding exchanged
+  exchanged_framed p give want maximal = option_framed (exchange_at p give want maximal) _ _ p (λ e. refl)
 
   pub refunded_framed : (p : ChainPart) (w : Weight) → refunded (framed p) w ≡ framed (refunded p w)
   unfolding refunded

@@ -28,6 +28,7 @@ use Rattle.exec_base.specs.Part.{ChainPart}
 use Rattle.exec_base.specs.Sending as sending_to
 use Rattle.exec_base.specs.Sending.{or_else}
 use Rattle.exec_base.specs.Host.{withdraw_refusal, receive_refusal, deposit_refusal, transfer_refusal, claim_refusal, buy_refusal, unlock_refusal, note_refusal, unspent, refund_goods, querier_seen, fee_to, fee_held, fee_taken, fee_kept, fee_drawn, parked, told, trapped, settled}
+use Rattle.exec_base.specs.Pools.{exchange_refusal, exchange_goods}
 use Rattle.exec_base.specs.Calls.{dispatch_end}
 use Rattle.exec_run.specs.Machine.{Machine, machine}
 use Rattle.exec_rules.specs.Fees.{after_fee}
@@ -42,7 +43,7 @@ use Rattle.exec_calls.specs.ReasonLaws.{from_itself, from_after, asked}
 use Rattle.independence.specs.Freedom.{sends_on}
 use Rattle.independence.proofs.Channels.{IsThere, IsNoTransport, read_popped, found_sent}
 use Rattle.independence.proofs.Keeping.{View, with_sent, call_kept}
-use Rattle.independence.proofs.Calls.{framed, locked_framed, unlocked_framed, noted_framed, requested_framed, joined_framed, burnt_framed, bought_framed, refunded_framed, claimed_framed, answered_framed, withdrawn_framed, received_framed, deposited_framed, transferred_framed, transferred_out_framed, deposited_out_framed, shipped_framed, responded_framed, told_framed, trapped_framed, settled_framed, fee_to_framed, querier_framed}
+use Rattle.independence.proofs.Calls.{framed, locked_framed, unlocked_framed, noted_framed, requested_framed, joined_framed, burnt_framed, bought_framed, exchanged_framed, refunded_framed, claimed_framed, answered_framed, withdrawn_framed, received_framed, deposited_framed, transferred_framed, transferred_out_framed, deposited_out_framed, shipped_framed, responded_framed, told_framed, trapped_framed, settled_framed, fee_to_framed, querier_framed}
 use Rattle.independence.proofs.Refusals.{or_else_same, framed_machine, fee_framed, here_to, transfer_out_refused, deposit_out_refused, ship_refused, respond_refused, lock_refused, request_refused}
 
 -- what a delivery finds on a channel, it finds behind a send
@@ -125,6 +126,7 @@ module _ (to : ChainId) (lost : Bundle) where
   effect_framed (MachineCall.Deposit who) t there = deposited_framed to lost t.part t.goods who
   effect_framed MachineCall.Burn t there = burnt_framed to lost t.part t.goods
   effect_framed (MachineCall.Buy w) t there = bought_framed to lost t.part w t.goods
+  effect_framed (MachineCall.Exchange want maximal) t there = exchanged_framed to lost t.part t.goods want maximal
   effect_framed (MachineCall.DepositOut dest program) t there = deposited_out_framed to lost t.part t.goods dest program there
   effect_framed (MachineCall.Ship way dest program) t there = shipped_framed to lost t.part t.goods way dest program there
   effect_framed (MachineCall.Transfer list from who) t there = transferred_framed to lost t.part list from who
@@ -142,7 +144,7 @@ module _ (to : ChainId) (lost : Bundle) where
 
   -- beside the part it leaves the same
   rest_framed : (c : MachineCall) (t : MachineWithGoods) → after c (frame t) ≡ record (after c t) { part = (after c (frame t)).part }
-  unfolding unspent refund_goods
+  unfolding unspent refund_goods exchange_goods
   rest_framed (MachineCall.Take filter) t = refl
   rest_framed _ t = refl
 
@@ -207,7 +209,7 @@ module _ (to : ChainId) (lost : Bundle) where
         (sym (ap (λ (s : Settings). is_location_of s.site.chain to dest) from.settings ∙ sym (ap (λ (o : Option Location). option_map_or (λ (d : Location). is_location_of m.part.site.chain to d) o false) goes))) no_transport
 
     why_framed : (c : MachineCall) (t : MachineWithGoods) → HasReason Moment.Inside l m t c → IsFrom m t → IsNoTransport on (why_not c t) → why_not c (frame t) ≡ why_not c t
-    unfolding withdraw_refusal receive_refusal deposit_refusal transfer_refusal claim_refusal buy_refusal unlock_refusal note_refusal
+    unfolding withdraw_refusal receive_refusal deposit_refusal transfer_refusal claim_refusal buy_refusal exchange_refusal unlock_refusal note_refusal
     why_framed (MachineCall.TransferOut list from dest program) t asks at no_transport = transfer_out_refused to lost t.part list from dest program (no_transport_at t dest _ at (ap destination asks.2) no_transport)
     why_framed (MachineCall.DepositOut dest program) t asks at no_transport = deposit_out_refused to lost t.part t.goods dest program (no_transport_at t dest _ at (ap destination asks.2.1) no_transport)
     why_framed (MachineCall.Ship way dest program) t asks at no_transport = ship_refused to lost t.part t.goods way dest program (no_transport_at t dest _ at (ap destination asks.2.1 ∙ ships_to way asks.2.0 dest program) no_transport)

@@ -22,9 +22,9 @@ use Rattle.exec_keeping.specs.KeptLaws.{halted_keeps}
 use Rattle.conserved_runs.specs.Safety.{HasList}
 use Rattle.authority.specs.Origins.{speaker_at}
 use Rattle.message_shapes.specs.Calm.{IsMute}
-use Rattle.account_floors.specs.Floors.{HasFloors, HoldsFloors}
-use Rattle.account_floors.specs.Laws.{HasOnce, one_once, holding_once, given_floors, got_floors, settled_floors, held_floors, unlocked_floors, noted_floors, reduced_floors, locked_floors}
-use Rattle.lock_laws.specs.Floors.{FallsOnly, RisesOnly, IsUnlocking, LetsFall, IsSpeakers}
+use Rattle.account_floors.specs.Floors.{HasFloors, HoldsFloors, NoPoolLocks, FreesPools}
+use Rattle.account_floors.specs.Laws.{HasOnce, one_once, holding_once, given_floors, got_floors, settled_floors, held_floors, unlocked_floors, noted_floors, reduced_floors, locked_floors, exchanged_floors, locking_frees, unlocking_frees, noting_frees, reducing_frees}
+use Rattle.lock_laws.specs.Floors.{KeepsFloors, FallsOnly, RisesOnly, IsUnlocking, LetsFall, IsSpeakers}
 use Rattle.lock_laws.proofs.Locking.{locked_is, requested_is, same_falls, same_rises, then_falls, then_rises, locked_falls, locked_rises, unlocked_falls, unlocked_rises, noted_falls, noted_rises, reduced_falls, reduced_rises, lock_on, lock_by}
 
 -- ---- floors
@@ -36,26 +36,39 @@ listed_once : Holding → (l k : Instruction-F Instruction) (list : List Asset) 
 listed_once holding l k list fits is says = holding_once list (holding list (says (subst (HasList Instruction) is fits)))
 
 module _ (holding : Holding) where
-  pub call_floors : (moment : Moment) (l : Instruction-F Instruction) (m : Machine) (c : MachineCall) (t : MachineWithGoods) → HasList Instruction l → HasReason moment l m t c → why_not c t ≡ None → HoldsFloors t.part → HoldsFloors (after c t).part
+  pub call_floors : (moment : Moment) (l : Instruction-F Instruction) (m : Machine) (c : MachineCall) (t : MachineWithGoods) → HasList Instruction l → HasReason moment l m t c → why_not c t ≡ None → FreesPools t.part → HoldsFloors t.part → HoldsFloors (after c t).part
   unfolding withdraw_refusal withdrawn deposited transfer_refusal transferred transfer_out_refusal transferred_out deposited_out fee_drawn asset_unlocked asset_noted sent
-  call_floors moment l m (MachineCall.Withdraw list who) t fits asks ok floors = given_floors t.part list (listed_once holding l (Instruction-F.WithdrawAsset list) list fits asks.2 (λ h. h)) floors who ok
-  call_floors moment l m (MachineCall.Draw fee who) t fits asks ok floors = given_floors t.part (fee ∷ []) (one_once fee) floors who ok
-  call_floors moment l m (MachineCall.Transfer list from to) t fits asks ok floors =
+  call_floors moment l m (MachineCall.Withdraw list who) t fits asks ok free floors = given_floors t.part list (listed_once holding l (Instruction-F.WithdrawAsset list) list fits asks.2 (λ h. h)) floors who ok
+  call_floors moment l m (MachineCall.Draw fee who) t fits asks ok free floors = given_floors t.part (fee ∷ []) (one_once fee) floors who ok
+  call_floors moment l m (MachineCall.Transfer list from to) t fits asks ok free floors =
       got_floors (given t.part list from) (bundle_of list) to (given_floors t.part list (listed_once holding l (Instruction-F.TransferAsset list to) list fits asks.2 (λ h. h)) floors from (none_first _ _ ok))
-  call_floors moment l m (MachineCall.TransferOut list from dest program) t fits asks ok floors =
+  call_floors moment l m (MachineCall.TransferOut list from dest program) t fits asks ok free floors =
       got_floors (given t.part list from) (bundle_of list) dest
       (given_floors t.part list (listed_once holding l (Instruction-F.TransferReserveAsset list dest program) list fits asks.2 (λ h. h)) floors from (none_first _ _ (none_first _ _ ok)))
-  call_floors moment l m (MachineCall.Deposit who) t fits asks ok floors = got_floors t.part t.goods who floors
-  call_floors moment l m (MachineCall.DepositOut dest program) t fits asks ok floors = got_floors t.part t.goods dest floors
-  call_floors moment l m (MachineCall.Dispatch account c) t fits asks ok floors = held_floors t.part account c floors
-  call_floors moment l m MachineCall.Settle t fits asks ok floors = settled_floors t.part floors
-  call_floors moment l m (MachineCall.Lock a owner unlocker) t fits asks ok floors =
+  call_floors moment l m (MachineCall.Deposit who) t fits asks ok free floors = got_floors t.part t.goods who floors
+  call_floors moment l m (MachineCall.DepositOut dest program) t fits asks ok free floors = got_floors t.part t.goods dest floors
+  call_floors moment l m (MachineCall.Exchange want maximal) t fits asks ok free floors = exchanged_floors t.part t.goods want maximal free floors
+  call_floors moment l m (MachineCall.Dispatch account c) t fits asks ok free floors = held_floors t.part account c floors
+  call_floors moment l m MachineCall.Settle t fits asks ok free floors = settled_floors t.part floors
+  call_floors moment l m (MachineCall.Lock a owner unlocker) t fits asks ok free floors =
       subst (λ (locked : LocksAndNotes). HasFloors locked t.part.held) (sym (locked_is t.part a owner unlocker)) (locked_floors t.part a owner unlocker ok floors)
-  call_floors moment l m (MachineCall.Unlock a target from) t fits asks ok floors = unlocked_floors (lock_key t.part a target from) (amount_of a) t.part.locked t.part.held floors
-  call_floors moment l m (MachineCall.Note a owner from) t fits asks ok floors = noted_floors (note_key a owner from) (amount_of a) t.part.locked t.part.held floors
-  call_floors moment l m (MachineCall.Request a owner locker) t fits asks ok floors =
+  call_floors moment l m (MachineCall.Unlock a target from) t fits asks ok free floors = unlocked_floors (lock_key t.part a target from) (amount_of a) t.part.locked t.part.held floors
+  call_floors moment l m (MachineCall.Note a owner from) t fits asks ok free floors = noted_floors (note_key a owner from) (amount_of a) t.part.locked t.part.held floors
+  call_floors moment l m (MachineCall.Request a owner locker) t fits asks ok free floors =
       subst (λ (locked : LocksAndNotes). HasFloors locked t.part.held) (sym (requested_is t.part a owner locker)) (reduced_floors (request_key a owner locker) (amount_of a) t.part.locked t.part.held floors)
-  call_floors moment l m _ t fits asks ok floors = floors
+  call_floors moment l m _ t fits asks ok free floors = floors
+
+-- no account of a pool gets a lock
+call_frees : (c : MachineCall) (t : MachineWithGoods) → why_not c t ≡ None → FreesPools t.part → FreesPools (after c t).part
+unfolding asset_unlocked asset_noted
+call_frees (MachineCall.Lock a owner unlocker) t ok free = subst (NoPoolLocks t.part.pools) (sym (locked_is t.part a owner unlocker)) (locking_frees t.part a owner unlocker ok free)
+call_frees (MachineCall.Unlock a target from) t ok free = unlocking_frees t.part.pools (lock_key t.part a target from) (amount_of a) t.part.locked free
+call_frees (MachineCall.Note a owner from) t ok free = noting_frees t.part.pools (note_key a owner from) (amount_of a) t.part.locked free
+call_frees (MachineCall.Request a owner locker) t ok free = subst (NoPoolLocks t.part.pools) (sym (requested_is t.part a owner locker)) (reducing_frees t.part.pools (request_key a owner locker) (amount_of a) t.part.locked free)
+call_frees _ t ok free = free
+
+pub call_keeps : Holding → (moment : Moment) (l : Instruction-F Instruction) (m : Machine) (c : MachineCall) (t : MachineWithGoods) → HasList Instruction l → HasReason moment l m t c → why_not c t ≡ None → KeepsFloors t.part → KeepsFloors (after c t).part
+call_keeps holding moment l m c t fits asks ok h = (call_floors holding moment l m c t fits asks ok h.1 h.0, call_frees c t ok h.1)
 
 -- ---- which locks fall
 abbrev Lets : Instruction-F Instruction → Machine → LockKey → Type 0

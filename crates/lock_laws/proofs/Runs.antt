@@ -35,10 +35,9 @@ use Rattle.exec_keeping.specs.KeptLaws.{any_kind, reached_kept, kept_at_end, ran
 use Rattle.network_steps.specs.Acting.{caller}
 use Rattle.authority.specs.Origins.{speaker_at, IsAtOrBelow}
 use Rattle.message_shapes.specs.Calm.{MuteAt}
-use Rattle.account_floors.specs.Floors.{HoldsFloors}
-use Rattle.lock_laws.specs.Floors.{FallsOnly, RisesOnly, WaitInOrder}
+use Rattle.lock_laws.specs.Floors.{KeepsFloors, FallsOnly, RisesOnly, WaitInOrder}
 use Rattle.lock_laws.proofs.Locking.{same_falls, same_rises, then_falls, then_rises}
-use Rattle.lock_laws.proofs.Acts.{Holding, call_floors, call_falls, call_rises, done_none, halted_none}
+use Rattle.lock_laws.proofs.Acts.{Holding, call_keeps, call_falls, call_rises, done_none, halted_none}
 use Rattle.lock_laws.proofs.Waiting.{call_lists}
 use Rattle.lock_laws.proofs.Lists.{open_list, inside_lists, refund_lists, program_ahead, lists_ahead}
 use Rattle.conserved_runs.specs.Safety.{AreLists}
@@ -47,22 +46,22 @@ use Rattle.conserved_steps.specs.Admitting.{admitted_lists}
 -- ---- floors
 module _ (holding : Holding) (orderly : IsOrderly xcm) where
   abbrev Floors : MachineWithGoods → Type 0
-  Floors t = HoldsFloors t.part
+  Floors t = KeepsFloors t.part
 
   floors_are_kept : IsKeptByCalls AreLists Floors
-  floors_are_kept = record { refunds = refund_lists; called = λ x l is q moment m t c k asks from ok floors. call_floors holding moment l m c t (open_list x l is q) asks ok floors; turned = λ t r turns floors. floors }
+  floors_are_kept = record { refunds = refund_lists; called = λ x l is q moment m t c k asks from ok floors. call_keeps holding moment l m c t (open_list x l is q) asks ok floors; turned = λ t r turns floors. floors }
 
-  pub reached_floors : (g h : Stage) → Reaches xcm g h → IsAheadOf AreLists g → HoldsFloors (machine_of g).part → HoldsFloors (machine_of h).part
+  pub reached_floors : (g h : Stage) → Reaches xcm g h → IsAheadOf AreLists g → KeepsFloors (machine_of g).part → KeepsFloors (machine_of h).part
   reached_floors g h r ahead floors = reached_kept AreLists Floors floors_are_kept g h (lists_ahead orderly g ahead) r floors
 
   -- and the lists of what waits stay in order
   abbrev Both : MachineWithGoods → Type 0
-  Both t = HoldsFloors t.part × WaitInOrder t.part
+  Both t = KeepsFloors t.part × WaitInOrder t.part
 
   both_kept : IsKeptByCalls AreLists Both
   both_kept = record {
     refunds = refund_lists;
-    called = λ x l is q moment m t c k asks from ok h. (call_floors holding moment l m c t (open_list x l is q) asks ok h.0, call_lists moment l m c t (inside_lists x l is q) asks ok h.1);
+    called = λ x l is q moment m t c k asks from ok h. (call_keeps holding moment l m c t (open_list x l is q) asks ok h.0, call_lists moment l m c t (inside_lists x l is q) asks ok h.1);
     turned = λ t r turns h. h;
   }
 
@@ -70,23 +69,23 @@ module _ (holding : Holding) (orderly : IsOrderly xcm) where
     ahead_of : (a : Admitted) → admitted rules origin credit p.queries program ≡ Ok a → (k : ℕ) → IsAheadOf AreLists (steps xcm k (first_stage rules origin a p))
     ahead_of a e k = program_ahead orderly a.program (first_machine rules origin p) refl refl (admitted_lists rules origin credit p.queries program lists a e) k
 
-    by_admission : (r : Result Admitted Outcome) → ((a : Admitted) → r ≡ Ok a → (k : ℕ) → IsAheadOf AreLists (steps xcm k (first_stage rules origin a p))) → HoldsFloors p → HoldsFloors (executed_by rules origin r p).1
+    by_admission : (r : Result Admitted Outcome) → ((a : Admitted) → r ≡ Ok a → (k : ℕ) → IsAheadOf AreLists (steps xcm k (first_stage rules origin a p))) → KeepsFloors p → KeepsFloors (executed_by rules origin r p).1
     by_admission (Err outcome) ahead floors = floors
     by_admission (Ok a) ahead floors =
         (finished_kept Floors (kept_at_end AreLists Floors floors_are_kept) (last_machine rules origin a p) (ran_kept AreLists Floors floors_are_kept rules origin a p (ahead a refl) floors)).kept
 
     both_by_admission : (r : Result Admitted Outcome) → ((a : Admitted) → r ≡ Ok a → (k : ℕ) → IsAheadOf AreLists (steps xcm k (first_stage rules origin a p)))
-        → HoldsFloors p × WaitInOrder p → HoldsFloors (executed_by rules origin r p).1 × WaitInOrder (executed_by rules origin r p).1
+        → KeepsFloors p × WaitInOrder p → KeepsFloors (executed_by rules origin r p).1 × WaitInOrder (executed_by rules origin r p).1
     both_by_admission (Err outcome) ahead h = h
     both_by_admission (Ok a) ahead h = (finished_kept Both (kept_at_end AreLists Both both_kept) (last_machine rules origin a p) (ran_kept AreLists Both both_kept rules origin a p (ahead a refl) h)).kept
 
-    pub executed_both : HoldsFloors p × WaitInOrder p → HoldsFloors (executed rules origin credit program p).1 × WaitInOrder (executed rules origin credit program p).1
+    pub executed_both : KeepsFloors p × WaitInOrder p → KeepsFloors (executed rules origin credit program p).1 × WaitInOrder (executed rules origin credit program p).1
     executed_both h = both_by_admission (admitted rules origin credit p.queries program) ahead_of h
 
-    pub executed_floors : HoldsFloors p → HoldsFloors (executed rules origin credit program p).1
+    pub executed_floors : KeepsFloors p → KeepsFloors (executed rules origin credit program p).1
     executed_floors floors = by_admission (admitted rules origin credit p.queries program) ahead_of floors
 
-    pub stopped_floors : (now : ChainPart) → IsAbandoned rules origin credit program p now → HoldsFloors p → HoldsFloors now
+    pub stopped_floors : (now : ChainPart) → IsAbandoned rules origin credit program p now → KeepsFloors p → KeepsFloors now
     stopped_floors now h floors = (abandoned_in_kept AreLists Floors floors_are_kept rules origin h.0 p now (ahead_of h.0 h.1) h.2 floors).kept
 
 -- ---- the origin register of a run

@@ -32,16 +32,18 @@ use Rattle.exec_admission.specs.declared.admission.Admitted.{Admitted}
 use Rattle.exec_admission.specs.Admission.{admitted}
 use Rattle.exec_admission.specs.Execution.{first_stage}
 use Rattle.network_steps.specs.declared.step_result.StepResult.{StepResult}
-use Rattle.network_steps.specs.Worlds.{Member, chain_of, World, place_of, with_part, unchanged}
+use Rattle.network_steps.specs.Worlds.{Member, chain_of, World, place_of, with_part, unchanged, Stepped}
 use Rattle.network_steps.specs.Acting.{begun, caller, acted}
-use Rattle.network_steps.specs.Steps.{is_sovereign, exec_by, exec_at, exec, name_at, run_for, sender_after, receiver_after, delivered, delivery_of, deliver, is_claim, posted, posting, claim_by, claim_on, claim, Link, waiting, next_channel, deliveries, world_behind, Step, Exec, Deliver, Claim, Drain, Balances, Traps, Queues, Supply, after, worlds}
+use Rattle.network_steps.specs.Steps.{is_sovereign, exec_read, exec_by, exec_at, exec, name_at, run_for, sender_after, receiver_after, delivered, delivery_of, deliver, is_claim, posted, posting, claim_by, claim_on, claim, Link, waiting, next_channel, deliveries, world_behind, Step, Exec, Deliver, Claim, Drain, Balances, Traps, Queues, Supply, after, worlds}
+use Rattle.network_steps.specs.CallerLaws.{by_caller}
+use Rattle.chain_pools.specs.Exchanges.{is_pool_account}
 use Rattle.network_steps.specs.Sends.{deliveries_left}
 use Rattle.message_shapes.specs.Shapes.{IsShape, IsShaped, AllShaped, NothingWaits}
 use Rattle.message_shapes.specs.StepLaws.{same_one, between_says, between_at, place_says}
 use Rattle.message_shapes.specs.Calm.{MuteAt}
-use Rattle.account_floors.specs.Floors.{HoldsFloors}
-use Rattle.account_floors.specs.Laws.{none_kept}
-use Rattle.lock_laws.specs.Floors.{RisesOnly, NoSovereignLocks, AllHoldFloors, NoneSovereign, HasLists, WaitInOrder, AllInOrder, NothingLocked}
+use Rattle.account_floors.specs.Floors.{NoPoolLocks}
+use Rattle.account_floors.specs.Laws.{none_kept, none_frees}
+use Rattle.lock_laws.specs.Floors.{KeepsFloors, RisesOnly, NoSovereignLocks, AllHoldFloors, NoneSovereign, HasLists, WaitInOrder, AllInOrder, NothingLocked}
 use Rattle.lock_laws.proofs.Acts.{Holding}
 use Rattle.conserved_runs.specs.Safety.{AreLists}
 use Rattle.conserved_steps.specs.Reading.{Decodes}
@@ -67,9 +69,12 @@ module _ (P : ChainPart → Type 0) where
   -- ---- local executions
   module _ (w : World) (chain : ChainId) (account bytes : List ℕ) (all : AllAt w)
       (runs : (m : Member) (program : List Instruction) → is_sovereign account ≡ false → message_of bytes ≡ Ok program → P m.part → P (acted m.rules (caller account) m.rules.limit program (begun (chain_of m) Nothing m.part)).part) where
+    exec_read_keeps : (place : ℕ) (m : Member) (read : Result (List Instruction) MessageFault) → is_sovereign account ≡ false → message_of bytes ≡ read → slice_get w place ≡ Some m → AllAt (exec_read w place m account read).world
+    exec_read_keeps place m (Err fault) free e at = all
+    exec_read_keeps place m (Ok program) free e at = set_at w place _ (runs m program free e (there_at w place m at all)) all
+
     exec_by_keeps : (place : ℕ) (m : Member) (read : Result (List Instruction) MessageFault) → is_sovereign account ≡ false → message_of bytes ≡ read → slice_get w place ≡ Some m → AllAt (exec_by w place m account read).world
-    exec_by_keeps place m (Err fault) free e at = all
-    exec_by_keeps place m (Ok program) free e at = set_at w place _ (runs m program free e (there_at w place m at all)) all
+    exec_by_keeps place m read free e at = by_caller (λ (s : Stepped). AllAt s.world) w (is_pool_account m.part.pools account) (exec_read w place m account read) all (exec_read_keeps place m read free e at)
 
     allowed_keeps : (place : ℕ) (sovereign : Bool) → is_sovereign account ≡ sovereign
         → AllAt (if sovereign then unchanged StepResult.SovereignCaller w else option_map_or (λ (m : Member). exec_by w place m account (message_of bytes)) (slice_get w place) (unchanged StepResult.NoSuchChain w)).world
@@ -143,29 +148,29 @@ module _ (P : ChainPart → Type 0) where
         (λ i j s r at_i at_j is_s is_r. claim_on_keeps i s (chain_of r) (channel_to (chain_of r) s.part.channels) is_s)
 
 -- ---- floors
-told_floors : (sender : ChainId) (cargo : Cargo) (p : ChainPart) (e : Event) → HoldsFloors p → HoldsFloors (told (begun sender cargo p) e)
+told_floors : (sender : ChainId) (cargo : Cargo) (p : ChainPart) (e : Event) → KeepsFloors p → KeepsFloors (told (begun sender cargo p) e)
 unfolding told
 told_floors sender cargo p e floors = floors
 
 module _ (holding : Holding) (orderly : IsOrderly xcm) where
   pub exec_floors : Decodes → (w : World) (chain : ChainId) (account bytes : List ℕ) → AllHoldFloors w → AllHoldFloors (exec w chain account bytes).world
   exec_floors decodes w chain account bytes all =
-      exec_keeps HoldsFloors w chain account bytes all
+      exec_keeps KeepsFloors w chain account bytes all
       (λ m program free e floors. executed_floors holding orderly m.rules (caller account) m.rules.limit program (begun (chain_of m) Nothing m.part) (decoded_lists decodes bytes program e) floors)
 
   pub deliver_floors : (w : World) (from to : ChainId) → ((x : Waiting) → waiting w from to ≡ Some x → AllByRecursion AreLists x.program) → AllHoldFloors w → AllHoldFloors (deliver w from to).world
   deliver_floors w from to lists all =
-      deliver_keeps HoldsFloors w from to all (λ s r x floors. floors)
+      deliver_keeps KeepsFloors w from to all (λ s r x floors. floors)
       (λ i j s r x at is there waits old floors.
       let event = Event.Message (chain_of s) (chain_of r) x.number in
       executed_floors holding orderly r.rules (name_at (chain_of r) (chain_of s)) no_weight x.program (told (begun (chain_of s) x.cargo r.part) event) (lists x waits) (told_floors (chain_of s) x.cargo r.part event floors))
 
 pub claim_floors : (w : World) (from to : ChainId) (bytes : List ℕ) → AllHoldFloors w → AllHoldFloors (claim w from to bytes).world
-claim_floors w from to bytes all = claim_keeps HoldsFloors w from to bytes all (λ to program p read floors. floors)
+claim_floors w from to bytes all = claim_keeps KeepsFloors w from to bytes all (λ to program p read floors. floors)
 
 -- ---- floors, in each world
 abbrev Sound : ChainPart → Type 0
-Sound p = HoldsFloors p × WaitInOrder p
+Sound p = KeepsFloors p × WaitInOrder p
 
 abbrev AllSound : World → Type 0
 AllSound w = AllByRecursion (λ (m : Member). Sound m.part) w
@@ -239,7 +244,13 @@ module _ (holding : Holding) (orderly : IsOrderly xcm) (decodes : Decodes) where
 
 pub nothing_holds : (w : World) → NothingLocked w → AllHoldFloors w
 nothing_holds [] none = tt
-nothing_holds (m ∷ w) none = (λ who unit. subst (λ (l : LocksAndNotes). floor_at l who unit.0 unit.1 ≤ amount m.part.held (who, unit)) (sym none.0) (let e = none_kept who unit.0 unit.1 in omega (arith, e)), nothing_holds w none.1)
+nothing_holds (m ∷ w) none = (
+  (
+    λ who unit. subst (λ (l : LocksAndNotes). floor_at l who unit.0 unit.1 ≤ amount m.part.held (who, unit)) (sym none.0) (let e = none_kept who unit.0 unit.1 in omega (arith, e)),
+    subst (NoPoolLocks m.part.pools) (sym none.0) (none_frees m.part.pools),
+  ),
+  nothing_holds w none.1,
+)
 
 empty_lists : (cs : List Outgoing) → AllByRecursion (λ (c : Outgoing). c.queue ≡ []) cs → AllByRecursion (λ (c : Outgoing). AllByRecursion HasLists c.queue) cs
 empty_lists [] none = tt

@@ -8,7 +8,7 @@ use Rattle.xcm_program.specs.declared.instruction.Instruction.{Instruction, out-
 use Rattle.xcm_program.specs.declared.instruction.Instruction.TheOpen.{Instruction-F}
 use Rattle.channel_parts.specs.Channels.{Waiting, Outgoing}
 use Rattle.exec_base.specs.Part.{ChainPart}
-use Rattle.account_floors.specs.Floors.{HoldsFloors}
+use Rattle.account_floors.specs.Floors.{HoldsFloors, FreesPools}
 use Rattle.exec_run.specs.Machine.{Machine}
 use Rattle.conserved_runs.specs.Safety.{AreLists}
 use Rattle.network_steps.specs.Worlds.{Member, World}
@@ -39,9 +39,13 @@ IsSpeakers m key = speaker_of m ≡ Some key.0
 abbrev pub NoSovereignLocks : LocksAndNotes → Type 0
 NoSovereignLocks l = (key : LockKey) → is_sovereign key.0 ≡ true → lock_at key l ≡ 0
 
+-- each account has at least its floor of each asset, and no account of a pool has a lock
+abbrev pub KeepsFloors : ChainPart → Type 0
+KeepsFloors p = HoldsFloors p × FreesPools p
+
 -- in the whole network
 abbrev pub AllHoldFloors : World → Type 0
-AllHoldFloors w = AllByRecursion (λ (m : Member). HoldsFloors m.part) w
+AllHoldFloors w = AllByRecursion (λ (m : Member). KeepsFloors m.part) w
 
 abbrev pub NoneSovereign : World → Type 0
 NoneSovereign w = AllByRecursion (λ (m : Member). NoSovereignLocks m.part.locked) w

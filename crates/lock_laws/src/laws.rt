@@ -30,8 +30,7 @@ ghost use Rattle.network_steps.specs.Steps.{is_sovereign, exec, deliver, claim, 
 ghost use Rattle.message_shapes.specs.Shapes.{IsShape, AllShaped, NothingWaits};
 ghost use Rattle.conserved_runs.specs.Safety.{AreLists};
 ghost use Rattle.authority.specs.Origins.{IsAtOrBelow};
-ghost use Rattle.account_floors.specs.Floors.{HoldsFloors};
-ghost use Rattle.lock_laws.specs.Floors.{FallsOnly, RisesOnly, LetsFall, IsSpeakers, NoSovereignLocks, AllHoldFloors, NoneSovereign, AllInOrder, NothingLocked};
+ghost use Rattle.lock_laws.specs.Floors.{KeepsFloors, FallsOnly, RisesOnly, LetsFall, IsSpeakers, NoSovereignLocks, AllHoldFloors, NoneSovereign, AllInOrder, NothingLocked};
 
 use asset_bundles::law_of_bundles;
 use exec_calls::law_of_rules;
@@ -40,14 +39,14 @@ use message_shapes::{
 };
 use versioned_xcm::law_of_messages;
 
-/// Each account has at least its floor of each asset, wherever a run comes, behind each execution, and where memory is refused and the run
+/// Each account has at least its floor of each asset, and no pool's account a lock, wherever a run comes, behind each execution, and where memory is refused and the run
 /// stops; the lists of the program are in order, as the type of lists says.
 pub fn law_of_kept_floors()
-    ensures reached { (g h : Stage) → Reaches xcm g h → IsAheadOf AreLists g → HoldsFloors (machine_of g).part → HoldsFloors (machine_of h).part }
-    ensures executed { (rules : ChainRules) (origin : Location) (credit : Weight) (program : List Instruction) (p : ChainPart) → AllByRecursion AreLists program → HoldsFloors p
-        → HoldsFloors (executed rules origin credit program p).1 }
+    ensures reached { (g h : Stage) → Reaches xcm g h → IsAheadOf AreLists g → KeepsFloors (machine_of g).part → KeepsFloors (machine_of h).part }
+    ensures executed { (rules : ChainRules) (origin : Location) (credit : Weight) (program : List Instruction) (p : ChainPart) → AllByRecursion AreLists program → KeepsFloors p
+        → KeepsFloors (executed rules origin credit program p).1 }
     ensures stopped { (rules : ChainRules) (origin : Location) (credit : Weight) (program : List Instruction) (p now : ChainPart) → AllByRecursion AreLists program
-        → IsAbandoned rules origin credit program p now → HoldsFloors p → HoldsFloors now }
+        → IsAbandoned rules origin credit program p now → KeepsFloors p → KeepsFloors now }
 {
     law_of_rules();
     law_of_bundles();

@@ -181,7 +181,7 @@ module _ (laws : LawsBelow) (shapes : ShapeLaws) (decodes : Decodes) (first : Wo
   -- ---- the receiver as it begins
   rest0 : IsAtRest (arrives s r x)
   unfolding told
-  rest0 = let s = sound_r.rest in record { order = record { traps = s.order.traps; rates = s.order.rates; paid = s.order.paid; unparked = s.order.unparked }; slot = s.slot }
+  rest0 = let s = sound_r.rest in record { order = record { traps = s.order.traps; rates = s.order.rates; paid = s.order.paid; pools = s.order.pools; unparked = s.order.unparked }; slot = s.slot }
 
   listed0 : AllListed none (arrives s r x)
   unfolding told in_kept

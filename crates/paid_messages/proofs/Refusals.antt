@@ -22,6 +22,7 @@ use Rattle.exec_base.specs.Part.{ChainPart}
 use Rattle.message_shapes.specs.Shapes.{stands_alone}
 use Rattle.exec_base.specs.Sending.{named_refusal, unless, or_else, is_sendable, channel_refusal, channel_to, send_refusal, listed_refusal}
 use Rattle.exec_base.specs.Host.{note_program, lock_refusal, unlock_refusal, note_refusal, request_key, unlock_program, request_refusal, first_fault, with_account, give_fault, take_fault, given, withdraw_refusal, deposit_refusal, transfer_refusal, trust_fault, lower_fault, raise_fault, receive_refusal, transfer_out_refusal, deposit_out_refusal, is_teleport, ship_refusal, querier_seen, report_refusal, respond_refusal, no_line_refusal, buy_refusal, claim_refusal}
+use Rattle.exec_base.specs.Pools.{exchange_at, exchange_refusal}
 use Rattle.exec_run.specs.Machine.{Machine}
 use Rattle.exec_rules.specs.Holdings.{with_origin, holds_asset, has_room, is_ticket}
 use Rattle.exec_rules.specs.Instructions.{refused}
@@ -204,6 +205,10 @@ buy_other p w payment = line_other (paying w payment p.lines)
 test_other : (b : Bool) (e : XcmError) → (e ≡ error.NotWithdrawable → ⊥) → IsNoShortage (unless b e None)
 test_other b e n = unless_other b e None n none_other
 
+exchange_other : (p : ChainPart) (give : Bundle) (want : List Asset) (maximal : Bool) → IsNoShortage (exchange_refusal p give want maximal)
+unfolding exchange_refusal
+exchange_other p give want maximal = test_other (is_some (exchange_at p give want maximal)) error.NoDeal (λ e. absurd cc)
+
 -- ---- what a message may be led by, for any origin
 pub withdrawal_other : (m : Machine) (list : List Asset) → IsNoShortage (refused (Instruction-F.WithdrawAsset list) m)
 withdrawal_other m list = origin_other m.regs.origin _ (λ who. unless_other (has_room m (length list)) error.HoldingWouldOverflow _ (λ e. absurd cc) (withdraw_other m.part list who))
@@ -257,6 +262,7 @@ call_other l m own_origin (MachineCall.Receive list from teleport) t asks = come
 call_other l m own_origin (MachineCall.Claim list who) t asks = claim_other t.part list who
 call_other l m own_origin (MachineCall.Deposit who) t asks = deposit_other t.part t.goods who
 call_other l m own_origin (MachineCall.Buy w) t asks = buy_other t.part w t.goods
+call_other l m own_origin (MachineCall.Exchange want maximal) t asks = exchange_other t.part t.goods want maximal
 call_other l m own_origin (MachineCall.DepositOut dest xcm) t asks = deposit_out_other t.part t.goods dest xcm
 call_other l m own_origin (MachineCall.Ship way dest xcm) t asks = ship_other t.part t.goods way dest xcm
 call_other l m own_origin (MachineCall.Transfer list from to) t asks = transfer_other t.part list from to

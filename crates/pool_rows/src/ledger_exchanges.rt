@@ -8,7 +8,8 @@ ghost use Rattle.pool_rows.specs.Coins.{above, coins};
 use asset_bundles::AssetBundle;
 use asset_lists::{Asset, AssetId, Fun, Instance, Kind};
 use chain_pools::{
-    Pool, exchange_of, law_of_exchanges, law_of_pool_accounts, law_of_spending, pool_account,
+    Pool, exchange, exchange_of, is_pool_account, law_of_exchanges, law_of_pool_accounts,
+    law_of_spending, pool_account,
 };
 use ledgers::Ledger;
 use locations::{Junctions, Location};
@@ -179,6 +180,44 @@ fn exchanges_over_a_ledger(rt: HostRuntime) -> Result<(), Fail> {
     Ok(())
 }
 
+/// What goods come to by the exchange that is made of them, in the given and in the wanted asset.
+fn made(
+    alloc: Global,
+    has: u128,
+    wants: u128,
+    maximal: bool,
+) -> Result<Option<(u128, u128)>, AllocError>
+    requires some { 0 < has }
+    requires wanted { 0 < wants }
+{
+    let mut ledger = stocked(alloc)?;
+    let goods = AssetBundle::mint(alloc, &[coins(true, has)])?;
+    let want = coins(false, wants);
+    match exchange(alloc, &[pool()], &mut ledger, goods, &[want], maximal) {
+        Ok(got) => {
+            let given = got.amount(&AssetId::Concrete(above(0)));
+            let wanted = got.amount(&AssetId::Concrete(above(1)));
+            got.melt();
+            Ok(Some((given, wanted)))
+        }
+        Err((goods, _)) => {
+            goods.melt();
+            Ok(None)
+        }
+    }
+}
+
+#[test]
+fn exchanges_of_goods(rt: HostRuntime) -> Result<(), Fail> {
+    for (has, wants, maximal, deal, _) in EXCHANGES {
+        assert!(rt; *has > 0 && *wants > 0);
+        let found = made(rt.alloc(), *has, *wants, *maximal)?;
+        let due = deal.map(|(to_pool, to_holding)| (has.saturating_sub(to_pool), to_holding));
+        assert!(rt; found == due);
+    }
+    Ok(())
+}
+
 #[test]
 fn no_exchange(rt: HostRuntime) -> Result<(), Fail> {
     let mut ledger = stocked(rt.alloc())?;
@@ -210,6 +249,8 @@ fn pools(rt: HostRuntime) -> Result<(), Fail> {
     assert!(rt;
         account == *b"pool\x04\x03\x02\x01\0\0\0\0\0\0\0\0\0\0\0\0\0\0\0\0\0\0\0\0\0\0\0\0"
     );
+    assert!(rt; is_pool_account(&[pool()], &pool_account(0)));
+    assert!(rt; !is_pool_account(&[pool()], &pool_account(1)));
     law_of_pool_accounts();
     Ok(())
 }

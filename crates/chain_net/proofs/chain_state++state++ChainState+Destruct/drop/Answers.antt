@@ -6,6 +6,7 @@ invariant_of-drop c =
     record {
       apart = s.apart;
       floored = s.floored;
+      pools_free = s.pools_free;
       ledger_lists = s.ledger_lists;
       book_lists = s.book_lists;
       paths = s.paths;
@@ -16,6 +17,7 @@ invariant_of-drop c =
       slot_rows = s.slot_rows;
       spare_lines = s.spare_lines;
       few_pallets = s.few_pallets;
+      few_pools = s.few_pools;
       room = s.room;
       checked = s.checked;
     }

@@ -1,5 +1,6 @@
-use Rattle.chain_pools.specs.SpendingLaws.{spends_then, spends_speaker}
+use Rattle.chain_pools.specs.Spending.{IsSpeaker}
+use Rattle.chain_pools.specs.SpendingLaws.{spends_then, spends_others}
 use Rattle.chain_pools.proofs.laws.law_of_spending.Goals as goal
 
 pub returns : goal.returns
-returns c = record { after = spends_then; speaker = spends_speaker }
+returns c = record { after = λ s. spends_then (IsSpeaker s); others = λ s. spends_others (IsSpeaker s) }

@@ -9,6 +9,8 @@ use Rattle.chain_state.specs.ListedFees.{are_fees_listed}
 use Rattle.chain_state.proofs.Entries.{checked_rows}
 use Rattle.chain_state.proofs.FeeSlot.{nothing_rowed}
 use Rattle.chain_state.proofs.Floored.{nothing_floored}
+use Rattle.account_floors.specs.Floors.{NoPoolLocks}
+use Rattle.account_floors.specs.Laws.{none_frees}
 use Rattle.chain_state.proofs.state.ChainState.new.Goals as goal
 
 pub open-requires-clause-few : goal.open-requires-clause-few
@@ -36,3 +38,6 @@ invariant_of-result-clause-checked c =
 
 pub invariant_of-result-clause-floored : goal.invariant_of-result-clause-floored
 invariant_of-result-clause-floored c = nothing_floored _ _ c.new-locked.ensures
+
+pub invariant_of-result-clause-pools_free : goal.invariant_of-result-clause-pools_free
+invariant_of-result-clause-pools_free c = subst (NoPoolLocks c.args.settings.pools) (sym c.new-locked.ensures) (none_frees c.args.settings.pools)

@@ -50,6 +50,7 @@ invariant_of-self-in-Break-branch-5 c =
       ledger_lists = ledger_after f.settings.fee_account _ f.ledger c.deposit_into.new.ledger c.deposit_into.result c.deposit_into.ensures.deposited c.deposit_into.ensures.kept ∙ f.ledger_lists;
       book_lists = f.book_lists;
       apart = f.apart;
+      pools_free = f.pools_free;
       floored = after_either (λ (l : Accounts). HasFloors f.locked l.held) f.ledger (Deposited f.settings.fee_account (bundle_of c.as_slice-2.result.now) f.ledger) c.deposit_into.new.ledger c.deposit_into.result c.deposit_into.ensures.deposited c.deposit_into.ensures.kept
           f.floored (got_after f.locked f.ledger f.settings.fee_account (bundle_of c.as_slice-2.result.now) f.floored);
       paths = f.paths;
@@ -60,6 +61,7 @@ invariant_of-self-in-Break-branch-5 c =
       slot_rows = f.slot_rows;
       spare_lines = ap Closed c.in_ok-close.ensures.lines ∙ closed_twice f.spare ∙ f.spare_lines;
       few_pallets = f.few_pallets;
+      few_pools = f.few_pools;
       room = f.room;
       checked = f.checked;
     }
@@ -83,6 +85,7 @@ invariant_of-self-2 c =
       ledger_lists = ledger_after f.settings.fee_account _ f.ledger c.deposit_into.new.ledger c.deposit_into.result c.deposit_into.ensures.deposited c.deposit_into.ensures.kept ∙ f.ledger_lists;
       book_lists = rows_stay f.book _ _ c.book_all.ensures ∙ f.book_lists;
       apart = f.apart;
+      pools_free = f.pools_free;
       floored = after_either (λ (l : Accounts). HasFloors f.locked l.held) f.ledger (Deposited f.settings.fee_account (bundle_of c.as_slice-2.result.now) f.ledger) c.deposit_into.new.ledger c.deposit_into.result c.deposit_into.ensures.deposited c.deposit_into.ensures.kept
           f.floored (got_after f.locked f.ledger f.settings.fee_account (bundle_of c.as_slice-2.result.now) f.floored);
       paths = f.paths;
@@ -93,6 +96,7 @@ invariant_of-self-2 c =
       slot_rows = λ u some. c.clear.ensures.rows u ∙ f.slot_rows u some;
       spare_lines = ap Closed c.swap.ensures.y_after ∙ sym (ap Closed closed ∙ closed_twice f.trader);
       few_pallets = f.few_pallets;
+      few_pools = f.few_pools;
       room = f.room;
       checked = f.checked;
     }
