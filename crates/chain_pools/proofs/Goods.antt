@@ -1,6 +1,6 @@
 -- What comes of goods that are exchanged.
 use Rattle.std.proofs.Common.{◌≡◌, ℕ, ◌+◌, ◌-◌, ◌^◌, ◌<◌, ◌≤◌, Bool, true, false, List, [], ◌∷◌, inl, inr, sym, ap, ◌∙◌, subst, arith}
-use Rattle.std.specs.Prelude.{Some}
+use Rattle.std.specs.Prelude.{Option, Some}
 use Rattle.std.specs.Ordering.{eq_by_cmp}
 use Rattle.std.proofs.lemmas.Bool.{cases_Bool}
 use Rattle.amounts.specs.Rows.{amount_if, sum_where}
@@ -95,3 +95,12 @@ module _ (give : Bundle) (e : Exchange) (offer : IsOffer give e) where
 pub made_is : (e : Exchange) (id : AssetId) (got : Bundle) → id ≡ e.wanted → (let a : Asset = record { id = id; fun = Fungible e.deal.to_holding } in got ≡ bundle_of (a ∷ []))
     → got ≡ bundle_of (wanted_asset e ∷ [])
 made_is e id got same is = is ∙ ap (λ (i : AssetId). let a : Asset = record { id = i; fun = Fungible e.deal.to_holding } in bundle_of (a ∷ [])) same
+
+-- ---- the exchange that was found
+pub made_of : (pools : List Pool) (held : Held) (give : Bundle) (list want : List Asset) (maximal : Bool) (found : Option Exchange) (e : Exchange) → list ≡ held_assets give
+    → found ≡ exchange_of pools held list want maximal → found ≡ Some e → exchange_of pools held (held_assets give) want maximal ≡ Some e
+made_of pools held give list want maximal found e listed says is = ap (λ (l : List Asset). exchange_of pools held l want maximal) (sym listed) ∙ sym says ∙ is
+
+pub says_made : (pools : List Pool) (held : Held) (give : Bundle) (list want : List Asset) (maximal : Bool) (found : Option Exchange) (e : Exchange) → list ≡ held_assets give
+    → found ≡ exchange_of pools held list want maximal → found ≡ Some e → IsMade pools held give e
+says_made pools held give list want maximal found e listed says is = exchange_says pools held give want maximal e (made_of pools held give list want maximal found e listed says is)

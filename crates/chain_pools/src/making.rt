@@ -40,7 +40,8 @@ fn exchanged(
 }
 
 /// Makes the exchange that the pools make of the goods for what is wanted, and hands back all that comes of them; the pool's account takes
-/// in what is given. Where the pools make none, or memory is refused, the goods come back, and no account has changed.
+/// in what is given. Where the pools make none, or memory is refused, the goods come back, and no account has changed. There are fewer
+/// than 2^32 pools; amounts are in each asset's smallest unit.
 pub fn exchange(
     alloc: Global,
     pools: &[Pool],

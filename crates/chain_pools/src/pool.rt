@@ -28,7 +28,7 @@ pub fn pool_account(place: u32) -> [u8; 32]
     ]
 }
 
-/// Whether the account is that of one of the pools of a chain.
+/// Whether the account is that of one of the pools of a chain, of which there are fewer than 2^32.
 pub fn is_pool_account(pools: &[Pool], account: &[u8; 32]) -> bool
     requires few { length pools.now < 2 ^ 32 }
     ensures { result ≡ is_pool_account pools.now account.now }
