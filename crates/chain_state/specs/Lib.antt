@@ -6,3 +6,5 @@ pub mod Claims
 pub mod ListedFees
 pub mod Settling
 pub mod Aside
+pub mod Calls
+pub mod Locks

@@ -1,15 +1,21 @@
 //! What a chain keeps.
 ghost use Rattle.std.specs.Prelude.{◌≡◌, ◌≤◌, length, vec_capacity, IsTrue};
+ghost use Rattle.std.specs.List.{IsDistinct};
+ghost use Rattle.std.specs.List.{IsDistinct-prop};
+ghost use Rattle.std.specs.Ordering.{eq_by_cmp};
+ghost use Rattle.asset_lists.specs.Listed.{listed_cmp};
 ghost use Rattle.trust_tables.specs.Chains.{path_of_site};
 ghost use Rattle.trust_tables.specs.Trust.{listing};
 ghost use Rattle.network_genesis.specs.Tests.{are_rates_listed, have_paths, have_prices};
 ghost use Rattle.chain_queues.specs.Queues.{channels_of};
+ghost use Rattle.account_floors.specs.Floors.{HasFloors, NoPoolLocks};
 ghost use Rattle.weight_trader.specs.Refunds.{Closed};
 ghost use Rattle.fee_rows.specs.Fees.{HaveRows, HaveRowsFor};
 ghost use Rattle.chain_lists.specs.Checked.{are_checked};
 ghost use Rattle.chain_state.specs.ListedFees.{are_fees_listed};
 
 use asset_bundles::{BurnBook, Units};
+use asset_locks::LockBook;
 use chain_ids::ChainId;
 use chain_queues::{Cargo, Queues};
 use exec_base::{Event, Settings};
@@ -18,10 +24,10 @@ use ledgers::{Ledger, TrapStore};
 use message_parts::OpenQuery;
 use weight_trader::Trader;
 
-/// A chain of the network: what its document says, what stands at it, what it sends, and what is told. The ledger and the book list what
-/// the rows list, the id of each has a path, each rate's asset is listed, each channel's fee is an amount above 0 of a fungible asset that
+/// A chain of the network: what its document says, what stands at it, what it sends, and what is told. No two rows list one asset, each
+/// account has what is locked on it, the ledger and the book list what the rows list, the id of each has a path, each rate's asset is listed, each channel's fee is an amount above 0 of a fungible asset that
 /// is listed, just the fungible ones of the listed assets have a row of kept fees, what is in the fee slot has one, the spare trader has
-/// the rates of the trader, there are at most 64 pallets, four bundles can be parked without memory, and only rows of fungible assets
+/// the rates of the trader, there are at most 64 pallets and 16 pools, four bundles can be parked without memory, and only rows of fungible assets
 /// have a checking account.
 #[derive(Drop)]
 pub struct ChainState {
@@ -36,12 +42,16 @@ pub struct ChainState {
     pub(crate) parked: Vec<Units>,
     pub(crate) book: BurnBook,
     pub(crate) checking: Vec<Option<u128>>,
+    pub(crate) locked: LockBook,
     pub(crate) queries: Vec<OpenQuery>,
     pub(crate) queues: Queues,
     pub(crate) sender: ChainId,
     pub(crate) cargo: Cargo,
     pub(crate) events: Vec<Event>,
     pub(crate) kept_back: Vec<Event>,
+    ghost apart: { IsDistinct (eq_by_cmp listed_cmp) (listing settings.rows) } by { IsDistinct-prop (eq_by_cmp listed_cmp) (listing settings.rows) },
+    ghost floored: { HasFloors locked ledger.held },
+    ghost pools_free: { NoPoolLocks settings.pools locked },
     ghost ledger_lists: { ledger.listed ≡ listing settings.rows },
     ghost book_lists: { book.listed ≡ listing settings.rows },
     ghost paths: { IsTrue (have_paths (path_of_site settings.site) settings.rows) },
@@ -52,6 +62,7 @@ pub struct ChainState {
     ghost slot_rows: { HaveRowsFor fees fee_slot },
     ghost spare_lines: { Closed spare ≡ Closed trader },
     ghost few_pallets: { length settings.pallets ≤ 64 },
+    ghost few_pools: { length settings.pools ≤ 16 },
     ghost room: { 4 ≤ vec_capacity parked },
     ghost checked: { IsTrue (are_checked settings.rows checking.items) },
 }

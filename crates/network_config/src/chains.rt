@@ -191,19 +191,22 @@ fn barriers_field(alloc: Global, list: InChain, value: &Value) -> Result<Listed<
     read_entries(alloc, &list, items)
 }
 
-/// A reader of the entries of chains.
+/// A reader of the entries of chains, by whether the format has calls and locks.
 #[derive(Clone, Copy)]
-pub(crate) struct ChainEntries;
+pub(crate) struct ChainEntries {
+    /// Whether the format has calls and locks.
+    pub(crate) more: bool,
+}
 
 impl Entry<ChainSpec> for ChainEntries {
     ghost use Rattle.network_config.specs.Chains.{chain_entry};
 
-    ghost form = { λ _. chain_entry };
+    ghost form = { λ chains. chain_entry chains.more };
 
     #[tactic(auto, unfolding(crate::specs::Chains::chain_entry))]
     fn read(&self, alloc: Global, index: u32, value: &Value) -> Result<ChainSpec, Stop> {
         let list = InChain { chain: index };
-        let head = own_fields(list.fields(), value)?;
+        let (head, served) = own_fields(list.fields(), self.more, value)?;
         let barriers = barriers_field(alloc, list, value)?;
         let rates = rates_field(alloc, list, value)?;
         let assets = assets_field(alloc, list, value)?;
@@ -223,6 +226,8 @@ impl Entry<ChainSpec> for ChainEntries {
             accounts,
             pallets,
             queries,
+            calls: served.calls,
+            locks: served.locks,
         })
     }
 }

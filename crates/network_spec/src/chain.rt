@@ -42,4 +42,8 @@ pub struct ChainSpec {
     pub pallets: Listed<PalletInfo>,
     /// The queries that are open: each its number, and the chain that may answer it.
     pub queries: Listed<(u64, ChainId)>,
+    /// Whether it serves calls.
+    pub calls: bool,
+    /// Whether it serves locks.
+    pub locks: bool,
 }

@@ -2,6 +2,8 @@
 #![tactic(auto)]
 
 #[cfg(test)]
+mod calls;
+#[cfg(test)]
 mod crowds;
 #[cfg(test)]
 mod deliveries;
@@ -19,6 +21,8 @@ mod holdings;
 mod hostile;
 #[cfg(test)]
 mod inputs;
+#[cfg(test)]
+mod locks;
 #[cfg(test)]
 mod messages;
 #[cfg(test)]

@@ -28,6 +28,9 @@ invariant_of-self-in-Ok-buy c =
     record {
       ledger_lists = f.ledger_lists;
       book_lists = ap (λ (b : Book). b.listed) is.book_is ∙ saturated_rows (listed_of (coin_of is.line.rate)) (excess c.args.w is.line) f.book ∙ f.book_lists;
+      apart = f.apart;
+      floored = f.floored;
+      pools_free = f.pools_free;
       paths = f.paths;
       rates = ap (are_rates_listed (listing f.settings.rows)) is.lines_are ∙ bought_rates c.args.w c.args.payment (listing f.settings.rows) f.trader f.rates;
       prices = f.prices;
@@ -36,6 +39,7 @@ invariant_of-self-in-Ok-buy c =
       slot_rows = f.slot_rows;
       spare_lines = f.spare_lines ∙ sym (ap Closed is.lines_are ∙ bought_closed c.args.w c.args.payment f.trader);
       few_pallets = f.few_pallets;
+      few_pools = f.few_pools;
       room = f.room;
       checked = f.checked;
     }

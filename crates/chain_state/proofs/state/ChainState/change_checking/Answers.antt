@@ -18,6 +18,9 @@ invariant_of-self c =
     record {
       ledger_lists = f.ledger_lists;
       book_lists = f.book_lists;
+      apart = f.apart;
+      floored = f.floored;
+      pools_free = f.pools_free;
       paths = f.paths;
       rates = f.rates;
       prices = f.prices;
@@ -26,6 +29,7 @@ invariant_of-self c =
       slot_rows = f.slot_rows;
       spare_lines = f.spare_lines;
       few_pallets = f.few_pallets;
+      few_pools = f.few_pools;
       room = f.room;
       checked = ap (are_checked f.settings.rows) (with_items_is f.checking c.change_all.new.checking long ∙ c.change_all.ensures ∙ (λ i. changed_all by list (c.items.ensures i) (value i))) ∙ all_kept_checked by list f.settings.rows f.checking.items ∙ f.checked;
     }

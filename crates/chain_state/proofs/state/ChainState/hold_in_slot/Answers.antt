@@ -10,6 +10,9 @@ invariant_of-self c =
     record {
       ledger_lists = f.ledger_lists;
       book_lists = f.book_lists;
+      apart = f.apart;
+      floored = f.floored;
+      pools_free = f.pools_free;
       paths = f.paths;
       rates = f.rates;
       prices = f.prices;
@@ -18,6 +21,7 @@ invariant_of-self c =
       slot_rows = subst (HaveRowsFor f.fees) (sym c.set_down.ensures) (slot_rowed (part_of f) f.fees c.args.goods f.fee_rows f.fees_listed f.prices c.requires.fee);
       spare_lines = f.spare_lines;
       few_pallets = f.few_pallets;
+      few_pools = f.few_pools;
       room = f.room;
       checked = f.checked;
     }

@@ -13,6 +13,9 @@ invariant_of-self-2 c =
     record {
       ledger_lists = f.ledger_lists;
       book_lists = ap (λ (b : Book). b.listed) c.in_ok-join.ensures.booked ∙ listed-Booked f.book (given_up c.args.into.now c.args.goods) ∙ f.book_lists;
+      apart = f.apart;
+      floored = f.floored;
+      pools_free = f.pools_free;
       paths = f.paths;
       rates = f.rates;
       prices = f.prices;
@@ -21,6 +24,7 @@ invariant_of-self-2 c =
       slot_rows = f.slot_rows;
       spare_lines = f.spare_lines;
       few_pallets = f.few_pallets;
+      few_pools = f.few_pools;
       room = f.room;
       checked = f.checked;
     }

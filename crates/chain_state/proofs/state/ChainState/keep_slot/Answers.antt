@@ -17,6 +17,9 @@ invariant_of-self c =
     record {
       ledger_lists = f.ledger_lists;
       book_lists = f.book_lists;
+      apart = f.apart;
+      floored = f.floored;
+      pools_free = f.pools_free;
       paths = f.paths;
       rates = f.rates;
       prices = f.prices;
@@ -25,6 +28,7 @@ invariant_of-self c =
       slot_rows = nothing_rowed _ _ (c.replace.ensures.after ∙ c.set_down-nothing.ensures ∙ c.empty.ensures);
       spare_lines = f.spare_lines;
       few_pallets = f.few_pallets;
+      few_pools = f.few_pools;
       room = f.room;
       checked = f.checked;
     }

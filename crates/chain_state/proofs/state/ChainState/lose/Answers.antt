@@ -17,6 +17,9 @@ invariant_of-self c =
     record {
       ledger_lists = f.ledger_lists;
       book_lists = ap (λ (b : Book). b.listed) c.lose.ensures ∙ lost_listed s.way s.units f.book ∙ f.book_lists;
+      apart = f.apart;
+      floored = f.floored;
+      pools_free = f.pools_free;
       paths = f.paths;
       rates = f.rates;
       prices = f.prices;
@@ -25,6 +28,7 @@ invariant_of-self c =
       slot_rows = f.slot_rows;
       spare_lines = f.spare_lines;
       few_pallets = f.few_pallets;
+      few_pools = f.few_pools;
       room = f.room;
       checked = f.checked;
     }

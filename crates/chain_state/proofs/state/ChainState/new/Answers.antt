@@ -8,6 +8,9 @@ use Rattle.chain_lists.specs.Checked.{are_checked}
 use Rattle.chain_state.specs.ListedFees.{are_fees_listed}
 use Rattle.chain_state.proofs.Entries.{checked_rows}
 use Rattle.chain_state.proofs.FeeSlot.{nothing_rowed}
+use Rattle.chain_state.proofs.Floored.{nothing_floored}
+use Rattle.account_floors.specs.Floors.{NoPoolLocks}
+use Rattle.account_floors.specs.Laws.{none_frees}
 use Rattle.chain_state.proofs.state.ChainState.new.Goals as goal
 
 pub open-requires-clause-few : goal.open-requires-clause-few
@@ -32,3 +35,9 @@ invariant_of-result-clause-spare_lines c = ap Closed (c.in_ok-spare.ensures.line
 pub invariant_of-result-clause-checked : goal.invariant_of-result-clause-checked
 invariant_of-result-clause-checked c =
     ap (are_checked c.args.settings.rows) (c.in_ok-checking.ensures ∙ ap (map row_checking) c.items-3.ensures) ∙ checked_rows c.args.settings.rows c.requires.checkings
+
+pub invariant_of-result-clause-floored : goal.invariant_of-result-clause-floored
+invariant_of-result-clause-floored c = nothing_floored _ _ c.new-locked.ensures
+
+pub invariant_of-result-clause-pools_free : goal.invariant_of-result-clause-pools_free
+invariant_of-result-clause-pools_free c = subst (NoPoolLocks c.args.settings.pools) (sym c.new-locked.ensures) (none_frees c.args.settings.pools)

@@ -4,6 +4,9 @@ use Rattle.asset_lists.specs.Laws.{once_each}
 use Rattle.asset_bundles.specs.Books.{AreListed}
 use Rattle.asset_bundles.specs.Laws.{listed_list}
 use Rattle.trust_tables.specs.Trust.{listing}
+use Rattle.ledgers.specs.Ledgers.{Accounts, Deposited}
+use Rattle.account_floors.specs.Floors.{HasFloors}
+use Rattle.chain_state.proofs.Floored.{after_either, got_after}
 use Rattle.chain_state.proofs.state.ChainState.place.Goals as goal
 
 pub mint-requires-clause-once : goal.mint-requires-clause-once
@@ -14,3 +17,10 @@ deposit-requires c =
     let f = c.args.self.now in
     let all = listed_list (listing f.settings.rows) (c.args.asset ∷ []) (and_from _ _ c.requires.listed refl) in
     record { listed = subst (λ listed. AreListed listed c.in_ok-goods.goods) (sym f.ledger_lists) (subst (AreListed (listing f.settings.rows)) (sym c.in_ok-goods.ensures) all) }
+
+pub invariant_of-self-clause-floored : goal.invariant_of-self-clause-floored
+invariant_of-self-clause-floored c =
+    let f = c.args.self.now in
+    let who = c.args.who.now in
+    after_either (λ (l : Accounts). HasFloors f.locked l.held) f.ledger (Deposited who c.in_ok-goods.goods f.ledger) c.deposit.new.self c.deposit.result c.deposit.ensures.deposited c.deposit.ensures.kept
+    f.floored (got_after f.locked f.ledger who c.in_ok-goods.goods f.floored)

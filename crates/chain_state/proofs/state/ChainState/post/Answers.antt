@@ -15,6 +15,9 @@ invariant_of-self c =
     record {
       ledger_lists = f.ledger_lists;
       book_lists = f.book_lists;
+      apart = f.apart;
+      floored = f.floored;
+      pools_free = f.pools_free;
       paths = f.paths;
       rates = f.rates;
       prices = ap have_prices c.in-Ok.ensures.queued ∙ prices_kept (leads_to c.args.to) (with_waiting (program_read (message_of c.args.bytes.items)) c.args.cargo) (λ o. refl) (channels_of f.queues) ∙ f.prices;
@@ -23,6 +26,7 @@ invariant_of-self c =
       slot_rows = f.slot_rows;
       spare_lines = f.spare_lines;
       few_pallets = f.few_pallets;
+      few_pools = f.few_pools;
       room = f.room;
       checked = f.checked;
     }

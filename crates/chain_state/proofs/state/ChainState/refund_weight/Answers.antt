@@ -9,6 +9,9 @@ invariant_of-self c =
     record {
       ledger_lists = f.ledger_lists;
       book_lists = f.book_lists;
+      apart = f.apart;
+      floored = f.floored;
+      pools_free = f.pools_free;
       paths = f.paths;
       rates = rates_after c.args.w (listing f.settings.rows) f.trader c.refund.new.self c.refund.result c.refund.ensures.lines c.refund.ensures.err f.rates;
       prices = f.prices;
@@ -17,6 +20,7 @@ invariant_of-self c =
       slot_rows = f.slot_rows;
       spare_lines = f.spare_lines ∙ sym (closed_after c.args.w f.trader c.refund.new.self c.refund.result c.refund.ensures.lines c.refund.ensures.err);
       few_pallets = f.few_pallets;
+      few_pools = f.few_pools;
       room = f.room;
       checked = f.checked;
     }

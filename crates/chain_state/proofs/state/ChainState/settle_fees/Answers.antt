@@ -7,7 +7,7 @@ use Rattle.asset_bundles.specs.declared.book.Cause.{Cause}
 use Rattle.asset_bundles.specs.Bundles.{Bundle, bundle_of, IsHolding, assets_at, held_assets}
 use Rattle.asset_bundles.specs.Books.{Book, Booked, AreListed, burned_for}
 use Rattle.trust_tables.specs.Trust.{listing}
-use Rattle.ledgers.specs.Ledgers.{Accounts, held_by}
+use Rattle.ledgers.specs.Ledgers.{Accounts, held_by, Deposited}
 use Rattle.weight_trader.specs.Refunds.{Closed}
 use Rattle.exec_base.specs.Host.{fees_within, fees_above, settled_burns, burned_line, burned_lines, settled}
 use Rattle.network_genesis.specs.Tests.{are_rates_listed}
@@ -17,6 +17,8 @@ use Rattle.chain_state.proofs.BurnedLines.{same_book}
 use Rattle.chain_state.proofs.RateList.{closed_twice, closed_rates}
 use Rattle.chain_state.proofs.Widths.{rows_stay}
 use Rattle.chain_state.proofs.Settled.{within_rowed, above_rowed, rowed_listed, units_listed, rows_holding, rows_bundle, ledger_after}
+use Rattle.account_floors.specs.Floors.{HasFloors}
+use Rattle.chain_state.proofs.Floored.{after_either, got_after}
 use Rattle.chain_state.proofs.state.ChainState.settle_fees.Goals as goal
 
 pub above_lines-requires : goal.above_lines-requires
@@ -47,6 +49,10 @@ invariant_of-self-in-Break-branch-5 c =
     record {
       ledger_lists = ledger_after f.settings.fee_account _ f.ledger c.deposit_into.new.ledger c.deposit_into.result c.deposit_into.ensures.deposited c.deposit_into.ensures.kept ∙ f.ledger_lists;
       book_lists = f.book_lists;
+      apart = f.apart;
+      pools_free = f.pools_free;
+      floored = after_either (λ (l : Accounts). HasFloors f.locked l.held) f.ledger (Deposited f.settings.fee_account (bundle_of c.as_slice-2.result.now) f.ledger) c.deposit_into.new.ledger c.deposit_into.result c.deposit_into.ensures.deposited c.deposit_into.ensures.kept
+          f.floored (got_after f.locked f.ledger f.settings.fee_account (bundle_of c.as_slice-2.result.now) f.floored);
       paths = f.paths;
       rates = f.rates;
       prices = f.prices;
@@ -55,6 +61,7 @@ invariant_of-self-in-Break-branch-5 c =
       slot_rows = f.slot_rows;
       spare_lines = ap Closed c.in_ok-close.ensures.lines ∙ closed_twice f.spare ∙ f.spare_lines;
       few_pallets = f.few_pallets;
+      few_pools = f.few_pools;
       room = f.room;
       checked = f.checked;
     }
@@ -77,6 +84,10 @@ invariant_of-self-2 c =
     record {
       ledger_lists = ledger_after f.settings.fee_account _ f.ledger c.deposit_into.new.ledger c.deposit_into.result c.deposit_into.ensures.deposited c.deposit_into.ensures.kept ∙ f.ledger_lists;
       book_lists = rows_stay f.book _ _ c.book_all.ensures ∙ f.book_lists;
+      apart = f.apart;
+      pools_free = f.pools_free;
+      floored = after_either (λ (l : Accounts). HasFloors f.locked l.held) f.ledger (Deposited f.settings.fee_account (bundle_of c.as_slice-2.result.now) f.ledger) c.deposit_into.new.ledger c.deposit_into.result c.deposit_into.ensures.deposited c.deposit_into.ensures.kept
+          f.floored (got_after f.locked f.ledger f.settings.fee_account (bundle_of c.as_slice-2.result.now) f.floored);
       paths = f.paths;
       rates = ap (are_rates_listed (listing f.settings.rows)) closed ∙ closed_rates (listing f.settings.rows) f.trader ∙ f.rates;
       prices = f.prices;
@@ -85,6 +96,7 @@ invariant_of-self-2 c =
       slot_rows = λ u some. c.clear.ensures.rows u ∙ f.slot_rows u some;
       spare_lines = ap Closed c.swap.ensures.y_after ∙ sym (ap Closed closed ∙ closed_twice f.trader);
       few_pallets = f.few_pallets;
+      few_pools = f.few_pools;
       room = f.room;
       checked = f.checked;
     }
