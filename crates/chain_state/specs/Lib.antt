@@ -4,6 +4,7 @@ pub mod Arrivals
 pub mod Sends
 pub mod Claims
 pub mod ListedFees
+pub mod Facts
 pub mod Settling
 pub mod Aside
 pub mod Calls

@@ -53,7 +53,7 @@ fn no_pools(alloc: Global) -> Listed<Pool>
 impl ChainState {
     /// A chain with these rows, pallets, rates, open queries and channels, on which no account holds anything. No two rows list the same
     /// asset, there are fewer than 2^32 of them, and the id of each has a path of at most 8 junctions; no two rates name the same asset,
-    /// and each names a listed one; there are at most 64 pallets and 16 pools; the fee of a channel is an amount above 0 of a fungible asset that is
+    /// and each names a listed one; there are at most 64 pallets; the fee of a channel is an amount above 0 of a fungible asset that is
     /// listed; and only rows of fungible assets have a checking account.
     pub fn new(
         alloc: Global,
@@ -68,7 +68,6 @@ impl ChainState {
         requires once { NameEachOnce rates.now }
         requires rates { IsTrue (are_rates_listed (listing settings.rows) (new_lines rates.now)) }
         requires few_pallets { length settings.pallets ≤ 64 }
-        requires few_pools { length settings.pools ≤ 16 }
         requires prices { IsTrue (have_prices (map opened channels.items)) }
         requires fees { IsTrue (are_fees_listed (listing settings.rows) (map opened channels.items)) }
         requires checkings { IsTrue (may_have_checkings settings.rows) }

@@ -1,18 +1,17 @@
 //! What a chain keeps.
-ghost use Rattle.std.specs.Prelude.{◌≡◌, ◌≤◌, length, vec_capacity, IsTrue};
+ghost use Rattle.std.specs.Prelude.{◌≡◌, ◌≤◌, vec_capacity, IsTrue};
 ghost use Rattle.std.specs.List.{IsDistinct};
 ghost use Rattle.std.specs.List.{IsDistinct-prop};
 ghost use Rattle.std.specs.Ordering.{eq_by_cmp};
 ghost use Rattle.asset_lists.specs.Listed.{listed_cmp};
 ghost use Rattle.trust_tables.specs.Chains.{path_of_site};
 ghost use Rattle.trust_tables.specs.Trust.{listing};
-ghost use Rattle.network_genesis.specs.Tests.{are_rates_listed, have_paths, have_prices};
+ghost use Rattle.network_genesis.specs.Tests.{are_rates_listed};
 ghost use Rattle.chain_queues.specs.Queues.{channels_of};
-ghost use Rattle.account_floors.specs.Floors.{HasFloors, NoPoolLocks};
 ghost use Rattle.weight_trader.specs.Refunds.{Closed};
 ghost use Rattle.fee_rows.specs.Fees.{HaveRows, HaveRowsFor};
 ghost use Rattle.chain_lists.specs.Checked.{are_checked};
-ghost use Rattle.chain_state.specs.ListedFees.{are_fees_listed};
+ghost use Rattle.chain_state.specs.Facts.{IsWithinLimits, KeepsFloors, ArePayable};
 
 use asset_bundles::{BurnBook, Units};
 use asset_locks::LockBook;
@@ -24,11 +23,12 @@ use ledgers::{Ledger, TrapStore};
 use message_parts::OpenQuery;
 use weight_trader::Trader;
 
-/// A chain of the network: what its document says, what stands at it, what it sends, and what is told. No two rows list one asset, each
-/// account has what is locked on it, the ledger and the book list what the rows list, the id of each has a path, each rate's asset is listed, each channel's fee is an amount above 0 of a fungible asset that
-/// is listed, just the fungible ones of the listed assets have a row of kept fees, what is in the fee slot has one, the spare trader has
-/// the rates of the trader, there are at most 64 pallets and 16 pools, four bundles can be parked without memory, and only rows of fungible assets
-/// have a checking account.
+/// A chain of the network: what its document says, what stands at it, what it sends, and what is told. No two rows list one asset, the
+/// id of each has a path, and there are at most 64 pallets; each account has what is locked on it, and none is locked on a pool's; the
+/// ledger and the book list what the rows list; each rate's asset is listed; each channel's fee is an amount above 0 of a fungible asset
+/// that is listed; just the fungible ones of the listed assets have a row of kept fees, and what is in the fee slot has one; the spare
+/// trader has the rates of the trader; four bundles can be parked without memory; and only rows of fungible assets have a checking
+/// account.
 #[derive(Drop)]
 pub struct ChainState {
     pub(crate) settings: Settings,
@@ -50,19 +50,15 @@ pub struct ChainState {
     pub(crate) events: Vec<Event>,
     pub(crate) kept_back: Vec<Event>,
     ghost apart: { IsDistinct (eq_by_cmp listed_cmp) (listing settings.rows) } by { IsDistinct-prop (eq_by_cmp listed_cmp) (listing settings.rows) },
-    ghost floored: { HasFloors locked ledger.held },
-    ghost pools_free: { NoPoolLocks settings.pools locked },
+    ghost limits: { IsWithinLimits (path_of_site settings.site) settings.rows settings.pallets },
+    ghost floors: { KeepsFloors settings.pools locked ledger.held },
     ghost ledger_lists: { ledger.listed ≡ listing settings.rows },
     ghost book_lists: { book.listed ≡ listing settings.rows },
-    ghost paths: { IsTrue (have_paths (path_of_site settings.site) settings.rows) },
     ghost rates: { IsTrue (are_rates_listed (listing settings.rows) trader) },
-    ghost prices: { IsTrue (have_prices (channels_of queues)) },
-    ghost fees_listed: { IsTrue (are_fees_listed (listing settings.rows) (channels_of queues)) },
+    ghost payable: { ArePayable (listing settings.rows) (channels_of queues) },
     ghost fee_rows: { HaveRows (listing settings.rows) fees },
     ghost slot_rows: { HaveRowsFor fees fee_slot },
     ghost spare_lines: { Closed spare ≡ Closed trader },
-    ghost few_pallets: { length settings.pallets ≤ 64 },
-    ghost few_pools: { length settings.pools ≤ 16 },
     ghost room: { 4 ≤ vec_capacity parked },
     ghost checked: { IsTrue (are_checked settings.rows checking.items) },
 }

@@ -9,10 +9,3 @@ mod host_rows;
 mod sending_rows;
 #[cfg(test)]
 mod transactor_rows;
-
-use chain_state::ChainState;
-
-/// Lets a chain go, as the rows do at their ends: for the prover, which shows here that its facts hold to the last.
-pub fn let_go(chain: ChainState) {
-    drop(chain);
-}

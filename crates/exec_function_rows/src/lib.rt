@@ -9,10 +9,3 @@ mod host_rows;
 mod program_rows;
 #[cfg(test)]
 mod texts;
-
-use fake_host::FakeHost;
-
-/// Lets a chain go, as the rows do at their ends: for the prover, which shows here that its facts hold to the last.
-pub fn let_go(host: FakeHost) {
-    drop(host);
-}

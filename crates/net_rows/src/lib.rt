@@ -21,10 +21,3 @@ mod teleports;
 mod transfers;
 #[cfg(test)]
 mod traps;
-
-use chain_net::Net;
-
-/// Lets a network go, as the rows do at their ends: for the prover, which shows here that its facts hold to the last.
-pub fn let_go(net: Net) {
-    drop(net);
-}

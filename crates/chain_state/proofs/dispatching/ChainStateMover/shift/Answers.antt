@@ -12,15 +12,15 @@ pub returns-in-Some-clause-step : goal.returns-in-Some-clause-step
 returns-in-Some-clause-step c =
     (short_fault (part_of c.args.self.now) c.args.row c.args.from.now c.args.to.now c.args.amount c.in-Some.have (sym c.shortage_above_floor.ensures ∙ c.in-Some.is), refl)
 
-pub invariant_of-self-clause-floored : goal.invariant_of-self-clause-floored
-invariant_of-self-clause-floored c =
+pub invariant_of-self-clause-floors : goal.invariant_of-self-clause-floors
+invariant_of-self-clause-floors c =
     let f = c.args.self.now in
     let now = c.shift_row.new.ledger.held in
     let rows : c.items-rows.result.now ≡ f.settings.rows = c.items-rows.ensures in
     let none = sym c.shortage_above_floor.ensures ∙ none_if c.shortage_above_floor.result c.in_default.not-Some in
     let aside = subst (λ (rows : List AssetRow). held_aside rows now ≡ held_aside rows f.ledger.held) rows c.shift_row.ensures.aside in
     let step = subst (λ (rows : List AssetRow). ShiftsFreely rows f.ledger.held c.args.row c.args.from.now c.args.to.now c.args.amount c.shift_row.result now) rows c.shift_row.ensures.step in
-    floors_moved (part_of f) c.args.row c.args.from.now c.args.to.now c.args.amount f.apart now aside f.floored none c.shift_row.result step
+    (floors_moved (part_of f) c.args.row c.args.from.now c.args.to.now c.args.amount f.apart now aside f.floors.0 none c.shift_row.result step , f.floors.1)
 
 pub returns-clause-step : goal.returns-clause-step
 returns-clause-step c =

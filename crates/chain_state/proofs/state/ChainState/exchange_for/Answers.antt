@@ -28,8 +28,8 @@ returns-in-Err-default-NoDeal c =
     let is = same_exchange p c.args.give c.args.want.now c.items.result.now c.items-pools.result.now c.args.maximal None c.items-pools.ensures c.items.ensures.value none.0 in
     record { step = (none.1, exchange_refused p c.args.give c.args.want.now c.args.maximal is, ap (λ (l : Accounts). let q : ChainPart = record p { held = l.held } in q) none.2) }
 
-pub invariant_of-self-clause-floored : goal.invariant_of-self-clause-floored
-invariant_of-self-clause-floored c =
+pub invariant_of-self-clause-floors : goal.invariant_of-self-clause-floors
+invariant_of-self-clause-floors c =
     let f = c.args.self.now in
-    floors_exchanged c.items-pools.result.now f.locked f.ledger c.exchange.new.ledger c.args.give c.items.result.now c.args.maximal c.exchange.result c.exchange.ensures
-    (subst (λ (pools : List Pool). NoPoolLocks pools f.locked) (sym c.items-pools.ensures) f.pools_free) f.floored
+    (floors_exchanged c.items-pools.result.now f.locked f.ledger c.exchange.new.ledger c.args.give c.items.result.now c.args.maximal c.exchange.result c.exchange.ensures
+    (subst (λ (pools : List Pool). NoPoolLocks pools f.locked) (sym c.items-pools.ensures) f.floors.1) f.floors.0 , f.floors.1)

@@ -15,5 +15,5 @@ returns-in-Some-clause-price c =
     let f = c.args.self.now in
     let p = part_of f in
     let found : channel_to p c.args.dest.now ≡ Some (outgoing_of c.in_ok-queue.queue.now) = sym c.queue_to.ensures ∙ ap (λ r. option_map outgoing_of (option_copied r)) c.in_ok-queue.was in
-    let priced = all_found has_price (leads_to p c.args.dest.now) p.channels (outgoing_of c.in_ok-queue.queue.now) f.prices found in
+    let priced = all_found has_price (leads_to p c.args.dest.now) p.channels (outgoing_of c.in_ok-queue.queue.now) f.payable.0 found in
     ap (λ (a : Asset). is_price a.fun) c.copy.ensures ∙ ap fee_is_price (sym c.in-Some.is) ∙ priced

@@ -7,7 +7,8 @@ use Rattle.exec_base.specs.Host.{asset_locked, note_program, lock_refusal}
 use Rattle.chain_state.specs.PartOf.{part_of}
 use Rattle.chain_state.proofs.Led.{taken_free, taken_spelled, number_is}
 use Rattle.chain_state.proofs.Locked.{lock_goes, told_goes, lock_leaves, posted_at, amount_here, some_amount, fault_of}
-use Rattle.account_floors.specs.Floors.{HasFloors, NoPoolLocks}
+use Rattle.account_floors.specs.Floors.{HasFloors}
+use Rattle.chain_state.specs.Facts.{KeepsFloors}
 use Rattle.account_floors.specs.Laws.{locked_frees, lockable_apart, lockable_floors}
 use Rattle.chain_state.proofs.Floored.{after_either}
 use Rattle.chain_state.proofs.state.ChainState.lock_for.Goals as goal
@@ -47,21 +48,13 @@ returns c =
       );
     }
 
-pub invariant_of-self-2-clause-floored : goal.invariant_of-self-2-clause-floored
-invariant_of-self-2-clause-floored c =
+pub invariant_of-self-2-clause-floors : goal.invariant_of-self-2-clause-floors
+invariant_of-self-2-clause-floors c =
     let f = c.args.self.now in
     let p = part_of f in
     let key : LockKey = (c.in-Some.place.0, c.in-Some.place.1, c.args.unlocker.now) in
     let n = c.amount.result in
     let may = c.in-Some.ensures in
-    let locked = subst (λ (a : ℕ). HasFloors (Locked key a f.locked) f.ledger.held) (sym c.amount.ensures) (lockable_floors p c.args.asset.now c.args.owner.now c.args.unlocker.now key may.is may.enough f.floored) in
-    after_either (λ (l : LocksAndNotes). HasFloors l f.ledger.held) f.locked (Locked key n f.locked) c.lock.new.self c.lock.result c.lock.ensures.locked c.lock.ensures.kept f.floored locked
-
-pub invariant_of-self-2-clause-pools_free : goal.invariant_of-self-2-clause-pools_free
-invariant_of-self-2-clause-pools_free c =
-    let f = c.args.self.now in
-    let p = part_of f in
-    let key : LockKey = (c.in-Some.place.0, c.in-Some.place.1, c.args.unlocker.now) in
-    let n = c.amount.result in
-    after_either (NoPoolLocks f.settings.pools) f.locked (Locked key n f.locked) c.lock.new.self c.lock.result c.lock.ensures.locked c.lock.ensures.kept f.pools_free
-    (locked_frees f.settings.pools key n f.locked (lockable_apart p c.args.asset.now key c.in-Some.ensures.enough) f.pools_free)
+    let locked = subst (λ (a : ℕ). HasFloors (Locked key a f.locked) f.ledger.held) (sym c.amount.ensures) (lockable_floors p c.args.asset.now c.args.owner.now c.args.unlocker.now key may.is may.enough f.floors.0) in
+    after_either (λ (l : LocksAndNotes). KeepsFloors f.settings.pools l f.ledger.held) f.locked (Locked key n f.locked) c.lock.new.self c.lock.result c.lock.ensures.locked c.lock.ensures.kept
+    f.floors (locked , locked_frees f.settings.pools key n f.locked (lockable_apart p c.args.asset.now key c.in-Some.ensures.enough) f.floors.1)

@@ -16,11 +16,11 @@ use Rattle.chain_state.proofs.state.ChainState.new.Goals as goal
 pub open-requires-clause-few : goal.open-requires-clause-few
 open-requires-clause-few c = subst (λ n. n < 2 ^ 32) (sym (c.in_ok-places.ensures.as_many ∙ ap length c.items.ensures)) c.requires.few
 
-pub invariant_of-result-clause-prices : goal.invariant_of-result-clause-prices
-invariant_of-result-clause-prices c = ap have_prices c.in_ok-queues.ensures ∙ c.requires.prices
-
-pub invariant_of-result-clause-fees_listed : goal.invariant_of-result-clause-fees_listed
-invariant_of-result-clause-fees_listed c = ap (are_fees_listed (listing c.args.settings.rows)) c.in_ok-queues.ensures ∙ c.requires.fees
+pub invariant_of-result-clause-payable : goal.invariant_of-result-clause-payable
+invariant_of-result-clause-payable c = (
+    ap have_prices c.in_ok-queues.ensures ∙ c.requires.prices,
+    ap (are_fees_listed (listing c.args.settings.rows)) c.in_ok-queues.ensures ∙ c.requires.fees,
+)
 
 pub invariant_of-result-clause-fee_rows : goal.invariant_of-result-clause-fee_rows
 invariant_of-result-clause-fee_rows c = λ u.
@@ -36,8 +36,11 @@ pub invariant_of-result-clause-checked : goal.invariant_of-result-clause-checked
 invariant_of-result-clause-checked c =
     ap (are_checked c.args.settings.rows) (c.in_ok-checking.ensures ∙ ap (map row_checking) c.items-3.ensures) ∙ checked_rows c.args.settings.rows c.requires.checkings
 
-pub invariant_of-result-clause-floored : goal.invariant_of-result-clause-floored
-invariant_of-result-clause-floored c = nothing_floored _ _ c.new-locked.ensures
+pub invariant_of-result-clause-floors : goal.invariant_of-result-clause-floors
+invariant_of-result-clause-floors c = (
+    nothing_floored _ _ c.new-locked.ensures,
+    subst (NoPoolLocks c.args.settings.pools) (sym c.new-locked.ensures) (none_frees c.args.settings.pools),
+)
 
-pub invariant_of-result-clause-pools_free : goal.invariant_of-result-clause-pools_free
-invariant_of-result-clause-pools_free c = subst (NoPoolLocks c.args.settings.pools) (sym c.new-locked.ensures) (none_frees c.args.settings.pools)
+pub invariant_of-result-clause-limits : goal.invariant_of-result-clause-limits
+invariant_of-result-clause-limits c = (c.requires.paths, c.requires.few_pallets)

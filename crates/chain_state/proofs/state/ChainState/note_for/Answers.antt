@@ -3,7 +3,7 @@ use Rattle.std.proofs.Common.{sym, subst, ◌<◌}
 use Rattle.xcm_program.specs.declared.instruction.Instruction.TheOpen.{Instruction-F}
 use Rattle.chain_state.proofs.Locked.{amount_here, some_amount}
 use Rattle.asset_locks.specs.LockMaps.{LocksAndNotes, NoteKey, Noted}
-use Rattle.account_floors.specs.Floors.{HasFloors, NoPoolLocks}
+use Rattle.chain_state.specs.Facts.{KeepsFloors}
 use Rattle.account_floors.specs.Laws.{noted_frees, noted_floors}
 use Rattle.chain_state.proofs.Floored.{after_either}
 use Rattle.chain_state.proofs.state.ChainState.note_for.Goals as goal
@@ -11,16 +11,10 @@ use Rattle.chain_state.proofs.state.ChainState.note_for.Goals as goal
 pub note-requires : goal.note-requires
 note-requires c = record { some = subst (λ n. 0 < n) (sym c.amount.ensures) (some_amount c.args.asset.now (amount_here (Instruction-F.NoteUnlockable c.args.asset.now c.args.owner.now) c.requires.forwardable)) }
 
-pub invariant_of-self-clause-floored : goal.invariant_of-self-clause-floored
-invariant_of-self-clause-floored c =
+pub invariant_of-self-clause-floors : goal.invariant_of-self-clause-floors
+invariant_of-self-clause-floors c =
     let f = c.args.self.now in
     let key : NoteKey = (c.args.from.now, c.in-Some.id.now, c.in-Some-last_account.who) in
     let n = c.amount.result in
-    after_either (λ (l : LocksAndNotes). HasFloors l f.ledger.held) f.locked (Noted key n f.locked) c.note.new.self c.note.result c.note.ensures.noted c.note.ensures.kept f.floored (noted_floors (Some key) n f.locked f.ledger.held f.floored)
-
-pub invariant_of-self-clause-pools_free : goal.invariant_of-self-clause-pools_free
-invariant_of-self-clause-pools_free c =
-    let f = c.args.self.now in
-    let key : NoteKey = (c.args.from.now, c.in-Some.id.now, c.in-Some-last_account.who) in
-    let n = c.amount.result in
-    after_either (NoPoolLocks f.settings.pools) f.locked (Noted key n f.locked) c.note.new.self c.note.result c.note.ensures.noted c.note.ensures.kept f.pools_free (noted_frees f.settings.pools key n f.locked f.pools_free)
+    after_either (λ (l : LocksAndNotes). KeepsFloors f.settings.pools l f.ledger.held) f.locked (Noted key n f.locked) c.note.new.self c.note.result c.note.ensures.noted c.note.ensures.kept
+    f.floors (noted_floors (Some key) n f.locked f.ledger.held f.floors.0 , noted_frees f.settings.pools key n f.locked f.floors.1)

@@ -71,25 +71,3 @@ returns c =
     let part : part_of c.place_all.new.self ≡ part_at spec entry =
     c.in_ok-place_all.ensures.placed ∙ (λ i. record (c.in_ok-state.ensures i) { held = with_balances empty (c.items-2.ensures i) }) in
     record { opened = subst (λ o. IsSomeAnd o (λ d. part_of c.place_all.new.self ≡ part_at spec d)) (sym found) part }
-
-pub invariant_of-state : goal.invariant_of-state
-invariant_of-state c =
-    let s = c.place_all.new.self in
-    record {
-      apart = s.apart;
-      floored = s.floored;
-      pools_free = s.pools_free;
-      ledger_lists = s.ledger_lists;
-      book_lists = s.book_lists;
-      paths = s.paths;
-      rates = s.rates;
-      prices = s.prices;
-      fees_listed = s.fees_listed;
-      fee_rows = s.fee_rows;
-      slot_rows = s.slot_rows;
-      spare_lines = s.spare_lines;
-      few_pallets = s.few_pallets;
-      few_pools = s.few_pools;
-      room = s.room;
-      checked = s.checked;
-    }

@@ -7,7 +7,7 @@ use Rattle.chain_state.specs.PartOf.{part_of}
 use Rattle.chain_state.proofs.Queries.{none_if}
 use Rattle.chain_state.proofs.Moving.{rows_taken, all_listed}
 use Rattle.ledgers.specs.Ledgers.{Accounts, Deposited}
-use Rattle.account_floors.specs.Floors.{HasFloors}
+use Rattle.chain_state.specs.Facts.{KeepsFloors}
 use Rattle.chain_state.proofs.Floored.{after_either, got_after}
 use Rattle.chain_state.proofs.state.ChainState.put_in.Goals as goal
 
@@ -20,9 +20,9 @@ deposit-requires c =
     let goods = ap bundle_of c.as_slice.ensures.value ∙ c.in-Ok.ensures.bundle in
     record { listed = subst (λ listed. AreListed listed c.args.goods) (sym f.ledger_lists) (subst (AreListed (listing f.settings.rows)) goods all) }
 
-pub invariant_of-self-clause-floored : goal.invariant_of-self-clause-floored
-invariant_of-self-clause-floored c =
+pub invariant_of-self-clause-floors : goal.invariant_of-self-clause-floors
+invariant_of-self-clause-floors c =
     let f = c.args.self.now in
     let who = c.in-Some-account.account in
-    after_either (λ (l : Accounts). HasFloors f.locked l.held) f.ledger (Deposited who c.args.goods f.ledger) c.deposit.new.self c.deposit.result c.deposit.ensures.deposited c.deposit.ensures.kept
-    f.floored (got_after f.locked f.ledger who c.args.goods f.floored)
+    after_either (λ (l : Accounts). KeepsFloors f.settings.pools f.locked l.held) f.ledger (Deposited who c.args.goods f.ledger) c.deposit.new.self c.deposit.result c.deposit.ensures.deposited c.deposit.ensures.kept
+    f.floors (got_after f.locked f.ledger who c.args.goods f.floors.0 , f.floors.1)

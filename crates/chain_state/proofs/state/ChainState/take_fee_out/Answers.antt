@@ -8,6 +8,7 @@ use Rattle.exec_base.specs.Host.{give_fault, deposit_refusal}
 use Rattle.chain_state.specs.PartOf.{part_of}
 use Rattle.chain_state.proofs.FeeBack.{fee_back, gives}
 use Rattle.account_floors.specs.Floors.{HasFloors}
+use Rattle.chain_state.specs.Facts.{KeepsFloors}
 use Rattle.asset_lists.specs.declared.units.Asset.{Asset}
 use Rattle.exec_base.specs.Sending.{or_else}
 use Rattle.account_floors.specs.Laws.{one_once}
@@ -30,8 +31,8 @@ returns-in-Ok-clause-back c =
     ap (λ (l : Accounts). deposit_refusal (record p { held = l.held }) (bundle_of (fee ∷ [])) c.args.who.now) ledger
     ∙ fee_back p fee c.args.who.now who c.requires.price (sym c.account_of-account.ensures ∙ c.in-Some-account.is) has.0 has.1 small
 
-pub invariant_of-self-clause-floored : goal.invariant_of-self-clause-floored
-invariant_of-self-clause-floored c =
+pub invariant_of-self-clause-floors : goal.invariant_of-self-clause-floors
+invariant_of-self-clause-floors c =
     let f = c.args.self.now in
     let p = part_of f in
     let fee = c.args.fee.now in
@@ -39,6 +40,6 @@ invariant_of-self-clause-floored c =
     let list : c.in_ok-list.list ≡ fee ∷ [] = c.in_ok-list.ensures ∙ ap (λ (a : Asset). a ∷ []) c.copy.ensures in
     let gives = sym c.give_fault.ensures ∙ none_if c.give_fault.result c.in_default.not-Some in
     let free = ap (λ o. or_else o None) (subst (λ o. give_fault p o fee ≡ None) c.in-Some-account.is gives) in
-    let given = subst (λ (xs : List Asset). HasFloors p.locked (Withdrawn who xs (accounts_of p)).held) (sym list) (given_after p who (fee ∷ []) (one_once fee) free f.floored) in
-    after_either (λ (l : Accounts). HasFloors f.locked l.held) f.ledger (Withdrawn who c.in_ok-list.list f.ledger) c.withdraw.new.self c.withdraw.result c.withdraw.ensures.withdrawn c.withdraw.ensures.kept
-    f.floored (given)
+    let given = subst (λ (xs : List Asset). HasFloors p.locked (Withdrawn who xs (accounts_of p)).held) (sym list) (given_after p who (fee ∷ []) (one_once fee) free f.floors.0) in
+    after_either (λ (l : Accounts). KeepsFloors f.settings.pools f.locked l.held) f.ledger (Withdrawn who c.in_ok-list.list f.ledger) c.withdraw.new.self c.withdraw.result c.withdraw.ensures.withdrawn c.withdraw.ensures.kept
+    f.floors (given , f.floors.1)

@@ -8,7 +8,7 @@ use Rattle.exec_base.specs.Host.{first_fault, give_fault, at_account, withdraw_r
 use Rattle.chain_state.specs.PartOf.{part_of}
 use Rattle.chain_state.proofs.Queries.{none_if}
 use Rattle.chain_state.proofs.Moving.{nobody_gives}
-use Rattle.account_floors.specs.Floors.{HasFloors}
+use Rattle.chain_state.specs.Facts.{KeepsFloors}
 use Rattle.account_floors.specs.Laws.{holding_once}
 use Rattle.chain_state.proofs.Floored.{after_either, given_after}
 use Rattle.chain_state.proofs.state.ChainState.take_out.Goals as goal
@@ -26,8 +26,8 @@ returns-in_default-account c =
       ap (λ o. record p { held = at_account o (λ account. (Withdrawn account list (accounts_of p)).held) p.held }) (sym nobody ∙ c.account_of-account.ensures),
     )
 
-pub invariant_of-self-clause-floored : goal.invariant_of-self-clause-floored
-invariant_of-self-clause-floored c =
+pub invariant_of-self-clause-floors : goal.invariant_of-self-clause-floors
+invariant_of-self-clause-floors c =
     let f = c.args.self.now in
     let p = part_of f in
     let list = c.args.list.now in
@@ -35,5 +35,5 @@ invariant_of-self-clause-floored c =
     let gives = ap (first_fault (give_fault p c.account_of-account.result)) (sym c.items.ensures.value) ∙ sym c.give_refusal.ensures ∙ none_if c.give_refusal.result c.in_default.not-Some in
     let free = subst (λ o. first_fault (give_fault p o) list ≡ None) c.in-Some-account.is gives in
     let once = holding_once list (c.law_of_bundles.ensures.from_lists list c.items.ensures.list) in
-    after_either (λ (l : Accounts). HasFloors f.locked l.held) f.ledger (Withdrawn who list f.ledger) c.withdraw.new.self c.withdraw.result c.withdraw.ensures.withdrawn c.withdraw.ensures.kept
-    f.floored (given_after p who list once free f.floored)
+    after_either (λ (l : Accounts). KeepsFloors f.settings.pools f.locked l.held) f.ledger (Withdrawn who list f.ledger) c.withdraw.new.self c.withdraw.result c.withdraw.ensures.withdrawn c.withdraw.ensures.kept
+    f.floors (given_after p who list once free f.floors.0 , f.floors.1)

@@ -1,20 +1,14 @@
 use Rattle.std.specs.Prelude.{Some}
 use Rattle.asset_locks.specs.LockMaps.{LocksAndNotes, LockKey, Unlocked}
-use Rattle.account_floors.specs.Floors.{HasFloors, NoPoolLocks}
+use Rattle.chain_state.specs.Facts.{KeepsFloors}
 use Rattle.account_floors.specs.Laws.{unlocked_frees, unlocked_floors}
 use Rattle.chain_state.proofs.Floored.{after_either}
 use Rattle.chain_state.proofs.state.ChainState.unlock_for.Goals as goal
 
-pub invariant_of-self-clause-floored : goal.invariant_of-self-clause-floored
-invariant_of-self-clause-floored c =
+pub invariant_of-self-clause-floors : goal.invariant_of-self-clause-floors
+invariant_of-self-clause-floors c =
     let f = c.args.self.now in
     let key : LockKey = (c.in-Some.place.0, c.in-Some.place.1, c.args.from.now) in
     let n = c.amount.result in
-    after_either (λ (l : LocksAndNotes). HasFloors l f.ledger.held) f.locked (Unlocked key n f.locked) c.unlock.new.self c.unlock.result c.unlock.ensures.unlocked c.unlock.ensures.kept f.floored (unlocked_floors (Some key) n f.locked f.ledger.held f.floored)
-
-pub invariant_of-self-clause-pools_free : goal.invariant_of-self-clause-pools_free
-invariant_of-self-clause-pools_free c =
-    let f = c.args.self.now in
-    let key : LockKey = (c.in-Some.place.0, c.in-Some.place.1, c.args.from.now) in
-    let n = c.amount.result in
-    after_either (NoPoolLocks f.settings.pools) f.locked (Unlocked key n f.locked) c.unlock.new.self c.unlock.result c.unlock.ensures.unlocked c.unlock.ensures.kept f.pools_free (unlocked_frees f.settings.pools key n f.locked f.pools_free)
+    after_either (λ (l : LocksAndNotes). KeepsFloors f.settings.pools l f.ledger.held) f.locked (Unlocked key n f.locked) c.unlock.new.self c.unlock.result c.unlock.ensures.unlocked c.unlock.ensures.kept
+    f.floors (unlocked_floors (Some key) n f.locked f.ledger.held f.floors.0 , unlocked_frees f.settings.pools key n f.locked f.floors.1)
