@@ -152,7 +152,7 @@ nothing_paid (r ∷ rs) = (omega arith, nothing_paid rs)
 
 pub between_first : (spec : NetworkSpec) (c : ChainSpec) → IsOpenable spec → IsOpenableChain spec.network c → IsBetweenSteps (part_at spec c)
 between_first spec c openable chain = record {
-  rest = record { order = record { traps = tt; rates = rates_listed (listing c.assets) (new_lines c.rates) chain.rates; paid = nothing_paid c.rates; pools = tt; unparked = refl }; slot = refl };
+  rest = record { order = record { traps = tt; rates = rates_listed (listing c.assets) (new_lines c.rates) chain.rates; paid = nothing_paid c.rates; pools = chain.pools; unparked = refl }; slot = refl };
   landed = refl;
   told = refl;
   shipped = nothing_shipped (listing c.assets) (channels_from c.chain spec.channels);

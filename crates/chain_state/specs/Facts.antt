@@ -1,5 +1,5 @@
 -- What always holds of a chain. This project's own rules; that a location has at most 8 junctions is the XCM format's.
-use Rattle.std.specs.Prelude.{ℕ, ◌≡◌, ◌≤◌, true, List, length}
+use Rattle.std.specs.Prelude.{◌≡◌, ◌≤◌, true, List, length}
 use Rattle.locations.specs.declared.grammar.Junction.{Junction}
 use Rattle.asset_lists.specs.Listed.{Listed}
 use Rattle.asset_locks.specs.LockMaps.{LocksAndNotes}
@@ -12,9 +12,9 @@ use Rattle.account_floors.specs.Floors.{HasFloors, NoPoolLocks}
 use Rattle.network_genesis.specs.Tests.{have_paths, have_prices}
 use Rattle.chain_state.specs.ListedFees.{are_fees_listed}
 
--- the id of each row has a path of at most 8 junctions, and there are at most 64 pallets
-abbrev pub IsWithinLimits : List Junction → List AssetRow → List PalletInfo → Type 0
-IsWithinLimits context rows pallets = (have_paths context rows ≡ true) × (length pallets ≤ 64)
+-- the id of each row has a path of at most 8 junctions, and there are at most 64 pallets and 16 pools
+abbrev pub IsWithinLimits : List Junction → List AssetRow → List PalletInfo → List Pool → Type 0
+IsWithinLimits context rows pallets pools = (have_paths context rows ≡ true) × (length pallets ≤ 64) × (length pools ≤ 16)
 
 -- each account has what is locked on it, and nothing is locked on an account of a pool
 abbrev pub KeepsFloors : List Pool → LocksAndNotes → Held → Type 0

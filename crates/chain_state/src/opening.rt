@@ -28,10 +28,9 @@ use asset_lists::Asset;
 use asset_locks::LockBook;
 use chain_ids::ChainId;
 use chain_lists::{
-    channels_from, checking_accounts, copied_pallets, copied_rows, entry_of, ids, open_queries,
-    places,
+    channels_from, checking_accounts, copied_pallets, copied_pools, copied_rows, entry_of, ids,
+    open_queries, places,
 };
-use chain_pools::Pool;
 use chain_queues::{Cargo, Channel, Queues};
 use exec_base::Settings;
 use fee_rows::FeeRows;
@@ -43,17 +42,10 @@ use std::alloc::{AllocError, Global};
 use trust_tables::Site;
 use weight_trader::{Rate, Trader};
 
-/// A list of no pools. It takes no memory.
-fn no_pools(alloc: Global) -> Listed<Pool>
-    ensures { result ≡ [] }
-{
-    Listed::from_vec(Vec::new(alloc))
-}
-
 impl ChainState {
     /// A chain with these rows, pallets, rates, open queries and channels, on which no account holds anything. No two rows list the same
     /// asset, there are fewer than 2^32 of them, and the id of each has a path of at most 8 junctions; no two rates name the same asset,
-    /// and each names a listed one; there are at most 64 pallets; the fee of a channel is an amount above 0 of a fungible asset that is
+    /// and each names a listed one; there are at most 64 pallets and 16 pools; the fee of a channel is an amount above 0 of a fungible asset that is
     /// listed; and only rows of fungible assets have a checking account.
     pub fn new(
         alloc: Global,
@@ -68,6 +60,7 @@ impl ChainState {
         requires once { NameEachOnce rates.now }
         requires rates { IsTrue (are_rates_listed (listing settings.rows) (new_lines rates.now)) }
         requires few_pallets { length settings.pallets ≤ 64 }
+        requires few_pools { length settings.pools ≤ 16 }
         requires prices { IsTrue (have_prices (map opened channels.items)) }
         requires fees { IsTrue (are_fees_listed (listing settings.rows) (map opened channels.items)) }
         requires checkings { IsTrue (may_have_checkings settings.rows) }
@@ -133,6 +126,7 @@ impl ChainState {
     {
         let rows = copied_rows(alloc, entry.assets.items())?;
         let pallets = copied_pallets(alloc, entry.pallets.items())?;
+        let pools = copied_pools(alloc, entry.pools.items())?;
         let settings = Settings {
             site: Site {
                 network: spec.network,
@@ -143,7 +137,7 @@ impl ChainState {
             fee_account: entry.fee_account,
             calls: entry.calls,
             locks: entry.locks,
-            pools: no_pools(alloc),
+            pools: Listed::from_vec(pools),
         };
         let queries = open_queries(alloc, entry.chain, entry.queries.items())?;
         let channels = channels_from(alloc, entry.chain, spec.channels.items())?;

@@ -24,8 +24,8 @@ use message_parts::OpenQuery;
 use weight_trader::Trader;
 
 /// A chain of the network: what its document says, what stands at it, what it sends, and what is told. No two rows list one asset, the
-/// id of each has a path, and there are at most 64 pallets; each account has what is locked on it, and none is locked on a pool's; the
-/// ledger and the book list what the rows list; each rate's asset is listed; each channel's fee is an amount above 0 of a fungible asset
+/// id of each has a path, and there are at most 64 pallets and 16 pools; each account has what is locked on it, and nothing is locked on a
+/// pool's; the ledger and the book list what the rows list; each rate's asset is listed; each channel's fee is an amount above 0 of a fungible asset
 /// that is listed; just the fungible ones of the listed assets have a row of kept fees, and what is in the fee slot has one; the spare
 /// trader has the rates of the trader; four bundles can be parked without memory; and only rows of fungible assets have a checking
 /// account.
@@ -50,7 +50,7 @@ pub struct ChainState {
     pub(crate) events: Vec<Event>,
     pub(crate) kept_back: Vec<Event>,
     ghost apart: { IsDistinct (eq_by_cmp listed_cmp) (listing settings.rows) } by { IsDistinct-prop (eq_by_cmp listed_cmp) (listing settings.rows) },
-    ghost limits: { IsWithinLimits (path_of_site settings.site) settings.rows settings.pallets },
+    ghost limits: { IsWithinLimits (path_of_site settings.site) settings.rows settings.pallets settings.pools },
     ghost floors: { KeepsFloors settings.pools locked ledger.held },
     ghost ledger_lists: { ledger.listed ≡ listing settings.rows },
     ghost book_lists: { book.listed ≡ listing settings.rows },

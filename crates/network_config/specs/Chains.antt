@@ -7,6 +7,7 @@ use Rattle.chain_ids.specs.declared.chain.ChainId.TheVariants.{Relay, Para}
 use Rattle.message_parts.specs.declared.weight.Weight.{Weight}
 use Rattle.barriers.specs.declared.barrier.Barrier.{Barrier}
 use Rattle.barriers.specs.declared.barrier.Barrier.TheVariants.{Credit, Paid, Responses}
+use Rattle.chain_pools.specs.declared.pool.Pool.{Pool}
 use Rattle.weight_trader.specs.declared.rate.Rate.{Rate}
 use Rattle.trust_tables.specs.declared.rows.AssetRow.{AssetRow}
 use Rattle.message_parts.specs.declared.pallet.PalletInfo.{PalletInfo}
@@ -16,9 +17,9 @@ use Rattle.document_forms.specs.declared.fault.NetworkFault.{NetworkFault}
 use Rattle.document_forms.specs.declared.fault.NetworkFault.TheVariants.{WrongKind, LimitPassed}
 use Rattle.document_forms.specs.declared.fault.Place.{Place}
 use Rattle.document_forms.specs.declared.fault.Section.{Section}
-use Rattle.document_forms.specs.declared.fault.Section.TheVariants.{Top, Fields, Barriers, Rates, Assets, Accounts, Pallets, Queries, Channels}
+use Rattle.document_forms.specs.declared.fault.Section.TheVariants.{Top, Fields, Barriers, Rates, Assets, Accounts, Pallets, Queries, Pools, Channels}
 use Rattle.document_forms.specs.Forms.{Form, ◌>>=◌, ◌>>◌, or_fault, where_true, fields, defaulted, number_within, bytes, pair, list_field, entries, count}
-use Rattle.document_entries.specs.Entries.{made, u32, barrier, rate, asset_row, account, pallet, query}
+use Rattle.document_entries.specs.Entries.{made, u32, barrier, rate, asset_row, account, pallet, query, pool}
 use Rattle.network_config.specs.declared.head.ChainHead.{ChainHead}
 use Rattle.network_config.specs.declared.head.Served.{Served}
 
@@ -101,10 +102,10 @@ barriers_or (Some listed) chain value = entries_field (codes "barriers") Barrier
 unfoldable pub barriers_field : ℕ → Data → Result (List Barrier) NetworkFault
 barriers_field chain value = barriers_or (get (codes "barriers") value) chain value
 
--- the fields of a chain; format 2 has calls and locks
+-- the fields of a chain; format 2 has calls, locks and pools
 abbrev pub chain_fields : Bool → List (List ℕ)
 chain_fields true = codes "para" ∷ codes "unit_weight" ∷ codes "max_weight" ∷ codes "max_instructions" ∷ codes "max_holding" ∷ codes "fee_account"
-    ∷ codes "barriers" ∷ codes "rates" ∷ codes "assets" ∷ codes "accounts" ∷ codes "pallets" ∷ codes "queries" ∷ codes "calls" ∷ codes "locks" ∷ []
+    ∷ codes "barriers" ∷ codes "rates" ∷ codes "assets" ∷ codes "accounts" ∷ codes "pallets" ∷ codes "queries" ∷ codes "calls" ∷ codes "locks" ∷ codes "pools" ∷ []
 chain_fields false = codes "para" ∷ codes "unit_weight" ∷ codes "max_weight" ∷ codes "max_instructions" ∷ codes "max_holding" ∷ codes "fee_account"
     ∷ codes "barriers" ∷ codes "rates" ∷ codes "assets" ∷ codes "accounts" ∷ codes "pallets" ∷ codes "queries" ∷ []
 
@@ -117,9 +118,9 @@ abbrev pub flag : List ℕ → Form Bool
 flag name = defaulted name false truth
 
 -- a chain with its own fields, its lists and what it serves
-abbrev pub with_head : ChainHead → List Barrier → List Rate → List AssetRow → List Balance → List PalletInfo → List (ℕ × ChainId) → Served
-    → ChainSpec
-with_head head barriers rates assets accounts pallets queries served = record {
+abbrev pub with_head : ChainHead → List Barrier → List Rate → List AssetRow → List Balance → List PalletInfo → List (ℕ × ChainId) → List Pool
+    → Served → ChainSpec
+with_head head barriers rates assets accounts pallets queries pools served = record {
   chain = head.chain;
   rules = head.rules;
   limit = head.limit;
@@ -133,6 +134,7 @@ with_head head barriers rates assets accounts pallets queries served = record {
   queries = queries;
   calls = served.calls;
   locks = served.locks;
+  pools = pools;
 }
 
 -- its own fields, and what it serves
@@ -143,6 +145,7 @@ own_fields more place value = do
   lists place value
   calls ← flag (codes "calls") place value
   locks ← flag (codes "locks") place value
+  short_list (codes "pools") 16 place value
   Ok (head, record { calls = calls; locks = locks })
 
 -- the entry of a chain by its index; format 2 has more fields
@@ -155,4 +158,5 @@ chain_entry more chain value = do
   accounts ← entries_field (codes "accounts") Accounts account chain value
   pallets ← entries_field (codes "pallets") Pallets pallet chain value
   queries ← entries_field (codes "queries") Queries query chain value
-  Ok (with_head own.0 barriers rates assets accounts pallets queries own.1)
+  pools ← entries_field (codes "pools") Pools pool chain value
+  Ok (with_head own.0 barriers rates assets accounts pallets queries pools own.1)

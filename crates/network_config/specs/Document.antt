@@ -27,7 +27,7 @@ network place value = do
   s ← text place value
   or_fault (BadValue place) (network_of_text s)
 
--- 1 or 2; format 2 has fees, calls and locks
+-- 1 or 2; format 2 has fees, calls, locks and pools
 unfoldable pub has_fees : Form Bool
 has_fees place value = do
   n ← number_within 1 2 place value

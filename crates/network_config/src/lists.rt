@@ -77,6 +77,7 @@ fn check_chain_fields(place: Place, more: bool, value: &Value) -> Result<(), Sto
                 "queries",
                 "calls",
                 "locks",
+                "pools",
             ],
             value,
         );
@@ -136,5 +137,6 @@ pub(crate) fn own_fields(
     check_lists(place, value)?;
     let calls = flag_field(place, "calls", value)?;
     let locks = flag_field(place, "locks", value)?;
+    let _ = short_list(place, "pools", 16, value)?;
     Ok((head, Served { calls, locks }))
 }

@@ -54,7 +54,7 @@ site_of spec c = record { network = spec.network; chain = c.chain }
 
 -- what the document says of a chain
 abbrev pub settings_of : NetworkSpec → ChainSpec → Settings
-settings_of spec c = record { site = site_of spec c; rows = c.assets; pallets = c.pallets; fee_account = c.fee_account; calls = c.calls; locks = c.locks; pools = [] }
+settings_of spec c = record { site = site_of spec c; rows = c.assets; pallets = c.pallets; fee_account = c.fee_account; calls = c.calls; locks = c.locks; pools = c.pools }
 
 -- an open query, by how the chain names the one that may answer it
 abbrev pub query_of : ChainId → ℕ × ChainId → OpenQuery

@@ -2,6 +2,7 @@
 use asset_lists::Asset;
 use barriers::Barrier;
 use chain_ids::ChainId;
+use chain_pools::Pool;
 use message_parts::{PalletInfo, Weight};
 use plain_lists::Listed;
 use trust_tables::AssetRow;
@@ -46,4 +47,6 @@ pub struct ChainSpec {
     pub calls: bool,
     /// Whether it serves locks.
     pub locks: bool,
+    /// The pools that it exchanges assets with.
+    pub pools: Listed<Pool>,
 }

@@ -20,7 +20,7 @@ invariant_of-self-clause-floors c =
     let none = sym c.shortage_above_floor.ensures ∙ none_if c.shortage_above_floor.result c.in_default.not-Some in
     let aside = subst (λ (rows : List AssetRow). held_aside rows now ≡ held_aside rows f.ledger.held) rows c.shift_row.ensures.aside in
     let step = subst (λ (rows : List AssetRow). ShiftsFreely rows f.ledger.held c.args.row c.args.from.now c.args.to.now c.args.amount c.shift_row.result now) rows c.shift_row.ensures.step in
-    (floors_moved (part_of f) c.args.row c.args.from.now c.args.to.now c.args.amount f.apart now aside f.floors.0 none c.shift_row.result step , f.floors.1)
+    (floors_moved (part_of f) c.args.row c.args.from.now c.args.to.now c.args.amount f.apart now aside f.floors.0 none c.shift_row.result step, f.floors.1)
 
 pub returns-clause-step : goal.returns-clause-step
 returns-clause-step c =

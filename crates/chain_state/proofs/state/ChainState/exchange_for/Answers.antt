@@ -30,6 +30,8 @@ returns-in-Err-default-NoDeal c =
 
 pub invariant_of-self-clause-floors : goal.invariant_of-self-clause-floors
 invariant_of-self-clause-floors c =
-    let f = c.args.self.now in
-    (floors_exchanged c.items-pools.result.now f.locked f.ledger c.exchange.new.ledger c.args.give c.items.result.now c.args.maximal c.exchange.result c.exchange.ensures
-    (subst (λ (pools : List Pool). NoPoolLocks pools f.locked) (sym c.items-pools.ensures) f.floors.1) f.floors.0 , f.floors.1)
+    let f = c.args.self.now in (
+      floors_exchanged c.items-pools.result.now f.locked f.ledger c.exchange.new.ledger c.args.give c.items.result.now c.args.maximal c.exchange.result c.exchange.ensures
+          (subst (λ (pools : List Pool). NoPoolLocks pools f.locked) (sym c.items-pools.ensures) f.floors.1) f.floors.0,
+      f.floors.1,
+    )

@@ -57,4 +57,4 @@ invariant_of-self-2-clause-floors c =
     let may = c.in-Some.ensures in
     let locked = subst (λ (a : ℕ). HasFloors (Locked key a f.locked) f.ledger.held) (sym c.amount.ensures) (lockable_floors p c.args.asset.now c.args.owner.now c.args.unlocker.now key may.is may.enough f.floors.0) in
     after_either (λ (l : LocksAndNotes). KeepsFloors f.settings.pools l f.ledger.held) f.locked (Locked key n f.locked) c.lock.new.self c.lock.result c.lock.ensures.locked c.lock.ensures.kept
-    f.floors (locked , locked_frees f.settings.pools key n f.locked (lockable_apart p c.args.asset.now key c.in-Some.ensures.enough) f.floors.1)
+    f.floors (locked, locked_frees f.settings.pools key n f.locked (lockable_apart p c.args.asset.now key c.in-Some.ensures.enough) f.floors.1)

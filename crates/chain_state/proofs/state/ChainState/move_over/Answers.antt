@@ -60,4 +60,4 @@ invariant_of-self-clause-floors c =
     let once = holding_once list (c.law_of_bundles.ensures.from_lists list c.items-items.ensures.list) in
     let given = given_after p from list once free f.floors.0 in
     after_either (λ (l : Accounts). KeepsFloors f.settings.pools f.locked l.held) f.ledger (Transferred from to list f.ledger) c.transfer.new.self c.transfer.result c.transfer.ensures.transferred c.transfer.ensures.kept
-    f.floors (got_after f.locked (Withdrawn from list f.ledger) to (bundle_of list) given , f.floors.1)
+    f.floors (got_after f.locked (Withdrawn from list f.ledger) to (bundle_of list) given, f.floors.1)

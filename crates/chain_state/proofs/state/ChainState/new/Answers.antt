@@ -18,8 +18,8 @@ open-requires-clause-few c = subst (λ n. n < 2 ^ 32) (sym (c.in_ok-places.ensur
 
 pub invariant_of-result-clause-payable : goal.invariant_of-result-clause-payable
 invariant_of-result-clause-payable c = (
-    ap have_prices c.in_ok-queues.ensures ∙ c.requires.prices,
-    ap (are_fees_listed (listing c.args.settings.rows)) c.in_ok-queues.ensures ∙ c.requires.fees,
+  ap have_prices c.in_ok-queues.ensures ∙ c.requires.prices,
+  ap (are_fees_listed (listing c.args.settings.rows)) c.in_ok-queues.ensures ∙ c.requires.fees,
 )
 
 pub invariant_of-result-clause-fee_rows : goal.invariant_of-result-clause-fee_rows
@@ -38,9 +38,9 @@ invariant_of-result-clause-checked c =
 
 pub invariant_of-result-clause-floors : goal.invariant_of-result-clause-floors
 invariant_of-result-clause-floors c = (
-    nothing_floored _ _ c.new-locked.ensures,
-    subst (NoPoolLocks c.args.settings.pools) (sym c.new-locked.ensures) (none_frees c.args.settings.pools),
+  nothing_floored _ _ c.new-locked.ensures,
+  subst (NoPoolLocks c.args.settings.pools) (sym c.new-locked.ensures) (none_frees c.args.settings.pools),
 )
 
 pub invariant_of-result-clause-limits : goal.invariant_of-result-clause-limits
-invariant_of-result-clause-limits c = (c.requires.paths, c.requires.few_pallets)
+invariant_of-result-clause-limits c = (c.requires.paths, c.requires.few_pallets, c.requires.few_pools)

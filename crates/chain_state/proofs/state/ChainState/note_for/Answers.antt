@@ -17,4 +17,4 @@ invariant_of-self-clause-floors c =
     let key : NoteKey = (c.args.from.now, c.in-Some.id.now, c.in-Some-last_account.who) in
     let n = c.amount.result in
     after_either (λ (l : LocksAndNotes). KeepsFloors f.settings.pools l f.ledger.held) f.locked (Noted key n f.locked) c.note.new.self c.note.result c.note.ensures.noted c.note.ensures.kept
-    f.floors (noted_floors (Some key) n f.locked f.ledger.held f.floors.0 , noted_frees f.settings.pools key n f.locked f.floors.1)
+    f.floors (noted_floors (Some key) n f.locked f.ledger.held f.floors.0, noted_frees f.settings.pools key n f.locked f.floors.1)

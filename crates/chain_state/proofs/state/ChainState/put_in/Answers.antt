@@ -25,4 +25,4 @@ invariant_of-self-clause-floors c =
     let f = c.args.self.now in
     let who = c.in-Some-account.account in
     after_either (λ (l : Accounts). KeepsFloors f.settings.pools f.locked l.held) f.ledger (Deposited who c.args.goods f.ledger) c.deposit.new.self c.deposit.result c.deposit.ensures.deposited c.deposit.ensures.kept
-    f.floors (got_after f.locked f.ledger who c.args.goods f.floors.0 , f.floors.1)
+    f.floors (got_after f.locked f.ledger who c.args.goods f.floors.0, f.floors.1)

@@ -53,4 +53,4 @@ invariant_of-self-2-clause-floors c =
     let key : NoteKey = (c.args.locker.now, c.in-Some.place.1, c.in-Some.place.0) in
     let n = c.amount.result in
     after_either (λ (l : LocksAndNotes). KeepsFloors f.settings.pools l f.ledger.held) f.locked (Reduced key n f.locked) c.reduce.new.self c.reduce.result c.reduce.ensures.reduced c.reduce.ensures.kept
-    f.floors (reduced_floors (Some key) n f.locked f.ledger.held f.floors.0 , reduced_frees f.settings.pools key n f.locked f.floors.1)
+    f.floors (reduced_floors (Some key) n f.locked f.ledger.held f.floors.0, reduced_frees f.settings.pools key n f.locked f.floors.1)

@@ -42,4 +42,4 @@ invariant_of-self-clause-floors c =
     let free = ap (λ o. or_else o None) (subst (λ o. give_fault p o fee ≡ None) c.in-Some-account.is gives) in
     let given = subst (λ (xs : List Asset). HasFloors p.locked (Withdrawn who xs (accounts_of p)).held) (sym list) (given_after p who (fee ∷ []) (one_once fee) free f.floors.0) in
     after_either (λ (l : Accounts). KeepsFloors f.settings.pools f.locked l.held) f.ledger (Withdrawn who c.in_ok-list.list f.ledger) c.withdraw.new.self c.withdraw.result c.withdraw.ensures.withdrawn c.withdraw.ensures.kept
-    f.floors (given , f.floors.1)
+    f.floors (given, f.floors.1)

@@ -36,4 +36,4 @@ invariant_of-self-clause-floors c =
     let free = subst (λ o. first_fault (give_fault p o) list ≡ None) c.in-Some-account.is gives in
     let once = holding_once list (c.law_of_bundles.ensures.from_lists list c.items.ensures.list) in
     after_either (λ (l : Accounts). KeepsFloors f.settings.pools f.locked l.held) f.ledger (Withdrawn who list f.ledger) c.withdraw.new.self c.withdraw.result c.withdraw.ensures.withdrawn c.withdraw.ensures.kept
-    f.floors (given_after p who list once free f.floors.0 , f.floors.1)
+    f.floors (given_after p who list once free f.floors.0, f.floors.1)

@@ -11,4 +11,4 @@ invariant_of-self-clause-floors c =
     let key : LockKey = (c.in-Some.place.0, c.in-Some.place.1, c.args.from.now) in
     let n = c.amount.result in
     after_either (λ (l : LocksAndNotes). KeepsFloors f.settings.pools l f.ledger.held) f.locked (Unlocked key n f.locked) c.unlock.new.self c.unlock.result c.unlock.ensures.unlocked c.unlock.ensures.kept
-    f.floors (unlocked_floors (Some key) n f.locked f.ledger.held f.floors.0 , unlocked_frees f.settings.pools key n f.locked f.floors.1)
+    f.floors (unlocked_floors (Some key) n f.locked f.ledger.held f.floors.0, unlocked_frees f.settings.pools key n f.locked f.floors.1)
