@@ -354,7 +354,8 @@ fn check_chain(
     check_each(&PalletCheck, entry, Section::Pallets, chain.pallets.items())?;
     check_queries(alloc, entry, chains, here, chain.queries.items())?;
     let pools = PoolCheck { assets };
-    check_each(&pools, entry, Section::Pools, chain.pools.items())
+    check_each(&pools, entry, Section::Pools, chain.pools.items())?;
+    Ok(())
 }
 
 /// Refuses the chains by the first of their entries.
