@@ -1,6 +1,7 @@
 //! Calls of a chain by Transact.
 
-use crate::running::{RUN, Row, check_rows};
+use crate::running::{RUN, Row, check, check_rows, exec_report};
+use std::alloc::Global;
 use std::test::Fail;
 use xcm_cli::Status;
 
@@ -114,4 +115,63 @@ exec 2000 0x0101010101010101010101010101010101010101010101010101010101010101 040
 #[test]
 fn calls_have_their_reports(rt: HostRuntime) -> Result<(), Fail> {
     check_rows(&rt, rt.alloc(), RUN, CALLS)
+}
+
+/// So many remarks of so many zeros, with the spelling of their length. The text is of hex digits.
+fn remarks(alloc: Global, count: u32, length: &str, zeros: u32) -> Result<String, Fail> {
+    let mut text = String::new(alloc);
+    for _ in 0..count {
+        text.push_str("00")?;
+        text.push_str(length)?;
+        for _ in 0..zeros {
+            text.push_str("00")?;
+        }
+    }
+    Ok(text)
+}
+
+/// An input of one Transact on a relay chain that serves calls: what the call may weigh, how long it is, and what stands before its remarks.
+fn transact_input(alloc: Global, head: &str, remarks: &str) -> Result<String, Fail> {
+    Ok(format!(in alloc;
+        "{{\"format\":2,\"chains\":[{{\"calls\":true}}]}}\n---\nexec relay 0x0101010101010101010101010101010101010101010101010101010101010101 04040601{head}{remarks}\n"
+    )?)
+}
+
+const BATCH_RAN: &str = "  p0 Transact ok
+  call batch ok
+  end origin 0/AccountId32(0x0101010101010101010101010101010101010101010101010101010101010101) topic - surplus 0 0 refunded 0 0
+  = complete 10000 1000
+";
+
+const NOT_ENOUGH_WEIGHT: &str = "  p0 Transact MaxWeightInvalid
+  end origin 0/AccountId32(0x0101010101010101010101010101010101010101010101010101010101010101) topic - surplus 0 0 refunded 0 0
+  = incomplete 9000 900 MaxWeightInvalid
+";
+
+const NO_CALL: &str = "  p0 Transact FailedToDecode
+  end origin 0/AccountId32(0x0101010101010101010101010101010101010101010101010101010101010101) topic - surplus 0 0 refunded 0 0
+  = incomplete 10000 1000 FailedToDecode
+";
+
+/// Calls of remarks: what stands before them, how many there are, how long each is said to be and is, and what is written.
+const REMARKS: &[(&str, u32, &str, u32, &str)] = &[
+    // a batch of 8 remarks of 1,024 bytes, and of one weight too little
+    ("a18c110e69800320", 8, "0110", 1024, BATCH_RAN),
+    ("017d810c69800320", 8, "0110", 1024, NOT_ENOUGH_WEIGHT),
+    // a remark of 1,025 bytes, a batch of 9, and 65,000 bytes
+    ("a18c110e1110", 1, "0510", 1025, NO_CALL),
+    ("a18c110e500324", 9, "00", 0, NO_CALL),
+    ("a18c110ea2f70300", 1, "", 64_999, NO_CALL),
+];
+
+#[test]
+fn calls_at_their_limits_and_past_them(rt: HostRuntime) -> Result<(), Fail> {
+    let alloc = rt.alloc();
+    for (head, count, length, zeros, lines) in REMARKS {
+        let text = remarks(alloc, *count, length, *zeros)?;
+        let input = transact_input(alloc, head, &text)?;
+        let report = exec_report(alloc, lines)?;
+        check(&rt, alloc, RUN, &input, Status::Done, &report)?;
+    }
+    Ok(())
 }

@@ -28,6 +28,8 @@ mod messages;
 #[cfg(test)]
 mod openings;
 #[cfg(test)]
+mod pools;
+#[cfg(test)]
 mod running;
 #[cfg(test)]
 mod teleports;
