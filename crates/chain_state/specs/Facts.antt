@@ -1,25 +1,104 @@
--- What always holds of a chain. This project's own rules; that a location has at most 8 junctions is the XCM format's.
-use Rattle.std.specs.Prelude.{◌≡◌, ◌≤◌, true, List, length}
+-- What always holds of a chain: of its settings, of what is locked there, and of its channels' fees. Each is one fact, which its parts make
+-- up, and which has them. This project's own rules; that a location has at most 8 junctions is the XCM format's.
+use Rattle.std.specs.Prelude.{ℕ, ◌≡◌, ◌≤◌, Bool, true, List, length}
+use Rattle.std.specs.Coded.{Coded-set, coded_bool, coded_ℕ, Π_prop, le_prop}
+use Rattle.std.proofs.Common.{IsProp}
 use Rattle.locations.specs.declared.grammar.Junction.{Junction}
 use Rattle.asset_lists.specs.Listed.{Listed}
-use Rattle.asset_locks.specs.LockMaps.{LocksAndNotes}
+use Rattle.asset_lists.specs.Units.{Unit}
+use Rattle.asset_locks.specs.LockMaps.{LocksAndNotes, LockKey, lock_at}
 use Rattle.ledgers.specs.Ledgers.{Held}
 use Rattle.trust_tables.specs.declared.rows.AssetRow.{AssetRow}
 use Rattle.message_parts.specs.declared.pallet.PalletInfo.{PalletInfo}
 use Rattle.channel_parts.specs.Channels.{Outgoing}
 use Rattle.chain_pools.specs.declared.pool.Pool.{Pool}
+use Rattle.chain_pools.specs.Exchanges.{is_pool_account}
 use Rattle.account_floors.specs.Floors.{HasFloors, NoPoolLocks}
 use Rattle.network_genesis.specs.Tests.{have_paths, have_prices}
 use Rattle.chain_state.specs.ListedFees.{are_fees_listed}
 
+-- ---- the settings
+
 -- the id of each row has a path of at most 8 junctions, and there are at most 64 pallets and 16 pools
-abbrev pub IsWithinLimits : List Junction → List AssetRow → List PalletInfo → List Pool → Type 0
-IsWithinLimits context rows pallets pools = (have_paths context rows ≡ true) × (length pallets ≤ 64) × (length pools ≤ 16)
+unfoldable pub IsWithinLimits : List Junction → List AssetRow → List PalletInfo → List Pool → Type 0
+IsWithinLimits context rows pallets pools =
+    (have_paths context rows ≡ true) × (length pallets ≤ 64) × (length pools ≤ 16)
+
+pub IsWithinLimits-prop : (context : List Junction) (rows : List AssetRow) (pallets : List PalletInfo) (pools : List Pool)
+    → IsProp (IsWithinLimits context rows pallets pools)
+unfolding IsWithinLimits
+IsWithinLimits-prop context rows pallets pools a b = λ i. (
+  Coded-set coded_bool (have_paths context rows) true a.0 b.0 i,
+  le_prop a.1 b.1 i,
+  le_prop a.2 b.2 i,
+)
+
+module _ {context : List Junction} {rows : List AssetRow} {pallets : List PalletInfo} {pools : List Pool} where
+  pub within_limits : have_paths context rows ≡ true → length pallets ≤ 64 → length pools ≤ 16
+      → IsWithinLimits context rows pallets pools
+  unfolding IsWithinLimits
+  within_limits paths few_pallets few_pools = (paths, few_pallets, few_pools)
+
+  pub paths_there : IsWithinLimits context rows pallets pools → have_paths context rows ≡ true
+  unfolding IsWithinLimits
+  paths_there h = h.0
+
+  pub few_pallets : IsWithinLimits context rows pallets pools → length pallets ≤ 64
+  unfolding IsWithinLimits
+  few_pallets h = h.1
+
+  pub few_pools : IsWithinLimits context rows pallets pools → length pools ≤ 16
+  unfolding IsWithinLimits
+  few_pools h = h.2
+
+-- ---- what is locked
 
 -- each account has what is locked on it, and nothing is locked on an account of a pool
-abbrev pub KeepsFloors : List Pool → LocksAndNotes → Held → Type 0
+unfoldable pub KeepsFloors : List Pool → LocksAndNotes → Held → Type 0
 KeepsFloors pools locked held = (HasFloors locked held) × (NoPoolLocks pools locked)
 
+pub KeepsFloors-prop : (pools : List Pool) (locked : LocksAndNotes) (held : Held) → IsProp (KeepsFloors pools locked held)
+unfolding KeepsFloors
+KeepsFloors-prop pools locked held a b = λ i. (
+  Π_prop (λ (who : List ℕ). Π_prop (λ (unit : Unit). le_prop)) a.0 b.0 i,
+  Π_prop (λ (key : LockKey). Π_prop (λ (pool : is_pool_account pools key.0 ≡ true). Coded-set coded_ℕ (lock_at key locked) 0)) a.1 b.1 i,
+)
+
+module _ {pools : List Pool} {locked : LocksAndNotes} {held : Held} where
+  pub keeps_floors : HasFloors locked held → NoPoolLocks pools locked → KeepsFloors pools locked held
+  unfolding KeepsFloors
+  keeps_floors floors free = (floors, free)
+
+  pub floors_there : KeepsFloors pools locked held → HasFloors locked held
+  unfolding KeepsFloors
+  floors_there h = h.0
+
+  pub pools_free : KeepsFloors pools locked held → NoPoolLocks pools locked
+  unfolding KeepsFloors
+  pools_free h = h.1
+
+-- ---- fees of channels
+
 -- the fee of each channel, where it has one, is an amount above 0 of a fungible asset that is listed
-abbrev pub ArePayable : List Listed → List Outgoing → Type 0
+unfoldable pub ArePayable : List Listed → List Outgoing → Type 0
 ArePayable listed channels = (have_prices channels ≡ true) × (are_fees_listed listed channels ≡ true)
+
+pub ArePayable-prop : (listed : List Listed) (channels : List Outgoing) → IsProp (ArePayable listed channels)
+unfolding ArePayable
+ArePayable-prop listed channels a b = λ i. (
+  Coded-set coded_bool (have_prices channels) true a.0 b.0 i,
+  Coded-set coded_bool (are_fees_listed listed channels) true a.1 b.1 i,
+)
+
+module _ {listed : List Listed} {channels : List Outgoing} where
+  pub payable : have_prices channels ≡ true → are_fees_listed listed channels ≡ true → ArePayable listed channels
+  unfolding ArePayable
+  payable prices fees = (prices, fees)
+
+  pub prices_there : ArePayable listed channels → have_prices channels ≡ true
+  unfolding ArePayable
+  prices_there h = h.0
+
+  pub fees_there : ArePayable listed channels → are_fees_listed listed channels ≡ true
+  unfolding ArePayable
+  fees_there h = h.1

@@ -16,7 +16,6 @@ ghost use Rattle.chain_state.specs.Locks.{MayLock, MayNotLock, MayRequest, MayNo
 use crate::ChainState;
 use asset_lists::{Asset, AssetId, Fun};
 use chain_ids::ChainId;
-use chain_pools::is_pool_account;
 use chain_queues::Cargo;
 use exec_base::HostFault;
 use locations::{Junction, Junctions, Location};
@@ -118,7 +117,7 @@ impl ChainState {
             return None;
         }
         let (who, id) = self.lock_place(asset, owner)?;
-        let own = !is_pool_account(self.settings.pools.items(), &who);
+        let own = !self.has_pool_account(&who);
         if self.has_row(asset) && own && asset.amount() <= self.ledger.held_of(&who, asset) {
             return Some((who, id));
         }

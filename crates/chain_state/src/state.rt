@@ -12,6 +12,9 @@ ghost use Rattle.weight_trader.specs.Refunds.{Closed};
 ghost use Rattle.fee_rows.specs.Fees.{HaveRows, HaveRowsFor};
 ghost use Rattle.chain_lists.specs.Checked.{are_checked};
 ghost use Rattle.chain_state.specs.Facts.{IsWithinLimits, KeepsFloors, ArePayable};
+ghost use Rattle.chain_state.specs.Facts.{IsWithinLimits-prop};
+ghost use Rattle.chain_state.specs.Facts.{KeepsFloors-prop};
+ghost use Rattle.chain_state.specs.Facts.{ArePayable-prop};
 
 use asset_bundles::{BurnBook, Units};
 use asset_locks::LockBook;
@@ -50,12 +53,12 @@ pub struct ChainState {
     pub(crate) events: Vec<Event>,
     pub(crate) kept_back: Vec<Event>,
     ghost apart: { IsDistinct (eq_by_cmp listed_cmp) (listing settings.rows) } by { IsDistinct-prop (eq_by_cmp listed_cmp) (listing settings.rows) },
-    ghost limits: { IsWithinLimits (path_of_site settings.site) settings.rows settings.pallets settings.pools },
-    ghost floors: { KeepsFloors settings.pools locked ledger.held },
+    ghost limits: { IsWithinLimits (path_of_site settings.site) settings.rows settings.pallets settings.pools } by { IsWithinLimits-prop (path_of_site settings.site) settings.rows settings.pallets settings.pools },
+    ghost floors: { KeepsFloors settings.pools locked ledger.held } by { KeepsFloors-prop settings.pools locked ledger.held },
     ghost ledger_lists: { ledger.listed ≡ listing settings.rows },
     ghost book_lists: { book.listed ≡ listing settings.rows },
     ghost rates: { IsTrue (are_rates_listed (listing settings.rows) trader) },
-    ghost payable: { ArePayable (listing settings.rows) (channels_of queues) },
+    ghost payable: { ArePayable (listing settings.rows) (channels_of queues) } by { ArePayable-prop (listing settings.rows) (channels_of queues) },
     ghost fee_rows: { HaveRows (listing settings.rows) fees },
     ghost slot_rows: { HaveRowsFor fees fee_slot },
     ghost spare_lines: { Closed spare ≡ Closed trader },

@@ -1,4 +1,4 @@
-use Rattle.std.proofs.Common.{◌≡◌, List, sym, Some, None, Result, Err, ap, ◌∙◌, subst}
+use Rattle.std.proofs.Common.{◌≡◌, List, length, arith, sym, Some, None, Result, Err, ap, ◌∙◌, subst}
 use Rattle.asset_bundles.specs.Bundles.{Bundle}
 use Rattle.account_floors.specs.Floors.{NoPoolLocks}
 use Rattle.chain_pools.specs.declared.pool.Pool.{Pool}
@@ -9,6 +9,7 @@ use Rattle.ledgers.specs.Ledgers.{Accounts}
 use Rattle.exec_base.specs.Part.{ChainPart}
 use Rattle.chain_state.specs.PartOf.{part_of}
 use Rattle.chain_state.proofs.Exchanged.{same_exchange, exchange_done, exchange_refused, floors_exchanged}
+use Rattle.chain_state.specs.Facts.{few_pools, keeps_floors, floors_there, pools_free}
 use Rattle.chain_state.proofs.state.ChainState.exchange_for.Goals as goal
 
 pub returns-in-Ok : goal.returns-in-Ok
@@ -30,8 +31,15 @@ returns-in-Err-default-NoDeal c =
 
 pub invariant_of-self-clause-floors : goal.invariant_of-self-clause-floors
 invariant_of-self-clause-floors c =
-    let f = c.args.self.now in (
-      floors_exchanged c.items-pools.result.now f.locked f.ledger c.exchange.new.ledger c.args.give c.items.result.now c.args.maximal c.exchange.result c.exchange.ensures
-          (subst (λ (pools : List Pool). NoPoolLocks pools f.locked) (sym c.items-pools.ensures) f.floors.1) f.floors.0,
-      f.floors.1,
-    )
+    let f = c.args.self.now in
+    let free = pools_free f.floors in
+    keeps_floors
+    (floors_exchanged c.items-pools.result.now f.locked f.ledger c.exchange.new.ledger c.args.give c.items.result.now c.args.maximal c.exchange.result c.exchange.ensures
+    (subst (λ (pools : List Pool). NoPoolLocks pools f.locked) (sym c.items-pools.ensures) free) (floors_there f.floors))
+    free
+
+pub exchange-requires : goal.exchange-requires
+exchange-requires c =
+    let most = few_pools c.args.self.now.limits in
+    let same = ap length c.items-pools.ensures in
+    record { few = omega (arith, most, same) }

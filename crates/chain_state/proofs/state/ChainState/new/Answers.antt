@@ -11,16 +11,15 @@ use Rattle.chain_state.proofs.FeeSlot.{nothing_rowed}
 use Rattle.chain_state.proofs.Floored.{nothing_floored}
 use Rattle.account_floors.specs.Floors.{NoPoolLocks}
 use Rattle.account_floors.specs.Laws.{none_frees}
+use Rattle.chain_state.specs.Facts.{within_limits, keeps_floors, payable}
 use Rattle.chain_state.proofs.state.ChainState.new.Goals as goal
 
 pub open-requires-clause-few : goal.open-requires-clause-few
 open-requires-clause-few c = subst (λ n. n < 2 ^ 32) (sym (c.in_ok-places.ensures.as_many ∙ ap length c.items.ensures)) c.requires.few
 
 pub invariant_of-result-clause-payable : goal.invariant_of-result-clause-payable
-invariant_of-result-clause-payable c = (
-  ap have_prices c.in_ok-queues.ensures ∙ c.requires.prices,
-  ap (are_fees_listed (listing c.args.settings.rows)) c.in_ok-queues.ensures ∙ c.requires.fees,
-)
+invariant_of-result-clause-payable c =
+    payable (ap have_prices c.in_ok-queues.ensures ∙ c.requires.prices) (ap (are_fees_listed (listing c.args.settings.rows)) c.in_ok-queues.ensures ∙ c.requires.fees)
 
 pub invariant_of-result-clause-fee_rows : goal.invariant_of-result-clause-fee_rows
 invariant_of-result-clause-fee_rows c = λ u.
@@ -37,10 +36,8 @@ invariant_of-result-clause-checked c =
     ap (are_checked c.args.settings.rows) (c.in_ok-checking.ensures ∙ ap (map row_checking) c.items-3.ensures) ∙ checked_rows c.args.settings.rows c.requires.checkings
 
 pub invariant_of-result-clause-floors : goal.invariant_of-result-clause-floors
-invariant_of-result-clause-floors c = (
-  nothing_floored _ _ c.new-locked.ensures,
-  subst (NoPoolLocks c.args.settings.pools) (sym c.new-locked.ensures) (none_frees c.args.settings.pools),
-)
+invariant_of-result-clause-floors c =
+    keeps_floors (nothing_floored _ _ c.new-locked.ensures) (subst (NoPoolLocks c.args.settings.pools) (sym c.new-locked.ensures) (none_frees c.args.settings.pools))
 
 pub invariant_of-result-clause-limits : goal.invariant_of-result-clause-limits
-invariant_of-result-clause-limits c = (c.requires.paths, c.requires.few_pallets, c.requires.few_pools)
+invariant_of-result-clause-limits c = within_limits c.requires.paths c.requires.few_pallets c.requires.few_pools

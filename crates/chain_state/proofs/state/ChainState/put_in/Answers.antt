@@ -7,8 +7,8 @@ use Rattle.chain_state.specs.PartOf.{part_of}
 use Rattle.chain_state.proofs.Queries.{none_if}
 use Rattle.chain_state.proofs.Moving.{rows_taken, all_listed}
 use Rattle.ledgers.specs.Ledgers.{Accounts, Deposited}
-use Rattle.chain_state.specs.Facts.{KeepsFloors}
 use Rattle.chain_state.proofs.Floored.{after_either, got_after}
+use Rattle.chain_state.specs.Facts.{keeps_floors, floors_there, pools_free, KeepsFloors}
 use Rattle.chain_state.proofs.state.ChainState.put_in.Goals as goal
 
 pub deposit-requires : goal.deposit-requires
@@ -25,4 +25,4 @@ invariant_of-self-clause-floors c =
     let f = c.args.self.now in
     let who = c.in-Some-account.account in
     after_either (λ (l : Accounts). KeepsFloors f.settings.pools f.locked l.held) f.ledger (Deposited who c.args.goods f.ledger) c.deposit.new.self c.deposit.result c.deposit.ensures.deposited c.deposit.ensures.kept
-    f.floors (got_after f.locked f.ledger who c.args.goods f.floors.0, f.floors.1)
+    f.floors (keeps_floors (got_after f.locked f.ledger who c.args.goods (floors_there f.floors)) (pools_free f.floors))
