@@ -1,5 +1,4 @@
--- What always holds of a chain: of its settings, of what is locked there, and of its channels' fees. Each is one fact, which its parts make
--- up, and which has them. This project's own rules; that a location has at most 8 junctions is the XCM format's.
+-- What always holds of a chain: of its settings, of what is locked there, and of its channels' fees. Each is one fact of a few parts. This project's own rules; that a location has at most 8 junctions is the XCM format's.
 use Rattle.std.specs.Prelude.{ℕ, ◌≡◌, ◌≤◌, Bool, true, List, length}
 use Rattle.std.specs.Coded.{Coded-set, coded_bool, coded_ℕ, Π_prop, le_prop}
 use Rattle.std.proofs.Common.{IsProp}
@@ -33,23 +32,10 @@ IsWithinLimits-prop context rows pallets pools a b = λ i. (
   le_prop a.2 b.2 i,
 )
 
-module _ {context : List Junction} {rows : List AssetRow} {pallets : List PalletInfo} {pools : List Pool} where
-  pub within_limits : have_paths context rows ≡ true → length pallets ≤ 64 → length pools ≤ 16
-      → IsWithinLimits context rows pallets pools
-  unfolding IsWithinLimits
-  within_limits paths few_pallets few_pools = (paths, few_pallets, few_pools)
-
-  pub paths_there : IsWithinLimits context rows pallets pools → have_paths context rows ≡ true
-  unfolding IsWithinLimits
-  paths_there h = h.0
-
-  pub few_pallets : IsWithinLimits context rows pallets pools → length pallets ≤ 64
-  unfolding IsWithinLimits
-  few_pallets h = h.1
-
-  pub few_pools : IsWithinLimits context rows pallets pools → length pools ≤ 16
-  unfolding IsWithinLimits
-  few_pools h = h.2
+pub within_limits : (context : List Junction) (rows : List AssetRow) (pallets : List PalletInfo) (pools : List Pool)
+    → have_paths context rows ≡ true → length pallets ≤ 64 → length pools ≤ 16 → IsWithinLimits context rows pallets pools
+unfolding IsWithinLimits
+within_limits context rows pallets pools paths few_pallets few_pools = (paths, few_pallets, few_pools)
 
 -- ---- what is locked
 
@@ -64,18 +50,10 @@ KeepsFloors-prop pools locked held a b = λ i. (
   Π_prop (λ (key : LockKey). Π_prop (λ (pool : is_pool_account pools key.0 ≡ true). Coded-set coded_ℕ (lock_at key locked) 0)) a.1 b.1 i,
 )
 
-module _ {pools : List Pool} {locked : LocksAndNotes} {held : Held} where
-  pub keeps_floors : HasFloors locked held → NoPoolLocks pools locked → KeepsFloors pools locked held
-  unfolding KeepsFloors
-  keeps_floors floors free = (floors, free)
-
-  pub floors_there : KeepsFloors pools locked held → HasFloors locked held
-  unfolding KeepsFloors
-  floors_there h = h.0
-
-  pub pools_free : KeepsFloors pools locked held → NoPoolLocks pools locked
-  unfolding KeepsFloors
-  pools_free h = h.1
+pub keeps_floors : (pools : List Pool) (locked : LocksAndNotes) (held : Held)
+    → HasFloors locked held → NoPoolLocks pools locked → KeepsFloors pools locked held
+unfolding KeepsFloors
+keeps_floors pools locked held floors free = (floors, free)
 
 -- ---- fees of channels
 
@@ -90,15 +68,7 @@ ArePayable-prop listed channels a b = λ i. (
   Coded-set coded_bool (are_fees_listed listed channels) true a.1 b.1 i,
 )
 
-module _ {listed : List Listed} {channels : List Outgoing} where
-  pub payable : have_prices channels ≡ true → are_fees_listed listed channels ≡ true → ArePayable listed channels
-  unfolding ArePayable
-  payable prices fees = (prices, fees)
-
-  pub prices_there : ArePayable listed channels → have_prices channels ≡ true
-  unfolding ArePayable
-  prices_there h = h.0
-
-  pub fees_there : ArePayable listed channels → are_fees_listed listed channels ≡ true
-  unfolding ArePayable
-  fees_there h = h.1
+pub are_payable : (listed : List Listed) (channels : List Outgoing)
+    → have_prices channels ≡ true → are_fees_listed listed channels ≡ true → ArePayable listed channels
+unfolding ArePayable
+are_payable listed channels prices fees = (prices, fees)

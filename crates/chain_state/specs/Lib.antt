@@ -5,6 +5,7 @@ pub mod Sends
 pub mod Claims
 pub mod ListedFees
 pub mod Facts
+pub mod Known
 pub mod Settling
 pub mod Aside
 pub mod Calls

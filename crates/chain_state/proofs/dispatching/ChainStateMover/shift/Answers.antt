@@ -6,7 +6,8 @@ use Rattle.row_accounts.specs.RowAccounts.{row_amounts, held_aside}
 use Rattle.chain_state.specs.PartOf.{part_of}
 use Rattle.chain_state.proofs.Queries.{none_if}
 use Rattle.chain_state.proofs.Floored.{ShiftsFreely, short_fault, same_fault, floors_moved}
-use Rattle.chain_state.specs.Facts.{keeps_floors, floors_there, pools_free}
+use Rattle.chain_state.specs.Facts.{keeps_floors}
+use Rattle.chain_state.specs.Known.{floors_there, pools_free}
 use Rattle.chain_state.proofs.dispatching.ChainStateMover.shift.Goals as goal
 
 pub returns-in-Some-clause-step : goal.returns-in-Some-clause-step
@@ -21,7 +22,7 @@ invariant_of-self-clause-floors c =
     let none = sym c.shortage_above_floor.ensures ∙ none_if c.shortage_above_floor.result c.in_default.not-Some in
     let aside = subst (λ (rows : List AssetRow). held_aside rows now ≡ held_aside rows f.ledger.held) rows c.shift_row.ensures.aside in
     let step = subst (λ (rows : List AssetRow). ShiftsFreely rows f.ledger.held c.args.row c.args.from.now c.args.to.now c.args.amount c.shift_row.result now) rows c.shift_row.ensures.step in
-    keeps_floors (floors_moved (part_of f) c.args.row c.args.from.now c.args.to.now c.args.amount f.apart now aside (floors_there f.floors) none c.shift_row.result step) (pools_free f.floors)
+    keeps_floors _ _ _ (floors_moved (part_of f) c.args.row c.args.from.now c.args.to.now c.args.amount f.apart now aside (floors_there f) none c.shift_row.result step) (pools_free f)
 
 pub returns-clause-step : goal.returns-clause-step
 returns-clause-step c =

@@ -9,7 +9,8 @@ use Rattle.ledgers.specs.Ledgers.{Accounts}
 use Rattle.exec_base.specs.Part.{ChainPart}
 use Rattle.chain_state.specs.PartOf.{part_of}
 use Rattle.chain_state.proofs.Exchanged.{same_exchange, exchange_done, exchange_refused, floors_exchanged}
-use Rattle.chain_state.specs.Facts.{few_pools, keeps_floors, floors_there, pools_free}
+use Rattle.chain_state.specs.Facts.{keeps_floors}
+use Rattle.chain_state.specs.Known.{few_pools, floors_there, pools_free}
 use Rattle.chain_state.proofs.state.ChainState.exchange_for.Goals as goal
 
 pub returns-in-Ok : goal.returns-in-Ok
@@ -32,14 +33,14 @@ returns-in-Err-default-NoDeal c =
 pub invariant_of-self-clause-floors : goal.invariant_of-self-clause-floors
 invariant_of-self-clause-floors c =
     let f = c.args.self.now in
-    let free = pools_free f.floors in
-    keeps_floors
+    let free = pools_free f in
+    keeps_floors _ _ _
     (floors_exchanged c.items-pools.result.now f.locked f.ledger c.exchange.new.ledger c.args.give c.items.result.now c.args.maximal c.exchange.result c.exchange.ensures
-    (subst (λ (pools : List Pool). NoPoolLocks pools f.locked) (sym c.items-pools.ensures) free) (floors_there f.floors))
+    (subst (λ (pools : List Pool). NoPoolLocks pools f.locked) (sym c.items-pools.ensures) free) (floors_there f))
     free
 
 pub exchange-requires : goal.exchange-requires
 exchange-requires c =
-    let most = few_pools c.args.self.now.limits in
+    let most = few_pools c.args.self.now in
     let same = ap length c.items-pools.ensures in
     record { few = omega (arith, most, same) }

@@ -2,7 +2,7 @@ use Rattle.std.proofs.Common.{sym, subst}
 use Rattle.fee_rows.specs.Fees.{HaveRowsFor}
 use Rattle.chain_state.specs.PartOf.{part_of}
 use Rattle.chain_state.proofs.FeeSlot.{slot_rowed}
-use Rattle.chain_state.specs.Facts.{prices_there, fees_there}
+use Rattle.chain_state.specs.Known.{prices_there, fees_there}
 use Rattle.chain_state.proofs.state.ChainState.hold_in_slot.Goals as goal
 
 pub invariant_of-self : goal.invariant_of-self
@@ -17,7 +17,7 @@ invariant_of-self c =
       rates = f.rates;
       payable = f.payable;
       fee_rows = f.fee_rows;
-      slot_rows = subst (HaveRowsFor f.fees) (sym c.set_down.ensures) (slot_rowed (part_of f) f.fees c.args.goods f.fee_rows (fees_there f.payable) (prices_there f.payable) c.requires.fee);
+      slot_rows = subst (HaveRowsFor f.fees) (sym c.set_down.ensures) (slot_rowed (part_of f) f.fees c.args.goods f.fee_rows (fees_there f) (prices_there f) c.requires.fee);
       spare_lines = f.spare_lines;
       room = f.room;
       checked = f.checked;

@@ -10,7 +10,8 @@ use Rattle.chain_state.proofs.Locked.{lock_goes, told_goes, lock_leaves, posted_
 use Rattle.account_floors.specs.Floors.{HasFloors}
 use Rattle.account_floors.specs.Laws.{locked_frees, lockable_apart, lockable_floors}
 use Rattle.chain_state.proofs.Floored.{after_either}
-use Rattle.chain_state.specs.Facts.{keeps_floors, floors_there, pools_free, KeepsFloors}
+use Rattle.chain_state.specs.Facts.{keeps_floors, KeepsFloors}
+use Rattle.chain_state.specs.Known.{floors_there, pools_free}
 use Rattle.chain_state.proofs.state.ChainState.lock_for.Goals as goal
 
 pub returns-in_default : goal.returns-in_default
@@ -55,6 +56,6 @@ invariant_of-self-2-clause-floors c =
     let key : LockKey = (c.in-Some.place.0, c.in-Some.place.1, c.args.unlocker.now) in
     let n = c.amount.result in
     let may = c.in-Some.ensures in
-    let locked = subst (λ (a : ℕ). HasFloors (Locked key a f.locked) f.ledger.held) (sym c.amount.ensures) (lockable_floors p c.args.asset.now c.args.owner.now c.args.unlocker.now key may.is may.enough (floors_there f.floors)) in
+    let locked = subst (λ (a : ℕ). HasFloors (Locked key a f.locked) f.ledger.held) (sym c.amount.ensures) (lockable_floors p c.args.asset.now c.args.owner.now c.args.unlocker.now key may.is may.enough (floors_there f)) in
     after_either (λ (l : LocksAndNotes). KeepsFloors f.settings.pools l f.ledger.held) f.locked (Locked key n f.locked) c.lock.new.self c.lock.result c.lock.ensures.locked c.lock.ensures.kept
-    f.floors (keeps_floors locked (locked_frees f.settings.pools key n f.locked (lockable_apart p c.args.asset.now key c.in-Some.ensures.enough) (pools_free f.floors)))
+    f.floors (keeps_floors _ _ _ locked (locked_frees f.settings.pools key n f.locked (lockable_apart p c.args.asset.now key c.in-Some.ensures.enough) (pools_free f)))

@@ -12,7 +12,8 @@ use Rattle.chain_state.proofs.Nothing.{nothing_moved}
 use Rattle.account_floors.specs.Laws.{holding_once}
 use Rattle.chain_state.proofs.Floored.{after_either, given_after, got_after}
 use Rattle.chain_state.proofs.First.{both_none}
-use Rattle.chain_state.specs.Facts.{keeps_floors, floors_there, pools_free, KeepsFloors}
+use Rattle.chain_state.specs.Facts.{keeps_floors, KeepsFloors}
+use Rattle.chain_state.specs.Known.{floors_there, pools_free}
 use Rattle.chain_state.proofs.state.ChainState.move_over.Goals as goal
 
 pub returns-in_default-account_of-clause-step : goal.returns-in_default-account_of-clause-step
@@ -58,6 +59,6 @@ invariant_of-self-clause-floors c =
     let giver : account_of c.args.from.now p.site ≡ Some from = sym c.account_of.ensures ∙ c.in-Some-account_of.is in
     let free = subst (λ o. first_fault (give_fault p o) list ≡ None) giver (both_none _ _ refused).0 in
     let once = holding_once list (c.law_of_bundles.ensures.from_lists list c.items-items.ensures.list) in
-    let given = given_after p from list once free (floors_there f.floors) in
+    let given = given_after p from list once free (floors_there f) in
     after_either (λ (l : Accounts). KeepsFloors f.settings.pools f.locked l.held) f.ledger (Transferred from to list f.ledger) c.transfer.new.self c.transfer.result c.transfer.ensures.transferred c.transfer.ensures.kept
-    f.floors (keeps_floors (got_after f.locked (Withdrawn from list f.ledger) to (bundle_of list) given) (pools_free f.floors))
+    f.floors (keeps_floors _ _ _ (got_after f.locked (Withdrawn from list f.ledger) to (bundle_of list) given) (pools_free f))

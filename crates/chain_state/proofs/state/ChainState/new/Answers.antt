@@ -11,7 +11,7 @@ use Rattle.chain_state.proofs.FeeSlot.{nothing_rowed}
 use Rattle.chain_state.proofs.Floored.{nothing_floored}
 use Rattle.account_floors.specs.Floors.{NoPoolLocks}
 use Rattle.account_floors.specs.Laws.{none_frees}
-use Rattle.chain_state.specs.Facts.{within_limits, keeps_floors, payable}
+use Rattle.chain_state.specs.Facts.{within_limits, keeps_floors, are_payable}
 use Rattle.chain_state.proofs.state.ChainState.new.Goals as goal
 
 pub open-requires-clause-few : goal.open-requires-clause-few
@@ -19,7 +19,7 @@ open-requires-clause-few c = subst (λ n. n < 2 ^ 32) (sym (c.in_ok-places.ensur
 
 pub invariant_of-result-clause-payable : goal.invariant_of-result-clause-payable
 invariant_of-result-clause-payable c =
-    payable (ap have_prices c.in_ok-queues.ensures ∙ c.requires.prices) (ap (are_fees_listed (listing c.args.settings.rows)) c.in_ok-queues.ensures ∙ c.requires.fees)
+    are_payable _ _ (ap have_prices c.in_ok-queues.ensures ∙ c.requires.prices) (ap (are_fees_listed (listing c.args.settings.rows)) c.in_ok-queues.ensures ∙ c.requires.fees)
 
 pub invariant_of-result-clause-fee_rows : goal.invariant_of-result-clause-fee_rows
 invariant_of-result-clause-fee_rows c = λ u.
@@ -37,7 +37,7 @@ invariant_of-result-clause-checked c =
 
 pub invariant_of-result-clause-floors : goal.invariant_of-result-clause-floors
 invariant_of-result-clause-floors c =
-    keeps_floors (nothing_floored _ _ c.new-locked.ensures) (subst (NoPoolLocks c.args.settings.pools) (sym c.new-locked.ensures) (none_frees c.args.settings.pools))
+    keeps_floors _ _ _ (nothing_floored _ _ c.new-locked.ensures) (subst (NoPoolLocks c.args.settings.pools) (sym c.new-locked.ensures) (none_frees c.args.settings.pools))
 
 pub invariant_of-result-clause-limits : goal.invariant_of-result-clause-limits
-invariant_of-result-clause-limits c = within_limits c.requires.paths c.requires.few_pallets c.requires.few_pools
+invariant_of-result-clause-limits c = within_limits _ _ _ _ c.requires.paths c.requires.few_pallets c.requires.few_pools

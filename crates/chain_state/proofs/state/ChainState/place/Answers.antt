@@ -6,7 +6,8 @@ use Rattle.asset_bundles.specs.Laws.{listed_list}
 use Rattle.trust_tables.specs.Trust.{listing}
 use Rattle.ledgers.specs.Ledgers.{Accounts, Deposited}
 use Rattle.chain_state.proofs.Floored.{after_either, got_after}
-use Rattle.chain_state.specs.Facts.{keeps_floors, floors_there, pools_free, KeepsFloors}
+use Rattle.chain_state.specs.Facts.{keeps_floors, KeepsFloors}
+use Rattle.chain_state.specs.Known.{floors_there, pools_free}
 use Rattle.chain_state.proofs.state.ChainState.place.Goals as goal
 
 pub mint-requires-clause-once : goal.mint-requires-clause-once
@@ -23,4 +24,4 @@ invariant_of-self-clause-floors c =
     let f = c.args.self.now in
     let who = c.args.who.now in
     after_either (λ (l : Accounts). KeepsFloors f.settings.pools f.locked l.held) f.ledger (Deposited who c.in_ok-goods.goods f.ledger) c.deposit.new.self c.deposit.result c.deposit.ensures.deposited c.deposit.ensures.kept
-    f.floors (keeps_floors (got_after f.locked f.ledger who c.in_ok-goods.goods (floors_there f.floors)) (pools_free f.floors))
+    f.floors (keeps_floors _ _ _ (got_after f.locked f.ledger who c.in_ok-goods.goods (floors_there f)) (pools_free f))

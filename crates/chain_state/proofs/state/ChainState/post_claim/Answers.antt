@@ -9,7 +9,8 @@ use Rattle.network_genesis.specs.Tests.{have_prices}
 use Rattle.chain_state.specs.ListedFees.{are_fees_listed}
 use Rattle.chain_state.proofs.Kept.{prices_kept, fees_kept}
 use Rattle.chain_state.proofs.Claiming.{claim_decodes, claim_spelled, claim_free}
-use Rattle.chain_state.specs.Facts.{payable, prices_there, fees_there}
+use Rattle.chain_state.specs.Facts.{are_payable}
+use Rattle.chain_state.specs.Known.{prices_there, fees_there}
 use Rattle.chain_state.proofs.state.ChainState.post_claim.Goals as goal
 
 pub put-requires-clause-message : goal.put-requires-clause-message
@@ -31,7 +32,7 @@ invariant_of-self c =
       floors = f.floors;
       limits = f.limits;
       rates = f.rates;
-      payable = payable (ap have_prices c.put.ensures.queued ∙ prices_kept (leads_to c.args.to) (with_waiting (program_read (message_of c.in-Ok.bytes.items)) Nothing) (λ o. refl) (channels_of f.queues) ∙ (prices_there f.payable)) (ap (are_fees_listed (listing f.settings.rows)) c.put.ensures.queued ∙ fees_kept (listing f.settings.rows) (leads_to c.args.to) (with_waiting (program_read (message_of c.in-Ok.bytes.items)) Nothing) (λ o. refl) (channels_of f.queues) ∙ (fees_there f.payable));
+      payable = are_payable _ _ (ap have_prices c.put.ensures.queued ∙ prices_kept (leads_to c.args.to) (with_waiting (program_read (message_of c.in-Ok.bytes.items)) Nothing) (λ o. refl) (channels_of f.queues) ∙ (prices_there f)) (ap (are_fees_listed (listing f.settings.rows)) c.put.ensures.queued ∙ fees_kept (listing f.settings.rows) (leads_to c.args.to) (with_waiting (program_read (message_of c.in-Ok.bytes.items)) Nothing) (λ o. refl) (channels_of f.queues) ∙ (fees_there f));
       fee_rows = f.fee_rows;
       slot_rows = f.slot_rows;
       spare_lines = f.spare_lines;

@@ -8,7 +8,8 @@ use Rattle.chain_state.proofs.Queries.{none_if}
 use Rattle.chain_state.proofs.Moving.{rows_taken, all_listed}
 use Rattle.ledgers.specs.Ledgers.{Accounts, Deposited}
 use Rattle.chain_state.proofs.Floored.{after_either, got_after}
-use Rattle.chain_state.specs.Facts.{keeps_floors, floors_there, pools_free, KeepsFloors}
+use Rattle.chain_state.specs.Facts.{keeps_floors, KeepsFloors}
+use Rattle.chain_state.specs.Known.{floors_there, pools_free}
 use Rattle.chain_state.proofs.state.ChainState.put_in.Goals as goal
 
 pub deposit-requires : goal.deposit-requires
@@ -25,4 +26,4 @@ invariant_of-self-clause-floors c =
     let f = c.args.self.now in
     let who = c.in-Some-account.account in
     after_either (λ (l : Accounts). KeepsFloors f.settings.pools f.locked l.held) f.ledger (Deposited who c.args.goods f.ledger) c.deposit.new.self c.deposit.result c.deposit.ensures.deposited c.deposit.ensures.kept
-    f.floors (keeps_floors (got_after f.locked f.ledger who c.args.goods (floors_there f.floors)) (pools_free f.floors))
+    f.floors (keeps_floors _ _ _ (got_after f.locked f.ledger who c.args.goods (floors_there f)) (pools_free f))

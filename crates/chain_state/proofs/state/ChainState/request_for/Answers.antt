@@ -9,7 +9,8 @@ use Rattle.chain_state.proofs.Led.{taken_free, taken_spelled, taken_decodes, num
 use Rattle.chain_state.proofs.Locked.{request_goes, told_goes, request_leaves, posted_at, fault_of}
 use Rattle.account_floors.specs.Laws.{reduced_frees, reduced_floors}
 use Rattle.chain_state.proofs.Floored.{after_either}
-use Rattle.chain_state.specs.Facts.{keeps_floors, floors_there, pools_free, KeepsFloors}
+use Rattle.chain_state.specs.Facts.{keeps_floors, KeepsFloors}
+use Rattle.chain_state.specs.Known.{floors_there, pools_free}
 use Rattle.chain_state.proofs.state.ChainState.request_for.Goals as goal
 
 pub returns-in_default : goal.returns-in_default
@@ -53,4 +54,4 @@ invariant_of-self-2-clause-floors c =
     let key : NoteKey = (c.args.locker.now, c.in-Some.place.1, c.in-Some.place.0) in
     let n = c.amount.result in
     after_either (λ (l : LocksAndNotes). KeepsFloors f.settings.pools l f.ledger.held) f.locked (Reduced key n f.locked) c.reduce.new.self c.reduce.result c.reduce.ensures.reduced c.reduce.ensures.kept
-    f.floors (keeps_floors (reduced_floors (Some key) n f.locked f.ledger.held (floors_there f.floors)) (reduced_frees f.settings.pools key n f.locked (pools_free f.floors)))
+    f.floors (keeps_floors _ _ _ (reduced_floors (Some key) n f.locked f.ledger.held (floors_there f)) (reduced_frees f.settings.pools key n f.locked (pools_free f)))

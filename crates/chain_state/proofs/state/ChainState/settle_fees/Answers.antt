@@ -18,7 +18,8 @@ use Rattle.chain_state.proofs.RateList.{closed_twice, closed_rates}
 use Rattle.chain_state.proofs.Widths.{rows_stay}
 use Rattle.chain_state.proofs.Settled.{within_rowed, above_rowed, rowed_listed, units_listed, rows_holding, rows_bundle, ledger_after}
 use Rattle.chain_state.proofs.Floored.{after_either, got_after}
-use Rattle.chain_state.specs.Facts.{keeps_floors, floors_there, pools_free, KeepsFloors}
+use Rattle.chain_state.specs.Facts.{keeps_floors, KeepsFloors}
+use Rattle.chain_state.specs.Known.{floors_there, pools_free}
 use Rattle.chain_state.proofs.state.ChainState.settle_fees.Goals as goal
 
 pub above_lines-requires : goal.above_lines-requires
@@ -51,7 +52,7 @@ invariant_of-self-in-Break-branch-5 c =
       book_lists = f.book_lists;
       apart = f.apart;
       floors = after_either (λ (l : Accounts). KeepsFloors f.settings.pools f.locked l.held) f.ledger (Deposited f.settings.fee_account (bundle_of c.as_slice-2.result.now) f.ledger) c.deposit_into.new.ledger c.deposit_into.result c.deposit_into.ensures.deposited c.deposit_into.ensures.kept
-          f.floors (keeps_floors (got_after f.locked f.ledger f.settings.fee_account (bundle_of c.as_slice-2.result.now) (floors_there f.floors)) (pools_free f.floors));
+          f.floors (keeps_floors _ _ _ (got_after f.locked f.ledger f.settings.fee_account (bundle_of c.as_slice-2.result.now) (floors_there f)) (pools_free f));
       limits = f.limits;
       rates = f.rates;
       payable = f.payable;
@@ -82,7 +83,7 @@ invariant_of-self-2 c =
       book_lists = rows_stay f.book _ _ c.book_all.ensures ∙ f.book_lists;
       apart = f.apart;
       floors = after_either (λ (l : Accounts). KeepsFloors f.settings.pools f.locked l.held) f.ledger (Deposited f.settings.fee_account (bundle_of c.as_slice-2.result.now) f.ledger) c.deposit_into.new.ledger c.deposit_into.result c.deposit_into.ensures.deposited c.deposit_into.ensures.kept
-          f.floors (keeps_floors (got_after f.locked f.ledger f.settings.fee_account (bundle_of c.as_slice-2.result.now) (floors_there f.floors)) (pools_free f.floors));
+          f.floors (keeps_floors _ _ _ (got_after f.locked f.ledger f.settings.fee_account (bundle_of c.as_slice-2.result.now) (floors_there f)) (pools_free f));
       limits = f.limits;
       rates = ap (are_rates_listed (listing f.settings.rows)) closed ∙ closed_rates (listing f.settings.rows) f.trader ∙ f.rates;
       payable = f.payable;

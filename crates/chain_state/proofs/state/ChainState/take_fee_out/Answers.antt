@@ -14,7 +14,8 @@ use Rattle.account_floors.specs.Laws.{one_once}
 use Rattle.chain_state.proofs.Queries.{none_if}
 use Rattle.chain_state.proofs.Floored.{after_either, given_after}
 use Rattle.exec_base.specs.Part.{accounts_of}
-use Rattle.chain_state.specs.Facts.{keeps_floors, floors_there, pools_free, KeepsFloors}
+use Rattle.chain_state.specs.Facts.{keeps_floors, KeepsFloors}
+use Rattle.chain_state.specs.Known.{floors_there, pools_free}
 use Rattle.chain_state.proofs.state.ChainState.take_fee_out.Goals as goal
 
 pub returns-in-Ok-clause-back : goal.returns-in-Ok-clause-back
@@ -40,6 +41,6 @@ invariant_of-self-clause-floors c =
     let list : c.in_ok-list.list ≡ fee ∷ [] = c.in_ok-list.ensures ∙ ap (λ (a : Asset). a ∷ []) c.copy.ensures in
     let gives = sym c.give_fault.ensures ∙ none_if c.give_fault.result c.in_default.not-Some in
     let free = ap (λ o. or_else o None) (subst (λ o. give_fault p o fee ≡ None) c.in-Some-account.is gives) in
-    let given = subst (λ (xs : List Asset). HasFloors p.locked (Withdrawn who xs (accounts_of p)).held) (sym list) (given_after p who (fee ∷ []) (one_once fee) free (floors_there f.floors)) in
+    let given = subst (λ (xs : List Asset). HasFloors p.locked (Withdrawn who xs (accounts_of p)).held) (sym list) (given_after p who (fee ∷ []) (one_once fee) free (floors_there f)) in
     after_either (λ (l : Accounts). KeepsFloors f.settings.pools f.locked l.held) f.ledger (Withdrawn who c.in_ok-list.list f.ledger) c.withdraw.new.self c.withdraw.result c.withdraw.ensures.withdrawn c.withdraw.ensures.kept
-    f.floors (keeps_floors given (pools_free f.floors))
+    f.floors (keeps_floors _ _ _ given (pools_free f))

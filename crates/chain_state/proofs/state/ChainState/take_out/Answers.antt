@@ -10,7 +10,8 @@ use Rattle.chain_state.proofs.Queries.{none_if}
 use Rattle.chain_state.proofs.Moving.{nobody_gives}
 use Rattle.account_floors.specs.Laws.{holding_once}
 use Rattle.chain_state.proofs.Floored.{after_either, given_after}
-use Rattle.chain_state.specs.Facts.{keeps_floors, floors_there, pools_free, KeepsFloors}
+use Rattle.chain_state.specs.Facts.{keeps_floors, KeepsFloors}
+use Rattle.chain_state.specs.Known.{floors_there, pools_free}
 use Rattle.chain_state.proofs.state.ChainState.take_out.Goals as goal
 
 pub returns-in_default-account : goal.returns-in_default-account
@@ -36,4 +37,4 @@ invariant_of-self-clause-floors c =
     let free = subst (λ o. first_fault (give_fault p o) list ≡ None) c.in-Some-account.is gives in
     let once = holding_once list (c.law_of_bundles.ensures.from_lists list c.items.ensures.list) in
     after_either (λ (l : Accounts). KeepsFloors f.settings.pools f.locked l.held) f.ledger (Withdrawn who list f.ledger) c.withdraw.new.self c.withdraw.result c.withdraw.ensures.withdrawn c.withdraw.ensures.kept
-    f.floors (keeps_floors (given_after p who list once free (floors_there f.floors)) (pools_free f.floors))
+    f.floors (keeps_floors _ _ _ (given_after p who list once free (floors_there f)) (pools_free f))

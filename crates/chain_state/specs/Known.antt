@@ -1,0 +1,39 @@
+-- For proofs alone: a reader may skip this file. The parts of what always holds of a chain.
+use Rattle.std.specs.Prelude.{◌≡◌, ◌≤◌, true, length}
+use Rattle.trust_tables.specs.Chains.{path_of_site}
+use Rattle.trust_tables.specs.Trust.{listing}
+use Rattle.chain_queues.specs.Queues.{channels_of}
+use Rattle.account_floors.specs.Floors.{HasFloors, NoPoolLocks}
+use Rattle.network_genesis.specs.Tests.{have_paths, have_prices}
+use Rattle.chain_state.specs.declared.state.ChainState.{ChainState}
+use Rattle.chain_state.specs.ListedFees.{are_fees_listed}
+use Rattle.chain_state.specs.Facts.{IsWithinLimits, KeepsFloors, ArePayable}
+
+module _ (f : ChainState) where
+  pub paths_there : have_paths (path_of_site f.settings.site) f.settings.rows ≡ true
+  unfolding IsWithinLimits
+  paths_there = f.limits.0
+
+  pub few_pallets : length f.settings.pallets ≤ 64
+  unfolding IsWithinLimits
+  few_pallets = f.limits.1
+
+  pub few_pools : length f.settings.pools ≤ 16
+  unfolding IsWithinLimits
+  few_pools = f.limits.2
+
+  pub floors_there : HasFloors f.locked f.ledger.held
+  unfolding KeepsFloors
+  floors_there = f.floors.0
+
+  pub pools_free : NoPoolLocks f.settings.pools f.locked
+  unfolding KeepsFloors
+  pools_free = f.floors.1
+
+  pub prices_there : have_prices (channels_of f.queues) ≡ true
+  unfolding ArePayable
+  prices_there = f.payable.0
+
+  pub fees_there : are_fees_listed (listing f.settings.rows) (channels_of f.queues) ≡ true
+  unfolding ArePayable
+  fees_there = f.payable.1
