@@ -2,7 +2,10 @@
 use Rattle.std.specs.Prelude.{ℕ, ◌≡◌, ◌≤◌, Bool, true, List, length}
 use Rattle.std.specs.Coded.{Coded-set, coded_bool, coded_ℕ, Π_prop, le_prop}
 use Rattle.locations.specs.declared.grammar.Junction.{Junction}
-use Rattle.asset_lists.specs.Listed.{Listed}
+use Rattle.std.specs.List.{IsDistinct, IsDistinct-prop}
+use Rattle.std.specs.Ordering.{eq_by_cmp}
+use Rattle.asset_lists.specs.Listed.{Listed, listed_cmp}
+use Rattle.trust_tables.specs.Trust.{listing}
 use Rattle.asset_lists.specs.Units.{Unit}
 use Rattle.asset_locks.specs.LockMaps.{LocksAndNotes, LockKey, lock_at}
 use Rattle.ledgers.specs.Ledgers.{Held}
@@ -17,24 +20,26 @@ use Rattle.chain_state.specs.ListedFees.{are_fees_listed}
 
 -- ---- the settings
 
--- the id of each row has a path of at most 8 junctions, and there are at most 64 pallets and 16 pools
-unfoldable pub IsWithinLimits : List Junction → List AssetRow → List PalletInfo → List Pool → Type 0
-IsWithinLimits context rows pallets pools =
-    (have_paths context rows ≡ true) × (length pallets ≤ 64) × (length pools ≤ 16)
+-- no two rows list one asset, the id of each has a path of at most 8 junctions, and there are at most 64 pallets and 16 pools
+unfoldable pub IsSetUp : List Junction → List AssetRow → List PalletInfo → List Pool → Type 0
+IsSetUp context rows pallets pools =
+    (IsDistinct (eq_by_cmp listed_cmp) (listing rows)) × (have_paths context rows ≡ true) × (length pallets ≤ 64) × (length pools ≤ 16)
 
-pub IsWithinLimits-prop : (context : List Junction) (rows : List AssetRow) (pallets : List PalletInfo) (pools : List Pool)
-    → IsProp (IsWithinLimits context rows pallets pools)
-unfolding IsWithinLimits
-IsWithinLimits-prop context rows pallets pools a b = λ i. (
-  Coded-set coded_bool (have_paths context rows) true a.0 b.0 i,
-  le_prop a.1 b.1 i,
+pub IsSetUp-prop : (context : List Junction) (rows : List AssetRow) (pallets : List PalletInfo) (pools : List Pool)
+    → IsProp (IsSetUp context rows pallets pools)
+unfolding IsSetUp
+IsSetUp-prop context rows pallets pools a b = λ i. (
+  IsDistinct-prop (eq_by_cmp listed_cmp) (listing rows) a.0 b.0 i,
+  Coded-set coded_bool (have_paths context rows) true a.1 b.1 i,
   le_prop a.2 b.2 i,
+  le_prop a.3 b.3 i,
 )
 
-pub within_limits : (context : List Junction) (rows : List AssetRow) (pallets : List PalletInfo) (pools : List Pool)
-    → have_paths context rows ≡ true → length pallets ≤ 64 → length pools ≤ 16 → IsWithinLimits context rows pallets pools
-unfolding IsWithinLimits
-within_limits context rows pallets pools paths few_pallets few_pools = (paths, few_pallets, few_pools)
+pub is_set_up : (context : List Junction) (rows : List AssetRow) (pallets : List PalletInfo) (pools : List Pool)
+    → IsDistinct (eq_by_cmp listed_cmp) (listing rows) → have_paths context rows ≡ true → length pallets ≤ 64 → length pools ≤ 16
+    → IsSetUp context rows pallets pools
+unfolding IsSetUp
+is_set_up context rows pallets pools apart paths few_pallets few_pools = (apart, paths, few_pallets, few_pools)
 
 -- ---- what is locked
 

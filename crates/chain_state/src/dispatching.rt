@@ -68,7 +68,7 @@ impl Mover for ChainState {
     ghost use Rattle.account_floors.specs.Laws.{floors_kept};
     ghost use Rattle.row_accounts.specs.RowAccounts.{fungible_rows, row_amounts};
     ghost use Rattle.chain_state.specs.Calls.{beside_calls};
-    ghost use Rattle.chain_state.specs.Known.{floors_there};
+    ghost use Rattle.chain_state.specs.Known.{apart_there, floors_there};
 
     ghost amounts = { λ s. row_amounts s.settings.rows s.ledger.held };
 
@@ -80,7 +80,7 @@ impl Mover for ChainState {
 
     ghost other = { λ s. (beside_calls (part_of s), vec_capacity s.kept_back) };
 
-    ghost kept = { λ s. floors_kept (part_of s) s.apart (floors_there s) };
+    ghost kept = { λ s. floors_kept (part_of s) (apart_there s) (floors_there s) };
 
     fn shift(
         &mut self,

@@ -1,9 +1,5 @@
 //! What a chain keeps.
 ghost use Rattle.std.specs.Prelude.{◌≡◌, ◌≤◌, vec_capacity, IsTrue};
-ghost use Rattle.std.specs.List.{IsDistinct};
-ghost use Rattle.std.specs.List.{IsDistinct-prop};
-ghost use Rattle.std.specs.Ordering.{eq_by_cmp};
-ghost use Rattle.asset_lists.specs.Listed.{listed_cmp};
 ghost use Rattle.trust_tables.specs.Chains.{path_of_site};
 ghost use Rattle.trust_tables.specs.Trust.{listing};
 ghost use Rattle.network_genesis.specs.Tests.{are_rates_listed};
@@ -11,8 +7,8 @@ ghost use Rattle.chain_queues.specs.Queues.{channels_of};
 ghost use Rattle.weight_trader.specs.Refunds.{Closed};
 ghost use Rattle.fee_rows.specs.Fees.{HaveRows, HaveRowsFor};
 ghost use Rattle.chain_lists.specs.Checked.{are_checked};
-ghost use Rattle.chain_state.specs.Facts.{IsWithinLimits, KeepsFloors, ArePayable};
-ghost use Rattle.chain_state.specs.Facts.{IsWithinLimits-prop};
+ghost use Rattle.chain_state.specs.Facts.{IsSetUp, KeepsFloors, ArePayable};
+ghost use Rattle.chain_state.specs.Facts.{IsSetUp-prop};
 ghost use Rattle.chain_state.specs.Facts.{KeepsFloors-prop};
 ghost use Rattle.chain_state.specs.Facts.{ArePayable-prop};
 
@@ -52,8 +48,7 @@ pub struct ChainState {
     pub(crate) cargo: Cargo,
     pub(crate) events: Vec<Event>,
     pub(crate) kept_back: Vec<Event>,
-    ghost apart: { IsDistinct (eq_by_cmp listed_cmp) (listing settings.rows) } by { IsDistinct-prop (eq_by_cmp listed_cmp) (listing settings.rows) },
-    ghost limits: { IsWithinLimits (path_of_site settings.site) settings.rows settings.pallets settings.pools } by { IsWithinLimits-prop (path_of_site settings.site) settings.rows settings.pallets settings.pools },
+    ghost set_up: { IsSetUp (path_of_site settings.site) settings.rows settings.pallets settings.pools } by { IsSetUp-prop (path_of_site settings.site) settings.rows settings.pallets settings.pools },
     ghost floors: { KeepsFloors settings.pools locked ledger.held } by { KeepsFloors-prop settings.pools locked ledger.held },
     ghost ledger_lists: { ledger.listed ≡ listing settings.rows },
     ghost book_lists: { book.listed ≡ listing settings.rows },

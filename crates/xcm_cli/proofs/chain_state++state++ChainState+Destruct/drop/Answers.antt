@@ -4,8 +4,7 @@ pub invariant_of-drop : goal.invariant_of-drop
 invariant_of-drop c =
     let s = c.args.arg1 in
     record {
-      apart = s.apart;
-      limits = s.limits;
+      set_up = s.set_up;
       floors = s.floors;
       ledger_lists = s.ledger_lists;
       book_lists = s.book_lists;

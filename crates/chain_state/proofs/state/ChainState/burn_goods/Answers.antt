@@ -14,9 +14,8 @@ invariant_of-self c =
     record {
       ledger_lists = f.ledger_lists;
       book_lists = ap (λ (b : Book). b.listed) c.burn.ensures ∙ listed-Booked f.book (burned_for Cause.BurnAsset c.args.goods) ∙ f.book_lists;
-      apart = f.apart;
       floors = f.floors;
-      limits = f.limits;
+      set_up = f.set_up;
       rates = f.rates;
       payable = f.payable;
       fee_rows = f.fee_rows;

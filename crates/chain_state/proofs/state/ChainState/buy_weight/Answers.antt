@@ -28,9 +28,8 @@ invariant_of-self-in-Ok-buy c =
     record {
       ledger_lists = f.ledger_lists;
       book_lists = ap (λ (b : Book). b.listed) is.book_is ∙ saturated_rows (listed_of (coin_of is.line.rate)) (excess c.args.w is.line) f.book ∙ f.book_lists;
-      apart = f.apart;
       floors = f.floors;
-      limits = f.limits;
+      set_up = f.set_up;
       rates = ap (are_rates_listed (listing f.settings.rows)) is.lines_are ∙ bought_rates c.args.w c.args.payment (listing f.settings.rows) f.trader f.rates;
       payable = f.payable;
       fee_rows = f.fee_rows;

@@ -18,9 +18,8 @@ invariant_of-self c =
     record {
       ledger_lists = f.ledger_lists;
       book_lists = f.book_lists;
-      apart = f.apart;
       floors = f.floors;
-      limits = f.limits;
+      set_up = f.set_up;
       rates = f.rates;
       payable = f.payable;
       fee_rows = f.fee_rows;

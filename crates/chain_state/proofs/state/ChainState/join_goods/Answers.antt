@@ -13,9 +13,8 @@ invariant_of-self-2 c =
     record {
       ledger_lists = f.ledger_lists;
       book_lists = ap (λ (b : Book). b.listed) c.in_ok-join.ensures.booked ∙ listed-Booked f.book (given_up c.args.into.now c.args.goods) ∙ f.book_lists;
-      apart = f.apart;
       floors = f.floors;
-      limits = f.limits;
+      set_up = f.set_up;
       rates = f.rates;
       payable = f.payable;
       fee_rows = f.fee_rows;

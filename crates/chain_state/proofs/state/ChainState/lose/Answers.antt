@@ -17,9 +17,8 @@ invariant_of-self c =
     record {
       ledger_lists = f.ledger_lists;
       book_lists = ap (λ (b : Book). b.listed) c.lose.ensures ∙ lost_listed s.way s.units f.book ∙ f.book_lists;
-      apart = f.apart;
       floors = f.floors;
-      limits = f.limits;
+      set_up = f.set_up;
       rates = f.rates;
       payable = f.payable;
       fee_rows = f.fee_rows;

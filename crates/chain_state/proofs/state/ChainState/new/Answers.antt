@@ -11,7 +11,7 @@ use Rattle.chain_state.proofs.FeeSlot.{nothing_rowed}
 use Rattle.chain_state.proofs.Floored.{nothing_floored}
 use Rattle.account_floors.specs.Floors.{NoPoolLocks}
 use Rattle.account_floors.specs.Laws.{none_frees}
-use Rattle.chain_state.specs.Facts.{within_limits, keeps_floors, are_payable}
+use Rattle.chain_state.specs.Facts.{is_set_up, keeps_floors, are_payable}
 use Rattle.chain_state.proofs.state.ChainState.new.Goals as goal
 
 pub open-requires-clause-few : goal.open-requires-clause-few
@@ -39,5 +39,5 @@ pub invariant_of-result-clause-floors : goal.invariant_of-result-clause-floors
 invariant_of-result-clause-floors c =
     keeps_floors _ _ _ (nothing_floored _ _ c.new-locked.ensures) (subst (NoPoolLocks c.args.settings.pools) (sym c.new-locked.ensures) (none_frees c.args.settings.pools))
 
-pub invariant_of-result-clause-limits : goal.invariant_of-result-clause-limits
-invariant_of-result-clause-limits c = within_limits _ _ _ _ c.requires.paths c.requires.few_pallets c.requires.few_pools
+pub invariant_of-result-clause-set_up : goal.invariant_of-result-clause-set_up
+invariant_of-result-clause-set_up c = is_set_up _ _ _ _ c.requires.distinct c.requires.paths c.requires.few_pallets c.requires.few_pools

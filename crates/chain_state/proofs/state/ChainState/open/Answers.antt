@@ -76,8 +76,7 @@ pub invariant_of-state : goal.invariant_of-state
 invariant_of-state c =
     let s = c.place_all.new.self in
     record {
-      apart = s.apart;
-      limits = s.limits;
+      set_up = s.set_up;
       floors = s.floors;
       ledger_lists = s.ledger_lists;
       book_lists = s.book_lists;

@@ -28,9 +28,8 @@ invariant_of-self c =
     record {
       ledger_lists = f.ledger_lists;
       book_lists = f.book_lists;
-      apart = f.apart;
       floors = f.floors;
-      limits = f.limits;
+      set_up = f.set_up;
       rates = f.rates;
       payable = are_payable _ _ (ap have_prices c.put.ensures.queued ∙ prices_kept (leads_to c.args.to) (with_waiting (program_read (message_of c.in-Ok.bytes.items)) Nothing) (λ o. refl) (channels_of f.queues) ∙ (prices_there f)) (ap (are_fees_listed (listing f.settings.rows)) c.put.ensures.queued ∙ fees_kept (listing f.settings.rows) (leads_to c.args.to) (with_waiting (program_read (message_of c.in-Ok.bytes.items)) Nothing) (λ o. refl) (channels_of f.queues) ∙ (fees_there f));
       fee_rows = f.fee_rows;

@@ -9,9 +9,8 @@ invariant_of-self c =
     record {
       ledger_lists = f.ledger_lists;
       book_lists = f.book_lists;
-      apart = f.apart;
       floors = f.floors;
-      limits = f.limits;
+      set_up = f.set_up;
       rates = rates_after c.args.w (listing f.settings.rows) f.trader c.refund.new.self c.refund.result c.refund.ensures.lines c.refund.ensures.err f.rates;
       payable = f.payable;
       fee_rows = f.fee_rows;

@@ -50,10 +50,9 @@ invariant_of-self-in-Break-branch-5 c =
     record {
       ledger_lists = ledger_after f.settings.fee_account _ f.ledger c.deposit_into.new.ledger c.deposit_into.result c.deposit_into.ensures.deposited c.deposit_into.ensures.kept ∙ f.ledger_lists;
       book_lists = f.book_lists;
-      apart = f.apart;
       floors = after_either (λ (l : Accounts). KeepsFloors f.settings.pools f.locked l.held) f.ledger (Deposited f.settings.fee_account (bundle_of c.as_slice-2.result.now) f.ledger) c.deposit_into.new.ledger c.deposit_into.result c.deposit_into.ensures.deposited c.deposit_into.ensures.kept
           f.floors (keeps_floors _ _ _ (got_after f.locked f.ledger f.settings.fee_account (bundle_of c.as_slice-2.result.now) (floors_there f)) (pools_free f));
-      limits = f.limits;
+      set_up = f.set_up;
       rates = f.rates;
       payable = f.payable;
       fee_rows = f.fee_rows;
@@ -81,10 +80,9 @@ invariant_of-self-2 c =
     record {
       ledger_lists = ledger_after f.settings.fee_account _ f.ledger c.deposit_into.new.ledger c.deposit_into.result c.deposit_into.ensures.deposited c.deposit_into.ensures.kept ∙ f.ledger_lists;
       book_lists = rows_stay f.book _ _ c.book_all.ensures ∙ f.book_lists;
-      apart = f.apart;
       floors = after_either (λ (l : Accounts). KeepsFloors f.settings.pools f.locked l.held) f.ledger (Deposited f.settings.fee_account (bundle_of c.as_slice-2.result.now) f.ledger) c.deposit_into.new.ledger c.deposit_into.result c.deposit_into.ensures.deposited c.deposit_into.ensures.kept
           f.floors (keeps_floors _ _ _ (got_after f.locked f.ledger f.settings.fee_account (bundle_of c.as_slice-2.result.now) (floors_there f)) (pools_free f));
-      limits = f.limits;
+      set_up = f.set_up;
       rates = ap (are_rates_listed (listing f.settings.rows)) closed ∙ closed_rates (listing f.settings.rows) f.trader ∙ f.rates;
       payable = f.payable;
       fee_rows = λ u. c.clear.ensures.rows u ∙ f.fee_rows u;

@@ -14,9 +14,8 @@ invariant_of-self c =
     record {
       ledger_lists = f.ledger_lists;
       book_lists = f.book_lists;
-      apart = f.apart;
       floors = f.floors;
-      limits = f.limits;
+      set_up = f.set_up;
       rates = f.rates;
       payable = are_payable _ _ (ap have_prices c.pop.ensures.rest ∙ prices_kept (leads_to c.args.to) without_oldest (λ o. refl) (channels_of f.queues) ∙ (prices_there f)) (ap (are_fees_listed (listing f.settings.rows)) c.pop.ensures.rest ∙ fees_kept (listing f.settings.rows) (leads_to c.args.to) without_oldest (λ o. refl) (channels_of f.queues) ∙ (fees_there f));
       fee_rows = f.fee_rows;

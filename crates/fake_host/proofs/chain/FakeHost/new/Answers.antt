@@ -4,8 +4,7 @@ pub invariant_of-chain : goal.invariant_of-chain
 invariant_of-chain c =
     let s = c.place_all.new.self in
     record {
-      apart = s.apart;
-      limits = s.limits;
+      set_up = s.set_up;
       floors = s.floors;
       ledger_lists = s.ledger_lists;
       book_lists = s.book_lists;
