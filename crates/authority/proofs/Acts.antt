@@ -1,5 +1,5 @@
--- What a call of an instruction does to accounts: none falls but the speaker's.
-use Rattle.std.proofs.Common.{◌≡◌, ◌⊎◌, ℕ, Bool, false, List, [], ◌∷◌, Option, Some, None, Result, Ok, Err, ⊎_elim, refl, sym, subst}
+-- What a call of an instruction does to accounts: none falls but the speaker's, and a pool's.
+use Rattle.std.proofs.Common.{◌≡◌, ◌⊎◌, ℕ, Bool, false, List, [], ◌∷◌, Option, Some, None, Result, Ok, Err, ⊎_elim, refl, sym, ap, ◌∙◌, subst}
 use Rattle.message_parts.specs.declared.error.XcmError.{XcmError}
 use Rattle.locations.specs.declared.relative.Location.{Location}
 use Rattle.trust_tables.specs.Accounts.{account_of}
@@ -7,6 +7,8 @@ use Rattle.ledgers.specs.Ledgers.{Held}
 use Rattle.xcm_program.specs.declared.instruction.Instruction.{Instruction, out-Instruction, roll-Instruction, out-roll-Instruction}
 use Rattle.xcm_program.specs.declared.instruction.Instruction.TheOpen.{Instruction-F}
 use Rattle.exec_base.specs.declared.settings.Settings.{Settings}
+use Rattle.chain_pools.specs.Spending.{IsSpeaker}
+use Rattle.exec_base.specs.Part.{ChainPart}
 use Rattle.exec_base.specs.Sending.{sent}
 use Rattle.exec_base.specs.Host.{withdrawn, deposited, transferred, transferred_out, deposited_out, fee_drawn}
 use Rattle.exec_run.specs.Machine.{Machine, Performed}
@@ -14,57 +16,68 @@ use Rattle.exec_run.specs.Run.{Halted}
 use Rattle.exec_rules.specs.Stopping.{Stops, Spilled, spills}
 use Rattle.exec_rules.specs.Instructions.{done, xcm}
 use Rattle.exec_calls.specs.Calls.{MachineWithGoods, MachineCall, after}
-use Rattle.exec_calls.specs.Reasons.{IsFrom, Moment, HasReason}
+use Rattle.exec_calls.specs.Footprints.{settings_after}
+use Rattle.exec_calls.specs.Reasons.{IsFrom, IsFirst, SpeaksBy, Moment, HasReason}
 use Rattle.exec_calls.specs.ReasonLaws.{each_keeps}
 use Rattle.exec_keeping.specs.KeptLaws.{halted_keeps}
-use Rattle.authority.specs.Origins.{speaker_at, speaker_of, LowersOnly}
-use Rattle.authority.proofs.Lowering.{same_lowers, then_lowers, given_lowers, got_lowers, moved_lowers, settled_lowers}
+use Rattle.authority.specs.Origins.{speaker_at, speaker_of, SpendsOnly}
+use Rattle.authority.proofs.Lowering.{LowersOnly, same_lowers, given_lowers, got_lowers, moved_lowers, dispatched_lowers, settled_lowers}
+use Rattle.authority.specs.SpendingLaws.{same_spends, then_spends}
+use Rattle.authority.proofs.Spending.{spends_by, exchanged_spends}
 
 -- the account that speaks is the origin's
 spoken : (m : Machine) (t : MachineWithGoods) (who : Location) (new : Held) → m.regs.origin ≡ Some who → LowersOnly (account_of who t.part.site) t.part.held new → LowersOnly (speaker_at t.part.site m.regs.origin) t.part.held new
 spoken m t who new is h = subst (λ (o : Option Location). LowersOnly (speaker_at t.part.site o) t.part.held new) (sym is) h
 
-pub call_lowers : (moment : Moment) (l : Instruction-F Instruction) (m : Machine) (c : MachineCall) (t : MachineWithGoods) → HasReason moment l m t c → LowersOnly (speaker_at t.part.site m.regs.origin) t.part.held (after c t).part.held
+-- the account of the origin's location
+by_account : (m : Machine) (t : MachineWithGoods) (account : List ℕ) (new : Held) → IsFirst m t → SpeaksBy m account → LowersOnly (Some account) t.part.held new → LowersOnly (speaker_at t.part.site m.regs.origin) t.part.held new
+by_account m t account new first speaks h =
+    let there : account_of speaks.0 t.part.site ≡ Some account = ap (λ (u : MachineWithGoods). account_of speaks.0 u.part.site) first ∙ speaks.2 in
+    spoken m t speaks.0 new speaks.1 (subst (λ (o : Option (List ℕ)). LowersOnly o t.part.held new) (sym there) h)
+
+pub call_spends : (moment : Moment) (l : Instruction-F Instruction) (m : Machine) (c : MachineCall) (t : MachineWithGoods) → HasReason moment l m t c → SpendsOnly (speaker_at t.part.site m.regs.origin) t.part (after c t).part
 unfolding withdrawn deposited transferred transferred_out deposited_out fee_drawn sent
-call_lowers moment l m (MachineCall.Withdraw list who) t asks = spoken m t who _ asks.1 (given_lowers t.part list who)
-call_lowers moment l m (MachineCall.Draw fee who) t asks = spoken m t who _ asks.1 (given_lowers t.part (fee ∷ []) who)
-call_lowers moment l m (MachineCall.Transfer list from to) t asks = spoken m t from _ asks.1 (moved_lowers t.part list from to)
-call_lowers moment l m (MachineCall.TransferOut list from dest xcm) t asks = spoken m t from _ asks.1 (moved_lowers t.part list from dest)
-call_lowers moment l m (MachineCall.Deposit who) t asks = got_lowers _ t.part t.goods who
-call_lowers moment l m (MachineCall.DepositOut dest xcm) t asks = got_lowers _ t.part t.goods dest
-call_lowers moment l m MachineCall.Settle t asks = settled_lowers _ t.part
-call_lowers moment l m _ t asks = same_lowers _ t.part.held
+call_spends moment l m (MachineCall.Withdraw list who) t asks = spends_by _ t.part _ refl (spoken m t who _ asks.1 (given_lowers t.part list who))
+call_spends moment l m (MachineCall.Draw fee who) t asks = spends_by _ t.part _ refl (spoken m t who _ asks.1 (given_lowers t.part (fee ∷ []) who))
+call_spends moment l m (MachineCall.Transfer list from to) t asks = spends_by _ t.part _ refl (spoken m t from _ asks.1 (moved_lowers t.part list from to))
+call_spends moment l m (MachineCall.TransferOut list from dest xcm) t asks = spends_by _ t.part _ refl (spoken m t from _ asks.1 (moved_lowers t.part list from dest))
+call_spends moment l m (MachineCall.Dispatch account c) t asks = spends_by _ t.part _ refl (by_account m t account _ asks.0 asks.1 (dispatched_lowers t.part account c))
+call_spends moment l m (MachineCall.Exchange want maximal) t asks = exchanged_spends _ t.part t.goods want maximal
+call_spends moment l m (MachineCall.Deposit who) t asks = spends_by _ t.part _ refl (got_lowers _ t.part t.goods who)
+call_spends moment l m (MachineCall.DepositOut dest xcm) t asks = spends_by _ t.part _ refl (got_lowers _ t.part t.goods dest)
+call_spends moment l m MachineCall.Settle t asks = spends_by _ t.part _ refl (settled_lowers _ t.part)
+call_spends moment l m c t asks = spends_by _ t.part (after c t).part (settings_after c t) (same_lowers _ t.part.held)
 
 -- ---- an instruction, accepted or not, and where memory is refused in it
 module _ (x : Instruction) (m : Machine) where
   abbrev Spoken : MachineWithGoods → Type 0
-  Spoken t = LowersOnly (speaker_of m) m.part.held t.part.held
+  Spoken t = SpendsOnly (speaker_of m) m.part t.part
 
   spoken_then : (c : MachineCall) (t : MachineWithGoods) → HasReason Moment.Inside (out-Instruction x) m t c → IsFrom m t → Spoken t → Spoken (after c t)
-  spoken_then c t asks from h = then_lowers (speaker_of m) m.part.held t.part.held (after c t).part.held h
-      (subst (λ (s : Settings). LowersOnly (speaker_at s.site m.regs.origin) t.part.held (after c t).part.held) from.settings (call_lowers Moment.Inside (out-Instruction x) m c t asks))
+  spoken_then c t asks from h = then_spends (IsSpeaker (speaker_of m)) m.part t.part (after c t).part h
+      (subst (λ (s : Settings). SpendsOnly (speaker_at s.site m.regs.origin) t.part (after c t).part) from.settings (call_spends Moment.Inside (out-Instruction x) m c t asks))
 
-  pub done_lowers : LowersOnly (speaker_of m) m.part.held (xcm.done x m).part.held
-  done_lowers = each_keeps (out-Instruction x) m Spoken spoken_then (λ t from h. h) (same_lowers (speaker_of m) m.part.held)
+  pub done_spends : SpendsOnly (speaker_of m) m.part (xcm.done x m).part
+  done_spends = each_keeps (out-Instruction x) m Spoken spoken_then (λ t from h. h) (same_spends (IsSpeaker (speaker_of m)) m.part)
 
-  pub halted_lowers : (now : Machine) → Halted xcm spills x m now → LowersOnly (speaker_of m) m.part.held now.part.held
-  halted_lowers now h = halted_keeps x m Spoken (λ c t asks from ok k. spoken_then c t asks from k) (λ t from k. k) now h (same_lowers (speaker_of m) m.part.held)
+  pub halted_spends : (now : Machine) → Halted xcm spills x m now → SpendsOnly (speaker_of m) m.part now.part
+  halted_spends now h = halted_keeps x m Spoken (λ c t asks from ok k. spoken_then c t asks from k) (λ t from k. k) now h (same_spends (IsSpeaker (speaker_of m)) m.part)
 
 -- ---- ClearOrigin lowers nothing
-module _ (s : Option (List ℕ)) (a : Held) (m : Machine) (h : LowersOnly s a m.part.held) where
-  as_was : (now k : Machine) → now ≡ k → LowersOnly s a k.part.held → LowersOnly s a now.part.held
-  as_was now k e h = subst (λ (n : Machine). LowersOnly s a n.part.held) (sym e) h
+module _ (s : Option (List ℕ)) (a : ChainPart) (m : Machine) (h : SpendsOnly s a m.part) where
+  as_was : (now k : Machine) → now ≡ k → SpendsOnly s a k.part → SpendsOnly s a now.part
+  as_was now k e h = subst (λ (n : Machine). SpendsOnly s a n.part) (sym e) h
 
-  clear_spilled : (now : Machine) (l : Instruction-F Instruction) → l ≡ Instruction-F.ClearOrigin → Spilled l m now → LowersOnly s a now.part.held
+  clear_spilled : (now : Machine) (l : Instruction-F Instruction) → l ≡ Instruction-F.ClearOrigin → Spilled l m now → SpendsOnly s a now.part
   clear_spilled now l is spilt = ⊎_elim (λ (e : now ≡ m). as_was now m e h) (λ (stops : Stops l m now). absurd (subst (λ (k : Instruction-F Instruction). Stops k m now) is stops)) spilt
 
-  clear_performed : (now : Machine) (answer : Result (Unit {0}) XcmError) → Performed xcm (roll-Instruction Instruction-F.ClearOrigin) m answer now → LowersOnly s a now.part.held
+  clear_performed : (now : Machine) (answer : Result (Unit {0}) XcmError) → Performed xcm (roll-Instruction Instruction-F.ClearOrigin) m answer now → SpendsOnly s a now.part
   clear_performed now (Ok tt') p =
       as_was now (xcm.done (roll-Instruction Instruction-F.ClearOrigin) m) p.1
-      (subst (λ (l : Instruction-F Instruction). LowersOnly s a (done l m).part.held) (sym (out-roll-Instruction Instruction-F.ClearOrigin)) h)
+      (subst (λ (l : Instruction-F Instruction). SpendsOnly s a (done l m).part) (sym (out-roll-Instruction Instruction-F.ClearOrigin)) h)
   clear_performed now (Err e) p = as_was now m p.1 h
 
-  pub clear_halted : (now : Machine) → Halted xcm spills (roll-Instruction Instruction-F.ClearOrigin) m now → LowersOnly s a now.part.held
+  pub clear_halted : (now : Machine) → Halted xcm spills (roll-Instruction Instruction-F.ClearOrigin) m now → SpendsOnly s a now.part
   clear_halted now k =
       ⊎_elim (λ (spilt : spills (roll-Instruction Instruction-F.ClearOrigin) m now). clear_spilled now (out-Instruction (roll-Instruction Instruction-F.ClearOrigin)) (out-roll-Instruction Instruction-F.ClearOrigin) spilt)
       (λ (p : (answer : Result (Unit {0}) XcmError) × Performed xcm (roll-Instruction Instruction-F.ClearOrigin) m answer now). clear_performed now p.0 p.1) k

@@ -1,6 +1,9 @@
 pub mod Lowering
+pub mod Spending
 pub mod Acts
 pub mod Runs
 pub mod Messages
 pub mod Steps
 pub mod Sovereigns
+pub mod Products
+pub mod ProductWorlds

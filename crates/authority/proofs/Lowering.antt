@@ -1,22 +1,28 @@
 -- What moves between accounts lower.
-use Rattle.std.proofs.Common.{◌≡◌, ℕ, ◌≤◌, List, Option, Some, None, inl, inr, sym, ap, ◌∙◌, arith, true≢false, ltb-true, ltb-false}
+use Rattle.std.proofs.Common.{◌≡◌, ◌⊎◌, ℕ, ◌<◌, ◌≤◌, Bool, true, false, List, Option, Some, None, inl, inr, sym, ap, ◌∙◌, arith, true≢false, ltb-true, ltb-false}
 use Rattle.std.specs.Prelude.{nat_lt}
 use Rattle.std.specs.Ordering.{eq_by_cmp}
 use Rattle.std.proofs.lemmas.Bool.{cases_Bool}
-use Rattle.amounts.specs.Amounts.{amount, merge, difference}
+use Rattle.amounts.specs.Amounts.{amount, total, merge, difference, amount-total}
 use Rattle.amounts.specs.Laws.{same_key, key_same, amount-merge}
 use Rattle.locations.specs.declared.relative.Location.{Location}
 use Rattle.asset_lists.specs.declared.units.Asset.{Asset}
 use Rattle.asset_lists.specs.Units.{Unit}
 use Rattle.asset_bundles.specs.Bundles.{Bundle, bundle_of}
 use Rattle.trust_tables.specs.Accounts.{account_of}
-use Rattle.ledgers.specs.Ledgers.{Holder, account_cmp, Held, held_by, Withdrawn, Deposited}
+use Rattle.ledgers.specs.Ledgers.{Holder, account_cmp, holder_cmp, Held, held_by, Withdrawn, Deposited}
 use Rattle.ledgers.specs.Laws.{account_keys, holder_keys, less_other}
+use Rattle.call_dispatch.specs.Spelling.{AnyCall}
+use Rattle.row_accounts.specs.Laws.{more_called}
+use Rattle.exec_base.specs.Calls.{floors_of, held_dispatched}
 use Rattle.exec_base.specs.Part.{ChainPart, accounts_of}
 use Rattle.exec_base.specs.Host.{at_account, given, got, settled}
-use Rattle.authority.specs.Origins.{LowersOnly}
 
 -- ---- the relation
+-- no account but this one, or none at all, has less of any unit than before
+abbrev pub LowersOnly : Option (List ℕ) → Held → Held → Type 0
+LowersOnly speaker old new = (who : List ℕ) (unit : Unit) → amount new (who, unit) < amount old (who, unit) → speaker ≡ Some who
+
 pub raises_lower : (s : Option (List ℕ)) (a b : Held) → ((h : Holder) → amount a h ≤ amount b h) → LowersOnly s a b
 raises_lower s a b more = λ who unit less. absurd (let m = more (who, unit) in omega (arith, m, less))
 
@@ -28,9 +34,6 @@ then_lowers s a b c h k = λ who unit less. elim (cases_Bool (nat_lt (amount b (
   | inl lower ↦ h who unit (ltb-true _ _ lower)
   | inr higher ↦ k who unit (let m = ltb-false _ _ higher in omega (arith, m, less))
 ]
-
-pub none_lowers : (s : Option (List ℕ)) (a b : Held) → LowersOnly None a b → LowersOnly s a b
-none_lowers s a b h = λ who unit less. absurd (let e = h who unit less in cc)
 
 -- ---- out of an account
 other_unless : (held : Held) (who : List ℕ) (goods : Bundle) (one : List ℕ) (unit : Unit) → (who ≡ one → ⊥) → amount (difference held (held_by who goods)) (one, unit) ≡ amount held (one, unit)
@@ -76,3 +79,26 @@ merged_raises held more h = let sum = amount-merge holder_keys held more h in om
 pub settled_lowers : (s : Option (List ℕ)) (p : ChainPart) → LowersOnly s p.held (settled p).held
 unfolding settled
 settled_lowers s p = raises_lower s p.held _ (merged_raises p.held _)
+
+-- ---- calls of the chain
+caller_alone : (who : List ℕ) (old new : Held) → ((t : Holder → Bool) → ((u : Unit) → t (who, u) ≡ false) → total t old ≤ total t new) → LowersOnly (Some who) old new
+caller_alone who old new others w unit less = by_case (cases_Bool (eq_by_cmp account_cmp w who))
+  where
+    apart : eq_by_cmp account_cmp w who ≡ false → (u : Unit) → eq_by_cmp holder_cmp (w, unit) (who, u) ≡ false
+    apart other u =
+        elim (cases_Bool (eq_by_cmp holder_cmp (w, unit) (who, u))) [
+          | inl same ↦ absurd (let keys : (w, unit) ≡ (who, u) = key_same holder_keys (w, unit) (who, u) same in
+              let e : eq_by_cmp account_cmp w who ≡ true = ap (λ (h : Holder). eq_by_cmp account_cmp w h.0) (sym keys) ∙ same_key account_keys w in cc)
+          | inr is ↦ is
+        ]
+
+    by_case : (eq_by_cmp account_cmp w who ≡ true) ⊎ (eq_by_cmp account_cmp w who ≡ false) → Some who ≡ Some w
+    by_case (inl same) = ap Some (sym (key_same account_keys w who same))
+    by_case (inr other) = absurd (
+        let more = others (eq_by_cmp holder_cmp (w, unit)) (apart other) in
+        let was = amount-total holder_keys old (w, unit) in
+        let now = amount-total holder_keys new (w, unit) in
+        omega (arith, less, more, was, now))
+
+pub dispatched_lowers : (p : ChainPart) (who : List ℕ) (c : AnyCall) → LowersOnly (Some who) p.held (held_dispatched p who c)
+dispatched_lowers p who c = caller_alone who p.held _ (λ t without. more_called p.rows p.held (floors_of p) who c t without)

@@ -1,11 +1,9 @@
--- A message of one of the five shapes lowers its origin's account alone: what isn't behind ClearOrigin is one instruction.
-use Rattle.std.proofs.Common.{◌≡◌, ℕ, zero, suc, ◌+◌, List, [], ◌∷◌, Option, Some, None, Result, Ok, Err, ⊎_elim, refl, sym, ap, subst}
+-- A message of one of the seven shapes lowers its origin's account alone, and pools': what isn't behind ClearOrigin is one instruction.
+use Rattle.std.proofs.Common.{◌≡◌, ℕ, zero, suc, ◌+◌, true, List, [], ◌∷◌, Option, Some, None, Result, Ok, Err, ⊎_elim, refl, sym, ap, ◌∙◌, subst}
 use Rattle.std.specs.Prelude.{⊤}
 use Rattle.chain_ids.specs.declared.chain.ChainId.{ChainId}
 use Rattle.locations.specs.declared.relative.Location.{Location}
 use Rattle.message_parts.specs.declared.error.XcmError.{XcmError}
-use Rattle.message_parts.specs.declared.query.Response.{Response}
-use Rattle.message_parts.specs.declared.weight.Weight.{Weight}
 use Rattle.asset_lists.specs.declared.units.Asset.{Asset}
 use Rattle.asset_bundles.specs.declared.shipment.Way.{Way}
 use Rattle.trust_tables.specs.declared.chains.Site.{Site}
@@ -18,7 +16,8 @@ use Rattle.channel_parts.specs.declared.cargo.Cargo.{Cargo}
 use Rattle.channel_parts.specs.declared.cargo.Cargo.TheVariants.{Nothing, Deposit, Away}
 use Rattle.exec_base.specs.declared.event.Event.{Event}
 use Rattle.exec_base.specs.declared.event.Part.{Part}
-use Rattle.exec_base.specs.declared.event.Part.TheVariants.{Program}
+use Rattle.exec_base.specs.declared.event.Part.TheVariants.{Program, Appendix}
+use Rattle.chain_pools.specs.Spending.{IsSpeaker}
 use Rattle.exec_base.specs.Part.{ChainPart}
 use Rattle.exec_base.specs.Sending.{led_by, away_program}
 use Rattle.exec_base.specs.Host.{told}
@@ -33,10 +32,10 @@ use Rattle.exec_admission.specs.declared.admission.Admitted.{Admitted}
 use Rattle.exec_admission.specs.Execution.{first_machine, first_stage, last_machine, executed_by, AbandonedIn}
 use Rattle.exec_calls.specs.Calls.{between}
 use Rattle.exec_keeping.specs.KeptLaws.{any_kind, keeps_reached, go_on_kept}
-use Rattle.message_shapes.specs.Shapes.{IsAnswer, IsLedByClaim, IsShape}
-use Rattle.authority.specs.Origins.{speaker_at, speaker_of, LowersOnly}
-use Rattle.authority.proofs.Lowering.{same_lowers, then_lowers, none_lowers}
-use Rattle.authority.proofs.Acts.{done_lowers, halted_lowers, clear_halted}
+use Rattle.message_shapes.specs.Shapes.{stands_alone, IsAlone, IsLedByClaim, IsShape}
+use Rattle.authority.specs.Origins.{speaker_at, speaker_of, SpendsOnly}
+use Rattle.authority.specs.SpendingLaws.{same_spends, then_spends, none_spends}
+use Rattle.authority.proofs.Acts.{done_spends, halted_spends, clear_halted}
 use Rattle.authority.proofs.Runs.{HasNoSpeaker, no_speaker_is_kept, finished_lowers, at_end_lowers, abandoned_lowers}
 
 -- ---- a message at its receiver
@@ -49,49 +48,53 @@ module _ (rules : ChainRules) (origin : Location) (p : ChainPart) where
 
   -- where the run stands, and whatever is left where memory is refused there
   abbrev Safe : Stage → Type 0
-  Safe (At part place x behind m) = LowersOnly may p.held m.part.held × ((left : Machine) → Halted xcm spills x m left → LowersOnly may p.held left.part.held)
-  Safe (Ended m) = LowersOnly may p.held m.part.held
+  Safe (At part place x behind m) = SpendsOnly may p m.part × ((left : Machine) → Halted xcm spills x m left → SpendsOnly may p left.part)
+  Safe (Ended m) = SpendsOnly may p m.part
 
-  lowers_of : (g : Stage) → Safe g → LowersOnly may p.held (machine_of g).part.held
+  lowers_of : (g : Stage) → Safe g → SpendsOnly may p (machine_of g).part
   lowers_of (At part place x behind m) s = s.0
   lowers_of (Ended m) s = s
 
-  safe_no_speaker : (g : Stage) → HasNoSpeaker may p.held (between (machine_of g)) → Safe g
+  safe_no_speaker : (g : Stage) → HasNoSpeaker may p (between (machine_of g)) → Safe g
   safe_no_speaker (At part place x behind m) q = (
     q.lowers,
-    λ left k. then_lowers may p.held m.part.held left.part.held q.lowers
-        (none_lowers may m.part.held left.part.held (subst (λ (s : Option (List ℕ)). LowersOnly s m.part.held left.part.held) (ap (speaker_at m.part.site) q.silent) (halted_lowers x m left k))),
+    λ left k. then_spends (IsSpeaker may) p m.part left.part q.lowers
+        (none_spends may m.part left.part (subst (λ (s : Option (List ℕ)). SpendsOnly s m.part left.part) (ap (speaker_at m.part.site) q.silent) (halted_spends x m left k))),
   )
   safe_no_speaker (Ended m) q = q.lowers
 
   safe_start : (x : Instruction) (behind : List Instruction) → Safe (At Program 0 x behind start)
-  safe_start x behind = (same_lowers may p.held, λ left k. halted_lowers x start left k)
+  safe_start x behind = (same_spends (IsSpeaker may) p, λ left k. halted_spends x start left k)
 
-  at_end : (n : ℕ) (m : Machine) → LowersOnly may p.held m.part.held → Safe (steps xcm n (Ended m))
+  at_end : (n : ℕ) (m : Machine) → SpendsOnly may p m.part → Safe (steps xcm n (Ended m))
   at_end n m h = subst Safe (sym (steps_end xcm n (Ended m) tt)) h
 
-  first_lowers : (x : Instruction) → LowersOnly may p.held (xcm.done x start).part.held
-  first_lowers x = done_lowers x start
+  first_lowers : (x : Instruction) → SpendsOnly may p (xcm.done x start).part
+  first_lowers x = done_spends x start
+
+  told_first : (x : Instruction) → SpendsOnly may p (traced Program 0 x None (xcm.done x start)).part
+  unfolding told
+  told_first x = let first = first_lowers x in record { settings = first.settings; spends = first.spends }
 
   -- behind ClearOrigin
-  cleared_no_speaker : (m : Machine) → LowersOnly may p.held m.part.held → HasNoSpeaker may p.held (between (xcm.done (roll-Instruction Instruction-F.ClearOrigin) m))
-  cleared_no_speaker m h = subst (λ (l : Instruction-F Instruction). HasNoSpeaker may p.held (between (done l m))) (sym (out-roll-Instruction Instruction-F.ClearOrigin)) (record { silent = refl; lowers = h })
+  cleared_no_speaker : (m : Machine) → SpendsOnly may p m.part → HasNoSpeaker may p (between (xcm.done (roll-Instruction Instruction-F.ClearOrigin) m))
+  cleared_no_speaker m h = subst (λ (l : Instruction-F Instruction). HasNoSpeaker may p (between (done l m))) (sym (out-roll-Instruction Instruction-F.ClearOrigin)) (record { silent = refl; lowers = h })
 
-  told_no_speaker : (m : Machine) (e : Event) → HasNoSpeaker may p.held (between m) → HasNoSpeaker may p.held (between (machine m.regs (told m.part e)))
+  told_no_speaker : (m : Machine) (e : Event) → HasNoSpeaker may p (between m) → HasNoSpeaker may p (between (machine m.regs (told m.part e)))
   unfolding told
-  told_no_speaker m e h = record { silent = h.silent; lowers = h.lowers }
+  told_no_speaker m e h = record { silent = h.silent; lowers = record { settings = h.lowers.settings; spends = h.lowers.spends } }
 
-  after_clear : (n place : ℕ) (behind : List Instruction) (m : Machine) → LowersOnly may p.held m.part.held
-      → HasNoSpeaker may p.held (between (machine_of (steps xcm n (by_answer xcm Program place (roll-Instruction Instruction-F.ClearOrigin) behind m None))))
+  after_clear : (n place : ℕ) (behind : List Instruction) (m : Machine) → SpendsOnly may p m.part
+      → HasNoSpeaker may p (between (machine_of (steps xcm n (by_answer xcm Program place (roll-Instruction Instruction-F.ClearOrigin) behind m None))))
   after_clear n place behind m h =
       let clear = roll-Instruction Instruction-F.ClearOrigin in
       let no_speaker = told_no_speaker (xcm.done clear m) _ (cleared_no_speaker m h) in
       let g = go_on Program (place + 1) behind (traced Program place clear None (xcm.done clear m)) in
-      keeps_reached (HasNoSpeaker may p.held) (no_speaker_is_kept may p.held) g (steps xcm n g) (n, refl) (go_on_kept any_kind (HasNoSpeaker may p.held) (no_speaker_is_kept may p.held) Program (place + 1) behind (traced Program place clear None (xcm.done clear m)) no_speaker)
+      keeps_reached (HasNoSpeaker may p) (no_speaker_is_kept may p) g (steps xcm n g) (n, refl) (go_on_kept any_kind (HasNoSpeaker may p) (no_speaker_is_kept may p) Program (place + 1) behind (traced Program place clear None (xcm.done clear m)) no_speaker)
 
-  from_clear : (n place : ℕ) (behind : List Instruction) (m : Machine) → LowersOnly may p.held m.part.held → Safe (steps xcm n (At Program place (roll-Instruction Instruction-F.ClearOrigin) behind m))
+  from_clear : (n place : ℕ) (behind : List Instruction) (m : Machine) → SpendsOnly may p m.part → Safe (steps xcm n (At Program place (roll-Instruction Instruction-F.ClearOrigin) behind m))
   unfolding steps
-  from_clear zero place behind m h = (h, λ left k. clear_halted may p.held m h left k)
+  from_clear zero place behind m h = (h, λ left k. clear_halted may p m h left k)
   from_clear (suc n) place behind m h =
       let free : refusal_of (roll-Instruction Instruction-F.ClearOrigin) m ≡ None = ap (λ (l : Instruction-F Instruction). refused l m) (out-roll-Instruction Instruction-F.ClearOrigin) in
       subst (λ (o : Option XcmError). Safe (steps xcm n (by_answer xcm Program place (roll-Instruction Instruction-F.ClearOrigin) behind m o))) (sym free) (safe_no_speaker (steps xcm n (by_answer xcm Program place (roll-Instruction Instruction-F.ClearOrigin) behind m None)) (after_clear n place behind m h))
@@ -99,11 +102,11 @@ module _ (rules : ChainRules) (origin : Location) (p : ChainPart) where
   -- the first instruction, refused: no handler and no appendix is there
   refused_first : (n : ℕ) (x : Instruction) (behind : List Instruction) (e : XcmError) → Safe (steps xcm n (by_answer xcm Program 0 x behind start (Some e)))
   unfolding told
-  refused_first n x behind e = at_end n _ (same_lowers may p.held)
+  refused_first n x behind e = let same = same_spends (IsSpeaker may) p in at_end n _ (record { settings = same.settings; spends = same.spends })
 
   led_by_answer : (n : ℕ) (x : Instruction) (behind : List Instruction) (o : Option XcmError) → Safe (steps xcm n (by_answer xcm Program 0 x (roll-Instruction Instruction-F.ClearOrigin ∷ behind) start o))
   unfolding told
-  led_by_answer n x behind None = from_clear n (0 + 1) behind (traced Program 0 x None (xcm.done x start)) (first_lowers x)
+  led_by_answer n x behind None = from_clear n (0 + 1) behind (traced Program 0 x None (xcm.done x start)) (told_first x)
   led_by_answer n x behind (Some e) = refused_first n x (roll-Instruction Instruction-F.ClearOrigin ∷ behind) e
 
   led_safe : (n : ℕ) (first : Instruction-F Instruction) (behind : List Instruction) → Safe (steps xcm n (begin Program (led_by first behind) start))
@@ -111,22 +114,31 @@ module _ (rules : ChainRules) (origin : Location) (p : ChainPart) where
   led_safe zero first behind = safe_start (roll-Instruction first) (roll-Instruction Instruction-F.ClearOrigin ∷ behind)
   led_safe (suc n) first behind = led_by_answer n (roll-Instruction first) behind (refusal_of (roll-Instruction first) start)
 
-  -- a response alone
-  alone_by_answer : (n query : ℕ) (answer : Response) (weight : Weight) (querier : Option Location) (o : Option XcmError)
-      → Safe (steps xcm n (by_answer xcm Program 0 (roll-Instruction (Instruction-F.QueryResponse query answer weight querier)) [] start o))
+  -- one instruction alone
+  no_appendix : (l : Instruction-F Instruction) → stands_alone l ≡ true → (done l start).regs.appendix ≡ []
+  no_appendix (Instruction-F.QueryResponse query answer weight querier) kind = refl
+  no_appendix (Instruction-F.NoteUnlockable asset owner) kind = refl
+  no_appendix (Instruction-F.UnlockAsset asset target) kind = refl
+  no_appendix _ kind = absurd cc
+
+  nothing_kept : (l : Instruction-F Instruction) → stands_alone l ≡ true → (xcm.done (roll-Instruction l) start).regs.appendix ≡ []
+  nothing_kept l kind = ap (λ (k : Instruction-F Instruction). (done k start).regs.appendix) (out-roll-Instruction l) ∙ no_appendix l kind
+
+  none_safe : (n : ℕ) (part : Part) (program : List Instruction) (m : Machine) → program ≡ [] → SpendsOnly may p m.part → Safe (steps xcm n (begin part program m))
+  none_safe n part [] m e h = at_end n m h
+  none_safe n part (x ∷ behind) m e h = absurd cc
+
+  alone_by_answer : (n : ℕ) (l : Instruction-F Instruction) (o : Option XcmError) → stands_alone l ≡ true → Safe (steps xcm n (by_answer xcm Program 0 (roll-Instruction l) [] start o))
   unfolding told
-  alone_by_answer n query answer weight querier None =
-      let l : Instruction-F Instruction = Instruction-F.QueryResponse query answer weight querier in
-      let x = roll-Instruction l in
-      subst (λ (d : Machine). Safe (steps xcm n (go_on Program (0 + 1) [] (traced Program 0 x None d)))) (sym (ap (λ (k : Instruction-F Instruction). done k start) (out-roll-Instruction l))) (at_end n _ (subst (λ (k : Instruction-F Instruction). LowersOnly may p.held (done k start).part.held) (out-roll-Instruction l) (done_lowers x start)))
-  alone_by_answer n query answer weight querier (Some e) = refused_first n (roll-Instruction (Instruction-F.QueryResponse query answer weight querier)) [] e
+  alone_by_answer n l None kind = none_safe n Appendix (xcm.done (roll-Instruction l) start).regs.appendix _ (nothing_kept l kind) (told_first (roll-Instruction l))
+  alone_by_answer n l (Some e) kind = refused_first n (roll-Instruction l) [] e
 
-  alone_safe : (n query : ℕ) (answer : Response) (weight : Weight) (querier : Option Location) → Safe (steps xcm n (begin Program (roll-Instruction (Instruction-F.QueryResponse query answer weight querier) ∷ []) start))
+  alone_safe : (n : ℕ) (l : Instruction-F Instruction) → stands_alone l ≡ true → Safe (steps xcm n (begin Program (roll-Instruction l ∷ []) start))
   unfolding steps
-  alone_safe zero query answer weight querier = safe_start (roll-Instruction (Instruction-F.QueryResponse query answer weight querier)) []
-  alone_safe (suc n) query answer weight querier = alone_by_answer n query answer weight querier (refusal_of (roll-Instruction (Instruction-F.QueryResponse query answer weight querier)) start)
+  alone_safe zero l kind = safe_start (roll-Instruction l) []
+  alone_safe (suc n) l kind = alone_by_answer n l (refusal_of (roll-Instruction l) start) kind
 
-  -- ---- the five shapes
+  -- ---- the seven shapes
   away_safe : (n : ℕ) (way : Way) (list : List Asset) (behind : List Instruction) → Safe (steps xcm n (begin Program (away_program way list behind) start))
   away_safe n Way.Withdrawal list behind = led_safe n (Instruction-F.WithdrawAsset list) behind
   away_safe n Way.Teleport list behind = led_safe n (Instruction-F.ReceiveTeleportedAsset list) behind
@@ -138,42 +150,42 @@ module _ (rules : ChainRules) (origin : Location) (p : ChainPart) where
   shape_safe n here there program (Deposit list) s = subst (Begun n) (sym s.is) (led_safe n (Instruction-F.ReserveAssetDeposited s.list) s.behind)
   shape_safe n here there program (Away shipment) s = subst (Begun n) (sym s.is) (away_safe n shipment.way s.list s.behind)
   shape_safe n here there program Nothing s =
-      ⊎_elim (λ (a : IsAnswer program). subst (Begun n) (sym a.is) (alone_safe n a.query a.answer a.weight a.querier))
+      ⊎_elim (λ (a : IsAlone program). subst (Begun n) (sym a.is) (alone_safe n a.what a.kind))
       (λ (c : IsLedByClaim program). subst (Begun n) (sym c.is) (led_safe n (Instruction-F.ClaimAsset c.list c.ticket) c.behind)) s
 
   safe_at : (here : Site) (there : ChainId) (cargo : Cargo) (a : Admitted) (g : Stage) → IsShape here there a.program cargo → Reaches xcm (first_stage rules origin a p) g → Safe g
   safe_at here there cargo a g shape r = subst Safe r.1 (shape_safe r.0 here there a.program cargo shape)
 
-  pub message_lowers : (here : Site) (there : ChainId) (cargo : Cargo) (r : Result Admitted Outcome) → ((a : Admitted) → r ≡ Ok a → IsShape here there a.program cargo) → LowersOnly may p.held (executed_by rules origin r p).1.held
-  message_lowers here there cargo (Err outcome) shape = same_lowers may p.held
+  pub message_lowers : (here : Site) (there : ChainId) (cargo : Cargo) (r : Result Admitted Outcome) → ((a : Admitted) → r ≡ Ok a → IsShape here there a.program cargo) → SpendsOnly may p (executed_by rules origin r p).1
+  message_lowers here there cargo (Err outcome) shape = same_spends (IsSpeaker may) p
   message_lowers here there cargo (Ok a) shape =
       let last = last_machine rules origin a p in
       let ran = safe_at here there cargo a (run xcm (first_stage rules origin a p)) (shape a refl) (still_to_run (first_stage rules origin a p), refl) in
-      then_lowers may p.held last.part.held (finished xcm last).held (lowers_of (run xcm (first_stage rules origin a p)) ran) (finished_lowers may last)
+      then_spends (IsSpeaker may) p last.part (finished xcm last) (lowers_of (run xcm (first_stage rules origin a p)) ran) (finished_lowers may last)
 
-  pub message_stopped : (here : Site) (there : ChainId) (cargo : Cargo) (a : Admitted) (now : ChainPart) → IsShape here there a.program cargo → AbandonedIn rules origin a p now → LowersOnly may p.held now.held
+  pub message_stopped : (here : Site) (there : ChainId) (cargo : Cargo) (a : Admitted) (now : ChainPart) → IsShape here there a.program cargo → AbandonedIn rules origin a p now → SpendsOnly may p now
   message_stopped here there cargo a now shape h =
       ⊎_elim
       (λ (k : (stopped : Machine) × StoppedIn xcm spills (first_stage rules origin a p) stopped × (now ≡ abandoned stopped.regs stopped.part)).
-      abandoned_lowers may p.held k.0 now k.2 ((safe_at here there cargo a (At k.1.part k.1.place k.1.which k.1.behind k.1.before) shape k.1.reached).1 k.0 k.1.halted))
+      abandoned_lowers may p k.0 now k.2 ((safe_at here there cargo a (At k.1.part k.1.place k.1.which k.1.behind k.1.before) shape k.1.reached).1 k.0 k.1.halted))
       (λ (e : HaltedAtEnd xcm spills (last_machine rules origin a p) now).
       let last = last_machine rules origin a p in
       let ran = safe_at here there cargo a (run xcm (first_stage rules origin a p)) shape (still_to_run (first_stage rules origin a p), refl) in
-      then_lowers may p.held last.part.held now.held (lowers_of (run xcm (first_stage rules origin a p)) ran) (at_end_lowers may last now e)) h
+      then_spends (IsSpeaker may) p last.part now (lowers_of (run xcm (first_stage rules origin a p)) ran) (at_end_lowers may last now e)) h
 
   -- ---- once two instructions were taken, the origin register is empty wherever the run stands
   abbrev Silent : Stage → Type 0
   Silent (At part place x behind m) = m.regs.origin ≡ None
   Silent (Ended m) = ⊤
 
-  silent_no_speaker : (g : Stage) → HasNoSpeaker may p.held (between (machine_of g)) → Silent g
+  silent_no_speaker : (g : Stage) → HasNoSpeaker may p (between (machine_of g)) → Silent g
   silent_no_speaker (At part place x behind m) q = q.silent
   silent_no_speaker (Ended m) q = tt
 
   silent_end : (n : ℕ) (m : Machine) → Silent (steps xcm n (Ended m))
   silent_end n m = subst Silent (sym (steps_end xcm n (Ended m) tt)) tt
 
-  silent_clear : (n place : ℕ) (behind : List Instruction) (m : Machine) → LowersOnly may p.held m.part.held → Silent (steps xcm (suc n) (At Program place (roll-Instruction Instruction-F.ClearOrigin) behind m))
+  silent_clear : (n place : ℕ) (behind : List Instruction) (m : Machine) → SpendsOnly may p m.part → Silent (steps xcm (suc n) (At Program place (roll-Instruction Instruction-F.ClearOrigin) behind m))
   unfolding steps
   silent_clear n place behind m h =
       let free : refusal_of (roll-Instruction Instruction-F.ClearOrigin) m ≡ None = ap (λ (l : Instruction-F Instruction). refused l m) (out-roll-Instruction Instruction-F.ClearOrigin) in
@@ -182,24 +194,24 @@ module _ (rules : ChainRules) (origin : Location) (p : ChainPart) where
 
   silent_by_answer : (n : ℕ) (x : Instruction) (behind : List Instruction) (o : Option XcmError) → Silent (steps xcm (suc n) (by_answer xcm Program 0 x (roll-Instruction Instruction-F.ClearOrigin ∷ behind) start o))
   unfolding told
-  silent_by_answer n x behind None = silent_clear n (0 + 1) behind (traced Program 0 x None (xcm.done x start)) (first_lowers x)
+  silent_by_answer n x behind None = silent_clear n (0 + 1) behind (traced Program 0 x None (xcm.done x start)) (told_first x)
   silent_by_answer n x behind (Some e) = silent_end (suc n) _
 
   led_silent : (n : ℕ) (first : Instruction-F Instruction) (behind : List Instruction) → Silent (steps xcm (suc (suc n)) (begin Program (led_by first behind) start))
   unfolding steps
   led_silent n first behind = silent_by_answer n (roll-Instruction first) behind (refusal_of (roll-Instruction first) start)
 
-  alone_silent_by : (n query : ℕ) (answer : Response) (weight : Weight) (querier : Option Location) (o : Option XcmError)
-      → Silent (steps xcm n (by_answer xcm Program 0 (roll-Instruction (Instruction-F.QueryResponse query answer weight querier)) [] start o))
-  alone_silent_by n query answer weight querier None =
-      let l : Instruction-F Instruction = Instruction-F.QueryResponse query answer weight querier in
-      let x = roll-Instruction l in
-      subst (λ (d : Machine). Silent (steps xcm n (go_on Program (0 + 1) [] (traced Program 0 x None d)))) (sym (ap (λ (k : Instruction-F Instruction). done k start) (out-roll-Instruction l))) (silent_end n _)
-  alone_silent_by n query answer weight querier (Some e) = silent_end n _
+  none_silent : (n : ℕ) (part : Part) (program : List Instruction) (m : Machine) → program ≡ [] → Silent (steps xcm n (begin part program m))
+  none_silent n part [] m e = silent_end n m
+  none_silent n part (x ∷ behind) m e = absurd cc
 
-  alone_silent : (n query : ℕ) (answer : Response) (weight : Weight) (querier : Option Location) → Silent (steps xcm (suc n) (begin Program (roll-Instruction (Instruction-F.QueryResponse query answer weight querier) ∷ []) start))
+  alone_silent_by : (n : ℕ) (l : Instruction-F Instruction) (o : Option XcmError) → stands_alone l ≡ true → Silent (steps xcm n (by_answer xcm Program 0 (roll-Instruction l) [] start o))
+  alone_silent_by n l None kind = none_silent n Appendix (xcm.done (roll-Instruction l) start).regs.appendix _ (nothing_kept l kind)
+  alone_silent_by n l (Some e) kind = silent_end n _
+
+  alone_silent : (n : ℕ) (l : Instruction-F Instruction) → stands_alone l ≡ true → Silent (steps xcm (suc n) (begin Program (roll-Instruction l ∷ []) start))
   unfolding steps
-  alone_silent n query answer weight querier = alone_silent_by n query answer weight querier (refusal_of (roll-Instruction (Instruction-F.QueryResponse query answer weight querier)) start)
+  alone_silent n l kind = alone_silent_by n l (refusal_of (roll-Instruction l) start) kind
 
   away_silent : (n : ℕ) (way : Way) (list : List Asset) (behind : List Instruction) → Silent (steps xcm (suc (suc n)) (begin Program (away_program way list behind) start))
   away_silent n Way.Withdrawal list behind = led_silent n (Instruction-F.WithdrawAsset list) behind
@@ -212,7 +224,7 @@ module _ (rules : ChainRules) (origin : Location) (p : ChainPart) where
   shape_silent n here there program (Deposit list) s = subst (Went n) (sym s.is) (led_silent n (Instruction-F.ReserveAssetDeposited s.list) s.behind)
   shape_silent n here there program (Away shipment) s = subst (Went n) (sym s.is) (away_silent n shipment.way s.list s.behind)
   shape_silent n here there program Nothing s =
-      ⊎_elim (λ (a : IsAnswer program). subst (Went n) (sym a.is) (alone_silent (suc n) a.query a.answer a.weight a.querier))
+      ⊎_elim (λ (a : IsAlone program). subst (Went n) (sym a.is) (alone_silent (suc n) a.what a.kind))
       (λ (c : IsLedByClaim program). subst (Went n) (sym c.is) (led_silent n (Instruction-F.ClaimAsset c.list c.ticket) c.behind)) s
 
   pub cleared : (here : Site) (there : ChainId) (cargo : Cargo) (a : Admitted) (n : ℕ) (part : Part) (place : ℕ) (x : Instruction) (behind : List Instruction) (m : Machine) → IsShape here there a.program cargo

@@ -6,7 +6,7 @@ use Rattle.locations.specs.declared.grammar.Junction.{Junction}
 use Rattle.locations.specs.declared.relative.Location.{Location}
 use Rattle.message_parts.specs.declared.weight.Weight.{Weight}
 use Rattle.trust_tables.specs.declared.chains.Site.{Site}
-use Rattle.ledgers.specs.Ledgers.{Held}
+use Rattle.chain_pools.specs.Spending.{IsSpeaker}
 use Rattle.xcm_program.specs.declared.instruction.Instruction.{Instruction}
 use Rattle.xcm_program.specs.declared.instruction.Instruction.TheOpen.{Instruction-F}
 use Rattle.exec_base.specs.declared.registers.Registers.{Registers}
@@ -25,9 +25,11 @@ use Rattle.exec_calls.specs.Reasons.{IsFrom, Moment, HasReason, ComesAtEnd, Turn
 use Rattle.exec_keeping.specs.Kept.{IsKeptAtEnd, IsKeptByCalls}
 use Rattle.exec_keeping.specs.KeptLaws.{any_kind, abandoned_kept, finished_kept, at_end_kept, keeps_run, keeps_executed, keeps_abandoned}
 use Rattle.network_steps.specs.Acting.{caller}
-use Rattle.authority.specs.Origins.{speaker_at, LowersOnly, IsAtOrBelow}
-use Rattle.authority.proofs.Lowering.{same_lowers, then_lowers, none_lowers, settled_lowers}
-use Rattle.authority.proofs.Acts.{call_lowers}
+use Rattle.authority.specs.Origins.{speaker_at, SpendsOnly, IsAtOrBelow}
+use Rattle.authority.proofs.Lowering.{settled_lowers}
+use Rattle.authority.specs.SpendingLaws.{same_spends, then_spends, none_spends}
+use Rattle.authority.proofs.Spending.{spends_by}
+use Rattle.authority.proofs.Acts.{call_spends}
 
 -- ---- the origin register of a run
 longer : (first who : Location) (path : List Junction) → IsAtOrBelow first (Some who) → IsAtOrBelow first (Some (descended who path))
@@ -58,36 +60,38 @@ pub reached_below : (rules : ChainRules) (origin : Location) (a : Admitted) (p :
 reached_below rules origin a p g r = keeps_run (λ (t : MachineWithGoods). IsAtOrBelow origin t.regs.origin) (below_is_kept origin) rules origin a p g r (starts_at origin)
 
 -- ---- the end of a run lowers nothing
-module _ (s : Option (List ℕ)) (start : Held) where
+module _ (s : Option (List ℕ)) (start : ChainPart) where
   abbrev pub Lowered : MachineWithGoods → Type 0
-  Lowered t = LowersOnly s start t.part.held
+  Lowered t = SpendsOnly s start t.part
 
   end_lowers : (c : MachineCall) (t : MachineWithGoods) → ComesAtEnd c → Lowered t → Lowered (after c t)
   end_lowers (MachineCall.Withdraw list who) t comes h = absurd comes
   end_lowers (MachineCall.Draw fee who) t comes h = absurd comes
   end_lowers (MachineCall.Transfer list from to) t comes h = absurd comes
   end_lowers (MachineCall.TransferOut list from dest xcm) t comes h = absurd comes
+  end_lowers (MachineCall.Dispatch account c) t comes h = absurd comes
+  end_lowers (MachineCall.Exchange want maximal) t comes h = absurd comes
   end_lowers (MachineCall.Deposit who) t comes h = absurd comes
   end_lowers (MachineCall.DepositOut dest xcm) t comes h = absurd comes
-  end_lowers MachineCall.Settle t comes h = then_lowers s start t.part.held (after MachineCall.Settle t).part.held h (settled_lowers s t.part)
-  end_lowers _ t comes h = h
+  end_lowers MachineCall.Settle t comes h = then_spends (IsSpeaker s) start t.part (after MachineCall.Settle t).part h (spends_by s t.part (after MachineCall.Settle t).part refl (settled_lowers s t.part))
+  end_lowers _ t comes h = record { settings = h.settings; spends = h.spends }
 
   pub lowered_at_end : IsKeptAtEnd Lowered
   lowered_at_end = record { closing = λ m t c k asks comes from ok h. end_lowers c t comes h; closed = λ t r holding origin h. h }
 
-pub finished_lowers : (s : Option (List ℕ)) (m : Machine) → LowersOnly s m.part.held (finished xcm m).held
-finished_lowers s m = (finished_kept (Lowered s m.part.held) (lowered_at_end s m.part.held) m (same_lowers s m.part.held)).kept
+pub finished_lowers : (s : Option (List ℕ)) (m : Machine) → SpendsOnly s m.part (finished xcm m)
+finished_lowers s m = (finished_kept (Lowered s m.part) (lowered_at_end s m.part) m (same_spends (IsSpeaker s) m.part)).kept
 
-pub at_end_lowers : (s : Option (List ℕ)) (m : Machine) (now : ChainPart) → HaltedAtEnd xcm spills m now → LowersOnly s m.part.held now.held
-at_end_lowers s m now h = (at_end_kept (Lowered s m.part.held) (lowered_at_end s m.part.held) m now h (same_lowers s m.part.held)).kept
+pub at_end_lowers : (s : Option (List ℕ)) (m : Machine) (now : ChainPart) → HaltedAtEnd xcm spills m now → SpendsOnly s m.part now
+at_end_lowers s m now h = (at_end_kept (Lowered s m.part) (lowered_at_end s m.part) m now h (same_spends (IsSpeaker s) m.part)).kept
 
-pub abandoned_lowers : (s : Option (List ℕ)) (start : Held) (m : Machine) (now : ChainPart) → now ≡ abandoned m.regs m.part → LowersOnly s start m.part.held → LowersOnly s start now.held
+pub abandoned_lowers : (s : Option (List ℕ)) (start : ChainPart) (m : Machine) (now : ChainPart) → now ≡ abandoned m.regs m.part → SpendsOnly s start m.part → SpendsOnly s start now
 abandoned_lowers s start m now is h = (abandoned_kept (Lowered s start) (lowered_at_end s start) m now is h).kept
 
 -- ---- without an origin
-pub record HasNoSpeaker (may : Option (List ℕ)) (start : Held) (t : MachineWithGoods) : Type 0 where
+pub record HasNoSpeaker (may : Option (List ℕ)) (start : ChainPart) (t : MachineWithGoods) : Type 0 where
   pub silent : t.regs.origin ≡ None
-  pub lowers : LowersOnly may start t.part.held
+  pub lowers : SpendsOnly may start t.part
 
 no_speaker_turned : (old new : Option Location) → TurnsOrigin old new → old ≡ None → new ≡ None
 no_speaker_turned old new turns h =
@@ -97,16 +101,16 @@ no_speaker_turned old new turns h =
     (λ (d : (who : Location) × (path : List Junction) × (old ≡ Some who) × (new ≡ Some (descended who path))). absurd (let no_way : None ≡ Some d.0 = sym h ∙ d.2 in cc)) rest) turns
 
 -- what a call lowers where nobody speaks
-no_speaker_called : (may : Option (List ℕ)) (start : Held) (l : Instruction-F Instruction) (m : Machine) (t : MachineWithGoods) (c : MachineCall) (moment : Moment) → HasReason moment l m t c → IsFrom m t → HasNoSpeaker may start t → HasNoSpeaker may start (after c t)
+no_speaker_called : (may : Option (List ℕ)) (start : ChainPart) (l : Instruction-F Instruction) (m : Machine) (t : MachineWithGoods) (c : MachineCall) (moment : Moment) → HasReason moment l m t c → IsFrom m t → HasNoSpeaker may start t → HasNoSpeaker may start (after c t)
 no_speaker_called may start l m t c moment asks from q =
     let silent : m.regs.origin ≡ None = sym (ap (λ (r : Registers). r.origin) from.regs) ∙ q.silent in
     record {
       silent = origin_after c t ∙ q.silent;
-      lowers = then_lowers may start t.part.held (after c t).part.held q.lowers (none_lowers may t.part.held (after c t).part.held
-          (subst (λ (o : Option Location). LowersOnly (speaker_at t.part.site o) t.part.held (after c t).part.held) silent (call_lowers moment l m c t asks)));
+      lowers = then_spends (IsSpeaker may) start t.part (after c t).part q.lowers (none_spends may t.part (after c t).part
+          (subst (λ (o : Option Location). SpendsOnly (speaker_at t.part.site o) t.part (after c t).part) silent (call_spends moment l m c t asks)));
     }
 
-pub no_speaker_is_kept : (may : Option (List ℕ)) (start : Held) → IsKeptByCalls any_kind (HasNoSpeaker may start)
+pub no_speaker_is_kept : (may : Option (List ℕ)) (start : ChainPart) → IsKeptByCalls any_kind (HasNoSpeaker may start)
 no_speaker_is_kept may start = record {
   refunds = tt;
   called = λ x l is q moment m t c k asks from ok h. no_speaker_called may start l m t c moment asks from h;
@@ -114,14 +118,14 @@ no_speaker_is_kept may start = record {
 }
 
 -- ---- a local caller
-pub record SpeaksForCaller (account : List ℕ) (site : Site) (start : Held) (t : MachineWithGoods) : Type 0 where
+pub record SpeaksForCaller (account : List ℕ) (site : Site) (start : ChainPart) (t : MachineWithGoods) : Type 0 where
   pub there : t.part.site ≡ site
   pub below : IsAtOrBelow (caller account) t.regs.origin
-  pub lowers : LowersOnly (Some account) start t.part.held
+  pub lowers : SpendsOnly (Some account) start t.part
 
-either_lowers : (s t : Option (List ℕ)) (a b : Held) → (s ≡ None) ⊎ (s ≡ t) → LowersOnly s a b → LowersOnly t a b
-either_lowers s t a b which h =
-    ⊎_elim (λ (e : s ≡ None). none_lowers t a b (subst (λ (o : Option (List ℕ)). LowersOnly o a b) e h)) (λ (e : s ≡ t). subst (λ (o : Option (List ℕ)). LowersOnly o a b) e h) which
+either_spends : (s t : Option (List ℕ)) (a b : ChainPart) → (s ≡ None) ⊎ (s ≡ t) → SpendsOnly s a b → SpendsOnly t a b
+either_spends s t a b which h =
+    ⊎_elim (λ (e : s ≡ None). none_spends t a b (subst (λ (o : Option (List ℕ)). SpendsOnly o a b) e h)) (λ (e : s ≡ t). subst (λ (o : Option (List ℕ)). SpendsOnly o a b) e h) which
 
 below_speaks : (account : List ℕ) (site : Site) (path : List Junction) → (speaker_at site (Some (descended (caller account) path)) ≡ None) ⊎ (speaker_at site (Some (descended (caller account) path)) ≡ Some account)
 below_speaks account site [] = inr refl
@@ -132,21 +136,21 @@ local_speaks account site None h = inl refl
 local_speaks account site (Some who) h = subst (λ (l : Location). (speaker_at site (Some l) ≡ None) ⊎ (speaker_at site (Some l) ≡ Some account)) (sym h.1) (below_speaks account site h.0)
 
 -- what a call lowers of its speaker's account, it lowers of the caller's
-local_called : (account : List ℕ) (site : Site) (start : Held) (l : Instruction-F Instruction) (m : Machine) (t : MachineWithGoods) (c : MachineCall) (moment : Moment) → HasReason moment l m t c → IsFrom m t → SpeaksForCaller account site start t → SpeaksForCaller account site start (after c t)
+local_called : (account : List ℕ) (site : Site) (start : ChainPart) (l : Instruction-F Instruction) (m : Machine) (t : MachineWithGoods) (c : MachineCall) (moment : Moment) → HasReason moment l m t c → IsFrom m t → SpeaksForCaller account site start t → SpeaksForCaller account site start (after c t)
 local_called account site start l m t c moment asks from v =
     let same : t.regs.origin ≡ m.regs.origin = ap (λ (r : Registers). r.origin) from.regs in
     let speaks = local_speaks account t.part.site m.regs.origin (subst (IsAtOrBelow (caller account)) same v.below) in
     record {
       there = sym (from_site c t) ∙ v.there;
       below = subst (IsAtOrBelow (caller account)) (sym (origin_after c t)) v.below;
-      lowers = then_lowers (Some account) start t.part.held (after c t).part.held v.lowers (either_lowers (speaker_at t.part.site m.regs.origin) (Some account) t.part.held (after c t).part.held speaks (call_lowers moment l m c t asks));
+      lowers = then_spends (IsSpeaker (Some account)) start t.part (after c t).part v.lowers (either_spends (speaker_at t.part.site m.regs.origin) (Some account) t.part (after c t).part speaks (call_spends moment l m c t asks));
     }
   where
     from_site : (c : MachineCall) (t : MachineWithGoods) → t.part.site ≡ (after c t).part.site
     from_site (MachineCall.Take filter) t = refl
     from_site _ t = refl
 
-local_is_kept : (account : List ℕ) (site : Site) (start : Held) → IsKeptByCalls any_kind (SpeaksForCaller account site start)
+local_is_kept : (account : List ℕ) (site : Site) (start : ChainPart) → IsKeptByCalls any_kind (SpeaksForCaller account site start)
 local_is_kept account site start = record {
   refunds = tt;
   called = λ x l is q moment m t c k asks from ok h. local_called account site start l m t c moment asks from h;
@@ -155,14 +159,14 @@ local_is_kept account site start = record {
 
 module _ (rules : ChainRules) (account : List ℕ) (credit : Weight) (program : List Instruction) (p : ChainPart) where
   abbrev Kept : MachineWithGoods → Type 0
-  Kept = SpeaksForCaller account p.site p.held
+  Kept = SpeaksForCaller account p.site p
 
   local_start : Kept (record { regs = started rules (caller account); part = p; goods = empty })
-  local_start = record { there = refl; below = starts_at (caller account); lowers = same_lowers (Some account) p.held }
+  local_start = record { there = refl; below = starts_at (caller account); lowers = same_spends (IsSpeaker (Some account)) p }
 
-  -- an execution for an account lowers that account alone
-  pub local_lowers : LowersOnly (Some account) p.held (executed rules (caller account) credit program p).1.held
-  local_lowers = (keeps_executed Kept (local_is_kept account p.site p.held) rules (caller account) credit program p local_start).kept.lowers
+  -- an execution for an account lowers that account alone, and pools'
+  pub local_lowers : SpendsOnly (Some account) p (executed rules (caller account) credit program p).1
+  local_lowers = (keeps_executed Kept (local_is_kept account p.site p) rules (caller account) credit program p local_start).kept.lowers
 
-  pub local_stopped : (now : ChainPart) → IsAbandoned rules (caller account) credit program p now → LowersOnly (Some account) p.held now.held
-  local_stopped now h = (keeps_abandoned Kept (local_is_kept account p.site p.held) rules (caller account) credit program p now h local_start).kept.lowers
+  pub local_stopped : (now : ChainPart) → IsAbandoned rules (caller account) credit program p now → SpendsOnly (Some account) p now
+  local_stopped now h = (keeps_abandoned Kept (local_is_kept account p.site p) rules (caller account) credit program p now h local_start).kept.lowers

@@ -1,5 +1,5 @@
 -- The accounts of whole chains.
-use Rattle.std.proofs.Common.{◌≡◌, ℕ, ◌≤◌, Bool, true, List, Option, Some, None, inl, inr, refl, sym, ap, ◌∙◌, subst, arith, ltb-true, ltb-false}
+use Rattle.std.proofs.Common.{◌≡◌, ℕ, ◌≤◌, Bool, true, false, true≢false, ⊎_elim, List, Option, Some, None, inl, inr, refl, sym, ap, ◌∙◌, subst, arith, ltb-true, ltb-false}
 use Rattle.std.specs.Prelude.{if◌then◌else◌, nat_lt, slice_get}
 use Rattle.std.specs.Option.{option_map_or}
 use Rattle.std.proofs.lemmas.Bool.{cases_Bool}
@@ -10,10 +10,12 @@ use Rattle.asset_lists.specs.Units.{Unit}
 use Rattle.trust_tables.specs.declared.chains.Site.{Site}
 use Rattle.trust_tables.specs.Chains.{location_of}
 use Rattle.trust_tables.specs.Accounts.{account_of, sovereign_account}
+use Rattle.chain_pools.specs.Exchanges.{pool_account}
+use Rattle.chain_pools.specs.Spending.{IsPoolAccount}
 use Rattle.versioned_xcm.specs.Reading.{message_of}
 use Rattle.network_steps.specs.declared.step_result.StepResult.{StepResult}
 use Rattle.network_steps.specs.Worlds.{Member, chain_of, World, place_of, unchanged}
-use Rattle.network_steps.specs.Steps.{is_sovereign, exec_by, exec_at, exec, nowhere, name_at, Deliver}
+use Rattle.network_steps.specs.Steps.{is_sovereign, exec_by, exec_at, exec, nowhere, name_at, Exec, Deliver}
 use Rattle.message_shapes.specs.StepLaws.{same_one, place_says}
 use Rattle.authority.specs.Speakers.{SpeaksFor}
 use Rattle.authority.proofs.Steps.{exec_authority}
@@ -28,21 +30,31 @@ exec_still : (w : World) (chain : ChainId) (account bytes : List ℕ) → is_sov
 unfolding exec
 exec_still w chain account bytes e = refused_still w (place_of w chain) account bytes e
 
+-- no pool's account is a whole chain's
+pool_plain : (place : ℕ) → is_sovereign (pool_account place) ≡ false
+pool_plain place = refl
+
+no_pool : (place : ℕ) → is_sovereign (pool_account place) ≡ true → ⊥
+no_pool place h = true≢false (sym h ∙ pool_plain place)
+
 pub exec_spares : (w : World) (chain : ChainId) (account bytes : List ℕ) (place : ℕ) (before now : Member) (who : List ℕ) (unit : Unit) → is_sovereign who ≡ true → slice_get w place ≡ Some before
     → slice_get (exec w chain account bytes).world place ≡ Some now → amount before.part.held (who, unit) ≤ amount now.part.held (who, unit)
 exec_spares w chain account bytes place before now who unit whole at there =
     elim (cases_Bool (nat_lt (amount now.part.held (who, unit)) (amount before.part.held (who, unit)))) [
       | inl lower ↦ absurd (let less = ltb-true _ _ lower in
-          let speaks = exec_authority w chain account bytes place before now who unit at there less in
+          ⊎_elim
+          (λ (speaks : SpeaksFor w (Exec chain account bytes) place before who).
           let same : (exec w chain account bytes).world ≡ w = exec_still w chain account bytes (subst (λ (a : List ℕ). is_sovereign a ≡ true) speaks.1 whole) in
           let alike : now ≡ before = same_one (slice_get w place) now before (sym (ap (λ (v : World). slice_get v place) same) ∙ there) at in
           let e = ap (λ (m : Member). amount m.part.held (who, unit)) alike in
           omega (arith, less, e))
+          (λ (pool : IsPoolAccount before.part.pools who). no_pool pool.0 (subst (λ (a : List ℕ). is_sovereign a ≡ true) pool.2 whole))
+          ((exec_authority w chain account bytes place before now at there).spends.lowers who unit less))
       | inr higher ↦ let most = ltb-false _ _ higher in omega (arith, most)
     ]
 
 -- ---- a delivery speaks for the sending chain's
-abbrev Named : Type 0
+abbrev pub Named : Type 0
 Named = (site : Site) (chain : ChainId) (l : Location) → location_of site.chain chain ≡ Some l → account_of l site ≡ Some (sovereign_account site.chain chain)
 
 same_account : (a b : List ℕ) → Some a ≡ Some b → b ≡ a

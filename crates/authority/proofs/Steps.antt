@@ -2,17 +2,14 @@
 use Rattle.std.proofs.Common.{◌≡◌, ℕ, zero, suc, ◌<◌, Bool, true, false, List, [], ◌∷◌, Option, Some, None, Result, Ok, Err, ⊎_elim, refl, sym, ap, ◌∙◌, subst, arith}
 use Rattle.std.specs.Prelude.{if◌then◌else◌, slice_get, slice_set}
 use Rattle.std.specs.Option.{option_map_or, option_and_then}
-use Rattle.amounts.specs.Amounts.{amount}
 use Rattle.chain_ids.specs.declared.chain.ChainId.{ChainId}
 use Rattle.locations.specs.declared.relative.Location.{Location}
 use Rattle.message_parts.specs.declared.error.XcmError.{XcmError}
 use Rattle.message_parts.specs.declared.query.OpenQuery.{OpenQuery}
 use Rattle.message_parts.specs.declared.weight.Weight.{Weight}
-use Rattle.asset_lists.specs.Units.{Unit}
 use Rattle.weight_trader.specs.Purchases.{no_weight}
 use Rattle.trust_tables.specs.declared.chains.Site.{Site}
 use Rattle.trust_tables.specs.Accounts.{account_of}
-use Rattle.ledgers.specs.Ledgers.{Held}
 use Rattle.xcm_program.specs.declared.instruction.Instruction.{Instruction}
 use Rattle.versioned_xcm.specs.declared.faults.MessageFault.{MessageFault}
 use Rattle.versioned_xcm.specs.Reading.{message_of}
@@ -28,53 +25,20 @@ use Rattle.exec_admission.specs.declared.rules.ChainRules.{ChainRules}
 use Rattle.exec_admission.specs.declared.admission.Admitted.{Admitted}
 use Rattle.exec_admission.specs.Admission.{admitted}
 use Rattle.network_steps.specs.declared.step_result.StepResult.{StepResult}
-use Rattle.network_steps.specs.Worlds.{Member, chain_of, World, place_of, with_part, unchanged}
+use Rattle.network_steps.specs.Worlds.{Member, chain_of, World, place_of, with_part, unchanged, Stepped}
 use Rattle.network_steps.specs.Acting.{begun}
 use Rattle.network_steps.specs.Sends.{deliveries_left}
-use Rattle.network_steps.specs.Steps.{is_sovereign, exec_by, exec_at, exec, name_at, run_for, sender_after, receiver_after, delivered, delivery_of, deliver, is_claim, posted, posting, claim_by, claim_on, claim, Link, waiting, next_channel, deliveries, Step, Exec, Deliver, Claim, Drain, Balances, Traps, Queues, Supply, after}
+use Rattle.network_steps.specs.Steps.{is_sovereign, exec_read, exec_by, exec_at, exec, name_at, run_for, sender_after, receiver_after, delivered, delivery_of, deliver, is_claim, posted, posting, claim_by, claim_on, claim, Link, waiting, next_channel, deliveries, Step, Exec, Deliver, Claim, Drain, Balances, Traps, Queues, Supply, after}
+use Rattle.network_steps.specs.CallerLaws.{by_caller}
+use Rattle.chain_pools.specs.Exchanges.{is_pool_account}
 use Rattle.message_shapes.specs.Shapes.{IsShape, IsShaped, AllShaped}
-use Rattle.message_shapes.specs.StepLaws.{same_one, between_says, between_at, place_says, set_read}
-use Rattle.authority.specs.Origins.{LowersOnly}
+use Rattle.message_shapes.specs.StepLaws.{between_says, between_at, place_says}
+use Rattle.chain_pools.specs.Spending.{IsSpeaker}
+use Rattle.authority.specs.Origins.{SpendsOf, SpendsOnly}
 use Rattle.authority.specs.Speakers.{HasAuthority, HaveAuthority, IsAuthorized, AreAuthorized}
+use Rattle.authority.specs.SpendingLaws.{same_spends, spends_more, OnlySpends, none_spent, one_spent, two_spent}
 use Rattle.authority.proofs.Runs.{local_lowers}
 use Rattle.authority.proofs.Messages.{message_lowers}
-
--- ---- a world in which only some fall
-abbrev OnlyFall : World → World → (ℕ → Member → List ℕ → Type 0) → Type 0
-OnlyFall old new Speaks = (place : ℕ) (before now : Member) (who : List ℕ) (unit : Unit) → slice_get old place ≡ Some before → slice_get new place ≡ Some now
-    → amount now.part.held (who, unit) < amount before.part.held (who, unit) → Speaks place before who
-
-fall_of_same : (before now : Member) (who : List ℕ) (unit : Unit) → before.part.held ≡ now.part.held → amount now.part.held (who, unit) < amount before.part.held (who, unit) → ⊥
-fall_of_same before now who unit same less = let e = ap (λ (held : Held). amount held (who, unit)) same in omega (arith, e, less)
-
-none_fall : (w : World) (Speaks : ℕ → Member → List ℕ → Type 0) → OnlyFall w w Speaks
-none_fall w Speaks = λ place before now who unit at there less.
-    absurd (fall_of_same before now who unit (ap (λ (m : Member). m.part.held) (same_one (slice_get w place) before now at there)) less)
-
--- one member was written
-one_falls : (w : World) (i : ℕ) (m y : Member) (Speaks : ℕ → Member → List ℕ → Type 0) → slice_get w i ≡ Some m → ((who : List ℕ) (unit : Unit) → amount y.part.held (who, unit) < amount m.part.held (who, unit) → Speaks i m who)
-    → OnlyFall w (slice_set w i y) Speaks
-one_falls w i m y Speaks is falls = λ place before now who unit at there less.
-    ⊎_elim
-    (λ (e : (place ≡ i) × (now ≡ y)).
-    let same : before ≡ m = same_one (slice_get w place) before m at (ap (slice_get w) e.0 ∙ is) in
-    let less_here : amount y.part.held (who, unit) < amount m.part.held (who, unit) = subst (λ (n : Member). amount n.part.held (who, unit) < amount m.part.held (who, unit)) e.1
-    (subst (λ (b : Member). amount now.part.held (who, unit) < amount b.part.held (who, unit)) same less) in
-    subst (λ (b : Member). Speaks place b who) (sym same) (subst (λ (k : ℕ). Speaks k m who) (sym e.0) (falls who unit less_here)))
-    (λ (e : slice_get w place ≡ Some now). none_fall w Speaks place before now who unit at e less) (set_read w i place y now there)
-
--- one member was written that has as much, and then another
-two_fall : (w : World) (i j : ℕ) (s s' r y : Member) (Speaks : ℕ → Member → List ℕ → Type 0) → slice_get w i ≡ Some s → slice_get w j ≡ Some r → s.part.held ≡ s'.part.held
-    → ((who : List ℕ) (unit : Unit) → amount y.part.held (who, unit) < amount r.part.held (who, unit) → Speaks j r who) → OnlyFall w (slice_set (slice_set w i s') j y) Speaks
-two_fall w i j s s' r y Speaks is_s is_r as_much falls = λ place before now who unit at there less.
-    ⊎_elim
-    (λ (e : (place ≡ j) × (now ≡ y)).
-    let same : before ≡ r = same_one (slice_get w place) before r at (ap (slice_get w) e.0 ∙ is_r) in
-    let less_here : amount y.part.held (who, unit) < amount r.part.held (who, unit) = subst (λ (n : Member). amount n.part.held (who, unit) < amount r.part.held (who, unit)) e.1
-    (subst (λ (b : Member). amount now.part.held (who, unit) < amount b.part.held (who, unit)) same less) in
-    subst (λ (b : Member). Speaks place b who) (sym same) (subst (λ (k : ℕ). Speaks k r who) (sym e.0) (falls who unit less_here)))
-    (λ (e : slice_get (slice_set w i s') place ≡ Some now).
-    one_falls w i s s' Speaks is_s (λ who unit less. absurd (fall_of_same s s' who unit as_much less)) place before now who unit at e less) (set_read (slice_set w i s') j place y now there)
 
 -- ---- local executions
 same_account : (a b : List ℕ) → Some a ≡ Some b → b ≡ a
@@ -83,24 +47,31 @@ same_account a b e = cc
 abbrev CallerSpeaks : World → ChainId → List ℕ → ℕ → Member → List ℕ → Type 0
 CallerSpeaks w chain account place m who = (place_of w chain ≡ Some place) × (who ≡ account)
 
+exec_read_falls : (w : World) (chain : ChainId) (place : ℕ) (m : Member) (account : List ℕ) (read : Result (List Instruction) MessageFault) → place_of w chain ≡ Some place → slice_get w place ≡ Some m
+    → OnlySpends w (exec_read w place m account read).world (CallerSpeaks w chain account)
+exec_read_falls w chain place m account (Err fault) at is = none_spent w (CallerSpeaks w chain account)
+exec_read_falls w chain place m account (Ok program) at is =
+    one_spent w place m _ (CallerSpeaks w chain account) is
+    (let spent = spends_more (IsSpeaker (Some account)) (CallerSpeaks w chain account place m) _ _ (λ who e. (at, same_account account who e)) (local_lowers m.rules account m.rules.limit program (begun (chain_of m) Nothing m.part)) in
+    record { settings = spent.settings; spends = spent.spends })
+
 exec_by_falls : (w : World) (chain : ChainId) (place : ℕ) (m : Member) (account : List ℕ) (read : Result (List Instruction) MessageFault) → place_of w chain ≡ Some place → slice_get w place ≡ Some m
-    → OnlyFall w (exec_by w place m account read).world (CallerSpeaks w chain account)
-exec_by_falls w chain place m account (Err fault) at is = none_fall w (CallerSpeaks w chain account)
-exec_by_falls w chain place m account (Ok program) at is =
-    one_falls w place m _ (CallerSpeaks w chain account) is
-    (λ who unit less. (at, same_account account who (local_lowers m.rules account m.rules.limit program (begun (chain_of m) Nothing m.part) who unit less)))
+    → OnlySpends w (exec_by w place m account read).world (CallerSpeaks w chain account)
+exec_by_falls w chain place m account read at is =
+    by_caller (λ (s : Stepped). OnlySpends w s.world (CallerSpeaks w chain account)) w (is_pool_account m.part.pools account) (exec_read w place m account read) (none_spent w (CallerSpeaks w chain account))
+    (exec_read_falls w chain place m account read at is)
 
 allowed_falls : (w : World) (chain : ChainId) (place : ℕ) (account bytes : List ℕ) (sovereign : Bool) → place_of w chain ≡ Some place
-    → OnlyFall w (if sovereign then unchanged StepResult.SovereignCaller w else option_map_or (λ (m : Member). exec_by w place m account (message_of bytes)) (slice_get w place) (unchanged StepResult.NoSuchChain w)).world (CallerSpeaks w chain account)
-allowed_falls w chain place account bytes true at = none_fall w (CallerSpeaks w chain account)
+    → OnlySpends w (if sovereign then unchanged StepResult.SovereignCaller w else option_map_or (λ (m : Member). exec_by w place m account (message_of bytes)) (slice_get w place) (unchanged StepResult.NoSuchChain w)).world (CallerSpeaks w chain account)
+allowed_falls w chain place account bytes true at = none_spent w (CallerSpeaks w chain account)
 allowed_falls w chain place account bytes false at =
-    elim (slice_get w place) as (λ o. slice_get w place ≡ o → OnlyFall w (option_map_or (λ (m : Member). exec_by w place m account (message_of bytes)) o (unchanged StepResult.NoSuchChain w)).world (CallerSpeaks w chain account)) [
-      | None ↦ λ e. none_fall w (CallerSpeaks w chain account)
+    elim (slice_get w place) as (λ o. slice_get w place ≡ o → OnlySpends w (option_map_or (λ (m : Member). exec_by w place m account (message_of bytes)) o (unchanged StepResult.NoSuchChain w)).world (CallerSpeaks w chain account)) [
+      | None ↦ λ e. none_spent w (CallerSpeaks w chain account)
       | Some m ↦ λ e. exec_by_falls w chain place m account (message_of bytes) at e
     ] refl
 
-exec_at_falls : (w : World) (chain : ChainId) (o : Option ℕ) (account bytes : List ℕ) → place_of w chain ≡ o → OnlyFall w (exec_at w o account bytes).world (CallerSpeaks w chain account)
-exec_at_falls w chain None account bytes at = none_fall w (CallerSpeaks w chain account)
+exec_at_falls : (w : World) (chain : ChainId) (o : Option ℕ) (account bytes : List ℕ) → place_of w chain ≡ o → OnlySpends w (exec_at w o account bytes).world (CallerSpeaks w chain account)
+exec_at_falls w chain None account bytes at = none_spent w (CallerSpeaks w chain account)
 exec_at_falls w chain (Some place) account bytes at = allowed_falls w chain place account bytes (is_sovereign account) at
 
 pub exec_authority : (w : World) (chain : ChainId) (account bytes : List ℕ) → HasAuthority w (Exec chain account bytes) (exec w chain account bytes).world
@@ -111,27 +82,27 @@ exec_authority w chain account bytes = exec_at_falls w chain (place_of w chain) 
 abbrev NoneSpeaks : ℕ → Member → List ℕ → Type 0
 NoneSpeaks place m who = ⊥
 
-posting_falls : (w : World) (i : ℕ) (s : Member) (to : ChainId) (c : Outgoing) (program : List Instruction) (o : Option XcmError) → slice_get w i ≡ Some s → OnlyFall w (posting w i s to c program o).world NoneSpeaks
-posting_falls w i s to c program None is = one_falls w i s (with_part (posted to program s.part) s) NoneSpeaks is (λ who unit less. fall_of_same s s who unit refl less)
-posting_falls w i s to c program (Some e) is = none_fall w NoneSpeaks
+posting_falls : (w : World) (i : ℕ) (s : Member) (to : ChainId) (c : Outgoing) (program : List Instruction) (o : Option XcmError) → slice_get w i ≡ Some s → OnlySpends w (posting w i s to c program o).world NoneSpeaks
+posting_falls w i s to c program None is = one_spent w i s (with_part (posted to program s.part) s) NoneSpeaks is (let same = same_spends (NoneSpeaks i s) s.part in record { settings = same.settings; spends = same.spends })
+posting_falls w i s to c program (Some e) is = none_spent w NoneSpeaks
 
 claiming_falls : (w : World) (i : ℕ) (s : Member) (to : ChainId) (c : Outgoing) (program : List Instruction) (b : Bool) → slice_get w i ≡ Some s
-    → OnlyFall w (if b then posting w i s to c program (channel_refusal (Some c) true program) else unchanged StepResult.NotAClaim w).world NoneSpeaks
+    → OnlySpends w (if b then posting w i s to c program (channel_refusal (Some c) true program) else unchanged StepResult.NotAClaim w).world NoneSpeaks
 claiming_falls w i s to c program true is = posting_falls w i s to c program (channel_refusal (Some c) true program) is
-claiming_falls w i s to c program false is = none_fall w NoneSpeaks
+claiming_falls w i s to c program false is = none_spent w NoneSpeaks
 
-claim_by_falls : (w : World) (i : ℕ) (s : Member) (to : ChainId) (c : Outgoing) (read : Result (List Instruction) MessageFault) → slice_get w i ≡ Some s → OnlyFall w (claim_by w i s to c read).world NoneSpeaks
-claim_by_falls w i s to c (Err fault) is = none_fall w NoneSpeaks
+claim_by_falls : (w : World) (i : ℕ) (s : Member) (to : ChainId) (c : Outgoing) (read : Result (List Instruction) MessageFault) → slice_get w i ≡ Some s → OnlySpends w (claim_by w i s to c read).world NoneSpeaks
+claim_by_falls w i s to c (Err fault) is = none_spent w NoneSpeaks
 claim_by_falls w i s to c (Ok program) is = claiming_falls w i s to c program (is_claim program) is
 
-claim_on_falls : (w : World) (i : ℕ) (s : Member) (to : ChainId) (o : Option Outgoing) (bytes : List ℕ) → slice_get w i ≡ Some s → OnlyFall w (claim_on w i s to o bytes).world NoneSpeaks
-claim_on_falls w i s to None bytes is = none_fall w NoneSpeaks
+claim_on_falls : (w : World) (i : ℕ) (s : Member) (to : ChainId) (o : Option Outgoing) (bytes : List ℕ) → slice_get w i ≡ Some s → OnlySpends w (claim_on w i s to o bytes).world NoneSpeaks
+claim_on_falls w i s to None bytes is = none_spent w NoneSpeaks
 claim_on_falls w i s to (Some c) bytes is = claim_by_falls w i s to c (message_of bytes) is
 
 pub claim_authority : (w : World) (from to : ChainId) (bytes : List ℕ) → HasAuthority w (Claim from to bytes) (claim w from to bytes).world
 unfolding claim
 claim_authority w from to bytes =
-    between_says w from to (unchanged StepResult.NoSuchChain w) (λ i j s r. claim_on w i s (chain_of r) (channel_to (chain_of r) s.part.channels) bytes) (λ x. OnlyFall w x.world NoneSpeaks) (none_fall w NoneSpeaks)
+    between_says w from to (unchanged StepResult.NoSuchChain w) (λ i j s r. claim_on w i s (chain_of r) (channel_to (chain_of r) s.part.channels) bytes) (λ x. OnlySpends w x.world NoneSpeaks) (none_spent w NoneSpeaks)
     (λ i j s r at_i at_j is_s is_r. claim_on_falls w i s (chain_of r) (channel_to (chain_of r) s.part.channels) bytes is_s)
 
 -- ---- deliveries
@@ -149,51 +120,52 @@ told_site : (sender : ChainId) (cargo : Cargo) (p : ChainPart) (e : Event) → (
 unfolding told
 told_site sender cargo p e = refl
 
-told_held : (sender : ChainId) (cargo : Cargo) (p : ChainPart) (e : Event) → (told (begun sender cargo p) e).held ≡ p.held
+told_spends : (may : List ℕ → Type 0) (sender : ChainId) (cargo : Cargo) (p : ChainPart) (e : Event) (q : ChainPart) → SpendsOf may (told (begun sender cargo p) e) q → SpendsOf may p q
 unfolding told
-told_held sender cargo p e = refl
+told_spends may sender cargo p e q h = record { settings = h.settings; spends = h.spends }
 
 module _ (taken : Taken) (let_in : LetIn) where
   -- at the receiver
-  run_lowers : (s r : Member) (x : Waiting) → IsShaped s.part.site (chain_of r) x → LowersOnly (account_of (name_at (chain_of r) (chain_of s)) r.part.site) r.part.held (receiver_after s.part (run_for s r x)).held
-  run_lowers s r x shape =
+  run_spends : (s r : Member) (x : Waiting) → IsShaped s.part.site (chain_of r) x → SpendsOnly (account_of (name_at (chain_of r) (chain_of s)) r.part.site) r.part (receiver_after s.part (run_for s r x))
+  run_spends s r x shape =
       let origin = name_at (chain_of r) (chain_of s) in
       let event = Event.Message (chain_of s) (chain_of r) x.number in
       let p = told (begun (chain_of s) x.cargo r.part) event in
       let lowers = message_lowers r.rules origin p s.part.site (chain_of r) x.cargo (admitted r.rules origin no_weight p.queries x.program)
       (λ a e. let_in s.part.site (chain_of r) x.program x.cargo r.rules origin no_weight p.queries a shape e) in
-      subst (λ (held : Held). LowersOnly (account_of origin r.part.site) held (receiver_after s.part (run_for s r x)).held) (told_held (chain_of s) x.cargo r.part event)
-      (subst (λ (site : Site). LowersOnly (account_of origin site) p.held (receiver_after s.part (run_for s r x)).held) (told_site (chain_of s) x.cargo r.part event) lowers)
+      subst (λ (site : Site). SpendsOnly (account_of origin site) r.part (receiver_after s.part (run_for s r x))) (told_site (chain_of s) x.cargo r.part event)
+      (told_spends (IsSpeaker (account_of origin p.site)) (chain_of s) x.cargo r.part event (receiver_after s.part (run_for s r x)) (record { settings = lowers.settings; spends = lowers.spends }))
 
   module _ (w : World) (from to : ChainId) (all : AllShaped w) (i j : ℕ) (s r : Member) (at_i : place_of w from ≡ Some i) (at_j : place_of w to ≡ Some j) (is_s : slice_get w i ≡ Some s) (is_r : slice_get w j ≡ Some r) where
     is_waiting : (x : Waiting) → option_and_then oldest (channel_to (chain_of r) s.part.channels) ≡ Some x → waiting w from to ≡ Some x
     is_waiting x e = between_at w from to None (λ i j s r. option_and_then oldest (channel_to (chain_of r) s.part.channels)) i j s r at_i at_j is_s is_r ∙ e
 
-    delivered_falls : (x : Waiting) → option_and_then oldest (channel_to (chain_of r) s.part.channels) ≡ Some x → OnlyFall w (delivered w i j s r x).world (SenderSpeaks w from to)
+    delivered_falls : (x : Waiting) → option_and_then oldest (channel_to (chain_of r) s.part.channels) ≡ Some x → OnlySpends w (delivered w i j s r x).world (SenderSpeaks w from to)
     delivered_falls x e =
         let there : chain_of r ≡ to = place_says w to j r at_j is_r in
         let here : chain_of s ≡ from = place_says w from i s at_i is_s in
         let shape : IsShaped s.part.site (chain_of r) x = subst (λ (c : ChainId). IsShaped s.part.site c x) (sym there) (taken w from to i s x all at_i is_s (is_waiting x e)) in
-        two_fall w i j s (with_part (sender_after (chain_of r) (run_for s r x) s.part) s) r (with_part (receiver_after s.part (run_for s r x)) r) (SenderSpeaks w from to) is_s is_r refl
-        (λ who unit less. (
+        two_spent w i j s (with_part (sender_after (chain_of r) (run_for s r x) s.part) s) r (with_part (receiver_after s.part (run_for s r x)) r) (SenderSpeaks w from to) is_s is_r
+        (let same = same_spends (SenderSpeaks w from to i s) s.part in record { settings = same.settings; spends = same.spends })
+        (spends_more (IsSpeaker (account_of (name_at (chain_of r) (chain_of s)) r.part.site)) (SenderSpeaks w from to j r) r.part (receiver_after s.part (run_for s r x))
+        (λ who e. (
           at_j,
-          subst (λ (c : ChainId). account_of (name_at c from) r.part.site ≡ Some who) there
-              (subst (λ (c : ChainId). account_of (name_at (chain_of r) c) r.part.site ≡ Some who) here (run_lowers s r x shape who unit less)),
-        ))
+          subst (λ (c : ChainId). account_of (name_at c from) r.part.site ≡ Some who) there (subst (λ (c : ChainId). account_of (name_at (chain_of r) c) r.part.site ≡ Some who) here e),
+        )) (run_spends s r x shape))
 
     oldest_falls : (o : Option Waiting) → option_and_then oldest (channel_to (chain_of r) s.part.channels) ≡ o
-        → OnlyFall w (option_map_or (λ (message : Waiting). delivered w i j s r message) o (unchanged StepResult.Empty w)).world (SenderSpeaks w from to)
-    oldest_falls None e = none_fall w (SenderSpeaks w from to)
+        → OnlySpends w (option_map_or (λ (message : Waiting). delivered w i j s r message) o (unchanged StepResult.Empty w)).world (SenderSpeaks w from to)
+    oldest_falls None e = none_spent w (SenderSpeaks w from to)
     oldest_falls (Some x) e = delivered_falls x e
 
-    delivery_falls : (o : Option Outgoing) → channel_to (chain_of r) s.part.channels ≡ o → OnlyFall w (delivery_of w i j s r o).world (SenderSpeaks w from to)
-    delivery_falls None e = none_fall w (SenderSpeaks w from to)
+    delivery_falls : (o : Option Outgoing) → channel_to (chain_of r) s.part.channels ≡ o → OnlySpends w (delivery_of w i j s r o).world (SenderSpeaks w from to)
+    delivery_falls None e = none_spent w (SenderSpeaks w from to)
     delivery_falls (Some c) e = oldest_falls (oldest c) (ap (option_and_then oldest) e)
 
   pub deliver_authority : (w : World) (from to : ChainId) → AllShaped w → HasAuthority w (Deliver from to) (deliver w from to).world
   unfolding deliver
   deliver_authority w from to all =
-      between_says w from to (unchanged StepResult.NoSuchChain w) (λ i j s r. delivery_of w i j s r (channel_to (chain_of r) s.part.channels)) (λ x. OnlyFall w x.world (SenderSpeaks w from to)) (none_fall w (SenderSpeaks w from to))
+      between_says w from to (unchanged StepResult.NoSuchChain w) (λ i j s r. delivery_of w i j s r (channel_to (chain_of r) s.part.channels)) (λ x. OnlySpends w x.world (SenderSpeaks w from to)) (none_spent w (SenderSpeaks w from to))
       (λ i j s r at_i at_j is_s is_r. delivery_falls w from to all i j s r at_i at_j is_s is_r (channel_to (chain_of r) s.part.channels) refl)
 
   -- ---- drains, and all steps
@@ -212,10 +184,10 @@ module _ (taken : Taken) (let_in : LetIn) where
     after_authority order w (Deliver from to) all = deliver_authority w from to all
     after_authority order w (Claim from to bytes) all = claim_authority w from to bytes
     after_authority order w Drain all = deliveries_authority (deliveries_left w) order w all
-    after_authority order w Balances all = none_fall w NoneSpeaks
-    after_authority order w Traps all = none_fall w NoneSpeaks
-    after_authority order w Queues all = none_fall w NoneSpeaks
-    after_authority order w Supply all = none_fall w NoneSpeaks
+    after_authority order w Balances all = none_spent w NoneSpeaks
+    after_authority order w Traps all = none_spent w NoneSpeaks
+    after_authority order w Queues all = none_spent w NoneSpeaks
+    after_authority order w Supply all = none_spent w NoneSpeaks
 
     pub worlds_authority : ((order : List Link) (w : World) (step : Step) → AllShaped w → AllShaped (after order w step)) → (order : List Link) (w : World) (steps : List Step) → AllShaped w → AreAuthorized order w steps
     worlds_authority stays order w [] all = tt

@@ -1,2 +1,4 @@
 pub mod Origins
 pub mod Speakers
+pub mod SpendingLaws
+pub mod Products

@@ -1,12 +1,11 @@
 -- For whom an instruction speaks: the account of the origin register, if it has one. Source: xcm-executor's documentation of origins.
-use Rattle.std.specs.Prelude.{◌≡◌, ◌<◌, ⊤, ℕ, List, Option, Some, None, option_and_then}
-use Rattle.amounts.specs.Amounts.{amount}
+use Rattle.std.specs.Prelude.{◌≡◌, ⊤, ℕ, List, Option, Some, None, option_and_then}
 use Rattle.locations.specs.declared.grammar.Junction.{Junction}
 use Rattle.locations.specs.declared.relative.Location.{Location}
-use Rattle.asset_lists.specs.Units.{Unit}
 use Rattle.trust_tables.specs.declared.chains.Site.{Site}
 use Rattle.trust_tables.specs.Accounts.{account_of}
-use Rattle.ledgers.specs.Ledgers.{Held}
+use Rattle.chain_pools.specs.Spending.{IsSpeaker, Spends}
+use Rattle.exec_base.specs.Part.{ChainPart}
 use Rattle.exec_run.specs.Machine.{Machine}
 use Rattle.exec_rules.specs.Origins.{descended}
 
@@ -17,9 +16,15 @@ speaker_at site origin = option_and_then (λ (who : Location). account_of who si
 abbrev pub speaker_of : Machine → Option (List ℕ)
 speaker_of m = speaker_at m.part.site m.regs.origin
 
--- no account but this one, or none at all, has less of any unit than before
-abbrev pub LowersOnly : Option (List ℕ) → Held → Held → Type 0
-LowersOnly speaker old new = (who : List ℕ) (unit : Unit) → amount new (who, unit) < amount old (who, unit) → speaker ≡ Some who
+-- what changes a chain: its settings stay, no account has less of any unit but those that may and those of its
+-- pools, and no pool's product falls but that of a pool whose account may
+pub record SpendsOf (may : List ℕ → Type 0) (old new : ChainPart) : Type 0 where
+  pub settings : new.settings ≡ old.settings
+  pub spends : Spends may old.pools old.held new.held
+
+-- besides pools this account alone may have less, or none at all
+abbrev pub SpendsOnly : Option (List ℕ) → ChainPart → ChainPart → Type 0
+SpendsOnly speaker old new = SpendsOf (IsSpeaker speaker) old new
 
 -- an origin register that is empty, or holds a location that begins with this one
 abbrev pub IsAtOrBelow : Location → Option Location → Type 0

@@ -1,9 +1,8 @@
 -- Whose amounts a step may lower. This project's own rule.
-use Rattle.std.specs.Prelude.{◌≡◌, ◌<◌, ⊤, ℕ, List, [], ◌∷◌, Some, slice_get}
-use Rattle.amounts.specs.Amounts.{amount}
-use Rattle.asset_lists.specs.Units.{Unit}
+use Rattle.std.specs.Prelude.{◌≡◌, ⊤, ℕ, List, [], ◌∷◌, Some, slice_get}
 use Rattle.trust_tables.specs.Accounts.{account_of}
 use Rattle.network_steps.specs.Worlds.{Member, World, place_of, Stepped}
+use Rattle.authority.specs.Origins.{SpendsOf}
 use Rattle.network_steps.specs.Steps.{name_at, Link, drain, Step, Exec, Deliver, Drain, after}
 
 -- the account for which a step speaks, at the member at a place: an execution for its caller, on its chain; a delivery for the sending
@@ -13,10 +12,12 @@ SpeaksFor w (Exec chain account bytes) place member who = (place_of w chain ≡ 
 SpeaksFor w (Deliver from to) place member who = (place_of w to ≡ Some place) × (account_of (name_at to from) member.part.site ≡ Some who)
 SpeaksFor w step place member who = ⊥
 
--- an account that has less of some unit after the step is one for which the step speaks
+-- at each chain an account that has less of some unit after the step is one for which the step speaks, or that of
+-- a pool; and no pool's product falls but that of a pool for whose account the step speaks
 abbrev pub HasAuthority : World → Step → World → Type 0
-HasAuthority old step new = (place : ℕ) (before now : Member) (who : List ℕ) (unit : Unit) → slice_get old place ≡ Some before → slice_get new place ≡ Some now
-    → amount now.part.held (who, unit) < amount before.part.held (who, unit) → SpeaksFor old step place before who
+HasAuthority old step new =
+    (place : ℕ) (before now : Member) → slice_get old place ≡ Some before → slice_get new place ≡ Some now
+    → SpendsOf (SpeaksFor old step place before) before.part now.part
 
 -- each delivery of a drain, in the world that it finds
 abbrev pub HaveAuthority : World → List (Link × Stepped) → Type 0

@@ -1,5 +1,6 @@
 //! Whose amounts fall: laws, as the contracts of functions that do nothing.
 ghost use Rattle.std.specs.Prelude.{◌≡◌, ◌≤◌, ℕ, suc, true, List, Some, None, slice_get};
+ghost use Rattle.std.specs.List.{AllByRecursion};
 ghost use Rattle.amounts.specs.Amounts.{amount};
 ghost use Rattle.asset_lists.specs.Units.{Unit};
 ghost use Rattle.chain_ids.specs.declared.chain.ChainId.{ChainId};
@@ -19,43 +20,46 @@ ghost use Rattle.exec_admission.specs.declared.admission.Admitted.{Admitted};
 ghost use Rattle.exec_admission.specs.Execution.{first_stage, executed, IsAbandoned};
 ghost use Rattle.network_steps.specs.Acting.{caller};
 ghost use Rattle.network_steps.specs.Worlds.{Member, World};
-ghost use Rattle.network_steps.specs.Steps.{is_sovereign, exec, deliver, claim, Link, Step, Exec, Deliver, Claim};
+ghost use Rattle.network_steps.specs.Steps.{is_sovereign, exec, deliver, claim, Link, Step, Exec, Deliver, Claim, worlds};
 ghost use Rattle.message_shapes.specs.Shapes.{IsShape, AllShaped};
-ghost use Rattle.authority.specs.Origins.{speaker_of, LowersOnly, IsAtOrBelow};
+ghost use Rattle.authority.specs.Origins.{speaker_of, SpendsOnly, IsAtOrBelow};
+ghost use Rattle.authority.specs.Products.{NoProductFalls, HaveFewPools};
 ghost use Rattle.authority.specs.Speakers.{SpeaksFor, HasAuthority, IsAuthorized, AreAuthorized};
 
 use message_shapes::{law_of_admitted_messages, law_of_delivered_messages, law_of_shapes};
+use network_steps::law_of_settings;
 use trust_tables::law_of_sovereign_accounts;
 
-/// An instruction lowers no account but that of the origin register: with a register that is empty, or whose location has no account, none.
+/// An instruction lowers no account but that of the origin register, and those of pools: with a register that is empty, or whose location has
+/// no account, only pools'. No pool's product falls but that of a pool whose account the origin register has.
 pub fn law_of_speakers()
-    ensures done { (x : Instruction) (m : Machine) → LowersOnly (speaker_of m) m.part.held (xcm.done x m).part.held }
+    ensures done { (x : Instruction) (m : Machine) → SpendsOnly (speaker_of m) m.part (xcm.done x m).part }
 {}
 
 /// Wherever a run comes, its origin register is empty or holds a location that begins with the origin for which it began. In a run of one of
-/// the five messages it is empty before each instruction from the third on.
+/// the seven messages it is empty before each instruction from the third on.
 pub fn law_of_origin_registers()
     ensures reached { (rules : ChainRules) (origin : Location) (a : Admitted) (p : ChainPart) (g : Stage) → Reaches xcm (first_stage rules origin a p) g → IsAtOrBelow origin (machine_of g).regs.origin }
     ensures cleared { (here : Site) (there : ChainId) (cargo : Cargo) (rules : ChainRules) (origin : Location) (a : Admitted) (p : ChainPart) (n : ℕ) (part : Part) (place : ℕ) (x : Instruction) (behind : List Instruction) (m : Machine)
         → IsShape here there a.program cargo → steps xcm (suc (suc n)) (first_stage rules origin a p) ≡ At part place x behind m → m.regs.origin ≡ None }
 {}
 
-/// An execution for a local caller lowers the caller's account alone, and an execution of one of the five messages the account of its origin
-/// alone; also where memory is refused and the run stops.
+/// An execution for a local caller lowers the caller's account alone, and an execution of one of the seven messages the account of its origin
+/// alone, besides pools, of which no product falls; also where memory is refused and the run stops.
 pub fn law_of_executions()
-    ensures caller { (rules : ChainRules) (account : List ℕ) (credit : Weight) (program : List Instruction) (p : ChainPart) → LowersOnly (Some account) p.held (executed rules (caller account) credit program p).1.held }
+    ensures caller { (rules : ChainRules) (account : List ℕ) (credit : Weight) (program : List Instruction) (p : ChainPart) → SpendsOnly (Some account) p (executed rules (caller account) credit program p).1 }
     ensures message { (here : Site) (there : ChainId) (cargo : Cargo) (rules : ChainRules) (origin : Location) (credit : Weight) (program : List Instruction) (p : ChainPart)
-        → IsShape here there program cargo → LowersOnly (account_of origin p.site) p.held (executed rules origin credit program p).1.held }
+        → IsShape here there program cargo → SpendsOnly (account_of origin p.site) p (executed rules origin credit program p).1 }
     ensures caller_stopped { (rules : ChainRules) (account : List ℕ) (credit : Weight) (program : List Instruction) (p now : ChainPart)
-        → IsAbandoned rules (caller account) credit program p now → LowersOnly (Some account) p.held now.held }
+        → IsAbandoned rules (caller account) credit program p now → SpendsOnly (Some account) p now }
     ensures message_stopped { (here : Site) (there : ChainId) (cargo : Cargo) (rules : ChainRules) (origin : Location) (credit : Weight) (program : List Instruction) (p now : ChainPart)
-        → IsShape here there program cargo → IsAbandoned rules origin credit program p now → LowersOnly (account_of origin p.site) p.held now.held }
+        → IsShape here there program cargo → IsAbandoned rules origin credit program p now → SpendsOnly (account_of origin p.site) p now }
 {
     law_of_admitted_messages();
 }
 
 /// An account that has less of some unit after a step is the caller's, on the chain of an execution, or that of the sending chain at the
-/// receiver of a delivery; so it is in each delivery of a drain. It holds in every network in which the messages that wait have their shapes,
+/// receiver of a delivery, or a pool's, whose product doesn't fall; so it is in each delivery of a drain. It holds in every network in which the messages that wait have their shapes,
 /// as they have from the first world on.
 pub fn law_of_authority()
     ensures exec { (w : World) (chain : ChainId) (account bytes : List ℕ) → HasAuthority w (Exec chain account bytes) (exec w chain account bytes).world }
@@ -75,5 +79,24 @@ pub fn law_of_spent_sovereign_accounts()
         → slice_get (exec w chain account bytes).world place ≡ Some now → amount before.part.held (who, unit) ≤ amount now.part.held (who, unit) }
     ensures deliver { (w : World) (from to : ChainId) (place : ℕ) (member : Member) (who : List ℕ) → slice_get w place ≡ Some member → SpeaksFor w (Deliver from to) place member who → who ≡ sovereign_account to from }
 {
+    law_of_sovereign_accounts();
+}
+
+/// No pool's product of reserves falls by a step, nor over any steps, where no chain has more than 2^32 pools: an account of a pool has no
+/// caller, and no chain speaks for one.
+pub fn law_of_pool_products()
+    ensures exec { (w : World) (chain : ChainId) (account bytes : List ℕ) → HaveFewPools w
+        → NoProductFalls w (exec w chain account bytes).world }
+    ensures deliver { (w : World) (from to : ChainId) → AllShaped w → HaveFewPools w
+        → NoProductFalls w (deliver w from to).world }
+    ensures claim { (w : World) (from to : ChainId) (bytes : List ℕ) → HaveFewPools w
+        → NoProductFalls w (claim w from to bytes).world }
+    ensures worlds { (order : List Link) (w : World) (steps : List Step) → AllShaped w
+        → HaveFewPools w → AllByRecursion (NoProductFalls w) (worlds order w steps) }
+{
+    law_of_settings();
+    law_of_shapes();
+    law_of_delivered_messages();
+    law_of_admitted_messages();
     law_of_sovereign_accounts();
 }

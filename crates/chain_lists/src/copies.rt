@@ -8,6 +8,7 @@ ghost use Rattle.network_genesis.specs.Genesis.{query_of, channels_from};
 
 use crate::naming::place_for;
 use chain_ids::ChainId;
+use chain_pools::Pool;
 use channel_parts::Channel;
 use locations::{Junctions, Location};
 use message_parts::{OpenQuery, PalletInfo};
@@ -40,6 +41,21 @@ pub fn copied_pallets(alloc: Global, pallets: &[PalletInfo]) -> Result<Vec<Palle
     let mut copy = Vec::with_capacity(alloc, pallets.len())?;
     for pallet in pallets {
         copy.push(pallet.copy()?)?;
+    }
+    Ok(copy)
+}
+
+/// The same pools.
+pub fn copied_pools(alloc: Global, pools: &[Pool]) -> Result<Vec<Pool>, AllocError>
+    ensures { IfOk result (λ copy. copy.items ≡ pools.now) }
+{
+    let mut copy = Vec::with_capacity(alloc, pools.len())?;
+    for pool in pools {
+        copy.push(Pool {
+            first: pool.first.copy(),
+            second: pool.second.copy(),
+            fee: pool.fee,
+        })?;
     }
     Ok(copy)
 }

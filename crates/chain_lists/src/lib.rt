@@ -8,6 +8,8 @@ mod listing;
 mod naming;
 
 pub use checking::change_all;
-pub use copies::{channels_from, copied_pallets, copied_rows, entry_of, open_queries};
+pub use copies::{
+    channels_from, copied_pallets, copied_pools, copied_rows, entry_of, open_queries,
+};
 pub use listing::{checking_accounts, ids, places};
 pub use naming::{named, place_for};

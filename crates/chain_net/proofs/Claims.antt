@@ -59,7 +59,7 @@ module _ (w : World) (i : ℕ) (s : Member) (to : ChainId) (bytes : List ℕ) wh
 -- ---- what posting leaves of the sender
 pub between_posted : (to : ChainId) (program : List Instruction) (p : ChainPart) → IsBetweenSteps p → IsBetweenSteps (posted to program p)
 between_posted to program p h = record {
-  rest = record { order = record { traps = h.rest.order.traps; rates = h.rest.order.rates; paid = h.rest.order.paid; unparked = h.rest.order.unparked }; slot = h.rest.slot };
+  rest = record { order = record { traps = h.rest.order.traps; rates = h.rest.order.rates; paid = h.rest.order.paid; pools = h.rest.order.pools; unparked = h.rest.order.unparked }; slot = h.rest.slot };
   landed = h.landed;
   told = h.told;
   shipped = changed_listed (listing p.rows) (leads_to to) (with_waiting program Nothing) (waiting_listed (listing p.rows) program Nothing tt) p.channels h.shipped;

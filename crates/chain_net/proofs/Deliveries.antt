@@ -58,7 +58,7 @@ module _ (listed : List Listed) where
 
 pub between_popped : (to : ChainId) (p : ChainPart) → IsBetweenSteps p → IsBetweenSteps (without_message to p)
 between_popped to p h = record {
-  rest = record { order = record { traps = h.rest.order.traps; rates = h.rest.order.rates; paid = h.rest.order.paid; unparked = h.rest.order.unparked }; slot = h.rest.slot };
+  rest = record { order = record { traps = h.rest.order.traps; rates = h.rest.order.rates; paid = h.rest.order.paid; pools = h.rest.order.pools; unparked = h.rest.order.unparked }; slot = h.rest.slot };
   landed = h.landed;
   told = h.told;
   shipped = changed_listed (listing p.rows) (leads_to to) without_oldest (dropped_listed (listing p.rows)) p.channels h.shipped;

@@ -55,7 +55,7 @@ module _ {X : Type 0} where
 -- ---- what stays of a chain
 pub between_booked : (p : ChainPart) (goods : Bundle) → IsBetweenSteps p → IsBetweenSteps (booking_lost goods p)
 between_booked p goods h = record {
-  rest = record { order = record { traps = h.rest.order.traps; rates = h.rest.order.rates; paid = h.rest.order.paid; unparked = h.rest.order.unparked }; slot = h.rest.slot };
+  rest = record { order = record { traps = h.rest.order.traps; rates = h.rest.order.rates; paid = h.rest.order.paid; pools = h.rest.order.pools; unparked = h.rest.order.unparked }; slot = h.rest.slot };
   landed = h.landed;
   told = h.told;
   shipped = h.shipped;
@@ -64,7 +64,7 @@ between_booked p goods h = record {
 
 pub between_telling : (p : ChainPart) (events : List Event) → IsBetweenSteps p → IsBetweenSteps (record p { events = events })
 between_telling p events h = record {
-  rest = record { order = record { traps = h.rest.order.traps; rates = h.rest.order.rates; paid = h.rest.order.paid; unparked = h.rest.order.unparked }; slot = h.rest.slot };
+  rest = record { order = record { traps = h.rest.order.traps; rates = h.rest.order.rates; paid = h.rest.order.paid; pools = h.rest.order.pools; unparked = h.rest.order.unparked }; slot = h.rest.slot };
   landed = h.landed;
   told = h.told;
   shipped = h.shipped;

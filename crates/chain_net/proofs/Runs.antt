@@ -59,14 +59,14 @@ pub begun_is : (p : ChainPart) (sender : ChainId) (cargo : Cargo) → p.kept_bac
 begun_is p sender cargo quiet = λ i. record p { cargo = record { sender = sender; cargo = cargo }; events = []; kept_back = quiet i }
 
 pub rest_begun : (p : ChainPart) (sender : ChainId) (cargo : Cargo) → IsAtRest p → IsAtRest (begun sender cargo p)
-rest_begun p sender cargo rest = record { order = record { traps = rest.order.traps; rates = rest.order.rates; paid = rest.order.paid; unparked = rest.order.unparked }; slot = rest.slot }
+rest_begun p sender cargo rest = record { order = record { traps = rest.order.traps; rates = rest.order.rates; paid = rest.order.paid; pools = rest.order.pools; unparked = rest.order.unparked }; slot = rest.slot }
 
 pub rest_told : (p : ChainPart) (e : Event) → IsAtRest p → IsAtRest (told p e)
 unfolding told
-rest_told p e rest = record { order = record { traps = rest.order.traps; rates = rest.order.rates; paid = rest.order.paid; unparked = rest.order.unparked }; slot = rest.slot }
+rest_told p e rest = record { order = record { traps = rest.order.traps; rates = rest.order.rates; paid = rest.order.paid; pools = rest.order.pools; unparked = rest.order.unparked }; slot = rest.slot }
 
 rest_ended : (p : ChainPart) → IsAtRest p → IsAtRest (ended p)
-rest_ended p rest = record { order = record { traps = rest.order.traps; rates = rest.order.rates; paid = rest.order.paid; unparked = rest.order.unparked }; slot = rest.slot }
+rest_ended p rest = record { order = record { traps = rest.order.traps; rates = rest.order.rates; paid = rest.order.paid; pools = rest.order.pools; unparked = rest.order.unparked }; slot = rest.slot }
 
 pub carrying_begun : (far : List Listed) (p : ChainPart) (sender : ChainId) (cargo : Cargo) → IsBetweenSteps p → IsListedCargo far cargo → IsCarrying far (begun sender cargo p)
 carrying_begun far p sender cargo h listed = record { rest = rest_begun p sender cargo h.rest; shipped_is = h.shipped; landing = listed }
@@ -74,7 +74,7 @@ carrying_begun far p sender cargo h listed = record { rest = rest_begun p sender
 pub carrying_told : (far : List Listed) (p : ChainPart) (e : Event) → IsCarrying far p → IsCarrying far (told p e)
 unfolding told
 carrying_told far p e h = record {
-  rest = record { order = record { traps = h.rest.order.traps; rates = h.rest.order.rates; paid = h.rest.order.paid; unparked = h.rest.order.unparked }; slot = h.rest.slot };
+  rest = record { order = record { traps = h.rest.order.traps; rates = h.rest.order.rates; paid = h.rest.order.paid; pools = h.rest.order.pools; unparked = h.rest.order.unparked }; slot = h.rest.slot };
   shipped_is = h.shipped_is;
   landing = h.landing;
 }

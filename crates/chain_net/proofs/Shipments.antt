@@ -24,8 +24,8 @@ use Rattle.exec_base.specs.declared.event.Event.{Event}
 use Rattle.exec_base.specs.declared.registers.Registers.{Registers}
 use Rattle.exec_base.specs.Part.{ChainPart, Taken}
 use Rattle.exec_base.specs.Sending as sending_to
-use Rattle.exec_base.specs.Sending.{sent}
-use Rattle.exec_base.specs.Host.{withdrawn, received, deposited, transferred, transferred_out, deposited_out, raised_for, shipped, querier_seen, report_program, responded, trapped, settled, told, Arrival, ByWithdrawal, arrival_of, cargo_after, is_cargo}
+use Rattle.exec_base.specs.Sending.{sent, named_sent}
+use Rattle.exec_base.specs.Host.{withdrawn, received, deposited, transferred, transferred_out, deposited_out, raised_for, shipped, querier_seen, report_program, responded, trapped, settled, told, Arrival, ByWithdrawal, arrival_of, cargo_after, is_cargo, lock_key, with_lock, note_program, asset_locked, request_key, with_less_noted, unlock_program, asset_requested}
 use Rattle.exec_run.specs.Outcome.{owner_of, end_event, end_told, refunded_last}
 use Rattle.exec_rules.specs.Instructions.{xcm}
 use Rattle.exec_rules.specs.Readiness.{IsAtRest}
@@ -98,6 +98,19 @@ shipped_listed : (listed : List Listed) (p : ChainPart) (goods : Bundle) (way : 
 unfolding shipped
 shipped_listed listed p goods way dest program held all = sent_listed listed (raised_for p way goods) dest _ (away way goods) held all
 
+named_listed : (listed : List Listed) (p : ChainPart) (dest : Location) (o : Option (List Instruction)) → AreListedIn listed p.channels → AreListedIn listed (named_sent p dest o).channels
+named_listed listed p dest None all = all
+named_listed listed p dest (Some program) all = sent_listed listed p dest program Nothing tt all
+
+locked_listed : (listed : List Listed) (p : ChainPart) (a : Asset) (owner unlocker : Location) → AreListedIn listed p.channels → AreListedIn listed (asset_locked p a owner unlocker).channels
+unfolding asset_locked
+locked_listed listed p a owner unlocker all = named_listed listed (with_lock p a (lock_key p a owner unlocker)) unlocker (note_program p a owner unlocker) all
+
+requested_listed : (listed : List Listed) (p : ChainPart) (a : Asset) (owner locker : Location) → AreListedIn listed p.channels → AreListedIn listed (asset_requested p a owner locker).channels
+unfolding asset_requested
+requested_listed listed p a owner locker all =
+    let key = request_key a owner locker in named_listed listed (with_less_noted p a key) locker (unlock_program p a key locker) all
+
 reported_listed : (listed : List Listed) (p : ChainPart) (info : QueryInfo) (answer : Response) (o : Option (Option Location)) → AreListedIn listed p.channels
     → AreListedIn listed (option_map_or (λ (seen : Option Location). sent p info.destination (report_program info answer seen) Nothing) o p).channels
 reported_listed listed p info answer None all = all
@@ -118,6 +131,8 @@ call_ships (MachineCall.DepositOut dest xcm) t ok h =
 call_ships (MachineCall.Ship way dest xcm) t ok h =
     (listed_after (MachineCall.Ship way dest xcm) t ok h.0, shipped_listed (listing t.part.rows) t.part t.goods way dest xcm h.0.1 h.1)
 call_ships (MachineCall.Respond info answer querier) t ok h = (h.0, responded_listed (listing t.part.rows) t.part info answer querier h.1)
+call_ships (MachineCall.Lock a owner unlocker) t ok h = (h.0, locked_listed (listing t.part.rows) t.part a owner unlocker h.1)
+call_ships (MachineCall.Request a owner locker) t ok h = (h.0, requested_listed (listing t.part.rows) t.part a owner locker h.1)
 call_ships c t ok h = (listed_after c t ok h.0, h.1)
 
 shipped_is_kept : IsKeptByCalls any_kind ListsShipped
@@ -138,7 +153,7 @@ module _ (far : List Listed) (rules : ChainRules) (origin : Location) where
   first_ships p h =
       let none = nothing_listed (listing p.rows) in
       let order = h.rest.order in
-      ((none, none, subst (AreListed (listing p.rows)) (sym h.rest.slot) none, (order.traps, order.rates, order.paid)), h.shipped_is)
+      ((none, none, subst (AreListed (listing p.rows)) (sym h.rest.slot) none, (order.traps, order.rates, order.paid, order.pools)), h.shipped_is)
 
   -- what an execution ships is listed
   pub executed_ships : (credit : Weight) (program : List Instruction) (p : ChainPart) → IsCarrying far p → AreListedIn (listing (executed rules origin credit program p).1.rows) (executed rules origin credit program p).1.channels

@@ -1,11 +1,12 @@
 -- What a network keeps between two steps. This project's own rule.
-use Rattle.std.specs.Prelude.{◌≡◌, ℕ, ◌<◌, Bool, true, false, is_some, List, [], Some, ⊤, slice_get}
+use Rattle.std.specs.Prelude.{◌≡◌, ℕ, ◌<◌, Bool, true, false, IsTrue, is_some, List, [], Some, ⊤, slice_get}
 use Rattle.std.specs.Coded.{Coded, Coded-set, coded_ℕ, coded_bool, coded_list, coded×, coded_option, Π_prop, Unit-prop, le_prop}
 use Rattle.std.specs.FinMap as map
 use Rattle.amounts.specs.Amounts.{amount, empty}
 use Rattle.std.specs.List.{AllByRecursion, AllByRecursion-prop}
 use Rattle.asset_lists.specs.contracts.units.AssetId.{the_row as asset_id}
 use Rattle.asset_lists.specs.contracts.units.Instance.{the_row as instance}
+use Rattle.asset_lists.specs.declared.units.AssetId.TheVariants.{Concrete}
 use Rattle.asset_lists.specs.Units.{Unit}
 use Rattle.asset_lists.specs.Listed.{Listed, listed_of, lists}
 use Rattle.asset_bundles.specs.Bundles.{Bundle}
@@ -19,8 +20,12 @@ use Rattle.channel_parts.specs.declared.cargo.Cargo.{Cargo}
 use Rattle.channel_parts.specs.declared.cargo.Cargo.TheVariants.{Nothing, Deposit, Away}
 use Rattle.channel_parts.specs.Channels.{Waiting, Outgoing}
 use Rattle.chain_queues.specs.Queues.{channel_to}
+use Rattle.chain_pools.specs.declared.pool.Pool.{Pool}
+use Rattle.chain_pools.specs.Exchanges.{coin}
 use Rattle.exec_base.specs.Part.{ChainPart}
 use Rattle.exec_rules.specs.Readiness.{IsInOrder, IsAtRest}
+use Rattle.network_steps.specs.Worlds.{World}
+use Rattle.message_shapes.specs.Shapes.{AllShaped}
 use Rattle.chain_state.specs.declared.state.ChainState.{ChainState}
 use Rattle.chain_state.specs.PartOf.{part_of}
 
@@ -47,6 +52,10 @@ pub record IsBetweenSteps (p : ChainPart) : Type 0 where
 abbrev pub AreBetweenSteps : List ChainState → Type 0
 AreBetweenSteps states = (place : ℕ) (state : ChainState) → slice_get states place ≡ Some state → IsBetweenSteps (part_of state)
 
+-- no message that waits has another shape than the seven; said in this way the fact has one proof at most
+abbrev pub NoneMisshaped : World → Type 0
+NoneMisshaped w = (AllShaped w → ⊥) → ⊥
+
 -- ---- each of these facts has one proof at most, so that a network can keep them: a reader may skip the rest
 abbrev coded_bundle : Coded Bundle
 coded_bundle = map.code (coded× asset_id.coded (coded_option instance.coded)) coded_ℕ
@@ -62,11 +71,19 @@ IsListedCargo-prop listed (Away shipment) = AreListed-prop listed shipment.units
 AreListedIn-prop : (listed : List Listed) (channels : List Outgoing) → IsProp (AreListedIn listed channels)
 AreListedIn-prop listed channels = AllByRecursion-prop _ (λ (c : Outgoing). AllByRecursion-prop _ (λ (x : Waiting). IsListedCargo-prop listed x.cargo) c.queue) channels
 
+pool_listed-prop : (listed : List Listed) (pool : Pool)
+    → IsProp (IsTrue (lists listed (listed_of (coin (Concrete pool.first)))) × IsTrue (lists listed (listed_of (coin (Concrete pool.second)))))
+pool_listed-prop listed pool a b = λ i. (
+  Coded-set coded_bool (lists listed (listed_of (coin (Concrete pool.first)))) true a.0 b.0 i,
+  Coded-set coded_bool (lists listed (listed_of (coin (Concrete pool.second)))) true a.1 b.1 i,
+)
+
 IsInOrder-prop : (p : ChainPart) → IsProp (IsInOrder p)
 IsInOrder-prop p a b = λ i. record {
   traps = AllByRecursion-prop _ (λ (t : Trap). AreListed-prop (listing p.rows) t.goods) p.traps.traps a.traps b.traps i;
   rates = AllByRecursion-prop _ (λ (line : Line). Coded-set coded_bool _ _) p.lines a.rates b.rates i;
   paid = AllByRecursion-prop _ (λ (line : Line). le_prop) p.lines a.paid b.paid i;
+  pools = AllByRecursion-prop _ (λ (pool : Pool). pool_listed-prop (listing p.rows) pool) p.pools a.pools b.pools i;
   unparked = Coded-set (coded_list coded_bundle) p.parked [] a.unparked b.unparked i;
 }
 
@@ -84,3 +101,9 @@ IsBetweenSteps-prop p a b = λ i. record {
 
 pub AreBetweenSteps-prop : (stopped : Bool) (states : List ChainState) → IsProp (stopped ≡ false → AreBetweenSteps states)
 AreBetweenSteps-prop stopped states = Π_prop (λ (going : stopped ≡ false). Π_prop (λ (place : ℕ). Π_prop (λ (state : ChainState). Π_prop (λ (at : slice_get states place ≡ Some state). IsBetweenSteps-prop (part_of state)))))
+
+never_prop : IsProp ⊥
+never_prop a b = absurd a
+
+pub NoneMisshaped-prop : (stopped : Bool) (w : World) → IsProp (stopped ≡ false → NoneMisshaped w)
+NoneMisshaped-prop stopped w = Π_prop (λ (going : stopped ≡ false). Π_prop (λ (other : AllShaped w → ⊥). never_prop))

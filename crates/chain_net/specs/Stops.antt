@@ -18,6 +18,7 @@ use Rattle.exec_admission.specs.Execution.{executed, IsAbandoned}
 use Rattle.network_steps.specs.declared.step_result.StepResult.{StepResult}
 use Rattle.network_steps.specs.Worlds.{Member, World, place_of, with_part}
 use Rattle.network_steps.specs.Acting.{begun, ended, Acted, caller, lost_of, booking_lost}
+use Rattle.chain_pools.specs.Exchanges.{is_pool_account}
 use Rattle.network_steps.specs.Steps.{is_sovereign, name_at, without_message, Link, next_channel, deliveries, world_behind}
 
 -- ---- local executions
@@ -35,6 +36,7 @@ pub record ExecStopsAt (w : World) (chain : ChainId) (account bytes : List ℕ) 
   pub found : place_of w chain ≡ Some place
   pub is : slice_get w place ≡ Some member
   pub local : is_sovereign account ≡ false
+  pub own : is_pool_account member.part.pools account ≡ false
   pub read : message_of bytes ≡ Ok program
   pub part : ChainPart
   pub stopped : IsStoppedHere member.rules account program member.part part

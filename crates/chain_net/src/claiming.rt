@@ -10,6 +10,7 @@ use crate::delivering::waits_for;
 use crate::executing::answer_to;
 use chain_ids::ChainId;
 use exec_base::HostFault;
+use message_shapes::law_of_shapes;
 use network_steps::{StepResult, law_of_decoded_programs};
 use std::alloc::AllocError;
 use versioned_xcm::decode_message;
@@ -44,6 +45,7 @@ impl Net {
         ensures stops { OnErr result (world_of self.new ≡ world_of self.old) }
         ensures spec { spec_of self.new ≡ spec_of self.old }
     {
+        law_of_shapes(); // For the prover alone.
         self.stopped = true;
         self.acted = None;
         let answer = self.try_claim(from, to, bytes)?;

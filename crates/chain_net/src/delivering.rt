@@ -19,6 +19,7 @@ use chain_ids::ChainId;
 use chain_queues::Queued;
 use chain_state::ChainState;
 use exec_admission::ChainRules;
+use message_shapes::law_of_shapes;
 use network_steps::StepResult;
 use std::alloc::{AllocError, Global};
 use xcm_program::Outcome;
@@ -73,6 +74,7 @@ impl Net {
         ensures stops { OnErr result (DeliverStops (world_of self.old) from to (world_of self.new)) }
         ensures spec { spec_of self.new ≡ spec_of self.old }
     {
+        law_of_shapes(); // For the prover alone.
         self.stopped = true;
         self.acted = None;
         let answer = self.try_deliver(from, to)?;

@@ -12,8 +12,8 @@ ghost use Rattle.chain_net.specs.Stops.{DrainStops};
 use crate::Net;
 use crate::delivering::waits_for;
 use chain_ids::ChainId;
+use message_shapes::law_of_drains;
 use network_spec::ChannelSpec;
-use network_steps::law_of_drains;
 use std::alloc::AllocError;
 
 impl Net {

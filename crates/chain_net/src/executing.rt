@@ -11,6 +11,7 @@ ghost use Rattle.chain_net.specs.Stops.{ExecStops};
 use crate::Net;
 use crate::running::run_here;
 use chain_ids::ChainId;
+use message_shapes::law_of_shapes;
 use network_steps::{StepResult, law_of_decoded_programs};
 use std::alloc::AllocError;
 use trust_tables::is_sovereign;
@@ -39,7 +40,7 @@ pub(crate) fn answer_to(fault: MessageFault) -> Result<StepResult, AllocError>
 
 impl Net {
     /// Has a message executed for a local account of the chain, with the chain's limit as its credit: NoSuchChain; SovereignCaller, where
-    /// the account is that of a whole chain; Message, where the bytes are no message; or Ran. `Err` is out of memory: then the network is
+    /// the account is that of a whole chain or of one of the chain's pools; Message, where the bytes are no message; or Ran. `Err` is out of memory: then the network is
     /// stopped.
     pub fn exec(
         &mut self,
@@ -56,6 +57,7 @@ impl Net {
         ensures stops { OnErr result (ExecStops (world_of self.old) chain account.now bytes.now (world_of self.new)) }
         ensures spec { spec_of self.new ≡ spec_of self.old }
     {
+        law_of_shapes(); // For the prover alone.
         self.stopped = true;
         self.acted = None;
         let answer = self.try_exec(chain, account, bytes)?;
@@ -86,13 +88,17 @@ impl Net {
         if is_whole(account) {
             return Ok(StepResult::SovereignCaller);
         }
+        let rules = &self.rules[place];
+        let here = &self.chains[place];
+        if here.has_pool_account(account) {
+            return Ok(StepResult::SovereignCaller);
+        }
         let alloc = *self.chains.allocator();
         let program = match decode_message(alloc, bytes) {
             Ok(program) => program,
             Err(fault) => return answer_to(fault),
         };
         self.acted = Some(place);
-        let rules = &self.rules[place];
         let outcome = run_here(alloc, rules, account, program, &mut self.chains[place])?;
         Ok(StepResult::Ran(outcome))
     }

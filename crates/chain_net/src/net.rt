@@ -1,8 +1,8 @@
 //! What a network keeps.
 ghost use Rattle.std.specs.Prelude.{◌≡◌, IsTrue, length, false};
 ghost use Rattle.chain_net.specs.Order.{are_in_order};
-ghost use Rattle.chain_net.specs.Chains.{names_of};
-ghost use Rattle.chain_net.specs.Sound.{AreBetweenSteps, AreBetweenSteps-prop};
+ghost use Rattle.chain_net.specs.Chains.{names_of, world_in};
+ghost use Rattle.chain_net.specs.Sound.{AreBetweenSteps, AreBetweenSteps-prop, NoneMisshaped, NoneMisshaped-prop};
 
 use chain_ids::ChainId;
 use chain_state::ChainState;
@@ -23,4 +23,5 @@ pub struct Net {
     ghost ruled: { length rules.items ≡ length chains.items },
     ghost named: { names_of chains.items ≡ names.items },
     ghost between: { stopped ≡ false → AreBetweenSteps chains.items } by { AreBetweenSteps-prop stopped chains.items },
+    ghost shaped: { stopped ≡ false → NoneMisshaped (world_in rules.items chains.items) } by { NoneMisshaped-prop stopped (world_in rules.items chains.items) },
 }

@@ -12,6 +12,7 @@ use barriers::Barrier;
 use chain_ids::ChainId;
 use chain_state::ChainState;
 use exec_admission::ChainRules;
+use message_shapes::law_of_shapes;
 use network_spec::{ChainSpec, NetworkSpec};
 use plain_lists::Listed;
 use std::alloc::{AllocError, Global};
@@ -84,6 +85,7 @@ impl Net {
         ensures running { IfOk result (λ net. is_stopped net ≡ false) }
         ensures quiet { IfOk result (λ net. trace_of net ≡ []) }
     {
+        law_of_shapes(); // For the prover alone.
         let names = names(alloc, spec.chains.items())?;
         let rules = all_rules(alloc, spec.chains.items())?;
         let chains = all_states(alloc, &spec)?;

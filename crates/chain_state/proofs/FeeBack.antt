@@ -2,6 +2,7 @@
 use Rattle.std.proofs.Common.{◌≡◌, ℕ, ◌+◌, ◌-◌, ◌^◌, ◌<◌, ◌≤◌, Bool, true, false, not, List, [], ◌∷◌, refl, sym, ap, ◌∙◌, arith, true≢false}
 use Rattle.std.specs.Prelude.{Option, None, Some, is_some, nat_le}
 use Rattle.std.specs.Ordering.{eq_by_cmp}
+use Rattle.std.proofs.lemmas.Bool.Decides.{nat_tests}
 use Rattle.amounts.specs.Rows.{amount_if}
 use Rattle.amounts.specs.Amounts.{amount, difference}
 use Rattle.amounts.specs.Laws.{same_key, amount-map_keys, amount-difference}
@@ -20,7 +21,7 @@ use Rattle.ledgers.specs.Ledgers.{holder_cmp, held_by, is_barred, is_barred_fun,
 use Rattle.ledgers.specs.Laws.{holder_keys}
 use Rattle.exec_base.specs.Part.{ChainPart, accounts_of}
 use Rattle.exec_base.specs.Sending.{unless, or_else}
-use Rattle.exec_base.specs.Host.{first_fault, with_account, give_fault, take_fault, is_price, IsPrice, deposit_refusal}
+use Rattle.exec_base.specs.Host.{first_fault, floor_of, with_account, give_fault, take_fault, is_price, IsPrice, deposit_refusal}
 use Rattle.chain_state.proofs.Trading.{one_held}
 
 same_sum : (n : ℕ) → amount_if true n + 0 ≡ n
@@ -60,12 +61,13 @@ passes : (b : Bool) (e : XcmError) (next : Option XcmError) → unless b e next 
 passes true e next h = (refl, h)
 passes false e next h = absurd (cc)
 
-within : (n m : ℕ) → nat_le n m ≡ true → n ≤ m
-within n m h = grind (arith, h)
+-- what it gives and must keep, it has
+within : (n f m : ℕ) → nat_le (n + f) m ≡ true → n ≤ m
+within n f m h = grind (arith, nat_tests, h)
 
 -- an account that can give: there is a row, and it has enough
 pub gives : (p : ChainPart) (who : List ℕ) (a : Asset) → give_fault p (Some who) a ≡ None → (is_some (row_of p.rows a) ≡ true) × (amount_of a ≤ amount p.held (who, unit_of a))
 gives p who a h =
     let row = passes (is_some (row_of p.rows a)) error.AssetNotFound _ h in
-    let has = passes (nat_le (amount_of a) (amount p.held (who, unit_of a))) error.FailedToTransactAsset None row.1 in
-    (row.0, within (amount_of a) (amount p.held (who, unit_of a)) has.0)
+    let has = passes (nat_le (amount_of a + floor_of p who (unit_of a)) (amount p.held (who, unit_of a))) error.FailedToTransactAsset None row.1 in
+    (row.0, within (amount_of a) (floor_of p who (unit_of a)) (amount p.held (who, unit_of a)) has.0)

@@ -152,7 +152,7 @@ no_bytes (a ∷ xs) h =
       | false ↦ λ g. absurd (true≢false g)
     ] h
 
-moved_place : (target : Location) (context : List Junction) (id new : AssetId) → moved_id target context id ≡ Some new → is_place new ≡ true
+pub moved_place : (target : Location) (context : List Junction) (id new : AssetId) → moved_id target context id ≡ Some new → is_place new ≡ true
 moved_place target context (AssetId.Concrete l) new is =
     elim (reanchored l target context) as (λ r. id_of_result r ≡ Some new → is_place new ≡ true) [
       | Ok m ↦ λ e. ap is_place (some_same (sym e))

@@ -25,3 +25,7 @@ pub mod Shipped
 pub mod Widths
 pub mod FeeSlot
 pub mod Settled
+pub mod Called
+pub mod Locked
+pub mod Floored
+pub mod Exchanged

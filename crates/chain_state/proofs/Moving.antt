@@ -1,8 +1,9 @@
 -- What is refused to an account, and where there is none.
-use Rattle.std.proofs.Common.{◌≡◌, ℕ, Bool, true, false, not, if◌then◌else◌, List, [], ◌∷◌, refl, sym, ap, ◌∙◌, arith, true≢false}
+use Rattle.std.proofs.Common.{◌≡◌, ℕ, ◌+◌, Bool, true, false, not, if◌then◌else◌, List, [], ◌∷◌, refl, sym, ap, ◌∙◌, arith, true≢false}
 use Rattle.std.specs.Prelude.{Option, None, Some, is_some, nat_lt, nat_le, IsSomeAnd}
 use Rattle.std.specs.List.{list_all}
 use Rattle.std.proofs.lemmas.Bool.{and_from, and_parts}
+use Rattle.std.proofs.lemmas.Bool.Decides.{nat_tests}
 use Rattle.message_parts.specs.declared.error.XcmError.{XcmError}
 use Rattle.message_parts.specs.declared.error.XcmError.TheVariants as error
 use Rattle.amounts.specs.Amounts.{amount}
@@ -20,7 +21,7 @@ use Rattle.ledgers.specs.declared.faults.DepositFault.{DepositFault}
 use Rattle.ledgers.specs.declared.faults.TransferFault.{TransferFault}
 use Rattle.exec_base.specs.Part.{ChainPart}
 use Rattle.exec_base.specs.Sending.{unless, or_else}
-use Rattle.exec_base.specs.Host.{first_fault, give_fault, take_fault, given, transfer_refusal}
+use Rattle.exec_base.specs.Host.{first_fault, floor_of, give_fault, take_fault, given, transfer_refusal}
 
 both_none : (x rest : Option XcmError) → or_else x rest ≡ None → (x ≡ None) × (rest ≡ None)
 both_none None rest h = (refl, h)
@@ -55,16 +56,17 @@ rows_given p who (a ∷ rest) h =
     let parts = both_none _ _ h in
     and_from _ _ (passes (is_some (row_of p.rows a)) error.AssetNotFound _ parts.0).0 (rows_given p who rest parts.1)
 
-le_not_lt : (n m : ℕ) → nat_le n m ≡ true → nat_lt m n ≡ false
-le_not_lt n m h = grind (arith, h)
+-- what it gives and must keep, it has
+kept_not_lt : (n f m : ℕ) → nat_le (n + f) m ≡ true → nat_lt m n ≡ false
+kept_not_lt n f m h = grind (arith, nat_tests, h)
 
 pub enough_given : (p : ChainPart) (who : List ℕ) (list : List Asset) → first_fault (give_fault p (Some who)) list ≡ None → shortage p.held who list ≡ None
 enough_given p who [] h = refl
 enough_given p who (a ∷ rest) h =
     let parts = both_none _ _ h in
     let row = passes (is_some (row_of p.rows a)) error.AssetNotFound _ parts.0 in
-    let has = passes (nat_le (amount_of a) (amount p.held (who, unit_of a))) error.FailedToTransactAsset None row.1 in
-    ap (λ b. if b then Some (amount p.held (who, unit_of a)) else shortage p.held who rest) (le_not_lt (amount_of a) (amount p.held (who, unit_of a)) has.0) ∙ enough_given p who rest parts.1
+    let has = passes (nat_le (amount_of a + floor_of p who (unit_of a)) (amount p.held (who, unit_of a))) error.FailedToTransactAsset None row.1 in
+    ap (λ b. if b then Some (amount p.held (who, unit_of a)) else shortage p.held who rest) (kept_not_lt (amount_of a) (floor_of p who (unit_of a)) (amount p.held (who, unit_of a)) has.0) ∙ enough_given p who rest parts.1
 
 -- an account that can take all in: each has a row
 pub rows_taken : (p : ChainPart) (account : Option (List ℕ)) (list : List Asset) → first_fault (take_fault p account) list ≡ None → list_all (λ a. is_some (row_of p.rows a)) list ≡ true

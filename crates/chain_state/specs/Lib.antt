@@ -4,5 +4,9 @@ pub mod Arrivals
 pub mod Sends
 pub mod Claims
 pub mod ListedFees
+pub mod Facts
+pub mod Known
 pub mod Settling
 pub mod Aside
+pub mod Calls
+pub mod Locks

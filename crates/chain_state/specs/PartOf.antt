@@ -15,6 +15,7 @@ part_of s = record {
   parked = s.parked.items;
   burns = s.book.burns;
   checking = s.checking.items;
+  locked = s.locked;
   queries = s.queries.items;
   channels = channels_of s.queues;
   cargo = record { sender = s.sender; cargo = s.cargo };

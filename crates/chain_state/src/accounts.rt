@@ -12,7 +12,7 @@ ghost use Rattle.chain_state.specs.PartOf.{part_of};
 use crate::ChainState;
 use crate::arrivals::ArrivalCall;
 use crate::carried::call_of;
-use asset_bundles::AssetBundle;
+use asset_bundles::{AssetBundle, law_of_bundles};
 use asset_lists::{Asset, Assets};
 use chain_queues::Cargo;
 use exec_base::HostFault;
@@ -30,6 +30,7 @@ impl ChainState {
     ) -> Result<AssetBundle, HostFault>
         ensures { Answers (withdraw_refusal (part_of self.old) list.now who.now) (bundle_of list.now) (given (part_of self.old) list.now who.now) (part_of self.old) result (part_of self.new) }
     {
+        law_of_bundles();
         let account = account_of(who, &self.settings.site);
         if let Some(error) = self.give_refusal(&account, list.items()) {
             return Err(HostFault::Xcm(error));
@@ -139,6 +140,9 @@ impl ChainState {
         ensures room { self.new.kept_back ≡ self.old.kept_back }
         ensures step { Answers (host.transfer_refusal (part_of self.old) list.now from.now to.now) tt (transferred (part_of self.old) list.now from.now to.now) (part_of self.old) result (part_of self.new) }
     {
+        law_of_bundles();
+        // For the prover alone: no asset stands twice in a list.
+        let _items = list.items();
         if let Some(error) = self.transfer_refusal(list, from, to) {
             return Err(HostFault::Xcm(error));
         }

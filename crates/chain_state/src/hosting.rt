@@ -2,6 +2,7 @@
 use crate::ChainState;
 use asset_bundles::{AssetBundle, Way};
 use asset_lists::{Asset, Assets};
+use call_dispatch::{Call, CallEnd};
 use exec_base::{Event, Host, HostFault};
 use locations::Location;
 use message_parts::{OpenQuery, PalletInfo, QueryInfo, Response, Weight};
@@ -155,6 +156,58 @@ impl Host for ChainState {
 
     fn draw_fee(&mut self, fee: &Asset, who: &Location) -> Result<AssetBundle, HostFault> {
         self.take_fee_out(fee, who)
+    }
+
+    fn calls(&self) -> bool {
+        self.settings.calls
+    }
+
+    fn dispatch(&mut self, who: &[u8; 32], call: &Call) -> Result<CallEnd, AllocError> {
+        self.dispatch_call(who, call)
+    }
+
+    fn locks(&self) -> bool {
+        self.settings.locks
+    }
+
+    fn lock(
+        &mut self,
+        asset: &Asset,
+        owner: &Location,
+        unlocker: &Location,
+    ) -> Result<u64, HostFault> {
+        self.lock_for(asset, owner, unlocker)
+    }
+
+    fn unlock(
+        &mut self,
+        asset: &Asset,
+        target: &Location,
+        from: &Location,
+    ) -> Result<(), HostFault> {
+        self.unlock_for(asset, target, from)
+    }
+
+    fn note(&mut self, asset: &Asset, owner: &Location, from: &Location) -> Result<(), HostFault> {
+        self.note_for(asset, owner, from)
+    }
+
+    fn request(
+        &mut self,
+        asset: &Asset,
+        owner: &Location,
+        locker: &Location,
+    ) -> Result<u64, HostFault> {
+        self.request_for(asset, owner, locker)
+    }
+
+    fn exchange(
+        &mut self,
+        give: AssetBundle,
+        want: &Assets,
+        maximal: bool,
+    ) -> Result<AssetBundle, (AssetBundle, HostFault)> {
+        self.exchange_for(give, want, maximal)
     }
 
     fn event(&mut self, e: Event) -> Result<(), AllocError> {

@@ -25,10 +25,11 @@ ghost use Rattle.chain_state.specs.ListedFees.{are_fees_listed};
 use crate::ChainState;
 use asset_bundles::{AssetBundle, BurnBook};
 use asset_lists::Asset;
+use asset_locks::LockBook;
 use chain_ids::ChainId;
 use chain_lists::{
-    channels_from, checking_accounts, copied_pallets, copied_rows, entry_of, ids, open_queries,
-    places,
+    channels_from, checking_accounts, copied_pallets, copied_pools, copied_rows, entry_of, ids,
+    open_queries, places,
 };
 use chain_queues::{Cargo, Channel, Queues};
 use exec_base::Settings;
@@ -44,7 +45,7 @@ use weight_trader::{Rate, Trader};
 impl ChainState {
     /// A chain with these rows, pallets, rates, open queries and channels, on which no account holds anything. No two rows list the same
     /// asset, there are fewer than 2^32 of them, and the id of each has a path of at most 8 junctions; no two rates name the same asset,
-    /// and each names a listed one; there are at most 64 pallets; the fee of a channel is an amount above 0 of a fungible asset that is
+    /// and each names a listed one; there are at most 64 pallets and 16 pools; the fee of a channel is an amount above 0 of a fungible asset that is
     /// listed; and only rows of fungible assets have a checking account.
     pub fn new(
         alloc: Global,
@@ -59,6 +60,7 @@ impl ChainState {
         requires once { NameEachOnce rates.now }
         requires rates { IsTrue (are_rates_listed (listing settings.rows) (new_lines rates.now)) }
         requires few_pallets { length settings.pallets ≤ 64 }
+        requires few_pools { length settings.pools ≤ 16 }
         requires prices { IsTrue (have_prices (map opened channels.items)) }
         requires fees { IsTrue (are_fees_listed (listing settings.rows) (map opened channels.items)) }
         requires checkings { IsTrue (may_have_checkings settings.rows) }
@@ -73,6 +75,7 @@ impl ChainState {
         let spare = Trader::new(alloc, rates)?;
         let queues = Queues::open(alloc, channels)?;
         let parked = Vec::with_capacity(alloc, 4)?;
+        let locked = LockBook::new(alloc);
         Ok(ChainState {
             sender: settings.site.chain,
             settings,
@@ -85,6 +88,7 @@ impl ChainState {
             parked,
             book,
             checking,
+            locked,
             queries,
             queues,
             cargo: Cargo::Nothing,
@@ -122,6 +126,7 @@ impl ChainState {
     {
         let rows = copied_rows(alloc, entry.assets.items())?;
         let pallets = copied_pallets(alloc, entry.pallets.items())?;
+        let pools = copied_pools(alloc, entry.pools.items())?;
         let settings = Settings {
             site: Site {
                 network: spec.network,
@@ -130,6 +135,9 @@ impl ChainState {
             rows: Listed::from_vec(rows),
             pallets: Listed::from_vec(pallets),
             fee_account: entry.fee_account,
+            calls: entry.calls,
+            locks: entry.locks,
+            pools: Listed::from_vec(pools),
         };
         let queries = open_queries(alloc, entry.chain, entry.queries.items())?;
         let channels = channels_from(alloc, entry.chain, spec.channels.items())?;

@@ -1,11 +1,14 @@
 //! What the chain keeps, read.
 ghost use Rattle.std.specs.Prelude.{◌≡◌, ◌≤◌, length};
 ghost use Rattle.exec_base.specs.Part.{accounts_of, book_of};
+ghost use Rattle.chain_pools.specs.Exchanges.{is_pool_account};
 ghost use Rattle.chain_queues.specs.Queues.{channels_of};
 ghost use Rattle.chain_state.specs.PartOf.{part_of};
 
 use crate::ChainState;
 use asset_bundles::{BurnBook, Units};
+use asset_locks::LockBook;
+use chain_pools::is_pool_account;
 use chain_queues::Queues;
 use exec_base::Event;
 use ledgers::{Ledger, TrapStore};
@@ -35,6 +38,13 @@ impl ChainState {
         self.settings.pallets.items()
     }
 
+    /// Whether the account is that of one of its pools, which nobody has.
+    pub fn has_pool_account(&self, account: &[u8; 32]) -> bool
+        ensures { result ≡ is_pool_account (part_of self.now).pools account.now }
+    {
+        is_pool_account(self.settings.pools.items(), account)
+    }
+
     /// The chain's open queries.
     pub fn open_queries(&self) -> &[OpenQuery]
         ensures { result.now ≡ (part_of self.now).queries }
@@ -47,6 +57,13 @@ impl ChainState {
         ensures ledger { result.now ≡ accounts_of (part_of self.now) }
     {
         &self.ledger
+    }
+
+    /// What is locked, and what is noted of locks elsewhere.
+    pub fn lock_book(&self) -> &LockBook
+        ensures locks { result.now ≡ (part_of self.now).locked }
+    {
+        &self.locked
     }
 
     /// What is trapped.

@@ -15,7 +15,7 @@ use trust_tables::{find_row, is_partner, is_reserve};
 impl ChainState {
     /// Whether the chain lists the asset.
     #[tactic(auto, using(crate::proofs::Rows::found_row))]
-    fn has_row(&self, asset: &Asset) -> bool
+    pub(crate) fn has_row(&self, asset: &Asset) -> bool
         ensures { result ≡ is_some (row_of self.now.settings.rows asset.now) }
     {
         find_row(self.settings.rows.items(), asset).is_some()
@@ -31,7 +31,8 @@ impl ChainState {
         match account {
             None => Some(XcmError::FailedToTransactAsset),
             Some(who) => {
-                if asset.amount() <= self.ledger.held_of(who, asset) {
+                let held = self.ledger.held_of(who, asset);
+                if asset.amount() <= held && self.floor_for(who, asset) <= held - asset.amount() {
                     return None;
                 }
                 Some(XcmError::FailedToTransactAsset)

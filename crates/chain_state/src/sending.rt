@@ -67,7 +67,7 @@ pub(crate) fn accepted(
 
 impl ChainState {
     /// The program as it is sent to that location, and the chain that the channel leads to; or why it isn't sent.
-    fn encoded_to(
+    pub(crate) fn encoded_to(
         &self,
         dest: &Location,
         program: &Program,

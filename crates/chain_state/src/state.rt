@@ -1,15 +1,19 @@
 //! What a chain keeps.
-ghost use Rattle.std.specs.Prelude.{◌≡◌, ◌≤◌, length, vec_capacity, IsTrue};
+ghost use Rattle.std.specs.Prelude.{◌≡◌, ◌≤◌, vec_capacity, IsTrue};
 ghost use Rattle.trust_tables.specs.Chains.{path_of_site};
 ghost use Rattle.trust_tables.specs.Trust.{listing};
-ghost use Rattle.network_genesis.specs.Tests.{are_rates_listed, have_paths, have_prices};
+ghost use Rattle.network_genesis.specs.Tests.{are_rates_listed};
 ghost use Rattle.chain_queues.specs.Queues.{channels_of};
 ghost use Rattle.weight_trader.specs.Refunds.{Closed};
 ghost use Rattle.fee_rows.specs.Fees.{HaveRows, HaveRowsFor};
 ghost use Rattle.chain_lists.specs.Checked.{are_checked};
-ghost use Rattle.chain_state.specs.ListedFees.{are_fees_listed};
+ghost use Rattle.chain_state.specs.Facts.{IsSetUp, KeepsFloors, ArePayable};
+ghost use Rattle.chain_state.specs.Facts.{IsSetUp-prop};
+ghost use Rattle.chain_state.specs.Facts.{KeepsFloors-prop};
+ghost use Rattle.chain_state.specs.Facts.{ArePayable-prop};
 
 use asset_bundles::{BurnBook, Units};
+use asset_locks::LockBook;
 use chain_ids::ChainId;
 use chain_queues::{Cargo, Queues};
 use exec_base::{Event, Settings};
@@ -18,11 +22,12 @@ use ledgers::{Ledger, TrapStore};
 use message_parts::OpenQuery;
 use weight_trader::Trader;
 
-/// A chain of the network: what its document says, what stands at it, what it sends, and what is told. The ledger and the book list what
-/// the rows list, the id of each has a path, each rate's asset is listed, each channel's fee is an amount above 0 of a fungible asset that
-/// is listed, just the fungible ones of the listed assets have a row of kept fees, what is in the fee slot has one, the spare trader has
-/// the rates of the trader, there are at most 64 pallets, four bundles can be parked without memory, and only rows of fungible assets
-/// have a checking account.
+/// A chain of the network: what its document says, what stands at it, what it sends, and what is told. No two rows list one asset, the
+/// id of each has a path, and there are at most 64 pallets and 16 pools; each account has what is locked on it, and nothing is locked on a
+/// pool's; the ledger and the book list what the rows list; each rate's asset is listed; each channel's fee is an amount above 0 of a fungible asset
+/// that is listed; just the fungible ones of the listed assets have a row of kept fees, and what is in the fee slot has one; the spare
+/// trader has the rates of the trader; four bundles can be parked without memory; and only rows of fungible assets have a checking
+/// account.
 #[derive(Drop)]
 pub struct ChainState {
     pub(crate) settings: Settings,
@@ -36,22 +41,22 @@ pub struct ChainState {
     pub(crate) parked: Vec<Units>,
     pub(crate) book: BurnBook,
     pub(crate) checking: Vec<Option<u128>>,
+    pub(crate) locked: LockBook,
     pub(crate) queries: Vec<OpenQuery>,
     pub(crate) queues: Queues,
     pub(crate) sender: ChainId,
     pub(crate) cargo: Cargo,
     pub(crate) events: Vec<Event>,
     pub(crate) kept_back: Vec<Event>,
+    ghost set_up: { IsSetUp (path_of_site settings.site) settings.rows settings.pallets settings.pools } by { IsSetUp-prop (path_of_site settings.site) settings.rows settings.pallets settings.pools },
+    ghost floors: { KeepsFloors settings.pools locked ledger.held } by { KeepsFloors-prop settings.pools locked ledger.held },
     ghost ledger_lists: { ledger.listed ≡ listing settings.rows },
     ghost book_lists: { book.listed ≡ listing settings.rows },
-    ghost paths: { IsTrue (have_paths (path_of_site settings.site) settings.rows) },
     ghost rates: { IsTrue (are_rates_listed (listing settings.rows) trader) },
-    ghost prices: { IsTrue (have_prices (channels_of queues)) },
-    ghost fees_listed: { IsTrue (are_fees_listed (listing settings.rows) (channels_of queues)) },
+    ghost payable: { ArePayable (listing settings.rows) (channels_of queues) } by { ArePayable-prop (listing settings.rows) (channels_of queues) },
     ghost fee_rows: { HaveRows (listing settings.rows) fees },
     ghost slot_rows: { HaveRowsFor fees fee_slot },
     ghost spare_lines: { Closed spare ≡ Closed trader },
-    ghost few_pallets: { length settings.pallets ≤ 64 },
     ghost room: { 4 ≤ vec_capacity parked },
     ghost checked: { IsTrue (are_checked settings.rows checking.items) },
 }

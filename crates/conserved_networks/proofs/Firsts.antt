@@ -167,7 +167,7 @@ listed_first spec c held =
 
 pub part_sound : (spec : NetworkSpec) (c : ChainSpec) → IsOpenableChain spec.network c → All (IsOpenableChannel spec.chains) spec.channels → IsSoundPart (part_at spec c)
 part_sound spec c openable channels = record {
-  rest = record { order = record { traps = tt; rates = rates_hold (listing c.assets) (new_lines c.rates) openable.rates; paid = none_within c.rates; unparked = refl }; slot = refl };
+  rest = record { order = record { traps = tt; rates = rates_hold (listing c.assets) (new_lines c.rates) openable.rates; paid = none_within c.rates; pools = openable.pools; unparked = refl }; slot = refl };
   cargo = refl;
   listed = listed_first spec c (none_unlisted c.assets empty c.accounts (total-empty holder_keys (of_unlisted c.assets)) openable.balances);
   trusted = nothing_trusted spec c (channels_from c.chain spec.channels);

@@ -18,6 +18,6 @@ pub record IsCoherent (spec : NetworkSpec) : Type 0 where
 abbrev pub NetworkKept : NetworkSpec → List Step → Type 0
 NetworkKept spec steps = AllKept (order_of spec) (first_world spec) steps
 
--- whatever the steps, in every world from the first on each message that waits has one of the five shapes
+-- whatever the steps, in every world from the first on each message that waits has one of the seven shapes
 abbrev pub NetworkShaped : NetworkSpec → List Step → Type 0
 NetworkShaped spec steps = AllByRecursion AllShaped (worlds (order_of spec) (first_world spec) steps)

@@ -20,7 +20,7 @@ pub fn law_of_conserved_networks()
     law_of_conserved_worlds();
 }
 
-/// In every network, coherent or not, each message that waits has one of the five shapes, whatever the steps.
+/// In every network, coherent or not, each message that waits has one of the seven shapes, whatever the steps.
 pub fn law_of_shaped_networks()
     ensures { (spec : NetworkSpec) (steps : List Step) → NetworkShaped spec steps }
 {

@@ -24,8 +24,10 @@ use Rattle.xcm_program.specs.declared.instruction.Instruction.{Instruction}
 use Rattle.xcm_program.specs.declared.instruction.Instruction.TheOpen.{Instruction-F}
 use Rattle.xcm_program.specs.Everywhere.{AllInside}
 use Rattle.xcm_program.specs.Measure.{inner}
+use Rattle.chain_pools.specs.Keeping.{not_sovereign}
 use Rattle.exec_base.specs.Part.{ChainPart}
 use Rattle.exec_base.specs.Host.{trust_fault, receive_refusal, unspent, refund_goods, fee_taken}
+use Rattle.exec_base.specs.Pools.{exchange_goods}
 use Rattle.exec_run.specs.Machine.{Machine, machine}
 use Rattle.exec_rules.specs.Holdings.{with_origin, with_holding, payment_of}
 use Rattle.exec_rules.specs.AnswerLaws.{unless_held, unless_next, none_first}
@@ -33,10 +35,10 @@ use Rattle.exec_rules.specs.Instructions.{refused, done}
 use Rattle.exec_rules.specs.Readiness.{IsSteady}
 use Rattle.coherence.specs.Networks.{Table, Agrees, IsIn}
 use Rattle.conserved_runs.specs.Sums.{sum_of, none, nobody, only, HasRoom, Sum, Kept, kept_of, in_kept, in_places, burned_where, account_total, with, Call}
-use Rattle.conserved_runs.specs.Calls.{Withdraws, total_nothing, call_with, call_by, receiving_none, answering, withdrawing, depositing, transferring, claiming, burn, still, joining, drawing, refunding, buying, parking_goods, holding_fee, keeping, room_with}
-use Rattle.conserved_runs.specs.Safety.{origins, IsSpared, hold, Safely, IsFine, AreFees, HasList, AreLists, turn_safely, sends_safely, fee_in_order, Sends, safely_then, keeps_room, same_table}
+use Rattle.conserved_runs.specs.Calls.{Withdraws, of_a_pool, exchanging, total_nothing, call_with, call_by, receiving_none, answering, unlocking, noting, withdrawing, depositing, transferring, claiming, burn, still, joining, dispatching, drawing, refunding, buying, parking_goods, holding_fee, keeping, room_with}
+use Rattle.conserved_runs.specs.Safety.{origins, Spares, IsSpared, hold, Safely, IsFine, AreFees, HasList, AreLists, moved_safely, turn_safely, sends_safely, fee_in_order, Sends, safely_then, keeps_room, same_table}
 use Rattle.conserved_runs.specs.Turns.{same_turn, paid_parts}
-use Rattle.conserved_runs.specs.Shipping.{withdrawal_sends, teleport_sends, deposit_sends, transfer_sends, report_sends, Leaves}
+use Rattle.conserved_runs.specs.Shipping.{withdrawal_sends, teleport_sends, deposit_sends, transfer_sends, report_sends, lock_sends, request_sends, Leaves}
 use Rattle.amounts.specs.Laws.{total-merge, merge-empty}
 use Rattle.asset_lists.specs.Lists.{IsAssetList}
 use Rattle.asset_lists.specs.Units.{Unit}
@@ -190,16 +192,22 @@ module _ (withdraws : Withdraws) (moves : MovesAreKept) (n : List Table) (l : In
   fee_list : (fee : Asset) → IsFee l m fee → IsAssetList (fee ∷ [])
   fee_list fee is = fee_in_order m.part is.0 fee fees is.2
 
-  -- goods move inside the chain
+  -- goods move inside the chain, and no account of another chain falls
+  spends_on : (may : List ℕ → Type 0) (ins outs : Sum) (c : MachineCall) (t : MachineWithGoods) → Spares may t.part.site → Call may ins outs t.part (effect c t)
+      → ((q : Unit → Bool) → total q t.regs.holding + total q t.goods + outs q ≡ total q (after c t).regs.holding + total q (after c t).goods + ins q) → IsSafely t → IsSafely (after c t)
+  spends_on may ins outs c t spared x sums k =
+      let u = after c t in
+      safely_then m (pooled t) (pooled u) k
+      (moved_safely may (pooled t) (pooled u) spared
+      (subst (λ (p : ChainPart). Call may (hold (pooled t)) (hold (pooled u)) t.part p) (sym (part_is c t))
+      (call_with may ins outs (hold (pooled t)) (hold (pooled u)) t.part (effect c t) x
+      (λ q. let a = hold_pooled t q in let b = hold_pooled u q in let e = sums q in omega (arith, a, b, e)))))
+
+  -- the origin's account may fall
   moves_on : (may : List ℕ → Type 0) (ins outs : Sum) (c : MachineCall) (t : MachineWithGoods) → Call may ins outs t.part (effect c t) → ((who : List ℕ) → may who → origins (pooled t) who)
       → ((q : Unit → Bool) → total q t.regs.holding + total q t.goods + outs q ≡ total q (after c t).regs.holding + total q (after c t).goods + ins q) → IsFrom m t → IsSafely t → IsSafely (after c t)
   moves_on may ins outs c t x by sums from k =
-      let u = after c t in
-      safely_then m (pooled t) (pooled u) k
-      (turn_safely (pooled t) (pooled u) (spared_at t from)
-      (subst (λ (p : ChainPart). Call (origins (pooled t)) (hold (pooled t)) (hold (pooled u)) t.part p) (sym (part_is c t))
-      (call_with (origins (pooled t)) ins outs (hold (pooled t)) (hold (pooled u)) t.part (effect c t) (call_by may (origins (pooled t)) ins outs t.part (effect c t) x by)
-      (λ q. let a = hold_pooled t q in let b = hold_pooled u q in let e = sums q in omega (arith, a, b, e)))))
+      spends_on (origins (pooled t)) ins outs c t (spared_at t from) (call_by may (origins (pooled t)) ins outs t.part (effect c t) x by) sums k
 
   -- and no account falls
   gives : (ins outs : Sum) (c : MachineCall) (t : MachineWithGoods) → Call nobody ins outs t.part (effect c t)
@@ -231,6 +239,9 @@ module _ (withdraws : Withdraws) (moves : MovesAreKept) (n : List Table) (l : In
   nothing_received : (t : MachineWithGoods) (o : Option Location) (list : List Asset) (teleport : Bool) → IsOwnOrigin o → with_origin o (λ who. receive_refusal t.part list who teleport) ≡ None → list ≡ []
   nothing_received t None list teleport own_origin ok = absurd cc
   nothing_received t (Some who) list teleport own_origin ok = receives_none t.part who teleport list (own_origin who refl) ok
+
+  pools_spared : (site : Site) → Spares of_a_pool site
+  pools_spared site chain number foreign h = not_sovereign h.0 (subst IsSovereign h.1 (IsSovereign-sovereign_account site.chain chain number))
 
   -- what sends needs that the chains agree; where memory stops an instruction, nothing was sent
   pub called_safely : (c : MachineCall) (t : MachineWithGoods) → ComesBeforeStop c ⊎ Agrees n → HasReason Moment.Inside l m t c → IsFrom m t → why_not c t ≡ None → IsSafely t → IsSafely (after c t)
@@ -264,6 +275,8 @@ module _ (withdraws : Withdraws) (moves : MovesAreKept) (n : List Table) (l : In
   called_safely MachineCall.Burn t which asks from free k = gives (sum_of t.goods) none MachineCall.Burn t (burn t.part t.goods (goods_room t (room_at t k))) (λ q. let z = total-empty unit_keys q in omega (arith, z)) from k
   called_safely (MachineCall.Buy w) t which asks from free k = gives (sum_of t.goods) (sum_of (unspent t.part w t.goods)) (MachineCall.Buy w) t
       (buying moves t.part w t.goods (subst (λ (t : MachineWithGoods). AreWithinEnd t.part.lines) (sym asks.2) steady.rest.order.paid) (goods_room t (room_at t k))) (λ q. omega arith) from k
+  called_safely (MachineCall.Exchange want maximal) t which asks from free k = spends_on of_a_pool (sum_of t.goods) (sum_of (exchange_goods t.part t.goods want maximal)) (MachineCall.Exchange want maximal) t
+      (pools_spared t.part.site) (exchanging t.part t.goods want maximal) (λ q. omega arith) k
   called_safely (MachineCall.DepositOut dest xcm) t which asks from free k = ⊎_elim (λ (early : ⊥). absurd early) (λ (agrees : Agrees n). sends_on (MachineCall.DepositOut dest xcm) t
       (deposit_sends n agrees (pooled t) (merge t.regs.holding empty) t.goods dest xcm (leaves_hand t asks.1) (listed_at t asks.1 k) (inside_of (Instruction-F.DepositReserveAsset asks.2.0 dest xcm) asks.2.1) free) from k) which
   called_safely (MachineCall.Ship Way.Withdrawal dest xcm) t which asks from free k = ⊎_elim (λ (early : ⊥). absurd early) (λ (agrees : Agrees n). sends_on (MachineCall.Ship Way.Withdrawal dest xcm) t
@@ -277,6 +290,14 @@ module _ (withdraws : Withdraws) (moves : MovesAreKept) (n : List Table) (l : In
       (transfer_sends n agrees withdraws (pooled t) list who dest xcm (speaks_at t who from asks.1) (list_of (Instruction-F.TransferReserveAsset list dest xcm) asks.2) (inside_of (Instruction-F.TransferReserveAsset list dest xcm) asks.2) free) from k) which
   called_safely (MachineCall.Respond info answer querier) t which asks from free k = ⊎_elim (λ (early : ⊥). absurd early) (λ (agrees : Agrees n). sends_on (MachineCall.Respond info answer querier) t (report_sends n agrees (pooled t) info answer querier free) from k) which
   called_safely (MachineCall.Answer who query) t which asks from free k = gives none none (MachineCall.Answer who query) t (answering t.part who query) (λ q. omega arith) from k
+  called_safely (MachineCall.Dispatch account call) t which asks from free k =
+      moves_on (λ w. w ≡ account) none none (MachineCall.Dispatch account call) t (dispatching t.part account call)
+      (λ w same. let spoken = asks.1 in (spoken.0, speaks_at t spoken.0 from spoken.1, ap (λ (t : MachineWithGoods). account_of spoken.0 t.part.site) asks.0 ∙ spoken.2 ∙ ap Some (sym same))) (λ q. omega arith) from k
+  called_safely (MachineCall.KeepBack e) t which asks from free k = gives none none (MachineCall.KeepBack e) t (still t.part (effect (MachineCall.KeepBack e) t) refl) (λ q. omega arith) from k
+  called_safely (MachineCall.Lock asset who unlocker) t which asks from free k = ⊎_elim (λ (early : ⊥). absurd early) (λ (agrees : Agrees n). sends_on (MachineCall.Lock asset who unlocker) t (lock_sends n agrees (pooled t) asset who unlocker free) from k) which
+  called_safely (MachineCall.Unlock asset target who) t which asks from free k = gives none none (MachineCall.Unlock asset target who) t (unlocking t.part asset target who) (λ q. omega arith) from k
+  called_safely (MachineCall.Note asset owner who) t which asks from free k = gives none none (MachineCall.Note asset owner who) t (noting t.part asset owner who) (λ q. omega arith) from k
+  called_safely (MachineCall.Request asset who locker) t which asks from free k = ⊎_elim (λ (early : ⊥). absurd early) (λ (agrees : Agrees n). sends_on (MachineCall.Request asset who locker) t (request_sends n agrees (pooled t) asset who locker free) from k) which
   called_safely MachineCall.HoldFee t which asks from free k = gives (sum_of t.goods) none MachineCall.HoldFee t (holding_fee t.part t.goods (asks.3 ∙ steady.rest.slot)) (λ q. let z = total-empty unit_keys q in omega (arith, z)) from k
   called_safely MachineCall.TakeFee t which asks from free k = gives none (sum_of t.part.fee_slot) MachineCall.TakeFee t (taking_fee t.part) (λ q. let z = nothing_in_hand t asks q in omega (arith, z)) from k
   called_safely MachineCall.KeepFee t which asks from free k = gives none none MachineCall.KeepFee t (keeping t.part (room_with (hold (pooled t)) none t.part (room_at t k) (λ q. omega arith))) (λ q. omega arith) from k

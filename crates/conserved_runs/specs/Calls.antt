@@ -1,5 +1,6 @@
 -- Lemmas: what each call of a host does to the places of a chain. A reader may skip this file.
-use Rattle.std.proofs.Common.{◌≡◌, ℕ, zero, suc, ◌+◌, ◌-◌, ◌^◌, ◌<◌, ◌≤◌, Bool, true, false, ◌&&◌, List, [], ◌∷◌, length, Option, Some, None, get_or, refl, sym, ap, ◌∙◌, subst, arith}
+use Rattle.std.proofs.Common.{◌≡◌, ◌⊎◌, inl, inr, ℕ, zero, suc, ◌+◌, ◌-◌, ◌^◌, ◌<◌, ◌≤◌, Bool, true, false, ◌&&◌, List, [], ◌∷◌, length, Option, Some, None, get_or, refl, sym, ap, ◌∙◌, subst, arith}
+use Rattle.std.proofs.lemmas.Bool.{cases_Bool}
 use Rattle.std.specs.Prelude.{◌++◌, nat_le, nat_lt, is_some, if◌then◌else◌, remove, position, IsTrue, min}
 use Rattle.std.specs.Option.{option_map_or}
 use Rattle.std.specs.List.{sum_by}
@@ -33,11 +34,18 @@ use Rattle.trap_store.specs.Traps.{Store, with_trapped, trapped_where}
 use Rattle.weight_trader.specs.Purchases.{Line, coin_of, paying, unspent_at, excess, Bought, paid_goods, AreWithinEnd}
 use Rattle.weight_trader.specs.Refunds.{refund_of, goods_of, Refunded, Closed}
 use Rattle.weight_trader.specs.Laws.{Purchase, Refund, Closing, MovesAreKept, paid_by, saturated_by, unspent_by}
+use Rattle.call_dispatch.specs.Spelling.{AnyCall}
+use Rattle.row_accounts.specs.Laws.{total_called, more_called}
+use Rattle.exec_base.specs.Calls.{floors_of, held_dispatched}
 use Rattle.exec_base.specs.declared.event.Event.{Event}
 use Rattle.chain_ids.specs.declared.chain.ChainId.{ChainId}
 use Rattle.channel_parts.specs.declared.cargo.Cargo.TheVariants.{Nothing}
+use Rattle.chain_pools.specs.declared.exchanges.Exchange.{Exchange}
+use Rattle.chain_pools.specs.Exchanges.{pool_account, held_after, goods_after}
+use Rattle.chain_pools.specs.Keeping.{exchange_says, exchange_keeps_total, exchange_spares}
+use Rattle.exec_base.specs.Pools.{exchange_at, exchanged, exchange_goods}
 use Rattle.exec_base.specs.Part.{Taken, ChainPart, accounts_of, book_of}
-use Rattle.exec_base.specs.Host.{Arrival, ByWithdrawal, arrival_of, is_cargo, cargo_after, first_fault, at_account, give_fault, take_fault, given, got, withdraw_refusal, withdrawn, deposit_refusal, deposited, transfer_refusal, transferred, received, answered, is_query, unspent, bought, booked, burned_lines, above, refund_goods, refunded, joined, burnt, is_trap, claim_refusal, claimed, trapped, parked, all_fees, fees_above, fees_within, settled_burns, settled, fee_held, fees_with, fee_kept, fee_drawn, told}
+use Rattle.exec_base.specs.Host.{asset_unlocked, asset_noted, Arrival, ByWithdrawal, arrival_of, is_cargo, cargo_after, first_fault, at_account, floor_of, give_fault, take_fault, given, got, withdraw_refusal, withdrawn, deposit_refusal, deposited, transfer_refusal, transferred, received, answered, is_query, unspent, bought, booked, burned_lines, above, refund_goods, refunded, joined, burnt, is_trap, claim_refusal, claimed, trapped, parked, all_fees, fees_above, fees_within, settled_burns, settled, fee_held, fees_with, fee_kept, fee_drawn, told}
 use Rattle.exec_rules.specs.AnswerLaws.{unless_held, unless_next, none_first, none_next, goods_of_trap, found_somewhere}
 use Rattle.conserved_runs.specs.Sums.{Kept, kept_of, in_kept, in_places, burned_where, account_total, Sum, sum_of, none, with, nobody, only, Call, most, HasRoom}
 
@@ -247,6 +255,15 @@ pub answering : (p : ChainPart) (from : Location) (query : ℕ) → Call nobody 
 unfolding answered
 answering p from query = still p (answered p from query) (answered_at p query (position (is_query query from) p.queries))
 
+-- locks and notes are beside all amounts
+pub unlocking : (p : ChainPart) (a : Asset) (target from : Location) → Call nobody none none p (asset_unlocked p a target from)
+unfolding asset_unlocked
+unlocking p a target from = still p (asset_unlocked p a target from) refl
+
+pub noting : (p : ChainPart) (a : Asset) (owner from : Location) → Call nobody none none p (asset_noted p a owner from)
+unfolding asset_noted
+noting p a owner from = still p (asset_noted p a owner from) refl
+
 -- ---- accounts and bundles
 no_account_gives : (p : ChainPart) (a : Asset) → give_fault p None a ≡ None → ⊥
 no_account_gives p a h = let k = unless_next (is_some (row_of p.rows a)) _ _ h in absurd cc
@@ -255,7 +272,10 @@ no_account_takes : (p : ChainPart) (a : Asset) → take_fault p None a ≡ None 
 no_account_takes p a h = let k = unless_next (is_some (row_of p.rows a)) _ _ h in absurd cc
 
 holds_enough : (p : ChainPart) (who : List ℕ) (a : Asset) → give_fault p (Some who) a ≡ None → nat_le (amount_of a) (amount p.held (who, unit_of a)) ≡ true
-holds_enough p who a h = unless_held _ _ _ (unless_next (is_some (row_of p.rows a)) _ _ h)
+holds_enough p who a h = enough (amount_of a) (floor_of p who (unit_of a)) _ (unless_held _ _ _ (unless_next (is_some (row_of p.rows a)) _ _ h))
+  where
+    enough : (n f m : ℕ) → nat_le (n + f) m ≡ true → nat_le n m ≡ true
+    enough n f m h = grind (arith, nat_tests, h)
 
 not_less : (n m : ℕ) → nat_le n m ≡ true → nat_lt m n ≡ false
 not_less n m h = grind (arith, nat_tests, h)
@@ -767,3 +787,62 @@ settling law p within room =
         let all = room k.0 in
         let end = most_is in
         omega (arith, sum, old, new, of_goods, all, end)
+
+-- ---- calls of the chain
+-- amounts that moved between accounts, and only one account's fell
+held_call : (p : ChainPart) (held : Held) (who : List ℕ)
+    → ((t : Unit → Bool) → total (λ (h : Holder). t h.1) held ≡ total (λ (h : Holder). t h.1) p.held)
+    → ((t : Holder → Bool) → ((u : Unit) → t (who, u) ≡ false) → total t p.held ≤ total t held)
+    → Call (λ w. w ≡ who) none none p (record p { held = held })
+unfolding in_kept
+held_call p held who sums others = record {
+  site = refl;
+  rows = refl;
+  channels = refl;
+  checking = refl;
+  cargo = λ h. h;
+  gone = empty;
+  amounts = λ t. let same = sums t in let z = nothing_gone t in omega (arith, same, z);
+  books = λ test. let z = nothing_gone (is_unit_where test) in omega (arith, z);
+  accounts = λ w t other. others (λ (h : Holder). is_account w h && t h.1) (λ u. ap (λ (b : Bool). b && t u) (apart w other));
+}
+  where
+    apart : (w : List ℕ) → (w ≡ who → ⊥) → eq_by_cmp account_cmp w who ≡ false
+    apart w other =
+        elim (cases_Bool (eq_by_cmp account_cmp w who)) [
+          | inl same ↦ absurd (other (key_same account_keys w who same))
+          | inr is ↦ is
+        ]
+
+pub dispatching : (p : ChainPart) (who : List ℕ) (c : AnyCall) → Call (λ w. w ≡ who) none none p (record p { held = held_dispatched p who c })
+dispatching p who c = held_call p (held_dispatched p who c) who
+    (λ t. total_called p.rows p.held (floors_of p) who c (λ (h : Holder). t h.1) (λ a b u. refl))
+    (λ t without. more_called p.rows p.held (floors_of p) who c t without)
+
+-- ---- exchanges
+
+-- the account of a pool
+abbrev pub of_a_pool : List ℕ → Type 0
+of_a_pool who = (place : ℕ) × (who ≡ pool_account place)
+
+exchanging_by : (p : ChainPart) (give : Bundle) (want : List Asset) (maximal : Bool) (o : Option Exchange) → exchange_at p give want maximal ≡ o
+    → Call of_a_pool (sum_of give) (sum_of (option_map_or (λ (e : Exchange). goods_after e give) o give)) p (option_map_or (λ (e : Exchange). record p { held = held_after e p.held }) o p)
+unfolding in_kept
+exchanging_by p give want maximal None is = call_with of_a_pool none none (sum_of give) (sum_of give) p p (call_by nobody of_a_pool none none p p (still p p refl) (λ who h. absurd h)) (λ t. omega arith)
+exchanging_by p give want maximal (Some e) is =
+    let made = exchange_says p.pools p.held give want maximal e is in
+    record {
+      site = refl;
+      rows = refl;
+      channels = refl;
+      checking = refl;
+      cargo = λ h. h;
+      gone = empty;
+      amounts = λ t. let both = exchange_keeps_total p.pools p.held give e made (λ (h : Holder). t h.1) t (λ unit. refl) in let z = nothing_gone t in omega (arith, both, z);
+      books = λ test. let z = nothing_gone (is_unit_where test) in omega (arith, z);
+      accounts = λ who t other. exchange_spares p.pools p.held give e made who t (λ same. other (e.place, sym same));
+    }
+
+pub exchanging : (p : ChainPart) (give : Bundle) (want : List Asset) (maximal : Bool) → Call of_a_pool (sum_of give) (sum_of (exchange_goods p give want maximal)) p (exchanged p give want maximal)
+unfolding exchanged exchange_goods
+exchanging p give want maximal = exchanging_by p give want maximal (exchange_at p give want maximal) refl

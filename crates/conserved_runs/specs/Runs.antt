@@ -140,7 +140,7 @@ told_fees p e all = all
 pub told_steady : (m : Machine) (e : Event) → IsSteady m → IsSteady (record m { part = told m.part e })
 unfolding told
 told_steady m e steady = record {
-  rest = record { order = record { traps = steady.rest.order.traps; rates = steady.rest.order.rates; paid = steady.rest.order.paid; unparked = steady.rest.order.unparked }; slot = steady.rest.slot };
+  rest = record { order = record { traps = steady.rest.order.traps; rates = steady.rest.order.rates; paid = steady.rest.order.paid; pools = steady.rest.order.pools; unparked = steady.rest.order.unparked }; slot = steady.rest.slot };
   holding = steady.holding;
 }
 

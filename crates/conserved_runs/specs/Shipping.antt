@@ -31,7 +31,7 @@ use Rattle.asset_bundles.specs.Joins.{most_of, IsWithinMost}
 use Rattle.asset_bundles.specs.Laws.{asset_of_unit}
 use Rattle.trust_tables.specs.Accounts.{account_of}
 use Rattle.trust_tables.specs.Trust.{listing, is_reserve, is_partner}
-use Rattle.xcm_program.specs.declared.instruction.Instruction.{Instruction}
+use Rattle.xcm_program.specs.declared.instruction.Instruction.{Instruction, roll-Instruction}
 use Rattle.xcm_program.specs.declared.instruction.Instruction.TheOpen.{Instruction-F}
 use Rattle.xcm_program.specs.Everywhere.{AllInside}
 use Rattle.xcm_program.specs.Measure.{inner, deep_count}
@@ -42,11 +42,12 @@ use Rattle.channel_parts.specs.declared.cargo.Cargo as carried
 use Rattle.channel_parts.specs.declared.cargo.Cargo.TheVariants as cargos
 use Rattle.channel_parts.specs.Channels.{Outgoing, with_waiting, away}
 use Rattle.exec_base.specs.Part.{ChainPart}
-use Rattle.exec_base.specs.Sending.{channel_to, leads_to, is_sendable, channel_refusal, send_refusal, sent, led_by, listed_refusal, listed_program, deposit_program, away_program}
-use Rattle.exec_base.specs.Host.{first_fault, give_fault, trust_fault, deposit_refusal, deposited, transfer_refusal, withdraw_refusal, transferred, transfer_out_refusal, transferred_out, deposit_out_refusal, deposited_out, is_teleport, changed_all, ship_refusal, shipped, seen_from, querier_seen, report_program, report_refusal, respond_refusal, responded}
+use Rattle.asset_locks.specs.LockMaps.{NoteKey, LocksAndNotes, noted}
+use Rattle.exec_base.specs.Sending.{named_refusal, named_sent, channel_to, leads_to, is_sendable, channel_refusal, send_refusal, sent, led_by, listed_refusal, listed_program, deposit_program, away_program}
+use Rattle.exec_base.specs.Host.{lock_key, is_lockable, place_seen, asset_seen, note_program, lock_refusal, asset_locked, account_place, request_key, unlock_program, request_refusal, asset_requested, first_fault, give_fault, trust_fault, deposit_refusal, deposited, transfer_refusal, withdraw_refusal, transferred, transfer_out_refusal, transferred_out, deposit_out_refusal, deposited_out, is_teleport, changed_all, ship_refusal, shipped, seen_from, querier_seen, report_program, report_refusal, respond_refusal, responded}
 use Rattle.exec_run.specs.Machine.{Machine, machine}
 use Rattle.exec_rules.specs.Holdings.{with_holding}
-use Rattle.exec_rules.specs.AnswerLaws.{unless_held, none_first, none_next, withdrawn_is_listed}
+use Rattle.exec_rules.specs.AnswerLaws.{unless_held, unless_next, none_first, none_next, withdrawn_is_listed}
 use Rattle.coherence.specs.UniversalAssets.{UniversalAsset, every}
 use Rattle.coherence.specs.Networks.{Table, IsIn, Agrees}
 use Rattle.coherence.specs.Trusting.{of_reserve}
@@ -453,23 +454,29 @@ module _ (n : List Table) (agrees : Agrees n) where
   unfolding sent
   sent_checks p dest program cargo = refl
 
-  pub nothing_sends : (m : Machine) (dest : Location) (program : List Instruction) (c : Outgoing) → channel_to m.part dest ≡ Some c → IsRunnable program → Sends m (machine m.regs (sent m.part dest program cargos.Nothing))
-  nothing_sends m dest program c found runnable =
-      let q : ChainPart = record (sent m.part dest program cargos.Nothing) { channels = m.part.channels; checking = m.part.checking } in
+  -- whatever the locks are then
+  nothing_goes : (m : Machine) (locked : LocksAndNotes) (dest : Location) (program : List Instruction) (c : Outgoing) → channel_to m.part dest ≡ Some c → IsRunnable program
+      → Sends m (machine m.regs (sent (record m.part { locked = locked }) dest program cargos.Nothing))
+  nothing_goes m locked dest program c found runnable =
+      let p : ChainPart = record m.part { locked = locked } in
+      let q : ChainPart = record (sent p dest program cargos.Nothing) { channels = m.part.channels; checking = m.part.checking } in
       record {
         name = dest;
         channel = c;
         found = found;
         program = program;
         cargo = cargos.Nothing;
-        queued = sent_queued m.part dest program cargos.Nothing;
-        call = call_with (origins m) none none (hold m) (with (hold m) none) m.part q (call_by nobody (origins m) none none m.part q (still m.part q (sent_kept m.part dest program cargos.Nothing)) (λ who h. absurd h)) (λ t. omega arith);
-        put = λ who t account others. let e = sent_accounts who t m.part dest program cargos.Nothing in omega (arith, e);
-        raised = λ a. same_checks m.part _ a (sent_checks m.part dest program cargos.Nothing);
+        queued = sent_queued p dest program cargos.Nothing;
+        call = call_with (origins m) none none (hold m) (with (hold m) none) m.part q (call_by nobody (origins m) none none m.part q (still m.part q (sent_kept p dest program cargos.Nothing)) (λ who h. absurd h)) (λ t. omega arith);
+        put = λ who t account others. let e : account_total who t (sent p dest program cargos.Nothing) ≡ account_total who t m.part = sent_accounts who t p dest program cargos.Nothing in omega (arith, e);
+        raised = λ a. same_checks m.part _ a (sent_checks p dest program cargos.Nothing);
         foreign = λ a home. refl;
         trusted = tt;
         runnable = runnable;
       }
+
+  pub nothing_sends : (m : Machine) (dest : Location) (program : List Instruction) (c : Outgoing) → channel_to m.part dest ≡ Some c → IsRunnable program → Sends m (machine m.regs (sent m.part dest program cargos.Nothing))
+  nothing_sends m dest program c found runnable = nothing_goes m m.part.locked dest program c found runnable
 
   report_by : (m : Machine) (info : QueryInfo) (answer : Response) (o : Option (Option Location)) → report_refusal m.part info answer o ≡ None
       → Sends m (machine m.regs (option_map_or (λ (seen : Option Location). sent m.part info.destination (report_program info answer seen) cargos.Nothing) o m.part))
@@ -481,3 +488,42 @@ module _ (n : List Table) (agrees : Agrees n) where
   pub report_sends : (m : Machine) (info : QueryInfo) (answer : Response) (querier : Option Location) → respond_refusal m.part info answer querier ≡ None → Sends m (machine m.regs (responded m.part info answer querier))
   unfolding respond_refusal responded
   report_sends m info answer querier ok = report_by m info answer (querier_seen m.part info.destination querier) ok
+
+  -- ---- of locks
+  named_goes : (m : Machine) (locked : LocksAndNotes) (dest : Location) (o : Option (List Instruction)) → named_refusal m.part dest o ≡ None → ((program : List Instruction) → o ≡ Some program → AllByRecursion AreLists program)
+      → Sends m (machine m.regs (named_sent (record m.part { locked = locked }) dest o))
+  named_goes m locked dest None ok lists = absurd cc
+  named_goes m locked dest (Some program) ok lists =
+      let routed = routed_send m.part dest true program ok in
+      nothing_goes m locked dest program routed.0 routed.1 (record { few = let few = (few_sent m.part dest true program ok).1 in omega (arith, few); lists = lists program refl })
+
+  same_program : (a b : List Instruction) → Some a ≡ Some b → a ≡ b
+  same_program a b e = cc
+
+  one_told : (first : Instruction-F Instruction) (program : List Instruction) → HasList Instruction first → inner first ≡ None → Some (roll-Instruction first ∷ []) ≡ Some program → AllByRecursion AreLists program
+  one_told first program fits flat e = subst (AllByRecursion AreLists) (same_program _ program e) (everywhere_made HasList HasList-IsOfLayer first fits (subst (AllInside AreLists) (sym flat) tt), tt)
+
+  note_lists : (o : Option Asset) (place : Option Location) (program : List Instruction)
+      → option_and_then (λ (asset : Asset). option_map (λ (place : Location). roll-Instruction (Instruction-F.NoteUnlockable asset place) ∷ []) place) o ≡ Some program → AllByRecursion AreLists program
+  note_lists None place program e = absurd (cc e)
+  note_lists (Some asset) None program e = absurd (cc e)
+  note_lists (Some asset) (Some place) program e = one_told (Instruction-F.NoteUnlockable asset place) program tt refl e
+
+  unlock_lists : (key : Option NoteKey) (o : Option Asset) (program : List Instruction)
+      → option_and_then (λ (k : NoteKey). option_map (λ (asset : Asset). roll-Instruction (Instruction-F.UnlockAsset asset (account_place k.2)) ∷ []) o) key ≡ Some program → AllByRecursion AreLists program
+  unlock_lists None o program e = absurd (cc e)
+  unlock_lists (Some k) None program e = absurd (cc e)
+  unlock_lists (Some k) (Some asset) program e = one_told (Instruction-F.UnlockAsset asset (account_place k.2)) program tt refl e
+
+  pub lock_sends : (m : Machine) (a : Asset) (owner unlocker : Location) → lock_refusal m.part a owner unlocker ≡ None → Sends m (machine m.regs (asset_locked m.part a owner unlocker))
+  unfolding lock_refusal asset_locked
+  lock_sends m a owner unlocker ok =
+      named_goes m _ unlocker (note_program m.part a owner unlocker) (unless_next (option_map_or (is_lockable m.part a) (lock_key m.part a owner unlocker) false) _ _ (unless_next m.part.locks _ _ ok))
+      (λ program e. note_lists (asset_seen m.part unlocker a) (place_seen m.part unlocker owner) program e)
+
+  pub request_sends : (m : Machine) (a : Asset) (owner locker : Location) → request_refusal m.part a owner locker ≡ None → Sends m (machine m.regs (asset_requested m.part a owner locker))
+  unfolding request_refusal asset_requested
+  request_sends m a owner locker ok =
+      named_goes m _ locker (unlock_program m.part a (request_key a owner locker) locker)
+      (unless_next (option_map_or (λ (k : NoteKey). nat_le (amount_of a) (noted k m.part.locked)) (request_key a owner locker) false) _ _ (unless_next m.part.locks _ _ ok))
+      (λ program e. unlock_lists (request_key a owner locker) (asset_seen m.part locker a) program e)

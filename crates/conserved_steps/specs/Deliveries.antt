@@ -108,7 +108,7 @@ sender_listed to goods p s le = let l = s.listed in omega (arith, l, le)
 
 pub sender_sound : (to : ChainId) (goods : Bundle) (p : ChainPart) → IsSoundPart p → burned_where (unlisted p.rows) (booking_lost goods (without_message to p)) ≤ burned_where (unlisted p.rows) p → IsSoundPart (booking_lost goods (without_message to p))
 sender_sound to goods p s le = record {
-  rest = record { order = record { traps = s.rest.order.traps; rates = s.rest.order.rates; paid = s.rest.order.paid; unparked = s.rest.order.unparked }; slot = s.rest.slot };
+  rest = record { order = record { traps = s.rest.order.traps; rates = s.rest.order.rates; paid = s.rest.order.paid; pools = s.rest.order.pools; unparked = s.rest.order.unparked }; slot = s.rest.slot };
   cargo = s.cargo;
   listed = sender_listed to goods p s le;
   trusted = trusted_popped p.site p.rows to p.channels s.trusted;

@@ -29,7 +29,7 @@ use Rattle.exec_admission.specs.declared.admission.Admitted.{Admitted}
 use Rattle.exec_admission.specs.Admission.{admitted}
 use Rattle.exec_admission.specs.Execution.{first_machine, executed_by, executed, IsAbandoned}
 use Rattle.network_steps.specs.Acting.{ended}
-use Rattle.message_shapes.specs.Shapes.{IsLedBy, IsAnswer, IsLedByClaim, IsShape}
+use Rattle.message_shapes.specs.Shapes.{IsLedBy, IsAlone, IsLedByClaim, IsShape}
 use Rattle.conservation.specs.Parts.{Part, World}
 use Rattle.conservation.specs.Steps.{tables_of, IsSafe}
 use Rattle.conservation.specs.Channels as queues
@@ -41,7 +41,7 @@ use Rattle.conserved_runs.specs.Safety as runs
 use Rattle.conserved_steps.specs.Soundness.{IsSoundPart, LawsBelow}
 use Rattle.conserved_steps.specs.Bounds.{IsSoundGenesis, agrees_now}
 use Rattle.conserved_steps.specs.Stops.{StopsFirst, StandsAs, Place, Before, InFirst, Behind, over, parks, place_of_stop, parked_cargo}
-use Rattle.conserved_steps.specs.Receptions.{taken, Fate, Left, Passed, StillCarried, HasLanded, Landed, same_safe, refused_fate, claim_fate, answer_fate, teleport_fate, deposit_fate, withdrawal_fate}
+use Rattle.conserved_steps.specs.Receptions.{taken, Fate, Left, Passed, StillCarried, HasLanded, Landed, same_safe, refused_fate, claim_fate, never_stops, alone_fate, teleport_fate, deposit_fate, withdrawal_fate}
 
 -- barriers leave a message its shape
 abbrev pub KeepsShapes : Type 0
@@ -52,7 +52,7 @@ KeepsShapes = (here : Site) (there : ChainId) (program : List Instruction) (carg
 not_admitted : (ps pr : ChainPart) (cargo : carried.Cargo) (sender : ChainId) (e : Event) → IsSoundPart pr → Fate ps pr cargo (taken sender cargo e pr).cargo.cargo (ended (taken sender cargo e pr)) (λ m. ⊥)
 unfolding told in_kept
 not_admitted ps pr cargo sender e s = Left refl (same_safe (seen empty pr)) (record {
-  rest = record { order = record { traps = s.rest.order.traps; rates = s.rest.order.rates; paid = s.rest.order.paid; unparked = s.rest.order.unparked }; slot = s.rest.slot };
+  rest = record { order = record { traps = s.rest.order.traps; rates = s.rest.order.rates; paid = s.rest.order.paid; pools = s.rest.order.pools; unparked = s.rest.order.unparked }; slot = s.rest.slot };
   cargo = refl;
   listed = s.listed;
   trusted = s.trusted;
@@ -110,8 +110,8 @@ module _ (laws : LawsBelow) (shapes : KeepsShapes) (first : World) (genesis : Is
   by_cargo a ok (cargos.Away shipment) carries trusted s =
       by_way a ok shipment shipment.way refl carries trusted.0 trusted.1 s
   by_cargo a ok cargos.Nothing carries trusted s = ⊎_elim
-      (λ (answer : IsAnswer a.program). by_first a ok (Instruction-F.QueryResponse answer.query answer.answer answer.weight answer.querier) [] answer.is (λ m h. absurd h) (λ way.
-      answer_fate laws first genesis v history i j ps pr at_i at_j apart sound_s sound_r rules cargo program e front name origin leads back runnable trusts a ok carries answer.query answer.answer answer.weight answer.querier answer.is))
+      (λ (alone : IsAlone a.program). by_first a ok alone.what [] alone.is (λ m h. absurd (never_stops alone.what (first_machine rules origin p0) m alone.kind h)) (λ way.
+      alone_fate laws first genesis v history i j ps pr at_i at_j apart sound_s sound_r rules cargo program e front name origin leads back runnable trusts a ok carries alone.what alone.kind alone.is way))
       (λ (claim : IsLedByClaim a.program). by_first a ok (Instruction-F.ClaimAsset claim.list claim.ticket) (roll-Instruction Instruction-F.ClearOrigin ∷ claim.behind) claim.is (λ m h. h.0) (λ way.
       claim_fate laws first genesis v history i j ps pr at_i at_j apart sound_s sound_r rules cargo program e front name origin leads back runnable trusts a ok carries claim.list claim.ticket claim.behind claim.is way))
       s

@@ -44,7 +44,7 @@ use Rattle.conserved_steps.specs.Soundness.{IsLink, IsSoundPart, LawsBelow}
 pub begun_sound : (sender : ChainId) (p : ChainPart) → IsSoundPart p → IsSoundPart (begun sender cargos.Nothing p)
 unfolding in_kept
 begun_sound sender p s = record {
-  rest = record { order = record { traps = s.rest.order.traps; rates = s.rest.order.rates; paid = s.rest.order.paid; unparked = s.rest.order.unparked }; slot = s.rest.slot };
+  rest = record { order = record { traps = s.rest.order.traps; rates = s.rest.order.rates; paid = s.rest.order.paid; pools = s.rest.order.pools; unparked = s.rest.order.unparked }; slot = s.rest.slot };
   cargo = refl;
   listed = s.listed;
   trusted = s.trusted;
@@ -54,7 +54,7 @@ begun_sound sender p s = record {
 pub ended_sound : (p : ChainPart) → IsSoundPart p → IsSoundPart (ended p)
 unfolding in_kept
 ended_sound p s = record {
-  rest = record { order = record { traps = s.rest.order.traps; rates = s.rest.order.rates; paid = s.rest.order.paid; unparked = s.rest.order.unparked }; slot = s.rest.slot };
+  rest = record { order = record { traps = s.rest.order.traps; rates = s.rest.order.rates; paid = s.rest.order.paid; pools = s.rest.order.pools; unparked = s.rest.order.unparked }; slot = s.rest.slot };
   cargo = refl;
   listed = s.listed;
   trusted = s.trusted;
@@ -82,7 +82,7 @@ pub sound_ended : (m k : Machine) → Safely m k → k.regs.holding ≡ empty �
     → AllByRecursion (IsLink m.part.site.chain) (links_of m.part.channels) → IsAtRest k.part → IsSoundPart (ended k.part)
 unfolding in_kept
 sound_ended m k x none_held listed trusted links rest = record {
-  rest = record { order = record { traps = rest.order.traps; rates = rest.order.rates; paid = rest.order.paid; unparked = rest.order.unparked }; slot = rest.slot };
+  rest = record { order = record { traps = rest.order.traps; rates = rest.order.rates; paid = rest.order.paid; pools = rest.order.pools; unparked = rest.order.unparked }; slot = rest.slot };
   cargo = refl;
   listed = subst (λ (r : List AssetRow). burned_where (unlisted r) k.part + (in_places (is_unit_where (unlisted r)) k.part + 0) ≡ 0) (sym x.rows)
       (let le = x.burns (unlisted m.part.rows) in omega (arith, le, listed));

@@ -34,7 +34,7 @@ use Rattle.exec_base.specs.declared.event.Event.{Event}
 use Rattle.exec_base.specs.Arrivals.{arrived_list, is_this_list}
 use Rattle.exec_base.specs.Part.{Taken, ChainPart, accounts_of, book_of}
 use Rattle.exec_base.specs.Sending.{led_by}
-use Rattle.exec_base.specs.Host.{Arrival, ByWithdrawal, ByDeposit, ByTeleport, arrival_of, fits_call, cargo_list, is_cargo, cargo_after, changed_all, first_fault, receive_refusal, withdraw_refusal, give_fault, at_account, withdrawn, received, joined, booked, claimed, answered, told, parked}
+use Rattle.exec_base.specs.Host.{Arrival, ByWithdrawal, ByDeposit, ByTeleport, arrival_of, fits_call, cargo_list, is_cargo, cargo_after, changed_all, first_fault, receive_refusal, withdraw_refusal, give_fault, at_account, withdrawn, received, joined, booked, claimed, answered, asset_unlocked, asset_noted, told, parked}
 use Rattle.exec_run.specs.Machine.{Machine}
 use Rattle.exec_run.specs.Run.{machine_of}
 use Rattle.exec_run.specs.Accounts.{IsBalanced}
@@ -50,6 +50,7 @@ use Rattle.exec_admission.specs.declared.admission.Admitted.{Admitted}
 use Rattle.exec_admission.specs.Admission.{admitted, IsWeighed}
 use Rattle.exec_admission.specs.Execution.{first_machine, first_stage, last_machine}
 use Rattle.network_steps.specs.Acting.{begun, ended}
+use Rattle.message_shapes.specs.Shapes.{stands_alone}
 use Rattle.coherence.specs.UniversalAssets.{UniversalAsset, Choice, every, is_unit_at, IsPlaced}
 use Rattle.coherence.specs.Networks.{Table, context_of, IsIn, Agrees, is_home}
 use Rattle.coherence.specs.Twins.{unit_placed}
@@ -67,7 +68,7 @@ use Rattle.conservation.specs.Accounts.{Paid, paid_received}
 use Rattle.conservation.specs.Histories.{History, Two}
 use Rattle.conserved_runs.specs.Views.{table_of, cargo_of, channel_of, seen, view}
 use Rattle.conserved_runs.specs.Sums.{kept_of, in_kept, in_places, burned_where, Sum, sum_of, none, with, nobody, only, Call, HasRoom}
-use Rattle.conserved_runs.specs.Calls.{call_then, call_with, room_kept, below, receiving, joining, withdrawing, claiming, answering, no_shortage, parking_goods}
+use Rattle.conserved_runs.specs.Calls.{call_then, call_with, room_kept, below, receiving, joining, withdrawing, claiming, answering, unlocking, noting, no_shortage, parking_goods}
 use Rattle.conserved_runs.specs.Safety.{AreLists, HasFee, AreTrustedAt, links_of, hold, Safely, moved_safely, safely_then, same_table}
 use Rattle.conserved_runs.specs.Safety as runs
 use Rattle.conserved_runs.specs.Turns.{more_call}
@@ -116,6 +117,13 @@ same_safe p = record {
   accounted = λ a. account_stays (checking_at a p) (checking_at a p) (flight a every p) (flight a every p) (stock a every p) (stock a every p) refl (omega arith) (omega arith);
 }
 
+-- one instruction alone has no place inside where memory may be refused
+pub never_stops : (l : Instruction-F Instruction) (m left : Machine) → stands_alone l ≡ true → Stops l m left → ⊥
+never_stops (Instruction-F.QueryResponse query answer weight querier) m left kind stops = stops
+never_stops (Instruction-F.NoteUnlockable asset owner) m left kind stops = stops
+never_stops (Instruction-F.UnlockAsset asset target) m left kind stops = stops
+never_stops _ m left kind stops = absurd cc
+
 module _ (laws : LawsBelow) (first : World) (genesis : IsSoundGenesis first) (v : World) (history : History first v) (i j : ℕ) (ps pr : ChainPart) (at_i : slice_get v i ≡ Some (seen empty ps)) (at_j : slice_get v j ≡ Some (seen empty pr))
     (apart : i ≡ j → ⊥) (sound_s : IsSoundPart ps) (sound_r : IsSoundPart pr) (rules : ChainRules) (cargo : carried.Cargo) (program : List Instruction) (e : Event)
     (front : queues.front pr.site.chain (map channel_of ps.channels) ≡ Some (cargo_of cargo)) (name origin : Location) (leads : location_of ps.site.chain pr.site.chain ≡ Some name) (back : location_of pr.site.chain ps.site.chain ≡ Some origin)
@@ -150,7 +158,7 @@ module _ (laws : LawsBelow) (first : World) (genesis : IsSoundGenesis first) (v 
   -- ---- the receiver as it begins
   rest0 : IsAtRest (taken ps.site.chain cargo e pr)
   unfolding told
-  rest0 = let s = sound_r.rest in record { order = record { traps = s.order.traps; rates = s.order.rates; paid = s.order.paid; unparked = s.order.unparked }; slot = s.slot }
+  rest0 = let s = sound_r.rest in record { order = record { traps = s.order.traps; rates = s.order.rates; paid = s.order.paid; pools = s.order.pools; unparked = s.order.unparked }; slot = s.slot }
 
   listed0 : AllListed none (taken ps.site.chain cargo e pr)
   unfolding told in_kept
@@ -338,22 +346,31 @@ module _ (laws : LawsBelow) (first : World) (genesis : IsSoundGenesis first) (v 
       let whole : q ≡ abandoned m.regs m.part = s.parks ∙ ap (λ (z : Machine). abandoned z.regs z.part) (stop_of a l (roll-Instruction Instruction-F.ClearOrigin ∷ behind) is q s).1 in
       subst (λ (y : ChainPart). Safely m0 (over rules origin y)) (sym whole) (safely_then m0 m (over rules origin (abandoned m.regs m.part)) safely (parks laws (tables_of v) agrees rules origin m)))
 
-  answer_call : (query : ℕ) → Call nobody (hold m0) (hold m0) p0 (answered p0 origin query)
-  answer_call query = call_with nobody none none (hold m0) (hold m0) p0 (answered p0 origin query) (answering p0 origin query) (λ t. omega arith)
+  -- one instruction alone moves nothing
+  alone_call : (l : Instruction-F Instruction) → stands_alone l ≡ true → Call nobody (hold m0) (hold (done l m0)) p0 (done l m0).part
+  alone_call (Instruction-F.QueryResponse query answer weight querier) kind = call_with nobody none none (hold m0) (hold m0) p0 (answered p0 origin query) (answering p0 origin query) (λ t. omega arith)
+  alone_call (Instruction-F.NoteUnlockable asset owner) kind = call_with nobody none none (hold m0) (hold m0) p0 (asset_noted p0 asset owner origin) (noting p0 asset owner origin) (λ t. omega arith)
+  alone_call (Instruction-F.UnlockAsset asset target) kind = call_with nobody none none (hold m0) (hold m0) p0 (asset_unlocked p0 asset target origin) (unlocking p0 asset target origin) (λ t. omega arith)
+  alone_call _ kind = absurd cc
 
-  pub answer_fate : (a : Admitted) → admitted rules origin no_weight p0.queries program ≡ Ok a → cargo ≡ cargos.Nothing → (query : ℕ) (answer : Response) (weight : Weight) (querier : Option Location)
-      → a.program ≡ roll-Instruction (Instruction-F.QueryResponse query answer weight querier) ∷ [] → Ways a
-  answer_fate a ok empty_handed query answer weight querier is =
-      let l = Instruction-F.QueryResponse query answer weight querier in
+  alone_keeps : (l : Instruction-F Instruction) → stands_alone l ≡ true → (done l m0).regs.appendix ≡ []
+  alone_keeps (Instruction-F.QueryResponse query answer weight querier) kind = refl
+  alone_keeps (Instruction-F.NoteUnlockable asset owner) kind = refl
+  alone_keeps (Instruction-F.UnlockAsset asset target) kind = refl
+  alone_keeps _ kind = absurd cc
+
+  pub alone_fate : (a : Admitted) → admitted rules origin no_weight p0.queries program ≡ Ok a → cargo ≡ cargos.Nothing → (l : Instruction-F Instruction) → stands_alone l ≡ true
+      → a.program ≡ roll-Instruction l ∷ [] → refused l m0 ≡ None → Ways a
+  alone_fate a ok empty_handed l kind is taken_in =
       let x1 = roll-Instruction l in
       let k = done l m0 in
       let same : xcm.done x1 m0 ≡ k = ap (λ (f : Instruction-F Instruction). done f m0) (out-roll-Instruction l) in
-      let x = answer_call query in
-      let way = accepted_way l refl in
+      let x = alone_call l kind in
+      let way = accepted_way l taken_in in
       let final = emptied laws.withdraws laws.moves laws.stays (tables_of v) agrees (last_machine rules origin a p0) in
       let room : HasRoom (hold k) k.part = room_kept nobody (hold m0) (hold k) p0 k.part x room0 in
       let room_done = subst (λ (z : Machine). HasRoom (hold z) z.part) (sym same) room in
-      let no_appendix : (xcm.done x1 m0).regs.appendix ≡ [] = ap (λ (z : Machine). z.regs.appendix) same in
+      let no_appendix : (xcm.done x1 m0).regs.appendix ≡ [] = ap (λ (z : Machine). z.regs.appendix) same ∙ alone_keeps l kind in
       let steady = laws.stays x1 m0 steady0 way in
       let rest = alone_safely laws (tables_of v) agrees rules origin p0 a (balanced a ok) x1 is way no_appendix steady room_done in
       nothing_fate a ok empty_handed k (moved_safely nobody m0 k (λ chain number foreign h. h) x) (subst (λ (z : Machine). Safely z final) same rest)
@@ -361,7 +378,7 @@ module _ (laws : LawsBelow) (first : World) (genesis : IsSoundGenesis first) (v 
       (λ c. subst (λ (z : Machine). Safely z (machine_of c.0)) same (alone_inside laws (tables_of v) agrees rules origin p0 a (balanced a ok) x1 is way no_appendix c.0 c.1))
       (λ q b. subst (λ (z : Machine). Safely z (over rules origin q)) same (alone_stops laws (tables_of v) agrees rules origin p0 a (balanced a ok) x1 is way no_appendix steady room_done q b))
       (λ q d. subst (λ (z : Machine). Safely z (over rules origin q)) same (done_stops laws (tables_of v) agrees rules origin p0 a (balanced a ok) x1 [] is q d)) c)
-      (λ q s. absurd (stop_of a l [] is q s))
+      (λ q s. absurd (never_stops l m0 s.left kind (stop_of a l [] is q s)))
 
   -- ---- a cargo that a call ends
   ends_here : (arrival : Arrival) (new : List Asset) → fits_call arrival cargo ≡ true → is_this_list new (arrived_list pr.site ps.site.chain (cargo_list cargo)) ≡ true → is_cargo p0 arrival new ≡ true

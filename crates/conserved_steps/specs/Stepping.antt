@@ -33,9 +33,11 @@ use Rattle.exec_admission.specs.Admission.{admitted}
 use Rattle.exec_admission.specs.Execution.{first_stage, executed_by, executed, IsAbandoned}
 use Rattle.network_steps.specs.declared.step_result.StepResult.{StepResult}
 use Rattle.network_steps.specs.Worlds as networks
-use Rattle.network_steps.specs.Worlds.{Member, chain_of, place_of, with_part, unchanged}
+use Rattle.network_steps.specs.Worlds.{Member, chain_of, place_of, with_part, unchanged, Stepped}
 use Rattle.network_steps.specs.Acting.{begun, ended, acted, caller}
-use Rattle.network_steps.specs.Steps.{is_sovereign, exec_by, exec_at, exec, nowhere, name_at, run_for, sender_after, receiver_after, delivered, delivery_of, deliver, is_claim, posted, posting, claim_by, claim_on, claim, Link, next_channel, deliveries, world_behind, Step, Exec, Deliver, Claim, Drain, Balances, Traps, Queues, Supply, after, worlds}
+use Rattle.network_steps.specs.Steps.{is_sovereign, exec_read, exec_by, exec_at, exec, nowhere, name_at, run_for, sender_after, receiver_after, delivered, delivery_of, deliver, is_claim, posted, posting, claim_by, claim_on, claim, Link, next_channel, deliveries, world_behind, Step, Exec, Deliver, Claim, Drain, Balances, Traps, Queues, Supply, after, worlds}
+use Rattle.network_steps.specs.CallerLaws.{by_caller}
+use Rattle.chain_pools.specs.Exchanges.{is_pool_account}
 use Rattle.network_steps.specs.Sends.{deliveries_left}
 use Rattle.message_shapes.specs.Shapes.{IsShaped, AreShapedIn, AreShapedAt, AllShaped}
 use Rattle.message_shapes.specs.StepLaws.{between_says, set_read}
@@ -85,7 +87,7 @@ parts_set w k m all sound d z at = ⊎_elim (λ (e : (d ≡ k) × (z ≡ m)). su
 told_later : (p : ChainPart) (events : List Event) → IsSoundPart p → IsSoundPart (record p { events = events })
 unfolding in_kept
 told_later p events s = record {
-  rest = record { order = record { traps = s.rest.order.traps; rates = s.rest.order.rates; paid = s.rest.order.paid; unparked = s.rest.order.unparked }; slot = s.rest.slot };
+  rest = record { order = record { traps = s.rest.order.traps; rates = s.rest.order.rates; paid = s.rest.order.paid; pools = s.rest.order.pools; unparked = s.rest.order.unparked }; slot = s.rest.slot };
   cargo = s.cargo;
   listed = s.listed;
   trusted = s.trusted;
@@ -160,7 +162,7 @@ trusted_pushed site rows to program runs (c ∷ cs) all =
 posted_sound : (to : ChainId) (program : List Instruction) (p : ChainPart) → IsRunnable program → IsSoundPart p → IsSoundPart (posted to program p)
 unfolding in_kept
 posted_sound to program p runs s = record {
-  rest = record { order = record { traps = s.rest.order.traps; rates = s.rest.order.rates; paid = s.rest.order.paid; unparked = s.rest.order.unparked }; slot = s.rest.slot };
+  rest = record { order = record { traps = s.rest.order.traps; rates = s.rest.order.rates; paid = s.rest.order.paid; pools = s.rest.order.pools; unparked = s.rest.order.unparked }; slot = s.rest.slot };
   cargo = s.cargo;
   listed = s.listed;
   trusted = trusted_pushed p.site p.rows to program runs p.channels s.trusted;
@@ -241,13 +243,17 @@ module _ (laws : LawsBelow) (shapes : ShapeLaws) (decodes : Decodes) (first : Wo
         (begun_room (chain_of m) m.part (own_room k m at)) m.rules.limit program a runs e in
         record { safe = acts.safe; sound = ended_sound _ acts.sound }
 
-    exec_by_carries : (k : ℕ) (m : Member) (account : List ℕ) (read : Result (List Instruction) MessageFault) → slice_get w k ≡ Some m → is_sovereign account ≡ false → ((program : List Instruction) → read ≡ Ok program → IsRunnable program)
-        → IsCarried (exec_by w k m account read).world
-    exec_by_carries k m account (Err fault) at own runs = still_so
-    exec_by_carries k m account (Ok program) at own runs =
+    exec_read_carries : (k : ℕ) (m : Member) (account : List ℕ) (read : Result (List Instruction) MessageFault) → slice_get w k ≡ Some m → is_sovereign account ≡ false → ((program : List Instruction) → read ≡ Ok program → IsRunnable program)
+        → IsCarried (exec_read w k m account read).world
+    exec_read_carries k m account (Err fault) at own runs = still_so
+    exec_read_carries k m account (Ok program) at own runs =
         let p = begun (chain_of m) cargos.Nothing m.part in
         let acts = executed_well k m account program at own (runs program refl) (admitted m.rules (caller account) m.rules.limit p.queries program) refl in
         one_changes k m (acted m.rules (caller account) m.rules.limit program p).part at acts.safe acts.sound
+
+    exec_by_carries : (k : ℕ) (m : Member) (account : List ℕ) (read : Result (List Instruction) MessageFault) → slice_get w k ≡ Some m → is_sovereign account ≡ false → ((program : List Instruction) → read ≡ Ok program → IsRunnable program)
+        → IsCarried (exec_by w k m account read).world
+    exec_by_carries k m account read at own runs = by_caller (λ (s : Stepped). IsCarried s.world) w (is_pool_account m.part.pools account) (exec_read w k m account read) still_so (exec_read_carries k m account read at own runs)
 
     allowed_carries : (k : ℕ) (account bytes : List ℕ) (sovereign : Bool) → is_sovereign account ≡ sovereign
         → IsCarried (if sovereign then unchanged StepResult.SovereignCaller w else option_map_or (λ (m : Member). exec_by w k m account (message_of bytes)) (slice_get w k) (unchanged StepResult.NoSuchChain w)).world

@@ -21,6 +21,7 @@ use Rattle.asset_wire.specs.declared.version.Version.TheVariants.{V3, V4}
 use Rattle.barriers.specs.declared.barrier.Barrier.{Barrier}
 use Rattle.barriers.specs.declared.barrier.Barrier.TheVariants.{Credit, Paid, Explicit, Unpaid, Responses}
 use Rattle.weight_trader.specs.declared.rate.Rate.{Rate}
+use Rattle.chain_pools.specs.declared.pool.Pool.{Pool}
 use Rattle.trust_tables.specs.declared.rows.AssetRole.{AssetRole}
 use Rattle.trust_tables.specs.declared.rows.AssetRole.TheVariants.{Native, Derivative}
 use Rattle.trust_tables.specs.declared.rows.AssetRow.{AssetRow}
@@ -219,6 +220,17 @@ query place value = do
   id ← needed (codes "id") whole place value
   from ← needed (codes "from") chain place value
   Ok (id, from)
+
+-- ---- pools
+
+-- its two assets, and how many thousandths of what is given don't count
+unfoldable pub pool : Form Pool
+pool place value = do
+  fields (codes "first" ∷ codes "second" ∷ codes "fee" ∷ []) place value
+  first ← needed (codes "first") location place value
+  second ← needed (codes "second") location place value
+  fee ← needed (codes "fee") (number_within 0 999) place value
+  Ok (record { first = first; second = second; fee = fee })
 
 -- ---- channels
 

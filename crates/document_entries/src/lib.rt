@@ -1,4 +1,4 @@
-//! The entries of a network document's lists: barriers, rates, assets, accounts, pallets, queries and channels.
+//! The entries of a network document's lists: barriers, rates, assets, accounts, pallets, queries, pools and channels.
 #![tactic(auto)]
 
 mod accounts;
@@ -8,6 +8,7 @@ mod barrier;
 mod channels;
 mod pallets;
 mod places;
+mod pools;
 mod rates;
 
 pub use accounts::account_of;
@@ -16,4 +17,5 @@ pub use barrier::barrier_of;
 pub use channels::channel_of;
 pub use pallets::{pallet_of, query_of};
 pub use places::{instance_of, location_of, locations_of};
+pub use pools::pool_of;
 pub use rates::{amount_of, rate_of};

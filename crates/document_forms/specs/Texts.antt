@@ -4,7 +4,7 @@ use Rattle.document_forms.specs.declared.fault.NetworkFault.{NetworkFault}
 use Rattle.document_forms.specs.declared.fault.NetworkFault.TheVariants.{NotJson, MissingField, WrongKind, UnknownField, BadValue, Repeated, LimitPassed, Memory}
 use Rattle.document_forms.specs.declared.fault.Place.{Place}
 use Rattle.document_forms.specs.declared.fault.Section.{Section}
-use Rattle.document_forms.specs.declared.fault.Section.TheVariants.{Top, Fields, Barriers, Rates, Assets, Accounts, Pallets, Queries, Channels}
+use Rattle.document_forms.specs.declared.fault.Section.TheVariants.{Top, Fields, Barriers, Rates, Assets, Accounts, Pallets, Queries, Pools, Channels}
 
 abbrev pub section_name : Section → List ℕ
 section_name Top = codes "top"
@@ -15,6 +15,7 @@ section_name Assets = codes "assets"
 section_name Accounts = codes "accounts"
 section_name Pallets = codes "pallets"
 section_name Queries = codes "queries"
+section_name Pools = codes "pools"
 section_name Channels = codes "channels"
 
 abbrev pub in_section : Section → ℕ → List ℕ

@@ -23,6 +23,8 @@ pub enum Section {
     Pallets,
     /// The open queries of a chain.
     Queries,
+    /// The pools of a chain.
+    Pools,
     /// The channels between chains.
     Channels,
 }
@@ -73,6 +75,7 @@ impl fmt::Display for Section {
             Section::Accounts => write!(f, "accounts"),
             Section::Pallets => write!(f, "pallets"),
             Section::Queries => write!(f, "queries"),
+            Section::Pools => write!(f, "pools"),
             Section::Channels => write!(f, "channels"),
         }
     }

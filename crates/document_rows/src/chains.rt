@@ -91,6 +91,28 @@ fn the_fields_of_a_chain(rt: HostRuntime) -> Result<(), Fail> {
                 r#"{"chains":[{"fee_account":7}]}"#,
                 "WrongKind at chains 0 fields 0",
             ),
+            (r#"{"format":2,"chains":[{"calls":true}]}"#, "read"),
+            (
+                r#"{"format":2,"chains":[{"calls":1}]}"#,
+                "WrongKind at chains 0 fields 0",
+            ),
+            (
+                r#"{"chains":[{"calls":true}]}"#,
+                "UnknownField at chains 0 fields 0",
+            ),
+            (r#"{"format":2,"chains":[{"locks":true}]}"#, "read"),
+            (
+                r#"{"format":2,"chains":[{"calls":true,"locks":false}]}"#,
+                "read",
+            ),
+            (
+                r#"{"format":2,"chains":[{"locks":"true"}]}"#,
+                "WrongKind at chains 0 fields 0",
+            ),
+            (
+                r#"{"chains":[{"locks":true}]}"#,
+                "UnknownField at chains 0 fields 0",
+            ),
             (
                 r#"{"chains":[{"rates":{},"barriers":[7]}]}"#,
                 "WrongKind at chains 0 fields 0",

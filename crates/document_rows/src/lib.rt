@@ -10,6 +10,8 @@ mod entries;
 #[cfg(test)]
 mod networks;
 #[cfg(test)]
+mod pools;
+#[cfg(test)]
 mod reading;
 #[cfg(test)]
 mod references;

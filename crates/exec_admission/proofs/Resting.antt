@@ -27,6 +27,7 @@ trapped_rests p goods origin rest all = record {
     traps = trapped_listed (listing p.rows) p goods origin rest.order.traps all;
     rates = rest.order.rates;
     paid = rest.order.paid;
+    pools = rest.order.pools;
     unparked = rest.order.unparked;
   };
   slot = rest.slot;
@@ -35,7 +36,7 @@ trapped_rests p goods origin rest all = record {
 -- ---- the line of the end, and settlement
 told_rests : (p : ChainPart) (e : Event) → IsAtRest p → IsAtRest (told p e)
 unfolding told
-told_rests p e rest = record { order = record { traps = rest.order.traps; rates = rest.order.rates; paid = rest.order.paid; unparked = rest.order.unparked }; slot = rest.slot }
+told_rests p e rest = record { order = record { traps = rest.order.traps; rates = rest.order.rates; paid = rest.order.paid; pools = rest.order.pools; unparked = rest.order.unparked }; slot = rest.slot }
 
 told_rows : (p : ChainPart) (e : Event) → (told p e).rows ≡ p.rows
 unfolding told
@@ -44,7 +45,7 @@ told_rows p e = refl
 settled_rests : (p : ChainPart) → IsAtRest p → IsAtRest (settled p)
 unfolding settled
 settled_rests p rest = record {
-  order = record { traps = rest.order.traps; rates = closed_listed p.lines (listing p.rows) rest.order.rates; paid = closed_within p.lines; unparked = rest.order.unparked };
+  order = record { traps = rest.order.traps; rates = closed_listed p.lines (listing p.rows) rest.order.rates; paid = closed_within p.lines; pools = rest.order.pools; unparked = rest.order.unparked };
   slot = rest.slot;
 }
 

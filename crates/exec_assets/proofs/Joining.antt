@@ -14,8 +14,10 @@ use Rattle.message_parts.specs.declared.weight.Weight.{Weight}
 use Rattle.message_parts.specs.declared.weight.WeightLimit.{WeightLimit}
 use Rattle.message_parts.specs.declared.weight.WeightLimit.TheVariants.{Limited}
 use Rattle.asset_lists.specs.declared.units.Asset.{Asset}
+use Rattle.asset_lists.specs.declared.filters.Filter.{Filter}
 use Rattle.asset_lists.specs.Units.{Unit, unit_of, amount_of, unit_cmp, is_zero}
 use Rattle.asset_bundles.specs.Bundles.{Bundle, unit_keys, rows_of, bundle_of, found, IsHolding}
+use Rattle.asset_bundles.specs.Filters.{Left}
 use Rattle.asset_bundles.specs.BundleLaws.{found-holding, amount-bundle_of}
 use Rattle.xcm_program.specs.declared.instruction.Instruction.{Instruction, roll-Instruction, out-roll-Instruction}
 use Rattle.xcm_program.specs.declared.instruction.Instruction.TheOpen.{Instruction-F}
@@ -24,8 +26,9 @@ use Rattle.xcm_program.specs.Laws.{amounts_open}
 use Rattle.exec_base.specs.Part.{ChainPart}
 use Rattle.exec_base.specs.Sending.{unless}
 use Rattle.exec_base.specs.Host.{withdraw_refusal, withdrawn, receive_refusal, received, claim_refusal, claimed, buy_refusal, bought, unspent, refunded, refund_goods}
+use Rattle.exec_base.specs.Pools.{exchange_refusal, exchanged, exchange_goods}
 use Rattle.exec_run.specs.Machine.{Machine}
-use Rattle.exec_rules.specs.Holdings.{with_origin, at_origin, has_room, with_room, holds_asset, holds_list, holding_more, holding_paid, payment_of, is_ticket, not_refunded, refund_now, refund_refusal, refund_done, refund_joined}
+use Rattle.exec_rules.specs.Holdings.{with_origin, at_origin, has_room, with_room, holds_asset, holds_list, holding_more, taken_of, holding_left, holding_paid, payment_of, is_ticket, not_refunded, refund_now, refund_refusal, refund_done, refund_joined}
 use Rattle.exec_rules.specs.AnswerLaws.{withdrawn_is_listed, received_is_listed}
 use Rattle.exec_rules.specs.Instructions.{refused, done, refusal_of, xcm}
 use Rattle.exec_rules.specs.Readiness.{IsSteady, IsSound}
@@ -89,6 +92,23 @@ bought_joinable law m p fees w left payment rest steady held pays lefts ok rests
     (joinable_at (holding_paid m fees).regs.holding p (bought m.part w (payment_of fees)) rest (unspent m.part w (payment_of fees))
     (bought_joins law m fees w steady held (sym (ap (buy_refusal m.part w) pays) ∙ ok))
     (rests ∙ ap (unspent m.part w) pays) (now ∙ ap (bought m.part w) pays))
+
+exchanged_joins : LeavesSteady → (m : Machine) (filter : Filter) (want : List Asset) (maximal : Bool) → IsSteady m → has_room m (length want) ≡ true → exchange_refusal m.part (taken_of m filter) want maximal ≡ None
+    → IsJoinable (Left filter m.regs.holding) (exchanged m.part (taken_of m filter) want maximal) (exchange_goods m.part (taken_of m filter) want maximal)
+exchanged_joins law m filter want maximal steady room ok =
+    let give = taken_of m filter in
+    joinable_before (holding_left m filter m.part) (exchanged m.part give want maximal) (exchange_goods m.part give want maximal)
+    (done_steady law (Instruction-F.ExchangeAsset filter want maximal) m steady (ap (λ (b : Bool). unless b error.HoldingWouldOverflow (exchange_refusal m.part give want maximal)) room ∙ ok))
+
+-- what was taken is exchanged, and what came of it may be joined to what was left
+pub exchanged_joinable : LeavesSteady → (m : Machine) (p : ChainPart) (filter : Filter) (want : List Asset) (maximal : Bool) (left give got : Bundle) → IsSteady m → has_room m (length want) ≡ true
+    → give ≡ taken_of m filter → left ≡ Left filter m.regs.holding → exchange_refusal m.part give want maximal ≡ None → got ≡ exchange_goods m.part give want maximal → p ≡ exchanged m.part give want maximal
+    → IsJoinable left p got
+exchanged_joinable law m p filter want maximal left give got steady room gives lefts ok gots now =
+    subst (λ (b : Bundle). IsJoinable b p got) (sym lefts)
+    (joinable_at (Left filter m.regs.holding) p (exchanged m.part (taken_of m filter) want maximal) got (exchange_goods m.part (taken_of m filter) want maximal)
+    (exchanged_joins law m filter want maximal steady room (sym (ap (λ (b : Bundle). exchange_refusal m.part b want maximal) gives) ∙ ok))
+    (gots ∙ ap (λ (b : Bundle). exchange_goods m.part b want maximal) gives) (now ∙ ap (λ (b : Bundle). exchanged m.part b want maximal) gives))
 
 refund_steady : (m : Machine) (given : Location × ℕ) → IsSteady (refund_done m (Some given)) → IsSteady (refund_joined m)
 refund_steady m given steady = record { rest = steady.rest; holding = steady.holding }

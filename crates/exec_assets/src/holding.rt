@@ -6,29 +6,10 @@ ghost use Rattle.exec_rules.specs.Functions.{Ran, IsReadyFor};
 ghost use Rattle.exec_rules.specs.Stopping.{Spilled};
 
 use asset_bundles::law_of_bundles;
-use asset_lists::{Assets, Filter};
+use asset_lists::Assets;
 use exec_base::{Host, Registers};
-use exec_holding::has_room;
 use message_parts::XcmError;
 use std::alloc::AllocError;
-
-/// 15 ExchangeAsset: no exchange is configured, so there is never a deal.
-pub fn exchange_asset<H: Host>(
-    r: &mut Registers,
-    h: &mut H,
-    give: &Filter,
-    want: &Assets,
-    maximal: bool,
-) -> Result<Result<(), XcmError>, AllocError>
-    requires ready { IsReadyFor (Instruction-F.ExchangeAsset give.now want.now maximal) (machine r.old (H.part h.old)) }
-    ensures ok { IfOk result (λ answer. Ran (Instruction-F.ExchangeAsset give.now want.now maximal) (machine r.old (H.part h.old)) answer (machine r.new (H.part h.new))) }
-    ensures err { OnErr result (Spilled (Instruction-F.ExchangeAsset give.now want.now maximal) (machine r.old (H.part h.old)) (machine r.new (H.part h.new))) }
-{
-    if !has_room(&r.holding, r.max_holding, want.items().len()) {
-        return Ok(Err(XcmError::HoldingWouldOverflow));
-    }
-    Ok(Err(XcmError::NoDeal))
-}
 
 /// 29 ExpectAsset: asks whether all the assets are held in full.
 pub fn expect_asset<H: Host>(

@@ -3,6 +3,7 @@
 
 mod arriving;
 mod buying;
+mod exchanges;
 mod holding;
 mod taking;
 
@@ -10,5 +11,6 @@ pub use arriving::{
     claim_asset, receive_teleported_asset, reserve_asset_deposited, withdraw_asset,
 };
 pub use buying::{buy_execution, refund_surplus};
-pub use holding::{exchange_asset, expect_asset};
+pub use exchanges::exchange_asset;
+pub use holding::expect_asset;
 pub use taking::{burn_asset, deposit_asset, transfer_asset};

@@ -1,5 +1,5 @@
 -- What each call of a host refuses, in the written order of the rules, and the part that it leaves where it refuses nothing.
-use Rattle.std.specs.Prelude.{◌≡◌, ◌⊎◌, ℕ, ◌+◌, ◌-◌, ◌/◌, ◌%◌, ◌^◌, ◌==◌, min, nat_lt, nat_le, not, IsTrue, ◌&&◌, Bool, true, false, is_some, if◌then◌else◌, List, [], ◌∷◌, ◌++◌, map, position, remove, slice_get, Option, Some, None, option_and_then, Result, Ok, Err}
+use Rattle.std.specs.Prelude.{◌≡◌, ◌⊎◌, ℕ, zero, ◌+◌, ◌-◌, ◌/◌, ◌%◌, ◌^◌, ◌==◌, min, nat_lt, nat_le, not, IsTrue, ◌&&◌, Bool, true, false, is_some, if◌then◌else◌, List, [], ◌∷◌, ◌++◌, map, position, remove, slice_get, Option, Some, None, option_and_then, Result, Ok, Err}
 use Rattle.std.specs.Option.{option_map, option_map_or}
 use Rattle.std.specs.List.{list_any}
 use Rattle.std.specs.Ordering.{eq_by_cmp, nat_cmp, on, then_cmp}
@@ -11,6 +11,7 @@ use Rattle.locations.specs.declared.relative.Location.{Location}
 use Rattle.locations.specs.Order.{location_cmp}
 use Rattle.locations.specs.Chains.{path_of}
 use Rattle.locations.specs.declared.grammar.Junction.{Junction}
+use Rattle.locations.specs.declared.grammar.Junction.TheVariants.{AccountId32}
 use Rattle.locations.specs.Reanchoring.{reanchored}
 use Rattle.message_parts.specs.declared.error.XcmError.{XcmError}
 use Rattle.message_parts.specs.declared.error.XcmError.TheVariants as error
@@ -21,8 +22,9 @@ use Rattle.message_parts.specs.declared.query.OpenQuery.{OpenQuery}
 use Rattle.asset_lists.specs.declared.units.Asset.{Asset}
 use Rattle.asset_lists.specs.declared.units.AssetId.{AssetId}
 use Rattle.asset_lists.specs.declared.units.Fun.{Fun}
+use Rattle.asset_lists.specs.declared.units.Instance.{Instance}
 use Rattle.asset_lists.specs.Units.{Unit, unit_of, unit_cmp, amount_of, instance_in}
-use Rattle.asset_lists.specs.Moves.{reanchored_list}
+use Rattle.asset_lists.specs.Moves.{moved, reanchored_list}
 use Rattle.asset_bundles.specs.declared.shipment.Way.{Way}
 use Rattle.asset_bundles.specs.declared.book.Cause.{Cause}
 use Rattle.asset_bundles.specs.declared.totals.Total.{Total}
@@ -45,10 +47,12 @@ use Rattle.weight_trader.specs.Purchases.{Line, coin_of, paying, unspent_at, exc
 use Rattle.weight_trader.specs.Refunds.{refund_of, goods_of, Refunded, Closed}
 use Rattle.xcm_program.specs.declared.instruction.Instruction.{Instruction, roll-Instruction}
 use Rattle.xcm_program.specs.declared.instruction.Instruction.TheOpen.{Instruction-F}
+use Rattle.chain_pools.specs.Exchanges.{is_pool_account}
 use Rattle.exec_base.specs.declared.event.Event.{Event}
 use Rattle.exec_base.specs.Part.{Taken, ChainPart, accounts_of, book_of}
 use Rattle.exec_base.specs.Arrivals.{arrived_list, is_this_list}
-use Rattle.exec_base.specs.Sending.{unless, or_else, channel_to, send_refusal, sent, deposit_program, away_program, listed_refusal, listed_program}
+use Rattle.exec_base.specs.Sending.{unless, or_else, channel_to, send_refusal, sent, deposit_program, away_program, listed_refusal, listed_program, named_refusal, named_sent}
+use Rattle.asset_locks.specs.LockMaps.{LockKey, NoteKey, LocksAndNotes, lock_at, floor, noted, Locked, Unlocked, Noted, Reduced}
 
 -- the first asset in order that is refused decides
 abbrev pub first_fault : (Asset → Option XcmError) → List Asset → Option XcmError
@@ -118,10 +122,18 @@ unfoldable pub cargo_after : ChainPart → Arrival → List Asset → Taken
 cargo_after p arrival list = if is_cargo p arrival list then (record { sender = p.cargo.sender; cargo = Nothing }) else p.cargo
 
 -- ---- moves
+-- how much of a unit an account must keep: only fungible assets are locked
+abbrev pub floor_at : LocksAndNotes → List ℕ → AssetId → Option Instance → ℕ
+floor_at l who (AssetId.Concrete id) None = floor who id l
+floor_at l who _ _ = 0
+
+abbrev pub floor_of : ChainPart → List ℕ → Unit → ℕ
+floor_of p who unit = floor_at p.locked who unit.0 unit.1
+
 abbrev pub give_fault : ChainPart → Option (List ℕ) → Asset → Option XcmError
 give_fault p account a =
     unless (is_some (row_of p.rows a)) error.AssetNotFound
-    (with_account account (λ who. unless (nat_le (amount_of a) (amount p.held (who, unit_of a))) error.FailedToTransactAsset None))
+    (with_account account (λ who. unless (nat_le (amount_of a + floor_of p who (unit_of a)) (amount p.held (who, unit_of a))) error.FailedToTransactAsset None))
 
 abbrev pub take_fault : ChainPart → Option (List ℕ) → Asset → Option XcmError
 take_fault p account a =
@@ -383,6 +395,104 @@ fee_kept p = record p { fee_slot = empty; fees = fees_with p.fees p.fee_slot }
 -- a fee from an account ends no cargo
 unfoldable pub fee_drawn : ChainPart → List Asset → Location → ChainPart
 fee_drawn p list who = given p list who
+
+-- ---- locks
+-- on a chain where assets may be locked; else there is nothing to lock
+abbrev pub where_locks : ChainPart → Option XcmError → Option XcmError
+where_locks p next = unless p.locks error.LockError next
+
+-- the id of a fungible asset; there are no locks of others
+abbrev pub fungible_id : AssetId → Fun → Option Location
+fungible_id (AssetId.Concrete id) (Fun.Fungible n) = Some id
+fungible_id _ _ = None
+
+abbrev pub lock_id : Asset → Option Location
+lock_id a = fungible_id a.id a.fun
+
+-- the lock of an asset on the account of a place, that the unlocker may let fall
+abbrev pub lock_key : ChainPart → Asset → Location → Location → Option LockKey
+lock_key p a owner unlocker =
+    option_and_then (λ (id : Location). option_map (λ (who : List ℕ). let key : LockKey = (who, id, unlocker) in key) (account_of owner p.site)) (lock_id a)
+
+-- the account may be locked so far: it has as much, and is no pool's
+abbrev pub is_lockable : ChainPart → Asset → LockKey → Bool
+is_lockable p a key =
+    is_some (row_of p.rows a)
+    && (not (is_pool_account p.pools key.0) && nat_le (amount_of a) (amount p.held (key.0, unit_of a)))
+
+-- a place, and an asset, as the destination names them
+abbrev pub place_seen : ChainPart → Location → Location → Option Location
+place_seen p dest place = querier_from (reanchored place dest (path_of_site p.site))
+
+abbrev pub asset_seen : ChainPart → Location → Asset → Option Asset
+asset_seen p dest a = moved dest (path_of_site p.site) a
+
+-- the unlocker is told of the lock
+abbrev pub note_program : ChainPart → Asset → Location → Location → Option (List Instruction)
+note_program p a owner unlocker =
+    option_and_then (λ (asset : Asset). option_map (λ (place : Location). roll-Instruction (Instruction-F.NoteUnlockable asset place) ∷ []) (place_seen p unlocker owner)) (asset_seen p unlocker a)
+
+unfoldable pub lock_refusal : ChainPart → Asset → Location → Location → Option XcmError
+lock_refusal p a owner unlocker =
+    where_locks p (unless (option_map_or (is_lockable p a) (lock_key p a owner unlocker) false) error.LockError (named_refusal p unlocker (note_program p a owner unlocker)))
+
+abbrev pub with_lock : ChainPart → Asset → Option LockKey → ChainPart
+with_lock p a key = record p { locked = option_map_or (λ (k : LockKey). Locked k (amount_of a) p.locked) key p.locked }
+
+unfoldable pub asset_locked : ChainPart → Asset → Location → Location → ChainPart
+asset_locked p a owner unlocker = named_sent (with_lock p a (lock_key p a owner unlocker)) unlocker (note_program p a owner unlocker)
+
+unfoldable pub unlock_refusal : ChainPart → Asset → Location → Location → Option XcmError
+unlock_refusal p a target from = where_locks p (unless (option_map_or (λ (k : LockKey). nat_le (amount_of a) (lock_at k p.locked)) (lock_key p a target from) false) error.LockError None)
+
+unfoldable pub asset_unlocked : ChainPart → Asset → Location → Location → ChainPart
+asset_unlocked p a target from = record p { locked = option_map_or (λ (k : LockKey). Unlocked k (amount_of a) p.locked) (lock_key p a target from) p.locked }
+
+-- the account that a place's last junction names
+abbrev pub last_account : List Junction → Option (List ℕ)
+last_account [] = None
+last_account (AccountId32 network id ∷ []) = Some id
+last_account (j ∷ rest) = last_account rest
+
+unfoldable pub note_key : Asset → Location → Location → Option NoteKey
+note_key a owner from = option_and_then (λ (id : Location). option_map (λ (who : List ℕ). let key : NoteKey = (from, id, who) in key) (last_account owner.interior)) (lock_id a)
+
+unfoldable pub note_refusal : ChainPart → Asset → Location → Location → Option XcmError
+note_refusal p a owner from = where_locks p (unless (is_some (note_key a owner from)) error.LockError None)
+
+unfoldable pub asset_noted : ChainPart → Asset → Location → Location → ChainPart
+asset_noted p a owner from = record p { locked = option_map_or (λ (k : NoteKey). Noted k (amount_of a) p.locked) (note_key a owner from) p.locked }
+
+-- the account of a place on the chain itself that is just an account
+abbrev pub own_account : Location → Option (List ℕ)
+own_account l = at l.parents l.interior
+  where
+    at : ℕ → List Junction → Option (List ℕ)
+    at zero (AccountId32 network id ∷ []) = Some id
+    at _ _ = None
+
+unfoldable pub request_key : Asset → Location → Location → Option NoteKey
+request_key a owner locker = option_and_then (λ (id : Location). option_map (λ (who : List ℕ). let key : NoteKey = (locker, id, who) in key) (own_account owner)) (lock_id a)
+
+abbrev pub account_place : List ℕ → Location
+account_place who = record { parents = 0; interior = AccountId32 None who ∷ [] }
+
+-- the locker is asked to unlock
+abbrev pub unlock_program : ChainPart → Asset → Option NoteKey → Location → Option (List Instruction)
+unlock_program p a key locker =
+    option_and_then (λ (k : NoteKey). option_map (λ (asset : Asset). roll-Instruction (Instruction-F.UnlockAsset asset (account_place k.2)) ∷ []) (asset_seen p locker a)) key
+
+unfoldable pub request_refusal : ChainPart → Asset → Location → Location → Option XcmError
+request_refusal p a owner locker =
+    where_locks p
+    (unless (option_map_or (λ (k : NoteKey). nat_le (amount_of a) (noted k p.locked)) (request_key a owner locker) false) error.LockError
+    (named_refusal p locker (unlock_program p a (request_key a owner locker) locker)))
+
+abbrev pub with_less_noted : ChainPart → Asset → Option NoteKey → ChainPart
+with_less_noted p a key = record p { locked = option_map_or (λ (k : NoteKey). Reduced k (amount_of a) p.locked) key p.locked }
+
+unfoldable pub asset_requested : ChainPart → Asset → Location → Location → ChainPart
+asset_requested p a owner locker = named_sent (with_less_noted p a (request_key a owner locker)) locker (unlock_program p a (request_key a owner locker) locker)
 
 -- ---- events
 unfoldable pub told : ChainPart → Event → ChainPart

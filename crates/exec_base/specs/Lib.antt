@@ -3,3 +3,5 @@ pub mod Arrivals
 pub mod Answers
 pub mod Sending
 pub mod Host
+pub mod Calls
+pub mod Pools

@@ -1,5 +1,5 @@
 -- A chain's part of the world, as contracts see it: what it lists, what stands where, what it sends, and what is told.
-use Rattle.std.specs.Prelude.{ℕ, List, Option}
+use Rattle.std.specs.Prelude.{ℕ, Bool, List, Option}
 use Rattle.chain_ids.specs.declared.chain.ChainId.{ChainId}
 use Rattle.message_parts.specs.declared.pallet.PalletInfo.{PalletInfo}
 use Rattle.message_parts.specs.declared.query.OpenQuery.{OpenQuery}
@@ -9,6 +9,7 @@ use Rattle.asset_bundles.specs.Bundles.{Bundle}
 use Rattle.asset_bundles.specs.Books.{Burns, Book}
 use Rattle.ledgers.specs.Ledgers.{Held, Accounts}
 use Rattle.trap_store.specs.Traps.{Store}
+use Rattle.asset_locks.specs.LockMaps.{LocksAndNotes}
 use Rattle.trust_tables.specs.Trust.{listing}
 use Rattle.channel_parts.specs.declared.cargo.Cargo.{Cargo}
 use Rattle.channel_parts.specs.Channels.{Outgoing}
@@ -38,6 +39,8 @@ pub record ChainPart : Type 0 where
   pub burns : Burns
   -- for each row, its checking account
   pub checking : List (Option ℕ)
+  -- what of the accounts is locked, and what is noted of locks elsewhere
+  pub locked : LocksAndNotes
   -- messages
   pub queries : List OpenQuery
   pub channels : List Outgoing

@@ -87,3 +87,13 @@ listed_refusal p dest program (Some list) = send_refusal p dest (nat_le (length 
 abbrev pub listed_program : (List Asset → List Instruction) → Option (List Asset) → List Instruction
 listed_program program None = []
 listed_program program (Some list) = program list
+
+-- a program without a list, that names what the receiver can name, or the refusal
+abbrev pub named_refusal : ChainPart → Location → Option (List Instruction) → Option XcmError
+named_refusal p dest None = Some error.ReanchorFailed
+named_refusal p dest (Some program) = send_refusal p dest true program
+
+-- it stands last in its channel, and nothing goes with it
+abbrev pub named_sent : ChainPart → Location → Option (List Instruction) → ChainPart
+named_sent p dest None = p
+named_sent p dest (Some program) = sent p dest program Cargo.Nothing

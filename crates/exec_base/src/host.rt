@@ -3,6 +3,7 @@
 use crate::{Event, HostFault};
 use asset_bundles::{AssetBundle, Way};
 use asset_lists::{Asset, Assets};
+use call_dispatch::{Call, CallEnd};
 use locations::Location;
 use message_parts::{OpenQuery, PalletInfo, QueryInfo, Response, Weight};
 use std::alloc::AllocError;
@@ -11,7 +12,7 @@ use xcm_program::Program;
 
 /// A chain, as a program of instructions sees it. Each call answers as its rule says, all or nothing, or memory is refused and the part is as it was.
 pub trait Host {
-    ghost use Rattle.std.specs.Prelude.{◌≡◌, ◌<◌, ◌≤◌, length, is_some, None, [], ◌∷◌, IfSome, OnOk};
+    ghost use Rattle.std.specs.Prelude.{◌≡◌, true, ◌<◌, ◌≤◌, length, is_some, None, [], ◌∷◌, IfSome, OnOk};
     ghost use Rattle.std.specs.Option.{option_copied};
     ghost use Rattle.amounts.specs.Amounts.{empty, rows};
     ghost use Rattle.asset_bundles.specs.Bundles.{bundle_of};
@@ -19,10 +20,14 @@ pub trait Host {
     ghost use Rattle.asset_bundles.specs.Joins.{Joined, Excess};
     ghost use Rattle.trust_tables.specs.Trust.{listing};
     ghost use Rattle.weight_trader.specs.Refunds.{refund_of};
+    ghost use Rattle.xcm_program.specs.declared.instruction.Instruction.{roll-Instruction};
+    ghost use Rattle.xcm_program.specs.declared.instruction.Instruction.TheOpen.{Instruction-F};
     ghost use Rattle.exec_base.specs.Part.{ChainPart};
     ghost use Rattle.exec_base.specs.Answers.{Answers, TakesIn, Keeps, Gives, JoinedInto};
     ghost use Rattle.exec_base.specs.Sending.{channel_to, number_to, IsForwardable};
-    ghost use Rattle.exec_base.specs.Host.{withdraw_refusal, withdrawn, deposit_refusal, deposited, transfer_refusal, transferred, receive_refusal, received, transfer_out_refusal, transferred_out, deposit_out_refusal, deposited_out, ship_refusal, shipped, respond_refusal, responded, report_program, IsPrice, IsFeeOrNothing, is_open, answered, buy_refusal, unspent, bought, refund_goods, refunded, joined, burnt, claim_refusal, claimed, trapped, parked, settled, fee_to, fee_held, fee_taken, fee_kept, fee_drawn, told};
+    ghost use Rattle.exec_base.specs.Calls.{Dispatches};
+    ghost use Rattle.exec_base.specs.Pools.{exchange_refusal, exchanged, exchange_goods};
+    ghost use Rattle.exec_base.specs.Host.{withdraw_refusal, withdrawn, deposit_refusal, deposited, transfer_refusal, transferred, receive_refusal, received, transfer_out_refusal, transferred_out, deposit_out_refusal, deposited_out, ship_refusal, shipped, respond_refusal, responded, report_program, IsPrice, IsFeeOrNothing, is_open, answered, buy_refusal, unspent, bought, refund_goods, refunded, joined, burnt, claim_refusal, claimed, lock_refusal, asset_locked, unlock_refusal, asset_unlocked, note_refusal, asset_noted, request_refusal, asset_requested, trapped, parked, settled, fee_to, fee_held, fee_taken, fee_kept, fee_drawn, told};
 
     /// The chain's part of the world.
     ghost part: { Self → ChainPart };
@@ -185,6 +190,62 @@ pub trait Host {
         requires price { IsPrice fee.now }
         ensures step { Answers (withdraw_refusal (part self.old) (fee.now ∷ []) who.now) (bundle_of (fee.now ∷ [])) (fee_drawn (part self.old) (fee.now ∷ []) who.now) (part self.old) result (part self.new) }
         ensures back { OnOk result (deposit_refusal (part self.new) (bundle_of (fee.now ∷ [])) who.now ≡ None) };
+
+    /// Whether the chain serves calls.
+    fn calls(&self) -> bool
+        ensures { result ≡ (part self.now).calls };
+
+    /// Does a call for an account, and keeps the line back that tells of it. Where memory is refused a front of a batch may have been done.
+    /// Where the chain serves no calls it changes nothing.
+    fn dispatch(&mut self, who: &[u8; 32], call: &Call) -> Result<CallEnd, AllocError>
+        ensures step { Dispatches (part self.old).calls (part self.old) who.now call.now result
+            (part self.new) };
+
+    /// Whether assets may be locked here.
+    fn locks(&self) -> bool
+        ensures { result ≡ (part self.now).locks };
+
+    /// Locks so much of an asset on the owner's account, and tells the unlocker.
+    fn lock(
+        &mut self,
+        asset: &Asset,
+        owner: &Location,
+        unlocker: &Location,
+    ) -> Result<u64, HostFault>
+        requires forwardable { IsForwardable (roll-Instruction (Instruction-F.LockAsset asset.now unlocker.now) ∷ []) }
+        ensures step { Answers (lock_refusal (part self.old) asset.now owner.now unlocker.now) (number_to (part self.old) unlocker.now) (asset_locked (part self.old) asset.now owner.now unlocker.now) (part self.old) result (part self.new) };
+
+    /// Lets a lock fall, of which `from` is the unlocker.
+    fn unlock(&mut self, asset: &Asset, target: &Location, from: &Location) -> Result<(), HostFault>
+        ensures step { Answers (unlock_refusal (part self.old) asset.now target.now from.now) tt (asset_unlocked (part self.old) asset.now target.now from.now) (part self.old) result (part self.new) };
+
+    /// Notes a lock that `from` holds.
+    fn note(&mut self, asset: &Asset, owner: &Location, from: &Location) -> Result<(), HostFault>
+        requires forwardable { IsForwardable (roll-Instruction (Instruction-F.NoteUnlockable asset.now owner.now) ∷ []) }
+        ensures step { Answers (note_refusal (part self.old) asset.now owner.now from.now) tt (asset_noted (part self.old) asset.now owner.now from.now) (part self.old) result (part self.new) };
+
+    /// Asks the locker to let a lock fall that is noted, and lowers the note.
+    fn request(
+        &mut self,
+        asset: &Asset,
+        owner: &Location,
+        locker: &Location,
+    ) -> Result<u64, HostFault>
+        requires forwardable { IsForwardable (roll-Instruction (Instruction-F.RequestUnlock asset.now locker.now) ∷ []) }
+        ensures step { Answers (request_refusal (part self.old) asset.now owner.now locker.now) (number_to (part self.old) locker.now) (asset_requested (part self.old) asset.now owner.now locker.now) (part self.old) result (part self.new) };
+
+    /// Exchanges goods for what is wanted with one of the chain's pools, and hands back all that comes of them: as much as there is for the
+    /// goods where `maximal`, else just what is wanted for as little as it costs.
+    fn exchange(
+        &mut self,
+        give: AssetBundle,
+        want: &Assets,
+        maximal: bool,
+    ) -> Result<AssetBundle, (AssetBundle, HostFault)>
+        ensures step { TakesIn (exchange_refusal (part self.old) give want.now maximal) give
+            (exchange_goods (part self.old) give want.now maximal)
+            (exchanged (part self.old) give want.now maximal) (part self.old) result
+            (part self.new) };
 
     /// Tells an event, and behind it what is kept back.
     fn event(&mut self, e: Event) -> Result<(), AllocError>

@@ -1,4 +1,5 @@
 //! What the network document says of a chain.
+use chain_pools::Pool;
 use message_parts::PalletInfo;
 use plain_lists::Listed;
 use trust_tables::{AssetRow, Site};
@@ -14,4 +15,10 @@ pub struct Settings {
     pub pallets: Listed<PalletInfo>,
     /// The account that fees are paid to.
     pub fee_account: [u8; 32],
+    /// Whether it serves calls.
+    pub calls: bool,
+    /// Whether assets may be locked there.
+    pub locks: bool,
+    /// Its pools, which exchange assets for one another.
+    pub pools: Listed<Pool>,
 }

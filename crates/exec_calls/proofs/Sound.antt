@@ -92,7 +92,7 @@ StaysSteady m n = IsSteady m → IsSteady n
 told_steady : (e : Event) (m : Machine) → StaysSteady m (record m { part = told m.part e })
 unfolding told
 told_steady e m steady = record {
-  rest = record { order = record { traps = steady.rest.order.traps; rates = steady.rest.order.rates; paid = steady.rest.order.paid; unparked = steady.rest.order.unparked }; slot = steady.rest.slot };
+  rest = record { order = record { traps = steady.rest.order.traps; rates = steady.rest.order.rates; paid = steady.rest.order.paid; pools = steady.rest.order.pools; unparked = steady.rest.order.unparked }; slot = steady.rest.slot };
   holding = steady.holding;
 }
 

@@ -6,6 +6,7 @@ use Rattle.locations.specs.declared.relative.Location.{Location}
 use Rattle.message_parts.specs.declared.pallet.PalletInfo.{PalletInfo}
 use Rattle.message_parts.specs.declared.query.QueryInfo.{QueryInfo}
 use Rattle.message_parts.specs.declared.query.Response.TheVariants as response
+use Rattle.message_parts.specs.declared.weight.Weight.{Weight}
 use Rattle.message_parts.specs.declared.weight.WeightLimit.TheVariants.{Unlimited, Limited}
 use Rattle.asset_lists.specs.declared.units.Asset.{Asset}
 use Rattle.asset_bundles.specs.Bundles.{Bundle}
@@ -13,17 +14,19 @@ use Rattle.asset_bundles.specs.Books.{AreListed}
 use Rattle.trust_tables.specs.Trust.{listing}
 use Rattle.xcm_program.specs.declared.instruction.Instruction.{Instruction, out-Instruction}
 use Rattle.xcm_program.specs.declared.instruction.Instruction.TheOpen.{Instruction-F}
+use Rattle.call_dispatch.specs.Spelling.{AnyCall}
 use Rattle.exec_base.specs.declared.registers.Registers.{Registers}
 use Rattle.exec_base.specs.Part.{ChainPart}
 use Rattle.exec_base.specs.Host.{fee_to}
 use Rattle.exec_run.specs.Machine.{Machine, machine}
+use Rattle.exec_rules.specs.Calls.{call_in, caller_in}
 use Rattle.exec_rules.specs.Holdings.{refund_now}
 use Rattle.exec_rules.specs.Fees.{after_fee}
 use Rattle.exec_rules.specs.Reports.{reported_list}
 use Rattle.exec_rules.specs.Expectations.{pallet_at}
 use Rattle.exec_rules.specs.Instructions.{refused, done, xcm}
 use Rattle.exec_rules.specs.Readiness.{IsAtRest, IsSteady}
-use Rattle.exec_calls.specs.Calls.{MachineWithGoods, between, MachineCall, after, after_all, charge, around, refunding, report, size_tests, holding_report, pallet_tests, calls, turned_at}
+use Rattle.exec_calls.specs.Calls.{MachineWithGoods, between, MachineCall, after, after_all, charge, around, refunding, report, size_tests, holding_report, pallet_tests, dispatching, calls, turned_at}
 use Rattle.exec_calls.specs.CallLaws.{after_both, charge_after, done_is}
 use Rattle.exec_calls.specs.Reasons.{IsFrom}
 use Rattle.exec_calls.specs.ReasonLaws.{turns, done_keeps}
@@ -62,6 +65,11 @@ pallet_aside : (m : Machine) (o : Option PalletInfo) (name module_name : List �
 pallet_aside m None name module_name major least_minor = (refl, λ none. none)
 pallet_aside m (Some info) name module_name major least_minor = (refl, λ none. none)
 
+dispatching_aside : (m : Machine) (most : Weight) (c : Option AnyCall) (account : Option (List ℕ)) → LeavesNothingAside (dispatching m most c account) m
+dispatching_aside m most None account = (refl, λ none. none)
+dispatching_aside m most (Some c) None = (refl, λ none. none)
+dispatching_aside m most (Some c) (Some account) = (refl, λ none. none)
+
 abbrev of_origin : Registers → Option Location → ChainPart → Machine
 of_origin r o p = machine (record r { origin = o }) p
 
@@ -89,6 +97,16 @@ aside_by (Instruction-F.ReportTransactStatus info) r o p =
     around_aside (fee_to p info.destination) (of_origin r o p) _ (λ n. (refl, λ none. none))
 aside_by (Instruction-F.ExpectPallet place name module_name major least_minor) r o p =
     pallet_aside (of_origin r o p) (pallet_at (of_origin r o p) place) name module_name major least_minor
+aside_by (Instruction-F.Transact kind most bytes) r None p = (refl, λ none. none)
+aside_by (Instruction-F.Transact kind most bytes) r (Some who) p =
+    let m = of_origin r (Some who) p in
+    dispatching_aside m most (call_in p.calls bytes) (caller_in m kind who)
+aside_by (Instruction-F.LockAsset asset unlocker) r None p = (refl, λ none. none)
+aside_by (Instruction-F.LockAsset asset unlocker) r (Some who) p =
+    around_aside (fee_to p unlocker) (of_origin r (Some who) p) _ (λ n. (refl, λ none. none))
+aside_by (Instruction-F.RequestUnlock asset locker) r None p = (refl, λ none. none)
+aside_by (Instruction-F.RequestUnlock asset locker) r (Some who) p =
+    around_aside (fee_to p locker) (of_origin r (Some who) p) _ (λ n. (refl, λ none. none))
 aside_by _ r None p = (refl, λ none. none)
 aside_by _ r (Some who) p = (refl, λ none. none)
 
@@ -104,7 +122,7 @@ steady_done l m steady ok =
     let listed = listing m.part.rows in
     let order = steady.rest.order in
     let slot = subst (AreListed listed) (sym steady.rest.slot) (nothing_listed listed) in
-    let first : HasListed (between m) = (steady.holding, nothing_listed listed, slot, (order.traps, order.rates, order.paid)) in
+    let first : HasListed (between m) = (steady.holding, nothing_listed listed, slot, (order.traps, order.rates, order.paid, order.pools)) in
     let left = done_keeps l m HasListed (λ c t asks from free h. listed_after c t free h) (turned_listed l m) ok first in
     record {
       rest = record {
@@ -112,6 +130,7 @@ steady_done l m steady ok =
           traps = left.3.0;
           rates = left.3.1;
           paid = left.3.2;
+          pools = left.3.3;
           unparked = ap (λ (t : MachineWithGoods). t.part.parked) (done_is l m) ∙ (none_aside l m).0 ∙ order.unparked;
         };
         slot = ap (λ (t : MachineWithGoods). t.part.fee_slot) (done_is l m) ∙ (none_aside l m).1 steady.rest.slot;

@@ -7,9 +7,11 @@ use Rattle.locations.specs.declared.relative.Location.{Location}
 use Rattle.message_parts.specs.declared.error.XcmError.{XcmError}
 use Rattle.message_parts.specs.declared.error.XcmError.TheVariants as error
 use Rattle.message_parts.specs.declared.pallet.PalletInfo.{PalletInfo}
+use Rattle.message_parts.specs.declared.origin.OriginKind.{OriginKind}
 use Rattle.message_parts.specs.declared.query.QueryInfo.{QueryInfo}
 use Rattle.message_parts.specs.declared.query.Response.{Response}
 use Rattle.message_parts.specs.declared.query.Response.TheVariants as response
+use Rattle.message_parts.specs.declared.weight.Weight.{Weight}
 use Rattle.message_parts.specs.declared.weight.WeightLimit.{WeightLimit}
 use Rattle.message_parts.specs.declared.weight.WeightLimit.TheVariants.{Unlimited, Limited}
 use Rattle.asset_lists.specs.declared.units.Asset.{Asset}
@@ -20,10 +22,12 @@ use Rattle.asset_bundles.specs.Joins.{Joined}
 use Rattle.asset_bundles.specs.declared.shipment.Way.{Way}
 use Rattle.xcm_program.specs.declared.instruction.Instruction.{Instruction}
 use Rattle.xcm_program.specs.declared.instruction.Instruction.TheOpen.{Instruction-F}
+use Rattle.call_dispatch.specs.Spelling.{AnyCall}
 use Rattle.exec_base.specs.declared.registers.Registers.{Registers}
 use Rattle.exec_base.specs.Part.{ChainPart}
 use Rattle.exec_base.specs.Sending.{unless, or_else, channel_to}
 use Rattle.exec_base.specs.Host.{querier_seen, fee_to, fee_held, receive_refusal, joined, refund_goods}
+use Rattle.exec_base.specs.Calls.{dispatched}
 use Rattle.exec_run.specs.Machine.{Machine, machine}
 use Rattle.exec_rules.specs.Holdings.{with_origin, at_origin, with_holding, holding_paid, payment_of, with_room, has_room, holding_more, holding_left, buying_refusal, buying_done, not_refunded, refund_now, refund_refusal, refund_done}
 use Rattle.exec_rules.specs.Fees.{fee_refusal, after_fee, keeping_fee, refused_around, done_around}
@@ -31,8 +35,9 @@ use Rattle.exec_rules.specs.Reports.{report_refused, report_done, pallets_of, re
 use Rattle.exec_rules.specs.Origins.{is_original, fits_below, descended}
 use Rattle.exec_rules.specs.Programs.{with_registers}
 use Rattle.exec_rules.specs.Expectations.{pallet_refusal, pallet_at}
+use Rattle.exec_rules.specs.Calls.{call_in, caller_in, call_refusal, call_done}
 use Rattle.exec_rules.specs.Instructions.{refused, done}
-use Rattle.exec_calls.specs.Calls.{room, size_tests, refund_noted, below_origin, MachineWithGoods, between, MachineCall, why_not, after, effect, after_all, refusal_along, never, for_origin, charge, around, buying, refunding, report, holding_report, pallet_tests, calls, through}
+use Rattle.exec_calls.specs.Calls.{room, size_tests, refund_noted, below_origin, dispatching, call_noted, call_noted_for, MachineWithGoods, between, MachineCall, why_not, after, effect, after_all, refusal_along, never, for_origin, charge, around, buying, refunding, report, holding_report, pallet_tests, calls, through}
 use Rattle.exec_calls.specs.Footprints.{part_is}
 
 -- ---- refusals
@@ -141,6 +146,11 @@ pallet_answer : (m : Machine) (o : Option PalletInfo) (name module_name : List �
 pallet_answer m None name module_name major least_minor = refl
 pallet_answer m (Some info) name module_name major least_minor = test_then _ error.NameMismatch _ _ (one_is _)
 
+call_answer : (m : Machine) (most : Weight) (c : Option AnyCall) (o : Option (List ℕ)) → call_refusal m.regs.rule most c o ≡ refusal_along (dispatching m most c o) (between m)
+call_answer m most None o = refl
+call_answer m most (Some c) None = refl
+call_answer m most (Some c) (Some account) = one_is _
+
 pub refused_is : (l : Instruction-F Instruction) (m : Machine) → refused l m ≡ refusal_along (calls l m) (between m)
 refused_is (Instruction-F.WithdrawAsset list) m = by_origin m.regs.origin _ _ (between m) (λ who. test_then _ error.HoldingWouldOverflow _ _ (one_is _))
 refused_is (Instruction-F.ReserveAssetDeposited list) m = receiving_answer m m.regs.origin list false
@@ -166,16 +176,16 @@ refused_is (Instruction-F.ExpectError failure) m = one_is _
 refused_is (Instruction-F.ExpectTransactStatus status) m = one_is _
 refused_is (Instruction-F.ExpectPallet place name module_name major least_minor) m = pallet_answer m (pallet_at m place) name module_name major least_minor
 refused_is (Instruction-F.UnpaidExecution limit origin) m = one_is _
-refused_is (Instruction-F.Transact kind most call) m = by_origin m.regs.origin _ _ (between m) (λ who. refl)
-refused_is (Instruction-F.ExchangeAsset filter list maximal) m = test_first (has_room m (length list)) error.HoldingWouldOverflow (Some error.NoDeal)
+refused_is (Instruction-F.Transact kind most bytes) m = by_origin m.regs.origin _ _ (between m) (λ who. call_answer m most (call_in m.part.calls bytes) (caller_in m kind who))
+refused_is (Instruction-F.ExchangeAsset filter list maximal) m = test_then (has_room m (length list)) error.HoldingWouldOverflow _ _ (one_is _)
 refused_is (Instruction-F.SubscribeVersion query weight) m = test_first (is_original m) error.BadOrigin (Some error.Unimplemented)
 refused_is Instruction-F.UnsubscribeVersion m = test_first (is_original m) error.BadOrigin (Some error.Unimplemented)
 refused_is (Instruction-F.UniversalOrigin junction) m = test_then _ error.InvalidLocation _ _ (by_origin m.regs.origin _ _ (between m) (λ who. refl))
 refused_is (Instruction-F.ExportMessage network path xcm) m = by_origin m.regs.origin _ _ (between m) (λ who. refl)
-refused_is (Instruction-F.LockAsset asset unlocker) m = by_origin m.regs.origin _ _ (between m) (λ who. refl)
-refused_is (Instruction-F.UnlockAsset asset target) m = by_origin m.regs.origin _ _ (between m) (λ who. refl)
-refused_is (Instruction-F.NoteUnlockable asset owner) m = by_origin m.regs.origin _ _ (between m) (λ who. refl)
-refused_is (Instruction-F.RequestUnlock asset locker) m = by_origin m.regs.origin _ _ (between m) (λ who. refl)
+refused_is (Instruction-F.LockAsset asset unlocker) m = by_origin m.regs.origin _ _ (between m) (λ who. test_then m.part.locks error.LockError _ _ (around_refused (fee_to m.part unlocker) m _ _ (λ n. one_is _)))
+refused_is (Instruction-F.UnlockAsset asset target) m = by_origin m.regs.origin _ _ (between m) (λ who. one_is _)
+refused_is (Instruction-F.NoteUnlockable asset owner) m = by_origin m.regs.origin _ _ (between m) (λ who. one_is _)
+refused_is (Instruction-F.RequestUnlock asset locker) m = by_origin m.regs.origin _ _ (between m) (λ who. test_then m.part.locks error.LockError _ _ (around_refused (fee_to m.part locker) m _ _ (λ n. one_is _)))
 refused_is (Instruction-F.AliasOrigin target) m = by_origin m.regs.origin _ _ (between m) (λ who. refl)
 refused_is _ m = refl
 
@@ -257,6 +267,17 @@ descended_is : (o : Option Location) (m : Machine) (path : List Junction) → be
 descended_is None m path = refl
 descended_is (Some who) m path = refl
 
+call_is : (m : Machine) (most : Weight) (c : Option AnyCall) (o : Option (List ℕ)) → between (call_done m most c o) ≡ (let t = after_all (dispatching m most c o) (between m) in record t { regs = call_noted m most c o t.regs })
+unfolding dispatched
+call_is m most None o = refl
+call_is m most (Some c) None = refl
+call_is m most (Some c) (Some account) = refl
+
+transact_is : (o : Option Location) (m : Machine) (kind : OriginKind) (most : Weight) (bytes : List ℕ) → between (at_origin o (λ who. call_done m most (call_in m.part.calls bytes) (caller_in m kind who)) m)
+    ≡ (let t = after_all (for_origin o (λ who. dispatching m most (call_in m.part.calls bytes) (caller_in m kind who))) (between m) in record t { regs = call_noted_for o m kind most bytes t.regs })
+transact_is None m kind most bytes = refl
+transact_is (Some who) m kind most bytes = call_is m most (call_in m.part.calls bytes) (caller_in m kind who)
+
 pub done_is : (l : Instruction-F Instruction) (m : Machine) → between (done l m) ≡ through l m
 done_is (Instruction-F.WithdrawAsset list) m = at_origin_is m.regs.origin _ _ m (λ who. joins m (MachineCall.Withdraw list who) (bundle_of list) (refl, refl))
 done_is (Instruction-F.ReserveAssetDeposited list) m = joins m (MachineCall.Receive list m.regs.origin false) (bundle_of list) (refl, refl)
@@ -266,6 +287,10 @@ done_is (Instruction-F.DepositAsset filter who) m = left_is m filter (MachineCal
 done_is (Instruction-F.BurnAsset list) m = left_is m (Definite list) MachineCall.Burn
 done_is (Instruction-F.BuyExecution fees limit) m = buying_is m fees limit
 done_is Instruction-F.RefundSurplus m = refunding_is m (refund_now m)
+done_is (Instruction-F.ExchangeAsset filter list maximal) m =
+    let t = after (MachineCall.Take filter) (between m) in
+    let c = MachineCall.Exchange list maximal in
+    sym (more_is t.regs (after c t).part (effect c t) (after c t).goods (part_is c t))
 done_is (Instruction-F.TransferAsset list who) m = at_origin_is m.regs.origin _ _ m (λ from. sym (put_is m.regs (MachineCall.Transfer list from who) (between m)))
 done_is (Instruction-F.TransferReserveAsset list dest xcm) m = at_origin_is m.regs.origin _ _ m
     (λ who. around_is (fee_to m.part dest) m _ _ (λ n. sym (put_is n.regs (MachineCall.TransferOut list who dest xcm) (between n))))
@@ -279,12 +304,12 @@ done_is (Instruction-F.ReportTransactStatus info) m = around_is (fee_to m.part i
 done_is (Instruction-F.QueryResponse query answer weight querier) m = at_origin_is m.regs.origin _ _ m (λ who. sym (put_is m.regs (MachineCall.Answer who query) (between m)))
 done_is (Instruction-F.DescendOrigin path) m = descended_is m.regs.origin m path
 done_is (Instruction-F.ExpectPallet place name module_name major least_minor) m = pallet_is m (pallet_at m place) name module_name major least_minor
-done_is (Instruction-F.Transact kind most call) m = none_changed m.regs.origin m error.FailedToDecode
+done_is (Instruction-F.Transact kind most bytes) m = transact_is m.regs.origin m kind most bytes
 done_is (Instruction-F.UniversalOrigin junction) m = none_changed m.regs.origin m error.InvalidLocation
 done_is (Instruction-F.ExportMessage network path xcm) m = none_changed m.regs.origin m error.Unroutable
-done_is (Instruction-F.LockAsset asset unlocker) m = none_changed m.regs.origin m error.LockError
-done_is (Instruction-F.UnlockAsset asset target) m = none_changed m.regs.origin m error.LockError
-done_is (Instruction-F.NoteUnlockable asset owner) m = none_changed m.regs.origin m error.LockError
-done_is (Instruction-F.RequestUnlock asset locker) m = none_changed m.regs.origin m error.LockError
+done_is (Instruction-F.LockAsset asset unlocker) m = at_origin_is m.regs.origin _ _ m (λ who. around_is (fee_to m.part unlocker) m _ _ (λ n. sym (put_is n.regs (MachineCall.Lock asset who unlocker) (between n))))
+done_is (Instruction-F.UnlockAsset asset target) m = at_origin_is m.regs.origin _ _ m (λ who. sym (put_is m.regs (MachineCall.Unlock asset target who) (between m)))
+done_is (Instruction-F.NoteUnlockable asset owner) m = at_origin_is m.regs.origin _ _ m (λ who. sym (put_is m.regs (MachineCall.Note asset owner who) (between m)))
+done_is (Instruction-F.RequestUnlock asset locker) m = at_origin_is m.regs.origin _ _ m (λ who. around_is (fee_to m.part locker) m _ _ (λ n. sym (put_is n.regs (MachineCall.Request asset who locker) (between n))))
 done_is (Instruction-F.AliasOrigin target) m = none_changed m.regs.origin m error.NoPermission
 done_is _ m = refl

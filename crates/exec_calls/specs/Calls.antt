@@ -14,6 +14,7 @@ use Rattle.locations.specs.declared.relative.Location.{Location}
 use Rattle.message_parts.specs.declared.error.XcmError.{XcmError}
 use Rattle.message_parts.specs.declared.error.XcmError.TheVariants as error
 use Rattle.message_parts.specs.declared.pallet.PalletInfo.{PalletInfo}
+use Rattle.message_parts.specs.declared.origin.OriginKind.{OriginKind}
 use Rattle.message_parts.specs.declared.query.QueryInfo.{QueryInfo}
 use Rattle.message_parts.specs.declared.query.Response.{Response}
 use Rattle.message_parts.specs.declared.query.Response.TheVariants as response
@@ -30,17 +31,22 @@ use Rattle.asset_bundles.specs.Joins.{Joined}
 use Rattle.asset_bundles.specs.declared.shipment.Way.{Way}
 use Rattle.xcm_program.specs.declared.instruction.Instruction.{Instruction}
 use Rattle.xcm_program.specs.declared.instruction.Instruction.TheOpen.{Instruction-F}
+use Rattle.message_parts.specs.Weights.{is_within}
+use Rattle.call_dispatch.specs.Spelling.{AnyCall}
 use Rattle.exec_base.specs.declared.event.Event.{Event}
 use Rattle.exec_base.specs.declared.registers.Registers.{Registers}
 use Rattle.exec_base.specs.Part.{ChainPart}
 use Rattle.exec_base.specs.Sending.{unless, or_else, channel_to}
-use Rattle.exec_base.specs.Host.{withdraw_refusal, withdrawn, deposit_refusal, deposited, transfer_refusal, transferred, receive_refusal, received, transfer_out_refusal, transferred_out, deposit_out_refusal, deposited_out, ship_refusal, shipped, querier_seen, respond_refusal, responded, answered, buy_refusal, unspent, bought, refund_goods, refunded, joined, burnt, claim_refusal, claimed, trapped, parked, settled, fee_to, fee_held, fee_taken, fee_kept, fee_drawn, told}
-use Rattle.exec_run.specs.Machine.{Machine, machine}
+use Rattle.exec_base.specs.Host.{withdraw_refusal, withdrawn, deposit_refusal, deposited, transfer_refusal, transferred, receive_refusal, received, transfer_out_refusal, transferred_out, deposit_out_refusal, deposited_out, ship_refusal, shipped, querier_seen, respond_refusal, responded, answered, buy_refusal, unspent, bought, refund_goods, refunded, joined, burnt, claim_refusal, claimed, trapped, parked, settled, lock_refusal, asset_locked, unlock_refusal, asset_unlocked, note_refusal, asset_noted, request_refusal, asset_requested, fee_to, fee_held, fee_taken, fee_kept, fee_drawn, told}
+use Rattle.exec_base.specs.Calls.{held_dispatched, call_line, dispatch_end}
+use Rattle.exec_base.specs.Pools.{exchange_refusal, exchanged, exchange_goods}
+use Rattle.exec_run.specs.Machine.{Machine, machine, weight_added}
 use Rattle.exec_rules.specs.Holdings.{with_origin, with_holding, has_room, holds_asset, holds_list, payment_of, is_ticket, not_refunded, refund_now, holds_some}
 use Rattle.exec_rules.specs.Fees.{after_fee}
 use Rattle.exec_rules.specs.Reports.{pallets_of, reported_list}
 use Rattle.exec_rules.specs.Origins.{same_origin, is_original, is_checked_origin, fits_below, descended, is_own_network}
 use Rattle.exec_rules.specs.Programs.{with_handler, with_appendix}
+use Rattle.exec_rules.specs.Calls.{call_in, caller_in, call_weight, spare_weight, status_of}
 use Rattle.exec_rules.specs.Expectations.{same_failure, same_status, has_names, has_version, pallet_at}
 
 -- ---- inside an instruction
@@ -74,6 +80,7 @@ pub data MachineCall : Type 0 where
   Deposit : Location → MachineCall
   Burn : MachineCall
   Buy : Weight → MachineCall
+  Exchange : List Asset → Bool → MachineCall
   DepositOut : Location → List Instruction → MachineCall
   Ship : Way → Location → List Instruction → MachineCall
   -- no goods are in hand
@@ -81,6 +88,14 @@ pub data MachineCall : Type 0 where
   TransferOut : List Asset → Location → Location → List Instruction → MachineCall
   Respond : QueryInfo → Response → Option Location → MachineCall
   Answer : Location → ℕ → MachineCall
+  -- amounts move between accounts; and a line is kept back
+  Dispatch : List ℕ → AnyCall → MachineCall
+  KeepBack : Event → MachineCall
+  -- locks, and notes of them
+  Lock : Asset → Location → Location → MachineCall
+  Unlock : Asset → Location → Location → MachineCall
+  Note : Asset → Location → Location → MachineCall
+  Request : Asset → Location → Location → MachineCall
   -- the slot of the delivery fee
   HoldFee : MachineCall
   TakeFee : MachineCall
@@ -106,12 +121,19 @@ why_not (MachineCall.Refund w) t = None
 why_not (MachineCall.Deposit who) t = deposit_refusal t.part t.goods who
 why_not MachineCall.Burn t = None
 why_not (MachineCall.Buy w) t = buy_refusal t.part w t.goods
+why_not (MachineCall.Exchange want maximal) t = exchange_refusal t.part t.goods want maximal
 why_not (MachineCall.DepositOut dest xcm) t = deposit_out_refusal t.part t.goods dest xcm
 why_not (MachineCall.Ship way dest xcm) t = ship_refusal t.part t.goods way dest xcm
 why_not (MachineCall.Transfer list from to) t = transfer_refusal t.part list from to
 why_not (MachineCall.TransferOut list from dest xcm) t = transfer_out_refusal t.part list from dest xcm
 why_not (MachineCall.Respond info answer querier) t = respond_refusal t.part info answer querier
 why_not (MachineCall.Answer from query) t = None
+why_not (MachineCall.Dispatch who c) t = None
+why_not (MachineCall.KeepBack e) t = None
+why_not (MachineCall.Lock a owner unlocker) t = lock_refusal t.part a owner unlocker
+why_not (MachineCall.Unlock a target from) t = unlock_refusal t.part a target from
+why_not (MachineCall.Note a owner from) t = note_refusal t.part a owner from
+why_not (MachineCall.Request a owner locker) t = request_refusal t.part a owner locker
 why_not MachineCall.HoldFee t = None
 why_not MachineCall.TakeFee t = None
 why_not MachineCall.KeepFee t = None
@@ -136,6 +158,12 @@ after (MachineCall.Refund w) t = let q = refunded t.part w in record t { part = 
 after (MachineCall.Deposit who) t = let q = deposited t.part t.goods who in record t { part = record t.part { held = q.held }; goods = empty }
 after MachineCall.Burn t = let q = burnt t.part t.goods in record t { part = record t.part { burns = q.burns; kept_back = q.kept_back }; goods = empty }
 after (MachineCall.Buy w) t = let q = bought t.part w t.goods in record t { part = record t.part { lines = q.lines; burns = q.burns; kept_back = q.kept_back }; goods = unspent t.part w t.goods }
+after (MachineCall.Exchange want maximal) t =
+    let q = exchanged t.part t.goods want maximal in
+    record t {
+      part = record t.part { held = q.held };
+      goods = exchange_goods t.part t.goods want maximal;
+    }
 after (MachineCall.DepositOut dest xcm) t =
     let q = deposited_out t.part t.goods dest xcm in record t { part = record t.part { held = q.held; channels = q.channels; kept_back = q.kept_back }; goods = empty }
 after (MachineCall.Ship way dest xcm) t =
@@ -145,6 +173,14 @@ after (MachineCall.TransferOut list from dest xcm) t =
     let q = transferred_out t.part list from dest xcm in record t { part = record t.part { held = q.held; channels = q.channels; kept_back = q.kept_back } }
 after (MachineCall.Respond info answer querier) t = let q = responded t.part info answer querier in record t { part = record t.part { channels = q.channels; kept_back = q.kept_back } }
 after (MachineCall.Answer from query) t = let q = answered t.part from query in record t { part = record t.part { queries = q.queries; kept_back = q.kept_back } }
+after (MachineCall.Dispatch who c) t = record t { part = record t.part { held = held_dispatched t.part who c } }
+after (MachineCall.KeepBack e) t = record t { part = record t.part { kept_back = t.part.kept_back ++ e ∷ [] } }
+after (MachineCall.Lock a owner unlocker) t =
+    let q = asset_locked t.part a owner unlocker in record t { part = record t.part { locked = q.locked; channels = q.channels; kept_back = q.kept_back } }
+after (MachineCall.Unlock a target from) t = let q = asset_unlocked t.part a target from in record t { part = record t.part { locked = q.locked } }
+after (MachineCall.Note a owner from) t = let q = asset_noted t.part a owner from in record t { part = record t.part { locked = q.locked } }
+after (MachineCall.Request a owner locker) t =
+    let q = asset_requested t.part a owner locker in record t { part = record t.part { locked = q.locked; channels = q.channels; kept_back = q.kept_back } }
 after MachineCall.HoldFee t = record t { part = record t.part { fee_slot = t.goods }; goods = empty }
 after MachineCall.TakeFee t = record t { part = record t.part { fee_slot = empty }; goods = t.part.fee_slot }
 after MachineCall.KeepFee t = let q = fee_kept t.part in record t { part = record t.part { fee_slot = empty; fees = q.fees } }
@@ -166,12 +202,19 @@ effect (MachineCall.Refund w) t = refunded t.part w
 effect (MachineCall.Deposit who) t = deposited t.part t.goods who
 effect MachineCall.Burn t = burnt t.part t.goods
 effect (MachineCall.Buy w) t = bought t.part w t.goods
+effect (MachineCall.Exchange want maximal) t = exchanged t.part t.goods want maximal
 effect (MachineCall.DepositOut dest xcm) t = deposited_out t.part t.goods dest xcm
 effect (MachineCall.Ship way dest xcm) t = shipped t.part t.goods way dest xcm
 effect (MachineCall.Transfer list from to) t = transferred t.part list from to
 effect (MachineCall.TransferOut list from dest xcm) t = transferred_out t.part list from dest xcm
 effect (MachineCall.Respond info answer querier) t = responded t.part info answer querier
 effect (MachineCall.Answer from query) t = answered t.part from query
+effect (MachineCall.Dispatch who c) t = record t.part { held = held_dispatched t.part who c }
+effect (MachineCall.KeepBack e) t = record t.part { kept_back = t.part.kept_back ++ e ∷ [] }
+effect (MachineCall.Lock a owner unlocker) t = asset_locked t.part a owner unlocker
+effect (MachineCall.Unlock a target from) t = asset_unlocked t.part a target from
+effect (MachineCall.Note a owner from) t = asset_noted t.part a owner from
+effect (MachineCall.Request a owner locker) t = asset_requested t.part a owner locker
 effect MachineCall.HoldFee t = fee_held t.part t.goods
 effect MachineCall.TakeFee t = fee_taken t.part
 effect MachineCall.KeepFee t = fee_kept t.part
@@ -230,6 +273,10 @@ abbrev pub refunding : Machine → Option (Location × ℕ) → List MachineCall
 refunding m None = []
 refunding m (Some given) = MachineCall.Check (holds_some m given.0 || has_room m 1) error.HoldingWouldOverflow ∷ MachineCall.Refund (not_refunded m) ∷ MachineCall.Join ∷ []
 
+-- assets may be locked here
+abbrev pub locking : Machine → MachineCall
+locking m = MachineCall.Check m.part.locks error.LockError
+
 abbrev pub report : Machine → QueryInfo → Response → List MachineCall
 report n info answer = MachineCall.Respond info answer n.regs.origin ∷ []
 
@@ -249,6 +296,14 @@ pallet_tests None name module_name major least_minor = never error.PalletNotFoun
 pallet_tests (Some info) name module_name major least_minor =
     MachineCall.Check (has_names info name module_name) error.NameMismatch ∷ MachineCall.Check (has_version info major least_minor) error.VersionIncompatible ∷ []
 
+-- by the call that the bytes are, and by the account that it is made for
+abbrev pub dispatching : Machine → Weight → Option AnyCall → Option (List ℕ) → List MachineCall
+dispatching m most None account = never error.FailedToDecode
+dispatching m most (Some c) None = never error.BadOrigin
+dispatching m most (Some c) (Some account) =
+    MachineCall.Check (is_within (call_weight m.regs.rule c) most) error.MaxWeightInvalid
+    ∷ MachineCall.Dispatch account c ∷ MachineCall.KeepBack (call_line m.part account c) ∷ []
+
 abbrev pub calls : Instruction-F Instruction → Machine → List MachineCall
 -- assets into the holding register and out of it
 calls (Instruction-F.WithdrawAsset list) m = for_origin m.regs.origin (λ who. room m (length list) ∷ MachineCall.Withdraw list who ∷ MachineCall.Join ∷ [])
@@ -260,6 +315,8 @@ calls (Instruction-F.DepositAsset filter who) m = MachineCall.Take filter ∷ Ma
 calls (Instruction-F.BurnAsset list) m = MachineCall.Take (Definite list) ∷ MachineCall.Burn ∷ []
 calls (Instruction-F.BuyExecution fees limit) m = buying fees limit
 calls Instruction-F.RefundSurplus m = refunding m (refund_now m)
+calls (Instruction-F.ExchangeAsset filter list maximal) m =
+    room m (length list) ∷ MachineCall.Take filter ∷ MachineCall.Exchange list maximal ∷ MachineCall.Join ∷ []
 -- transfers
 calls (Instruction-F.TransferAsset list who) m = for_origin m.regs.origin (λ from. MachineCall.Transfer list from who ∷ [])
 calls (Instruction-F.TransferReserveAsset list dest xcm) m = for_origin m.regs.origin (λ who. sending m dest (λ n. MachineCall.TransferOut list who dest xcm ∷ []))
@@ -273,6 +330,14 @@ calls (Instruction-F.QueryPallet name info) m = sending m info.destination (λ n
 calls (Instruction-F.ReportTransactStatus info) m = sending m info.destination (λ n. report n info (response.DispatchResult n.regs.status))
 -- queries
 calls (Instruction-F.QueryResponse query answer weight querier) m = for_origin m.regs.origin (λ who. MachineCall.Answer who query ∷ [])
+-- calls of the chain
+calls (Instruction-F.Transact kind most bytes) m =
+    for_origin m.regs.origin (λ who. dispatching m most (call_in m.part.calls bytes) (caller_in m kind who))
+-- locks
+calls (Instruction-F.LockAsset asset unlocker) m = for_origin m.regs.origin (λ who. locking m ∷ sending m unlocker (λ n. MachineCall.Lock asset who unlocker ∷ []))
+calls (Instruction-F.UnlockAsset asset target) m = for_origin m.regs.origin (λ who. MachineCall.Unlock asset target who ∷ [])
+calls (Instruction-F.NoteUnlockable asset owner) m = for_origin m.regs.origin (λ who. MachineCall.Note asset owner who ∷ [])
+calls (Instruction-F.RequestUnlock asset locker) m = for_origin m.regs.origin (λ who. locking m ∷ sending m locker (λ n. MachineCall.Request asset who locker ∷ []))
 -- the origin register
 calls Instruction-F.ClearOrigin m = []
 calls (Instruction-F.DescendOrigin path) m = for_origin m.regs.origin (λ who. MachineCall.Check (fits_below who path) error.LocationFull ∷ [])
@@ -293,19 +358,13 @@ calls (Instruction-F.ExpectTransactStatus status) m = MachineCall.Check (same_st
 calls (Instruction-F.ExpectPallet place name module_name major least_minor) m = pallet_tests (pallet_at m place) name module_name major least_minor
 calls (Instruction-F.UnpaidExecution limit origin) m = MachineCall.Check (is_checked_origin m origin) error.BadOrigin ∷ []
 -- unconfigured
-calls (Instruction-F.Transact kind most call) m = for_origin m.regs.origin (λ who. never error.FailedToDecode)
 calls (Instruction-F.HrmpNewChannelOpenRequest sender size capacity) m = never error.Unimplemented
 calls (Instruction-F.HrmpChannelAccepted recipient) m = never error.Unimplemented
 calls (Instruction-F.HrmpChannelClosing initiator sender recipient) m = never error.Unimplemented
-calls (Instruction-F.ExchangeAsset filter list maximal) m = room m (length list) ∷ never error.NoDeal
 calls (Instruction-F.SubscribeVersion query weight) m = MachineCall.Check (is_original m) error.BadOrigin ∷ never error.Unimplemented
 calls Instruction-F.UnsubscribeVersion m = MachineCall.Check (is_original m) error.BadOrigin ∷ never error.Unimplemented
 calls (Instruction-F.UniversalOrigin junction) m = MachineCall.Check (not (is_own_network m junction)) error.InvalidLocation ∷ for_origin m.regs.origin (λ who. never error.InvalidLocation)
 calls (Instruction-F.ExportMessage network path xcm) m = for_origin m.regs.origin (λ who. never error.Unroutable)
-calls (Instruction-F.LockAsset asset unlocker) m = for_origin m.regs.origin (λ who. never error.LockError)
-calls (Instruction-F.UnlockAsset asset target) m = for_origin m.regs.origin (λ who. never error.LockError)
-calls (Instruction-F.NoteUnlockable asset owner) m = for_origin m.regs.origin (λ who. never error.LockError)
-calls (Instruction-F.RequestUnlock asset locker) m = for_origin m.regs.origin (λ who. never error.LockError)
 calls (Instruction-F.AliasOrigin target) m = for_origin m.regs.origin (λ who. never error.NoPermission)
 
 -- what was refunded is noted where something was
@@ -316,6 +375,21 @@ refund_noted m (Some given) r = record r { refunded = m.regs.surplus }
 abbrev pub below_origin : Option Location → List Junction → Registers → Registers
 below_origin None path r = r
 below_origin (Some who) path r = record r { origin = Some (descended who path) }
+
+-- how the call ended, and what it spared of the weight
+abbrev pub call_noted : Machine → Weight → Option AnyCall → Option (List ℕ) → Registers → Registers
+call_noted m most None account r = r
+call_noted m most (Some c) None r = r
+call_noted m most (Some c) (Some account) r = record r {
+  status = status_of (dispatch_end m.part account c);
+  surplus = weight_added r.surplus (spare_weight m.regs.rule most c);
+}
+
+abbrev pub call_noted_for : Option Location → Machine → OriginKind → Weight → List ℕ → Registers
+    → Registers
+call_noted_for None m kind most bytes r = r
+call_noted_for (Some who) m kind most bytes r =
+    call_noted m most (call_in m.part.calls bytes) (caller_in m kind who) r
 
 -- the registers at the instruction's end; the holding is the calls'
 abbrev pub turned : Instruction-F Instruction → Machine → Registers → Registers
@@ -329,6 +403,7 @@ turned Instruction-F.ClearTransactStatus m r = record r { status = Success }
 turned (Instruction-F.SetFeesMode mode) m r = record r { fees_mode = mode }
 turned (Instruction-F.SetTopic topic) m r = record r { topic = Some topic }
 turned Instruction-F.ClearTopic m r = record r { topic = None }
+turned (Instruction-F.Transact kind most bytes) m r = call_noted_for m.regs.origin m kind most bytes r
 turned _ m r = r
 
 abbrev pub turned_at : Instruction-F Instruction → Machine → MachineWithGoods → MachineWithGoods

@@ -11,11 +11,13 @@ use Rattle.xcm_program.specs.declared.instruction.Instruction.{Instruction}
 use Rattle.channel_parts.specs.declared.cargo.Cargo.{Cargo}
 use Rattle.channel_parts.specs.declared.cargo.Cargo.TheVariants.{Nothing}
 use Rattle.channel_parts.specs.Channels.{Outgoing, with_waiting}
+use Rattle.asset_locks.specs.LockMaps.{LocksAndNotes}
 use Rattle.weight_trader.specs.Purchases.{paying}
 use Rattle.exec_base.specs.declared.event.Event.{Event}
 use Rattle.exec_base.specs.Part.{ChainPart}
-use Rattle.exec_base.specs.Sending.{leads_to, sent}
-use Rattle.exec_base.specs.Host.{withdrawn, deposited, transferred, received, transferred_out, deposited_out, shipped, querier_seen, report_program, responded, is_query, answered, booked, bought, refunded, joined, burnt, is_trap, claimed, trapped, parked, settled, fee_held, fee_taken, fee_kept, fee_drawn, told}
+use Rattle.exec_base.specs.Sending.{leads_to, sent, named_sent}
+use Rattle.exec_base.specs.Host.{withdrawn, deposited, transferred, received, transferred_out, deposited_out, shipped, querier_seen, report_program, responded, is_query, answered, booked, bought, refunded, joined, burnt, is_trap, claimed, trapped, parked, settled, note_program, lock_key, with_lock, asset_locked, asset_unlocked, asset_noted, request_key, unlock_program, with_less_noted, asset_requested, fee_held, fee_taken, fee_kept, fee_drawn, told}
+use Rattle.exec_base.specs.Pools.{exchange_at, exchanged}
 use Rattle.exec_calls.specs.Calls.{MachineWithGoods, MachineCall, after, effect}
 
 option_is : {A : Type 0} (shape : ChainPart → ChainPart) (o : Option A) (f : A → ChainPart) (p : ChainPart) → shape p ≡ p → ((x : A) → shape (f x) ≡ f x) → shape (option_map_or f o p) ≡ option_map_or f o p
@@ -29,13 +31,24 @@ answer_is : (p : ChainPart) (query : ℕ) (o : Option ℕ)
 answer_is p query None = refl
 answer_is p query (Some place) = refl
 
+named_is : (p : ChainPart) (locked : LocksAndNotes) (dest : Location) (o : Option (List Instruction))
+    → (let n : ChainPart = record p { locked = locked } in let q = named_sent n dest o in let r : ChainPart = record p { locked = q.locked; channels = q.channels; kept_back = q.kept_back } in r) ≡ named_sent (record p { locked = locked }) dest o
+unfolding sent
+named_is p locked dest None = refl
+named_is p locked dest (Some program) = refl
+
 pub part_is : (c : MachineCall) (t : MachineWithGoods) → (after c t).part ≡ effect c t
-unfolding withdrawn deposited transferred received transferred_out deposited_out shipped responded answered bought refunded joined burnt claimed trapped parked settled fee_held fee_taken fee_kept fee_drawn told booked sent
+unfolding withdrawn deposited transferred received transferred_out deposited_out shipped responded answered bought exchanged refunded joined burnt claimed trapped parked settled asset_locked asset_unlocked asset_noted asset_requested fee_held fee_taken fee_kept fee_drawn told booked sent
 part_is (MachineCall.Respond info answer querier) t =
     option_is (λ (q : ChainPart). record t.part { channels = q.channels; kept_back = q.kept_back }) (querier_seen t.part info.destination querier) (λ (seen : Option Location). sent t.part info.destination (report_program info answer seen) Nothing) t.part refl (λ seen. refl)
 part_is (MachineCall.Answer from query) t = answer_is t.part query (position (is_query query from) t.part.queries)
 part_is (MachineCall.Buy w) t = option_is (λ (q : ChainPart). record t.part { lines = q.lines; burns = q.burns; kept_back = q.kept_back }) (paying w t.goods t.part.lines) _ t.part refl (λ line. refl)
+part_is (MachineCall.Exchange want maximal) t =
+    option_is (λ (q : ChainPart). record t.part { held = q.held }) (exchange_at t.part t.goods want maximal) _ t.part refl (λ e. refl)
 part_is (MachineCall.Claim list who) t = option_is (λ (q : ChainPart). record t.part { traps = q.traps }) (position (is_trap list who) t.part.traps.traps) _ t.part refl (λ place. refl)
+part_is (MachineCall.Lock a owner unlocker) t = named_is t.part (with_lock t.part a (lock_key t.part a owner unlocker)).locked unlocker (note_program t.part a owner unlocker)
+part_is (MachineCall.Request a owner locker) t =
+    named_is t.part (with_less_noted t.part a (request_key a owner locker)).locked locker (unlock_program t.part a (request_key a owner locker) locker)
 part_is _ t = refl
 
 -- ---- what calls change of settings and channels
@@ -51,10 +64,19 @@ module _ (K : List Outgoing → Type 0) (t : MachineWithGoods) (sends : (dest : 
   reported info answer None h = h
   reported info answer (Some seen) h = sends info.destination _ _ h
 
+  named : (locked : LocksAndNotes) (dest : Location) (o : Option (List Instruction)) → K t.part.channels
+      → K (let p : ChainPart = record t.part { locked = locked } in named_sent p dest o).channels
+  unfolding sent
+  named locked dest None h = h
+  named locked dest (Some program) h = sends dest program Nothing h
+
   pub channels_after : (c : MachineCall) → K t.part.channels → K (after c t).part.channels
-  unfolding transferred transferred_out deposited deposited_out shipped responded sent
+  unfolding transferred transferred_out deposited deposited_out shipped responded asset_locked asset_requested sent
   channels_after (MachineCall.TransferOut list from dest xcm) h = sends dest _ _ h
   channels_after (MachineCall.DepositOut dest xcm) h = sends dest _ _ h
   channels_after (MachineCall.Ship way dest xcm) h = sends dest _ _ h
   channels_after (MachineCall.Respond info answer querier) h = reported info answer (querier_seen t.part info.destination querier) h
+  channels_after (MachineCall.Lock a owner unlocker) h = named (with_lock t.part a (lock_key t.part a owner unlocker)).locked unlocker (note_program t.part a owner unlocker) h
+  channels_after (MachineCall.Request a owner locker) h =
+      let key = request_key a owner locker in named (with_less_noted t.part a key).locked locker (unlock_program t.part a key locker) h
   channels_after _ h = h

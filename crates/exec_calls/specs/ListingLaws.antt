@@ -24,8 +24,14 @@ use Rattle.weight_trader.specs.Prices.{price}
 use Rattle.weight_trader.specs.Purchases.{Line, coin_of, paying, unspent_at, is_covered, with_purchase, Bought, AreRatesListed, AreWithinEnd}
 use Rattle.weight_trader.specs.Refunds.{goods_of, refund_at, is_refunded, without_refund, Refunded, Closed}
 use Rattle.weight_trader.specs.ListedLaws.{changed_all, bought_listed, refunded_listed, closed_listed}
+use Rattle.chain_pools.specs.declared.exchanges.Exchange.{Exchange}
+use Rattle.chain_pools.specs.Exchanges.{goods_after}
+use Rattle.chain_pools.specs.Spending.{ArePoolsListed}
+use Rattle.chain_pools.specs.Keeping.{exchange_says}
+use Rattle.chain_pools.specs.SpendingLaws.{exchange_listed}
 use Rattle.exec_base.specs.Part.{ChainPart}
 use Rattle.exec_base.specs.Host.{booked, is_trap, claim_refusal, claimed, unspent, bought, refund_goods, refunded, trapped, settled}
+use Rattle.exec_base.specs.Pools.{exchange_at, exchange_goods}
 use Rattle.exec_rules.specs.Holdings.{payment_of}
 use Rattle.exec_rules.specs.AnswerLaws.{unless_held, withdrawn_is_listed, received_is_listed, goods_of_trap, found_somewhere}
 use Rattle.exec_rules.specs.HoldingLaws.{payment_within}
@@ -159,6 +165,18 @@ pub refund_listed : (p : ChainPart) (w : Weight) (listed : List Listed) → AreR
 unfolding refund_goods
 refund_listed p w listed all = found_listed listed w p.lines (find (is_refunded w) p.lines) all refl
 
+-- ---- exchanges
+-- what comes of goods that are exchanged is listed where the pools are
+exchange_listed_by : (p : ChainPart) (give : Bundle) (want : List Asset) (maximal : Bool) (o : Option Exchange) → exchange_at p give want maximal ≡ o → ArePoolsListed (listing p.rows) p.pools → AreListed (listing p.rows) give
+    → AreListed (listing p.rows) (option_map_or (λ (e : Exchange). goods_after e give) o give)
+exchange_listed_by p give want maximal None is pools listed = listed
+exchange_listed_by p give want maximal (Some e) is pools listed =
+    exchange_listed (listing p.rows) p.pools p.held give e (exchange_says p.pools p.held give want maximal e is) pools listed
+
+pub exchanged_is_listed : (p : ChainPart) (give : Bundle) (want : List Asset) (maximal : Bool) → ArePoolsListed (listing p.rows) p.pools → AreListed (listing p.rows) give → AreListed (listing p.rows) (exchange_goods p give want maximal)
+unfolding exchange_goods
+exchanged_is_listed p give want maximal pools listed = exchange_listed_by p give want maximal (exchange_at p give want maximal) refl pools listed
+
 -- ---- each call
 pub nothing_listed : (listed : List Listed) → AreListed listed empty
 nothing_listed listed u some = let none = amount-empty unit_keys u in absurd (omega (arith, none, some))
@@ -169,11 +187,12 @@ less_within b taken u = let less = amount-difference unit_keys b taken u in omeg
 abbrev listing_of : MachineWithGoods → List Listed
 listing_of t = listing t.part.rows
 
--- what is held, what is in hand, what is in the slot; and traps, rates, and that what is paid is below its end
+-- what is held, what is in hand, what is in the slot; and traps, rates, that what is paid is below its end, and pools
 abbrev pub HasListed : MachineWithGoods → Type 0
 HasListed t =
     AreListed (listing t.part.rows) t.regs.holding × AreListed (listing t.part.rows) t.goods × AreListed (listing t.part.rows) t.part.fee_slot
-    × (AreTrapsListed (listing t.part.rows) t.part.traps.traps × AreRatesListed (listing t.part.rows) t.part.lines × AreWithinEnd t.part.lines)
+    × (AreTrapsListed (listing t.part.rows) t.part.traps.traps × AreRatesListed (listing t.part.rows) t.part.lines × AreWithinEnd t.part.lines
+    × ArePoolsListed (listing t.part.rows) t.part.pools)
 
 pub listed_after : (c : MachineCall) (t : MachineWithGoods) → why_not c t ≡ None → HasListed t → HasListed (after c t)
 unfolding refunded trapped settled
@@ -191,9 +210,9 @@ listed_after (MachineCall.Draw fee who) t ok h = (h.0, withdrawn_is_listed t.par
 listed_after (MachineCall.Receive list None teleport) t ok h = absurd cc
 listed_after (MachineCall.Receive list (Some who) teleport) t ok h = (h.0, received_is_listed t.part list who teleport ok, h.2, h.3)
 listed_after (MachineCall.Claim list who) t ok h =
-    (h.0, claimed_is_listed t.part list who h.3.0 ok, h.2, (claimed_traps (listing_of t) t.part list who h.3.0, h.3.1, h.3.2))
+    (h.0, claimed_is_listed t.part list who h.3.0 ok, h.2, (claimed_traps (listing_of t) t.part list who h.3.0, h.3.1, h.3.2, h.3.3))
 listed_after (MachineCall.Refund w) t ok h =
-    (h.0, refund_listed t.part w (listing_of t) h.3.1, h.2, (h.3.0, refunded_listed w t.part.lines (listing_of t) h.3.1, refunded_within w t.part.lines h.3.2))
+    (h.0, refund_listed t.part w (listing_of t) h.3.1, h.2, (h.3.0, refunded_listed w t.part.lines (listing_of t) h.3.1, refunded_within w t.part.lines h.3.2, h.3.3))
 listed_after (MachineCall.Deposit who) t ok h = (h.0, nothing_listed (listing_of t), h.2, h.3)
 listed_after MachineCall.Burn t ok h = (h.0, nothing_listed (listing_of t), h.2, h.3)
 listed_after (MachineCall.Buy w) t ok h = (
@@ -204,8 +223,10 @@ listed_after (MachineCall.Buy w) t ok h = (
     h.3.0,
     bought_lines (AreRatesListed (listing_of t)) t.part w t.goods h.3.1 (bought_listed w t.goods t.part.lines (listing_of t) h.3.1),
     bought_lines AreWithinEnd t.part w t.goods h.3.2 (bought_within w t.goods t.part.lines h.3.2),
+    h.3.3,
   ),
 )
+listed_after (MachineCall.Exchange want maximal) t ok h = (h.0, exchanged_is_listed t.part t.goods want maximal h.3.3 h.1, h.2, h.3)
 listed_after (MachineCall.DepositOut dest xcm) t ok h = (h.0, nothing_listed (listing_of t), h.2, h.3)
 listed_after (MachineCall.Ship way dest xcm) t ok h = (h.0, nothing_listed (listing_of t), h.2, h.3)
 listed_after MachineCall.HoldFee t ok h = (h.0, nothing_listed (listing_of t), h.1, h.3)
@@ -213,7 +234,7 @@ listed_after MachineCall.TakeFee t ok h = (h.0, h.2, nothing_listed (listing_of 
 listed_after MachineCall.KeepFee t ok h = (h.0, h.1, nothing_listed (listing_of t), h.3)
 listed_after MachineCall.Park t ok h = (h.0, nothing_listed (listing_of t), h.2, h.3)
 listed_after MachineCall.Empty t ok h = (nothing_listed (listing_of t), h.0, h.2, h.3)
-listed_after MachineCall.Settle t ok h = (h.0, h.1, h.2, (h.3.0, closed_listed t.part.lines (listing_of t) h.3.1, closed_within t.part.lines))
+listed_after MachineCall.Settle t ok h = (h.0, h.1, h.2, (h.3.0, closed_listed t.part.lines (listing_of t) h.3.1, closed_within t.part.lines, h.3.3))
 listed_after (MachineCall.Trap who) t ok h =
-    (h.0, nothing_listed (listing_of t), h.2, (trapped_listed (listing_of t) t.part t.goods who h.3.0 h.1, h.3.1, h.3.2))
+    (h.0, nothing_listed (listing_of t), h.2, (trapped_listed (listing_of t) t.part t.goods who h.3.0 h.1, h.3.1, h.3.2, h.3.3))
 listed_after _ t ok h = h

@@ -9,8 +9,10 @@ use Rattle.locations.specs.declared.grammar.Junction.{Junction}
 use Rattle.locations.specs.declared.relative.Location.{Location}
 use Rattle.message_parts.specs.declared.error.XcmError.{XcmError}
 use Rattle.message_parts.specs.declared.pallet.PalletInfo.{PalletInfo}
+use Rattle.message_parts.specs.declared.origin.OriginKind.{OriginKind}
 use Rattle.message_parts.specs.declared.query.QueryInfo.{QueryInfo}
 use Rattle.message_parts.specs.declared.query.Response.TheVariants as response
+use Rattle.message_parts.specs.declared.weight.Weight.{Weight}
 use Rattle.message_parts.specs.declared.weight.WeightLimit.{WeightLimit}
 use Rattle.message_parts.specs.declared.weight.WeightLimit.TheVariants.{Unlimited, Limited}
 use Rattle.asset_lists.specs.declared.units.Asset.{Asset}
@@ -20,6 +22,8 @@ use Rattle.asset_bundles.specs.Filters.{Taken}
 use Rattle.asset_bundles.specs.Laws.{Taken-within}
 use Rattle.xcm_program.specs.declared.instruction.Instruction.{Instruction}
 use Rattle.xcm_program.specs.declared.instruction.Instruction.TheOpen.{Instruction-F}
+use Rattle.trust_tables.specs.Accounts.{account_of}
+use Rattle.call_dispatch.specs.Spelling.{AnyCall}
 use Rattle.exec_base.specs.declared.registers.Registers.{Registers}
 use Rattle.exec_base.specs.Sending.{or_else}
 use Rattle.exec_base.specs.Host.{fee_to, fee_held, fee_drawn}
@@ -28,11 +32,12 @@ use Rattle.exec_rules.specs.AnswerLaws.{none_first, none_next}
 use Rattle.exec_rules.specs.Holdings.{at_origin, with_holding, holding_paid, payment_of, refund_now}
 use Rattle.exec_rules.specs.Fees.{after_fee}
 use Rattle.exec_rules.specs.Reports.{reported_list}
+use Rattle.exec_rules.specs.Calls.{account_by, call_in, caller_in}
 use Rattle.exec_rules.specs.Expectations.{pallet_at}
 use Rattle.exec_rules.specs.Instructions.{refused, done}
-use Rattle.exec_calls.specs.Calls.{MachineWithGoods, between, MachineCall, why_not, after, after_all, refusal_along, size_tests, for_origin, charge, around, buying, refunding, report, holding_report, pallet_tests, calls, refund_noted, below_origin, turned, turned_at}
+use Rattle.exec_calls.specs.Calls.{MachineWithGoods, between, MachineCall, why_not, after, after_all, refusal_along, size_tests, for_origin, charge, around, buying, refunding, report, holding_report, pallet_tests, calls, dispatching, call_noted, call_noted_for, refund_noted, below_origin, turned, turned_at}
 use Rattle.exec_calls.specs.CallLaws.{charge_after, refused_is, done_is}
-use Rattle.exec_calls.specs.Reasons.{IsFrom, Turns, destination, IsFee, IsReport, Moment, HasReason, HaveReasons, ComesBeforeStop, IsLedTo}
+use Rattle.exec_calls.specs.Reasons.{IsFrom, Turns, destination, IsFee, IsReport, Moment, HasReason, HaveReasons, ComesBeforeStop, IsLedTo, SpeaksBy}
 
 -- ---- no call changes other registers, or what the document says
 pub from_itself : (m : Machine) → IsFrom m (between m)
@@ -60,10 +65,20 @@ below_turns : (o : Option Location) (path : List Junction) (r : Registers) → r
 below_turns None path r is = stays_origin r r refl refl
 below_turns (Some who) path r is = record { holding = refl; origin = inr (inr (who, path, is, refl)) }
 
+call_turns : (m : Machine) (most : Weight) (c : Option AnyCall) (o : Option (List ℕ)) (r : Registers) → Turns r (call_noted m most c o r)
+call_turns m most None o r = stays_origin r r refl refl
+call_turns m most (Some c) None r = stays_origin r r refl refl
+call_turns m most (Some c) (Some account) r = stays_origin r _ refl refl
+
+call_turns_for : (o : Option Location) (m : Machine) (kind : OriginKind) (most : Weight) (bytes : List ℕ) (r : Registers) → Turns r (call_noted_for o m kind most bytes r)
+call_turns_for None m kind most bytes r = stays_origin r r refl refl
+call_turns_for (Some who) m kind most bytes r = call_turns m most (call_in m.part.calls bytes) (caller_in m kind who) r
+
 pub turns : (l : Instruction-F Instruction) (m : Machine) (t : MachineWithGoods) → IsFrom m t → Turns t.regs (turned l m t.regs)
 turns Instruction-F.RefundSurplus m t f = refund_turns m (refund_now m) t.regs
 turns Instruction-F.ClearOrigin m t f = record { holding = refl; origin = inr (inl refl) }
 turns (Instruction-F.DescendOrigin path) m t f = below_turns m.regs.origin path t.regs (ap (λ (r : Registers). r.origin) f.regs)
+turns (Instruction-F.Transact kind most bytes) m t f = call_turns_for m.regs.origin m kind most bytes t.regs
 turns l m t f = stays_origin t.regs _ refl refl
 
 -- ---- some calls and then others
@@ -167,6 +182,21 @@ refunding_asked : (m : Machine) (o : Option (Location × ℕ)) → HaveReasons I
 refunding_asked m None = tt
 refunding_asked m (Some given) = (refl, ((refl, refl), (tt, tt)))
 
+account_is : (kind : OriginKind) (o : Option (List ℕ)) (account : List ℕ) → account_by kind o ≡ Some account → o ≡ Some account
+account_is OriginKind.SovereignAccount o account e = e
+account_is OriginKind.Native o account e = absurd cc
+account_is OriginKind.Superuser o account e = absurd cc
+account_is OriginKind.Xcm o account e = absurd cc
+
+pub speaks_by : (m : Machine) (kind : OriginKind) (who : Location) (account : List ℕ) → m.regs.origin ≡ Some who → caller_in m kind who ≡ Some account → SpeaksBy m account
+speaks_by m kind who account is e = (who, is, account_is kind (account_of who m.part.site) account e)
+
+dispatching_asked : (m : Machine) (kind : OriginKind) (most : Weight) (bytes : List ℕ) (who : Location) (c : Option AnyCall) (o : Option (List ℕ)) → m.regs.origin ≡ Some who → caller_in m kind who ≡ o
+    → HaveReasons (Instruction-F.Transact kind most bytes) m (dispatching m most c o) (between m)
+dispatching_asked m kind most bytes who None o is e = (refl, tt)
+dispatching_asked m kind most bytes who (Some c) None is e = (refl, tt)
+dispatching_asked m kind most bytes who (Some c) (Some account) is e = (refl, ((refl, speaks_by m kind who account is e, tt), (tt, tt)))
+
 pub asked : (l : Instruction-F Instruction) (m : Machine) → HaveReasons l m (calls l m) (between m)
 asked (Instruction-F.WithdrawAsset list) m = for_origin_asked (Instruction-F.WithdrawAsset list) m m.regs.origin _ (between m) refl (λ who is. (refl, ((refl, is, refl), (tt, tt))))
 asked (Instruction-F.ReserveAssetDeposited list) m = (refl, (refl, ((refl, refl, refl), (tt, tt))))
@@ -194,19 +224,20 @@ asked (Instruction-F.ExpectError failure) m = (refl, tt)
 asked (Instruction-F.ExpectTransactStatus status) m = (refl, tt)
 asked (Instruction-F.ExpectPallet place name module_name major least_minor) m = pallet_asked (Instruction-F.ExpectPallet place name module_name major least_minor) m (pallet_at m place) name module_name major least_minor
 asked (Instruction-F.UnpaidExecution limit origin) m = (refl, tt)
-asked (Instruction-F.Transact kind most call) m = for_origin_asked (Instruction-F.Transact kind most call) m m.regs.origin _ (between m) refl (λ who is. (refl, tt))
+asked (Instruction-F.Transact kind most bytes) m = for_origin_asked (Instruction-F.Transact kind most bytes) m m.regs.origin _ (between m) refl
+    (λ who is. dispatching_asked m kind most bytes who (call_in m.part.calls bytes) (caller_in m kind who) is refl)
 asked (Instruction-F.HrmpNewChannelOpenRequest sender size capacity) m = (refl, tt)
 asked (Instruction-F.HrmpChannelAccepted recipient) m = (refl, tt)
 asked (Instruction-F.HrmpChannelClosing initiator sender recipient) m = (refl, tt)
-asked (Instruction-F.ExchangeAsset filter list maximal) m = (refl, (refl, tt))
+asked (Instruction-F.ExchangeAsset filter list maximal) m = (refl, (refl, ((filter, refl, refl), (tt, tt))))
 asked (Instruction-F.SubscribeVersion query weight) m = (refl, (refl, tt))
 asked Instruction-F.UnsubscribeVersion m = (refl, (refl, tt))
 asked (Instruction-F.UniversalOrigin junction) m = (refl, for_origin_asked (Instruction-F.UniversalOrigin junction) m m.regs.origin _ (between m) refl (λ who is. (refl, tt)))
 asked (Instruction-F.ExportMessage network path xcm) m = for_origin_asked (Instruction-F.ExportMessage network path xcm) m m.regs.origin _ (between m) refl (λ who is. (refl, tt))
-asked (Instruction-F.LockAsset asset unlocker) m = for_origin_asked (Instruction-F.LockAsset asset unlocker) m m.regs.origin _ (between m) refl (λ who is. (refl, tt))
-asked (Instruction-F.UnlockAsset asset target) m = for_origin_asked (Instruction-F.UnlockAsset asset target) m m.regs.origin _ (between m) refl (λ who is. (refl, tt))
-asked (Instruction-F.NoteUnlockable asset owner) m = for_origin_asked (Instruction-F.NoteUnlockable asset owner) m m.regs.origin _ (between m) refl (λ who is. (refl, tt))
-asked (Instruction-F.RequestUnlock asset locker) m = for_origin_asked (Instruction-F.RequestUnlock asset locker) m m.regs.origin _ (between m) refl (λ who is. (refl, tt))
+asked (Instruction-F.LockAsset asset unlocker) m = for_origin_asked (Instruction-F.LockAsset asset unlocker) m m.regs.origin _ (between m) refl (λ who is. (refl, around_asked (Instruction-F.LockAsset asset unlocker) m unlocker (fee_to m.part unlocker) _ refl refl (λ n unsent same less. ((unsent, is, refl), tt))))
+asked (Instruction-F.UnlockAsset asset target) m = for_origin_asked (Instruction-F.UnlockAsset asset target) m m.regs.origin _ (between m) refl (λ who is. ((is, refl), tt))
+asked (Instruction-F.NoteUnlockable asset owner) m = for_origin_asked (Instruction-F.NoteUnlockable asset owner) m m.regs.origin _ (between m) refl (λ who is. ((is, refl), tt))
+asked (Instruction-F.RequestUnlock asset locker) m = for_origin_asked (Instruction-F.RequestUnlock asset locker) m m.regs.origin _ (between m) refl (λ who is. (refl, around_asked (Instruction-F.RequestUnlock asset locker) m locker (fee_to m.part locker) _ refl refl (λ n unsent same less. ((unsent, is, refl), tt))))
 asked (Instruction-F.AliasOrigin target) m = for_origin_asked (Instruction-F.AliasOrigin target) m m.regs.origin _ (between m) refl (λ who is. (refl, tt))
 asked _ m = tt
 

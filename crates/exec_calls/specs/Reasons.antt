@@ -1,7 +1,7 @@
 -- Why an instruction makes a call where it does, and what stands between two machines that calls lead from and to. This project's own
 -- vocabulary.
 use Rattle.std.specs.List.{AllByRecursion}
-use Rattle.std.specs.Prelude.{◌≡◌, ◌⊎◌, ⊤, Bool, true, false, IsTrue, List, [], ◌∷◌, Option, Some, None}
+use Rattle.std.specs.Prelude.{◌≡◌, ◌⊎◌, ⊤, ℕ, Bool, true, false, IsTrue, List, [], ◌∷◌, Option, Some, None}
 use Rattle.amounts.specs.Amounts.{empty, IsWithin}
 use Rattle.locations.specs.declared.grammar.Junction.{Junction}
 use Rattle.locations.specs.declared.relative.Location.{Location}
@@ -13,6 +13,7 @@ use Rattle.message_parts.specs.declared.weight.WeightLimit.TheVariants.{Limited}
 use Rattle.asset_lists.specs.declared.units.Asset.{Asset}
 use Rattle.asset_lists.specs.declared.filters.Filter.{Filter}
 use Rattle.asset_bundles.specs.declared.shipment.Way.{Way}
+use Rattle.trust_tables.specs.Accounts.{account_of}
 use Rattle.xcm_program.specs.declared.instruction.Instruction.{Instruction}
 use Rattle.xcm_program.specs.declared.instruction.Instruction.TheOpen.{Instruction-F}
 use Rattle.exec_base.specs.declared.registers.Registers.{Registers}
@@ -56,6 +57,7 @@ is_test_error error.ReanchorFailed = true
 is_test_error error.NoDeal = true
 is_test_error error.LockError = true
 is_test_error error.NoPermission = true
+is_test_error error.MaxWeightInvalid = true
 is_test_error _ = false
 
 abbrev pub HasNone : MachineWithGoods → Type 0
@@ -87,6 +89,8 @@ destination (Instruction-F.ReportError info) = Some info.destination
 destination (Instruction-F.ReportHolding info filter) = Some info.destination
 destination (Instruction-F.QueryPallet name info) = Some info.destination
 destination (Instruction-F.ReportTransactStatus info) = Some info.destination
+destination (Instruction-F.LockAsset asset unlocker) = Some unlocker
+destination (Instruction-F.RequestUnlock asset locker) = Some locker
 destination _ = None
 
 -- the delivery fee of the channel that it sends on
@@ -109,6 +113,14 @@ IsReport (Instruction-F.QueryPallet name to) info = to ≡ info
 IsReport (Instruction-F.ReportTransactStatus to) info = to ≡ info
 IsReport l info = ⊥
 
+abbrev pub IsTransact : Instruction-F Instruction → Type 0
+IsTransact (Instruction-F.Transact kind most bytes) = ⊤
+IsTransact l = ⊥
+
+-- the account of the location that the instruction speaks for
+abbrev pub SpeaksBy : Machine → List ℕ → Type 0
+SpeaksBy m account = (who : Location) × Speaks m who × (account_of who m.part.site ≡ Some account)
+
 -- when a call is asked: inside an instruction, or at the end of a run
 pub data Moment : Type 0 where
   Inside : Moment
@@ -128,12 +140,21 @@ HasReason moment l m t (MachineCall.Refund w) = IsFirst m t × (w ≡ not_refund
 HasReason moment l m t (MachineCall.Deposit who) = (filter : Filter) × (l ≡ Instruction-F.DepositAsset filter who)
 HasReason moment l m t MachineCall.Burn = (list : List Asset) × (l ≡ Instruction-F.BurnAsset list)
 HasReason moment l m t (MachineCall.Buy w) = (fees : Asset) × (l ≡ Instruction-F.BuyExecution fees (Limited w)) × (t ≡ after (MachineCall.Pay fees) (between m))
+HasReason moment l m t (MachineCall.Exchange want maximal) =
+    (filter : Filter) × (l ≡ Instruction-F.ExchangeAsset filter want maximal)
+    × (t ≡ after (MachineCall.Take filter) (between m))
 HasReason moment l m t (MachineCall.DepositOut dest xcm) = IsUnsent m t × HasTaken m t × ((filter : Filter) × (l ≡ Instruction-F.DepositReserveAsset filter dest xcm))
 HasReason moment l m t (MachineCall.Ship way dest xcm) = IsUnsent m t × HasTaken m t × ((filter : Filter) × (l ≡ shipping way filter dest xcm))
 HasReason moment l m t (MachineCall.Transfer list from to) = IsFirst m t × Speaks m from × (l ≡ Instruction-F.TransferAsset list to)
 HasReason moment l m t (MachineCall.TransferOut list from dest xcm) = IsUnsent m t × Speaks m from × (l ≡ Instruction-F.TransferReserveAsset list dest xcm)
 HasReason moment l m t (MachineCall.Respond info answer querier) = IsUnsent m t × (querier ≡ m.regs.origin) × IsReport l info
 HasReason moment l m t (MachineCall.Answer from query) = IsFirst m t × Speaks m from
+HasReason moment l m t (MachineCall.Dispatch account c) = IsFirst m t × SpeaksBy m account × IsTransact l
+HasReason moment l m t (MachineCall.KeepBack e) = IsTransact l
+HasReason moment l m t (MachineCall.Lock a owner unlocker) = IsUnsent m t × Speaks m owner × (l ≡ Instruction-F.LockAsset a unlocker)
+HasReason moment l m t (MachineCall.Unlock a target from) = Speaks m from × (l ≡ Instruction-F.UnlockAsset a target)
+HasReason moment l m t (MachineCall.Note a owner from) = Speaks m from × (l ≡ Instruction-F.NoteUnlockable a owner)
+HasReason moment l m t (MachineCall.Request a owner locker) = IsUnsent m t × Speaks m owner × (l ≡ Instruction-F.RequestUnlock a locker)
 HasReason moment l m t MachineCall.HoldFee = (fee : Asset) × IsFee l m fee × (t.goods ≡ payment_of fee) × (t.part.fee_slot ≡ m.part.fee_slot)
 HasReason moment l m t MachineCall.TakeFee = HasNone t
 HasReason moment l m t MachineCall.KeepFee = ⊤
@@ -148,7 +169,8 @@ abbrev pub HaveReasons : Instruction-F Instruction → Machine → List MachineC
 HaveReasons l m [] t = ⊤
 HaveReasons l m (c ∷ cs) t = HasReason Moment.Inside l m t c × HaveReasons l m cs (after c t)
 
--- what may have been asked where memory stops an instruction: goods came, or were taken out, and are put aside; nothing else is changed yet
+-- what may have been asked where memory stops an instruction: goods came, or were taken out, and are put aside, or a front of a call's batch was
+-- done; nothing else is changed yet
 abbrev pub ComesBeforeStop : MachineCall → Type 0
 ComesBeforeStop MachineCall.Join = ⊥
 ComesBeforeStop (MachineCall.Deposit who) = ⊥
@@ -159,6 +181,11 @@ ComesBeforeStop (MachineCall.Transfer list from to) = ⊥
 ComesBeforeStop (MachineCall.TransferOut list from dest xcm) = ⊥
 ComesBeforeStop (MachineCall.Respond info answer querier) = ⊥
 ComesBeforeStop (MachineCall.Answer from query) = ⊥
+ComesBeforeStop (MachineCall.KeepBack e) = ⊥
+ComesBeforeStop (MachineCall.Lock a owner unlocker) = ⊥
+ComesBeforeStop (MachineCall.Unlock a target from) = ⊥
+ComesBeforeStop (MachineCall.Note a owner from) = ⊥
+ComesBeforeStop (MachineCall.Request a owner locker) = ⊥
 ComesBeforeStop MachineCall.KeepFee = ⊥
 ComesBeforeStop _ = ⊤
 

@@ -1,11 +1,13 @@
 -- Lemmas that proofs cite, in this crate and above it: where memory stops an instruction, accepted calls led there. A reader of the contracts
 -- may skip this file.
-use Rattle.std.proofs.Common.{◌≡◌, ◌⊎◌, Bool, true, false, List, [], ◌∷◌, ◌++◌, Option, Some, None, ⊎_elim, inr, refl, sym, ap, ◌∙◌, subst}
+use Rattle.std.proofs.Common.{◌≡◌, ◌⊎◌, ℕ, Bool, true, false, List, [], ◌∷◌, ◌++◌, Option, Some, None, ⊎_elim, inr, refl, sym, ap, ◌∙◌, subst}
 use Rattle.std.specs.List.{AllByRecursion}
 use Rattle.std.specs.Prelude.{if◌then◌else◌, length}
 use Rattle.locations.specs.declared.relative.Location.{Location}
 use Rattle.message_parts.specs.declared.error.XcmError.{XcmError}
 use Rattle.message_parts.specs.declared.error.XcmError.TheVariants as error
+use Rattle.message_parts.specs.declared.origin.OriginKind.{OriginKind}
+use Rattle.message_parts.specs.declared.weight.Weight.{Weight}
 use Rattle.message_parts.specs.declared.weight.WeightLimit.{WeightLimit}
 use Rattle.message_parts.specs.declared.weight.WeightLimit.TheVariants.{Unlimited, Limited}
 use Rattle.asset_lists.specs.declared.units.Asset.{Asset}
@@ -14,21 +16,28 @@ use Rattle.asset_lists.specs.declared.filters.Filter.TheVariants.{Definite}
 use Rattle.asset_bundles.specs.Bundles.{Bundle, bundle_of}
 use Rattle.xcm_program.specs.declared.instruction.Instruction.{Instruction}
 use Rattle.xcm_program.specs.declared.instruction.Instruction.TheOpen.{Instruction-F}
+use Rattle.ledgers.specs.Ledgers.{Held}
+use Rattle.call_dispatch.specs.declared.call.Call.TheVariants.{Batch}
+use Rattle.call_dispatch.specs.Spelling.{AnyCall}
+use Rattle.row_accounts.specs.Laws.{front_called}
 use Rattle.exec_base.specs.declared.registers.Registers.{Registers}
 use Rattle.exec_base.specs.Part.{ChainPart}
 use Rattle.exec_base.specs.Sending.{unless, or_else}
 use Rattle.exec_base.specs.Host.{receive_refusal, unspent, bought, refund_goods, parked, fee_to, fee_taken}
+use Rattle.exec_base.specs.Calls.{floors_of}
+use Rattle.exec_base.specs.Pools.{exchanged, exchange_goods}
 use Rattle.exec_run.specs.Machine.{Machine, machine}
 use Rattle.exec_rules.specs.AnswerLaws.{unless_held, unless_next}
 use Rattle.exec_rules.specs.Holdings.{with_origin, at_origin, has_room, holds_asset, taken_of, holding_left, holding_paid, payment_of, is_ticket, not_refunded, buying_refusal}
 use Rattle.exec_rules.specs.Fees.{after_fee}
+use Rattle.exec_rules.specs.Calls.{call_in, caller_in, CallStops, CallStopsAt}
 use Rattle.exec_rules.specs.Instructions.{refused}
-use Rattle.exec_rules.specs.Stopping.{parking, NotJoined, NotPutBack, BuyingStops, fee_parked, StopsAround, Stops, Spilled}
+use Rattle.exec_rules.specs.Stopping.{parking, NotJoined, NotPutBack, BuyingStops, ExchangeStops, fee_parked, StopsAround, Stops, Spilled}
 use Rattle.exec_calls.specs.Calls.{MachineWithGoods, between, MachineCall, why_not, after, effect, after_all, refusal_along, for_origin, charge}
 use Rattle.exec_calls.specs.Footprints.{part_is}
 use Rattle.exec_calls.specs.CallLaws.{along_both, after_both, charge_refused, charge_after}
 use Rattle.exec_calls.specs.Reasons.{destination, Moment, HasReason, HaveReasons, ComesBeforeStop, IsLedFrom, IsLedTo}
-use Rattle.exec_calls.specs.ReasonLaws.{asked_both, early_both, charge_asked, charge_early}
+use Rattle.exec_calls.specs.ReasonLaws.{asked_both, early_both, charge_asked, charge_early, speaks_by}
 
 -- ---- what is in hand is parked
 pub parked_is : (r : Registers) (p q : ChainPart) (goods : Bundle) → p ≡ q → after MachineCall.Park (record { regs = r; part = p; goods = goods }) ≡ between (machine r (parked q goods))
@@ -149,10 +158,46 @@ buying_stops m fees (Limited w) now stops =
       there = sym (parked_is t.regs (after (MachineCall.Buy w) t).part (effect (MachineCall.Buy w) t) (unspent m.part w (payment_of fees)) (part_is (MachineCall.Buy w) t));
     })) stops
 
+-- ---- exchanges
+exchange_stops : (m : Machine) (filter : Filter) (list : List Asset) (maximal : Bool) (now : Machine) → ExchangeStops m filter list maximal now → IsLedTo (Instruction-F.ExchangeAsset filter list maximal) m now
+exchange_stops m filter list maximal now stops =
+    let l = Instruction-F.ExchangeAsset filter list maximal in
+    let c = MachineCall.Exchange list maximal in
+    let t = after (MachineCall.Take filter) (between m) in
+    ⊎_elim (λ (e : NotPutBack m filter now). lead_as l m (between m) now _ e (not_put_back l m m filter refl))
+    (λ (e : (refused l m ≡ None) × (now ≡ parking (holding_left m filter m.part) (exchanged m.part t.goods list maximal) (exchange_goods m.part t.goods list maximal))).
+    lead_as l m (between m) now _ e.1 (record {
+      made = MachineCall.Take filter ∷ c ∷ MachineCall.Park ∷ [];
+      asked = (refl, ((filter, refl, refl), (refl, tt)));
+      early = (tt, (tt, (tt, tt)));
+      free = none_else (why_not c t) (unless_next (has_room m (length list)) _ _ e.0);
+      there = sym (parked_is t.regs (after c t).part (effect c t) (exchange_goods m.part t.goods list maximal) (part_is c t));
+    })) stops
+
 -- ---- each instruction
 not_joined : (l : Instruction-F Instruction) (m : Machine) (rule : Location → Option XcmError) (change : Location → ChainPart) (goods : Bundle) (now : Machine) → refused l m ≡ with_origin m.regs.origin rule → NotJoined l m change goods now
     → ((who : Location) → m.regs.origin ≡ Some who → rule who ≡ None → IsLedTo l m (parking m (change who) goods)) → IsLedTo l m now
 not_joined l m rule change goods now is stops led = lead_as l m (between m) now _ stops.1 (came_by l m m.regs.origin rule change goods refl (sym is ∙ stops.0) led)
+
+-- a front of a batch was done
+call_stops : (m now : Machine) (kind : OriginKind) (most : Weight) (bytes : List ℕ) (who : Location) (c : Option AnyCall) (o : Option (List ℕ)) → m.regs.origin ≡ Some who → caller_in m kind who ≡ o → CallStops m c o now → IsLedTo (Instruction-F.Transact kind most bytes) m now
+call_stops m now kind most bytes who None o is e stops = absurd stops
+call_stops m now kind most bytes who (Some c) None is e stops = absurd stops
+call_stops m now kind most bytes who (Some c) (Some account) is e stops =
+    let part = stops.in_part in
+    record {
+      made = MachineCall.Dispatch account (Batch part.in_part.interrupted.front) ∷ [];
+      asked = ((refl, speaks_by m kind who account is e, tt), tt);
+      early = (tt, tt);
+      free = refl;
+      there = ap (λ (k : Machine). between k) stops.is
+          ∙ ap (λ (p : ChainPart). between (machine m.regs p)) (part.is ∙ ap (λ (held : Held). let p : ChainPart = record m.part { held = held } in p)
+          (front_called m.part.rows m.part.held (floors_of m.part) account c part.held part.in_part));
+    }
+
+call_stops_at : (m now : Machine) (kind : OriginKind) (most : Weight) (bytes : List ℕ) (o : Option Location) → m.regs.origin ≡ o → CallStopsAt m kind bytes o now → IsLedTo (Instruction-F.Transact kind most bytes) m now
+call_stops_at m now kind most bytes None is stops = absurd stops
+call_stops_at m now kind most bytes (Some who) is stops = call_stops m now kind most bytes who (call_in m.part.calls bytes) (caller_in m kind who) is refl stops
 
 pub stops_lead : (l : Instruction-F Instruction) (m now : Machine) → Stops l m now → IsLedTo l m now
 stops_lead (Instruction-F.WithdrawAsset list) m now stops = not_joined (Instruction-F.WithdrawAsset list) m _ _ (bundle_of list) now refl stops
@@ -167,6 +212,7 @@ stops_lead (Instruction-F.DepositAsset filter who) m now stops = lead_as (Instru
 stops_lead (Instruction-F.BurnAsset list) m now stops = lead_as (Instruction-F.BurnAsset list) m (between m) now _ stops (not_put_back (Instruction-F.BurnAsset list) m m (Definite list) refl)
 stops_lead (Instruction-F.BuyExecution fees limit) m now stops = buying_stops m fees limit now stops
 stops_lead Instruction-F.RefundSurplus m now stops = lead_as Instruction-F.RefundSurplus m (between m) now _ stops.1 (came Instruction-F.RefundSurplus m (MachineCall.Refund (not_refunded m)) (refund_goods m.part (not_refunded m)) tt (refl, refl) refl (refl, refl, refl))
+stops_lead (Instruction-F.ExchangeAsset filter list maximal) m now stops = exchange_stops m filter list maximal now stops
 stops_lead (Instruction-F.TransferReserveAsset list dest xcm) m now stops = around_stops (Instruction-F.TransferReserveAsset list dest xcm) m dest (fee_to m.part dest) (λ n left. ⊥) now refl refl (λ n none i. absurd i) stops
 stops_lead (Instruction-F.DepositReserveAsset filter dest xcm) m now stops =
     around_stops (Instruction-F.DepositReserveAsset filter dest xcm) m dest (fee_to m.part dest) (λ n left. NotPutBack n filter left) now refl refl (λ n none i. lead_as (Instruction-F.DepositReserveAsset filter dest xcm) m (between n) now _ i (not_put_back (Instruction-F.DepositReserveAsset filter dest xcm) m n filter none)) stops
@@ -178,6 +224,9 @@ stops_lead (Instruction-F.ReportError info) m now stops = around_stops (Instruct
 stops_lead (Instruction-F.ReportHolding info filter) m now stops = around_stops (Instruction-F.ReportHolding info filter) m info.destination (fee_to m.part info.destination) (λ n left. ⊥) now refl refl (λ n none i. absurd i) stops
 stops_lead (Instruction-F.QueryPallet name info) m now stops = around_stops (Instruction-F.QueryPallet name info) m info.destination (fee_to m.part info.destination) (λ n left. ⊥) now refl refl (λ n none i. absurd i) stops
 stops_lead (Instruction-F.ReportTransactStatus info) m now stops = around_stops (Instruction-F.ReportTransactStatus info) m info.destination (fee_to m.part info.destination) (λ n left. ⊥) now refl refl (λ n none i. absurd i) stops
+stops_lead (Instruction-F.Transact kind most bytes) m now stops = call_stops_at m now kind most bytes m.regs.origin refl stops
+stops_lead (Instruction-F.LockAsset asset unlocker) m now stops = around_stops (Instruction-F.LockAsset asset unlocker) m unlocker (fee_to m.part unlocker) (λ n left. ⊥) now refl refl (λ n none i. absurd i) stops.1
+stops_lead (Instruction-F.RequestUnlock asset locker) m now stops = around_stops (Instruction-F.RequestUnlock asset locker) m locker (fee_to m.part locker) (λ n left. ⊥) now refl refl (λ n none i. absurd i) stops.1
 stops_lead _ m now stops = absurd stops
 
 -- all as it was, or one of these

@@ -20,7 +20,8 @@ ghost use Rattle.exec_calls.specs.Reasons.{HaveReasons, IsLedTo};
 use exec_run::law_of_runs;
 
 /// An instruction is refused by the first of its calls that is refused, and else leaves what they leave, with the registers that it changes. Each
-/// call has its reason, and where memory stops an instruction, accepted calls that change nothing else yet have led there.
+/// call has its reason, and where memory stops an instruction, accepted calls have led there, which change nothing else yet or did a front of a
+/// call's batch.
 pub fn law_of_calls()
     ensures refused { (l : Instruction-F Instruction) (m : Machine) → refused l m ≡ refusal_along (calls l m) (between m) }
     ensures done { (l : Instruction-F Instruction) (m : Machine) → between (done l m) ≡ through l m }

@@ -26,7 +26,7 @@ fn weight_of(program: &Program, rule: WeightRule) -> Weight
 }
 
 /// The sum of two weights, which fits.
-fn added(a: Weight, b: Weight) -> Weight
+pub(crate) fn added(a: Weight, b: Weight) -> Weight
     requires short { a.ref_time + b.ref_time < 2 ^ 64 }
     requires small { a.proof_size + b.proof_size < 2 ^ 64 }
     ensures { result ≡ weight_added a b }

@@ -1,4 +1,4 @@
-//! Instructions that nothing serves on these chains: dispatch, channels by request, versions, other consensus systems, locks and aliases.
+//! Instructions that nothing serves on these chains: channels by request, versions, other consensus systems, and aliases.
 ghost use Rattle.std.specs.Prelude.{IfOk, OnErr};
 ghost use Rattle.xcm_program.specs.declared.instruction.Instruction.TheOpen.{Instruction-F};
 ghost use Rattle.exec_run.specs.Machine.{machine};
@@ -6,30 +6,11 @@ ghost use Rattle.exec_rules.specs.Functions.{Ran, IsReadyFor};
 ghost use Rattle.exec_rules.specs.Stopping.{Spilled};
 
 use crate::comparing::{is_original, is_own_network};
-use asset_lists::Asset;
 use exec_base::{Host, Registers};
 use locations::{Junction, Junctions, Location, NetworkId};
-use message_parts::{LongBytes, OriginKind, Weight, XcmError};
+use message_parts::{Weight, XcmError};
 use std::alloc::AllocError;
 use xcm_program::Program;
-
-/// 6 Transact: no call can be decoded.
-pub fn transact<H: Host>(
-    r: &mut Registers,
-    h: &mut H,
-    origin_kind: OriginKind,
-    require_weight_at_most: Weight,
-    call: &LongBytes,
-) -> Result<Result<(), XcmError>, AllocError>
-    requires ready { IsReadyFor (Instruction-F.Transact origin_kind require_weight_at_most call.now) (machine r.old (H.part h.old)) }
-    ensures ok { IfOk result (λ answer. Ran (Instruction-F.Transact origin_kind require_weight_at_most call.now) (machine r.old (H.part h.old)) answer (machine r.new (H.part h.new))) }
-    ensures err { OnErr result (Spilled (Instruction-F.Transact origin_kind require_weight_at_most call.now) (machine r.old (H.part h.old)) (machine r.new (H.part h.new))) }
-{
-    if r.origin.is_none() {
-        return Ok(Err(XcmError::BadOrigin));
-    }
-    Ok(Err(XcmError::FailedToDecode))
-}
 
 /// 7 HrmpNewChannelOpenRequest: unimplemented.
 pub fn hrmp_new_channel_open_request<H: Host>(
@@ -141,74 +122,6 @@ pub fn export_message<H: Host>(
         return Ok(Err(XcmError::BadOrigin));
     }
     Ok(Err(XcmError::Unroutable))
-}
-
-/// 39 LockAsset: nothing can be locked.
-pub fn lock_asset<H: Host>(
-    r: &mut Registers,
-    h: &mut H,
-    asset: &Asset,
-    unlocker: &Location,
-) -> Result<Result<(), XcmError>, AllocError>
-    requires ready { IsReadyFor (Instruction-F.LockAsset asset.now unlocker.now) (machine r.old (H.part h.old)) }
-    ensures ok { IfOk result (λ answer. Ran (Instruction-F.LockAsset asset.now unlocker.now) (machine r.old (H.part h.old)) answer (machine r.new (H.part h.new))) }
-    ensures err { OnErr result (Spilled (Instruction-F.LockAsset asset.now unlocker.now) (machine r.old (H.part h.old)) (machine r.new (H.part h.new))) }
-{
-    if r.origin.is_none() {
-        return Ok(Err(XcmError::BadOrigin));
-    }
-    Ok(Err(XcmError::LockError))
-}
-
-/// 40 UnlockAsset: nothing is locked.
-pub fn unlock_asset<H: Host>(
-    r: &mut Registers,
-    h: &mut H,
-    asset: &Asset,
-    target: &Location,
-) -> Result<Result<(), XcmError>, AllocError>
-    requires ready { IsReadyFor (Instruction-F.UnlockAsset asset.now target.now) (machine r.old (H.part h.old)) }
-    ensures ok { IfOk result (λ answer. Ran (Instruction-F.UnlockAsset asset.now target.now) (machine r.old (H.part h.old)) answer (machine r.new (H.part h.new))) }
-    ensures err { OnErr result (Spilled (Instruction-F.UnlockAsset asset.now target.now) (machine r.old (H.part h.old)) (machine r.new (H.part h.new))) }
-{
-    if r.origin.is_none() {
-        return Ok(Err(XcmError::BadOrigin));
-    }
-    Ok(Err(XcmError::LockError))
-}
-
-/// 41 NoteUnlockable: no lock is noted.
-pub fn note_unlockable<H: Host>(
-    r: &mut Registers,
-    h: &mut H,
-    asset: &Asset,
-    owner: &Location,
-) -> Result<Result<(), XcmError>, AllocError>
-    requires ready { IsReadyFor (Instruction-F.NoteUnlockable asset.now owner.now) (machine r.old (H.part h.old)) }
-    ensures ok { IfOk result (λ answer. Ran (Instruction-F.NoteUnlockable asset.now owner.now) (machine r.old (H.part h.old)) answer (machine r.new (H.part h.new))) }
-    ensures err { OnErr result (Spilled (Instruction-F.NoteUnlockable asset.now owner.now) (machine r.old (H.part h.old)) (machine r.new (H.part h.new))) }
-{
-    if r.origin.is_none() {
-        return Ok(Err(XcmError::BadOrigin));
-    }
-    Ok(Err(XcmError::LockError))
-}
-
-/// 42 RequestUnlock: no lock is noted.
-pub fn request_unlock<H: Host>(
-    r: &mut Registers,
-    h: &mut H,
-    asset: &Asset,
-    locker: &Location,
-) -> Result<Result<(), XcmError>, AllocError>
-    requires ready { IsReadyFor (Instruction-F.RequestUnlock asset.now locker.now) (machine r.old (H.part h.old)) }
-    ensures ok { IfOk result (λ answer. Ran (Instruction-F.RequestUnlock asset.now locker.now) (machine r.old (H.part h.old)) answer (machine r.new (H.part h.new))) }
-    ensures err { OnErr result (Spilled (Instruction-F.RequestUnlock asset.now locker.now) (machine r.old (H.part h.old)) (machine r.new (H.part h.new))) }
-{
-    if r.origin.is_none() {
-        return Ok(Err(XcmError::BadOrigin));
-    }
-    Ok(Err(XcmError::LockError))
 }
 
 /// 46 AliasOrigin: no origin may stand for another.

@@ -19,7 +19,7 @@ use Rattle.fake_host.specs.PartOf.{part_of}
 use Rattle.fake_host.specs.Opening.{opened}
 
 opened_rests : (site : Site) (rows : List AssetRow) (accounts : List (List ℕ × Asset)) (queries : List OpenQuery) → IsAtRest (opened site rows accounts queries)
-opened_rests site rows accounts queries = record { order = record { traps = tt; rates = tt; paid = tt; unparked = refl }; slot = refl }
+opened_rests site rows accounts queries = record { order = record { traps = tt; rates = tt; paid = tt; pools = tt; unparked = refl }; slot = refl }
 
 pub if_opened : (site : Site) (rows : List AssetRow) (accounts : List (List ℕ × Asset)) (queries : List OpenQuery) (made : Result FakeHost AllocError) → IfOk made (λ host. part_of host ≡ opened site rows accounts queries) → IfOk made (λ host. IsAtRest (part_of host))
 if_opened site rows accounts queries (Ok host) e = subst IsAtRest (sym e) (opened_rests site rows accounts queries)

@@ -33,6 +33,7 @@ fn line(alloc: Global, event: &Event) -> Result<String, AllocError> {
             }
         }
         Event::Answered { query } => format!(in alloc; "answered {query}; "),
+        Event::Called { index, ok } => format!(in alloc; "called {index} {ok}; "),
         Event::Ignored { query } => format!(in alloc; "ignored {query}; "),
         Event::Trapped { number } => format!(in alloc; "trapped {number}; "),
         Event::End {

@@ -1,6 +1,6 @@
 -- Lemmas that proofs cite, in this crate and above it: one asset that is held or isn't; goods that may be joined; a fee that goes back leaves
 -- all as it was; the instruction inside a fee. A reader of the contracts may skip this file.
-use Rattle.std.proofs.Common.{◌≡◌, ℕ, ◌<◌, ◌≤◌, Bool, true, false, List, [], ◌∷◌, length, Option, Some, None, Result, Ok, Err, refl, sym, ap, ◌∙◌, subst, inl, inr, arith}
+use Rattle.std.proofs.Common.{◌≡◌, ℕ, ◌+◌, ◌<◌, ◌≤◌, Bool, true, false, List, [], ◌∷◌, length, Option, Some, None, Result, Ok, Err, refl, sym, ap, ◌∙◌, subst, inl, inr, arith}
 use Rattle.std.specs.Prelude.{◌⊎◌, nat_le, is_some, if◌then◌else◌, ⊤}
 use Rattle.std.specs.Ordering.{eq_by_cmp}
 use Rattle.std.specs.declared.alloc.AllocError.{AllocError}
@@ -31,7 +31,7 @@ use Rattle.exec_base.specs.declared.faults.HostFault.TheVariants.{Xcm, Memory}
 use Rattle.exec_base.specs.Answers.{TakesIn}
 use Rattle.exec_base.specs.Part.{ChainPart}
 use Rattle.exec_base.specs.Sending.{unless, or_else}
-use Rattle.exec_base.specs.Host.{first_fault, give_fault, at_account, withdraw_refusal, deposit_refusal, deposited, fee_to, is_price, IsPrice, IsFeeOf, IsFeeOrNothing, fee_held, fee_taken, fee_drawn, joined, booked}
+use Rattle.exec_base.specs.Host.{first_fault, floor_of, give_fault, at_account, withdraw_refusal, deposit_refusal, deposited, fee_to, is_price, IsPrice, IsFeeOf, IsFeeOrNothing, fee_held, fee_taken, fee_drawn, joined, booked}
 use Rattle.exec_run.specs.Machine.{Machine, machine}
 use Rattle.exec_rules.specs.Holdings.{with_origin, at_origin, with_holding, holds_asset, payment_of, holding_paid, holding_more}
 use Rattle.exec_rules.specs.HoldingLaws.{payment_within}
@@ -175,7 +175,10 @@ drawn_back : (p : ChainPart) (o : Option (List ℕ)) (fee : Asset) → first_fau
 drawn_back p None fee ok = refl
 drawn_back p (Some who) fee ok =
     merge-difference holder_keys p.held (held_by who (payment_of fee))
-    (drawn_within p who fee (unless_held _ _ _ (unless_next (is_some (row_of p.rows fee)) _ _ (none_first _ _ ok))))
+    (drawn_within p who fee (enough _ (floor_of p who (unit_of fee)) _ (unless_held _ _ _ (unless_next (is_some (row_of p.rows fee)) _ _ (none_first _ _ ok)))))
+  where
+    enough : (n f m : ℕ) → nat_le (n + f) m ≡ true → nat_le n m ≡ true
+    enough n f m h = grind (arith, nat_tests, h)
 
 to_account : (m : Machine) (fee : Asset) (who : Location) → m.part.fee_slot ≡ empty → withdraw_refusal m.part (fee ∷ []) who ≡ None
     → slot_returned (Some who) (machine m.regs (fee_held (fee_drawn m.part (fee ∷ []) who) (payment_of fee))) ≡ m

@@ -12,13 +12,15 @@ use Rattle.asset_bundles.specs.declared.shipment.Way.{Way}
 use Rattle.xcm_program.specs.declared.instruction.Instruction.{Instruction, out-Instruction}
 use Rattle.xcm_program.specs.declared.instruction.Instruction.TheOpen.{Instruction-F}
 use Rattle.exec_base.specs.Sending.{unless}
-use Rattle.exec_base.specs.Host.{withdraw_refusal, withdrawn, deposit_refusal, deposited, transfer_refusal, transferred, receive_refusal, received, transfer_out_refusal, transferred_out, deposit_out_refusal, deposited_out, ship_refusal, shipped, answered, burnt, claim_refusal, claimed}
+use Rattle.exec_base.specs.Host.{withdraw_refusal, withdrawn, deposit_refusal, deposited, transfer_refusal, transferred, receive_refusal, received, transfer_out_refusal, transferred_out, deposit_out_refusal, deposited_out, ship_refusal, shipped, answered, burnt, claim_refusal, claimed, where_locks, lock_refusal, asset_locked, unlock_refusal, asset_unlocked, note_refusal, asset_noted, request_refusal, asset_requested}
+use Rattle.exec_base.specs.Pools.{exchange_refusal, exchanged, exchange_goods}
 use Rattle.exec_run.specs.Machine.{Machine, machine, Rules}
 use Rattle.exec_rules.specs.Holdings.{with_origin, at_origin, with_room, holds_list, holding_more, taken_of, holding_left, is_ticket, buying_refusal, buying_done, refund_now, refund_refusal, refund_done}
 use Rattle.exec_rules.specs.Fees.{refused_sending, done_sending}
 use Rattle.exec_rules.specs.Reports.{report_refused, report_done, pallets_of, reported_list, holding_report_refused, holding_report_done}
 use Rattle.exec_rules.specs.Origins.{same_origin, if_original, is_checked_origin, fits_below, descended, is_own_network}
 use Rattle.exec_rules.specs.Programs.{with_registers, with_handler, with_appendix}
+use Rattle.exec_rules.specs.Calls.{call_in, caller_in, call_refusal, call_done}
 use Rattle.exec_rules.specs.Expectations.{expected, same_failure, same_status, pallet_refusal, pallet_at}
 
 -- ---- the first refusal, or none
@@ -32,6 +34,8 @@ refused (Instruction-F.DepositAsset filter who) m = deposit_refusal m.part (take
 refused (Instruction-F.BurnAsset list) m = None
 refused (Instruction-F.BuyExecution fees limit) m = buying_refusal m fees limit
 refused Instruction-F.RefundSurplus m = refund_refusal m (refund_now m)
+refused (Instruction-F.ExchangeAsset filter list maximal) m =
+    with_room m (length list) (exchange_refusal m.part (taken_of m filter) list maximal)
 -- transfers
 refused (Instruction-F.TransferAsset list who) m = with_origin m.regs.origin (λ from. transfer_refusal m.part list from who)
 refused (Instruction-F.TransferReserveAsset list dest xcm) m = with_origin m.regs.origin (λ who. refused_sending m dest (λ n. transfer_out_refusal n.part list who dest xcm))
@@ -45,6 +49,13 @@ refused (Instruction-F.QueryPallet name info) m = refused_sending m info.destina
 refused (Instruction-F.ReportTransactStatus info) m = refused_sending m info.destination (λ n. report_refused n info (response.DispatchResult n.regs.status))
 -- queries
 refused (Instruction-F.QueryResponse query answer weight querier) m = with_origin m.regs.origin (λ who. None)
+-- calls
+refused (Instruction-F.Transact kind most bytes) m = with_origin m.regs.origin (λ who. call_refusal m.regs.rule most (call_in m.part.calls bytes) (caller_in m kind who))
+-- locks
+refused (Instruction-F.LockAsset asset unlocker) m = with_origin m.regs.origin (λ who. where_locks m.part (refused_sending m unlocker (λ n. lock_refusal n.part asset who unlocker)))
+refused (Instruction-F.UnlockAsset asset target) m = with_origin m.regs.origin (λ who. unlock_refusal m.part asset target who)
+refused (Instruction-F.NoteUnlockable asset owner) m = with_origin m.regs.origin (λ who. note_refusal m.part asset owner who)
+refused (Instruction-F.RequestUnlock asset locker) m = with_origin m.regs.origin (λ who. where_locks m.part (refused_sending m locker (λ n. request_refusal n.part asset who locker)))
 -- the origin register
 refused Instruction-F.ClearOrigin m = None
 refused (Instruction-F.DescendOrigin path) m = with_origin m.regs.origin (λ who. unless (fits_below who path) error.LocationFull None)
@@ -65,19 +76,13 @@ refused (Instruction-F.ExpectTransactStatus status) m = expected (same_status m.
 refused (Instruction-F.ExpectPallet place name module_name major least_minor) m = pallet_refusal (pallet_at m place) name module_name major least_minor
 refused (Instruction-F.UnpaidExecution limit origin) m = unless (is_checked_origin m origin) error.BadOrigin None
 -- unconfigured
-refused (Instruction-F.Transact kind most call) m = with_origin m.regs.origin (λ who. Some error.FailedToDecode)
 refused (Instruction-F.HrmpNewChannelOpenRequest sender size capacity) m = Some error.Unimplemented
 refused (Instruction-F.HrmpChannelAccepted recipient) m = Some error.Unimplemented
 refused (Instruction-F.HrmpChannelClosing initiator sender recipient) m = Some error.Unimplemented
-refused (Instruction-F.ExchangeAsset filter list maximal) m = with_room m (length list) (Some error.NoDeal)
 refused (Instruction-F.SubscribeVersion query weight) m = if_original m (Some error.Unimplemented)
 refused Instruction-F.UnsubscribeVersion m = if_original m (Some error.Unimplemented)
 refused (Instruction-F.UniversalOrigin junction) m = unless (not (is_own_network m junction)) error.InvalidLocation (with_origin m.regs.origin (λ who. Some error.InvalidLocation))
 refused (Instruction-F.ExportMessage network path xcm) m = with_origin m.regs.origin (λ who. Some error.Unroutable)
-refused (Instruction-F.LockAsset asset unlocker) m = with_origin m.regs.origin (λ who. Some error.LockError)
-refused (Instruction-F.UnlockAsset asset target) m = with_origin m.regs.origin (λ who. Some error.LockError)
-refused (Instruction-F.NoteUnlockable asset owner) m = with_origin m.regs.origin (λ who. Some error.LockError)
-refused (Instruction-F.RequestUnlock asset locker) m = with_origin m.regs.origin (λ who. Some error.LockError)
 refused (Instruction-F.AliasOrigin target) m = with_origin m.regs.origin (λ who. Some error.NoPermission)
 
 -- ---- what is left where nothing is refused; those that are always refused have nothing to say
@@ -91,6 +96,10 @@ done (Instruction-F.DepositAsset filter who) m = holding_left m filter (deposite
 done (Instruction-F.BurnAsset list) m = holding_left m (Definite list) (burnt m.part (taken_of m (Definite list)))
 done (Instruction-F.BuyExecution fees limit) m = buying_done m fees limit
 done Instruction-F.RefundSurplus m = refund_done m (refund_now m)
+done (Instruction-F.ExchangeAsset filter list maximal) m =
+    let give = taken_of m filter in
+    holding_more (holding_left m filter m.part) (exchanged m.part give list maximal)
+    (exchange_goods m.part give list maximal)
 -- transfers
 done (Instruction-F.TransferAsset list who) m = at_origin m.regs.origin (λ from. machine m.regs (transferred m.part list from who)) m
 done (Instruction-F.TransferReserveAsset list dest xcm) m = at_origin m.regs.origin (λ who. done_sending m dest (λ n. machine n.regs (transferred_out n.part list who dest xcm))) m
@@ -104,6 +113,13 @@ done (Instruction-F.QueryPallet name info) m = done_sending m info.destination (
 done (Instruction-F.ReportTransactStatus info) m = done_sending m info.destination (λ n. report_done n info (response.DispatchResult n.regs.status))
 -- queries
 done (Instruction-F.QueryResponse query answer weight querier) m = at_origin m.regs.origin (λ who. machine m.regs (answered m.part who query)) m
+-- calls
+done (Instruction-F.Transact kind most bytes) m = at_origin m.regs.origin (λ who. call_done m most (call_in m.part.calls bytes) (caller_in m kind who)) m
+-- locks
+done (Instruction-F.LockAsset asset unlocker) m = at_origin m.regs.origin (λ who. done_sending m unlocker (λ n. machine n.regs (asset_locked n.part asset who unlocker))) m
+done (Instruction-F.UnlockAsset asset target) m = at_origin m.regs.origin (λ who. machine m.regs (asset_unlocked m.part asset target who)) m
+done (Instruction-F.NoteUnlockable asset owner) m = at_origin m.regs.origin (λ who. machine m.regs (asset_noted m.part asset owner who)) m
+done (Instruction-F.RequestUnlock asset locker) m = at_origin m.regs.origin (λ who. done_sending m locker (λ n. machine n.regs (asset_requested n.part asset who locker))) m
 -- the origin register
 done Instruction-F.ClearOrigin m = with_registers m (record m.regs { origin = None })
 done (Instruction-F.DescendOrigin path) m = at_origin m.regs.origin (λ who. with_registers m (record m.regs { origin = Some (descended who path) })) m
@@ -124,19 +140,13 @@ done (Instruction-F.ExpectTransactStatus status) m = m
 done (Instruction-F.ExpectPallet place name module_name major least_minor) m = m
 done (Instruction-F.UnpaidExecution limit origin) m = m
 -- unconfigured
-done (Instruction-F.Transact kind most call) m = m
 done (Instruction-F.HrmpNewChannelOpenRequest sender size capacity) m = m
 done (Instruction-F.HrmpChannelAccepted recipient) m = m
 done (Instruction-F.HrmpChannelClosing initiator sender recipient) m = m
-done (Instruction-F.ExchangeAsset filter list maximal) m = m
 done (Instruction-F.SubscribeVersion query weight) m = m
 done Instruction-F.UnsubscribeVersion m = m
 done (Instruction-F.UniversalOrigin junction) m = m
 done (Instruction-F.ExportMessage network path xcm) m = m
-done (Instruction-F.LockAsset asset unlocker) m = m
-done (Instruction-F.UnlockAsset asset target) m = m
-done (Instruction-F.NoteUnlockable asset owner) m = m
-done (Instruction-F.RequestUnlock asset locker) m = m
 done (Instruction-F.AliasOrigin target) m = m
 
 -- ---- of whole instructions

@@ -4,6 +4,7 @@ pub mod Reports
 pub mod Origins
 pub mod Programs
 pub mod Expectations
+pub mod Calls
 pub mod Instructions
 pub mod Stopping
 pub mod AnswerLaws

@@ -6,6 +6,7 @@ use Rattle.asset_lists.specs.Listed.{Listed}
 use Rattle.asset_bundles.specs.Books.{AreListed}
 use Rattle.trust_tables.specs.Trust.{listing}
 use Rattle.trap_store.specs.declared.trap.Trap.{Trap}
+use Rattle.chain_pools.specs.Spending.{ArePoolsListed}
 use Rattle.weight_trader.specs.Purchases.{AreRatesListed, AreWithinEnd}
 use Rattle.xcm_program.specs.declared.instruction.Instruction.{Instruction}
 use Rattle.exec_base.specs.Part.{ChainPart}
@@ -17,12 +18,13 @@ use Rattle.exec_run.specs.Accounts.{IsAffordable}
 abbrev pub AreTrapsListed : List Listed → List Trap → Type 0
 AreTrapsListed listed traps = AllByRecursion (λ (t : Trap). AreListed listed t.goods) traps
 
--- a chain on which a run may go on: it lists what is trapped and what its rates are paid in; what is paid is below its end; and nothing is
--- parked
+-- a chain on which a run may go on: it lists what is trapped, what its rates are paid in and what its pools exchange; what is paid is below its
+-- end; and nothing is parked
 pub record IsInOrder (p : ChainPart) : Type 0 where
   pub traps : AreTrapsListed (listing p.rows) p.traps.traps
   pub rates : AreRatesListed (listing p.rows) p.lines
   pub paid : AreWithinEnd p.lines
+  pub pools : ArePoolsListed (listing p.rows) p.pools
   pub unparked : p.parked ≡ []
 
 -- and no fee is set aside: so it is between runs

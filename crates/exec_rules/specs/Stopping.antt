@@ -1,6 +1,6 @@
 -- Where out of memory may stop an instruction, besides where it began: what had been moved is parked. One line for each instruction; ⊥ says
 -- that it changes nothing before all is done. This project's own rule.
-use Rattle.std.specs.Prelude.{◌≡◌, ◌⊎◌, true, false, Option, Some, None}
+use Rattle.std.specs.Prelude.{◌≡◌, ◌⊎◌, Bool, true, false, List, Option, Some, None}
 use Rattle.locations.specs.declared.relative.Location.{Location}
 use Rattle.message_parts.specs.declared.weight.WeightLimit.{WeightLimit}
 use Rattle.message_parts.specs.declared.weight.WeightLimit.TheVariants.{Unlimited, Limited}
@@ -12,9 +12,11 @@ use Rattle.xcm_program.specs.declared.instruction.Instruction.{Instruction, out-
 use Rattle.xcm_program.specs.declared.instruction.Instruction.TheOpen.{Instruction-F}
 use Rattle.exec_base.specs.Part.{ChainPart}
 use Rattle.exec_base.specs.Host.{withdrawn, received, claimed, unspent, bought, refund_goods, refunded, parked, fee_to, fee_taken}
+use Rattle.exec_base.specs.Pools.{exchanged, exchange_goods}
 use Rattle.exec_run.specs.Machine.{Machine, machine}
 use Rattle.exec_rules.specs.Holdings.{at_origin, holds_asset, taken_of, holding_left, holding_paid, payment_of, not_refunded, refund_now, refund_refusal, buying_refusal}
 use Rattle.exec_rules.specs.Fees.{fee_refusal, after_fee}
+use Rattle.exec_rules.specs.Calls.{CallStopsAt}
 use Rattle.exec_rules.specs.Instructions.{refused}
 
 -- goods are parked
@@ -40,6 +42,15 @@ BuyingStops m fees (Limited w) now =
 abbrev pub RefundStops : Machine → Machine → Type 0
 RefundStops m now = (refund_refusal m (refund_now m) ≡ None) × (now ≡ parking m (refunded m.part (not_refunded m)) (refund_goods m.part (not_refunded m)))
 
+-- what was to be given wasn't put back; or it was exchanged, and what came of it wasn't joined to what is held
+abbrev pub ExchangeStops : Machine → Filter → List Asset → Bool → Machine → Type 0
+ExchangeStops m filter list maximal now =
+    let give = taken_of m filter in
+    NotPutBack m filter now
+    ⊎ ((refused (Instruction-F.ExchangeAsset filter list maximal) m ≡ None)
+    × (now ≡ parking (holding_left m filter m.part) (exchanged m.part give list maximal)
+    (exchange_goods m.part give list maximal)))
+
 -- the slot was emptied, and what was in it is parked
 abbrev pub fee_parked : Machine → Machine
 fee_parked m = machine m.regs (parked (fee_taken m.part) m.part.fee_slot)
@@ -64,6 +75,7 @@ Stops (Instruction-F.DepositAsset filter who) m now = NotPutBack m filter now
 Stops (Instruction-F.BurnAsset list) m now = NotPutBack m (Definite list) now
 Stops (Instruction-F.BuyExecution fees limit) m now = BuyingStops m fees limit now
 Stops Instruction-F.RefundSurplus m now = RefundStops m now
+Stops (Instruction-F.ExchangeAsset filter list maximal) m now = ExchangeStops m filter list maximal now
 -- transfers
 Stops (Instruction-F.TransferAsset list who) m now = ⊥
 Stops (Instruction-F.TransferReserveAsset list dest xcm) m now = StopsSending m dest (λ n left. ⊥) now
@@ -77,6 +89,13 @@ Stops (Instruction-F.QueryPallet name info) m now = StopsSending m info.destinat
 Stops (Instruction-F.ReportTransactStatus info) m now = StopsSending m info.destination (λ n left. ⊥) now
 -- queries
 Stops (Instruction-F.QueryResponse query answer weight querier) m now = ⊥
+-- calls
+Stops (Instruction-F.Transact kind most bytes) m now = CallStopsAt m kind bytes m.regs.origin now
+-- locks
+Stops (Instruction-F.LockAsset asset unlocker) m now = (m.part.locks ≡ true) × StopsSending m unlocker (λ n left. ⊥) now
+Stops (Instruction-F.UnlockAsset asset target) m now = ⊥
+Stops (Instruction-F.NoteUnlockable asset owner) m now = ⊥
+Stops (Instruction-F.RequestUnlock asset locker) m now = (m.part.locks ≡ true) × StopsSending m locker (λ n left. ⊥) now
 -- the origin register
 Stops Instruction-F.ClearOrigin m now = ⊥
 Stops (Instruction-F.DescendOrigin path) m now = ⊥
@@ -97,19 +116,13 @@ Stops (Instruction-F.ExpectTransactStatus status) m now = ⊥
 Stops (Instruction-F.ExpectPallet place name module_name major least_minor) m now = ⊥
 Stops (Instruction-F.UnpaidExecution limit origin) m now = ⊥
 -- unconfigured
-Stops (Instruction-F.Transact kind most call) m now = ⊥
 Stops (Instruction-F.HrmpNewChannelOpenRequest sender size capacity) m now = ⊥
 Stops (Instruction-F.HrmpChannelAccepted recipient) m now = ⊥
 Stops (Instruction-F.HrmpChannelClosing initiator sender recipient) m now = ⊥
-Stops (Instruction-F.ExchangeAsset filter list maximal) m now = ⊥
 Stops (Instruction-F.SubscribeVersion query weight) m now = ⊥
 Stops Instruction-F.UnsubscribeVersion m now = ⊥
 Stops (Instruction-F.UniversalOrigin junction) m now = ⊥
 Stops (Instruction-F.ExportMessage network path xcm) m now = ⊥
-Stops (Instruction-F.LockAsset asset unlocker) m now = ⊥
-Stops (Instruction-F.UnlockAsset asset target) m now = ⊥
-Stops (Instruction-F.NoteUnlockable asset owner) m now = ⊥
-Stops (Instruction-F.RequestUnlock asset locker) m now = ⊥
 Stops (Instruction-F.AliasOrigin target) m now = ⊥
 
 -- what an instruction may leave where memory was refused: all as it was, or one of these

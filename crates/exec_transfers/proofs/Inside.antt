@@ -1,6 +1,8 @@
 -- Each instruction that sends is a rule and a change inside a delivery fee.
-use Rattle.std.proofs.Common.{◌≡◌, ℕ, List, Option, Some, refl, ap}
+use Rattle.std.proofs.Common.{◌≡◌, ℕ, Bool, true, List, Option, Some, refl, ap, ◌∙◌}
 use Rattle.locations.specs.declared.relative.Location.{Location}
+use Rattle.message_parts.specs.declared.error.XcmError.{XcmError}
+use Rattle.message_parts.specs.declared.error.XcmError.TheVariants as error
 use Rattle.message_parts.specs.declared.query.QueryInfo.{QueryInfo}
 use Rattle.message_parts.specs.declared.query.Response.TheVariants as response
 use Rattle.asset_lists.specs.declared.units.Asset.{Asset}
@@ -9,7 +11,8 @@ use Rattle.asset_bundles.specs.declared.shipment.Way.{Way}
 use Rattle.xcm_program.specs.declared.instruction.Instruction.{Instruction}
 use Rattle.xcm_program.specs.declared.instruction.Instruction.TheOpen.{Instruction-F}
 use Rattle.xcm_program.specs.Measure.{inner}
-use Rattle.exec_base.specs.Host.{fee_to, transfer_out_refusal, transferred_out, deposit_out_refusal, deposited_out, ship_refusal, shipped}
+use Rattle.exec_base.specs.Sending.{unless}
+use Rattle.exec_base.specs.Host.{lock_refusal, asset_locked, request_refusal, asset_requested, fee_to, transfer_out_refusal, transferred_out, deposit_out_refusal, deposited_out, ship_refusal, shipped}
 use Rattle.exec_run.specs.Machine.{Machine, machine}
 use Rattle.exec_rules.specs.Holdings.{with_origin, at_origin, taken_of, holding_left}
 use Rattle.exec_rules.specs.Fees.{refused_sending, done_sending}
@@ -24,6 +27,27 @@ transfer_inside m list dest xcm who origin = record {
   refused = ap (λ (o : Option Location). with_origin o (λ w. refused_sending m dest (λ n. transfer_out_refusal n.part list w dest xcm))) origin;
   done = ap (λ (o : Option Location). at_origin o (λ w. done_sending m dest (λ n. machine n.regs (transferred_out n.part list w dest xcm))) m) origin;
   stops = λ now left. left;
+}
+
+-- where assets may be locked
+locks_inside : (b : Bool) (o : Option Location) (rule : Location → Option XcmError) (who : Location) → o ≡ Some who → b ≡ true → with_origin o (λ w. unless b error.LockError (rule w)) ≡ rule who
+locks_inside b o rule who origin locks =
+    ap (λ (x : Option Location). with_origin x (λ w. unless b error.LockError (rule w))) origin ∙ ap (λ (x : Bool). unless x error.LockError (rule who)) locks
+
+pub lock_inside : (m : Machine) (a : Asset) (unlocker who : Location) → m.regs.origin ≡ Some who → m.part.locks ≡ true
+    → IsInside (Instruction-F.LockAsset a unlocker) m (fee_to m.part unlocker) (λ n. lock_refusal n.part a who unlocker) (λ n. machine n.regs (asset_locked n.part a who unlocker)) (λ n left. ⊥)
+lock_inside m a unlocker who origin locks = record {
+  refused = locks_inside m.part.locks m.regs.origin (λ w. refused_sending m unlocker (λ n. lock_refusal n.part a w unlocker)) who origin locks;
+  done = ap (λ (o : Option Location). at_origin o (λ w. done_sending m unlocker (λ n. machine n.regs (asset_locked n.part a w unlocker))) m) origin;
+  stops = λ now left. (locks, left);
+}
+
+pub request_inside : (m : Machine) (a : Asset) (locker who : Location) → m.regs.origin ≡ Some who → m.part.locks ≡ true
+    → IsInside (Instruction-F.RequestUnlock a locker) m (fee_to m.part locker) (λ n. request_refusal n.part a who locker) (λ n. machine n.regs (asset_requested n.part a who locker)) (λ n left. ⊥)
+request_inside m a locker who origin locks = record {
+  refused = locks_inside m.part.locks m.regs.origin (λ w. refused_sending m locker (λ n. request_refusal n.part a w locker)) who origin locks;
+  done = ap (λ (o : Option Location). at_origin o (λ w. done_sending m locker (λ n. machine n.regs (asset_requested n.part a w locker))) m) origin;
+  stops = λ now left. (locks, left);
 }
 
 pub deposit_inside : (m : Machine) (filter : Filter) (dest : Location) (xcm : List Instruction)

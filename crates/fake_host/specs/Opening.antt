@@ -1,5 +1,5 @@
 -- What a chain is that is opened here, and what must hold of its rows. This project's own.
-use Rattle.std.specs.Prelude.{ℕ, Bool, List, [], map, replicate, is_none}
+use Rattle.std.specs.Prelude.{ℕ, Bool, false, List, [], map, replicate, is_none}
 use Rattle.std.specs.List.{list_all}
 use Rattle.amounts.specs.Amounts.{empty}
 use Rattle.asset_lists.specs.declared.units.Asset.{Asset}
@@ -20,9 +20,9 @@ have_no_checkings rows = list_all (λ (row : AssetRow). is_none (row_checking ro
 abbrev pub balance_of : List ℕ × Asset → Balance
 balance_of holding = record { who = holding.0; asset = holding.1 }
 
--- no pallets, and an account for fees whose 32 bytes are 0
+-- no pallets, an account for fees whose 32 bytes are 0, no calls, no locks and no pools
 abbrev pub plain_settings : Site → List AssetRow → Settings
-plain_settings site rows = record { site = site; rows = rows; pallets = []; fee_account = replicate 32 0 }
+plain_settings site rows = record { site = site; rows = rows; pallets = []; fee_account = replicate 32 0; calls = false; locks = false; pools = [] }
 
 -- no rates and no channels; nothing happened, and accounts hold just these
 abbrev pub opened : Site → List AssetRow → List (List ℕ × Asset) → List OpenQuery → ChainPart

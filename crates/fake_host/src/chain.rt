@@ -28,7 +28,8 @@ use plain_lists::Listed;
 use std::alloc::{AllocError, Global};
 use trust_tables::{AssetRow, Site};
 
-/// A chain that opens with no rate, no channel, no pallet and no checking account.
+/// A chain that opens with no rate, no channel, no pallet and no checking account, and has
+/// neither calls nor locks nor pools.
 #[derive(Drop)]
 pub struct FakeHost {
     pub(crate) chain: ChainState,
@@ -74,6 +75,9 @@ impl FakeHost {
             rows: Listed::from_vec(rows),
             pallets: Listed::from_vec(Vec::new(alloc)),
             fee_account: [0; 32],
+            calls: false,
+            locks: false,
+            pools: Listed::from_vec(Vec::new(alloc)),
         };
         let mut chain = ChainState::new(alloc, settings, &[], queries, Vec::new(alloc))?;
         chain.place_all(balances.as_slice())?;

@@ -21,9 +21,11 @@ use Rattle.weight_trader.specs.Purchases.{Line, paying, unspent_at, AreWithinEnd
 use Rattle.weight_trader.specs.Laws.{Purchase, MovesAreKept, paid_by, saturated_by, unspent_by}
 use Rattle.xcm_program.specs.declared.instruction.Instruction.{Instruction}
 use Rattle.xcm_program.specs.declared.instruction.Instruction.TheOpen.{Instruction-F}
+use Rattle.exec_base.specs.declared.event.Event.{Event}
 use Rattle.exec_base.specs.Part.{ChainPart}
 use Rattle.exec_base.specs.Sending.{unless}
 use Rattle.exec_base.specs.Host.{burnt, unspent, bought, refund_goods, refunded, fee_held, fee_kept, fee_drawn, withdraw_refusal}
+use Rattle.exec_base.specs.Pools.{exchange_goods}
 use Rattle.exec_run.specs.Machine.{Machine, machine}
 use Rattle.exec_rules.specs.Holdings.{with_origin, at_origin, holds_asset, holding_more, taken_of, holding_left, payment_of, holding_paid, not_refunded, refund_done}
 use Rattle.exec_rules.specs.Fees.{fee_refusal, after_fee, refused_around, keeping_fee, done_around}
@@ -40,7 +42,9 @@ use Rattle.host_laws.specs.Accepted.{whole_of, HasList, AreFees, HasRoomFor}
 use Rattle.host_laws.proofs.Booking.{conserves_join, conserves_burn, conserves_park, conserves_answer, conserves_held_fee, conserves_taken_fee, conserves_kept_fee}
 use Rattle.host_laws.proofs.Moving.{Withdraws, conserves_withdrawal, conserves_drawn_fee, conserves_deposit, conserves_transfer}
 use Rattle.host_laws.proofs.Claiming.{conserves_claim}
-use Rattle.host_laws.proofs.Sending.{conserves_shipping, conserves_deposit_out, conserves_transfer_out, conserves_response}
+use Rattle.host_laws.proofs.Dispatching.{conserves_moves}
+use Rattle.host_laws.proofs.Exchanging.{conserves_exchange}
+use Rattle.host_laws.proofs.Sending.{conserves_shipping, conserves_deposit_out, conserves_transfer_out, conserves_response, conserves_locking, conserves_unlocking, conserves_noting, conserves_requesting}
 use Rattle.host_laws.proofs.Trading.{above_at, above_total, conserves_purchase, conserves_refund}
 
 -- ---- room in the book
@@ -131,6 +135,10 @@ came c t b goes held none is = moved c t empty b goes held (λ test. let y = in_
 kept : (c : MachineCall) (t : MachineWithGoods) → Conserves empty empty t.part (effect c t) → (after c t).regs.holding ≡ t.regs.holding → (after c t).goods ≡ t.goods → (test : Listed → Bool) → whole_at test (after c t) ≡ whole_at test t
 kept c t goes held same = moved c t empty empty goes held (λ test. let z = in_hand (after c t) t.goods test same in omega (arith, z))
 
+kept_line : (e : Event) (t : MachineWithGoods) (test : Listed → Bool) → whole_at test (after (MachineCall.KeepBack e) t) ≡ whole_at test t
+unfolding on_chain
+kept_line e t test = refl
+
 drawn_slot : (p : ChainPart) (list : List Asset) (who : Location) → (fee_drawn p list who).fee_slot ≡ p.fee_slot
 unfolding fee_drawn
 drawn_slot p list who = refl
@@ -191,12 +199,19 @@ module _ (withdraws : Withdraws) (moves : MovesAreKept) (l : Instruction-F Instr
       let within : AreWithinEnd t.part.lines = subst (λ (u : MachineWithGoods). AreWithinEnd u.part.lines) (sym asks.2) steady.rest.order.paid in
       let below : BuysBelow t.part v t.goods = λ line e. books_below t.part t.goods (burned_for Cause.Saturated (above_at v line)) (λ k. saturated_part moves t.part v t.goods line k within e) (λ k. let r = room_at t w k in omega (arith, r)) in
       moved (MachineCall.Buy v) t t.goods (unspent t.part v t.goods) (conserves_purchase moves t.part v t.goods within below) refl (λ test. omega arith)
+  step (MachineCall.Exchange want maximal) t asks free w = moved (MachineCall.Exchange want maximal) t t.goods (exchange_goods t.part t.goods want maximal) (conserves_exchange t.part t.goods want maximal) refl (λ test. omega arith)
   step (MachineCall.DepositOut dest xcm) t asks free w = gave (MachineCall.DepositOut dest xcm) t (conserves_deposit_out t.part t.goods dest xcm free) refl refl
   step (MachineCall.Ship way dest xcm) t asks free w = gave (MachineCall.Ship way dest xcm) t (conserves_shipping t.part t.goods way dest xcm free) refl refl
   step (MachineCall.Transfer list from to) t asks free w = kept (MachineCall.Transfer list from to) t (conserves_transfer withdraws t.part list from to (subst HasList asks.2 lists) free) refl refl
   step (MachineCall.TransferOut list from dest xcm) t asks free w = kept (MachineCall.TransferOut list from dest xcm) t (conserves_transfer_out withdraws t.part list from dest xcm (subst HasList asks.2 lists) free) refl refl
   step (MachineCall.Respond info answer querier) t asks free w = kept (MachineCall.Respond info answer querier) t (conserves_response t.part info answer querier) refl refl
   step (MachineCall.Answer from query) t asks free w = kept (MachineCall.Answer from query) t (conserves_answer t.part from query) refl refl
+  step (MachineCall.Dispatch who c) t asks free w = kept (MachineCall.Dispatch who c) t (conserves_moves t.part who c) refl refl
+  step (MachineCall.KeepBack e) t asks free w = λ test. kept_line e t test
+  step (MachineCall.Lock a owner unlocker) t asks free w = kept (MachineCall.Lock a owner unlocker) t (conserves_locking t.part a owner unlocker) refl refl
+  step (MachineCall.Unlock a target from) t asks free w = kept (MachineCall.Unlock a target from) t (conserves_unlocking t.part a target from) refl refl
+  step (MachineCall.Note a owner from) t asks free w = kept (MachineCall.Note a owner from) t (conserves_noting t.part a owner from) refl refl
+  step (MachineCall.Request a owner locker) t asks free w = kept (MachineCall.Request a owner locker) t (conserves_requesting t.part a owner locker) refl refl
   step MachineCall.HoldFee t asks free w = gave MachineCall.HoldFee t (conserves_held_fee t.part t.goods (asks.3 ∙ steady.rest.slot)) refl refl
   step MachineCall.TakeFee t asks free w = came MachineCall.TakeFee t t.part.fee_slot (conserves_taken_fee t.part) refl asks refl
   step MachineCall.KeepFee t asks free w = kept MachineCall.KeepFee t (conserves_kept_fee t.part (keeps_below t w)) refl refl

@@ -1,6 +1,8 @@
 mod Booking
 mod Moving
 mod Claiming
+mod Dispatching
+mod Exchanging
 mod Sending
 mod Trading
 mod Accepting

@@ -18,7 +18,7 @@ use Rattle.trust_tables.specs.Trust.{row_of}
 use Rattle.ledgers.specs.Laws.{holder_keys, held_by_total}
 use Rattle.ledgers.specs.Ledgers.{Holder, Held, Accounts, is_account, held_by, Withdrawn, Deposited, shortage}
 use Rattle.exec_base.specs.Part.{ChainPart, accounts_of}
-use Rattle.exec_base.specs.Host.{first_fault, at_account, give_fault, take_fault, given, got, withdraw_refusal, withdrawn, deposit_refusal, deposited, transfer_refusal, transferred, received, fee_drawn}
+use Rattle.exec_base.specs.Host.{first_fault, at_account, floor_of, give_fault, take_fault, given, got, withdraw_refusal, withdrawn, deposit_refusal, deposited, transfer_refusal, transferred, received, fee_drawn}
 use Rattle.exec_rules.specs.AnswerLaws.{unless_held, unless_next, none_first, none_next}
 use Rattle.host_laws.specs.Wholes.{on_chain, whole, Conserves}
 
@@ -30,7 +30,10 @@ no_account_takes : (p : ChainPart) (a : Asset) → take_fault p None a ≡ None 
 no_account_takes p a h = let k = unless_next (is_some (row_of p.rows a)) _ _ h in absurd cc
 
 holds_enough : (p : ChainPart) (who : List ℕ) (a : Asset) → give_fault p (Some who) a ≡ None → nat_le (amount_of a) (amount p.held (who, unit_of a)) ≡ true
-holds_enough p who a h = unless_held _ _ _ (unless_next (is_some (row_of p.rows a)) _ _ h)
+holds_enough p who a h = enough (amount_of a) (floor_of p who (unit_of a)) _ (unless_held _ _ _ (unless_next (is_some (row_of p.rows a)) _ _ h))
+  where
+    enough : (n f m : ℕ) → nat_le (n + f) m ≡ true → nat_le n m ≡ true
+    enough n f m h = grind (arith, nat_tests, h)
 
 not_less : (n m : ℕ) → nat_le n m ≡ true → nat_lt m n ≡ false
 not_less n m h = grind (arith, nat_tests, h)

@@ -26,8 +26,9 @@ use Rattle.trust_tables.specs.Accounts.{account_of}
 use Rattle.ledgers.specs.Laws.{account_keys}
 use Rattle.ledgers.specs.Ledgers.{Held, account_cmp, Withdrawn, Deposited}
 use Rattle.exec_base.specs.Part.{ChainPart, accounts_of}
-use Rattle.exec_base.specs.Sending.{channel_to, leads_to, channel_refusal, send_refusal, sent, listed_refusal, listed_program, deposit_program, away_program}
-use Rattle.exec_base.specs.Host.{first_fault, give_fault, transfer_refusal, at_account, given, got, seen_from, deposited, transferred, deposit_out_refusal, deposited_out, transfer_out_refusal, transferred_out, raised_for, ship_refusal, shipped, querier_seen, report_program, responded}
+use Rattle.exec_base.specs.Sending.{named_sent, channel_to, leads_to, channel_refusal, send_refusal, sent, listed_refusal, listed_program, deposit_program, away_program}
+use Rattle.asset_locks.specs.LockMaps.{LocksAndNotes}
+use Rattle.exec_base.specs.Host.{note_program, asset_locked, asset_unlocked, asset_noted, request_key, unlock_program, asset_requested, first_fault, give_fault, transfer_refusal, at_account, given, got, seen_from, deposited, transferred, deposit_out_refusal, deposited_out, transfer_out_refusal, transferred_out, raised_for, ship_refusal, shipped, querier_seen, report_program, responded}
 use Rattle.exec_rules.specs.AnswerLaws.{none_first, none_next}
 use Rattle.host_laws.specs.Wholes.{in_queue, carried, on_chain, whole, Conserves, account_total, IsOtherAccount}
 use Rattle.host_laws.proofs.Booking.{keeps_whole}
@@ -181,3 +182,28 @@ raises_by_list law p list from dest xcm who t in_order ok e other =
     ap (total (of_account who t)) (sent_held (got (given p list from) (bundle_of list) dest) dest (listed_program (λ a. deposit_program a xcm) (seen_from p dest list)) (Deposit list))
     ∙ got_more (given p list from) (account_of dest p.site) who (bundle_of list) t e
     ∙ ap (λ (n : ℕ). n + total t (bundle_of list)) (given_others law p (account_of from p.site) list who t in_order (none_first _ _ (none_first _ _ ok)) other)
+
+-- ---- of locks, which are beside all amounts
+beside_whole : (p : ChainPart) (locked : LocksAndNotes) (test : Listed → Bool) → whole test (record p { locked = locked }) ≡ whole test p
+unfolding on_chain
+beside_whole p locked test = refl
+
+named_whole : (p : ChainPart) (locked : LocksAndNotes) (dest : Location) (o : Option (List Instruction)) (test : Listed → Bool) → whole test (named_sent (record p { locked = locked }) dest o) ≡ whole test p
+named_whole p locked dest None test = beside_whole p locked test
+named_whole p locked dest (Some program) test = whole_sent_none test (record p { locked = locked }) dest program Nothing refl ∙ beside_whole p locked test
+
+pub conserves_locking : (p : ChainPart) (a : Asset) (owner unlocker : Location) → Conserves empty empty p (asset_locked p a owner unlocker)
+unfolding asset_locked
+conserves_locking p a owner unlocker = keeps_whole p (asset_locked p a owner unlocker) (named_whole p _ unlocker (note_program p a owner unlocker))
+
+pub conserves_unlocking : (p : ChainPart) (a : Asset) (target from : Location) → Conserves empty empty p (asset_unlocked p a target from)
+unfolding asset_unlocked
+conserves_unlocking p a target from = keeps_whole p (asset_unlocked p a target from) (beside_whole p (asset_unlocked p a target from).locked)
+
+pub conserves_noting : (p : ChainPart) (a : Asset) (owner from : Location) → Conserves empty empty p (asset_noted p a owner from)
+unfolding asset_noted
+conserves_noting p a owner from = keeps_whole p (asset_noted p a owner from) (beside_whole p (asset_noted p a owner from).locked)
+
+pub conserves_requesting : (p : ChainPart) (a : Asset) (owner locker : Location) → Conserves empty empty p (asset_requested p a owner locker)
+unfolding asset_requested
+conserves_requesting p a owner locker = keeps_whole p (asset_requested p a owner locker) (named_whole p _ locker (unlock_program p a (request_key a owner locker) locker))

@@ -21,6 +21,9 @@ ghost use Rattle.xcm_program.specs.declared.instruction.Instruction.{Instruction
 ghost use Rattle.exec_base.specs.declared.event.Event.{Event};
 ghost use Rattle.exec_base.specs.Part.{ChainPart};
 ghost use Rattle.exec_base.specs.Host.{withdraw_refusal, withdrawn, deposit_refusal, deposited, transfer_refusal, transferred, received, transfer_out_refusal, transferred_out, deposit_out_refusal, deposited_out, ship_refusal, shipped, responded, answered, unspent, bought, refund_goods, refunded, joined, burnt, claim_refusal, claimed, trapped, parked, settled_burns, settled, fee_held, fee_taken, fee_kept, fee_drawn, told};
+ghost use Rattle.call_dispatch.specs.Spelling.{AnyCall};
+ghost use Rattle.exec_base.specs.Calls.{dispatched, IsDispatchedInPart};
+ghost use Rattle.exec_base.specs.Pools.{exchanged, exchange_goods};
 ghost use Rattle.exec_run.specs.Machine.{Machine};
 ghost use Rattle.exec_rules.specs.Instructions.{refusal_of, xcm};
 ghost use Rattle.exec_rules.specs.Readiness.{IsSteady};
@@ -51,6 +54,21 @@ pub fn law_of_moves()
 {
     law_of_ledgers();
 }
+
+/// What a call of the chain moves between accounts, also where memory is refused on the way.
+pub fn law_of_dispatched_calls()
+    ensures dispatched { (p : ChainPart) (who : List ℕ) (c : AnyCall)
+        → Conserves empty empty p (dispatched p who c) }
+    ensures in_part { (p : ChainPart) (who : List ℕ) (c : AnyCall) (now : ChainPart)
+        → IsDispatchedInPart p who c now → Conserves empty empty p now }
+{}
+
+/// What is exchanged with a pool of the chain: what comes of goods is not there any more, and what they were is.
+pub fn law_of_exchanged_goods()
+    ensures { (p : ChainPart) (give : Bundle) (want : List Asset) (maximal : Bool)
+        → Conserves give (exchange_goods p give want maximal) p
+        (exchanged p give want maximal) }
+{}
 
 /// What goes into traps and out of them.
 pub fn law_of_claims()

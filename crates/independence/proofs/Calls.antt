@@ -33,8 +33,9 @@ use Rattle.chain_queues.specs.Queues.{popped}
 use Rattle.exec_base.specs.declared.event.Event.{Event}
 use Rattle.exec_base.specs.Part.{ChainPart}
 use Rattle.exec_base.specs.Sending as sending_to
-use Rattle.exec_base.specs.Sending.{sent, sent_event, deposit_program, away_program, listed_program}
-use Rattle.exec_base.specs.Host.{path_in, burned_line, burned_lines, total_of, booked, is_cargo, cargo_after, withdrawn, received, deposited, transferred, seen_from, transferred_out, deposited_out, raised_for, shipped, querier_seen, report_program, responded, is_query, answered, above, bought, refunded, joined, burnt, is_trap, claimed, trapped, fees_above, settled_burns, settled, fee_to, told}
+use Rattle.exec_base.specs.Sending.{sent, sent_event, deposit_program, away_program, listed_program, named_sent}
+use Rattle.exec_base.specs.Host.{lock_key, note_program, with_lock, asset_locked, asset_unlocked, asset_noted, request_key, unlock_program, with_less_noted, asset_requested, path_in, burned_line, burned_lines, total_of, booked, is_cargo, cargo_after, withdrawn, received, deposited, transferred, seen_from, transferred_out, deposited_out, raised_for, shipped, querier_seen, report_program, responded, is_query, answered, above, bought, refunded, joined, burnt, is_trap, claimed, trapped, fees_above, settled_burns, settled, fee_to, told}
+use Rattle.exec_base.specs.Pools.{exchange_at, exchanged}
 use Rattle.independence.specs.Beside.{beside}
 use Rattle.independence.proofs.Channels.{IsThere, read_popped, sent_swap}
 
@@ -106,6 +107,10 @@ module _ (to : ChainId) (lost : Bundle) where
       (λ line.
       ap (booked (record (framed p) { lines = Bought w payment p.lines }) (burned_for Cause.Saturated (excess_of w line))) (lines_same (framed p) p refl (λ unit. Cause.Saturated) (excess_of w line))
       ∙ booked_framed (record p { lines = Bought w payment p.lines }) (burned_for Cause.Saturated (excess_of w line)) (burned_lines p (λ unit. Cause.Saturated) (excess_of w line)))
+
+  pub exchanged_framed : (p : ChainPart) (give : Bundle) (want : List Asset) (maximal : Bool) → exchanged (framed p) give want maximal ≡ framed (exchanged p give want maximal)
+  unfolding exchanged
+  exchanged_framed p give want maximal = option_framed (exchange_at p give want maximal) _ _ p (λ e. refl)
 
   pub refunded_framed : (p : ChainPart) (w : Weight) → refunded (framed p) w ≡ framed (refunded p w)
   unfolding refunded
@@ -179,6 +184,27 @@ module _ (to : ChainId) (lost : Bundle) where
   responded_framed p info response querier there =
       ap (λ o. option_map_or (λ (seen : Option Location). sent (framed p) info.destination (report_program info response seen) Nothing) o (framed p)) (querier_framed p info.destination querier)
       ∙ option_framed (querier_seen p info.destination querier) _ _ p (λ seen. sent_framed p info.destination (report_program info response seen) Nothing there)
+
+  -- ---- locks
+  named_framed : (p : ChainPart) (dest : Location) (o : Option (List Instruction)) → IsThere to p.channels → named_sent (framed p) dest o ≡ framed (named_sent p dest o)
+  named_framed p dest None there = refl
+  named_framed p dest (Some program) there = sent_framed p dest program Nothing there
+
+  pub locked_framed : (p : ChainPart) (a : Asset) (owner unlocker : Location) → IsThere to p.channels → asset_locked (framed p) a owner unlocker ≡ framed (asset_locked p a owner unlocker)
+  unfolding asset_locked
+  locked_framed p a owner unlocker there = named_framed (with_lock p a (lock_key p a owner unlocker)) unlocker (note_program p a owner unlocker) there
+
+  pub unlocked_framed : (p : ChainPart) (a : Asset) (target from : Location) → asset_unlocked (framed p) a target from ≡ framed (asset_unlocked p a target from)
+  unfolding asset_unlocked
+  unlocked_framed p a target from = refl
+
+  pub noted_framed : (p : ChainPart) (a : Asset) (owner from : Location) → asset_noted (framed p) a owner from ≡ framed (asset_noted p a owner from)
+  unfolding asset_noted
+  noted_framed p a owner from = refl
+
+  pub requested_framed : (p : ChainPart) (a : Asset) (owner locker : Location) → IsThere to p.channels → asset_requested (framed p) a owner locker ≡ framed (asset_requested p a owner locker)
+  unfolding asset_requested
+  requested_framed p a owner locker there = named_framed (with_less_noted p a (request_key a owner locker)) locker (unlock_program p a (request_key a owner locker) locker) there
 
   pub fee_to_framed : (p : ChainPart) (dest : Location) → fee_to (framed p) dest ≡ fee_to p dest
   fee_to_framed p dest = read_popped (leads p dest) to (λ (o : Option Outgoing). option_and_then (λ (c : Outgoing). c.channel.fee) o) (λ c. refl) p.channels

@@ -7,6 +7,8 @@ use Rattle.chain_ids.specs.declared.chain.ChainId.{ChainId}
 use Rattle.locations.specs.declared.relative.Location.{Location}
 use Rattle.message_parts.specs.declared.error.XcmError.{XcmError}
 use Rattle.message_parts.specs.declared.error.XcmError.TheVariants as error
+use Rattle.message_parts.specs.declared.origin.OriginKind.{OriginKind}
+use Rattle.message_parts.specs.declared.weight.Weight.{Weight}
 use Rattle.message_parts.specs.declared.query.QueryInfo.{QueryInfo}
 use Rattle.message_parts.specs.declared.query.Response.{Response}
 use Rattle.asset_lists.specs.declared.units.Asset.{Asset}
@@ -19,17 +21,21 @@ use Rattle.xcm_program.specs.declared.instruction.Instruction.TheOpen.{Instructi
 use Rattle.channel_parts.specs.declared.cargo.Cargo.{Cargo}
 use Rattle.channel_parts.specs.declared.channel.Channel.{Channel}
 use Rattle.channel_parts.specs.Channels.{Outgoing}
+use Rattle.call_dispatch.specs.Spelling.{AnyCall}
 use Rattle.exec_base.specs.declared.registers.Registers.{Registers}
 use Rattle.exec_base.specs.declared.settings.Settings.{Settings}
 use Rattle.exec_base.specs.Part.{ChainPart}
 use Rattle.exec_base.specs.Sending as sending_to
 use Rattle.exec_base.specs.Sending.{or_else}
-use Rattle.exec_base.specs.Host.{withdraw_refusal, receive_refusal, deposit_refusal, transfer_refusal, claim_refusal, buy_refusal, unspent, refund_goods, querier_seen, fee_to, fee_held, fee_taken, fee_kept, fee_drawn, parked, told, trapped, settled}
+use Rattle.exec_base.specs.Host.{withdraw_refusal, receive_refusal, deposit_refusal, transfer_refusal, claim_refusal, buy_refusal, unlock_refusal, note_refusal, unspent, refund_goods, querier_seen, fee_to, fee_held, fee_taken, fee_kept, fee_drawn, parked, told, trapped, settled}
+use Rattle.exec_base.specs.Pools.{exchange_refusal, exchange_goods}
+use Rattle.exec_base.specs.Calls.{dispatch_end}
 use Rattle.exec_run.specs.Machine.{Machine, machine}
 use Rattle.exec_rules.specs.Fees.{after_fee}
+use Rattle.exec_rules.specs.Calls.{call_in, caller_in}
 use Rattle.exec_rules.specs.Reports.{reported_list}
 use Rattle.exec_rules.specs.Instructions.{refused, done}
-use Rattle.exec_calls.specs.Calls.{MachineWithGoods, between, here, MachineCall, why_not, after, effect, after_all, refusal_along, for_origin, around, charge, size_tests, report, holding_report, calls, turned, turned_at}
+use Rattle.exec_calls.specs.Calls.{MachineWithGoods, between, here, MachineCall, why_not, after, effect, after_all, refusal_along, for_origin, around, charge, size_tests, locking, report, holding_report, dispatching, calls, call_noted, call_noted_for, turned, turned_at}
 use Rattle.exec_calls.specs.Footprints.{part_is}
 use Rattle.exec_calls.specs.CallLaws.{refused_is, done_is}
 use Rattle.exec_calls.specs.Reasons.{IsFrom, destination, IsReport, shipping, Moment, HasReason, HaveReasons}
@@ -37,8 +43,8 @@ use Rattle.exec_calls.specs.ReasonLaws.{from_itself, from_after, asked}
 use Rattle.independence.specs.Freedom.{sends_on}
 use Rattle.independence.proofs.Channels.{IsThere, IsNoTransport, read_popped, found_sent}
 use Rattle.independence.proofs.Keeping.{View, with_sent, call_kept}
-use Rattle.independence.proofs.Calls.{framed, joined_framed, burnt_framed, bought_framed, refunded_framed, claimed_framed, answered_framed, withdrawn_framed, received_framed, deposited_framed, transferred_framed, transferred_out_framed, deposited_out_framed, shipped_framed, responded_framed, told_framed, trapped_framed, settled_framed, fee_to_framed, querier_framed}
-use Rattle.independence.proofs.Refusals.{or_else_same, framed_machine, fee_framed, here_to, transfer_out_refused, deposit_out_refused, ship_refused, respond_refused}
+use Rattle.independence.proofs.Calls.{framed, locked_framed, unlocked_framed, noted_framed, requested_framed, joined_framed, burnt_framed, bought_framed, exchanged_framed, refunded_framed, claimed_framed, answered_framed, withdrawn_framed, received_framed, deposited_framed, transferred_framed, transferred_out_framed, deposited_out_framed, shipped_framed, responded_framed, told_framed, trapped_framed, settled_framed, fee_to_framed, querier_framed}
+use Rattle.independence.proofs.Refusals.{or_else_same, framed_machine, fee_framed, here_to, transfer_out_refused, deposit_out_refused, ship_refused, respond_refused, lock_refused, request_refused}
 
 -- what a delivery finds on a channel, it finds behind a send
 finds_kept : (to : ChainId) (v : View) (dest : Location) (program : List Instruction) (cargo : Cargo) → IsThere to v.channels → IsThere to (with_sent dest program cargo v).channels
@@ -69,6 +75,12 @@ module _ (to : ChainId) (lost : Bundle) where
       → around (fee_to (framed to lost m.part) dest) (framed_machine to lost m) inside ≡ around (fee_to m.part dest) m inside
   sending_framed dest m inside same = ap (λ o. around o (framed_machine to lost m) inside) (fee_to_framed to lost m.part dest) ∙ around_framed (fee_to m.part dest) m inside same
 
+  dispatching_framed : (m : Machine) (most : Weight) (c : Option AnyCall) (o : Option (List ℕ)) → dispatching (framed_machine to lost m) most c o ≡ dispatching m most c o
+  unfolding dispatch_end
+  dispatching_framed m most None o = refl
+  dispatching_framed m most (Some c) None = refl
+  dispatching_framed m most (Some c) (Some account) = refl
+
   calls_framed : (l : Instruction-F Instruction) (m : Machine) → calls l (framed_machine to lost m) ≡ calls l m
   calls_framed (Instruction-F.TransferReserveAsset list dest program) m = by_origin m.regs.origin
     where
@@ -83,6 +95,24 @@ module _ (to : ChainId) (lost : Bundle) where
   calls_framed (Instruction-F.ReportHolding info filter) m = sending_framed info.destination m _ (λ n. report_framed n info (reported_list n info filter))
   calls_framed (Instruction-F.QueryPallet name info) m = sending_framed info.destination m _ (λ n. refl)
   calls_framed (Instruction-F.ReportTransactStatus info) m = sending_framed info.destination m _ (λ n. refl)
+  calls_framed (Instruction-F.Transact kind most bytes) m = by_origin m.regs.origin
+    where
+      by_origin : (o : Option Location) → for_origin o (λ who. dispatching (framed_machine to lost m) most (call_in m.part.calls bytes) (caller_in m kind who))
+          ≡ for_origin o (λ who. dispatching m most (call_in m.part.calls bytes) (caller_in m kind who))
+      by_origin None = refl
+      by_origin (Some who) = dispatching_framed m most (call_in m.part.calls bytes) (caller_in m kind who)
+  calls_framed (Instruction-F.LockAsset asset unlocker) m = by_origin m.regs.origin
+    where
+      by_origin : (o : Option Location) → for_origin o (λ who. locking m ∷ around (fee_to (framed to lost m.part) unlocker) (framed_machine to lost m) (λ n. MachineCall.Lock asset who unlocker ∷ []))
+          ≡ for_origin o (λ who. locking m ∷ around (fee_to m.part unlocker) m (λ n. MachineCall.Lock asset who unlocker ∷ []))
+      by_origin None = refl
+      by_origin (Some who) = ap (λ (cs : List MachineCall). locking m ∷ cs) (sending_framed unlocker m (λ n. MachineCall.Lock asset who unlocker ∷ []) (λ n. refl))
+  calls_framed (Instruction-F.RequestUnlock asset locker) m = by_origin m.regs.origin
+    where
+      by_origin : (o : Option Location) → for_origin o (λ who. locking m ∷ around (fee_to (framed to lost m.part) locker) (framed_machine to lost m) (λ n. MachineCall.Request asset who locker ∷ []))
+          ≡ for_origin o (λ who. locking m ∷ around (fee_to m.part locker) m (λ n. MachineCall.Request asset who locker ∷ []))
+      by_origin None = refl
+      by_origin (Some who) = ap (λ (cs : List MachineCall). locking m ∷ cs) (sending_framed locker m (λ n. MachineCall.Request asset who locker ∷ []) (λ n. refl))
   calls_framed _ m = refl
 
   -- ---- what a call leaves
@@ -96,12 +126,17 @@ module _ (to : ChainId) (lost : Bundle) where
   effect_framed (MachineCall.Deposit who) t there = deposited_framed to lost t.part t.goods who
   effect_framed MachineCall.Burn t there = burnt_framed to lost t.part t.goods
   effect_framed (MachineCall.Buy w) t there = bought_framed to lost t.part w t.goods
+  effect_framed (MachineCall.Exchange want maximal) t there = exchanged_framed to lost t.part t.goods want maximal
   effect_framed (MachineCall.DepositOut dest program) t there = deposited_out_framed to lost t.part t.goods dest program there
   effect_framed (MachineCall.Ship way dest program) t there = shipped_framed to lost t.part t.goods way dest program there
   effect_framed (MachineCall.Transfer list from who) t there = transferred_framed to lost t.part list from who
   effect_framed (MachineCall.TransferOut list from dest program) t there = transferred_out_framed to lost t.part list from dest program there
   effect_framed (MachineCall.Respond info answer querier) t there = responded_framed to lost t.part info answer querier there
   effect_framed (MachineCall.Answer from query) t there = answered_framed to lost t.part from query
+  effect_framed (MachineCall.Lock a owner unlocker) t there = locked_framed to lost t.part a owner unlocker there
+  effect_framed (MachineCall.Unlock a target from) t there = unlocked_framed to lost t.part a target from
+  effect_framed (MachineCall.Note a owner from) t there = noted_framed to lost t.part a owner from
+  effect_framed (MachineCall.Request a owner locker) t there = requested_framed to lost t.part a owner locker there
   effect_framed (MachineCall.Tell e) t there = told_framed to lost t.part e
   effect_framed MachineCall.Settle t there = settled_framed to lost t.part
   effect_framed (MachineCall.Trap who) t there = trapped_framed to lost t.part t.goods who
@@ -109,7 +144,7 @@ module _ (to : ChainId) (lost : Bundle) where
 
   -- beside the part it leaves the same
   rest_framed : (c : MachineCall) (t : MachineWithGoods) → after c (frame t) ≡ record (after c t) { part = (after c (frame t)).part }
-  unfolding unspent refund_goods
+  unfolding unspent refund_goods exchange_goods
   rest_framed (MachineCall.Take filter) t = refl
   rest_framed _ t = refl
 
@@ -126,8 +161,19 @@ module _ (to : ChainId) (lost : Bundle) where
   along_framed [] t there = refl
   along_framed (c ∷ cs) t there = ap (after_all cs) (after_framed c t there) ∙ along_framed cs (after c t) (stays_there c t there)
 
+  call_noted_framed : (m : Machine) (most : Weight) (c : Option AnyCall) (o : Option (List ℕ)) (r : Registers) → call_noted (framed_machine to lost m) most c o r ≡ call_noted m most c o r
+  unfolding dispatch_end
+  call_noted_framed m most None o r = refl
+  call_noted_framed m most (Some c) None r = refl
+  call_noted_framed m most (Some c) (Some account) r = refl
+
+  call_noted_framed_for : (o : Option Location) (m : Machine) (kind : OriginKind) (most : Weight) (bytes : List ℕ) (r : Registers) → call_noted_for o (framed_machine to lost m) kind most bytes r ≡ call_noted_for o m kind most bytes r
+  call_noted_framed_for None m kind most bytes r = refl
+  call_noted_framed_for (Some who) m kind most bytes r = call_noted_framed m most (call_in m.part.calls bytes) (caller_in m kind who) r
+
   turned_framed : (l : Instruction-F Instruction) (m : Machine) (r : Registers) → turned l (framed_machine to lost m) r ≡ turned l m r
   turned_framed Instruction-F.RefundSurplus m r = refl
+  turned_framed (Instruction-F.Transact kind most bytes) m r = call_noted_framed_for m.regs.origin m kind most bytes r
   turned_framed _ m r = refl
 
   pub done_framed : (l : Instruction-F Instruction) (m : Machine) → IsThere to m.part.channels → done l (framed_machine to lost m) ≡ framed_machine to lost (done l m)
@@ -163,11 +209,13 @@ module _ (to : ChainId) (lost : Bundle) where
         (sym (ap (λ (s : Settings). is_location_of s.site.chain to dest) from.settings ∙ sym (ap (λ (o : Option Location). option_map_or (λ (d : Location). is_location_of m.part.site.chain to d) o false) goes))) no_transport
 
     why_framed : (c : MachineCall) (t : MachineWithGoods) → HasReason Moment.Inside l m t c → IsFrom m t → IsNoTransport on (why_not c t) → why_not c (frame t) ≡ why_not c t
-    unfolding withdraw_refusal receive_refusal deposit_refusal transfer_refusal claim_refusal buy_refusal
+    unfolding withdraw_refusal receive_refusal deposit_refusal transfer_refusal claim_refusal buy_refusal exchange_refusal unlock_refusal note_refusal
     why_framed (MachineCall.TransferOut list from dest program) t asks at no_transport = transfer_out_refused to lost t.part list from dest program (no_transport_at t dest _ at (ap destination asks.2) no_transport)
     why_framed (MachineCall.DepositOut dest program) t asks at no_transport = deposit_out_refused to lost t.part t.goods dest program (no_transport_at t dest _ at (ap destination asks.2.1) no_transport)
     why_framed (MachineCall.Ship way dest program) t asks at no_transport = ship_refused to lost t.part t.goods way dest program (no_transport_at t dest _ at (ap destination asks.2.1 ∙ ships_to way asks.2.0 dest program) no_transport)
     why_framed (MachineCall.Respond info answer querier) t asks at no_transport = respond_refused to lost t.part info answer querier (no_transport_at t info.destination _ at (report_goes l info asks.2) no_transport)
+    why_framed (MachineCall.Lock a owner unlocker) t asks at no_transport = lock_refused to lost t.part a owner unlocker (no_transport_at t unlocker _ at (ap destination asks.2) no_transport)
+    why_framed (MachineCall.Request a owner locker) t asks at no_transport = request_refused to lost t.part a owner locker (no_transport_at t locker _ at (ap destination asks.2) no_transport)
     why_framed (MachineCall.Receive list None teleport) t asks at no_transport = refl
     why_framed (MachineCall.Receive list (Some who) teleport) t asks at no_transport = refl
     why_framed _ t asks at no_transport = refl

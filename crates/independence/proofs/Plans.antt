@@ -1,6 +1,6 @@
 -- What each act comes to, in a world and in every other one that is like it: it is refused and nothing changes, or it is a move.
 use Rattle.std.proofs.Common.{◌≡◌, ◌⊎◌, ℕ, suc, ◌+◌, Bool, true, false, List, [], ◌∷◌, ◌++◌, Option, Some, None, Result, Ok, Err, inl, inr, refl, sym, ap, ◌∙◌, map}
-use Rattle.std.specs.Prelude.{if◌then◌else◌, cond, not, nat_lt, position, length, slice_get, slice_set}
+use Rattle.std.specs.Prelude.{if◌then◌else◌, cond, not, ◌||◌, nat_lt, position, length, slice_get, slice_set}
 use Rattle.std.specs.List.{position_or_len}
 use Rattle.std.specs.Option.{option_and_then, option_map, option_map_or}
 use Rattle.std.proofs.Common.{get_or}
@@ -32,7 +32,8 @@ use Rattle.network_steps.specs.declared.step_result.StepResult.{StepResult}
 use Rattle.network_steps.specs.Worlds.{Member, chain_of, World, place_of, with_part, Stepped, unchanged}
 use Rattle.network_steps.specs.Fixed.{Fixed, fixed_of, all_settings}
 use Rattle.network_steps.specs.Acting.{begun, Acted, acted, caller, lost_of, lost_lines}
-use Rattle.network_steps.specs.Steps.{is_sovereign, exec_by, exec_at, exec, name_at, run_for, receiver_after, delivered, delivery_of, deliver, waiting, is_claim, posted, posting, claim_by, claim_on, claim, Link}
+use Rattle.network_steps.specs.Steps.{is_sovereign, exec_read, exec_by, exec_at, exec, name_at, run_for, receiver_after, delivered, delivery_of, deliver, waiting, is_claim, posted, posting, claim_by, claim_on, claim, Link}
+use Rattle.chain_pools.specs.Exchanges.{is_pool_account}
 use Rattle.message_shapes.specs.StepLaws.{between_at, place_says}
 use Rattle.independence.specs.Acts.{Act, acts_at, takes_from, stepped_by, member_named}
 use Rattle.independence.specs.Freedom.{RunsCalmly, SendsCalmly}
@@ -136,20 +137,30 @@ exec_run account false (Ok program) m =
     let a = acted m.rules (caller account) m.rules.limit program (begun (chain_of m) Nothing m.part) in
     record { answer = StepResult.Ran a.outcome; trace = a.part.events; part = a.part; lost = empty }
 
-abbrev exec_move : ℕ → List ℕ → List ℕ → Move
-exec_move place account bytes = record { place = place; run = exec_run account (is_sovereign account) (message_of bytes); source = None }
+-- no chain's account, and none of its pools'
+abbrev is_refused : List ℕ → Member → Bool
+is_refused account m = is_sovereign account || is_pool_account m.part.pools account
 
-exec_by_does : (v : World) (place : ℕ) (m : Member) (account : List ℕ) (read : Result (List Instruction) MessageFault) → slice_get v place ≡ Some m
-    → exec_by v place m account read ≡ moved (record { place = place; run = exec_run account false read; source = None }) v m
-exec_by_does v place m account (Err fault) e = stays place (exec_run account false (Err fault)) (StepResult.Message fault) v m refl e
-exec_by_does v place m account (Ok program) e = refl
+abbrev exec_move : ℕ → List ℕ → List ℕ → Move
+exec_move place account bytes = record { place = place; run = λ m. exec_run account (is_refused account m) (message_of bytes) m; source = None }
+
+exec_read_does : (v : World) (place : ℕ) (m : Member) (account : List ℕ) (read : Result (List Instruction) MessageFault) → slice_get v place ≡ Some m
+    → exec_read v place m account read ≡ moved (record { place = place; run = exec_run account false read; source = None }) v m
+exec_read_does v place m account (Err fault) e = stays place (exec_run account false (Err fault)) (StepResult.Message fault) v m refl e
+exec_read_does v place m account (Ok program) e = refl
+
+exec_own_does : (v : World) (place : ℕ) (m : Member) (account : List ℕ) (read : Result (List Instruction) MessageFault) (pool : Bool) → slice_get v place ≡ Some m
+    → (if pool then unchanged StepResult.SovereignCaller v else exec_read v place m account read) ≡ moved (record { place = place; run = exec_run account pool read; source = None }) v m
+exec_own_does v place m account read true e = stays place (exec_run account true read) StepResult.SovereignCaller v m refl e
+exec_own_does v place m account read false e = exec_read_does v place m account read e
 
 exec_if_does : (v : World) (place : ℕ) (m : Member) (account bytes : List ℕ) (sovereign : Bool) → slice_get v place ≡ Some m
     → (if sovereign then unchanged StepResult.SovereignCaller v else option_map_or (λ (m : Member). exec_by v place m account (message_of bytes)) (slice_get v place) (unchanged StepResult.NoSuchChain v))
-    ≡ moved (record { place = place; run = exec_run account sovereign (message_of bytes); source = None }) v m
+    ≡ moved (record { place = place; run = exec_run account (sovereign || is_pool_account m.part.pools account) (message_of bytes); source = None }) v m
 exec_if_does v place m account bytes true e = stays place (exec_run account true (message_of bytes)) StepResult.SovereignCaller v m refl e
 exec_if_does v place m account bytes false e =
-    ap (λ o. option_map_or (λ (m : Member). exec_by v place m account (message_of bytes)) o (unchanged StepResult.NoSuchChain v)) e ∙ exec_by_does v place m account (message_of bytes) e
+    ap (λ o. option_map_or (λ (m : Member). exec_by v place m account (message_of bytes)) o (unchanged StepResult.NoSuchChain v)) e
+    ∙ exec_own_does v place m account (message_of bytes) (is_pool_account m.part.pools account) e
 
 exec_does : (v : World) (chain : ChainId) (account bytes : List ℕ) (i : ℕ) (m : Member) → place_of v chain ≡ Some i → slice_get v i ≡ Some m → exec v chain account bytes ≡ moved (exec_move i account bytes) v m
 unfolding exec
@@ -174,6 +185,10 @@ exec_finds to account true read m there = refl
 exec_finds to account false (Err fault) m there = refl
 exec_finds to account false (Ok program) m there = acted_finds to m.rules (caller account) m.rules.limit program (begun (chain_of m) Nothing m.part) there
 
+neither : (a b : Bool) → (a || b) ≡ false → a ≡ false
+neither true b h = absurd cc
+neither false b h = refl
+
 member_found : (w : World) (chain : ChainId) (i : ℕ) (m : Member) → place_of w chain ≡ Some i → slice_get w i ≡ Some m → member_named w chain ≡ Some m
 member_found w chain i m at e = ap (option_and_then (slice_get w)) at ∙ e
 
@@ -189,8 +204,11 @@ exec_plan w chain account bytes = elim (place_of w chain) as (λ o. place_of w c
         place = at;
         source = refl;
         does = λ v n like e. exec_does v chain account bytes i n (same_places v w like.settings chain ∙ at) e;
-        steady = λ to lost there calm. exec_steady to lost account (is_sovereign account) (message_of bytes) m.0 there (λ program local read. calm m.0 program (member_found w chain i m.0 at m.1) local read);
-        finds = λ to there. exec_finds to account (is_sovereign account) (message_of bytes) m.0 there;
+        steady = λ to lost there calm.
+            let s = exec_steady to lost account (is_refused account m.0) (message_of bytes) m.0 there
+            (λ program local read. calm m.0 program (member_found w chain i m.0 at m.1) (neither (is_sovereign account) (is_pool_account m.0.part.pools account) local) read) in
+            record { answer = s.answer; trace = s.trace; lost = s.lost; part = s.part };
+        finds = λ to there. exec_finds to account (is_refused account m.0) (message_of bytes) m.0 there;
       })
 ] refl
 

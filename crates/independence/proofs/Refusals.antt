@@ -1,6 +1,7 @@
 -- What a call of a chain's host refuses doesn't hang on a frame, where no send on the frame's channel answers Transport.
 use Rattle.std.proofs.Common.{◌≡◌, ℕ, Bool, true, false, List, length, Option, Some, None, refl, sym, ap, ◌∙◌}
 use Rattle.std.specs.Prelude.{if◌then◌else◌, nat_le, is_some}
+use Rattle.std.specs.Option.{option_map_or}
 use Rattle.chain_ids.specs.declared.chain.ChainId.{ChainId}
 use Rattle.chain_ids.specs.Laws.{same_chain_told}
 use Rattle.locations.specs.declared.relative.Location.{Location}
@@ -11,6 +12,7 @@ use Rattle.message_parts.specs.declared.query.Response.{Response}
 use Rattle.message_parts.specs.declared.weight.WeightLimit.{WeightLimit}
 use Rattle.message_parts.specs.declared.weight.WeightLimit.TheVariants.{Unlimited, Limited}
 use Rattle.asset_lists.specs.declared.units.Asset.{Asset}
+use Rattle.asset_lists.specs.Units.{amount_of}
 use Rattle.asset_bundles.specs.Bundles.{Bundle, held_assets}
 use Rattle.asset_bundles.specs.declared.shipment.Way.{Way}
 use Rattle.trust_tables.specs.Trust.{is_location_of}
@@ -19,10 +21,11 @@ use Rattle.xcm_program.specs.declared.instruction.Instruction.{Instruction}
 use Rattle.xcm_program.specs.declared.instruction.Instruction.TheOpen.{Instruction-F}
 use Rattle.channel_parts.specs.declared.channel.Channel.{Channel}
 use Rattle.channel_parts.specs.Channels.{Outgoing}
+use Rattle.asset_locks.specs.LockMaps.{NoteKey, noted}
 use Rattle.exec_base.specs.Part.{ChainPart}
 use Rattle.exec_base.specs.Sending as sending_to
-use Rattle.exec_base.specs.Sending.{unless, or_else, send_refusal, listed_refusal, deposit_program, away_program}
-use Rattle.exec_base.specs.Host.{first_fault, trust_fault, raise_fault, is_teleport, withdraw_refusal, deposit_refusal, transfer_refusal, receive_refusal, seen_from, transfer_out_refusal, deposit_out_refusal, ship_refusal, report_program, report_refusal, querier_seen, respond_refusal, buy_refusal, claim_refusal, fee_to, fee_held, fee_drawn}
+use Rattle.exec_base.specs.Sending.{unless, or_else, send_refusal, listed_refusal, deposit_program, away_program, named_refusal}
+use Rattle.exec_base.specs.Host.{is_lockable, lock_key, note_program, lock_refusal, request_key, unlock_program, request_refusal, first_fault, trust_fault, raise_fault, is_teleport, withdraw_refusal, deposit_refusal, transfer_refusal, receive_refusal, seen_from, transfer_out_refusal, deposit_out_refusal, ship_refusal, report_program, report_refusal, querier_seen, respond_refusal, buy_refusal, claim_refusal, fee_to, fee_held, fee_drawn}
 use Rattle.exec_run.specs.Machine.{Machine, machine}
 use Rattle.exec_rules.specs.Holdings.{with_origin, at_origin, taken_of, buying_refusal, refund_now, refund_refusal}
 use Rattle.exec_rules.specs.Fees.{fee_refusal, after_fee, refused_around, refused_sending}
@@ -98,6 +101,28 @@ module _ (to : ChainId) (lost : Bundle) where
       let raised = if is_teleport way then first_fault (raise_fault p) (held_assets goods) else None in
       or_else_same (here_to p dest) trusted _ _
       (λ q. or_else_same (here_to p dest) raised _ _ (listed_refused p dest (λ l. away_program way l program) (seen_from p dest (held_assets goods))) q) no_transport
+
+  -- ---- locks
+  unless_refused : (b : Bool) (e : XcmError) (on : Bool) (x y : Option XcmError) → (IsNoTransport on x → y ≡ x) → IsNoTransport on (unless b e x) → unless b e y ≡ unless b e x
+  unless_refused true e on x y same quiet = same quiet
+  unless_refused false e on x y same quiet = refl
+
+  named_refused : (p : ChainPart) (dest : Location) (o : Option (List Instruction)) → IsNoTransport (here_to p dest) (named_refusal p dest o) → named_refusal (framed to lost p) dest o ≡ named_refusal p dest o
+  named_refused p dest None quiet = refl
+  named_refused p dest (Some program) quiet = send_refused p dest true program quiet
+
+  pub lock_refused : (p : ChainPart) (a : Asset) (owner unlocker : Location) → IsNoTransport (here_to p unlocker) (lock_refusal p a owner unlocker) → lock_refusal (framed to lost p) a owner unlocker ≡ lock_refusal p a owner unlocker
+  unfolding lock_refusal
+  lock_refused p a owner unlocker quiet =
+      unless_refused p.locks error.LockError (here_to p unlocker) _ _
+      (λ q. unless_refused (option_map_or (is_lockable p a) (lock_key p a owner unlocker) false) error.LockError (here_to p unlocker) _ _ (named_refused p unlocker (note_program p a owner unlocker)) q) quiet
+
+  pub request_refused : (p : ChainPart) (a : Asset) (owner locker : Location) → IsNoTransport (here_to p locker) (request_refusal p a owner locker) → request_refusal (framed to lost p) a owner locker ≡ request_refusal p a owner locker
+  unfolding request_refusal
+  request_refused p a owner locker quiet =
+      unless_refused p.locks error.LockError (here_to p locker) _ _
+      (λ q. unless_refused (option_map_or (λ (k : NoteKey). nat_le (amount_of a) (noted k p.locked)) (request_key a owner locker) false) error.LockError (here_to p locker) _ _
+      (named_refused p locker (unlock_program p a (request_key a owner locker) locker)) q) quiet
 
   -- ---- reports
   report_by : (p : ChainPart) (info : QueryInfo) (response : Response) (o : Option (Option Location)) → IsNoTransport (here_to p info.destination) (report_refusal p info response o)

@@ -25,7 +25,7 @@ use Rattle.exec_base.specs.Sending.{led_by, away_program}
 use Rattle.exec_admission.specs.declared.rules.ChainRules.{ChainRules}
 use Rattle.exec_admission.specs.declared.admission.Admitted.{Admitted}
 use Rattle.exec_admission.specs.Admission.{by_barriers, by_limit, by_weight, admitted}
-use Rattle.message_shapes.specs.Shapes.{IsLedBy, IsAnswer, IsLedByClaim, IsShape}
+use Rattle.message_shapes.specs.Shapes.{stands_alone, IsLedBy, IsAlone, IsLedByClaim, IsShape}
 
 -- ---- one limit in a program
 limited_same : (limit : WeightLimit) (l : Instruction-F Instruction) → with_limit limit l ≡ l → limited limit (roll-Instruction l) ≡ roll-Instruction l
@@ -58,6 +58,11 @@ alone_still : (limit : WeightLimit) (k : ℕ) (l : Instruction-F Instruction) �
 alone_still limit zero l same = ap (λ (a : Instruction). a ∷ []) (limited_same limit l same)
 alone_still limit (suc k) l same = refl
 
+-- none of them is a purchase
+no_purchase : (limit : WeightLimit) (l : Instruction-F Instruction) → stands_alone l ≡ true → with_limit limit l ≡ l
+no_purchase limit (Instruction-F.BuyExecution fees old) h = absurd cc
+no_purchase limit l h = refl
+
 -- ---- a limit in a shape
 limit_shape : (limit : WeightLimit) (k : ℕ) (here : Site) (there : ChainId) (program : List Instruction) (cargo : Cargo) → IsShape here there program cargo → IsShape here there (with_limit_at limit k program) cargo
 limit_shape limit k here there program (Deposit list) s =
@@ -74,13 +79,7 @@ limit_shape limit k here there program (Away shipment) s = away_shape shipment.w
         record { list = s.list; behind = still.behind; named = s.named; is = ap (with_limit_at limit k) s.is ∙ still.is }
 limit_shape limit k here there program Nothing s =
     ⊎_elim
-    (λ (a : IsAnswer program). inl (record {
-      query = a.query;
-      answer = a.answer;
-      weight = a.weight;
-      querier = a.querier;
-      is = ap (with_limit_at limit k) a.is ∙ alone_still limit k (Instruction-F.QueryResponse a.query a.answer a.weight a.querier) refl;
-    }))
+    (λ (a : IsAlone program). inl (record { what = a.what; kind = a.kind; is = ap (with_limit_at limit k) a.is ∙ alone_still limit k a.what (no_purchase limit a.what a.kind) }))
     (λ (c : IsLedByClaim program).
     let still = led_still limit k (Instruction-F.ClaimAsset c.list c.ticket) c.behind refl in
     inr (record { list = c.list; ticket = c.ticket; behind = still.behind; is = ap (with_limit_at limit k) c.is ∙ still.is })) s

@@ -2,7 +2,7 @@
 use Rattle.std.proofs.Common.{◌≡◌, Bool, true, false, List, [], ◌∷◌, ◌++◌, drop, Option, Some, None, inl, refl, sym, ap, ◌∙◌, true≢false}
 use Rattle.std.specs.Prelude.{if◌then◌else◌}
 use Rattle.std.specs.List.{AllByRecursion}
-use Rattle.std.specs.Option.{option_map_or, option_and_then}
+use Rattle.std.specs.Option.{option_map, option_map_or, option_and_then}
 use Rattle.chain_ids.specs.declared.chain.ChainId.{ChainId}
 use Rattle.locations.specs.declared.relative.Location.{Location}
 use Rattle.locations.specs.OrderLaws.{location_decides}
@@ -16,17 +16,19 @@ use Rattle.plain_lists.specs.Firsts.{change_first}
 use Rattle.trust_tables.specs.declared.chains.Site.{Site}
 use Rattle.trust_tables.specs.Chains.{path_of_site, location_of}
 use Rattle.trust_tables.specs.Trust.{is_named}
-use Rattle.xcm_program.specs.declared.instruction.Instruction.{Instruction}
+use Rattle.xcm_program.specs.declared.instruction.Instruction.{Instruction, roll-Instruction}
+use Rattle.xcm_program.specs.declared.instruction.Instruction.TheOpen.{Instruction-F}
+use Rattle.asset_locks.specs.LockMaps.{NoteKey}
 use Rattle.channel_parts.specs.declared.cargo.Cargo.{Cargo}
 use Rattle.channel_parts.specs.declared.cargo.Cargo.TheVariants.{Nothing, Deposit}
 use Rattle.channel_parts.specs.Channels.{Waiting, Outgoing, with_waiting, away}
 use Rattle.chain_queues.specs.Queues.{without_oldest}
 use Rattle.exec_base.specs.Arrivals.{arrived_list}
 use Rattle.exec_base.specs.Part.{ChainPart}
-use Rattle.exec_base.specs.Sending.{leads_to, sent, deposit_program, away_program, listed_refusal, listed_program}
-use Rattle.exec_base.specs.Host.{transfer_refusal, transferred, transfer_out_refusal, transferred_out, deposited, deposit_refusal, deposit_out_refusal, deposited_out, raised_for, ship_refusal, shipped, seen_from, querier_seen, report_program, responded}
+use Rattle.exec_base.specs.Sending.{leads_to, sent, deposit_program, away_program, listed_refusal, listed_program, named_sent}
+use Rattle.exec_base.specs.Host.{transfer_refusal, transferred, transfer_out_refusal, transferred_out, deposited, deposit_refusal, deposit_out_refusal, deposited_out, raised_for, ship_refusal, shipped, seen_from, querier_seen, report_program, responded, lock_key, place_seen, asset_seen, note_program, with_lock, asset_locked, request_key, account_place, unlock_program, with_less_noted, asset_requested}
 use Rattle.exec_rules.specs.AnswerLaws.{none_next}
-use Rattle.message_shapes.specs.Shapes.{named_there, IsLedBy, IsShape, IsShaped, AreShapedIn, AreShapedAt}
+use Rattle.message_shapes.specs.Shapes.{named_there, IsLedBy, IsAlone, IsShape, IsShaped, AreShapedIn, AreShapedAt}
 
 -- ---- lists
 all_push : {A : Type 0} (P : A → Type 0) (xs : List A) (x : A) → AllByRecursion P xs → P x → AllByRecursion P (xs ++ x ∷ [])
@@ -105,4 +107,34 @@ unfolding responded
 responded_shaped p info response querier all =
     option_shaped (querier_seen p info.destination querier) (λ (seen : Option Location). sent p info.destination (report_program info response seen) Nothing) p
     (λ seen. sent_shaped p info.destination (report_program info response seen) Nothing
-    (λ there leads. inl (record { query = info.query_id; answer = response; weight = info.max_weight; querier = seen; is = refl })) all) all
+    (λ there leads. inl (record { what = Instruction-F.QueryResponse info.query_id response info.max_weight seen; kind = refl; is = refl })) all) all
+
+-- ---- of locks
+named_shaped : (p : ChainPart) (dest : Location) (o : Option (List Instruction)) → ((program : List Instruction) → o ≡ Some program → IsAlone program) → AreShapedAt p → AreShapedAt (named_sent p dest o)
+named_shaped p dest None alone all = all
+named_shaped p dest (Some program) alone all = sent_shaped p dest program Nothing (λ there leads. inl (alone program refl)) all
+
+same_program : (a b : List Instruction) → Some a ≡ Some b → b ≡ a
+same_program a b e = cc
+
+note_alone : (o : Option Asset) (place : Option Location) (program : List Instruction)
+    → option_and_then (λ (asset : Asset). option_map (λ (place : Location). roll-Instruction (Instruction-F.NoteUnlockable asset place) ∷ []) place) o ≡ Some program → IsAlone program
+note_alone None place program e = absurd (cc e)
+note_alone (Some asset) None program e = absurd (cc e)
+note_alone (Some asset) (Some place) program e = record { what = Instruction-F.NoteUnlockable asset place; kind = refl; is = same_program _ program e }
+
+unlock_alone : (key : Option NoteKey) (o : Option Asset) (program : List Instruction)
+    → option_and_then (λ (k : NoteKey). option_map (λ (asset : Asset). roll-Instruction (Instruction-F.UnlockAsset asset (account_place k.2)) ∷ []) o) key ≡ Some program → IsAlone program
+unlock_alone None o program e = absurd (cc e)
+unlock_alone (Some k) None program e = absurd (cc e)
+unlock_alone (Some k) (Some asset) program e = record { what = Instruction-F.UnlockAsset asset (account_place k.2); kind = refl; is = same_program _ program e }
+
+pub locked_shaped : (p : ChainPart) (a : Asset) (owner unlocker : Location) → AreShapedAt p → AreShapedAt (asset_locked p a owner unlocker)
+unfolding asset_locked
+locked_shaped p a owner unlocker all =
+    named_shaped (with_lock p a (lock_key p a owner unlocker)) unlocker (note_program p a owner unlocker) (λ program e. note_alone (asset_seen p unlocker a) (place_seen p unlocker owner) program e) all
+
+pub requested_shaped : (p : ChainPart) (a : Asset) (owner locker : Location) → AreShapedAt p → AreShapedAt (asset_requested p a owner locker)
+unfolding asset_requested
+requested_shaped p a owner locker all =
+    named_shaped (with_less_noted p a (request_key a owner locker)) locker (unlock_program p a (request_key a owner locker) locker) (λ program e. unlock_alone (request_key a owner locker) (asset_seen p locker a) program e) all

@@ -3,3 +3,6 @@ pub mod Runs
 pub mod Worlds
 pub mod Admitting
 pub mod Matching
+pub mod Calm
+pub mod Sends
+pub mod Drains

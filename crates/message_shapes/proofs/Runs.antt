@@ -1,4 +1,4 @@
--- What a run sends has one of the five shapes: of a chain's calls, only sends put messages anywhere.
+-- What a run sends has one of the seven shapes: of a chain's calls, only sends put messages anywhere.
 use Rattle.std.proofs.Common.{◌≡◌, List, None, sym, subst}
 use Rattle.locations.specs.declared.relative.Location.{Location}
 use Rattle.message_parts.specs.declared.weight.Weight.{Weight}
@@ -13,7 +13,7 @@ use Rattle.exec_calls.specs.Footprints.{part_is}
 use Rattle.exec_keeping.specs.Kept.{IsKeptByCalls}
 use Rattle.exec_keeping.specs.KeptLaws.{any_kind, keeps_reached, keeps_executed, keeps_abandoned}
 use Rattle.message_shapes.specs.Shapes.{AreShapedAt}
-use Rattle.message_shapes.proofs.Channels.{transferred_shaped, deposited_shaped, shipped_shaped, responded_shaped}
+use Rattle.message_shapes.proofs.Channels.{transferred_shaped, deposited_shaped, shipped_shaped, responded_shaped, locked_shaped, requested_shaped}
 
 abbrev Shaped : MachineWithGoods → Type 0
 Shaped t = AreShapedAt t.part
@@ -23,6 +23,8 @@ call_shaped (MachineCall.TransferOut list from dest xcm) t ok all = subst AreSha
 call_shaped (MachineCall.DepositOut dest xcm) t ok all = subst AreShapedAt (sym (part_is (MachineCall.DepositOut dest xcm) t)) (deposited_shaped t.part t.goods dest xcm ok all)
 call_shaped (MachineCall.Ship way dest xcm) t ok all = subst AreShapedAt (sym (part_is (MachineCall.Ship way dest xcm) t)) (shipped_shaped t.part t.goods way dest xcm ok all)
 call_shaped (MachineCall.Respond info answer querier) t ok all = subst AreShapedAt (sym (part_is (MachineCall.Respond info answer querier) t)) (responded_shaped t.part info answer querier all)
+call_shaped (MachineCall.Lock a owner unlocker) t ok all = subst AreShapedAt (sym (part_is (MachineCall.Lock a owner unlocker) t)) (locked_shaped t.part a owner unlocker all)
+call_shaped (MachineCall.Request a owner locker) t ok all = subst AreShapedAt (sym (part_is (MachineCall.Request a owner locker) t)) (requested_shaped t.part a owner locker all)
 call_shaped _ t ok all = all
 
 shapes_kept : IsKeptByCalls any_kind Shaped

@@ -1,4 +1,4 @@
--- Each step of a network leaves only messages of the five shapes.
+-- Each step of a network leaves only messages of the seven shapes.
 use Rattle.std.proofs.Common.{◌≡◌, ℕ, zero, suc, Bool, true, false, ◌&&◌, List, [], ◌∷◌, Option, Some, None, Result, Ok, Err, inr, refl, sym, ap, ◌∙◌, subst}
 use Rattle.std.specs.Prelude.{if◌then◌else◌, slice_get, slice_set, find}
 use Rattle.std.specs.List.{AllByRecursion}
@@ -25,10 +25,12 @@ use Rattle.exec_base.specs.Sending.{channel_refusal}
 use Rattle.exec_base.specs.Host.{told}
 use Rattle.exec_admission.specs.declared.rules.ChainRules.{ChainRules}
 use Rattle.network_steps.specs.declared.step_result.StepResult.{StepResult}
-use Rattle.network_steps.specs.Worlds.{Member, chain_of, World, place_of, with_part, unchanged}
+use Rattle.network_steps.specs.Worlds.{Member, chain_of, World, place_of, with_part, unchanged, Stepped}
 use Rattle.network_steps.specs.Acting.{begun, acted, caller}
 use Rattle.network_steps.specs.Sends.{deliveries_left}
-use Rattle.network_steps.specs.Steps.{is_sovereign, exec_by, exec_at, exec, name_at, run_for, sender_after, receiver_after, delivered, delivery_of, deliver, is_claim_asset, is_clear_origin, is_claim, posted, posting, claim_by, claim_on, claim, Link, waiting, next_channel, deliveries, world_behind, Step, Exec, Deliver, Claim, Drain, Balances, Traps, Queues, Supply, after, worlds}
+use Rattle.network_steps.specs.Steps.{is_sovereign, exec_read, exec_by, exec_at, exec, name_at, run_for, sender_after, receiver_after, delivered, delivery_of, deliver, is_claim_asset, is_clear_origin, is_claim, posted, posting, claim_by, claim_on, claim, Link, waiting, next_channel, deliveries, world_behind, Step, Exec, Deliver, Claim, Drain, Balances, Traps, Queues, Supply, after, worlds}
+use Rattle.network_steps.specs.CallerLaws.{by_caller}
+use Rattle.chain_pools.specs.Exchanges.{is_pool_account}
 use Rattle.message_shapes.specs.Shapes.{IsShaped, IsLedByClaim, AreShapedIn, AreShapedAt, AllShaped, NothingWaits}
 use Rattle.message_shapes.specs.StepLaws.{same_one, between_says, place_says}
 use Rattle.message_shapes.proofs.Channels.{changed_shaped, waiting_shaped, oldest_gone}
@@ -66,10 +68,13 @@ unfolding told
 told_begun sender cargo p e all = all
 
 -- ---- local executions
-exec_by_shaped : (w : World) (place : ℕ) (m : Member) (account : List ℕ) (read : Result (List Instruction) MessageFault) → slice_get w place ≡ Some m → AllShaped w → AllShaped (exec_by w place m account read).world
-exec_by_shaped w place m account (Err fault) at all = all
-exec_by_shaped w place m account (Ok program) at all =
+exec_read_shaped : (w : World) (place : ℕ) (m : Member) (account : List ℕ) (read : Result (List Instruction) MessageFault) → slice_get w place ≡ Some m → AllShaped w → AllShaped (exec_read w place m account read).world
+exec_read_shaped w place m account (Err fault) at all = all
+exec_read_shaped w place m account (Ok program) at all =
     set_shaped w place _ (acted_shaped m.rules (caller account) m.rules.limit program (begun (chain_of m) Nothing m.part) (shaped_at w place m at all)) all
+
+exec_by_shaped : (w : World) (place : ℕ) (m : Member) (account : List ℕ) (read : Result (List Instruction) MessageFault) → slice_get w place ≡ Some m → AllShaped w → AllShaped (exec_by w place m account read).world
+exec_by_shaped w place m account read at all = by_caller (λ (s : Stepped). AllShaped s.world) w (is_pool_account m.part.pools account) (exec_read w place m account read) all (exec_read_shaped w place m account read at all)
 
 allowed_shaped : (w : World) (place : ℕ) (account bytes : List ℕ) (sovereign : Bool) → AllShaped w
     → AllShaped (if sovereign then unchanged StepResult.SovereignCaller w else option_map_or (λ (m : Member). exec_by w place m account (message_of bytes)) (slice_get w place) (unchanged StepResult.NoSuchChain w)).world

@@ -1,2 +1,3 @@
 pub mod Shapes
 pub mod StepLaws
+pub mod Calm

@@ -1,13 +1,11 @@
 -- What each message that waits looks like. This project's own rule, after what xcm-executor's instructions send.
 --
 --   here, there   the chain that sends, and the chain that receives
---   shape         a program and a cargo that fit together; there are five
-use Rattle.std.specs.Prelude.{◌≡◌, ◌⊎◌, ℕ, List, [], ◌∷◌, Option, Some}
+--   shape         a program and a cargo that fit together; there are seven
+use Rattle.std.specs.Prelude.{◌≡◌, ◌⊎◌, Bool, true, false, IsTrue, List, [], ◌∷◌, Option, Some}
 use Rattle.std.specs.List.{AllByRecursion}
 use Rattle.chain_ids.specs.declared.chain.ChainId.{ChainId}
 use Rattle.locations.specs.declared.relative.Location.{Location}
-use Rattle.message_parts.specs.declared.query.Response.{Response}
-use Rattle.message_parts.specs.declared.weight.Weight.{Weight}
 use Rattle.asset_lists.specs.declared.units.Asset.{Asset}
 use Rattle.asset_bundles.specs.Bundles.{held_assets}
 use Rattle.trust_tables.specs.declared.chains.Site.{Site}
@@ -32,13 +30,18 @@ pub record IsLedBy (here : Site) (there : ChainId) (carried : List Asset) (aroun
   pub named : named_there here there carried ≡ Some list
   pub is : program ≡ around list behind
 
--- one QueryResponse, and nothing else
-pub record IsAnswer (program : List Instruction) : Type 0 where
-  pub query : ℕ
-  pub answer : Response
-  pub weight : Weight
-  pub querier : Option Location
-  pub is : program ≡ roll-Instruction (Instruction-F.QueryResponse query answer weight querier) ∷ []
+-- an instruction that stands alone in a message: a response, a note of a lock, or a request to let one fall
+abbrev pub stands_alone : Instruction-F Instruction → Bool
+stands_alone (Instruction-F.QueryResponse query answer weight querier) = true
+stands_alone (Instruction-F.NoteUnlockable asset owner) = true
+stands_alone (Instruction-F.UnlockAsset asset target) = true
+stands_alone _ = false
+
+-- one such instruction, and nothing else
+pub record IsAlone (program : List Instruction) : Type 0 where
+  pub what : Instruction-F Instruction
+  pub kind : IsTrue (stands_alone what)
+  pub is : program ≡ roll-Instruction what ∷ []
 
 -- ClaimAsset and ClearOrigin; then comes anything
 pub record IsLedByClaim (program : List Instruction) : Type 0 where
@@ -47,12 +50,12 @@ pub record IsLedByClaim (program : List Instruction) : Type 0 where
   pub behind : List Instruction
   pub is : program ≡ led_by (Instruction-F.ClaimAsset list ticket) behind
 
--- the five shapes. A deposit's program begins with ReserveAssetDeposited, what is away begins with WithdrawAsset where it is a withdrawal and
--- with ReceiveTeleportedAsset where it is a teleport, and what carries nothing is an answer or a claim
+-- the seven shapes. A deposit's program begins with ReserveAssetDeposited, what is away begins with WithdrawAsset where it is a withdrawal
+-- and with ReceiveTeleportedAsset where it is a teleport, and what carries nothing is one instruction alone, of three kinds, or a claim
 abbrev pub IsShape : Site → ChainId → List Instruction → Cargo → Type 0
 IsShape here there program (Deposit list) = IsLedBy here there list deposit_program program
 IsShape here there program (Away shipment) = IsLedBy here there (held_assets shipment.units) (away_program shipment.way) program
-IsShape here there program Nothing = IsAnswer program ⊎ IsLedByClaim program
+IsShape here there program Nothing = IsAlone program ⊎ IsLedByClaim program
 
 -- a message that waits
 abbrev pub IsShaped : Site → ChainId → Waiting → Type 0

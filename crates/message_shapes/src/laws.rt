@@ -1,5 +1,5 @@
 //! What holds of every message that waits: laws, as the contracts of functions that do nothing.
-ghost use Rattle.std.specs.Prelude.{◌≡◌, ℕ, true, List, Some, Ok, slice_get};
+ghost use Rattle.std.specs.Prelude.{◌≡◌, ◌≤◌, ◌+◌, ℕ, true, List, Some, None, Ok, length, slice_get};
 ghost use Rattle.std.specs.List.{AllByRecursion};
 ghost use Rattle.chain_ids.specs.declared.chain.ChainId.{ChainId};
 ghost use Rattle.locations.specs.declared.relative.Location.{Location};
@@ -12,17 +12,22 @@ ghost use Rattle.channel_parts.specs.declared.cargo.Cargo.{Cargo};
 ghost use Rattle.channel_parts.specs.Channels.{Waiting};
 ghost use Rattle.exec_base.specs.Part.{ChainPart};
 ghost use Rattle.exec_base.specs.Host.{Arrival, fits_call, cargo_list, is_cargo};
-ghost use Rattle.exec_run.specs.Run.{Stage, machine_of, Reaches};
+ghost use Rattle.exec_run.specs.Run.{Stage, steps, machine_of, Reaches};
 ghost use Rattle.exec_rules.specs.Instructions.{xcm};
 ghost use Rattle.exec_admission.specs.declared.rules.ChainRules.{ChainRules};
 ghost use Rattle.exec_admission.specs.declared.admission.Admitted.{Admitted};
 ghost use Rattle.exec_admission.specs.Admission.{admitted};
-ghost use Rattle.exec_admission.specs.Execution.{executed, IsAbandoned};
+ghost use Rattle.exec_admission.specs.Execution.{first_stage, executed, IsAbandoned};
 ghost use Rattle.network_steps.specs.Worlds.{Member, World, place_of};
-ghost use Rattle.network_steps.specs.Steps.{exec, deliver, claim, Link, Step, waiting, after, worlds};
+ghost use Rattle.network_steps.specs.Steps.{exec, deliver, claim, Link, Step, waiting, next_channel, drain, world_behind, after, worlds};
+ghost use Rattle.network_steps.specs.Sends.{deliveries_left};
+ghost use Rattle.network_steps.specs.Drains.{AreApart};
 ghost use Rattle.message_shapes.specs.Shapes.{named_there, IsShape, IsShaped, AreShapedAt, AllShaped, NothingWaits};
+ghost use Rattle.message_shapes.specs.Calm.{MuteAt};
 
-/// Each message that waits has one of the five shapes, in every world from one in which nothing waits on.
+use exec_calls::law_of_rules;
+
+/// Each message that waits has one of the seven shapes, in every world from one in which nothing waits on.
 pub fn law_of_shapes()
     ensures first { (w : World) → NothingWaits w → AllShaped w }
     ensures exec { (w : World) (chain : ChainId) (account bytes : List ℕ) → AllShaped w → AllShaped (exec w chain account bytes).world }
@@ -39,7 +44,7 @@ pub fn law_of_runs_that_send()
     ensures stopped { (rules : ChainRules) (origin : Location) (credit : Weight) (program : List Instruction) (p now : ChainPart) → IsAbandoned rules origin credit program p now → AreShapedAt p → AreShapedAt now }
 {}
 
-/// What a delivery takes from its channel has one of the five shapes.
+/// What a delivery takes from its channel has one of the seven shapes.
 pub fn law_of_delivered_messages()
     ensures { (w : World) (from to : ChainId) (i : ℕ) (sender : Member) (x : Waiting) → AllShaped w → place_of w from ≡ Some i → slice_get w i ≡ Some sender
         → waiting w from to ≡ Some x → IsShaped sender.part.site to x }
@@ -50,6 +55,24 @@ pub fn law_of_admitted_messages()
     ensures { (here : Site) (there : ChainId) (program : List Instruction) (cargo : Cargo) (rules : ChainRules) (origin : Location) (credit : Weight) (queries : List OpenQuery) (a : Admitted)
         → IsShape here there program cargo → admitted rules origin credit queries program ≡ Ok a → IsShape here there a.program cargo }
 {}
+
+/// Wherever a run of one of the seven messages stands, LockAsset and RequestUnlock find no origin.
+pub fn law_of_calm_messages()
+    ensures { (here : Site) (there : ChainId) (cargo : Cargo) (rules : ChainRules) (origin : Location) (a : Admitted) (p : ChainPart) (n : ℕ) → IsShape here there a.program cargo
+        → MuteAt (steps xcm n (first_stage rules origin a p)) }
+{}
+
+/// A delivery lowers the sum, over all messages that wait, of 1 and the messages that their programs may send: in a message no instruction
+/// that tells of a lock has an origin. So a drain makes at most so many deliveries, and then no message waits, where no channel leads from a
+/// chain to itself.
+pub fn law_of_drains()
+    ensures lowers { (w : World) (from to : ChainId) (x : Waiting) → AllShaped w → (from ≡ to → ⊥) → waiting w from to ≡ Some x
+        → 1 + deliveries_left (deliver w from to).world ≤ deliveries_left w }
+    ensures few { (order : List Link) (w : World) → length (drain order w) ≤ deliveries_left w }
+    ensures ends { (order : List Link) (w : World) → AllShaped w → AreApart order → next_channel order (world_behind w (drain order w)) ≡ None }
+{
+    law_of_rules();
+}
 
 /// The list in front of a message is its cargo's, as the receiver names it: so the receiver's call of the kind that fits finds its cargo.
 pub fn law_of_matched_cargoes()

@@ -3,7 +3,6 @@ use Rattle.std.proofs.Common.{◌≡◌, ◌⊎◌, ⊎_elim, ℕ, zero, suc, tr
 use Rattle.std.specs.Prelude.{if◌then◌else◌, drop, slice_get, slice_set}
 use Rattle.std.specs.Option.{option_and_then}
 use Rattle.std.specs.List.{AllByRecursion}
-use Rattle.amounts.specs.Amounts.{amount}
 use Rattle.locations.specs.declared.relative.Location.{Location}
 use Rattle.message_parts.specs.declared.weight.Weight.{Weight}
 use Rattle.chain_ids.specs.declared.chain.ChainId.{ChainId}
@@ -25,9 +24,11 @@ use Rattle.network_steps.specs.Worlds.{Member, World, chain_of, place_of, with_p
 use Rattle.network_steps.specs.Acting.{begun, caller, lost_of, booking_lost}
 use Rattle.network_steps.specs.Steps.{without_message, name_at, waiting, Exec, Deliver}
 use Rattle.message_shapes.specs.Shapes.{IsShape, IsShaped, AreShapedIn, AreShapedAt, AllShaped}
-use Rattle.message_shapes.specs.StepLaws.{same_one, between_at, place_says, set_read}
-use Rattle.authority.specs.Origins.{LowersOnly}
-use Rattle.authority.specs.Speakers.{HasAuthority}
+use Rattle.message_shapes.specs.StepLaws.{between_at, place_says}
+use Rattle.chain_pools.specs.Spending.{IsSpeaker}
+use Rattle.authority.specs.Origins.{SpendsOf, SpendsOnly}
+use Rattle.authority.specs.Speakers.{SpeaksFor, HasAuthority}
+use Rattle.authority.specs.SpendingLaws.{same_spends, spends_more, none_spent, one_spent, two_spent}
 use Rattle.chain_net.specs.Stops.{ExecStopsAt, ExecStops, arrived, StandsAt, DeliverStops}
 
 -- ---- shapes in a world
@@ -58,27 +59,24 @@ unfolding told
 told_shaped p e all = all
 
 -- ---- accounts
-told_held : (p : ChainPart) (e : Event) → (told p e).held ≡ p.held
+told_spends : (may : List ℕ → Type 0) (p : ChainPart) (e : Event) (q : ChainPart) → SpendsOf may (told p e) q → SpendsOf may p q
 unfolding told
-told_held p e = refl
+told_spends may p e q h = record { settings = h.settings; spends = h.spends }
 
 told_site : (p : ChainPart) (e : Event) → (told p e).site ≡ p.site
 unfolding told
 told_site p e = refl
-
-lowers_none : (speaker : Option (List ℕ)) (p : ChainPart) → LowersOnly speaker p.held p.held
-lowers_none speaker p who unit less = absurd (omega (arith, less))
 
 -- the laws of the crates below
 pub record StopLaws : Type 0 where
   pub abandons_shaped : (rules : ChainRules) (origin : Location) (credit : Weight) (program : List Instruction) (p now : ChainPart) → IsAbandoned rules origin credit program p now → AreShapedAt p → AreShapedAt now
   pub executes_shaped : (rules : ChainRules) (origin : Location) (credit : Weight) (program : List Instruction) (p : ChainPart) → AreShapedAt p → AreShapedAt (executed rules origin credit program p).1
   pub waits_shaped : (w : World) (from to : ChainId) (i : ℕ) (sender : Member) (x : Waiting) → AllShaped w → place_of w from ≡ Some i → slice_get w i ≡ Some sender → waiting w from to ≡ Some x → IsShaped sender.part.site to x
-  pub caller_lowers : (rules : ChainRules) (account : List ℕ) (credit : Weight) (program : List Instruction) (p now : ChainPart) → IsAbandoned rules (caller account) credit program p now → LowersOnly (Some account) p.held now.held
+  pub caller_lowers : (rules : ChainRules) (account : List ℕ) (credit : Weight) (program : List Instruction) (p now : ChainPart) → IsAbandoned rules (caller account) credit program p now → SpendsOnly (Some account) p now
   pub message_stopped : (here : Site) (there : ChainId) (cargo : Cargo) (rules : ChainRules) (origin : Location) (credit : Weight) (program : List Instruction) (p now : ChainPart)
-      → IsShape here there program cargo → IsAbandoned rules origin credit program p now → LowersOnly (account_of origin p.site) p.held now.held
+      → IsShape here there program cargo → IsAbandoned rules origin credit program p now → SpendsOnly (account_of origin p.site) p now
   pub message_ended : (here : Site) (there : ChainId) (cargo : Cargo) (rules : ChainRules) (origin : Location) (credit : Weight) (program : List Instruction) (p : ChainPart)
-      → IsShape here there program cargo → LowersOnly (account_of origin p.site) p.held (executed rules origin credit program p).1.held
+      → IsShape here there program cargo → SpendsOnly (account_of origin p.site) p (executed rules origin credit program p).1
 
 module _ (laws : StopLaws) (w : World) where
   -- ---- executions
@@ -90,29 +88,19 @@ module _ (laws : StopLaws) (w : World) where
       subst AllShaped (sym s.rest) (set_shaped w s.place (with_part s.part s.member) all (subst AreShapedAt (sym s.stopped.2) one))) h
 
   pub exec_authorized : (chain : ChainId) (account bytes : List ℕ) (now : World) → ExecStops w chain account bytes now → HasAuthority w (Exec chain account bytes) now
-  exec_authorized chain account bytes now h place before after who unit at_before at_after less = ⊎_elim
-      (λ (e : now ≡ w).
-      let same : after ≡ before = same_one (slice_get w place) after before (ap (λ (v : World). slice_get v place) (sym e) ∙ at_after) at_before in
-      let equal = ap (λ (m : Member). amount m.part.held (who, unit)) same in
-      absurd (omega (arith, less, equal)))
-      (λ (s : ExecStopsAt w chain account bytes now). ⊎_elim
-      (λ (here : (place ≡ s.place) × (after ≡ with_part s.part s.member)).
-      let member : before ≡ s.member = same_one (slice_get w s.place) before s.member (ap (slice_get w) (sym here.0) ∙ at_before) s.is in
+  exec_authorized chain account bytes now h = ⊎_elim
+      (λ (e : now ≡ w). subst (HasAuthority w (Exec chain account bytes)) (sym e) (none_spent w (SpeaksFor w (Exec chain account bytes))))
+      (λ (s : ExecStopsAt w chain account bytes now).
       let begins = begun s.member.part.site.chain _ s.member.part in
-      let only = laws.caller_lowers s.member.rules account s.member.rules.limit s.program begins s.stopped.0 s.stopped.1 in
-      let left : after.part.held ≡ s.stopped.0.held = ap (λ (m : Member). m.part.held) here.1 ∙ ap (λ (p : ChainPart). p.held) s.stopped.2 in
-      let had : before.part.held ≡ s.member.part.held = ap (λ (m : Member). m.part.held) member in
-      let one = ap (λ b. amount b (who, unit)) left in
-      let two = ap (λ b. amount b (who, unit)) had in
-      let same : Some account ≡ Some who = only who unit (omega (arith, less, one, two)) in
-      (s.found ∙ ap Some (sym here.0), same_account who account same))
-      (λ (other : slice_get w place ≡ Some after).
-      let equal = ap (λ (m : Member). amount m.part.held (who, unit)) (same_one (slice_get w place) after before other at_before) in
-      absurd (omega (arith, less, equal)))
-      (set_read w s.place place (with_part s.part s.member) after (ap (λ (v : World). slice_get v place) (sym s.rest) ∙ at_after))) h
+      let may = SpeaksFor w (Exec chain account bytes) s.place s.member in
+      let spent = spends_more (IsSpeaker (Some account)) may begins s.stopped.0 (λ who e. (s.found, same_account who e))
+      (laws.caller_lowers s.member.rules account s.member.rules.limit s.program begins s.stopped.0 s.stopped.1) in
+      subst (HasAuthority w (Exec chain account bytes)) (sym s.rest)
+      (one_spent w s.place s.member (with_part s.part s.member) (SpeaksFor w (Exec chain account bytes)) s.is
+      (subst (SpendsOf may s.member.part) (sym s.stopped.2) (record { settings = spent.settings; spends = spent.spends })))) h
     where
-      same_account : (who account : List ℕ) → Some account ≡ Some who → who ≡ account
-      same_account who account e = cc
+      same_account : (who : List ℕ) → Some account ≡ Some who → who ≡ account
+      same_account who e = cc
 
   -- ---- deliveries
   module _ (from to : ChainId) (now : World) (s : DeliverStops w from to now) where
@@ -144,48 +132,33 @@ module _ (laws : StopLaws) (w : World) where
         let one : AreShapedAt s.part = subst AreShapedAt (sym s.stopped.2) (stands_shaped s.stopped.0 s.stopped.1 (shaped_at w s.receiver_place s.receiver s.is_receiver all)) in
         subst AllShaped (sym s.rest) (set_shaped (slice_set w s.sender_place sender) s.receiver_place (with_part s.part s.receiver) (set_shaped w s.sender_place sender all sends) one)
 
-    begins_held : begins.held ≡ s.receiver.part.held
-    begins_held = told_held (begun from s.message.cargo s.receiver.part) _
-
     begins_site : begins.site ≡ s.receiver.part.site
     begins_site = told_site (begun from s.message.cargo s.receiver.part) _
 
-    stands_lower : AllShaped w → (q : ChainPart) → StandsAt s.receiver.rules from s.message s.receiver.part q → LowersOnly (account_of origin s.receiver.part.site) s.receiver.part.held q.held
-    stands_lower all q h =
+    stands_spend : AllShaped w → (q : ChainPart) → StandsAt s.receiver.rules from s.message s.receiver.part q → SpendsOnly (account_of origin s.receiver.part.site) s.receiver.part q
+    stands_spend all q h =
         let shape : IsShaped s.sender.part.site to s.message = laws.waits_shaped w from to s.sender_place s.sender s.message all s.sender_found s.is_sender waits_there in
-        let from_begins : (x : ChainPart) → LowersOnly (account_of origin begins.site) begins.held x.held → LowersOnly (account_of origin s.receiver.part.site) s.receiver.part.held x.held =
-        λ x l. subst (λ (site : Site). LowersOnly (account_of origin site) s.receiver.part.held x.held) begins_site (subst (λ b. LowersOnly (account_of origin begins.site) b x.held) begins_held l) in
-        ⊎_elim (λ (e : q ≡ begun from s.message.cargo s.receiver.part). subst (λ (x : ChainPart). LowersOnly (account_of origin s.receiver.part.site) s.receiver.part.held x.held) (sym e) (lowers_none (account_of origin s.receiver.part.site) s.receiver.part))
+        let speaker = account_of origin s.receiver.part.site in
+        let from_begun : (x : ChainPart) → SpendsOf (IsSpeaker (account_of origin begins.site)) (begun from s.message.cargo s.receiver.part) x → SpendsOnly speaker s.receiver.part x =
+        λ x l. subst (λ (site : Site). SpendsOnly (account_of origin site) s.receiver.part x) begins_site (record { settings = l.settings; spends = l.spends }) in
+        let from_begins : (x : ChainPart) → SpendsOnly (account_of origin begins.site) begins x → SpendsOnly speaker s.receiver.part x =
+        λ x l. from_begun x (told_spends (IsSpeaker (account_of origin begins.site)) (begun from s.message.cargo s.receiver.part) _ x l) in
+        ⊎_elim (λ (e : q ≡ begun from s.message.cargo s.receiver.part). subst (SpendsOnly speaker s.receiver.part) (sym e) (let same = same_spends (IsSpeaker speaker) s.receiver.part in record { settings = same.settings; spends = same.spends }))
         (λ (rest : IsAbandoned s.receiver.rules origin no_weight s.message.program begins q ⊎ (q ≡ (executed s.receiver.rules origin no_weight s.message.program begins).1)). ⊎_elim
         (λ (a : IsAbandoned s.receiver.rules origin no_weight s.message.program begins q).
         from_begins q (laws.message_stopped s.sender.part.site to s.message.cargo s.receiver.rules origin no_weight s.message.program begins q shape a))
         (λ (e : q ≡ (executed s.receiver.rules origin no_weight s.message.program begins).1).
-        from_begins q (subst (λ (x : ChainPart). LowersOnly (account_of origin begins.site) begins.held x.held) (sym e) (laws.message_ended s.sender.part.site to s.message.cargo s.receiver.rules origin no_weight s.message.program begins shape)))
+        from_begins q (subst (SpendsOnly (account_of origin begins.site) begins) (sym e) (laws.message_ended s.sender.part.site to s.message.cargo s.receiver.rules origin no_weight s.message.program begins shape)))
         rest) h
 
     pub deliver_authorized : AllShaped w → HasAuthority w (Deliver from to) now
-    deliver_authorized all place before after who unit at_before at_after less =
+    deliver_authorized all =
         let sender = with_part (booking_lost (lost_of s.left) (without_message to s.sender.part)) s.sender in
-        ⊎_elim
-        (λ (here : (place ≡ s.receiver_place) × (after ≡ with_part s.part s.receiver)).
-        let member : before ≡ s.receiver = same_one (slice_get w s.receiver_place) before s.receiver (ap (slice_get w) (sym here.0) ∙ at_before) s.is_receiver in
-        let left : after.part.held ≡ s.stopped.0.held = ap (λ (m : Member). m.part.held) here.1 ∙ ap (λ (p : ChainPart). p.held) s.stopped.2 in
-        let had : before.part.held ≡ s.receiver.part.held = ap (λ (m : Member). m.part.held) member in
-        let one = ap (λ b. amount b (who, unit)) left in
-        let two = ap (λ b. amount b (who, unit)) had in
+        let may = SpeaksFor w (Deliver from to) s.receiver_place s.receiver in
         let back : to ≡ chain_of s.receiver = sym there in
-        let speaks : account_of origin s.receiver.part.site ≡ Some who = stands_lower all s.stopped.0 s.stopped.1 who unit (omega (arith, less, one, two)) in (
-          s.receiver_found ∙ ap Some (sym here.0),
-          (λ i. account_of (name_at (back i) from) (member i).part.site) ∙ speaks,
-        ))
-        (λ (other : slice_get (slice_set w s.sender_place sender) place ≡ Some after). absurd (⊎_elim
-        (λ (there : (place ≡ s.sender_place) × (after ≡ sender)).
-        let member : before ≡ s.sender = same_one (slice_get w s.sender_place) before s.sender (ap (slice_get w) (sym there.0) ∙ at_before) s.is_sender in
-        let equal = ap (λ (m : Member). amount m.part.held (who, unit)) there.1 in
-        let was = ap (λ (m : Member). amount m.part.held (who, unit)) member in
-        omega (arith, less, equal, was))
-        (λ (same : slice_get w place ≡ Some after).
-        let equal = ap (λ (m : Member). amount m.part.held (who, unit)) (same_one (slice_get w place) after before same at_before) in
-        omega (arith, less, equal))
-        (set_read w s.sender_place place sender after other)))
-        (set_read (slice_set w s.sender_place sender) s.receiver_place place (with_part s.part s.receiver) after (ap (λ (v : World). slice_get v place) (sym s.rest) ∙ at_after))
+        let spent = spends_more (IsSpeaker (account_of origin s.receiver.part.site)) may s.receiver.part s.stopped.0
+        (λ who e. (s.receiver_found, (λ i. account_of (name_at (back i) from) s.receiver.part.site) ∙ e)) (stands_spend all s.stopped.0 s.stopped.1) in
+        let same = same_spends (SpeaksFor w (Deliver from to) s.sender_place s.sender) s.sender.part in
+        subst (HasAuthority w (Deliver from to)) (sym s.rest)
+        (two_spent w s.sender_place s.receiver_place s.sender sender s.receiver (with_part s.part s.receiver) (SpeaksFor w (Deliver from to)) s.is_sender s.is_receiver (record { settings = same.settings; spends = same.spends })
+        (subst (SpendsOf may s.receiver.part) (sym s.stopped.2) (record { settings = spent.settings; spends = spent.spends })))

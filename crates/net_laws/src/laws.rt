@@ -58,15 +58,15 @@ pub fn law_of_unsaturated_nets()
     law_of_unsaturated_worlds();
 }
 
-/// In every network each message that waits has one of the five shapes, whatever steps it has run.
+/// In every network each message that waits has one of the seven shapes, whatever steps it has run.
 pub fn law_of_shaped_nets()
     ensures { (n : Net) (steps : List Step) → HasRun n steps → AllShaped (world_of n) }
 {
     law_of_shaped_networks();
 }
 
-/// In every network the next step lowers no account but its caller's, or that of the sending chain at the receiver of a delivery, whatever
-/// steps the network has run.
+/// In every network the next step lowers no account but its caller's, or that of the sending chain at the receiver of a delivery, or a pool's,
+/// whose product doesn't fall, whatever steps the network has run.
 pub fn law_of_authorized_nets()
     ensures { (n : Net) (steps : List Step) (step : Step) → HasRun n steps → IsAuthorized (order_of (spec_of n)) (world_of n) step }
 {
@@ -90,9 +90,9 @@ pub fn law_of_stopped_nets()
     law_of_conserved_deliveries();
 }
 
-/// Where a call of any network answered that it is out of memory, each message that waits still has one of the five shapes, and no account has
+/// Where a call of any network answered that it is out of memory, each message that waits still has one of the seven shapes, and no account has
 /// less but the caller's (`caller`), or that of the sending chain at the receiver of a delivery (`sender`), as of the last one of a drain
-/// (`last_sender`); those before it are whole steps.
+/// (`last_sender`), or a pool's, whose product doesn't fall; the deliveries before that last one are whole steps.
 pub fn law_of_stopped_messages()
     ensures exec { (old new : Net) (steps : List Step) (chain : ChainId) (account bytes : List ℕ) → HasRun old steps → ExecStops (world_of old) chain account bytes (world_of new) → AllShaped (world_of new) }
     ensures deliver { (old new : Net) (steps : List Step) (from to : ChainId) → HasRun old steps → DeliverStops (world_of old) from to (world_of new) → AllShaped (world_of new) }

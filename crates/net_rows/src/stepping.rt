@@ -8,7 +8,8 @@ use std::alloc::{AllocError, Global};
 use std::process::Abort;
 use std::test::Fail;
 use step_text::{
-    balances_text, checking_text, drained_line, opening_line, queue_text, step_text, traps_text,
+    balances_text, checking_text, drained_line, locked_text, opening_line, queue_text, step_text,
+    traps_text,
 };
 use supply_text::supply_block;
 
@@ -67,13 +68,14 @@ fn told(alloc: Global, net: &Net, answer: StepResult) -> Result<String, Fail> {
     Ok(step_text(alloc, net.trace(), &answer)?)
 }
 
-/// What the accounts of all chains hold, and their checking accounts.
+/// What the accounts of all chains hold, their checking accounts, and their locks.
 fn balances(alloc: Global, net: &Net) -> Result<String, Fail> {
     let mut text = String::new(alloc);
     for chain in net.chains() {
         let name = chain.site().chain;
         text.push_str(&balances_text(alloc, name, chain.ledger())?)?;
         text.push_str(&checking_text(alloc, name, chain.rows(), chain.checkings())?)?;
+        text.push_str(&locked_text(alloc, name, chain.lock_book())?)?;
     }
     Ok(text)
 }

@@ -19,14 +19,15 @@ use Rattle.trust_tables.specs.declared.rows.AssetRole.TheVariants.{Native, Deriv
 use Rattle.trust_tables.specs.declared.rows.AssetRow.{AssetRow}
 use Rattle.weight_trader.specs.declared.rate.Rate.{Rate}
 use Rattle.message_parts.specs.declared.pallet.PalletInfo.{PalletInfo}
+use Rattle.chain_pools.specs.declared.pool.Pool.{Pool}
 use Rattle.network_spec.specs.declared.chain.Balance.{Balance}
 use Rattle.network_spec.specs.declared.network.ChannelSpec.{ChannelSpec}
 use Rattle.document_forms.specs.declared.fault.NetworkFault.{NetworkFault}
 use Rattle.document_forms.specs.declared.fault.NetworkFault.TheVariants.{MissingField, BadValue, LimitPassed}
 use Rattle.document_forms.specs.declared.fault.Place.{Place}
 use Rattle.document_forms.specs.Forms.{Form, ◌>>=◌, ◌>>◌, or_fault, where_true, fields, is_decimal, field, needed, of_optional, defaulted, some_of, optional, whole, number_within, text, bytes, chain, each, is_chain_kind, decimal_below}
-use Rattle.document_entries.specs.Entries.{both_fault, one_of, either, made, rate_limit, amount_limit, amount, location, instance, rate, kind, native, with_checking, asset_row, account, u32, pallet_name, pallet, fee, version, channel_fields, channel_entry}
-use Rattle.network_config.specs.Valid.{is_within, fits_rate, fits_role, fits_fun, fits_asset, fits_pallet, fits_fee, fits_channel}
+use Rattle.document_entries.specs.Entries.{both_fault, one_of, either, made, rate_limit, amount_limit, amount, location, instance, rate, kind, native, with_checking, asset_row, account, u32, pallet_name, pallet, pool, fee, version, channel_fields, channel_entry}
+use Rattle.network_config.specs.Valid.{is_within, fits_rate, fits_role, fits_fun, fits_asset, fits_pallet, fits_pool, fits_fee, fits_channel}
 
 -- ---- what is given, where something is
 
@@ -217,6 +218,15 @@ pallet_gives place value =
     one_by_one (needed (codes "minor") u32 place value) _ (λ minor g.
     one_by_one (needed (codes "patch") u32 place value) _ (λ patch h.
     ok_gives _ (record { index = index; name = name; module_name = module_name; major = major; minor = minor; patch = patch }) (and_from (is_utf8 name) (is_utf8 module_name) u v))))))))
+
+pub pool_gives : (place : Place) (value : Data) → Gives (λ (p : Pool). fits_pool p ≡ true) (pool place value)
+unfolding pool
+pool_gives place value =
+    after (fields (codes "first" ∷ codes "second" ∷ codes "fee" ∷ []) place value) _
+    (one_by_one (needed (codes "first") location place value) _ (λ first e.
+    one_by_one (needed (codes "second") location place value) _ (λ second f.
+    with_first (needed (codes "fee") (number_within 0 999) place value) _ (needed_gives (codes "fee") (number_within 0 999) place value (number_gives 0 999 place)) (λ fee n.
+    ok_gives _ (record { first = first; second = second; fee = fee }) n))))
 
 -- ---- channels
 

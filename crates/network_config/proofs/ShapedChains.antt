@@ -18,16 +18,17 @@ use Rattle.document_forms.specs.declared.fault.NetworkFault.{NetworkFault}
 use Rattle.document_forms.specs.declared.fault.NetworkFault.TheVariants.{LimitPassed}
 use Rattle.document_forms.specs.declared.fault.Place.{Place}
 use Rattle.document_forms.specs.declared.fault.Section.{Section}
-use Rattle.document_forms.specs.declared.fault.Section.TheVariants.{Rates, Assets, Accounts, Pallets, Queries}
+use Rattle.document_forms.specs.declared.fault.Section.TheVariants.{Rates, Assets, Accounts, Pallets, Queries, Pools}
 use Rattle.document_forms.specs.Forms.{Form, ◌>>=◌, ◌>>◌, where_true, fields, of_optional, defaulted, number_within, bytes, onto, next_index, entries, count, list_field}
-use Rattle.document_entries.specs.Entries.{made, u32, rate, asset_row, account, pallet, query, channel_entry}
+use Rattle.document_entries.specs.Entries.{made, u32, rate, asset_row, account, pallet, query, pool, channel_entry}
 use Rattle.network_config.specs.declared.head.ChainHead.{ChainHead}
-use Rattle.network_config.specs.Chains.{top, fields_of, in_chain, channel_at, para_field, weight_field, no_account, head, short_list, lists, entries_field, barriers_field, chain_fields, with_head, own_fields, chain_entry}
+use Rattle.network_config.specs.declared.head.Served.{Served}
+use Rattle.network_config.specs.Chains.{top, fields_of, in_chain, channel_at, para_field, weight_field, no_account, head, flag, short_list, lists, entries_field, barriers_field, chain_fields, with_head, own_fields, chain_entry}
 use Rattle.network_config.specs.Document.{network, has_fees, is_relay_entry, has_relay, chain_count, chains_list, top_fields, shapes}
-use Rattle.network_config.specs.Valid.{is_within, fits_rate, fits_role, fits_asset, fits_pallet, fits_chain, fits_channel}
+use Rattle.network_config.specs.Valid.{is_within, fits_rate, fits_role, fits_asset, fits_pallet, fits_pool, fits_chain, fits_channel}
 use Rattle.network_config.specs.Faultless.{ok_both}
 use Rattle.network_config.specs.Arranged.{is_relay}
-use Rattle.network_config.proofs.Shaped.{Gives, ok_gives, err_gives, one_by_one, with_first, after, after_ok, weaker, where_gives, defaulted_gives, number_gives, rate_gives, asset_gives, account_gives, pallet_gives, channel_gives}
+use Rattle.network_config.proofs.Shaped.{Gives, ok_gives, err_gives, one_by_one, with_first, after, after_ok, weaker, where_gives, defaulted_gives, number_gives, rate_gives, asset_gives, account_gives, pallet_gives, pool_gives, channel_gives}
 
 -- ---- lists of entries
 
@@ -136,6 +137,9 @@ pub record FitsLists (place : Place) (value : Data) : Type 0 where
   pub assets : Gives (IsShort 128) (list_field (codes "assets") place value)
   pub pallets : Gives (IsShort 64) (list_field (codes "pallets") place value)
 
+abbrev HasFewPools : Place → Data → Type 0
+HasFewPools place value = Gives (IsShort 16) (list_field (codes "pools") place value)
+
 lists_give : (place : Place) (value : Data) → is_ok (lists place value) ≡ true → FitsLists place value
 unfolding lists
 lists_give place value h =
@@ -149,8 +153,9 @@ lists_give place value h =
     parts : {A B : Type 0} (r : Result A NetworkFault) (s : Result B NetworkFault) → is_ok (r >> s) ≡ true → (is_ok r ≡ true) × (is_ok s ≡ true)
     parts r s h = and_parts (is_ok r) (is_ok s) (sym (ok_both r s) ∙ h)
 
-abbrev FitsOwn : Place → Data → ChainHead → Type 0
-FitsOwn place value head = FitsHead (get (codes "para") value) head × FitsLists place value × (is_some (as_object value) ≡ true)
+abbrev FitsOwn : Place → Data → ChainHead × Served → Type 0
+FitsOwn place value own =
+    FitsHead (get (codes "para") value) own.0 × FitsLists place value × HasFewPools place value × (is_some (as_object value) ≡ true)
 
 is_object : (names : List (List ℕ)) (place : Place) (value : Data) → is_ok (fields names place value) ≡ true → is_some (as_object value) ≡ true
 unfolding fields
@@ -161,12 +166,17 @@ is_object names place (string s) h = absurd (false≢true h)
 is_object names place (array items) h = absurd (false≢true h)
 is_object names place (object ms) h = refl
 
-own_gives : (place : Place) (value : Data) → Gives (FitsOwn place value) (own_fields place value)
+own_gives : (more : Bool) (place : Place) (value : Data) → Gives (FitsOwn place value) (own_fields more place value)
 unfolding own_fields
-own_gives place value =
-    after_ok (fields chain_fields place value) _ (λ o.
+own_gives more place value =
+    after_ok (fields (chain_fields more) place value) _ (λ o.
     with_first (head place value) _ (head_gives place value) (λ h fits.
-    after_ok (lists place value) _ (λ l. ok_gives (FitsOwn place value) h (fits, lists_give place value l, is_object chain_fields place value o))))
+    after_ok (lists place value) _ (λ l.
+    one_by_one (flag (codes "calls") place value) _ (λ calls c.
+    one_by_one (flag (codes "locks") place value) _ (λ locks k.
+    after_ok (short_list (codes "pools") 16 place value) _ (λ p.
+    ok_gives (FitsOwn place value) (h, record { calls = calls; locks = locks })
+    (fits, lists_give place value l, short_gives (codes "pools") 16 place value p, is_object (chain_fields more) place value o)))))))
 
 -- ---- a chain
 
@@ -175,10 +185,10 @@ pub record FitsChain (value : Data) (c : ChainSpec) : Type 0 where
   pub named : IsChain c.chain
   pub relay : is_relay c ≡ is_relay_entry value
 
-pub chain_gives : (chain : ℕ) (value : Data) → Gives (FitsChain value) (chain_entry chain value)
+pub chain_gives : (more : Bool) (chain : ℕ) (value : Data) → Gives (FitsChain value) (chain_entry more chain value)
 unfolding chain_entry
-chain_gives chain value =
-    with_first (own_fields (fields_of chain) value) _ (own_gives (fields_of chain) value) (λ h own.
+chain_gives more chain value =
+    with_first (own_fields more (fields_of chain) value) _ (own_gives more (fields_of chain) value) (λ h own.
     one_by_one (barriers_field chain value) _ (λ barriers e.
     with_first (entries_field (codes "rates") Rates rate chain value) _ (field_gives fits_rate (codes "rates") Rates rate chain value rate_gives) (λ rates r.
     with_first (entries_field (codes "assets") Assets asset_row chain value) _
@@ -187,17 +197,19 @@ chain_gives chain value =
     (field_gives (λ (b : Balance). fits_asset b.asset) (codes "accounts") Accounts account chain value account_gives) (λ accounts b.
     with_first (entries_field (codes "pallets") Pallets pallet chain value) _ (short_field_gives fits_pallet (codes "pallets") Pallets pallet chain value pallet_gives 64 own.1.pallets) (λ pallets p.
     one_by_one (entries_field (codes "queries") Queries query chain value) _ (λ queries q.
-    ok_gives (FitsChain value) (with_head h barriers rates assets accounts pallets queries) (record {
-      fits = all_fit h barriers rates assets accounts pallets queries own.0.rules a.1 p.1 r a.0 b p.0;
+    with_first (entries_field (codes "pools") Pools pool chain value) _ (short_field_gives fits_pool (codes "pools") Pools pool chain value pool_gives 16 own.2) (λ pools s.
+    ok_gives (FitsChain value) (with_head h.0 barriers rates assets accounts pallets queries pools h.1) (record {
+      fits = all_fit h.0 barriers rates assets accounts pallets queries pools h.1 own.0.rules a.1 p.1 s.1 r a.0 b p.0 s.0;
       named = own.0.named;
-      relay = own.0.relay ∙ ap (λ b. b && is_none (get (codes "para") value)) (sym own.2);
-    }))))))))
+      relay = own.0.relay ∙ ap (λ b. b && is_none (get (codes "para") value)) (sym own.3);
+    })))))))))
   where
-    all_fit : (h : ChainHead) (barriers : List _) (rates : List _) (assets : List _) (accounts : List _) (pallets : List _) (queries : List _)
-        → (is_within 1 100 h.rules.max_instructions && is_within 20 64 h.max_holding) ≡ true → nat_le (length assets) 128 ≡ true → nat_le (length pallets) 64 ≡ true
+    all_fit : (h : ChainHead) (barriers : List _) (rates : List _) (assets : List _) (accounts : List _) (pallets : List _) (queries : List _) (pools : List _) (served : Served)
+        → (is_within 1 100 h.rules.max_instructions && is_within 20 64 h.max_holding) ≡ true → nat_le (length assets) 128 ≡ true → nat_le (length pallets) 64 ≡ true → nat_le (length pools) 16 ≡ true
         → list_all fits_rate rates ≡ true → list_all (λ (row : AssetRow). fits_role row.kind row.role) assets ≡ true → list_all (λ (b : Balance). fits_asset b.asset) accounts ≡ true → list_all fits_pallet pallets ≡ true
-        → fits_chain (with_head h barriers rates assets accounts pallets queries) ≡ true
-    all_fit h barriers rates assets accounts pallets queries l m n r a b p = and_from _ _ l (and_from _ _ (and_from _ _ m n) (and_from _ _ r (and_from _ _ a (and_from _ _ b p))))
+        → list_all fits_pool pools ≡ true → fits_chain (with_head h barriers rates assets accounts pallets queries pools served) ≡ true
+    all_fit h barriers rates assets accounts pallets queries pools served l m n o r a b p q =
+        and_from _ _ l (and_from _ _ (and_from _ _ m (and_from _ _ n o)) (and_from _ _ r (and_from _ _ a (and_from _ _ b (and_from _ _ p q)))))
 
 -- ---- the document
 
@@ -230,7 +242,7 @@ shapes_give value =
     with_first (chains_list top value) _ (few_give top value) (λ chain_items few.
     with_first (short_list (codes "channels") 256 top value) _ (few_channels top value) (λ channel_items short.
     one_by_one (defaulted (codes "format") false has_fees top value) _ (λ fees f.
-    with_first (entries chain_entry 0 chain_items) _ (entries_gives FitsChain chain_entry chain_gives 0 chain_items) (λ chains m.
+    with_first (entries (chain_entry fees) 0 chain_items) _ (entries_gives FitsChain (chain_entry fees) (chain_gives fees) 0 chain_items) (λ chains m.
     with_first (entries (λ index. channel_entry fees (channel_at index)) 0 channel_items) _
     (entries_gives (λ v c. fits_channel c ≡ true) (λ index. channel_entry fees (channel_at index)) (λ i v. channel_gives fees (channel_at i) v) 0 channel_items) (λ channels n.
     ok_gives Shape (record { network = id; chains = chains; channels = channels }) (record {

@@ -1,25 +1,27 @@
 -- A chain's entry in a network document, a line a field. Source: this project's own rule.
-use Rattle.std.specs.Prelude.{ℕ, List, [], ◌∷◌, nat_le, codes, Option, Some, None, Result, Ok}
+use Rattle.std.specs.Prelude.{ℕ, Bool, true, false, List, [], ◌∷◌, nat_le, codes, Option, Some, None, Result, Ok}
 use Rattle.serde_json.specs.Data.{Data, Items}
-use Rattle.serde_json.specs.Find.{get}
+use Rattle.serde_json.specs.Find.{get, as_bool}
 use Rattle.chain_ids.specs.declared.chain.ChainId.{ChainId}
 use Rattle.chain_ids.specs.declared.chain.ChainId.TheVariants.{Relay, Para}
 use Rattle.message_parts.specs.declared.weight.Weight.{Weight}
 use Rattle.barriers.specs.declared.barrier.Barrier.{Barrier}
 use Rattle.barriers.specs.declared.barrier.Barrier.TheVariants.{Credit, Paid, Responses}
+use Rattle.chain_pools.specs.declared.pool.Pool.{Pool}
 use Rattle.weight_trader.specs.declared.rate.Rate.{Rate}
 use Rattle.trust_tables.specs.declared.rows.AssetRow.{AssetRow}
 use Rattle.message_parts.specs.declared.pallet.PalletInfo.{PalletInfo}
 use Rattle.network_spec.specs.declared.chain.Balance.{Balance}
 use Rattle.network_spec.specs.declared.chain.ChainSpec.{ChainSpec}
 use Rattle.document_forms.specs.declared.fault.NetworkFault.{NetworkFault}
-use Rattle.document_forms.specs.declared.fault.NetworkFault.TheVariants.{LimitPassed}
+use Rattle.document_forms.specs.declared.fault.NetworkFault.TheVariants.{WrongKind, LimitPassed}
 use Rattle.document_forms.specs.declared.fault.Place.{Place}
 use Rattle.document_forms.specs.declared.fault.Section.{Section}
-use Rattle.document_forms.specs.declared.fault.Section.TheVariants.{Top, Fields, Barriers, Rates, Assets, Accounts, Pallets, Queries, Channels}
-use Rattle.document_forms.specs.Forms.{Form, ◌>>=◌, ◌>>◌, where_true, fields, defaulted, number_within, bytes, pair, list_field, entries, count}
-use Rattle.document_entries.specs.Entries.{made, u32, barrier, rate, asset_row, account, pallet, query}
+use Rattle.document_forms.specs.declared.fault.Section.TheVariants.{Top, Fields, Barriers, Rates, Assets, Accounts, Pallets, Queries, Pools, Channels}
+use Rattle.document_forms.specs.Forms.{Form, ◌>>=◌, ◌>>◌, or_fault, where_true, fields, defaulted, number_within, bytes, pair, list_field, entries, count}
+use Rattle.document_entries.specs.Entries.{made, u32, barrier, rate, asset_row, account, pallet, query, pool}
 use Rattle.network_config.specs.declared.head.ChainHead.{ChainHead}
+use Rattle.network_config.specs.declared.head.Served.{Served}
 
 -- ---- places
 
@@ -100,13 +102,25 @@ barriers_or (Some listed) chain value = entries_field (codes "barriers") Barrier
 unfoldable pub barriers_field : ℕ → Data → Result (List Barrier) NetworkFault
 barriers_field chain value = barriers_or (get (codes "barriers") value) chain value
 
-abbrev pub chain_fields : List (List ℕ)
-chain_fields = codes "para" ∷ codes "unit_weight" ∷ codes "max_weight" ∷ codes "max_instructions" ∷ codes "max_holding" ∷ codes "fee_account"
+-- the fields of a chain; format 2 has calls, locks and pools
+abbrev pub chain_fields : Bool → List (List ℕ)
+chain_fields true = codes "para" ∷ codes "unit_weight" ∷ codes "max_weight" ∷ codes "max_instructions" ∷ codes "max_holding" ∷ codes "fee_account"
+    ∷ codes "barriers" ∷ codes "rates" ∷ codes "assets" ∷ codes "accounts" ∷ codes "pallets" ∷ codes "queries" ∷ codes "calls" ∷ codes "locks" ∷ codes "pools" ∷ []
+chain_fields false = codes "para" ∷ codes "unit_weight" ∷ codes "max_weight" ∷ codes "max_instructions" ∷ codes "max_holding" ∷ codes "fee_account"
     ∷ codes "barriers" ∷ codes "rates" ∷ codes "assets" ∷ codes "accounts" ∷ codes "pallets" ∷ codes "queries" ∷ []
 
--- a chain with its own fields and its lists
-abbrev pub with_head : ChainHead → List Barrier → List Rate → List AssetRow → List Balance → List PalletInfo → List (ℕ × ChainId) → ChainSpec
-with_head head barriers rates assets accounts pallets queries = record {
+-- true or false
+unfoldable pub truth : Form Bool
+truth place value = or_fault (WrongKind place) (as_bool value)
+
+-- false where it isn't there
+abbrev pub flag : List ℕ → Form Bool
+flag name = defaulted name false truth
+
+-- a chain with its own fields, its lists and what it serves
+abbrev pub with_head : ChainHead → List Barrier → List Rate → List AssetRow → List Balance → List PalletInfo → List (ℕ × ChainId) → List Pool
+    → Served → ChainSpec
+with_head head barriers rates assets accounts pallets queries pools served = record {
   chain = head.chain;
   rules = head.rules;
   limit = head.limit;
@@ -118,23 +132,31 @@ with_head head barriers rates assets accounts pallets queries = record {
   accounts = accounts;
   pallets = pallets;
   queries = queries;
+  calls = served.calls;
+  locks = served.locks;
+  pools = pools;
 }
 
-unfoldable pub own_fields : Form ChainHead
-own_fields place value = do
-  fields chain_fields place value
+-- its own fields, and what it serves
+unfoldable pub own_fields : Bool → Form (ChainHead × Served)
+own_fields more place value = do
+  fields (chain_fields more) place value
   head ← head place value
   lists place value
-  Ok head
+  calls ← flag (codes "calls") place value
+  locks ← flag (codes "locks") place value
+  short_list (codes "pools") 16 place value
+  Ok (head, record { calls = calls; locks = locks })
 
--- the entry of a chain by its index
-unfoldable pub chain_entry : ℕ → Data → Result ChainSpec NetworkFault
-chain_entry chain value = do
-  head ← own_fields (fields_of chain) value
+-- the entry of a chain by its index; format 2 has more fields
+unfoldable pub chain_entry : Bool → ℕ → Data → Result ChainSpec NetworkFault
+chain_entry more chain value = do
+  own ← own_fields more (fields_of chain) value
   barriers ← barriers_field chain value
   rates ← entries_field (codes "rates") Rates rate chain value
   assets ← entries_field (codes "assets") Assets asset_row chain value
   accounts ← entries_field (codes "accounts") Accounts account chain value
   pallets ← entries_field (codes "pallets") Pallets pallet chain value
   queries ← entries_field (codes "queries") Queries query chain value
-  Ok (with_head head barriers rates assets accounts pallets queries)
+  pools ← entries_field (codes "pools") Pools pool chain value
+  Ok (with_head own.0 barriers rates assets accounts pallets queries pools own.1)

@@ -27,7 +27,7 @@ network place value = do
   s ← text place value
   or_fault (BadValue place) (network_of_text s)
 
--- 1 or 2; format 2 has fees
+-- 1 or 2; format 2 has fees, calls, locks and pools
 unfoldable pub has_fees : Form Bool
 has_fees place value = do
   n ← number_within 1 2 place value
@@ -61,6 +61,6 @@ shapes value = do
   chain_items ← chains_list top value
   channel_items ← short_list (codes "channels") 256 top value
   fees ← defaulted (codes "format") false has_fees top value
-  chains ← entries chain_entry 0 chain_items
+  chains ← entries (chain_entry fees) 0 chain_items
   channels ← entries (λ index. channel_entry fees (channel_at index)) 0 channel_items
   Ok (record { network = network; chains = chains; channels = channels })

@@ -10,10 +10,10 @@ use Rattle.network_spec.specs.declared.network.NetworkSpec.{NetworkSpec}
 use Rattle.document_forms.specs.declared.fault.NetworkFault.{NetworkFault}
 use Rattle.document_forms.specs.declared.fault.Place.{Place}
 use Rattle.document_forms.specs.declared.fault.Section.{Section}
-use Rattle.document_forms.specs.declared.fault.Section.TheVariants.{Fields, Rates, Assets, Accounts, Pallets, Queries, Channels}
+use Rattle.document_forms.specs.declared.fault.Section.TheVariants.{Fields, Rates, Assets, Accounts, Pallets, Queries, Pools, Channels}
 use Rattle.document_forms.specs.Forms.{◌>>◌, next_index}
 use Rattle.network_config.specs.declared.checks.Flaws.{Flaws}
-use Rattle.network_config.specs.References.{flaw_at, place_in, each_in, rate_flaws, asset_flaws, account_flaws, pallet_flaws, query_flaws, channel_flaws, chain_flaws, chain_references, chains_references, references}
+use Rattle.network_config.specs.References.{flaw_at, place_in, each_in, rate_flaws, asset_flaws, account_flaws, pallet_flaws, query_flaws, pool_flaws, channel_flaws, chain_flaws, chain_references, chains_references, references}
 
 -- ---- no fault, as a test
 
@@ -103,7 +103,9 @@ module _ {X : Type 0} (same : X → X → Bool) (bad past : X → Bool) where
 unfoldable pub chain_sound : List ChainSpec → NetworkId → ChainSpec → Bool
 chain_sound chains network c = all_sound (rate_flaws c.assets) [] c.rates
     && (all_sound (asset_flaws chains network c.chain) [] c.assets
-    && (all_sound (account_flaws c.assets) [] c.accounts && (all_sound pallet_flaws [] c.pallets && all_sound (query_flaws chains c.chain) [] c.queries)))
+    && (all_sound (account_flaws c.assets) [] c.accounts
+    && (all_sound pallet_flaws [] c.pallets
+    && (all_sound (query_flaws chains c.chain) [] c.queries && all_sound (pool_flaws c.assets) [] c.pools))))
 
 pub ok_more : {A B : Type 0} (r : Result A NetworkFault) (s : Result B NetworkFault) (a b : Bool) → is_ok r ≡ a → is_ok s ≡ b → is_ok (r >> s) ≡ (a && b)
 ok_more r s a b e f = ok_both r s ∙ (λ j. e j && f j)
@@ -116,7 +118,8 @@ ok_chain chains network i earlier c =
     (ok_more _ _ _ _ (ok_each (rate_flaws c.assets) (Some i) Rates 0 [] c.rates)
     (ok_more _ _ _ _ (ok_each (asset_flaws chains network c.chain) (Some i) Assets 0 [] c.assets)
     (ok_more _ _ _ _ (ok_each (account_flaws c.assets) (Some i) Accounts 0 [] c.accounts)
-    (ok_more _ _ _ _ (ok_each pallet_flaws (Some i) Pallets 0 [] c.pallets) (ok_each (query_flaws chains c.chain) (Some i) Queries 0 [] c.queries)))))
+    (ok_more _ _ _ _ (ok_each pallet_flaws (Some i) Pallets 0 [] c.pallets)
+    (ok_more _ _ _ _ (ok_each (query_flaws chains c.chain) (Some i) Queries 0 [] c.queries) (ok_each (pool_flaws c.assets) (Some i) Pools 0 [] c.pools))))))
 
 shuffled : (a b c d : Bool) → ((a && b) && (c && d)) ≡ ((a && c) && (b && d))
 shuffled true true c d = refl

@@ -18,6 +18,7 @@ use Rattle.trust_tables.specs.declared.rows.AssetRole.TheVariants.{Native, Deriv
 use Rattle.trust_tables.specs.declared.rows.AssetRow.{AssetRow}
 use Rattle.trust_tables.specs.Chains.{path_of_site}
 use Rattle.trust_tables.specs.Trust.{is_row_of}
+use Rattle.chain_pools.specs.declared.pool.Pool.{Pool}
 use Rattle.weight_trader.specs.declared.rate.Rate.{Rate}
 use Rattle.message_parts.specs.declared.pallet.PalletInfo.{PalletInfo}
 use Rattle.network_spec.specs.declared.chain.Balance.{Balance}
@@ -29,7 +30,7 @@ use Rattle.document_forms.specs.declared.fault.NetworkFault.{NetworkFault}
 use Rattle.document_forms.specs.declared.fault.NetworkFault.TheVariants.{Repeated, BadValue, LimitPassed}
 use Rattle.document_forms.specs.declared.fault.Place.{Place}
 use Rattle.document_forms.specs.declared.fault.Section.{Section}
-use Rattle.document_forms.specs.declared.fault.Section.TheVariants.{Fields, Rates, Assets, Accounts, Pallets, Queries, Channels}
+use Rattle.document_forms.specs.declared.fault.Section.TheVariants.{Fields, Rates, Assets, Accounts, Pallets, Queries, Pools, Channels}
 use Rattle.document_forms.specs.Forms.{◌>>◌, next_index}
 use Rattle.network_config.specs.declared.checks.Flaws.{Flaws}
 
@@ -103,6 +104,25 @@ query_flaws chains here earlier query = record {
   past = false;
 }
 
+-- the two are of the same two assets, in whichever order
+abbrev pub same_pair : Pool → Pool → Bool
+same_pair a b =
+    (same_location a.first b.first && same_location a.second b.second)
+    || (same_location a.first b.second && same_location a.second b.first)
+
+-- its assets are two, both of amounts
+abbrev pub names_two : List AssetRow → Pool → Bool
+names_two rows pool =
+    not (same_location pool.first pool.second)
+    && (list_any (lists_fungible pool.first) rows && list_any (lists_fungible pool.second) rows)
+
+abbrev pub pool_flaws : List AssetRow → List Pool → Pool → Flaws
+pool_flaws rows earlier pool = record {
+  repeated = list_any (λ other. same_pair other pool) earlier;
+  bad = not (names_two rows pool);
+  past = false;
+}
+
 -- the sender lists the asset of the fee
 abbrev pub lists_fee : List ChainSpec → ChainId → Option Asset → Bool
 lists_fee chains from None = true
@@ -128,6 +148,7 @@ chain_references chains network i earlier c = do
   each_in (account_flaws c.assets) (Some i) Accounts 0 [] c.accounts
   each_in pallet_flaws (Some i) Pallets 0 [] c.pallets
   each_in (query_flaws chains c.chain) (Some i) Queries 0 [] c.queries
+  each_in (pool_flaws c.assets) (Some i) Pools 0 [] c.pools
 
 unfoldable pub chains_references : List ChainSpec → NetworkId → ℕ → List ChainSpec → List ChainSpec → Result (Unit {0}) NetworkFault
 chains_references chains network i earlier [] = Ok tt

@@ -12,6 +12,7 @@ use Rattle.asset_lists.specs.declared.units.Kind.{Kind}
 use Rattle.asset_lists.specs.declared.units.Kind.TheVariants as kinds
 use Rattle.trust_tables.specs.declared.rows.AssetRole.{AssetRole}
 use Rattle.trust_tables.specs.declared.rows.AssetRole.TheVariants.{Native, Derivative}
+use Rattle.chain_pools.specs.declared.pool.Pool.{Pool}
 use Rattle.weight_trader.specs.declared.rate.Rate.{Rate}
 use Rattle.message_parts.specs.declared.pallet.PalletInfo.{PalletInfo}
 use Rattle.network_spec.specs.declared.chain.ChainSpec.{ChainSpec}
@@ -51,8 +52,12 @@ fits_asset asset = has_place asset.id && fits_fun asset.fun
 abbrev pub fits_pallet : PalletInfo → Bool
 fits_pallet pallet = is_utf8 pallet.name && is_utf8 pallet.module_name
 
+-- something of what is given counts
+abbrev pub fits_pool : Pool → Bool
+fits_pool pool = is_within 0 999 pool.fee
+
 abbrev pub fits_lists : ChainSpec → Bool
-fits_lists c = nat_le (length c.assets) 128 && nat_le (length c.pallets) 64
+fits_lists c = nat_le (length c.assets) 128 && (nat_le (length c.pallets) 64 && nat_le (length c.pools) 16)
 
 abbrev pub fits_rules : ChainSpec → Bool
 fits_rules c = is_within 1 100 c.rules.max_instructions && is_within 20 64 c.max_holding
@@ -60,7 +65,8 @@ fits_rules c = is_within 1 100 c.rules.max_instructions && is_within 20 64 c.max
 abbrev pub fits_entries : ChainSpec → Bool
 fits_entries c = list_all fits_rate c.rates
     && (list_all (λ row. fits_role row.kind row.role) c.assets
-    && (list_all (λ balance. fits_asset balance.asset) c.accounts && list_all fits_pallet c.pallets))
+    && (list_all (λ balance. fits_asset balance.asset) c.accounts
+    && (list_all fits_pallet c.pallets && list_all fits_pool c.pools)))
 
 abbrev pub fits_chain : ChainSpec → Bool
 fits_chain c = fits_rules c && (fits_lists c && fits_entries c)

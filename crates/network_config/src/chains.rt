@@ -2,14 +2,17 @@
 ghost use Rattle.std.specs.Prelude.{◌≡◌, codes, IfOk};
 ghost use Rattle.serde_json.specs.View.{view};
 ghost use Rattle.document_forms.specs.Answers.{Answers};
-ghost use Rattle.document_entries.specs.Entries.{rate, asset_row, account, pallet, query};
+ghost use Rattle.document_entries.specs.Entries.{rate, asset_row, account, pallet, query, pool};
 ghost use Rattle.document_forms.specs.declared.fault.Section.TheVariants as sections;
 ghost use Rattle.network_config.specs.Chains.{entries_field, barriers_field, default_barriers, fields_of, in_chain};
 
 use crate::lists::{list_field, own_fields};
 use barriers::Barrier;
 use chain_ids::ChainId;
-use document_entries::{account_of, asset_row_of, barrier_of, pallet_of, query_of, rate_of};
+use chain_pools::Pool;
+use document_entries::{
+    account_of, asset_row_of, barrier_of, pallet_of, pool_of, query_of, rate_of,
+};
 use document_forms::{Entry, Place, Section, Stop, read_entries};
 use message_parts::PalletInfo;
 use network_spec::{Balance, ChainSpec};
@@ -124,6 +127,19 @@ impl Entry<(u64, ChainId)> for InChain {
     }
 }
 
+impl Entry<Pool> for InChain {
+    ghost use Rattle.document_entries.specs.Entries.{pool};
+    ghost use Rattle.network_config.specs.Chains.{in_chain};
+    ghost use Rattle.document_forms.specs.declared.fault.Section.TheVariants as sections;
+
+    ghost form = { λ at index value. pool (in_chain at.chain sections.Pools index) value };
+
+    fn read(&self, alloc: Global, index: u32, value: &Value) -> Result<Pool, Stop> {
+        let place = self.at(Section::Pools, index);
+        pool_of(alloc, place, value)
+    }
+}
+
 /// The chain's rates.
 fn rates_field(alloc: Global, list: InChain, value: &Value) -> Result<Listed<Rate>, Stop>
     ensures { Answers result (entries_field (codes "rates") sections.Rates rate list.chain (view value.now)) }
@@ -168,6 +184,14 @@ fn queries_field(
     read_entries(alloc, &list, items)
 }
 
+/// The chain's pools.
+fn pools_field(alloc: Global, list: InChain, value: &Value) -> Result<Listed<Pool>, Stop>
+    ensures { Answers result (entries_field (codes "pools") sections.Pools pool list.chain (view value.now)) }
+{
+    let items = list_field(list.fields(), "pools", value)?;
+    read_entries(alloc, &list, items)
+}
+
 /// The barriers that a chain has where the document doesn't list them: credit, paid, responses.
 pub(crate) fn default_barriers(alloc: Global) -> Result<Listed<Barrier>, AllocError>
     ensures { IfOk result (λ barriers. barriers ≡ default_barriers) }
@@ -191,25 +215,29 @@ fn barriers_field(alloc: Global, list: InChain, value: &Value) -> Result<Listed<
     read_entries(alloc, &list, items)
 }
 
-/// A reader of the entries of chains.
+/// A reader of the entries of chains, by whether the format has calls, locks and pools.
 #[derive(Clone, Copy)]
-pub(crate) struct ChainEntries;
+pub(crate) struct ChainEntries {
+    /// Whether the format has calls, locks and pools.
+    pub(crate) more: bool,
+}
 
 impl Entry<ChainSpec> for ChainEntries {
     ghost use Rattle.network_config.specs.Chains.{chain_entry};
 
-    ghost form = { λ _. chain_entry };
+    ghost form = { λ chains. chain_entry chains.more };
 
     #[tactic(auto, unfolding(crate::specs::Chains::chain_entry))]
     fn read(&self, alloc: Global, index: u32, value: &Value) -> Result<ChainSpec, Stop> {
         let list = InChain { chain: index };
-        let head = own_fields(list.fields(), value)?;
+        let (head, served) = own_fields(list.fields(), self.more, value)?;
         let barriers = barriers_field(alloc, list, value)?;
         let rates = rates_field(alloc, list, value)?;
         let assets = assets_field(alloc, list, value)?;
         let accounts = accounts_field(alloc, list, value)?;
         let pallets = pallets_field(alloc, list, value)?;
         let queries = queries_field(alloc, list, value)?;
+        let pools = pools_field(alloc, list, value)?;
         let fee_account = head.fee_account;
         Ok(ChainSpec {
             chain: head.chain,
@@ -223,6 +251,9 @@ impl Entry<ChainSpec> for ChainEntries {
             accounts,
             pallets,
             queries,
+            calls: served.calls,
+            locks: served.locks,
+            pools,
         })
     }
 }

@@ -139,7 +139,7 @@ pub(crate) fn shapes(alloc: Global, value: &Value) -> Result<NetworkSpec, Stop>
     let chain_items = chains_list(TOP, value)?;
     let channel_items = short_list(TOP, "channels", 256, value)?;
     let fees = fees_field(TOP, value)?;
-    let chains = read_entries(alloc, &ChainEntries, chain_items)?;
+    let chains = read_entries(alloc, &ChainEntries { more: fees }, chain_items)?;
     let channels = read_entries(alloc, &ChannelEntries { fees }, channel_items)?;
     Ok(NetworkSpec {
         network,

@@ -26,6 +26,15 @@ pub(crate) struct ChainHead {
     pub(crate) fee_account: [u8; 32],
 }
 
+/// What a chain serves besides; in format 1 nothing.
+#[derive(Drop)]
+pub(crate) struct Served {
+    /// Whether it serves calls.
+    pub(crate) calls: bool,
+    /// Whether it serves locks.
+    pub(crate) locks: bool,
+}
+
 /// The chain: the relay chain, where there is no number of a parachain.
 fn para_field(place: Place, value: &Value) -> Result<ChainId, Stop>
     ensures { Answers result (para_field place (view value.now)) }

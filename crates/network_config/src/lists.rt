@@ -1,11 +1,11 @@
 //! The lists of a document.
-ghost use Rattle.std.specs.Prelude.{◌≡◌, ◌≤◌, length};
+ghost use Rattle.std.specs.Prelude.{◌≡◌, ◌≤◌, codes, length};
 ghost use Rattle.serde_json.specs.View.{view, items_view};
 ghost use Rattle.document_forms.specs.Answers.{Answers, AnswersAs};
 ghost use Rattle.document_forms.specs.Forms.{list_field, fields};
-ghost use Rattle.network_config.specs.Chains.{short_list, lists, own_fields};
+ghost use Rattle.network_config.specs.Chains.{short_list, lists, chain_fields, truth, flag, own_fields};
 
-use crate::head::{ChainHead, head_of};
+use crate::head::{ChainHead, Served, head_of};
 use document_forms::{NetworkFault, Place, Stop, check_fields, list_of};
 use serde_json::Value;
 
@@ -55,11 +55,33 @@ fn check_lists(place: Place, value: &Value) -> Result<(), Stop>
     Ok(())
 }
 
-/// A chain's own fields, where the shapes of its lists are right too.
-#[tactic(auto, unfolding(crate::specs::Chains::own_fields, document_forms::specs::Forms::fields))]
-pub(crate) fn own_fields(place: Place, value: &Value) -> Result<ChainHead, Stop>
-    ensures { Answers result (own_fields place (view value.now)) }
+/// Refuses a chain with a field that the format doesn't have.
+fn check_chain_fields(place: Place, more: bool, value: &Value) -> Result<(), Stop>
+    ensures { Answers result (fields (chain_fields more) place (view value.now)) }
 {
+    if more {
+        return check_fields(
+            place,
+            &[
+                "para",
+                "unit_weight",
+                "max_weight",
+                "max_instructions",
+                "max_holding",
+                "fee_account",
+                "barriers",
+                "rates",
+                "assets",
+                "accounts",
+                "pallets",
+                "queries",
+                "calls",
+                "locks",
+                "pools",
+            ],
+            value,
+        );
+    }
     check_fields(
         place,
         &[
@@ -77,8 +99,44 @@ pub(crate) fn own_fields(place: Place, value: &Value) -> Result<ChainHead, Stop>
             "queries",
         ],
         value,
-    )?;
+    )
+}
+
+/// True or false.
+#[tactic(auto, unfolding(crate::specs::Chains::truth))]
+fn truth_of(place: Place, value: &Value) -> Result<bool, Stop>
+    ensures { Answers result (truth place (view value.now)) }
+{
+    match value.as_bool() {
+        Some(truth) => Ok(truth),
+        None => Err(Stop::Fault(NetworkFault::WrongKind(place))),
+    }
+}
+
+/// True or false, and false where it isn't there.
+fn flag_field(place: Place, name: &str, value: &Value) -> Result<bool, Stop>
+    ensures { Answers result (flag name.now place (view value.now)) }
+{
+    match value.get(name) {
+        Some(flag) => truth_of(place, flag),
+        None => Ok(false),
+    }
+}
+
+/// A chain's own fields, where the shapes of its lists are right too, and what it serves.
+#[tactic(auto, unfolding(crate::specs::Chains::own_fields, document_forms::specs::Forms::fields))]
+pub(crate) fn own_fields(
+    place: Place,
+    more: bool,
+    value: &Value,
+) -> Result<(ChainHead, Served), Stop>
+    ensures { Answers result (own_fields more place (view value.now)) }
+{
+    check_chain_fields(place, more, value)?;
     let head = head_of(place, value)?;
     check_lists(place, value)?;
-    Ok(head)
+    let calls = flag_field(place, "calls", value)?;
+    let locks = flag_field(place, "locks", value)?;
+    let _ = short_list(place, "pools", 16, value)?;
+    Ok((head, Served { calls, locks }))
 }

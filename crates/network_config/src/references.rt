@@ -7,13 +7,14 @@ ghost use Rattle.locations.specs.Chains.{path_of};
 ghost use Rattle.trust_tables.specs.Trust.{is_row_of};
 ghost use Rattle.chain_ids.specs.Chains.{same_chain};
 ghost use Rattle.network_config.specs.References as spec;
-ghost use Rattle.network_config.specs.References.{is_there, is_other, lists_fungible, names_others, lists_fee, chain_references, chains_references, references};
+ghost use Rattle.network_config.specs.References.{is_there, is_other, lists_fungible, names_others, names_two, same_pair, lists_fee, chain_references, chains_references, references};
 
 use crate::checks::{Check, Flaws, check_each, check_flaws};
 use crate::holdings::check_accounts;
 use crate::queries::check_queries;
 use asset_lists::{Asset, AssetId, Kind};
 use chain_ids::ChainId;
+use chain_pools::Pool;
 use document_forms::{Place, Section, Stop};
 use locations::{Location, NetworkId};
 use message_parts::PalletInfo;
@@ -221,6 +222,50 @@ impl Check<PalletInfo> for PalletCheck {
     }
 }
 
+/// Whether the two pools are of the same two assets, in whichever order.
+fn same_pair(a: &Pool, b: &Pool) -> bool
+    ensures { result ≡ same_pair a.now b.now }
+{
+    (same_location(&a.first, &b.first) && same_location(&a.second, &b.second))
+        || (same_location(&a.first, &b.second) && same_location(&a.second, &b.first))
+}
+
+/// Whether one of the pools has the same two assets.
+fn has_pair(pools: &[Pool], pool: &Pool) -> bool
+    ensures { result ≡ list_any (λ other. same_pair other pool.now) pools.now }
+{
+    pools.iter().any(|other| same_pair(other, pool))
+}
+
+/// Whether the pool's assets are two, both listed as assets that have amounts.
+fn names_two(rows: &[AssetRow], pool: &Pool) -> bool
+    ensures { result ≡ names_two rows.now pool.now }
+{
+    !same_location(&pool.first, &pool.second)
+        && has_fungible(rows, &pool.first)
+        && has_fungible(rows, &pool.second)
+}
+
+/// The pools of a chain with these assets.
+#[derive(Clone, Copy)]
+struct PoolCheck<'a> {
+    assets: &'a [AssetRow],
+}
+
+impl Check<Pool> for PoolCheck<'_> {
+    ghost use Rattle.network_config.specs.References.{pool_flaws};
+
+    ghost flaws = { λ check earlier pool. pool_flaws check.assets.now earlier pool };
+
+    fn flaws_of(&self, earlier: &[Pool], pool: &Pool) -> Flaws {
+        Flaws {
+            repeated: has_pair(earlier, pool),
+            bad: !names_two(self.assets, pool),
+            past: false,
+        }
+    }
+}
+
 /// Whether the sender lists the asset.
 fn sender_lists(chains: &[ChainSpec], from: ChainId, fee: &Asset) -> bool
     ensures { result ≡ list_any (λ c. same_chain c.chain from && list_any (is_row_of fee.now) c.assets) chains.now }
@@ -307,7 +352,10 @@ fn check_chain(
     check_each(&rows, entry, Section::Assets, assets)?;
     check_accounts(alloc, entry, assets, chain.accounts.items())?;
     check_each(&PalletCheck, entry, Section::Pallets, chain.pallets.items())?;
-    check_queries(alloc, entry, chains, here, chain.queries.items())
+    check_queries(alloc, entry, chains, here, chain.queries.items())?;
+    let pools = PoolCheck { assets };
+    check_each(&pools, entry, Section::Pools, chain.pools.items())?;
+    Ok(())
 }
 
 /// Refuses the chains by the first of their entries.

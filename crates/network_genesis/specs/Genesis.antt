@@ -1,5 +1,5 @@
 -- The first world of a network: what its document says of each chain, and nothing that happened. This project's own rule.
-use Rattle.std.specs.Prelude.{ℕ, List, [], ◌∷◌, map, if◌then◌else◌}
+use Rattle.std.specs.Prelude.{ℕ, false, List, [], ◌∷◌, map, if◌then◌else◌}
 use Rattle.amounts.specs.Amounts.{empty, merge}
 use Rattle.message_parts.specs.declared.pallet.PalletInfo.{PalletInfo}
 use Rattle.message_parts.specs.declared.query.OpenQuery.{OpenQuery}
@@ -15,6 +15,7 @@ use Rattle.channel_parts.specs.Channels.{opened}
 use Rattle.weight_trader.specs.declared.rate.Rate.{Rate}
 use Rattle.weight_trader.specs.Purchases.{new_lines}
 use Rattle.coherence.specs.Causes.{ChainEntry}
+use Rattle.asset_locks.specs.LockMaps.{no_locks}
 use Rattle.exec_base.specs.declared.settings.Settings.{Settings}
 use Rattle.exec_base.specs.Part.{ChainPart}
 use Rattle.exec_admission.specs.declared.rules.ChainRules.{ChainRules}
@@ -40,6 +41,7 @@ fresh settings rates queries channels = record {
   parked = [];
   burns = empty;
   checking = map row_checking settings.rows;
+  locked = no_locks;
   queries = queries;
   channels = map opened channels;
   cargo = record { sender = settings.site.chain; cargo = Cargo.Nothing };
@@ -52,7 +54,7 @@ site_of spec c = record { network = spec.network; chain = c.chain }
 
 -- what the document says of a chain
 abbrev pub settings_of : NetworkSpec → ChainSpec → Settings
-settings_of spec c = record { site = site_of spec c; rows = c.assets; pallets = c.pallets; fee_account = c.fee_account }
+settings_of spec c = record { site = site_of spec c; rows = c.assets; pallets = c.pallets; fee_account = c.fee_account; calls = c.calls; locks = c.locks; pools = c.pools }
 
 -- an open query, by how the chain names the one that may answer it
 abbrev pub query_of : ChainId → ℕ × ChainId → OpenQuery

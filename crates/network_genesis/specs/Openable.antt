@@ -9,6 +9,7 @@ use Rattle.trust_tables.specs.Accounts.{IsChain}
 use Rattle.trust_tables.specs.Chains.{path_of_site}
 use Rattle.trust_tables.specs.Trust.{listing}
 use Rattle.weight_trader.specs.Purchases.{NameEachOnce, new_lines}
+use Rattle.chain_pools.specs.Spending.{ArePoolsListed}
 use Rattle.coherence.specs.UniversalAssets.{UniversalAsset, every}
 use Rattle.coherence.specs.Causes.{ChainEntry, amount_at}
 use Rattle.network_spec.specs.declared.chain.ChainSpec.{ChainSpec}
@@ -19,7 +20,8 @@ use Rattle.network_genesis.specs.Tests.{have_paths, may_have_checkings, have_low
 use Rattle.network_genesis.specs.Genesis.{entries_of}
 
 -- a chain: its rows list each asset once, under ids that have a path; an execution may hold all that one list names; a rate's asset is
--- listed and has one rate; balances are of listed assets, above 0 and below 2^127, each account with each asset once and each instance once
+-- listed and has one rate; balances are of listed assets, above 0 and below 2^127, each account with each asset once and each instance once;
+-- both assets of a pool are listed
 pub record IsOpenableChain (network : NetworkId) (c : ChainSpec) : Type 0 where
   pub named : IsChain c.chain
   pub listed_once : IsDistinct (eq_by_cmp listed_cmp) (listing c.assets)
@@ -30,6 +32,8 @@ pub record IsOpenableChain (network : NetworkId) (c : ChainSpec) : Type 0 where
   pub priced_once : NameEachOnce c.rates
   pub rates : IsTrue (are_rates_listed (listing c.assets) (new_lines c.rates))
   pub few_pallets : length c.pallets ≤ 64
+  pub few_pools : length c.pools ≤ 16
+  pub pools : ArePoolsListed (listing c.assets) c.pools
   pub balances : IsTrue (list_all (is_balance c.assets) c.accounts)
   -- checking accounts begin below 2^127 too
   pub low_checkings : IsTrue (have_low_checkings c.assets)

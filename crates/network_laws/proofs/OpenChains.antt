@@ -30,13 +30,15 @@ use Rattle.trust_tables.specs.Accounts.{IsChain}
 use Rattle.trust_tables.specs.Chains.{path_of_site}
 use Rattle.trust_tables.specs.Trust.{is_row_of, listed_row, listing}
 use Rattle.trust_tables.specs.TrustLaws.{row_listed}
+use Rattle.chain_pools.specs.declared.pool.Pool.{Pool}
+use Rattle.chain_pools.specs.Spending.{ArePoolsListed}
 use Rattle.weight_trader.specs.declared.rate.Rate.{Rate}
 use Rattle.weight_trader.specs.Purchases.{is_in, new_lines}
 use Rattle.network_spec.specs.declared.chain.Balance.{Balance}
 use Rattle.network_spec.specs.declared.chain.ChainSpec.{ChainSpec}
 use Rattle.network_spec.specs.Networks.{same_holding}
 use Rattle.document_entries.specs.Entries.{amount_limit}
-use Rattle.network_config.specs.References.{same_location, lists_fungible, names_others, rate_flaws, asset_flaws, account_flaws}
+use Rattle.network_config.specs.References.{same_location, lists_fungible, names_others, rate_flaws, asset_flaws, account_flaws, same_pair, names_two, pool_flaws}
 use Rattle.network_config.specs.Valid.{is_within, fits_role, fits_fun, fits_asset, fits_lists, fits_entries, fits_rules, fits_chain}
 use Rattle.network_genesis.specs.Tests.{have_paths, role_checking, may_check, may_have_checkings, is_low, have_low_checkings, are_rates_listed, past_amounts, is_balance}
 use Rattle.network_genesis.specs.Openable.{IsOpenableChain}
@@ -172,12 +174,22 @@ are_balances rows (b ∷ bs) h f =
     let parts = and_parts _ _ f in
     and_from _ _ (and_from _ _ (not-false _ h.0.0) (an_amount b.asset.fun (and_parts _ _ parts.0).1)) (are_balances rows bs h.1 parts.1)
 
+-- ---- pools
+
+pools_listed : (rows : List AssetRow) (pools : List Pool) → AllByRecursion (λ (pool : Pool). (not (names_two rows pool) ≡ false) × (false ≡ false)) pools
+    → ArePoolsListed (listing rows) pools
+pools_listed rows [] h = tt
+pools_listed rows (pool ∷ pools) h =
+    let two = and_parts _ _ (and_parts _ _ (not-false _ h.0.0)).1 in
+    ((coin_listed pool.first rows two.0, coin_listed pool.second rows two.1), pools_listed rows pools h.1)
+
 -- ---- a chain
 
 pub record IsSoundChain (chains : List ChainSpec) (network : NetworkId) (c : ChainSpec) : Type 0 where
   pub rates : all_sound (rate_flaws c.assets) [] c.rates ≡ true
   pub assets : all_sound (asset_flaws chains network c.chain) [] c.assets ≡ true
   pub accounts : all_sound (account_flaws c.assets) [] c.accounts ≡ true
+  pub pools : all_sound (pool_flaws c.assets) [] c.pools ≡ true
 
 pub sound_parts : (chains : List ChainSpec) (network : NetworkId) (c : ChainSpec) → chain_sound chains network c ≡ true → IsSoundChain chains network c
 unfolding chain_sound
@@ -185,7 +197,9 @@ sound_parts chains network c h =
     let rates = and_parts _ _ h in
     let assets = and_parts _ _ rates.1 in
     let accounts = and_parts _ _ assets.1 in
-    record { rates = rates.0; assets = assets.0; accounts = accounts.0 }
+    let pallets = and_parts _ _ accounts.1 in
+    let queries = and_parts _ _ pallets.1 in
+    record { rates = rates.0; assets = assets.0; accounts = accounts.0; pools = queries.1 }
 
 abbrev context_at : NetworkId → ChainSpec → List Junction
 context_at network c = path_of_site (record { network = network; chain = c.chain })
@@ -201,7 +215,8 @@ chain_opens chains network c named fits h =
     let fitting = and_parts (fits_rules c) (fits_lists c && fits_entries c) fits in
     let held_most = and_parts (nat_le 20 c.max_holding) _ (and_parts (is_within 1 100 c.rules.max_instructions) (is_within 20 64 c.max_holding) fitting.0).1 in
     let lists_and_entries = and_parts (fits_lists c) (fits_entries c) fitting.1 in
-    let few = and_parts (nat_le (length c.assets) 128) (nat_le (length c.pallets) 64) lists_and_entries.0 in
+    let few = and_parts (nat_le (length c.assets) 128) (nat_le (length c.pallets) 64 && nat_le (length c.pools) 16) lists_and_entries.0 in
+    let few_others = and_parts (nat_le (length c.pallets) 64) (nat_le (length c.pools) 16) few.1 in
     let entries = and_parts _ _ lists_and_entries.1 in
     let roles = and_parts _ _ entries.1 in
     let held = and_parts _ _ roles.1 in
@@ -214,7 +229,9 @@ chain_opens chains network c named fits h =
       room = leb-true 20 c.max_holding held_most.0;
       priced_once = named_once c.rates (apart same_rate (λ (rate : Rate). not (list_any (lists_fungible rate.asset) c.assets)) (λ rate. false) [] c.rates sound.rates);
       rates = rates_listed c.assets c.rates (alone same_rate (λ (rate : Rate). not (list_any (lists_fungible rate.asset) c.assets)) (λ rate. false) [] c.rates sound.rates);
-      few_pallets = leb-true (length c.pallets) 64 few.1;
+      few_pallets = leb-true (length c.pallets) 64 few_others.0;
+      few_pools = leb-true (length c.pools) 16 few_others.1;
+      pools = pools_listed c.assets c.pools (alone same_pair (λ (pool : Pool). not (names_two c.assets pool)) (λ pool. false) [] c.pools sound.pools);
       balances = are_balances c.assets c.accounts (alone same_holding (λ (b : Balance). not (list_any (is_row_of b.asset) c.assets)) (λ b. false) [] c.accounts sound.accounts) held.0;
       low_checkings = all_low c.assets roles.0;
       held_once = apart same_holding (λ (b : Balance). not (list_any (is_row_of b.asset) c.assets)) (λ b. false) [] c.accounts sound.accounts;

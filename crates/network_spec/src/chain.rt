@@ -2,6 +2,7 @@
 use asset_lists::Asset;
 use barriers::Barrier;
 use chain_ids::ChainId;
+use chain_pools::Pool;
 use message_parts::{PalletInfo, Weight};
 use plain_lists::Listed;
 use trust_tables::AssetRow;
@@ -42,4 +43,10 @@ pub struct ChainSpec {
     pub pallets: Listed<PalletInfo>,
     /// The queries that are open: each its number, and the chain that may answer it.
     pub queries: Listed<(u64, ChainId)>,
+    /// Whether it serves calls.
+    pub calls: bool,
+    /// Whether it serves locks.
+    pub locks: bool,
+    /// The pools that it exchanges assets with.
+    pub pools: Listed<Pool>,
 }

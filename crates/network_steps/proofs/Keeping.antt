@@ -21,9 +21,11 @@ use Rattle.exec_base.specs.Sending.{channel_refusal}
 use Rattle.exec_base.specs.Host.{told}
 use Rattle.exec_admission.specs.declared.rules.ChainRules.{ChainRules}
 use Rattle.network_steps.specs.declared.step_result.StepResult.{StepResult}
-use Rattle.network_steps.specs.Worlds.{Member, chain_of, World, place_of, with_part, unchanged}
+use Rattle.network_steps.specs.Worlds.{Member, chain_of, World, place_of, with_part, unchanged, Stepped}
 use Rattle.network_steps.specs.Acting.{begun, Acted, acted, caller}
-use Rattle.network_steps.specs.Steps.{is_sovereign, exec_by, exec_at, exec, name_at, run_for, sender_after, receiver_after, delivered, delivery_of, deliver, is_claim, posted, posting, claim_by, claim_on, claim}
+use Rattle.network_steps.specs.Steps.{is_sovereign, exec_read, exec_by, exec_at, exec, name_at, run_for, sender_after, receiver_after, delivered, delivery_of, deliver, is_claim, posted, posting, claim_by, claim_on, claim}
+use Rattle.network_steps.specs.CallerLaws.{by_caller}
+use Rattle.chain_pools.specs.Exchanges.{is_pool_account}
 use Rattle.network_steps.specs.Fixed.{Fixed, fixed_of, all_settings}
 use Rattle.network_steps.proofs.Stillness.{between_says}
 use Rattle.network_steps.specs.FixedLaws.{channels_kept, executed_fixed}
@@ -66,11 +68,14 @@ acted_fixed : (rules : ChainRules) (origin : Location) (credit : Weight) (progra
 acted_fixed rules origin credit program p = executed_fixed rules origin credit program p
 
 -- ---- local executions
-exec_by_same : (w : World) (place : ℕ) (m : Member) (account : List ℕ) (read : Result (List Instruction) MessageFault) → slice_get w place ≡ Some m → all_settings (exec_by w place m account read).world ≡ all_settings w
-exec_by_same w place m account (Err fault) at = refl
-exec_by_same w place m account (Ok program) at =
+exec_read_same : (w : World) (place : ℕ) (m : Member) (account : List ℕ) (read : Result (List Instruction) MessageFault) → slice_get w place ≡ Some m → all_settings (exec_read w place m account read).world ≡ all_settings w
+exec_read_same w place m account (Err fault) at = refl
+exec_read_same w place m account (Ok program) at =
     part_same w place m (acted m.rules (caller account) m.rules.limit program (begun (chain_of m) Nothing m.part)).part (said_at w place m at)
     (acted_fixed m.rules (caller account) m.rules.limit program (begun (chain_of m) Nothing m.part))
+
+exec_by_same : (w : World) (place : ℕ) (m : Member) (account : List ℕ) (read : Result (List Instruction) MessageFault) → slice_get w place ≡ Some m → all_settings (exec_by w place m account read).world ≡ all_settings w
+exec_by_same w place m account read at = by_caller (λ (s : Stepped). all_settings s.world ≡ all_settings w) w (is_pool_account m.part.pools account) (exec_read w place m account read) refl (exec_read_same w place m account read at)
 
 allowed_same : (w : World) (place : ℕ) (account bytes : List ℕ) (sovereign : Bool)
     → all_settings (if sovereign then unchanged StepResult.SovereignCaller w else option_map_or (λ (m : Member). exec_by w place m account (message_of bytes)) (slice_get w place) (unchanged StepResult.NoSuchChain w)).world ≡ all_settings w

@@ -1,4 +1,2 @@
 pub mod Stillness
-pub mod Sends
-pub mod Drains
 pub mod Keeping

@@ -12,7 +12,9 @@ use Rattle.chain_queues.specs.Queues.{channel_to, oldest}
 use Rattle.exec_base.specs.Sending.{channel_refusal}
 use Rattle.network_steps.specs.declared.step_result.StepResult.{StepResult}
 use Rattle.network_steps.specs.Worlds.{Member, chain_of, World, place_of, Stepped, unchanged}
-use Rattle.network_steps.specs.Steps.{is_sovereign, exec_by, exec_at, exec, delivered, delivery_of, between, deliver, is_claim, posting, claim_by, claim_on, claim}
+use Rattle.network_steps.specs.Steps.{is_sovereign, exec_read, exec_by, exec_at, exec, delivered, delivery_of, between, deliver, is_claim, posting, claim_by, claim_on, claim}
+use Rattle.network_steps.specs.CallerLaws.{by_caller}
+use Rattle.chain_pools.specs.Exchanges.{is_pool_account}
 use Rattle.network_steps.specs.Still.{IsStill}
 
 -- ---- tools
@@ -63,14 +65,21 @@ same_place : (o : Option ℕ) (i j : ℕ) → o ≡ Some i → o ≡ Some j → 
 same_place o i j h k = let e : Some i ≡ Some j = sym h ∙ k in cc
 
 -- ---- local executions
+exec_read_still : (w : World) (place : ℕ) (m : Member) (account : List ℕ) (read : Result (List Instruction) MessageFault) → IsStill (exec_read w place m account read) w
+exec_read_still w place m account (Err fault) = (refl, refl)
+exec_read_still w place m account (Ok program) = tt
+
 exec_by_still : (w : World) (place : ℕ) (m : Member) (account : List ℕ) (read : Result (List Instruction) MessageFault) → IsStill (exec_by w place m account read) w
-exec_by_still w place m account (Err fault) = (refl, refl)
-exec_by_still w place m account (Ok program) = tt
+exec_by_still w place m account read = by_caller (λ (s : Stepped). IsStill s w) w (is_pool_account m.part.pools account) (exec_read w place m account read) (refl, refl) (exec_read_still w place m account read)
+
+exec_read_kept : (w : World) (place k : ℕ) (m : Member) (account : List ℕ) (read : Result (List Instruction) MessageFault) → (k ≡ place → ⊥)
+    → slice_get (exec_read w place m account read).world k ≡ slice_get w k
+exec_read_kept w place k m account (Err fault) apart = refl
+exec_read_kept w place k m account (Ok program) apart = set_other w place k _ apart
 
 exec_by_kept : (w : World) (place k : ℕ) (m : Member) (account : List ℕ) (read : Result (List Instruction) MessageFault) → (k ≡ place → ⊥)
     → slice_get (exec_by w place m account read).world k ≡ slice_get w k
-exec_by_kept w place k m account (Err fault) apart = refl
-exec_by_kept w place k m account (Ok program) apart = set_other w place k _ apart
+exec_by_kept w place k m account read apart = by_caller (λ (s : Stepped). slice_get s.world k ≡ slice_get w k) w (is_pool_account m.part.pools account) (exec_read w place m account read) refl (exec_read_kept w place k m account read apart)
 
 allowed_still : (w : World) (place : ℕ) (account bytes : List ℕ) (sovereign : Bool)
     → IsStill (if sovereign then unchanged StepResult.SovereignCaller w else option_map_or (λ (m : Member). exec_by w place m account (message_of bytes)) (slice_get w place) (unchanged StepResult.NoSuchChain w)) w

@@ -6,3 +6,4 @@ pub mod Still
 pub mod Drains
 pub mod Fixed
 pub mod FixedLaws
+pub mod CallerLaws

@@ -17,6 +17,7 @@ use Rattle.versioned_xcm.specs.Reading.{message_of}
 use Rattle.channel_parts.specs.declared.cargo.Cargo.TheVariants.{Nothing}
 use Rattle.channel_parts.specs.Channels.{Waiting, Outgoing}
 use Rattle.chain_queues.specs.Queues.{channel_to, oldest, pushed, popped}
+use Rattle.chain_pools.specs.Exchanges.{is_pool_account}
 use Rattle.exec_base.specs.declared.event.Event.{Event}
 use Rattle.exec_base.specs.Part.{ChainPart}
 use Rattle.exec_base.specs.Sending.{channel_refusal}
@@ -44,9 +45,15 @@ ran_locally w place m account program =
     let a = acted m.rules (caller account) m.rules.limit program (begun (chain_of m) Nothing m.part) in
     record { answer = StepResult.Ran a.outcome; trace = a.part.events; world = slice_set w place (with_part a.part m) }
 
+abbrev pub exec_read : World → ℕ → Member → List ℕ → Result (List Instruction) MessageFault → Stepped
+exec_read w place m account (Err fault) = unchanged (StepResult.Message fault) w
+exec_read w place m account (Ok program) = ran_locally w place m account program
+
+-- not for the account of one of the chain's pools
 abbrev pub exec_by : World → ℕ → Member → List ℕ → Result (List Instruction) MessageFault → Stepped
-exec_by w place m account (Err fault) = unchanged (StepResult.Message fault) w
-exec_by w place m account (Ok program) = ran_locally w place m account program
+exec_by w place m account read =
+    if is_pool_account m.part.pools account then unchanged StepResult.SovereignCaller w
+    else exec_read w place m account read
 
 abbrev pub exec_at : World → Option ℕ → List ℕ → List ℕ → Stepped
 exec_at w None account bytes = unchanged StepResult.NoSuchChain w

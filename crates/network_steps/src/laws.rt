@@ -1,18 +1,14 @@
 //! What holds of every step: laws, as the contracts of functions that do nothing.
-ghost use Rattle.std.specs.Prelude.{◌≡◌, ◌≤◌, ◌+◌, ℕ, List, Some, None, Ok, length, slice_get};
+ghost use Rattle.std.specs.Prelude.{◌≡◌, ℕ, List, Some, Ok, slice_get};
 ghost use Rattle.chain_ids.specs.declared.chain.ChainId.{ChainId};
-ghost use Rattle.channel_parts.specs.Channels.{Waiting};
 ghost use Rattle.exec_base.specs.Sending.{IsForwardable};
 ghost use Rattle.versioned_xcm.specs.Reading.{message_of};
 ghost use Rattle.xcm_program.specs.declared.instruction.Instruction.{Instruction};
 ghost use Rattle.network_steps.specs.Worlds.{World, place_of};
-ghost use Rattle.network_steps.specs.Sends.{deliveries_left};
-ghost use Rattle.network_steps.specs.Steps.{exec, deliver, claim, Link, waiting, next_channel, drain, world_behind};
+ghost use Rattle.network_steps.specs.Steps.{exec, deliver, claim};
 ghost use Rattle.network_steps.specs.Fixed.{all_settings};
 ghost use Rattle.network_steps.specs.Still.{IsStill};
-ghost use Rattle.network_steps.specs.Drains.{AreApart};
 
-use exec_calls::law_of_rules;
 use program_wire::law_of_writable;
 use versioned_xcm::law_of_messages;
 
@@ -37,17 +33,6 @@ pub fn law_of_steps()
     ensures claim_elsewhere { (w : World) (from to : ChainId) (bytes : List ℕ) (i k : ℕ)
         → place_of w from ≡ Some i → (k ≡ i → ⊥) → slice_get (claim w from to bytes).world k ≡ slice_get w k }
 {}
-
-/// A delivery lowers the sum, over all messages that wait, of 1 and the messages that their programs may send. So a drain makes at most so
-/// many deliveries, and then no message waits, where no channel leads from a chain to itself.
-pub fn law_of_drains()
-    ensures lowers { (w : World) (from to : ChainId) (x : Waiting) → (from ≡ to → ⊥) → waiting w from to ≡ Some x
-        → 1 + deliveries_left (deliver w from to).world ≤ deliveries_left w }
-    ensures few { (order : List Link) (w : World) → length (drain order w) ≤ deliveries_left w }
-    ensures ends { (order : List Link) (w : World) → AreApart order → next_channel order (world_behind w (drain order w)) ≡ None }
-{
-    law_of_rules();
-}
 
 /// No step changes what the network document says: how each chain runs programs, where it stands, what it lists, its pallets, its fee
 /// account, and its channels.

@@ -4,5 +4,5 @@
 mod laws;
 mod step_result;
 
-pub use laws::{law_of_decoded_programs, law_of_drains, law_of_settings, law_of_steps};
+pub use laws::{law_of_decoded_programs, law_of_settings, law_of_steps};
 pub use step_result::StepResult;

@@ -4,9 +4,10 @@ ghost use Rattle.std.specs.List.{list_all};
 ghost use Rattle.std.specs.Str.{is_utf8};
 ghost use Rattle.document_entries.specs.Entries.{rate_limit, amount_limit};
 ghost use Rattle.network_config.specs.Valid as valid;
-ghost use Rattle.network_config.specs.Valid.{fits_rate, fits_role, fits_fun, fits_asset, fits_pallet, fits_lists, fits_rules, fits_entries, fits_chain, fits_fee, fits_channel};
+ghost use Rattle.network_config.specs.Valid.{fits_rate, fits_role, fits_fun, fits_asset, fits_pallet, fits_pool, fits_lists, fits_rules, fits_entries, fits_chain, fits_fee, fits_channel};
 
 use asset_lists::{Asset, AssetId, Fun, Kind};
+use chain_pools::Pool;
 use message_parts::PalletInfo;
 use network_spec::{Balance, ChainSpec, ChannelSpec};
 use std::str;
@@ -113,13 +114,25 @@ fn fit_pallets(pallets: &[PalletInfo]) -> bool
 fn fits_lists(c: &ChainSpec) -> bool
     ensures { result ≡ fits_lists c.now }
 {
-    c.assets.items().len() <= 128 && c.pallets.items().len() <= 64
+    c.assets.items().len() <= 128 && c.pallets.items().len() <= 64 && c.pools.items().len() <= 16
 }
 
 fn is_within(low: u32, high: u32, number: u32) -> bool
     ensures { result ≡ valid.is_within low high number }
 {
     low <= number && number <= high
+}
+
+fn fits_pool(pool: &Pool) -> bool
+    ensures { result ≡ fits_pool pool.now }
+{
+    is_within(0, 999, pool.fee)
+}
+
+fn fit_pools(pools: &[Pool]) -> bool
+    ensures { result ≡ list_all fits_pool pools.now }
+{
+    pools.iter().all(fits_pool)
 }
 
 fn fits_rules(c: &ChainSpec) -> bool
@@ -135,6 +148,7 @@ fn fits_entries(c: &ChainSpec) -> bool
         && fit_rows(c.assets.items())
         && fit_accounts(c.accounts.items())
         && fit_pallets(c.pallets.items())
+        && fit_pools(c.pools.items())
 }
 
 fn fits_chain(c: &ChainSpec) -> bool

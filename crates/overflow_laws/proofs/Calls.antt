@@ -27,7 +27,7 @@ use Rattle.weight_trader.specs.Purchases.{Line, coin_of, paid_goods, is_covered,
 use Rattle.weight_trader.specs.Prices.{price}
 use Rattle.exec_base.specs.declared.event.Event.{Event}
 use Rattle.exec_base.specs.Part.{ChainPart, book_of}
-use Rattle.exec_base.specs.Host.{withdrawn, received, is_query, answered, bought, above, booked, burned_lines, joined, burnt, is_trap, claimed, all_fees, fees_above, settled_burns, settled, told}
+use Rattle.exec_base.specs.Host.{asset_unlocked, asset_noted, withdrawn, received, is_query, answered, bought, above, booked, burned_lines, joined, burnt, is_trap, claimed, all_fees, fees_above, settled_burns, settled, told}
 use Rattle.conserved_runs.specs.Sums.{in_kept, in_places}
 use Rattle.overflow_laws.proofs.Fitting.{just_unit}
 
@@ -211,6 +211,14 @@ withdrawn_burns p list who = refl
 pub received_burns : (p : ChainPart) (list : List Asset) (teleport : Bool) → (received p list teleport).burns ≡ p.burns
 unfolding received
 received_burns p list teleport = refl
+
+pub unlocked_burns : (p : ChainPart) (a : Asset) (target from : Location) → (asset_unlocked p a target from).burns ≡ p.burns
+unfolding asset_unlocked
+unlocked_burns p a target from = refl
+
+pub noted_burns : (p : ChainPart) (a : Asset) (owner from : Location) → (asset_noted p a owner from).burns ≡ p.burns
+unfolding asset_noted
+noted_burns p a owner from = refl
 
 answered_at : (p : ChainPart) (query : ℕ) (o : Option ℕ)
     → (option_map_or (λ (place : ℕ). record p { queries = remove p.queries place; kept_back = p.kept_back ++ Event.Answered query ∷ [] }) o (record p { kept_back = p.kept_back ++ Event.Ignored query ∷ [] })).burns ≡ p.burns

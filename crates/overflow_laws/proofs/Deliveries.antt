@@ -39,7 +39,7 @@ use Rattle.exec_base.specs.declared.event.Part.TheVariants as parts
 use Rattle.exec_base.specs.declared.registers.Registers.{Registers}
 use Rattle.exec_base.specs.Part.{ChainPart, book_of}
 use Rattle.exec_base.specs.Sending.{led_by, away_program}
-use Rattle.exec_base.specs.Host.{received, withdrawn, claimed, answered, joined, booked, receive_refusal, told}
+use Rattle.exec_base.specs.Host.{asset_unlocked, asset_noted, received, withdrawn, claimed, answered, joined, booked, receive_refusal, told}
 use Rattle.exec_run.specs.Machine.{Machine, machine}
 use Rattle.exec_run.specs.Run.{Stage, next, run, still_to_run, machine_of, without_appendix, handler_dropped}
 use Rattle.exec_run.specs.Accounts.{IsBalanced}
@@ -54,7 +54,7 @@ use Rattle.network_steps.specs.Worlds as networks
 use Rattle.network_steps.specs.Worlds.{Member, chain_of}
 use Rattle.network_steps.specs.Acting.{begun}
 use Rattle.network_steps.specs.Steps.{name_at}
-use Rattle.message_shapes.specs.Shapes.{IsLedBy, IsAnswer, IsLedByClaim, IsShape, IsShaped, AreShapedIn, AreShapedAt}
+use Rattle.message_shapes.specs.Shapes.{stands_alone, IsLedBy, IsAlone, IsLedByClaim, IsShape, IsShaped, AreShapedIn, AreShapedAt}
 use Rattle.coherence.specs.UniversalAssets.{UniversalAsset, just}
 use Rattle.coherence.specs.Networks.{IsIn, Agrees}
 use Rattle.conservation.specs.Parts.{World, population}
@@ -62,7 +62,7 @@ use Rattle.conservation.specs.Steps.{tables_of, table_at}
 use Rattle.conservation.specs.Headline.{IsKept}
 use Rattle.conserved_runs.specs.Views.{table_of, seen, view}
 use Rattle.conserved_runs.specs.Sums.{in_kept, in_places, burned_where, Sum, none, nobody, only, Call, HasRoom}
-use Rattle.conserved_runs.specs.Calls.{call_with, withdrawing, claiming, answering}
+use Rattle.conserved_runs.specs.Calls.{call_with, withdrawing, claiming, answering, unlocking, noting}
 use Rattle.conserved_runs.specs.Safety.{HasList, AreLists, HasFee, IsRunnable, links_of, hold, same_table}
 use Rattle.conserved_runs.specs.Shipping.{HasList-IsOfLayer}
 use Rattle.conserved_runs.specs.Turns.{more_call}
@@ -80,7 +80,7 @@ use Rattle.conserved_steps.specs.Worlds.{IsReached, arrives, while_delivered, St
 use Rattle.conserved_steps.specs.Stepping.{ShapeLaws, seen_at, own_room, kept_by, delivered_inside}
 use Rattle.overflow_laws.proofs.Fitting.{just_unit, FitsBundle, kept_fits, kept_room, kept_held, fits_all}
 use Rattle.overflow_laws.proofs.Standing.{view_delivered, arriving_fits}
-use Rattle.overflow_laws.proofs.Calls.{BurnsNoExcess, FitTogether, same_burns, no_excess_then, joined_no_excess, withdrawn_burns, claimed_burns, received_burns, answered_burns}
+use Rattle.overflow_laws.proofs.Calls.{unlocked_burns, noted_burns, BurnsNoExcess, FitTogether, same_burns, no_excess_then, joined_no_excess, withdrawn_burns, claimed_burns, received_burns, answered_burns}
 use Rattle.overflow_laws.proofs.Instructions.{more_no_excess}
 use Rattle.overflow_laws.proofs.Firsts.{refused_stands, alone_stands, led_stands}
 use Rattle.overflow_laws.proofs.Stages.{StandsWell, StandsAll, end_no_excess, abandoned_in_no_excess}
@@ -181,7 +181,7 @@ module _ (laws : LawsBelow) (shapes : ShapeLaws) (decodes : Decodes) (first : Wo
   -- ---- the receiver as it begins
   rest0 : IsAtRest (arrives s r x)
   unfolding told
-  rest0 = let s = sound_r.rest in record { order = record { traps = s.order.traps; rates = s.order.rates; paid = s.order.paid; unparked = s.order.unparked }; slot = s.slot }
+  rest0 = let s = sound_r.rest in record { order = record { traps = s.order.traps; rates = s.order.rates; paid = s.order.paid; pools = s.order.pools; unparked = s.order.unparked }; slot = s.slot }
 
   listed0 : AllListed none (arrives s r x)
   unfolding told in_kept
@@ -345,19 +345,35 @@ module _ (laws : LawsBelow) (shapes : ShapeLaws) (decodes : Decodes) (first : Wo
       led_end a ok l behind is way (ap (λ (z : Machine). z.part.site) does ∙ received_site p0 new teleport goods) (ap (λ (z : Machine). z.part.rows) does ∙ rows) (ap (λ (z : Machine). z.part.channels) does ∙ received_channels p0 new teleport goods)
       (subst (λ (z : Machine). AllListed (hold z) z.part) (sym does) listed) (subst (λ (z : Machine). BurnsNoExcess p0 z.part) (sym does) no_excess)
 
-  -- ---- an answer
-  answer_end : (a : Admitted) → Admits a → (query : ℕ) (answer : Response) (weight : Weight) (querier : Option Location) → a.program ≡ roll-Instruction (Instruction-F.QueryResponse query answer weight querier) ∷ [] → StandsThroughout a
-  answer_end a ok query answer weight querier is =
+  -- ---- an answer, or of a lock
+  alone_call : (l : Instruction-F Instruction) → stands_alone l ≡ true → Call nobody (hold m0) (hold (done l m0)) p0 (done l m0).part
+  alone_call (Instruction-F.QueryResponse query answer weight querier) kind = call_with nobody none none (hold m0) (hold m0) p0 (answered p0 origin query) (answering p0 origin query) (λ t. omega arith)
+  alone_call (Instruction-F.NoteUnlockable asset owner) kind = call_with nobody none none (hold m0) (hold m0) p0 (asset_noted p0 asset owner origin) (noting p0 asset owner origin) (λ t. omega arith)
+  alone_call (Instruction-F.UnlockAsset asset target) kind = call_with nobody none none (hold m0) (hold m0) p0 (asset_unlocked p0 asset target origin) (unlocking p0 asset target origin) (λ t. omega arith)
+  alone_call _ kind = absurd cc
+
+  alone_burns : (l : Instruction-F Instruction) → stands_alone l ≡ true → (done l m0).part.burns ≡ p0.burns
+  alone_burns (Instruction-F.QueryResponse query answer weight querier) kind = answered_burns p0 origin query
+  alone_burns (Instruction-F.NoteUnlockable asset owner) kind = noted_burns p0 asset owner origin
+  alone_burns (Instruction-F.UnlockAsset asset target) kind = unlocked_burns p0 asset target origin
+  alone_burns _ kind = absurd cc
+
+  alone_appendix : (l : Instruction-F Instruction) → stands_alone l ≡ true → (done l m0).regs.appendix ≡ []
+  alone_appendix (Instruction-F.QueryResponse query answer weight querier) kind = refl
+  alone_appendix (Instruction-F.NoteUnlockable asset owner) kind = refl
+  alone_appendix (Instruction-F.UnlockAsset asset target) kind = refl
+  alone_appendix _ kind = absurd cc
+
+  alone_end : (a : Admitted) → Admits a → (l : Instruction-F Instruction) → stands_alone l ≡ true → a.program ≡ roll-Instruction l ∷ [] → refused l m0 ≡ None → StandsThroughout a
+  alone_end a ok l kind is free =
       let n = tables_of (views w) in
-      let l = Instruction-F.QueryResponse query answer weight querier in
       let x1 = roll-Instruction l in
       let k = done l m0 in
       let d = xcm.done x1 m0 in
       let same = done_same l in
-      let way = accepted_way l refl in
-      let no_appendix : d.regs.appendix ≡ [] = ap (λ (z : Machine). z.regs.appendix) same in
-      let call : Call nobody (hold m0) (hold k) p0 k.part = call_with nobody none none (hold m0) (hold m0) p0 (answered p0 origin query) (answering p0 origin query) (λ t. omega arith) in
-      let listed = all_listed nobody (hold m0) k call (nothing_listed p0 listed0 empty refl) in
+      let way = accepted_way l free in
+      let no_appendix : d.regs.appendix ≡ [] = ap (λ (z : Machine). z.regs.appendix) same ∙ alone_appendix l kind in
+      let listed = all_listed nobody (hold m0) k (alone_call l kind) (nothing_listed p0 listed0 empty refl) in
       let looks : view (machine_of (stage1 a)) ≡ view k =
       ap (λ (g : Stage). view (machine_of g)) (alone_next laws n agrees r.rules origin p0 a (balanced a ok) x1 is way no_appendix)
       ∙ told_view d (Event.Ran parts.Program 0 (index (out-Instruction x1)) None) (without_appendix (handler_dropped d.regs)) refl ∙ ap view same in
@@ -366,7 +382,7 @@ module _ (laws : LawsBelow) (shapes : ShapeLaws) (decodes : Decodes) (first : Wo
         fits = fits1 a ok k looks listed;
         steady = subst IsSteady same (laws.stays x1 m0 steady0 way);
         room = room1 a ok k looks listed;
-        no_excess = same_burns p0 k.part (answered_burns p0 origin query);
+        no_excess = same_burns p0 k.part (alone_burns l kind);
       }))
 
   -- ---- by its shape
@@ -388,7 +404,7 @@ module _ (laws : LawsBelow) (shapes : ShapeLaws) (decodes : Decodes) (first : Wo
       (λ way. list_end a ok (Instruction-F.ReserveAssetDeposited l.list) l.behind l.is way false l.list refl (unless_next (has_room m0 (length l.list)) _ _ way) (arrived_rises _ _ list l.list l.named))
   by_cargo a ok (cargos.Away shipment) l = by_way a ok (held_assets shipment.units) shipment.way l
   by_cargo a ok cargos.Nothing l = ⊎_elim
-      (λ (answer : IsAnswer a.program). answer_end a ok answer.query answer.answer answer.weight answer.querier answer.is)
+      (λ (alone : IsAlone a.program). by_first a ok alone.what [] alone.is (λ way. alone_end a ok alone.what alone.kind alone.is way))
       (λ (claim : IsLedByClaim a.program). by_first a ok (Instruction-F.ClaimAsset claim.list claim.ticket) (second ∷ claim.behind) claim.is (λ way. claim_end a ok claim.list claim.ticket claim.behind claim.is way)) l
 
   -- wherever its run stands

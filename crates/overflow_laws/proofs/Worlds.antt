@@ -29,9 +29,11 @@ use Rattle.network_spec.specs.declared.chain.ChainSpec.{ChainSpec}
 use Rattle.network_spec.specs.declared.network.NetworkSpec.{NetworkSpec}
 use Rattle.network_genesis.specs.Genesis.{member_of}
 use Rattle.network_steps.specs.declared.step_result.StepResult.{StepResult}
-use Rattle.network_steps.specs.Worlds.{Member, chain_of, World, place_of, with_part, unchanged}
+use Rattle.network_steps.specs.Worlds.{Member, chain_of, World, place_of, with_part, unchanged, Stepped}
 use Rattle.network_steps.specs.Acting.{acted, begun, caller, lost_of, booking_lost}
-use Rattle.network_steps.specs.Steps.{is_sovereign, name_at, exec_by, exec_at, exec, without_message, run_for, sender_after, receiver_after, delivered, delivery_of, deliver, is_claim, posting, posted, claim_by, claim_on, claim, Link, next_channel, deliveries, world_behind, Step, Exec, Deliver, Claim, Drain, Balances, Traps, Queues, Supply, after, worlds}
+use Rattle.network_steps.specs.Steps.{is_sovereign, name_at, exec_read, exec_by, exec_at, exec, without_message, run_for, sender_after, receiver_after, delivered, delivery_of, deliver, is_claim, posting, posted, claim_by, claim_on, claim, Link, next_channel, deliveries, world_behind, Step, Exec, Deliver, Claim, Drain, Balances, Traps, Queues, Supply, after, worlds}
+use Rattle.network_steps.specs.CallerLaws.{by_caller}
+use Rattle.chain_pools.specs.Exchanges.{is_pool_account}
 use Rattle.network_steps.specs.Sends.{deliveries_left}
 use Rattle.message_shapes.specs.StepLaws.{between_says}
 use Rattle.coherence.specs.UniversalAssets.{UniversalAsset, just}
@@ -90,13 +92,16 @@ module _ (laws : LawsBelow) (shapes : ShapeLaws) (decodes : Decodes) (first : su
     now k m at = all_at (λ (m : Member). NoExcess m.part.burns) w k m all at
 
     -- ---- local executions
-    by_program : (k : ℕ) (m : Member) (account : List ℕ) (read : Result (List Instruction) MessageFault) → slice_get w k ≡ Some m → is_sovereign account ≡ false → ((program : List Instruction) → read ≡ Ok program → IsRunnable program) → NoExcessIn (exec_by w k m account read).world
-    by_program k m account (Err fault) at own runs = all
-    by_program k m account (Ok program) at own runs =
+    program_read : (k : ℕ) (m : Member) (account : List ℕ) (read : Result (List Instruction) MessageFault) → slice_get w k ≡ Some m → is_sovereign account ≡ false → ((program : List Instruction) → read ≡ Ok program → IsRunnable program) → NoExcessIn (exec_read w k m account read).world
+    program_read k m account (Err fault) at own runs = all
+    program_read k m account (Ok program) at own runs =
         let p = begun (chain_of m) cargos.Nothing m.part in
         let a = acted m.rules (caller account) m.rules.limit program p in
         let no_excess = execution_no_excess laws shapes decodes first genesis once w reached k m at account own program (runs program refl) in
         set_kept w k (with_part a.part m) all (no_excess_after p a.part no_excess (now k m at))
+
+    by_program : (k : ℕ) (m : Member) (account : List ℕ) (read : Result (List Instruction) MessageFault) → slice_get w k ≡ Some m → is_sovereign account ≡ false → ((program : List Instruction) → read ≡ Ok program → IsRunnable program) → NoExcessIn (exec_by w k m account read).world
+    by_program k m account read at own runs = by_caller (λ (s : Stepped). NoExcessIn s.world) w (is_pool_account m.part.pools account) (exec_read w k m account read) all (program_read k m account read at own runs)
 
     if_allowed : (k : ℕ) (account bytes : List ℕ) (sovereign : Bool) → is_sovereign account ≡ sovereign
         → NoExcessIn (if sovereign then unchanged StepResult.SovereignCaller w else option_map_or (λ (m : Member). exec_by w k m account (message_of bytes)) (slice_get w k) (unchanged StepResult.NoSuchChain w)).world

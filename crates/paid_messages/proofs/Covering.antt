@@ -29,7 +29,7 @@ use Rattle.network_steps.specs.Worlds as networks
 use Rattle.network_steps.specs.Worlds.{chain_of}
 use Rattle.network_steps.specs.Acting.{caller}
 use Rattle.network_steps.specs.Steps.{Link, Step, worlds}
-use Rattle.message_shapes.specs.Shapes.{IsLedBy, IsAnswer, IsLedByClaim, IsShape}
+use Rattle.message_shapes.specs.Shapes.{stands_alone, IsLedBy, IsAlone, IsLedByClaim, IsShape}
 use Rattle.conservation.specs.Histories.{safe_history}
 use Rattle.conserved_runs.specs.Accepted.{IsCaller, IsOwnOrigin}
 use Rattle.conserved_runs.specs.Runs.{own_origin_done}
@@ -44,7 +44,7 @@ use Rattle.conserved_steps.specs.Worlds.{IsFirst, IsReached, IsDelivery, arrives
 use Rattle.paid_messages.specs.Paid.{sender_name, Admits}
 use Rattle.paid_messages.specs.Covered.{IsCovered, ExecutionsCovered}
 use Rattle.paid_messages.proofs.Messages.{teleport_taken}
-use Rattle.paid_messages.proofs.Refusals.{IsNoShortage, none_other, withdrawal_other, deposited_other, claiming_other, answer_other, taken_other, other_refusal}
+use Rattle.paid_messages.proofs.Refusals.{IsNoShortage, none_other, withdrawal_other, deposited_other, claiming_other, alone_other, taken_other, other_refusal}
 
 -- ---- the origin stays one of the chain itself, or none
 abbrev IsOwnOriginAt : Stage → Type 0
@@ -135,13 +135,19 @@ module _ (rules : ChainRules) (origin : Location) (p : ChainPart) (a : Admitted)
   alone_answer x no_appendix None = to_appendix_from (xcm.done x m0).regs.appendix _ no_appendix
   alone_answer x no_appendix (Some e) = from_end _
 
-  answer_from : IsAnswer a.program → AllCoveredFrom (first_stage rules origin a p)
-  answer_from s =
-      let l : Instruction-F Instruction = Instruction-F.QueryResponse s.query s.answer s.weight s.querier in
+  alone_keeps : (l : Instruction-F Instruction) → stands_alone l ≡ true → (done l (first_machine rules origin p)).regs.appendix ≡ []
+  alone_keeps (Instruction-F.QueryResponse query answer weight querier) kind = refl
+  alone_keeps (Instruction-F.NoteUnlockable asset owner) kind = refl
+  alone_keeps (Instruction-F.UnlockAsset asset target) kind = refl
+  alone_keeps _ kind = absurd cc
+
+  alone_from : IsAlone a.program → AllCoveredFrom (first_stage rules origin a p)
+  alone_from s =
+      let l : Instruction-F Instruction = s.what in
       let x = roll-Instruction l in
-      let no_appendix : (xcm.done x m0).regs.appendix ≡ [] = ap (λ (f : Instruction-F Instruction). (done f m0).regs.appendix) (out-roll-Instruction l) in
+      let no_appendix : (xcm.done x m0).regs.appendix ≡ [] = ap (λ (f : Instruction-F Instruction). (done f m0).regs.appendix) (out-roll-Instruction l) ∙ alone_keeps l s.kind in
       subst (λ (program : List Instruction). AllCoveredFrom (begin parts.Program program m0)) (sym s.is)
-      (from_next (At parts.Program 0 x [] m0) (rolled l (answer_other m0 s.query s.answer s.weight s.querier)) (alone_answer x no_appendix (refusal_of x m0)))
+      (from_next (At parts.Program 0 x [] m0) (rolled l (alone_other l m0 s.kind)) (alone_answer x no_appendix (refusal_of x m0)))
 
 -- ---- a delivery
 module _ (laws : LawsBelow) (shapes : ShapeLaws) (decodes : Decodes) (order : List Link) (w : networks.World) (steps : List Step) (f : IsFirst w) (d : IsDelivery order w steps) where
@@ -176,7 +182,7 @@ module _ (laws : LawsBelow) (shapes : ShapeLaws) (decodes : Decodes) (order : Li
 
   by_cargo : (a : Admitted) → Admits d a → (c : Cargo) → d.message.cargo ≡ c → IsShape d.sender.part.site (chain_of d.receiver) a.program c → CoveredFor a
   by_cargo a ok cargos.Nothing carries shape =
-      ⊎_elim (λ (s : IsAnswer a.program). answer_from d.receiver.rules (sender_name d) q0 a s)
+      ⊎_elim (λ (s : IsAlone a.program). alone_from d.receiver.rules (sender_name d) q0 a s)
       (λ (s : IsLedByClaim a.program).
       led_from d.receiver.rules (sender_name d) q0 a (Instruction-F.ClaimAsset s.list s.ticket) s.behind s.is (claiming_other (first_machine d.receiver.rules (sender_name d) q0) s.list s.ticket)) shape
   by_cargo a ok (cargos.Deposit list) carries s =

@@ -1,6 +1,11 @@
 -- Lemmas: so it is of each message that is delivered in a world that steps lead to. A reader may skip this file.
-use Rattle.std.proofs.Common.{◌≡◌, inl, ◌≤◌, true, List, Some, refl, sym, ap, ◌∙◌}
-use Rattle.std.specs.Prelude.{IsTrue}
+use Rattle.std.proofs.Common.{◌≡◌, inl, inr, ℕ, zero, suc, ◌≤◌, true, false, List, [], ◌∷◌, Some, refl, sym, ap, ◌∙◌, subst}
+use Rattle.std.specs.Prelude.{IsTrue, slice_get}
+use Rattle.std.specs.List.{AllByRecursion}
+use Rattle.std.proofs.lemmas.Bool.{cases_Bool}
+use Rattle.asset_lists.specs.Units.{Unit}
+use Rattle.trust_tables.specs.Accounts.{IsChain, sovereign_account}
+use Rattle.trust_tables.specs.ChainLaws.{IsSovereign-sovereign_account}
 use Rattle.amounts.specs.Amounts.{empty}
 use Rattle.asset_lists.specs.declared.units.Asset.{Asset}
 use Rattle.asset_bundles.specs.declared.shipment.Way.{Way}
@@ -10,7 +15,7 @@ use Rattle.channel_parts.specs.declared.cargo.Cargo.{Cargo}
 use Rattle.channel_parts.specs.declared.cargo.Cargo.TheVariants as cargos
 use Rattle.weight_trader.specs.Purchases.{no_weight}
 use Rattle.exec_base.specs.declared.event.Event.{Event}
-use Rattle.exec_base.specs.Host.{Arrival, ByWithdrawal, ByTeleport, arrives_by, fits_call, cargo_list, is_cargo, told}
+use Rattle.exec_base.specs.Host.{Arrival, ByWithdrawal, ByTeleport, arrives_by, fits_call, cargo_list, is_cargo, floor_of, told}
 use Rattle.exec_base.specs.Part.{ChainPart}
 use Rattle.exec_run.specs.Machine.{Machine}
 use Rattle.exec_run.specs.Run.{machine_of}
@@ -19,8 +24,8 @@ use Rattle.exec_admission.specs.Admission.{admitted}
 use Rattle.network_steps.specs.Worlds as networks
 use Rattle.network_steps.specs.Worlds.{chain_of}
 use Rattle.network_steps.specs.Acting.{lost_by, lost_of}
-use Rattle.network_steps.specs.Steps.{run_for, Link, Step, worlds}
-use Rattle.message_shapes.specs.Shapes.{named_there}
+use Rattle.network_steps.specs.Steps.{is_sovereign, run_for, Link, Step, worlds}
+use Rattle.message_shapes.specs.Shapes.{named_there, AllShaped}
 use Rattle.coherence.specs.Networks.{IsIn}
 use Rattle.conservation.specs.Histories.{safe_history}
 use Rattle.conservation.specs.Steps.{tables_of, table_at}
@@ -28,13 +33,14 @@ use Rattle.conserved_runs.specs.Views.{table_of, seen}
 use Rattle.conserved_steps.specs.Bounds.{agrees_now, checked_now}
 use Rattle.conserved_steps.specs.Fates.{ComesBy, comes_by, fate_of}
 use Rattle.conserved_steps.specs.Insides.{all_at}
-use Rattle.conserved_steps.specs.Reading.{Decodes}
+use Rattle.conserved_steps.specs.Reading.{Decodes, not_sovereign}
 use Rattle.conserved_steps.specs.Receptions.{Fate, Left, Landed}
 use Rattle.conserved_steps.specs.Soundness.{LawsBelow}
 use Rattle.conserved_steps.specs.Stepping.{ShapeLaws, Front, front_of, seen_at, worlds_reached, first_reached}
 use Rattle.conserved_steps.specs.Stops.{StandsAs}
 use Rattle.conserved_steps.specs.Views.{views}
 use Rattle.conserved_steps.specs.Worlds.{IsFirst, IsReached, IsDelivery, arrives}
+use Rattle.lock_laws.specs.Floors.{NoSovereignLocks, NoneSovereign}
 use Rattle.paid_messages.specs.Paid.{sender_name, Admits, IsPaid, IsReceived, HaveRoom}
 use Rattle.paid_messages.proofs.Losses.{cargo_ends}
 use Rattle.paid_messages.proofs.Messages.{withdrawal_accepted, teleport_accepted}
@@ -44,6 +50,18 @@ use Rattle.paid_messages.proofs.Rooms.{KeepSettings, worlds_have_room, room_at}
 abbrev pub MatchesCargoes : Type 0
 MatchesCargoes = (here : Site) (p : ChainPart) (cargo : Cargo) (arrival : Arrival) (list : List Asset) → p.site.network ≡ here.network → p.cargo.sender ≡ here.chain → p.cargo.cargo ≡ cargo → fits_call arrival cargo ≡ true
     → named_there here p.site.chain (cargo_list cargo) ≡ Some list → is_cargo p arrival list ≡ true
+
+-- the laws of the locks of whole chains' accounts
+abbrev pub FreeWorlds : Type 0
+FreeWorlds = (order : List Link) (w : networks.World) (steps : List Step) → AllShaped w → NoneSovereign w → AllByRecursion NoneSovereign (worlds order w steps)
+
+abbrev pub NoFloor : Type 0
+NoFloor = (p : ChainPart) (who : List ℕ) (unit : Unit) → NoSovereignLocks p.locked → is_sovereign who ≡ true → floor_of p who unit ≡ 0
+
+free_at : (w : networks.World) (k : ℕ) (m : networks.Member) → slice_get w k ≡ Some m → NoneSovereign w → NoSovereignLocks m.part.locked
+free_at [] k m e all = absurd cc
+free_at (x ∷ w) zero m e all = let same : x ≡ m = cc in subst (λ (y : networks.Member). NoSovereignLocks y.part.locked) same all.0
+free_at (x ∷ w) (suc k) m e all = free_at w k m e all.1
 
 module _ (laws : LawsBelow) (shapes : ShapeLaws) (decodes : Decodes) (keep : KeepSettings) (matches : MatchesCargoes) (order : List Link) (w : networks.World) (steps : List Step) (f : IsFirst w) (rooms : HaveRoom w) (d : IsDelivery order w steps) where
   reached : IsReached (views w) d.world
@@ -55,13 +73,28 @@ module _ (laws : LawsBelow) (shapes : ShapeLaws) (decodes : Decodes) (keep : Kee
   front : Front d.from d.to d.sender d.receiver d.message
   front = front_of laws shapes decodes (views w) f.genesis d.world reached d.from d.to d.sender d.receiver d.channel d.message d.sends d.receives d.leads d.oldest
 
-  pub withdrawal_paid : (a : Admitted) → IsTrue (fits_call ByWithdrawal d.message.cargo) → Admits d a → IsPaid d a
-  withdrawal_paid a kind ok =
-      withdrawal_accepted (views d.world) (agrees_now (views w) f.genesis (views d.world) reached.history) ((safe_history (views w) (views d.world) f.genesis.agrees reached.history).backed f.genesis.backed)
-      (checked_now (views w) f.genesis (views d.world) reached.history)
-      d.from d.to d.sender.part d.receiver.part (seen_at d.world d.from d.sender d.sends) (seen_at d.world d.to d.receiver d.receives) front.apart (reached.parts d.to d.receiver d.receives).listed
-      d.receiver.rules d.message.cargo d.message.program (Event.Message (chain_of d.sender) (chain_of d.receiver) d.message.number) front.first front.name (sender_name d) front.there front.back front.runs front.trusted much a ok kind
-      (shapes.admits d.sender.part.site (chain_of d.receiver) d.message.program d.message.cargo d.receiver.rules (sender_name d) no_weight (arrives d.sender d.receiver d.message).queries a front.shape ok)
+  -- the receiver locked nothing on a whole chain's account
+  chain_number : IsChain (chain_of d.sender)
+  chain_number = (agrees_now (views w) f.genesis (views d.world) reached.history).network.chains (table_of d.sender.part) (d.from, table_at (views d.world) d.from (seen empty d.sender.part) (seen_at d.world d.from d.sender d.sends))
+
+  whole_chain : is_sovereign (sovereign_account (chain_of d.receiver) (chain_of d.sender)) ≡ true
+  whole_chain =
+      let account = sovereign_account (chain_of d.receiver) (chain_of d.sender) in
+      elim (cases_Bool (is_sovereign account)) [ inl t ↦ t | inr own ↦ absurd (not_sovereign account own (IsSovereign-sovereign_account (chain_of d.receiver) (chain_of d.sender) chain_number)) ]
+
+  module _ (free : FreeWorlds) (none : NoFloor) (unlocked : NoneSovereign w) where
+    free_there : (unit : Unit) → floor_of d.receiver.part (sovereign_account (chain_of d.receiver) (chain_of d.sender)) unit ≡ 0
+    free_there unit =
+        let there : NoneSovereign d.world = all_at NoneSovereign (worlds order w steps) d.at d.world (free order w steps f.shaped unlocked) d.reached in
+        none d.receiver.part (sovereign_account (chain_of d.receiver) (chain_of d.sender)) unit (free_at d.world d.to d.receiver d.receives there) whole_chain
+
+    pub withdrawal_paid : (a : Admitted) → IsTrue (fits_call ByWithdrawal d.message.cargo) → Admits d a → IsPaid d a
+    withdrawal_paid a kind ok =
+        withdrawal_accepted (views d.world) (agrees_now (views w) f.genesis (views d.world) reached.history) ((safe_history (views w) (views d.world) f.genesis.agrees reached.history).backed f.genesis.backed)
+        (checked_now (views w) f.genesis (views d.world) reached.history)
+        d.from d.to d.sender.part d.receiver.part (seen_at d.world d.from d.sender d.sends) (seen_at d.world d.to d.receiver d.receives) front.apart (reached.parts d.to d.receiver d.receives).listed
+        d.receiver.rules d.message.cargo d.message.program (Event.Message (chain_of d.sender) (chain_of d.receiver) d.message.number) front.first front.name (sender_name d) front.there front.back front.runs front.trusted much free_there a ok kind
+        (shapes.admits d.sender.part.site (chain_of d.receiver) d.message.program d.message.cargo d.receiver.rules (sender_name d) no_weight (arrives d.sender d.receiver d.message).queries a front.shape ok)
 
   pub teleport_received : (a : Admitted) → IsTrue (fits_call ByTeleport d.message.cargo) → Admits d a → IsReceived d a
   teleport_received a kind ok =

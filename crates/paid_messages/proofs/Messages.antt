@@ -7,6 +7,7 @@ use Rattle.amounts.specs.Laws.{rows-from_rows}
 use Rattle.locations.specs.declared.relative.Location.{Location}
 use Rattle.message_parts.specs.declared.error.XcmError.{XcmError}
 use Rattle.asset_lists.specs.declared.units.Asset.{Asset}
+use Rattle.asset_lists.specs.Units.{Unit}
 use Rattle.asset_bundles.specs.declared.shipment.Way.{Way}
 use Rattle.asset_bundles.specs.declared.shipment.Shipment.{Shipment}
 use Rattle.asset_bundles.specs.Bundles.{Bundle, unit_keys, held_assets, IsGoods}
@@ -22,7 +23,7 @@ use Rattle.channel_parts.specs.declared.cargo.Cargo.TheVariants as cargos
 use Rattle.exec_base.specs.declared.event.Event.{Event}
 use Rattle.exec_base.specs.Part.{ChainPart}
 use Rattle.exec_base.specs.Sending.{or_else, led_by, away_program}
-use Rattle.exec_base.specs.Host.{ByWithdrawal, ByTeleport, fits_call, cargo_list, first_fault, give_fault, withdraw_refusal, trust_fault, lower_fault, receive_refusal, told}
+use Rattle.exec_base.specs.Host.{ByWithdrawal, ByTeleport, fits_call, cargo_list, first_fault, floor_of, give_fault, withdraw_refusal, trust_fault, lower_fault, receive_refusal, told}
 use Rattle.exec_run.specs.Machine.{Machine}
 use Rattle.exec_rules.specs.Holdings.{has_room}
 use Rattle.exec_admission.specs.declared.rules.ChainRules.{ChainRules}
@@ -130,7 +131,7 @@ module _ (v : World) (agrees : Agrees (tables_of v)) (backed : Backed v) (checke
   teleport_taken a ok kind shape = teleport_by_cargo a ok cargo refl kind trusts shape
 
   -- ---- with room
-  module _ (much : 20 ≤ rules.max_holding) where
+  module _ (much : 20 ≤ rules.max_holding) (free : (unit : Unit) → floor_of pr (sovereign_account pr.site.chain ps.site.chain) unit ≡ 0) where
     -- ---- a withdrawal
     paid_there : (new : List Asset) → first_fault (give_fault pr (Some (sovereign_account pr.site.chain ps.site.chain))) new ≡ None → withdraw_refusal (begins cargo e ps pr) new origin ≡ None
     unfolding withdraw_refusal told
@@ -141,7 +142,7 @@ module _ (v : World) (agrees : Agrees (tables_of v)) (backed : Backed v) (checke
     withdrawal_done a ok units carries same whole reserves s =
         let fits = list_fits a ok (Instruction-F.WithdrawAsset s.list) s.behind s.is in
         let named = names (tables_of v) agrees (table_of ps) (table_of pr) s_in t_in name origin leads back (held_assets units) s.list s.named in
-        let paid = all_paid v agrees backed i j ps pr at_i at_j listed name origin leads back units (front ∙ ap Some carries) s.list named whole reserves in
+        let paid = all_paid v agrees backed i j ps pr at_i at_j listed name origin leads back units (front ∙ ap Some carries) free s.list named whole reserves in
         record {
           list = s.list;
           behind = s.behind;
@@ -167,6 +168,7 @@ module _ (v : World) (agrees : Agrees (tables_of v)) (backed : Backed v) (checke
         → IsLedByAccepted Instruction-F.WithdrawAsset (named_there ps.site pr.site.chain (cargo_list cargo)) a (first_machine rules origin (told (begun ps.site.chain cargo pr) e))
     withdrawal_accepted a ok kind shape = by_cargo a ok cargo refl kind trusts shape
 
+  module _ (much : 20 ≤ rules.max_holding) where
     -- ---- a teleport that is taken in
     pub teleport_accepted : (a : Admitted) → admitted rules origin no_weight (told (begun ps.site.chain cargo pr) e).queries program ≡ Ok a → IsTrue (fits_call ByTeleport cargo) → IsShape ps.site pr.site.chain a.program cargo
         → IsLedByAccepted Instruction-F.ReceiveTeleportedAsset (named_there ps.site pr.site.chain (cargo_list cargo)) a (first_machine rules origin (told (begun ps.site.chain cargo pr) e))

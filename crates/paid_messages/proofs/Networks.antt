@@ -6,11 +6,21 @@ use Rattle.network_spec.specs.declared.chain.ChainSpec.{ChainSpec}
 use Rattle.network_spec.specs.declared.network.NetworkSpec.{NetworkSpec}
 use Rattle.network_genesis.specs.Genesis.{member_of, first_world}
 use Rattle.network_genesis.specs.Openable.{IsOpenableChain, IsOpenable}
+use Rattle.amounts.specs.Amounts.{amount-empty}
+use Rattle.asset_locks.specs.Laws.{lock_keys}
+use Rattle.lock_laws.specs.Floors.{NoneSovereign}
 use Rattle.paid_messages.specs.Paid.{HaveRoom}
 
 chains_have_room : (spec : NetworkSpec) (cs : List ChainSpec) → AllByRecursion (IsOpenableChain spec.network) cs → HaveRoom (map (member_of spec) cs)
 chains_have_room spec [] all = tt
 chains_have_room spec (c ∷ cs) all = (all.0.room, chains_have_room spec cs all.1)
+
+chains_free : (spec : NetworkSpec) (cs : List ChainSpec) → NoneSovereign (map (member_of spec) cs)
+chains_free spec [] = tt
+chains_free spec (c ∷ cs) = (λ key sovereign. amount-empty lock_keys key, chains_free spec cs)
+
+pub none_sovereign : (spec : NetworkSpec) → NoneSovereign (first_world spec)
+none_sovereign spec = chains_free spec spec.chains
 
 pub have_room : (spec : NetworkSpec) → IsOpenable spec → HaveRoom (first_world spec)
 have_room spec openable = chains_have_room spec spec.chains (recursion_from_All (IsOpenableChain spec.network) spec.chains openable.chains)

@@ -1,5 +1,5 @@
 -- Lemmas: the account of the sender has what its oldest withdrawal asks for, and the reserve lists it. A reader may skip this file.
-use Rattle.std.proofs.Common.{◌≡◌, ℕ, ◌≤◌, Bool, true, false, List, [], ◌∷◌, Option, Some, None, refl, sym, ap, ◌∙◌, arith}
+use Rattle.std.proofs.Common.{◌≡◌, ℕ, ◌+◌, ◌≤◌, Bool, true, false, List, [], ◌∷◌, Option, Some, None, refl, sym, ap, ◌∙◌, arith}
 use Rattle.std.specs.Prelude.{IsTrue, not, is_some, map, nat_le, slice_get}
 use Rattle.std.specs.List.{AllByRecursion}
 use Rattle.std.proofs.lemmas.Bool.Decides.{nat_tests}
@@ -28,7 +28,7 @@ use Rattle.trust_tables.specs.Trust.{listing, row_of, is_row_of, is_reserve, IsR
 use Rattle.trust_tables.specs.TrustLaws.{is_row_of_says}
 use Rattle.exec_base.specs.Part.{ChainPart}
 use Rattle.exec_base.specs.Sending.{unless, or_else}
-use Rattle.exec_base.specs.Host.{first_fault, give_fault}
+use Rattle.exec_base.specs.Host.{first_fault, floor_of, give_fault}
 use Rattle.coherence.specs.UniversalAssets.{just}
 use Rattle.coherence.specs.Networks.{context_of, IsIn, IsUnitOf, Agrees}
 use Rattle.coherence.specs.Twins.{unit_named}
@@ -101,7 +101,7 @@ row_there rows b y inside of =
 
 module _ (v : World) (agrees : Agrees (tables_of v)) (backed : Backed v) (i j : ℕ) (ps pr : ChainPart) (at_i : slice_get v i ≡ Some (seen empty ps)) (at_j : slice_get v j ≡ Some (seen empty pr)) (listed : AllListed none pr)
     (name origin : Location) (leads : location_of ps.site.chain pr.site.chain ≡ Some name) (back : location_of pr.site.chain ps.site.chain ≡ Some origin)
-    (units : Bundle) (first : queues.front pr.site.chain (map channel_of ps.channels) ≡ Some (Withdrawal units)) where
+    (units : Bundle) (first : queues.front pr.site.chain (map channel_of ps.channels) ≡ Some (Withdrawal units)) (free : (unit : Unit) → floor_of pr (sovereign_account pr.site.chain ps.site.chain) unit ≡ 0) where
   s_in : IsIn (tables_of v) (table_of ps)
   s_in = (i, table_at v i (seen empty ps) at_i)
 
@@ -109,7 +109,7 @@ module _ (v : World) (agrees : Agrees (tables_of v)) (backed : Backed v) (i j : 
   t_in = (j, table_at v j (seen empty pr) at_j)
 
   gives : (b : Asset) (y : AssetRow) → IsIn pr.rows y → IsRowOf b y → amount_of b ≤ amount pr.held (sovereign_account pr.site.chain ps.site.chain, unit_of b) → give_fault pr (Some (sovereign_account pr.site.chain ps.site.chain)) b ≡ None
-  gives b y inside of le = passes _ _ _ (row_there pr.rows b y inside of) (passes _ _ _ (within _ _ le) refl)
+  gives b y inside of le = passes _ _ _ (row_there pr.rows b y inside of) (passes _ _ _ (within _ _ (let none = free (unit_of b) in omega (arith, le, none))) refl)
 
   -- one asset of the cargo, under the reserve's name
   one_paid : (a b : Asset) → IsTrue (is_reserve ps.rows ps.site a name) → amount_of a ≤ amount units (unit_of a) → moved name (context_of (table_of ps)) a ≡ Some b → give_fault pr (Some (sovereign_account pr.site.chain ps.site.chain)) b ≡ None

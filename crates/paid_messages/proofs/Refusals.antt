@@ -19,8 +19,10 @@ use Rattle.xcm_program.specs.declared.instruction.Instruction.{Instruction}
 use Rattle.xcm_program.specs.declared.instruction.Instruction.TheOpen.{Instruction-F}
 use Rattle.channel_parts.specs.Channels.{Outgoing}
 use Rattle.exec_base.specs.Part.{ChainPart}
-use Rattle.exec_base.specs.Sending.{unless, or_else, is_sendable, channel_refusal, channel_to, send_refusal, listed_refusal}
-use Rattle.exec_base.specs.Host.{first_fault, with_account, give_fault, take_fault, given, withdraw_refusal, deposit_refusal, transfer_refusal, trust_fault, lower_fault, raise_fault, receive_refusal, transfer_out_refusal, deposit_out_refusal, is_teleport, ship_refusal, querier_seen, report_refusal, respond_refusal, no_line_refusal, buy_refusal, claim_refusal}
+use Rattle.message_shapes.specs.Shapes.{stands_alone}
+use Rattle.exec_base.specs.Sending.{named_refusal, unless, or_else, is_sendable, channel_refusal, channel_to, send_refusal, listed_refusal}
+use Rattle.exec_base.specs.Host.{note_program, lock_refusal, unlock_refusal, note_refusal, request_key, unlock_program, request_refusal, first_fault, with_account, give_fault, take_fault, given, withdraw_refusal, deposit_refusal, transfer_refusal, trust_fault, lower_fault, raise_fault, receive_refusal, transfer_out_refusal, deposit_out_refusal, is_teleport, ship_refusal, querier_seen, report_refusal, respond_refusal, no_line_refusal, buy_refusal, claim_refusal}
+use Rattle.exec_base.specs.Pools.{exchange_at, exchange_refusal}
 use Rattle.exec_run.specs.Machine.{Machine}
 use Rattle.exec_rules.specs.Holdings.{with_origin, holds_asset, has_room, is_ticket}
 use Rattle.exec_rules.specs.Instructions.{refused}
@@ -80,6 +82,29 @@ report_other p info answer (Some querier) = channel_other (channel_to p info.des
 respond_other : (p : ChainPart) (info : QueryInfo) (answer : Response) (querier : Option Location) → IsNoShortage (respond_refusal p info answer querier)
 unfolding respond_refusal
 respond_other p info answer querier = report_other p info answer (querier_seen p info.destination querier)
+
+-- ---- locks
+named_other : (p : ChainPart) (dest : Location) (o : Option (List Instruction)) → IsNoShortage (named_refusal p dest o)
+unfolding send_refusal
+named_other p dest None = λ h. absurd cc
+named_other p dest (Some program) = channel_other (channel_to p dest) true program
+
+lock_other : (p : ChainPart) (a : Asset) (owner unlocker : Location) → IsNoShortage (lock_refusal p a owner unlocker)
+unfolding lock_refusal
+lock_other p a owner unlocker = unless_other p.locks error.LockError _ (λ e. absurd cc) (unless_other _ error.LockError _ (λ e. absurd cc) (named_other p unlocker (note_program p a owner unlocker)))
+
+unlock_other : (p : ChainPart) (a : Asset) (target from : Location) → IsNoShortage (unlock_refusal p a target from)
+unfolding unlock_refusal
+unlock_other p a target from = unless_other p.locks error.LockError _ (λ e. absurd cc) (unless_other _ error.LockError None (λ e. absurd cc) none_other)
+
+note_other : (p : ChainPart) (a : Asset) (owner from : Location) → IsNoShortage (note_refusal p a owner from)
+unfolding note_refusal
+note_other p a owner from = unless_other p.locks error.LockError _ (λ e. absurd cc) (unless_other _ error.LockError None (λ e. absurd cc) none_other)
+
+request_other : (p : ChainPart) (a : Asset) (owner locker : Location) → IsNoShortage (request_refusal p a owner locker)
+unfolding request_refusal
+request_other p a owner locker =
+    unless_other p.locks error.LockError _ (λ e. absurd cc) (unless_other _ error.LockError _ (λ e. absurd cc) (named_other p locker (unlock_program p a (request_key a owner locker) locker)))
 
 -- ---- moves
 account_other : (o : Option (List ℕ)) (rule : List ℕ → Option XcmError) → ((who : List ℕ) → IsNoShortage (rule who)) → IsNoShortage (with_account o rule)
@@ -180,6 +205,10 @@ buy_other p w payment = line_other (paying w payment p.lines)
 test_other : (b : Bool) (e : XcmError) → (e ≡ error.NotWithdrawable → ⊥) → IsNoShortage (unless b e None)
 test_other b e n = unless_other b e None n none_other
 
+exchange_other : (p : ChainPart) (give : Bundle) (want : List Asset) (maximal : Bool) → IsNoShortage (exchange_refusal p give want maximal)
+unfolding exchange_refusal
+exchange_other p give want maximal = test_other (is_some (exchange_at p give want maximal)) error.NoDeal (λ e. absurd cc)
+
 -- ---- what a message may be led by, for any origin
 pub withdrawal_other : (m : Machine) (list : List Asset) → IsNoShortage (refused (Instruction-F.WithdrawAsset list) m)
 withdrawal_other m list = origin_other m.regs.origin _ (λ who. unless_other (has_room m (length list)) error.HoldingWouldOverflow _ (λ e. absurd cc) (withdraw_other m.part list who))
@@ -191,8 +220,21 @@ pub claiming_other : (m : Machine) (list : List Asset) (ticket : Location) → I
 claiming_other m list ticket =
     origin_other m.regs.origin _ (λ who. unless_other (has_room m (length list)) error.HoldingWouldOverflow _ (λ e. absurd cc) (unless_other (is_ticket ticket) error.UnknownClaim _ (λ e. absurd cc) (claim_other m.part list who)))
 
-pub answer_other : (m : Machine) (query : ℕ) (answer : Response) (weight : Weight) (querier : Option Location) → IsNoShortage (refused (Instruction-F.QueryResponse query answer weight querier) m)
+answer_other : (m : Machine) (query : ℕ) (answer : Response) (weight : Weight) (querier : Option Location) → IsNoShortage (refused (Instruction-F.QueryResponse query answer weight querier) m)
 answer_other m query answer weight querier = origin_other m.regs.origin _ (λ who. none_other)
+
+unlocking_other : (m : Machine) (asset : Asset) (target : Location) → IsNoShortage (refused (Instruction-F.UnlockAsset asset target) m)
+unlocking_other m asset target = origin_other m.regs.origin _ (λ who. unlock_other m.part asset target who)
+
+noting_other : (m : Machine) (asset : Asset) (owner : Location) → IsNoShortage (refused (Instruction-F.NoteUnlockable asset owner) m)
+noting_other m asset owner = origin_other m.regs.origin _ (λ who. note_other m.part asset owner who)
+
+-- one instruction alone
+pub alone_other : (l : Instruction-F Instruction) (m : Machine) → stands_alone l ≡ true → IsNoShortage (refused l m)
+alone_other (Instruction-F.QueryResponse query answer weight querier) m kind = answer_other m query answer weight querier
+alone_other (Instruction-F.NoteUnlockable asset owner) m kind = noting_other m asset owner
+alone_other (Instruction-F.UnlockAsset asset target) m kind = unlocking_other m asset target
+alone_other _ m kind = absurd cc
 
 -- a teleport whose list the host takes
 pub taken_other : (m : Machine) (list : List Asset) → ((who : Location) → m.regs.origin ≡ Some who → receive_refusal m.part list who true ≡ None) → IsNoShortage (refused (Instruction-F.ReceiveTeleportedAsset list) m)
@@ -220,11 +262,16 @@ call_other l m own_origin (MachineCall.Receive list from teleport) t asks = come
 call_other l m own_origin (MachineCall.Claim list who) t asks = claim_other t.part list who
 call_other l m own_origin (MachineCall.Deposit who) t asks = deposit_other t.part t.goods who
 call_other l m own_origin (MachineCall.Buy w) t asks = buy_other t.part w t.goods
+call_other l m own_origin (MachineCall.Exchange want maximal) t asks = exchange_other t.part t.goods want maximal
 call_other l m own_origin (MachineCall.DepositOut dest xcm) t asks = deposit_out_other t.part t.goods dest xcm
 call_other l m own_origin (MachineCall.Ship way dest xcm) t asks = ship_other t.part t.goods way dest xcm
 call_other l m own_origin (MachineCall.Transfer list from to) t asks = transfer_other t.part list from to
 call_other l m own_origin (MachineCall.TransferOut list from dest xcm) t asks = transfer_out_other t.part list from dest xcm
 call_other l m own_origin (MachineCall.Respond info answer querier) t asks = respond_other t.part info answer querier
+call_other l m own_origin (MachineCall.Lock asset owner unlocker) t asks = lock_other t.part asset owner unlocker
+call_other l m own_origin (MachineCall.Unlock asset target from) t asks = unlock_other t.part asset target from
+call_other l m own_origin (MachineCall.Note asset owner from) t asks = note_other t.part asset owner from
+call_other l m own_origin (MachineCall.Request asset owner locker) t asks = request_other t.part asset owner locker
 call_other l m own_origin _ t asks = none_other
 
 pub other_refusal : (l : Instruction-F Instruction) (m : Machine) → IsOwnOrigin m.regs.origin → IsNoShortage (refused l m)

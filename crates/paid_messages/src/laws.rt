@@ -6,24 +6,28 @@ ghost use Rattle.network_steps.specs.Worlds.{World};
 ghost use Rattle.network_steps.specs.Steps.{Link, Step};
 ghost use Rattle.conserved_steps.specs.Worlds.{IsFirst};
 ghost use Rattle.conserved_networks.specs.Kept.{IsCoherent};
+ghost use Rattle.lock_laws.specs.Floors.{NoneSovereign};
 ghost use Rattle.paid_messages.specs.Paid.{HaveRoom, WithdrawalsPaid, TeleportsReceived, NoneLost};
 ghost use Rattle.paid_messages.specs.Covered.{ExecutionsCovered, DeliveriesCovered, AllCovered};
 
 use conserved_networks::law_of_conserved_networks;
 use conserved_steps::law_of_foundations;
+use lock_laws::law_of_sovereign_locks;
 use message_shapes::law_of_matched_cargoes;
 use network_steps::law_of_settings;
 
-/// From a first world whose chains have room for a message's list, whatever the steps, each withdrawal that its reserve admits is paid from its
-/// sender's account, and each teleport that its receiver admits is received, so that nothing of it is lost.
+/// From a first world whose chains have room for a message's list and no locks on a whole chain's account, whatever the steps, each withdrawal
+/// that its reserve admits is paid from its sender's account, and each teleport that its receiver admits is received, so that nothing of it is
+/// lost.
 pub fn law_of_paid_deliveries()
-    ensures withdrawal { (order : List Link) (w : World) (steps : List Step) → IsFirst w → HaveRoom w → WithdrawalsPaid order w steps }
+    ensures withdrawal { (order : List Link) (w : World) (steps : List Step) → IsFirst w → HaveRoom w → NoneSovereign w → WithdrawalsPaid order w steps }
     ensures teleport { (order : List Link) (w : World) (steps : List Step) → IsFirst w → HaveRoom w → TeleportsReceived order w steps }
     ensures lost { (order : List Link) (w : World) (steps : List Step) → IsFirst w → HaveRoom w → NoneLost order w steps }
 {
     law_of_foundations();
     law_of_matched_cargoes();
     law_of_settings();
+    law_of_sovereign_locks();
 }
 
 /// In a coherent network, whatever the steps, each withdrawal that its reserve admits is paid from its sender's account: what was lowered at the

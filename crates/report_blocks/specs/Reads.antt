@@ -31,7 +31,7 @@ told_of found = record { cause = named found.0; first = found.1; second = found.
 unfoldable pub coherence_line : NetworkSpec → List ℕ
 coherence_line spec = opening_line (option_map told_of (first_cause (entries_of spec)))
 
--- chain by chain, what accounts hold, and the checking accounts
+-- chain by chain, what accounts hold, the checking accounts, and the locks
 unfoldable pub balances_block : World → List ℕ
 balances_block w = flat_map balances_of (parts_of w)
 

@@ -10,7 +10,7 @@ use chain_net::Net;
 use chain_state::ChainState;
 use network_coherence::coherent;
 use std::alloc::{AllocError, Global};
-use step_text::{balances_text, checking_text, opening_line, traps_text};
+use step_text::{balances_text, checking_text, locked_text, opening_line, traps_text};
 
 /// The line that says whether the network is coherent, or else the first cause why not.
 pub(crate) fn coherence_line(alloc: Global, net: &Net) -> Result<String, AllocError>
@@ -22,14 +22,14 @@ pub(crate) fn coherence_line(alloc: Global, net: &Net) -> Result<String, AllocEr
     }
 }
 
-/// What the accounts of all chains hold, and their checking accounts.
+/// What the accounts of all chains hold, their checking accounts, and their locks.
 pub(crate) fn balances_block(alloc: Global, net: &Net) -> Result<String, AllocError>
     ensures { IfOk result (λ text. string_bytes text ≡ reads.balances_block (world_of net.now)) }
 {
     all_balances(alloc, net.chains())
 }
 
-/// What the accounts of all chains hold, and their checking accounts.
+/// What the accounts of all chains hold, their checking accounts, and their locks.
 fn all_balances(alloc: Global, chains: &[ChainState]) -> Result<String, AllocError>
     ensures { IfOk result (λ text. string_bytes text ≡ flat_map (λ (c : ChainState). balances_of (part_of c)) chains.now) }
 {
@@ -48,7 +48,7 @@ fn push_balances(alloc: Global, text: &mut String, chain: &ChainState) -> Result
     text.push_str(&lines)
 }
 
-/// What the accounts of a chain hold, and its checking accounts.
+/// What the accounts of a chain hold, its checking accounts, and its locks.
 fn chain_balances(alloc: Global, chain: &ChainState) -> Result<String, AllocError>
     ensures { IfOk result (λ text. string_bytes text ≡ balances_of (part_of chain.now)) }
 {
@@ -56,6 +56,8 @@ fn chain_balances(alloc: Global, chain: &ChainState) -> Result<String, AllocErro
     let mut text = balances_text(alloc, name, chain.ledger())?;
     let checking = checking_text(alloc, name, chain.rows(), chain.checkings())?;
     text.push_str(&checking)?;
+    let locked = locked_text(alloc, name, chain.lock_book())?;
+    text.push_str(&locked)?;
     Ok(text)
 }
 

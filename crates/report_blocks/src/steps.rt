@@ -13,7 +13,7 @@ use crate::reads::{balances_block, supply_block, traps_block};
 use chain_ids::ChainId;
 use chain_net::Net;
 use input_lines::Line;
-use network_steps::law_of_drains;
+use message_shapes::law_of_drains;
 use std::alloc::{AllocError, Global};
 use step_text::{drained_line, step_text};
 

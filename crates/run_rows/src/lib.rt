@@ -2,6 +2,8 @@
 #![tactic(auto)]
 
 #[cfg(test)]
+mod calls;
+#[cfg(test)]
 mod crowds;
 #[cfg(test)]
 mod deliveries;
@@ -20,9 +22,13 @@ mod hostile;
 #[cfg(test)]
 mod inputs;
 #[cfg(test)]
+mod locks;
+#[cfg(test)]
 mod messages;
 #[cfg(test)]
 mod openings;
+#[cfg(test)]
+mod pools;
 #[cfg(test)]
 mod running;
 #[cfg(test)]

@@ -7,6 +7,7 @@ use Rattle.chain_ids.specs.declared.chain.ChainId.{ChainId}
 use Rattle.asset_wire.specs.declared.version.Version.{Version}
 use Rattle.asset_bundles.specs.Bundles.{held_assets}
 use Rattle.trust_tables.specs.declared.rows.AssetRow.{AssetRow}
+use Rattle.asset_locks.specs.LockMaps.{LocksAndNotes, locks_of}
 use Rattle.trap_store.specs.declared.trap.Trap.{Trap}
 use Rattle.ledgers.specs.Ledgers.{Holder, Held}
 use Rattle.account_holdings.specs.Holdings.{asset_held}
@@ -15,7 +16,7 @@ use Rattle.channel_parts.specs.Channels.{Waiting, Outgoing}
 use Rattle.chain_queues.specs.declared.queues.Queued.{Queued}
 use Rattle.chain_queues.specs.Queues.{channel_to}
 use Rattle.exec_base.specs.Part.{ChainPart}
-use Rattle.step_text.specs.Lines.{balance_line, checking_line, trap_line, queue_line}
+use Rattle.step_text.specs.Lines.{balance_line, checking_line, locked_line, trap_line, queue_line}
 
 -- ---- under `balances`
 
@@ -36,8 +37,14 @@ checking_text chain [] amounts = []
 checking_text chain (row ∷ listed) [] = []
 checking_text chain (row ∷ listed) (amount ∷ amounts) = checking_if chain row amount ++ checking_text chain listed amounts
 
+-- a line for each lock, by account, asset and unlocker
+abbrev pub locked_text : ChainId → LocksAndNotes → List ℕ
+locked_text chain locked = flat_map (locked_line chain) (locks_of locked)
+
 abbrev pub balances_of : ChainPart → List ℕ
-balances_of p = balances_text p.site.chain p.held ++ checking_text p.site.chain p.rows p.checking
+balances_of p =
+    balances_text p.site.chain p.held ++ checking_text p.site.chain p.rows p.checking
+    ++ locked_text p.site.chain p.locked
 
 -- ---- under `traps`
 

@@ -7,6 +7,7 @@ use Rattle.chain_ids.specs.Texts.{chain_text}
 use Rattle.chain_ids.specs.declared.chain.ChainId.{ChainId}
 use Rattle.asset_lists.specs.declared.units.Asset.{Asset}
 use Rattle.asset_lists.specs.declared.units.Kind.{Kind}
+use Rattle.asset_locks.specs.declared.lock.Lock.{Lock}
 use Rattle.document_forms.specs.Texts.{fault_text}
 use Rattle.document_forms.specs.declared.fault.NetworkFault.{NetworkFault}
 use Rattle.network_coherence.specs.declared.faults.Incoherent.{Incoherent}
@@ -26,6 +27,12 @@ balance_line chain account asset =
 abbrev pub checking_line : ChainId → Location → ℕ → List ℕ
 checking_line chain id amount =
     codes "  checking " ++ chain_text chain ++ codes " " ++ location_text id ++ codes " " ++ decimal amount ++ codes "\n"
+
+-- what of an asset an account must keep, and who may unlock it
+abbrev pub locked_line : ChainId → Lock → List ℕ
+locked_line chain l =
+    codes "  locked " ++ (chain_text chain ++ (codes " " ++ (hex_text l.who ++ (codes " " ++ (location_text l.id
+    ++ (codes " " ++ (decimal l.amount ++ (codes " " ++ (location_text l.unlocker ++ codes "\n")))))))))
 
 -- what was trapped under a number, and who may claim it
 abbrev pub trap_line : ChainId → ℕ → Location → List Asset → List ℕ

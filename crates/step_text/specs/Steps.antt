@@ -15,7 +15,7 @@ use Rattle.network_steps.specs.declared.step_result.StepResult.TheVariants as an
 use Rattle.step_text.specs.declared.headings.StepWords.{StepWords}
 use Rattle.step_text.specs.declared.headings.StepWords.TheVariants.{Exec, Deliver, Claim, Drain, Balances, Traps, Queues, Supply}
 use Rattle.step_text.specs.Names.{name_at}
-use Rattle.step_text.specs.Texts.{kind_name, cause_name, part_letter, result_text, total_text, origin_text, topic_text}
+use Rattle.step_text.specs.Texts.{kind_name, cause_name, part_letter, call_name, call_result, result_text, total_text, origin_text, topic_text}
 
 -- ---- the heading
 
@@ -47,6 +47,7 @@ event_line (events.Sent from to number) =
 event_line (events.Burned kind path amount cause) =
     codes "  burned " ++ kind_name kind ++ codes " " ++ path_text path ++ codes " " ++ total_text amount ++ codes " " ++ cause_name cause ++ codes "\n"
 event_line (events.Answered query) = codes "  answered " ++ decimal query ++ codes "\n"
+event_line (events.Called index ok) = codes "  call " ++ call_name index ++ codes " " ++ call_result ok ++ codes "\n"
 event_line (events.Ignored query) = codes "  ignored " ++ decimal query ++ codes "\n"
 event_line (events.End origin topic surplus refunded) =
     codes "  end origin " ++ (origin_text origin ++ (codes " topic " ++ (topic_text topic

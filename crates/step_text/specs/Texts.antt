@@ -1,5 +1,5 @@
 -- The texts of the words of a report: kinds, causes, totals, assets. This project's own rule; the names are those of the types.
-use Rattle.std.specs.Prelude.{ℕ, ◌==◌, List, [], ◌∷◌, ◌++◌, Option, Some, None, codes, decimal, flat_map, if◌then◌else◌}
+use Rattle.std.specs.Prelude.{ℕ, ◌==◌, Bool, true, false, List, [], ◌∷◌, ◌++◌, Option, Some, None, codes, decimal, flat_map, if◌then◌else◌}
 use Rattle.locations.specs.declared.relative.Location.{Location}
 use Rattle.location_wire.specs.Texts.{hex_text, location_text}
 use Rattle.asset_lists.specs.declared.units.AssetId.{AssetId}
@@ -36,6 +36,19 @@ abbrev pub part_letter : Part → List ℕ
 part_letter Program = codes "p"
 part_letter Handler = codes "h"
 part_letter Appendix = codes "a"
+
+-- a call by its number in the set of calls
+abbrev pub call_name : ℕ → List ℕ
+call_name index =
+    if index == 0 then codes "remark"
+    else if index == 1 then codes "transfer"
+    else if index == 2 then codes "fail"
+    else codes "batch"
+
+-- how a call ended
+abbrev pub call_result : Bool → List ℕ
+call_result true = codes "ok"
+call_result false = codes "failed"
 
 -- how an instruction ended
 abbrev pub result_text : Option XcmError → List ℕ

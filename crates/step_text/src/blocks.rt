@@ -5,12 +5,13 @@ ghost use Rattle.asset_lists.specs.declared.units.Asset.{Asset};
 ghost use Rattle.asset_bundles.specs.Bundles.{held_assets};
 ghost use Rattle.ledgers.specs.Ledgers.{account_goods};
 ghost use Rattle.chain_queues.specs.Queues.{outgoing_of};
-ghost use Rattle.step_text.specs.Lines.{balance_line};
-ghost use Rattle.step_text.specs.Blocks.{balances_text, channel_text, checking_if, checking_text, trap_text, traps_text, queued_line};
+ghost use Rattle.step_text.specs.Lines.{balance_line, locked_line};
+ghost use Rattle.step_text.specs.Blocks.{balances_text, channel_text, checking_if, checking_text, locked_text, trap_text, traps_text, queued_line};
 
 use crate::laws::law_of_queued;
-use crate::lines::{balance_line, checking_line, queue_line, trap_line};
+use crate::lines::{balance_line, checking_line, locked_line, queue_line, trap_line};
 use asset_lists::Asset;
+use asset_locks::{Lock, LockBook};
 use chain_ids::ChainId;
 use chain_queues::{Queue, Queued};
 use ledgers::Ledger;
@@ -135,6 +136,32 @@ fn push_checking(
             text.push_str(&line)
         }
     }
+}
+
+/// The lines of a chain's locks, by account, asset and unlocker.
+pub fn locked_text(alloc: Global, chain: ChainId, book: &LockBook) -> Result<String, AllocError>
+    ensures { IfOk result (λ text. string_bytes text ≡ locked_text chain book.now) }
+{
+    let mut text = String::new(alloc);
+    push_locks(alloc, &mut text, chain, book.locks())?;
+    Ok(text)
+}
+
+/// Appends the lines of locks.
+fn push_locks(
+    alloc: Global,
+    text: &mut String,
+    chain: ChainId,
+    locks: &[Lock],
+) -> Result<(), AllocError>
+    ensures { OnOk result
+        (string_bytes text.new ≡ string_bytes text.old ++ flat_map (locked_line chain) locks.now) }
+{
+    for lock in locks {
+        let line = locked_line(alloc, chain, lock)?;
+        text.push_str(&line)?;
+    }
+    Ok(())
 }
 
 /// The lines of the messages that wait in a channel of a chain, oldest first: the bytes that are kept, and so the programs that they

@@ -12,10 +12,12 @@ mod steps;
 mod sums;
 mod words;
 
-pub use blocks::{balances_text, checking_text, queue_text, traps_text};
+pub use blocks::{balances_text, checking_text, locked_text, queue_text, traps_text};
 pub use headings::{StepWords, heading};
 pub use laws::{law_of_names, law_of_queued};
-pub use lines::{backing_line, balance_line, checking_line, queue_line, supply_line, trap_line};
+pub use lines::{
+    backing_line, balance_line, checking_line, locked_line, queue_line, supply_line, trap_line,
+};
 pub use opening::{line_refused_line, network_refused_line, opening_line};
 pub use steps::{drained_line, step_text};
 pub use sums::{Backing, Supply};

@@ -1,12 +1,13 @@
 //! The lines of blocks.
 
 ghost use Rattle.std.specs.Prelude.{◌≡◌, IfOk, string_bytes};
-ghost use Rattle.step_text.specs.Lines.{balance_line, checking_line, trap_line, queue_line, supply_line, backing_line};
+ghost use Rattle.step_text.specs.Lines.{balance_line, checking_line, locked_line, trap_line, queue_line, supply_line, backing_line};
 
 use crate::assets::{asset_text, assets_text, hex_text};
 use crate::words::{Shown, kind_name};
 use crate::{Backing, Supply};
 use asset_lists::{Asset, Kind};
+use asset_locks::Lock;
 use chain_ids::ChainId;
 use location_wire::{location_text, path_text};
 use locations::{Junctions, Location};
@@ -41,6 +42,22 @@ pub fn checking_line(
     let id = location_text(alloc, id)?;
     let mut text = String::new(alloc);
     write!(text, "  checking {chain} {id} {amount}\n")?;
+    Ok(text)
+}
+
+/// The line of a lock: whose asset is locked, so much of it, and who may unlock it.
+pub fn locked_line(alloc: Global, chain: ChainId, lock: &Lock) -> Result<String, AllocError>
+    ensures { IfOk result (λ text. string_bytes text ≡ locked_line chain lock.now) }
+{
+    let account = hex_text(alloc, lock.who.as_slice())?;
+    let id = location_text(alloc, &lock.id)?;
+    let unlocker = location_text(alloc, &lock.unlocker)?;
+    let amount = lock.amount;
+    let mut text = String::new(alloc);
+    write!(
+        text,
+        "  locked {chain} {account} {id} {amount} {unlocker}\n"
+    )?;
     Ok(text)
 }
 

@@ -7,7 +7,7 @@ ghost use Rattle.step_text.specs.Steps.{event_line, outcome_line, answer_line, s
 
 use crate::assets::{origin_text, topic_text};
 use crate::names::name_at;
-use crate::words::{Shown, cause_name, kind_name, part_letter};
+use crate::words::{Shown, call_name, call_result, cause_name, kind_name, part_letter};
 use asset_bundles::{Cause, Total};
 use asset_lists::Kind;
 use exec_base::{Event, Part};
@@ -69,6 +69,10 @@ fn push_event(alloc: Global, text: &mut String, event: &Event) -> Result<(), All
             cause,
         } => push_burned(alloc, text, *kind, path, *amount, *cause),
         Event::Answered { query } => write!(text, "  answered {query}\n"),
+        Event::Called { index, ok } => {
+            let (name, result) = (call_name(*index), call_result(*ok));
+            write!(text, "  call {name} {result}\n")
+        }
         Event::Ignored { query } => write!(text, "  ignored {query}\n"),
         Event::End {
             origin,

@@ -1,7 +1,7 @@
 //! The words of a report: kinds, causes, totals.
 
 ghost use Rattle.std.specs.Prelude.{◌≡◌, Some};
-ghost use Rattle.step_text.specs.Texts.{kind_name, cause_name, part_letter, total_text};
+ghost use Rattle.step_text.specs.Texts.{kind_name, cause_name, part_letter, call_name, call_result, total_text};
 
 use asset_bundles::{Cause, Total};
 use asset_lists::Kind;
@@ -28,6 +28,25 @@ pub(crate) fn cause_name(cause: Cause) -> &'static str
         Cause::Merged => "Merged",
         Cause::Saturated => "Saturated",
     }
+}
+
+/// The name of a call by its number in the set of calls.
+pub(crate) fn call_name(index: u8) -> &'static str
+    ensures { result.now ≡ call_name index }
+{
+    match index {
+        0 => "remark",
+        1 => "transfer",
+        2 => "fail",
+        _ => "batch",
+    }
+}
+
+/// How a call ended.
+pub(crate) fn call_result(ok: bool) -> &'static str
+    ensures { result.now ≡ call_result ok }
+{
+    if ok { "ok" } else { "failed" }
 }
 
 /// The letter of a program of a run.

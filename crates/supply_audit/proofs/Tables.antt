@@ -1,19 +1,24 @@
 -- What is added to a table of supplies.
-use Rattle.std.proofs.Common.{◌≡◌, ◌∙◌, ℕ, ◌+◌, ◌<◌, min, List, [], ◌∷◌, ◌++◌, length, get_or, take, refl, ap, sym, subst, Bool, true, false, map, rules, add-zero, add_assoc}
+use Rattle.std.proofs.Common.{◌≡◌, ◌∙◌, ℕ, ◌+◌, ◌<◌, min, List, [], ◌∷◌, ◌++◌, length, get_or, take, refl, ap, sym, subst, Bool, true, false, map, rules, arith, zero, suc, add-zero, add_assoc}
 use Rattle.std.specs.Prelude.{None, if◌then◌else◌, sum_by}
 use Rattle.std.specs.Ordering.{eq_by_cmp, is_eq}
 use Rattle.std.specs.declared.cmp.Ordering.{Ordering}
 use Rattle.std.specs.declared.cmp.Ordering.TheVariants.{Less, Equal, Greater}
-use Rattle.std.proofs.lemmas.Bool.{false≢true}
+use Rattle.std.specs.List.{list_all}
+use Rattle.std.proofs.lemmas.Bool.{and_parts, false≢true}
 use Rattle.std.proofs.lemmas.List.{take_more}
 use Rattle.std.proofs.lemmas.List.Sums.{sum_by-append}
 use Rattle.asset_lists.specs.declared.units.AssetId.TheVariants.{Concrete}
 use Rattle.asset_bundles.specs.Books.{most_burned}
 use Rattle.asset_bundles.specs.Totals.{total_value}
 use Rattle.trust_tables.specs.declared.rows.AssetRow.{AssetRow}
+use Rattle.trust_tables.specs.Chains.{path_of_site}
 use Rattle.coherence.specs.UniversalAssets.{UniversalAsset}
 use Rattle.coherence.specs.Networks.{is_home}
 use Rattle.exec_base.specs.Part.{ChainPart}
+use Rattle.network_genesis.specs.Tests.{has_path}
+use Rattle.chain_state.specs.declared.state.ChainState.{ChainState}
+use Rattle.chain_state.specs.Known.{paths_there}
 use Rattle.supply_audit.specs.declared.figures.Carried.TheVariants.{Teleports}
 use Rattle.supply_audit.specs.declared.figures.Figure.{Figure}
 use Rattle.supply_audit.specs.declared.figures.Figure.TheVariants.{Placed, Burned, Sent}
@@ -27,6 +32,20 @@ use Rattle.supply_audit.proofs.Saturating.{both, sum-map_append}
 
 abbrev Entries : Type 0
 Entries = List (UniversalAsset × Supply)
+
+-- ---- rows
+
+all_at : {A : Type 0} (p : A → Bool) (xs : List A) (i : ℕ) (a : A) → list_all p xs ≡ true → i < length xs → a ≡ get_or xs i a → p a ≡ true
+all_at p [] i a all inside at = absurd (omega (arith, inside))
+all_at p (x ∷ xs) zero a all inside at = ap p at ∙ (and_parts (p x) (list_all p xs) all).0
+all_at p (x ∷ xs) (suc i) a all inside at = all_at p xs i a (and_parts (p x) (list_all p xs) all).1 (omega (arith, inside)) at
+
+-- the id of each row has a path
+pub row_has_path : (chain : ChainState) (rows : List AssetRow) (k : ℕ) (row : AssetRow) → rows ≡ chain.settings.rows → k < length rows → row ≡ get_or rows k row
+    → has_path (path_of_site chain.settings.site) row ≡ true
+row_has_path chain rows k row same inside at =
+    all_at (has_path (path_of_site chain.settings.site)) rows k row
+    (subst (λ (xs : List AssetRow). list_all (has_path (path_of_site chain.settings.site)) xs ≡ true) (sym same) (paths_there chain)) inside at
 
 -- ---- figures
 

@@ -3,13 +3,14 @@
 use crate::values::{FIRST, SECOND, account, place};
 use asset_bundles::Total;
 use asset_lists::{Asset, AssetId, Fun, Instance, Kind};
+use asset_locks::Lock;
 use chain_ids::ChainId;
 use document_forms::{NetworkFault, Place, Section};
 use locations::{Junction, Junctions, NetworkId};
 use network_coherence::{Incoherent, IncoherentCause};
 use std::test::Fail;
 use step_text::{
-    Backing, Supply, backing_line, balance_line, checking_line, line_refused_line,
+    Backing, Supply, backing_line, balance_line, checking_line, line_refused_line, locked_line,
     network_refused_line, opening_line, queue_line, supply_line, trap_line,
 };
 
@@ -112,6 +113,21 @@ fn balances_have_their_lines(rt: HostRuntime) -> Result<(), Fail> {
     assert_eq!(rt; text.as_str(), want);
     let text = checking_line(alloc, RELAY, &place(0, &[]), 100)?;
     assert_eq!(rt; text.as_str(), "  checking relay 0 100\n");
+    Ok(())
+}
+
+#[test]
+fn locks_have_their_lines(rt: HostRuntime) -> Result<(), Fail> {
+    let lock = Lock {
+        who: SECOND,
+        id: place(1, &[]),
+        unlocker: place(1, &[Junction::Parachain(2001)]),
+        amount: 170_141_183_460_469_231_731_687_303_715_884_105_727,
+    };
+    let text = locked_line(rt.alloc(), PARA, &lock)?;
+    let want =
+        "  locked 2000 0x0202020202020202020202020202020202020202020202020202020202020202 1 170141183460469231731687303715884105727 1/Parachain(2001)\n";
+    assert_eq!(rt; text.as_str(), want);
     Ok(())
 }
 

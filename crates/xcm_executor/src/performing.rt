@@ -16,14 +16,13 @@ use exec_base::{Host, Registers};
 use exec_control::{
     alias_origin, clear_error, clear_origin, clear_topic, clear_transact_status, descend_origin,
     expect_error, expect_origin, expect_pallet, expect_transact_status, export_message,
-    hrmp_channel_accepted, hrmp_channel_closing, hrmp_new_channel_open_request, lock_asset,
-    note_unlockable, query_response, request_unlock, set_appendix, set_error_handler,
-    set_fees_mode, set_topic, subscribe_version, transact, trap, universal_origin, unlock_asset,
-    unpaid_execution, unsubscribe_version,
+    hrmp_channel_accepted, hrmp_channel_closing, hrmp_new_channel_open_request, note_unlockable,
+    query_response, set_appendix, set_error_handler, set_fees_mode, set_topic, subscribe_version,
+    transact, trap, universal_origin, unlock_asset, unpaid_execution, unsubscribe_version,
 };
 use exec_transfers::{
-    deposit_reserve_asset, initiate_reserve_withdraw, initiate_teleport, query_pallet,
-    report_error, report_holding, report_transact_status, transfer_reserve_asset,
+    deposit_reserve_asset, initiate_reserve_withdraw, initiate_teleport, lock_asset, query_pallet,
+    report_error, report_holding, report_transact_status, request_unlock, transfer_reserve_asset,
 };
 use message_parts::XcmError;
 use std::alloc::{AllocError, Global};
@@ -62,7 +61,7 @@ pub(crate) fn perform<H: Host>(
             origin_kind,
             require_weight_at_most,
             call,
-        } => transact(r, h, *origin_kind, *require_weight_at_most, call),
+        } => transact(alloc, r, h, *origin_kind, *require_weight_at_most, call),
         Instruction::HrmpNewChannelOpenRequest {
             sender,
             max_message_size,
@@ -155,10 +154,10 @@ pub(crate) fn perform<H: Host>(
             destination,
             xcm,
         } => export_message(r, h, network, destination, xcm),
-        Instruction::LockAsset { asset, unlocker } => lock_asset(r, h, asset, unlocker),
+        Instruction::LockAsset { asset, unlocker } => lock_asset(alloc, r, h, asset, unlocker),
         Instruction::UnlockAsset { asset, target } => unlock_asset(r, h, asset, target),
         Instruction::NoteUnlockable { asset, owner } => note_unlockable(r, h, asset, owner),
-        Instruction::RequestUnlock { asset, locker } => request_unlock(r, h, asset, locker),
+        Instruction::RequestUnlock { asset, locker } => request_unlock(alloc, r, h, asset, locker),
         Instruction::SetFeesMode { jit_withdraw } => set_fees_mode(r, h, *jit_withdraw),
         Instruction::SetTopic { topic } => set_topic(r, h, topic),
         Instruction::ClearTopic => clear_topic(r, h),

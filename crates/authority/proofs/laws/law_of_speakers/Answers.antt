@@ -1,5 +1,5 @@
-use Rattle.authority.proofs.Acts.{done_lowers}
+use Rattle.authority.proofs.Acts.{done_spends}
 use Rattle.authority.proofs.laws.law_of_speakers.Goals as goal
 
 pub returns : goal.returns
-returns c = record { done = done_lowers }
+returns c = record { done = done_spends }

@@ -1,10 +1,10 @@
 use Rattle.network_genesis.specs.Genesis.{first_world, order_of}
-use Rattle.paid_messages.proofs.Networks.{have_room}
+use Rattle.paid_messages.proofs.Networks.{have_room, none_sovereign}
 use Rattle.paid_messages.proofs.laws.law_of_paid_messages.Goals as goal
 
 pub returns : goal.returns
 returns c = record {
-  withdrawal = λ spec steps coherent. c.law_of_paid_deliveries.ensures.withdrawal (order_of spec) (first_world spec) steps (c.law_of_conserved_networks.ensures.first spec coherent) (have_room spec coherent.openable);
+  withdrawal = λ spec steps coherent. c.law_of_paid_deliveries.ensures.withdrawal (order_of spec) (first_world spec) steps (c.law_of_conserved_networks.ensures.first spec coherent) (have_room spec coherent.openable) (none_sovereign spec);
   teleport = λ spec steps coherent. c.law_of_paid_deliveries.ensures.teleport (order_of spec) (first_world spec) steps (c.law_of_conserved_networks.ensures.first spec coherent) (have_room spec coherent.openable);
   lost = λ spec steps coherent. c.law_of_paid_deliveries.ensures.lost (order_of spec) (first_world spec) steps (c.law_of_conserved_networks.ensures.first spec coherent) (have_room spec coherent.openable);
 }

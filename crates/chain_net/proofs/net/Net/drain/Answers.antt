@@ -38,7 +38,7 @@ deliveries-smaller c =
     let n = c.deliveries.self in
     let order = order_of c.args.self.now.spec in
     let next : next_channel order (world_of n) ≡ Some (c.in-Some.from, c.in-Some.to) = ap (λ spec. next_channel (order_of spec) (world_of n)) (sym c.deliveries.invariant.1) ∙ sym c.in-Some.ensures in
-    let less = one_less n.rules.items n.chains.items n.ruled (n.between c.deliveries.invariant.0) c.law_of_drains.ensures.lowers order (c.in-Some.from, c.in-Some.to) next in
+    let less = one_less n.rules.items n.chains.items n.ruled (n.between c.deliveries.invariant.0) c.law_of_drains.ensures.lowers (n.shaped c.deliveries.invariant.0) order (c.in-Some.from, c.in-Some.to) next in
     let same = ap deliveries_left c.in_ok-deliver.ensures.world in
     smaller_by (world_of c.deliver.new.self) (world_of n) (omega (arith, less, same))
 
@@ -47,7 +47,7 @@ deliveries-preserved c =
     let n = c.deliveries.self in
     let order = order_of c.args.self.now.spec in
     let next : next_channel order (world_of n) ≡ Some (c.in-Some.from, c.in-Some.to) = ap (λ spec. next_channel (order_of spec) (world_of n)) (sym c.deliveries.invariant.1) ∙ sym c.in-Some.ensures in
-    let less = one_less n.rules.items n.chains.items n.ruled (n.between c.deliveries.invariant.0) c.law_of_drains.ensures.lowers order (c.in-Some.from, c.in-Some.to) next in
+    let less = one_less n.rules.items n.chains.items n.ruled (n.between c.deliveries.invariant.0) c.law_of_drains.ensures.lowers (n.shaped c.deliveries.invariant.0) order (c.in-Some.from, c.in-Some.to) next in
     let same = ap deliveries_left c.in_ok-deliver.ensures.world in
     let k = c.deliveries.invariant.2.0 in
     let counted = c.deliveries.invariant.2.1 in

@@ -4,7 +4,7 @@ use Rattle.chain_ids.specs.declared.chain.ChainId.{ChainId}
 use Rattle.network_spec.specs.declared.chain.ChainSpec.{ChainSpec}
 use Rattle.network_genesis.specs.Genesis.{rules_of}
 use Rattle.chain_net.specs.Order.{are_in_order}
-use Rattle.chain_net.proofs.Openings.{in_order_by, first_is, names_are, as_many, all_between, openable_chains}
+use Rattle.chain_net.proofs.Openings.{in_order_by, first_is, names_are, as_many, all_between, none_misshaped, openable_chains}
 use Rattle.chain_net.proofs.net.Net.open.Goals as goal
 
 pub invariant_of-result : goal.invariant_of-result
@@ -18,6 +18,7 @@ invariant_of-result c =
       ruled = as_many spec spec.chains c.in_ok-rules.rules.items c.in_ok-chains.chains.items rules parts;
       named = names_are spec spec.chains c.in_ok-chains.chains.items parts ∙ sym names;
       between = λ going. all_between spec spec.chains c.in_ok-chains.chains.items c.requires.openable (openable_chains spec c.requires.openable) parts;
+      shaped = λ going. none_misshaped c.law_of_shapes.ensures.first spec spec.chains c.in_ok-rules.rules.items c.in_ok-chains.chains.items rules parts;
     }
 
 pub returns-clause-first : goal.returns-clause-first

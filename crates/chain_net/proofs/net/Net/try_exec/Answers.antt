@@ -1,11 +1,12 @@
-use Rattle.std.proofs.Common.{◌≡◌, ◌∙◌, ap, sym, subst, ◌<◌, Err}
+use Rattle.std.proofs.Common.{◌≡◌, false, ◌∙◌, ap, sym, subst, ◌<◌, Err}
 use Rattle.std.proofs.lemmas.Result.{err_from_is_err_and}
 use Rattle.network_steps.specs.declared.step_result.StepResult.{StepResult}
 use Rattle.versioned_xcm.specs.Reading.{message_of}
 use Rattle.network_steps.specs.Steps.{exec}
 use Rattle.chain_net.specs.Nets.{world_of, told_at, stepped}
-use Rattle.chain_net.proofs.Members.{at_place, set_many, set_names, set_between, somebody}
-use Rattle.chain_net.proofs.Executions.{exec_nowhere, exec_whole, exec_there, exec_ran, exec_stopped, read_is, fault_is, by_answer}
+use Rattle.chain_net.specs.Chains.{member_in}
+use Rattle.chain_net.proofs.Members.{member_at, at_place, set_many, set_names, set_between}
+use Rattle.chain_net.proofs.Executions.{exec_nowhere, exec_whole, exec_pool, exec_there, own_of, exec_ran, exec_stopped, read_is, fault_is, by_answer}
 use Rattle.chain_net.proofs.net.Net.try_exec.Goals as goal
 
 pub returns-in_default-clause-step : goal.returns-in_default-clause-step
@@ -18,12 +19,25 @@ returns-then-is_whole-clause-step c =
     exec_whole (world_of c.args.self.now) c.args.chain c.args.account.now c.args.bytes.now c.in-Some.place (sym c.in-Some.ensures.place) (sym c.if-is_whole.ensures)
     ∙ ap (λ acted. record { answer = StepResult.SovereignCaller; trace = told_at acted (world_of c.args.self.now); world = world_of c.args.self.now }) (sym c.requires.idle)
 
+pub returns-then-has_pool_account-clause-step : goal.returns-then-has_pool_account-clause-step
+returns-then-has_pool_account-clause-step c =
+    let within = subst (λ n. c.in-Some.place < n) (sym c.args.self.now.ruled) c.in-Some.ensures.there in
+    let is = member_at c.args.self.now.rules.items c.args.self.now.chains.items c.in-Some.place c.index-rules.result.now c.index-here.result.now
+    (at_place c.args.self.now.rules.items c.in-Some.place c.index-rules.result.now c.index-rules.ensures within)
+    (at_place c.args.self.now.chains.items c.in-Some.place c.index-here.result.now c.index-here.ensures c.in-Some.ensures.there) in
+    exec_pool (world_of c.args.self.now) c.args.chain c.args.account.now c.args.bytes.now c.in-Some.place (member_in c.index-rules.result.now c.index-here.result.now) (sym c.in-Some.ensures.place) (sym c.if-is_whole.ensures) is
+    (sym c.if-has_pool_account.ensures)
+    ∙ ap (λ acted. record { answer = StepResult.SovereignCaller; trace = told_at acted (world_of c.args.self.now); world = world_of c.args.self.now }) (sym c.requires.idle)
+
 pub returns-in-Err-clause-step : goal.returns-in-Err-clause-step
 returns-in-Err-clause-step c =
     let w = world_of c.args.self.now in
-    let there = somebody c.args.self.now.rules.items c.args.self.now.chains.items c.in-Some.place c.args.self.now.ruled c.in-Some.ensures.there in
+    let within = subst (λ n. c.in-Some.place < n) (sym c.args.self.now.ruled) c.in-Some.ensures.there in
+    let is = member_at c.args.self.now.rules.items c.args.self.now.chains.items c.in-Some.place c.index-rules.result.now c.index-here.result.now
+    (at_place c.args.self.now.rules.items c.in-Some.place c.index-rules.result.now c.index-rules.ensures within)
+    (at_place c.args.self.now.chains.items c.in-Some.place c.index-here.result.now c.index-here.ensures c.in-Some.ensures.there) in
     by_answer c.answer_to.result c.in-Err.fault (λ answer. exec w c.args.chain c.args.account.now c.args.bytes.now ≡ stepped answer c.args.self.now) c.answer_to.ensures.answer c.answer_to.ensures.other
-    (λ other. exec_there w c.args.chain c.args.account.now c.args.bytes.now c.in-Some.place there.0 (Err c.in-Err.fault) (sym c.in-Some.ensures.place) (sym c.if-is_whole.ensures) there.1 (fault_is c.in-Err.fault (message_of c.args.bytes.now) other c.in-Err.ensures.read)
+    (λ other. exec_there w c.args.chain c.args.account.now c.args.bytes.now c.in-Some.place (member_in c.index-rules.result.now c.index-here.result.now) (Err c.in-Err.fault) (sym c.in-Some.ensures.place) (sym c.if-is_whole.ensures) is (sym c.if-has_pool_account.ensures) (fault_is c.in-Err.fault (message_of c.args.bytes.now) other c.in-Err.ensures.read)
     ∙ ap (λ acted. record { answer = StepResult.Message c.in-Err.fault; trace = told_at acted w; world = w }) (sym c.requires.idle))
 
 pub run_here-requires-clause-between : goal.run_here-requires-clause-between
@@ -44,14 +58,16 @@ returns-in_err-outcome-clause-stops c =
     let within = subst (λ n. c.in-Some.place < n) (sym c.args.self.now.ruled) c.in-Some.ensures.there in
     rw q.1 (exec_stopped c.args.self.now.rules.items c.args.self.now.chains.items c.in-Some.place c.index-rules.result.now c.index_mut.result.now c.run_here.new.here c.args.chain c.args.account.now c.args.bytes.now c.in-Ok.program
     (sym c.in-Some.ensures.place) (sym c.if-is_whole.ensures) (at_place c.args.self.now.rules.items c.in-Some.place c.index-rules.result.now c.index-rules.ensures within)
-    (at_place c.args.self.now.chains.items c.in-Some.place c.index_mut.result.now c.index_mut.ensures.value c.in-Some.ensures.there) (read_is c.in-Ok.program (message_of c.args.bytes.now) c.in-Ok.ensures.read) c.in_err-outcome.ensures.stopped)
+    (at_place c.args.self.now.chains.items c.in-Some.place c.index_mut.result.now c.index_mut.ensures.value c.in-Some.ensures.there) (own_of c.args.self.now.chains.items c.in-Some.place c.index_mut.result.now c.index-here.result.now c.args.account.now false (at_place c.args.self.now.chains.items c.in-Some.place c.index_mut.result.now c.index_mut.ensures.value c.in-Some.ensures.there)
+    (at_place c.args.self.now.chains.items c.in-Some.place c.index-here.result.now c.index-here.ensures c.in-Some.ensures.there) c.if-has_pool_account.ensures) (read_is c.in-Ok.program (message_of c.args.bytes.now) c.in-Ok.ensures.read) c.in_err-outcome.ensures.stopped)
 
 pub returns-clause-step : goal.returns-clause-step
 returns-clause-step c =
     let within = subst (λ n. c.in-Some.place < n) (sym c.args.self.now.ruled) c.in-Some.ensures.there in
     exec_ran c.args.self.now.rules.items c.args.self.now.chains.items c.in-Some.place c.index-rules.result.now c.index_mut.result.now c.run_here.new.here c.args.chain c.args.account.now c.args.bytes.now c.in-Ok.program c.in_ok-outcome.outcome
     (sym c.in-Some.ensures.place) (sym c.if-is_whole.ensures) (at_place c.args.self.now.rules.items c.in-Some.place c.index-rules.result.now c.index-rules.ensures within)
-    (at_place c.args.self.now.chains.items c.in-Some.place c.index_mut.result.now c.index_mut.ensures.value c.in-Some.ensures.there) (read_is c.in-Ok.program (message_of c.args.bytes.now) c.in-Ok.ensures.read) c.in_ok-outcome.ensures.outcome c.in_ok-outcome.ensures.part
+    (at_place c.args.self.now.chains.items c.in-Some.place c.index_mut.result.now c.index_mut.ensures.value c.in-Some.ensures.there) (own_of c.args.self.now.chains.items c.in-Some.place c.index_mut.result.now c.index-here.result.now c.args.account.now false (at_place c.args.self.now.chains.items c.in-Some.place c.index_mut.result.now c.index_mut.ensures.value c.in-Some.ensures.there)
+    (at_place c.args.self.now.chains.items c.in-Some.place c.index-here.result.now c.index-here.ensures c.in-Some.ensures.there) c.if-has_pool_account.ensures) (read_is c.in-Ok.program (message_of c.args.bytes.now) c.in-Ok.ensures.read) c.in_ok-outcome.ensures.outcome c.in_ok-outcome.ensures.part
 
 pub returns-clause-between : goal.returns-clause-between
 returns-clause-between c =

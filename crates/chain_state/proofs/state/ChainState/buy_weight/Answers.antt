@@ -28,14 +28,13 @@ invariant_of-self-in-Ok-buy c =
     record {
       ledger_lists = f.ledger_lists;
       book_lists = ap (λ (b : Book). b.listed) is.book_is ∙ saturated_rows (listed_of (coin_of is.line.rate)) (excess c.args.w is.line) f.book ∙ f.book_lists;
-      paths = f.paths;
+      floors = f.floors;
+      set_up = f.set_up;
       rates = ap (are_rates_listed (listing f.settings.rows)) is.lines_are ∙ bought_rates c.args.w c.args.payment (listing f.settings.rows) f.trader f.rates;
-      prices = f.prices;
-      fees_listed = f.fees_listed;
+      payable = f.payable;
       fee_rows = f.fee_rows;
       slot_rows = f.slot_rows;
       spare_lines = f.spare_lines ∙ sym (ap Closed is.lines_are ∙ bought_closed c.args.w c.args.payment f.trader);
-      few_pallets = f.few_pallets;
       room = f.room;
       checked = f.checked;
     }

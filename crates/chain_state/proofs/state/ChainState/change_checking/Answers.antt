@@ -18,14 +18,13 @@ invariant_of-self c =
     record {
       ledger_lists = f.ledger_lists;
       book_lists = f.book_lists;
-      paths = f.paths;
+      floors = f.floors;
+      set_up = f.set_up;
       rates = f.rates;
-      prices = f.prices;
-      fees_listed = f.fees_listed;
+      payable = f.payable;
       fee_rows = f.fee_rows;
       slot_rows = f.slot_rows;
       spare_lines = f.spare_lines;
-      few_pallets = f.few_pallets;
       room = f.room;
       checked = ap (are_checked f.settings.rows) (with_items_is f.checking c.change_all.new.checking long ∙ c.change_all.ensures ∙ (λ i. changed_all by list (c.items.ensures i) (value i))) ∙ all_kept_checked by list f.settings.rows f.checking.items ∙ f.checked;
     }

@@ -8,6 +8,7 @@ use Rattle.chain_queues.specs.Queues.{outgoing_of}
 use Rattle.network_genesis.specs.Tests.{fee_is_price, has_price}
 use Rattle.chain_state.specs.PartOf.{part_of}
 use Rattle.chain_state.proofs.Found.{all_found}
+use Rattle.chain_state.specs.Known.{prices_there}
 use Rattle.chain_state.proofs.state.ChainState.fee_to.Goals as goal
 
 pub returns-in-Some-clause-price : goal.returns-in-Some-clause-price
@@ -15,5 +16,5 @@ returns-in-Some-clause-price c =
     let f = c.args.self.now in
     let p = part_of f in
     let found : channel_to p c.args.dest.now ≡ Some (outgoing_of c.in_ok-queue.queue.now) = sym c.queue_to.ensures ∙ ap (λ r. option_map outgoing_of (option_copied r)) c.in_ok-queue.was in
-    let priced = all_found has_price (leads_to p c.args.dest.now) p.channels (outgoing_of c.in_ok-queue.queue.now) f.prices found in
+    let priced = all_found has_price (leads_to p c.args.dest.now) p.channels (outgoing_of c.in_ok-queue.queue.now) (prices_there f) found in
     ap (λ (a : Asset). is_price a.fun) c.copy.ensures ∙ ap fee_is_price (sym c.in-Some.is) ∙ priced

@@ -2,6 +2,7 @@ use Rattle.std.proofs.Common.{sym, subst}
 use Rattle.fee_rows.specs.Fees.{HaveRowsFor}
 use Rattle.chain_state.specs.PartOf.{part_of}
 use Rattle.chain_state.proofs.FeeSlot.{slot_rowed}
+use Rattle.chain_state.specs.Known.{prices_there, fees_there}
 use Rattle.chain_state.proofs.state.ChainState.hold_in_slot.Goals as goal
 
 pub invariant_of-self : goal.invariant_of-self
@@ -10,14 +11,13 @@ invariant_of-self c =
     record {
       ledger_lists = f.ledger_lists;
       book_lists = f.book_lists;
-      paths = f.paths;
+      floors = f.floors;
+      set_up = f.set_up;
       rates = f.rates;
-      prices = f.prices;
-      fees_listed = f.fees_listed;
+      payable = f.payable;
       fee_rows = f.fee_rows;
-      slot_rows = subst (HaveRowsFor f.fees) (sym c.set_down.ensures) (slot_rowed (part_of f) f.fees c.args.goods f.fee_rows f.fees_listed f.prices c.requires.fee);
+      slot_rows = subst (HaveRowsFor f.fees) (sym c.set_down.ensures) (slot_rowed (part_of f) f.fees c.args.goods f.fee_rows (fees_there f) (prices_there f) c.requires.fee);
       spare_lines = f.spare_lines;
-      few_pallets = f.few_pallets;
       room = f.room;
       checked = f.checked;
     }

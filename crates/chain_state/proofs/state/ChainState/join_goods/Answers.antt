@@ -13,14 +13,13 @@ invariant_of-self-2 c =
     record {
       ledger_lists = f.ledger_lists;
       book_lists = ap (λ (b : Book). b.listed) c.in_ok-join.ensures.booked ∙ listed-Booked f.book (given_up c.args.into.now c.args.goods) ∙ f.book_lists;
-      paths = f.paths;
+      floors = f.floors;
+      set_up = f.set_up;
       rates = f.rates;
-      prices = f.prices;
-      fees_listed = f.fees_listed;
+      payable = f.payable;
       fee_rows = f.fee_rows;
       slot_rows = f.slot_rows;
       spare_lines = f.spare_lines;
-      few_pallets = f.few_pallets;
       room = f.room;
       checked = f.checked;
     }

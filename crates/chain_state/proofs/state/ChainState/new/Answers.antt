@@ -8,16 +8,18 @@ use Rattle.chain_lists.specs.Checked.{are_checked}
 use Rattle.chain_state.specs.ListedFees.{are_fees_listed}
 use Rattle.chain_state.proofs.Entries.{checked_rows}
 use Rattle.chain_state.proofs.FeeSlot.{nothing_rowed}
+use Rattle.chain_state.proofs.Floored.{nothing_floored}
+use Rattle.account_floors.specs.Floors.{NoPoolLocks}
+use Rattle.account_floors.specs.Laws.{none_frees}
+use Rattle.chain_state.specs.Facts.{is_set_up, keeps_floors, are_payable}
 use Rattle.chain_state.proofs.state.ChainState.new.Goals as goal
 
 pub open-requires-clause-few : goal.open-requires-clause-few
 open-requires-clause-few c = subst (λ n. n < 2 ^ 32) (sym (c.in_ok-places.ensures.as_many ∙ ap length c.items.ensures)) c.requires.few
 
-pub invariant_of-result-clause-prices : goal.invariant_of-result-clause-prices
-invariant_of-result-clause-prices c = ap have_prices c.in_ok-queues.ensures ∙ c.requires.prices
-
-pub invariant_of-result-clause-fees_listed : goal.invariant_of-result-clause-fees_listed
-invariant_of-result-clause-fees_listed c = ap (are_fees_listed (listing c.args.settings.rows)) c.in_ok-queues.ensures ∙ c.requires.fees
+pub invariant_of-result-clause-payable : goal.invariant_of-result-clause-payable
+invariant_of-result-clause-payable c =
+    are_payable _ _ (ap have_prices c.in_ok-queues.ensures ∙ c.requires.prices) (ap (are_fees_listed (listing c.args.settings.rows)) c.in_ok-queues.ensures ∙ c.requires.fees)
 
 pub invariant_of-result-clause-fee_rows : goal.invariant_of-result-clause-fee_rows
 invariant_of-result-clause-fee_rows c = λ u.
@@ -32,3 +34,10 @@ invariant_of-result-clause-spare_lines c = ap Closed (c.in_ok-spare.ensures.line
 pub invariant_of-result-clause-checked : goal.invariant_of-result-clause-checked
 invariant_of-result-clause-checked c =
     ap (are_checked c.args.settings.rows) (c.in_ok-checking.ensures ∙ ap (map row_checking) c.items-3.ensures) ∙ checked_rows c.args.settings.rows c.requires.checkings
+
+pub invariant_of-result-clause-floors : goal.invariant_of-result-clause-floors
+invariant_of-result-clause-floors c =
+    keeps_floors _ _ _ (nothing_floored _ _ c.new-locked.ensures) (subst (NoPoolLocks c.args.settings.pools) (sym c.new-locked.ensures) (none_frees c.args.settings.pools))
+
+pub invariant_of-result-clause-set_up : goal.invariant_of-result-clause-set_up
+invariant_of-result-clause-set_up c = is_set_up _ _ _ _ c.requires.distinct c.requires.paths c.requires.few_pallets c.requires.few_pools

@@ -71,3 +71,20 @@ returns c =
     let part : part_of c.place_all.new.self ≡ part_at spec entry =
     c.in_ok-place_all.ensures.placed ∙ (λ i. record (c.in_ok-state.ensures i) { held = with_balances empty (c.items-2.ensures i) }) in
     record { opened = subst (λ o. IsSomeAnd o (λ d. part_of c.place_all.new.self ≡ part_at spec d)) (sym found) part }
+
+pub invariant_of-state : goal.invariant_of-state
+invariant_of-state c =
+    let s = c.place_all.new.self in
+    record {
+      set_up = s.set_up;
+      floors = s.floors;
+      ledger_lists = s.ledger_lists;
+      book_lists = s.book_lists;
+      rates = s.rates;
+      payable = s.payable;
+      fee_rows = s.fee_rows;
+      slot_rows = s.slot_rows;
+      spare_lines = s.spare_lines;
+      room = s.room;
+      checked = s.checked;
+    }

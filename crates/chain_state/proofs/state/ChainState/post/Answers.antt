@@ -7,6 +7,8 @@ use Rattle.trust_tables.specs.Trust.{listing}
 use Rattle.network_genesis.specs.Tests.{have_prices}
 use Rattle.chain_state.specs.ListedFees.{are_fees_listed}
 use Rattle.chain_state.proofs.Kept.{prices_kept, fees_kept}
+use Rattle.chain_state.specs.Facts.{are_payable}
+use Rattle.chain_state.specs.Known.{prices_there, fees_there}
 use Rattle.chain_state.proofs.state.ChainState.post.Goals as goal
 
 pub invariant_of-self : goal.invariant_of-self
@@ -15,14 +17,13 @@ invariant_of-self c =
     record {
       ledger_lists = f.ledger_lists;
       book_lists = f.book_lists;
-      paths = f.paths;
+      floors = f.floors;
+      set_up = f.set_up;
       rates = f.rates;
-      prices = ap have_prices c.in-Ok.ensures.queued ∙ prices_kept (leads_to c.args.to) (with_waiting (program_read (message_of c.args.bytes.items)) c.args.cargo) (λ o. refl) (channels_of f.queues) ∙ f.prices;
-      fees_listed = ap (are_fees_listed (listing f.settings.rows)) c.in-Ok.ensures.queued ∙ fees_kept (listing f.settings.rows) (leads_to c.args.to) (with_waiting (program_read (message_of c.args.bytes.items)) c.args.cargo) (λ o. refl) (channels_of f.queues) ∙ f.fees_listed;
+      payable = are_payable _ _ (ap have_prices c.in-Ok.ensures.queued ∙ prices_kept (leads_to c.args.to) (with_waiting (program_read (message_of c.args.bytes.items)) c.args.cargo) (λ o. refl) (channels_of f.queues) ∙ (prices_there f)) (ap (are_fees_listed (listing f.settings.rows)) c.in-Ok.ensures.queued ∙ fees_kept (listing f.settings.rows) (leads_to c.args.to) (with_waiting (program_read (message_of c.args.bytes.items)) c.args.cargo) (λ o. refl) (channels_of f.queues) ∙ (fees_there f));
       fee_rows = f.fee_rows;
       slot_rows = f.slot_rows;
       spare_lines = f.spare_lines;
-      few_pallets = f.few_pallets;
       room = f.room;
       checked = f.checked;
     }

@@ -9,14 +9,13 @@ invariant_of-self c =
     record {
       ledger_lists = f.ledger_lists;
       book_lists = f.book_lists;
-      paths = f.paths;
+      floors = f.floors;
+      set_up = f.set_up;
       rates = rates_after c.args.w (listing f.settings.rows) f.trader c.refund.new.self c.refund.result c.refund.ensures.lines c.refund.ensures.err f.rates;
-      prices = f.prices;
-      fees_listed = f.fees_listed;
+      payable = f.payable;
       fee_rows = f.fee_rows;
       slot_rows = f.slot_rows;
       spare_lines = f.spare_lines ∙ sym (closed_after c.args.w f.trader c.refund.new.self c.refund.result c.refund.ensures.lines c.refund.ensures.err);
-      few_pallets = f.few_pallets;
       room = f.room;
       checked = f.checked;
     }

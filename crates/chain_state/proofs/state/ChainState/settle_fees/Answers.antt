@@ -7,7 +7,7 @@ use Rattle.asset_bundles.specs.declared.book.Cause.{Cause}
 use Rattle.asset_bundles.specs.Bundles.{Bundle, bundle_of, IsHolding, assets_at, held_assets}
 use Rattle.asset_bundles.specs.Books.{Book, Booked, AreListed, burned_for}
 use Rattle.trust_tables.specs.Trust.{listing}
-use Rattle.ledgers.specs.Ledgers.{Accounts, held_by}
+use Rattle.ledgers.specs.Ledgers.{Accounts, held_by, Deposited}
 use Rattle.weight_trader.specs.Refunds.{Closed}
 use Rattle.exec_base.specs.Host.{fees_within, fees_above, settled_burns, burned_line, burned_lines, settled}
 use Rattle.network_genesis.specs.Tests.{are_rates_listed}
@@ -17,6 +17,9 @@ use Rattle.chain_state.proofs.BurnedLines.{same_book}
 use Rattle.chain_state.proofs.RateList.{closed_twice, closed_rates}
 use Rattle.chain_state.proofs.Widths.{rows_stay}
 use Rattle.chain_state.proofs.Settled.{within_rowed, above_rowed, rowed_listed, units_listed, rows_holding, rows_bundle, ledger_after}
+use Rattle.chain_state.proofs.Floored.{after_either, got_after}
+use Rattle.chain_state.specs.Facts.{keeps_floors, KeepsFloors}
+use Rattle.chain_state.specs.Known.{floors_there, pools_free}
 use Rattle.chain_state.proofs.state.ChainState.settle_fees.Goals as goal
 
 pub above_lines-requires : goal.above_lines-requires
@@ -47,14 +50,14 @@ invariant_of-self-in-Break-branch-5 c =
     record {
       ledger_lists = ledger_after f.settings.fee_account _ f.ledger c.deposit_into.new.ledger c.deposit_into.result c.deposit_into.ensures.deposited c.deposit_into.ensures.kept ∙ f.ledger_lists;
       book_lists = f.book_lists;
-      paths = f.paths;
+      floors = after_either (λ (l : Accounts). KeepsFloors f.settings.pools f.locked l.held) f.ledger (Deposited f.settings.fee_account (bundle_of c.as_slice-2.result.now) f.ledger) c.deposit_into.new.ledger c.deposit_into.result c.deposit_into.ensures.deposited c.deposit_into.ensures.kept
+          f.floors (keeps_floors _ _ _ (got_after f.locked f.ledger f.settings.fee_account (bundle_of c.as_slice-2.result.now) (floors_there f)) (pools_free f));
+      set_up = f.set_up;
       rates = f.rates;
-      prices = f.prices;
-      fees_listed = f.fees_listed;
+      payable = f.payable;
       fee_rows = f.fee_rows;
       slot_rows = f.slot_rows;
       spare_lines = ap Closed c.in_ok-close.ensures.lines ∙ closed_twice f.spare ∙ f.spare_lines;
-      few_pallets = f.few_pallets;
       room = f.room;
       checked = f.checked;
     }
@@ -77,14 +80,14 @@ invariant_of-self-2 c =
     record {
       ledger_lists = ledger_after f.settings.fee_account _ f.ledger c.deposit_into.new.ledger c.deposit_into.result c.deposit_into.ensures.deposited c.deposit_into.ensures.kept ∙ f.ledger_lists;
       book_lists = rows_stay f.book _ _ c.book_all.ensures ∙ f.book_lists;
-      paths = f.paths;
+      floors = after_either (λ (l : Accounts). KeepsFloors f.settings.pools f.locked l.held) f.ledger (Deposited f.settings.fee_account (bundle_of c.as_slice-2.result.now) f.ledger) c.deposit_into.new.ledger c.deposit_into.result c.deposit_into.ensures.deposited c.deposit_into.ensures.kept
+          f.floors (keeps_floors _ _ _ (got_after f.locked f.ledger f.settings.fee_account (bundle_of c.as_slice-2.result.now) (floors_there f)) (pools_free f));
+      set_up = f.set_up;
       rates = ap (are_rates_listed (listing f.settings.rows)) closed ∙ closed_rates (listing f.settings.rows) f.trader ∙ f.rates;
-      prices = f.prices;
-      fees_listed = f.fees_listed;
+      payable = f.payable;
       fee_rows = λ u. c.clear.ensures.rows u ∙ f.fee_rows u;
       slot_rows = λ u some. c.clear.ensures.rows u ∙ f.slot_rows u some;
       spare_lines = ap Closed c.swap.ensures.y_after ∙ sym (ap Closed closed ∙ closed_twice f.trader);
-      few_pallets = f.few_pallets;
       room = f.room;
       checked = f.checked;
     }

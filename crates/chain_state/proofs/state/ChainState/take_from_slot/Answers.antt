@@ -8,14 +8,13 @@ invariant_of-self c =
     record {
       ledger_lists = f.ledger_lists;
       book_lists = f.book_lists;
-      paths = f.paths;
+      floors = f.floors;
+      set_up = f.set_up;
       rates = f.rates;
-      prices = f.prices;
-      fees_listed = f.fees_listed;
+      payable = f.payable;
       fee_rows = f.fee_rows;
       slot_rows = nothing_rowed f.fees _ (c.replace.ensures.after ∙ c.set_down-nothing.ensures ∙ c.empty.ensures);
       spare_lines = f.spare_lines;
-      few_pallets = f.few_pallets;
       room = f.room;
       checked = f.checked;
     }

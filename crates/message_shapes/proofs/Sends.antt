@@ -1,4 +1,4 @@
--- What is queued and what may still be sent never rises in a run.
+-- What is queued and what may still be sent never rises in a run of one of the seven messages.
 use Rattle.std.proofs.Common.{◌≡◌, ◌⊎◌, inl, inr, ⊎_elim, ℕ, zero, suc, ◌+◌, ◌≤◌, Bool, true, false, List, [], ◌∷◌, Option, Some, None, refl, sym, ap, ◌∙◌, subst, arith, get_or}
 use Rattle.std.specs.Prelude.{if◌then◌else◌, drop, find, slice_get, slice_set, sum_by, option_and_then, Result, Ok, Err}
 use Rattle.std.proofs.lemmas.Option.{slice_get_within, get_or_from_slice_get}
@@ -57,7 +57,11 @@ use Rattle.network_steps.specs.Worlds.{Member, chain_of, World, with_part}
 use Rattle.network_steps.specs.Sends.{message_count, queue_count, queued, deliveries_left}
 use Rattle.network_steps.specs.Acting.{begun}
 use Rattle.network_steps.specs.Steps.{name_at, run_for, sender_after, receiver_after, delivered}
-use Rattle.network_steps.proofs.Stillness.{set_other}
+use Rattle.trust_tables.specs.declared.chains.Site.{Site}
+use Rattle.message_shapes.specs.Shapes.{IsShape, IsShaped}
+use Rattle.message_shapes.proofs.Admitting.{admitted_shape}
+use Rattle.message_shapes.specs.Calm.{IsMute, MuteAt}
+use Rattle.message_shapes.proofs.Calm.{shape_mute}
 
 -- ---- programs
 sends-led_by : (first : Instruction-F Instruction) (program : List Instruction) → sending first ≡ 0 → inner first ≡ None → sends (led_by first program) ≡ sends program
@@ -179,17 +183,23 @@ IsSentBy l m t = (t.part.channels ≡ m.part.channels) ⊎ (queued t.part.channe
 first_sent : (l : Instruction-F Instruction) (m : Machine) (t : MachineWithGoods) (c : MachineCall) (n : ℕ) → t.part.channels ≡ m.part.channels → sent_in l ≡ n → queued (after c t).part.channels ≤ queued t.part.channels + n → IsSentBy l m (after c t)
 first_sent l m t c n unsent is more = let a = ap queued unsent in inr (omega (arith, more, a, is))
 
-call_sent : (l : Instruction-F Instruction) (m : Machine) (c : MachineCall) (t : MachineWithGoods) → HasReason Moment.Inside l m t c → IsSentBy l m t → IsSentBy l m (after c t)
-call_sent l m (MachineCall.TransferOut list from dest program) t asks h = first_sent l m t (MachineCall.TransferOut list from dest program) (1 + sends program) asks.0 (ap sent_in asks.2) (transferred_more t.part list from dest program)
-call_sent l m (MachineCall.DepositOut dest program) t asks h = first_sent l m t (MachineCall.DepositOut dest program) (1 + sends program) asks.0 (ap sent_in asks.2.1) (deposited_more t.part t.goods dest program)
-call_sent l m (MachineCall.Ship way dest program) t asks h = first_sent l m t (MachineCall.Ship way dest program) (1 + sends program) asks.0 (ap sent_in asks.2.1 ∙ ships_one way asks.2.0 dest program) (shipped_more t.part t.goods way dest program)
-call_sent l m (MachineCall.Respond info answer querier) t asks h = first_sent l m t (MachineCall.Respond info answer querier) 1 asks.0 (reports_one l info asks.2) (responded_more t.part info answer querier)
-call_sent l m _ t asks h = h
+-- who tells another chain of a lock has an origin
+told_of_lock : (l k : Instruction-F Instruction) (m : Machine) (who : Location) → IsMute l m → l ≡ k → (IsMute k m → m.regs.origin ≡ None) → m.regs.origin ≡ Some who → ⊥
+told_of_lock l k m who mute is silent speaks = absurd (let no_way : None ≡ Some who = sym (silent (subst (λ (k : Instruction-F Instruction). IsMute k m) is mute)) ∙ speaks in cc)
 
-done_more : (l : Instruction-F Instruction) (m : Machine) → queued (channels_of (done l m)) ≤ queued (channels_of m) + sent_in l
-done_more l m =
+call_sent : (l : Instruction-F Instruction) (m : Machine) (c : MachineCall) (t : MachineWithGoods) → IsMute l m → HasReason Moment.Inside l m t c → IsSentBy l m t → IsSentBy l m (after c t)
+call_sent l m (MachineCall.TransferOut list from dest program) t mute asks h = first_sent l m t (MachineCall.TransferOut list from dest program) (1 + sends program) asks.0 (ap sent_in asks.2) (transferred_more t.part list from dest program)
+call_sent l m (MachineCall.DepositOut dest program) t mute asks h = first_sent l m t (MachineCall.DepositOut dest program) (1 + sends program) asks.0 (ap sent_in asks.2.1) (deposited_more t.part t.goods dest program)
+call_sent l m (MachineCall.Ship way dest program) t mute asks h = first_sent l m t (MachineCall.Ship way dest program) (1 + sends program) asks.0 (ap sent_in asks.2.1 ∙ ships_one way asks.2.0 dest program) (shipped_more t.part t.goods way dest program)
+call_sent l m (MachineCall.Respond info answer querier) t mute asks h = first_sent l m t (MachineCall.Respond info answer querier) 1 asks.0 (reports_one l info asks.2) (responded_more t.part info answer querier)
+call_sent l m (MachineCall.Lock a owner unlocker) t mute asks h = absurd (told_of_lock l (Instruction-F.LockAsset a unlocker) m owner mute asks.2 (λ e. e) asks.1)
+call_sent l m (MachineCall.Request a owner locker) t mute asks h = absurd (told_of_lock l (Instruction-F.RequestUnlock a locker) m owner mute asks.2 (λ e. e) asks.1)
+call_sent l m _ t mute asks h = h
+
+done_more : (l : Instruction-F Instruction) (m : Machine) → IsMute l m → queued (channels_of (done l m)) ≤ queued (channels_of m) + sent_in l
+done_more l m mute =
     ⊎_elim (λ (same : channels_of (done l m) ≡ channels_of m). let a = ap queued same in omega (arith, a)) (λ (more : queued (channels_of (done l m)) ≤ queued (channels_of m) + sent_in l). more)
-    (each_keeps l m (IsSentBy l m) (λ c t asks from h. call_sent l m c t asks h) (λ t from h. h) (inl refl))
+    (each_keeps l m (IsSentBy l m) (λ c t asks from h. call_sent l m c t mute asks h) (λ t from h. h) (inl refl))
 
 -- ---- what is kept for later
 kept_more : (l : Instruction-F Instruction) (c d : Control) → Steers (λ p. p) l c d → sends d.handler + sends d.appendix ≤ sends c.handler + sends c.appendix + sends_inside (kept l)
@@ -209,9 +219,9 @@ sent_and_kept _ = omega arith
 abbrev pub due : Machine → ℕ
 due m = queued (channels_of m) + (sends m.regs.handler + sends m.regs.appendix)
 
-pub ran_more : IsOrderly xcm → (x : Instruction) (m : Machine) → refusal_of x m ≡ None → due (xcm.done x m) ≤ due m + sends_one x
-ran_more orderly x m ok =
-    let a = done_more (out-Instruction x) m in
+pub ran_more : IsOrderly xcm → (x : Instruction) (m : Machine) → IsMute (out-Instruction x) m → refusal_of x m ≡ None → due (xcm.done x m) ≤ due m + sends_one x
+ran_more orderly x m mute ok =
+    let a = done_more (out-Instruction x) m mute in
     let b = kept_more (out-Instruction x) (control_of m.regs) (control_of (xcm.done x m).regs) (orderly x m ok) in
     let c = sent_and_kept (out-Instruction x) in
     let d = sends_one-is x in
@@ -242,33 +252,33 @@ go_on_due part place [] m = let e = to_appendix_due (record m { regs = handler_d
 go_on_due part place (x ∷ behind) m = omega arith
 
 module _ (orderly : IsOrderly xcm) where
-  by_answer_due : (part : Part) (place : ℕ) (x : Instruction) (behind : List Instruction) (m : Machine) (o : Option XcmError) → refusal_of x m ≡ o → due_at (by_answer xcm part place x behind m o) ≤ sends (x ∷ behind) + due m
-  by_answer_due part place x behind m None e =
+  by_answer_due : (part : Part) (place : ℕ) (x : Instruction) (behind : List Instruction) (m : Machine) (o : Option XcmError) → IsMute (out-Instruction x) m → refusal_of x m ≡ o → due_at (by_answer xcm part place x behind m o) ≤ sends (x ∷ behind) + due m
+  by_answer_due part place x behind m None mute e =
       let a = go_on_due part (place + 1) behind (traced part place x None (xcm.done x m)) in
       let b = told_due (Event.Ran part place (index (out-Instruction x)) None) (xcm.done x m) in
-      let c = ran_more orderly x m e in
+      let c = ran_more orderly x m mute e in
       omega (arith, a, b, c)
-  by_answer_due part place x behind m (Some error) e =
+  by_answer_due part place x behind m (Some error) mute e =
       let a = to_handler_due m.regs.handler (record (traced part place x (Some error) m) { regs = failed place error behind m.regs }) refl in
       let b = told_due (Event.Ran part place (index (out-Instruction x)) (Some error)) m in
       omega (arith, a, b)
 
-  next_due : (g : Stage) → due_at (next xcm g) ≤ due_at g
-  next_due (At part place x behind m) = by_answer_due part place x behind m (refusal_of x m) refl
-  next_due (Ended m) = omega arith
+  next_due : (g : Stage) → MuteAt g → due_at (next xcm g) ≤ due_at g
+  next_due (At part place x behind m) mute = by_answer_due part place x behind m (refusal_of x m) mute refl
+  next_due (Ended m) mute = omega arith
 
-  steps_due : (n : ℕ) (g : Stage) → due_at (steps xcm n g) ≤ due_at g
+  steps_due : (n : ℕ) (g : Stage) → ((k : ℕ) → MuteAt (steps xcm k g)) → due_at (steps xcm n g) ≤ due_at g
   unfolding steps
-  steps_due zero g = omega arith
-  steps_due (suc n) g = let a = steps_due n (next xcm g) in let b = next_due g in omega (arith, a, b)
+  steps_due zero g mute = omega arith
+  steps_due (suc n) g mute = let a = steps_due n (next xcm g) (λ k. mute (suc k)) in let b = next_due g (mute 0) in omega (arith, a, b)
 
   machine_due : (g : Stage) → queued (channels_of (machine_of g)) ≤ due_at g
   machine_due (At part place x behind m) = omega arith
   machine_due (Ended m) = omega arith
 
   -- a run leaves no more in the queues than there was with what its program may send
-  pub run_sends : (g : Stage) → queued (channels_of (machine_of (run xcm g))) ≤ due_at g
-  run_sends g = let a = machine_due (run xcm g) in let b = steps_due (still_to_run g) g in omega (arith, a, b)
+  pub run_sends : (g : Stage) → ((k : ℕ) → MuteAt (steps xcm k g)) → queued (channels_of (machine_of (run xcm g))) ≤ due_at g
+  run_sends g mute = let a = machine_due (run xcm g) in let b = steps_due (still_to_run g) g mute in omega (arith, a, b)
 
 -- ---- the end of a run sends nothing
 end_same : (c : MachineCall) (t : MachineWithGoods) → ComesAtEnd c → (after c t).part.channels ≡ t.part.channels
@@ -276,6 +286,8 @@ end_same (MachineCall.TransferOut list from dest program) t comes = absurd comes
 end_same (MachineCall.DepositOut dest program) t comes = absurd comes
 end_same (MachineCall.Ship way dest program) t comes = absurd comes
 end_same (MachineCall.Respond info answer querier) t comes = absurd comes
+end_same (MachineCall.Lock a owner unlocker) t comes = absurd comes
+end_same (MachineCall.Request a owner locker) t comes = absurd comes
 end_same _ t comes = refl
 
 sends_none : (cs : List Outgoing) → IsKeptAtEnd (λ (t : MachineWithGoods). t.part.channels ≡ cs)
@@ -338,21 +350,29 @@ module _ (rules : ChainRules) (origin : Location) (credit : Weight) (queries : L
   by_weight_sends (Some weight) a e = by_limit_sends weight (is_within weight rules.limit) a e
 
 module _ (orderly : IsOrderly xcm) (rules : ChainRules) (origin : Location) where
-  executed_by_sends : (r : Result Admitted Outcome) (p : ChainPart) (n : ℕ) → ((a : Admitted) → r ≡ Ok a → sends a.program ≡ n) → queued (executed_by rules origin r p).1.channels ≤ queued p.channels + n
-  executed_by_sends (Err outcome) p n h = omega arith
-  executed_by_sends (Ok a) p n h =
+  executed_by_sends : (r : Result Admitted Outcome) (p : ChainPart) (n : ℕ) → ((a : Admitted) → r ≡ Ok a → sends a.program ≡ n) → ((a : Admitted) → r ≡ Ok a → (k : ℕ) → MuteAt (steps xcm k (first_stage rules origin a p))) → queued (executed_by rules origin r p).1.channels ≤ queued p.channels + n
+  executed_by_sends (Err outcome) p n h mute = omega arith
+  executed_by_sends (Ok a) p n h mute =
       let end = ap queued (finished_same (last_machine rules origin a p)) in
-      let went = run_sends orderly (first_stage rules origin a p) in
+      let went = run_sends orderly (first_stage rules origin a p) (mute a refl) in
       let begins = begin_due Part.Program a.program (first_machine rules origin p) in
       let same = h a refl in
       omega (arith, end, went, begins, same)
 
-  -- an execution adds at most what its program may send
-  pub executed_sends : (credit : Weight) (program : List Instruction) (p : ChainPart) → queued (executed rules origin credit program p).1.channels ≤ queued p.channels + sends program
-  executed_sends credit program p =
+  -- an execution of a message adds at most what its program may send
+  pub executed_sends : (here : Site) (there : ChainId) (cargo : Cargo) (credit : Weight) (program : List Instruction) (p : ChainPart) → IsShape here there program cargo → queued (executed rules origin credit program p).1.channels ≤ queued p.channels + sends program
+  executed_sends here there cargo credit program p shape =
       executed_by_sends (admitted rules origin credit p.queries program) p (sends program) (λ a e. by_weight_sends rules origin credit p.queries program (weight_of rules.weight program) a e)
+      (λ a e k. shape_mute rules origin p here there a.program cargo (admitted_shape here there cargo rules origin credit p.queries program shape a e) k)
 
 -- ---- a delivery
+set_other : (w : World) (c d : ℕ) (m : Member) → (d ≡ c → ⊥) → slice_get (slice_set w c m) d ≡ slice_get w d
+set_other [] c d m n = refl
+set_other (x ∷ xs) zero zero m n = absurd (n refl)
+set_other (x ∷ xs) zero (suc d) m n = refl
+set_other (x ∷ xs) (suc c) zero m n = refl
+set_other (x ∷ xs) (suc c) (suc d) m n = set_other xs c d m (λ e. n (ap suc e))
+
 abbrev member_count : Member → ℕ
 member_count m = queued m.part.channels
 
@@ -393,9 +413,9 @@ abbrev begun_part : Member → Member → Waiting → ChainPart
 begun_part s r x = told (begun (chain_of s) x.cargo r.part) (Event.Message (chain_of s) (chain_of r) x.number)
 
 module _ (orderly : IsOrderly xcm) where
-  pub delivered_less : (w : World) (i j : ℕ) (s r : Member) (x : Waiting) → slice_get w i ≡ Some s → slice_get w j ≡ Some r → (i ≡ j → ⊥) → option_and_then oldest (channel_to (chain_of r) s.part.channels) ≡ Some x
+  pub delivered_less : (w : World) (i j : ℕ) (s r : Member) (x : Waiting) → slice_get w i ≡ Some s → slice_get w j ≡ Some r → (i ≡ j → ⊥) → option_and_then oldest (channel_to (chain_of r) s.part.channels) ≡ Some x → IsShaped s.part.site (chain_of r) x
       → 1 + deliveries_left (delivered w i j s r x).world ≤ deliveries_left w
-  delivered_less w i j s r x is_s is_r apart waits =
+  delivered_less w i j s r x is_s is_r apart waits shape =
       let a = run_for s r x in
       let s' = with_part (sender_after (chain_of r) a s.part) s in
       let r' = with_part (receiver_after s.part a) r in
@@ -407,6 +427,6 @@ module _ (orderly : IsOrderly xcm) where
       let at_j : member_count (get_or (slice_set w i s') j r) ≡ queued r.part.channels = ap member_count (get_or_from_slice_get (slice_set w i s') j r r there) in
       let less : member_count s' + message_count x ≤ queued s.part.channels = popped_less (leads_to (chain_of r)) s.part.channels x waits in
       let start : queued (begun_part s r x).channels ≡ queued r.part.channels = ap queued (begun_same (chain_of s) x.cargo r.part (Event.Message (chain_of s) (chain_of r) x.number)) in
-      let went : member_count r' ≤ queued (begun_part s r x).channels + sends x.program = executed_sends orderly r.rules (name_at (chain_of r) (chain_of s)) no_weight x.program (begun_part s r x) in
+      let went : member_count r' ≤ queued (begun_part s r x).channels + sends x.program = executed_sends orderly r.rules (name_at (chain_of r) (chain_of s)) s.part.site (chain_of r) x.cargo no_weight x.program (begun_part s r x) shape in
       let end : 1 + deliveries_left (slice_set (slice_set w i s') j r') ≤ deliveries_left w = omega (arith, one, two, at_i, at_j, less, went, start) in
       end

@@ -1,7 +1,7 @@
 use Rattle.std.proofs.Common.{arith}
 use Rattle.network_steps.specs.Sends.{deliveries_left}
-use Rattle.network_steps.proofs.Drains.{delivery_lowers, few_deliveries, drained}
-use Rattle.network_steps.proofs.laws.law_of_drains.Goals as goal
+use Rattle.message_shapes.proofs.Drains.{delivery_lowers, few_deliveries, drained}
+use Rattle.message_shapes.proofs.laws.law_of_drains.Goals as goal
 
 pub returns-clause-lowers : goal.returns-clause-lowers
 returns-clause-lowers c = delivery_lowers c.law_of_rules.ensures.steers
@@ -10,4 +10,4 @@ pub returns-clause-few : goal.returns-clause-few
 returns-clause-few c = λ order w. few_deliveries (deliveries_left w) order w
 
 pub returns-clause-ends : goal.returns-clause-ends
-returns-clause-ends c = λ order w apart. drained c.law_of_rules.ensures.steers (deliveries_left w) order w apart (omega arith)
+returns-clause-ends c = λ order w all apart. drained c.law_of_rules.ensures.steers (deliveries_left w) order w all apart (omega arith)

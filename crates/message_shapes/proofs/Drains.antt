@@ -1,12 +1,8 @@
 -- A drain ends with no message waiting, after as many deliveries at most as there may be.
-use Rattle.std.proofs.Common.{◌≡◌, ℕ, zero, suc, ◌+◌, ◌≤◌, true, false, List, [], ◌∷◌, length, Option, Some, None, refl, sym, ap, ◌∙◌, subst, arith, get_or}
+use Rattle.std.proofs.Common.{◌≡◌, ℕ, zero, suc, ◌+◌, ◌≤◌, true, false, List, [], ◌∷◌, length, Option, Some, None, refl, sym, ap, ◌∙◌, subst, arith}
 use Rattle.std.specs.Prelude.{if◌then◌else◌, find, is_some, slice_get, option_and_then}
 use Rattle.std.specs.Option.{option_map_or}
-use Rattle.std.proofs.lemmas.List.Quantifiers.{position-Some}
-use Rattle.std.proofs.lemmas.Option.{get_or_from_slice_get}
 use Rattle.chain_ids.specs.declared.chain.ChainId.{ChainId}
-use Rattle.chain_ids.specs.Chains.{same_chain}
-use Rattle.chain_ids.specs.Laws.{same_chain_told}
 use Rattle.channel_parts.specs.Channels.{Waiting, Outgoing}
 use Rattle.chain_queues.specs.Queues.{channel_to, oldest}
 use Rattle.exec_run.specs.Machine.{IsOrderly}
@@ -16,8 +12,10 @@ use Rattle.network_steps.specs.Worlds.{Member, chain_of, World, place_of, Steppe
 use Rattle.network_steps.specs.Sends.{deliveries_left}
 use Rattle.network_steps.specs.Steps.{delivered, delivery_of, deliver, Link, waiting, waits, next_channel, deliveries, world_behind}
 use Rattle.network_steps.specs.Drains.{AreApart}
-use Rattle.network_steps.proofs.Stillness.{between_says, between_at}
-use Rattle.network_steps.proofs.Sends.{delivered_less}
+use Rattle.message_shapes.specs.Shapes.{IsShaped, AllShaped}
+use Rattle.message_shapes.specs.StepLaws.{between_says, between_at, place_says}
+use Rattle.message_shapes.proofs.Worlds.{deliver_shaped, taken_is_shaped}
+use Rattle.message_shapes.proofs.Sends.{delivered_less}
 
 -- ---- where a message waits
 record Found (w : World) (from to : ChainId) (x : Waiting) : Type 0 where
@@ -46,13 +44,6 @@ delivered_found w from to x f =
     between_at w from to (unchanged StepResult.NoSuchChain w) (λ i j s r. delivery_of w i j s r (channel_to (chain_of r) s.part.channels)) f.i f.j f.s f.r f.at_i f.at_j f.is_s f.is_r
     ∙ taken w f.i f.j f.s f.r x (channel_to (chain_of f.r) f.s.part.channels) f.there
 
--- the chain at a place is the one that was looked for
-place_says : (w : World) (chain : ChainId) (i : ℕ) (m : Member) → place_of w chain ≡ Some i → slice_get w i ≡ Some m → chain_of m ≡ chain
-place_says w chain i m at is =
-    let told = position-Some (λ (m : Member). same_chain (chain_of m) chain) w i m at in
-    let here : get_or w i m ≡ m = get_or_from_slice_get w i m m is in
-    same_chain_told (chain_of m) chain (sym (ap (λ (m : Member). same_chain (chain_of m) chain) here) ∙ told.1)
-
 same_member : (a b : Member) → Some a ≡ Some b → a ≡ b
 same_member a b e = cc
 
@@ -62,22 +53,23 @@ apart_places w from to x f apart same =
     apart (sym (place_says w from f.i f.s f.at_i f.is_s) ∙ ap chain_of both ∙ place_says w to f.j f.r f.at_j f.is_r)
 
 module _ (orderly : IsOrderly xcm) where
-  pub delivery_lowers : (w : World) (from to : ChainId) (x : Waiting) → (from ≡ to → ⊥) → waiting w from to ≡ Some x → 1 + deliveries_left (deliver w from to).world ≤ deliveries_left w
-  delivery_lowers w from to x apart e =
+  pub delivery_lowers : (w : World) (from to : ChainId) (x : Waiting) → AllShaped w → (from ≡ to → ⊥) → waiting w from to ≡ Some x → 1 + deliveries_left (deliver w from to).world ≤ deliveries_left w
+  delivery_lowers w from to x all apart e =
       let f = found w from to x e in
+      let shape : IsShaped f.s.part.site (chain_of f.r) x = subst (λ (c : ChainId). IsShaped f.s.part.site c x) (sym (place_says w to f.j f.r f.at_j f.is_r)) (taken_is_shaped w from to f.i f.s x all f.at_i f.is_s e) in
       subst (λ (d : Stepped). 1 + deliveries_left d.world ≤ deliveries_left w) (sym (delivered_found w from to x f))
-      (delivered_less orderly w f.i f.j f.s f.r x f.is_s f.is_r (apart_places w from to x f apart) f.there)
+      (delivered_less orderly w f.i f.j f.s f.r x f.is_s f.is_r (apart_places w from to x f apart) f.there shape)
 
   -- ---- drains
-  waiting_lowers : (w : World) (link : Link) → (link.0 ≡ link.1 → ⊥) → waits w link ≡ true → 1 + deliveries_left (deliver w link.0 link.1).world ≤ deliveries_left w
-  waiting_lowers w link apart e =
+  waiting_lowers : (w : World) (link : Link) → AllShaped w → (link.0 ≡ link.1 → ⊥) → waits w link ≡ true → 1 + deliveries_left (deliver w link.0 link.1).world ≤ deliveries_left w
+  waiting_lowers w link all apart e =
       elim (waiting w link.0 link.1) as (λ o. waiting w link.0 link.1 ≡ o → is_some o ≡ true → 1 + deliveries_left (deliver w link.0 link.1).world ≤ deliveries_left w) [
         | None ↦ λ is t. absurd cc
-        | Some x ↦ λ is t. delivery_lowers w link.0 link.1 x apart is
+        | Some x ↦ λ is t. delivery_lowers w link.0 link.1 x all apart is
       ] refl e
 
-  next_lowers : (order : List Link) (w : World) (link : Link) → AreApart order → next_channel order w ≡ Some link → 1 + deliveries_left (deliver w link.0 link.1).world ≤ deliveries_left w
-  next_lowers order w link apart e = let told = first_says order apart e in waiting_lowers w link told.1 told.0
+  next_lowers : (order : List Link) (w : World) (link : Link) → AllShaped w → AreApart order → next_channel order w ≡ Some link → 1 + deliveries_left (deliver w link.0 link.1).world ≤ deliveries_left w
+  next_lowers order w link all apart e = let told = first_says order apart e in waiting_lowers w link all told.1 told.0
     where
       some_link : (a b : Link) → Some a ≡ Some b → a ≡ b
       some_link a b e = cc
@@ -90,18 +82,18 @@ module _ (orderly : IsOrderly xcm) where
             | false ↦ λ t h. first_says xs all.1 h
           ] refl e
 
-  pub drained : (n : ℕ) (order : List Link) (w : World) → AreApart order → deliveries_left w ≤ n → next_channel order (world_behind w (deliveries n order w)) ≡ None
+  pub drained : (n : ℕ) (order : List Link) (w : World) → AllShaped w → AreApart order → deliveries_left w ≤ n → next_channel order (world_behind w (deliveries n order w)) ≡ None
   unfolding deliveries
-  drained zero order w apart few =
+  drained zero order w all apart few =
       elim (next_channel order w) as (λ o. next_channel order w ≡ o → o ≡ None) [
         | None ↦ λ e. refl
-        | Some link ↦ λ e. absurd (let less = next_lowers order w link apart e in omega (arith, less, few))
+        | Some link ↦ λ e. absurd (let less = next_lowers order w link all apart e in omega (arith, less, few))
       ] refl
-  drained (suc n) order w apart few =
+  drained (suc n) order w all apart few =
       elim (next_channel order w) as (λ o. next_channel order w ≡ o
       → next_channel order (world_behind w (option_map_or (λ (link : Link). (link, deliver w link.0 link.1) ∷ deliveries n order (deliver w link.0 link.1).world) o [])) ≡ None) [
         | None ↦ λ e. e
-        | Some link ↦ λ e. let less = next_lowers order w link apart e in drained n order (deliver w link.0 link.1).world apart (omega (arith, less, few))
+        | Some link ↦ λ e. let less = next_lowers order w link all apart e in drained n order (deliver w link.0 link.1).world (deliver_shaped w link.0 link.1 all) apart (omega (arith, less, few))
       ] refl
 
 pub few_deliveries : (n : ℕ) (order : List Link) (w : World) → length (deliveries n order w) ≤ n
