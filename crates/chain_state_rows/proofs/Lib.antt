@@ -1,3 +1,4 @@
+pub mod Known
 pub mod Handled
 pub mod Listed
 pub mod Reports

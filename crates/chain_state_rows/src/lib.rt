@@ -9,3 +9,10 @@ mod host_rows;
 mod sending_rows;
 #[cfg(test)]
 mod transactor_rows;
+
+use chain_state::ChainState;
+
+/// Lets a chain go, as the rows do at their ends: for the prover, which shows here that what always holds of it holds to the last.
+pub fn let_go(chain: ChainState) {
+    drop(chain);
+}

@@ -9,3 +9,10 @@ mod host_rows;
 mod program_rows;
 #[cfg(test)]
 mod texts;
+
+use fake_host::FakeHost;
+
+/// Lets a chain go, as the rows do at their ends: for the prover, which shows here that what always holds of it holds to the last.
+pub fn let_go(host: FakeHost) {
+    drop(host);
+}

@@ -21,3 +21,10 @@ mod teleports;
 mod transfers;
 #[cfg(test)]
 mod traps;
+
+use chain_net::Net;
+
+/// Lets a network go, as the rows do at their ends: for the prover, which shows here that what always holds of it holds to the last.
+pub fn let_go(net: Net) {
+    drop(net);
+}
