@@ -7,4 +7,4 @@ pub send-requires-clause-other : goal.send-requires-clause-other
 send-requires-clause-other g c = λ same. (let both : Relay ≡ Para 1000 = sym c.in_ok-chain.ensures.site ∙ same in absurd (cc))
 
 pub invariant_of-chain-2 : goal.invariant_of-chain-2
-invariant_of-chain-2 g c = all_there c.take.new.self
+invariant_of-chain-2 g c = all_there c.take-2.new.self
