@@ -283,14 +283,19 @@ fn flags(alloc: Global, host: &mut FakeHost, rules: &ChainRules) -> Result<[bool
     Ok([first, refused, none])
 }
 
+/// Whether a message that is executed on a new chain tells just this.
+fn is_told(alloc: Global, rules: &ChainRules, message: &str, text: &str) -> Result<bool, Fail> {
+    let mut host = opened(alloc)?;
+    let told = told(alloc, &mut host, rules, message)?;
+    Ok(told.as_str() == text)
+}
+
 #[test]
 fn each_instruction_answers_as_its_rule_says(rt: HostRuntime) -> Result<(), Fail> {
     let alloc = rt.alloc();
     let rules = rules(alloc)?;
     for (message, text) in &MESSAGES {
-        let mut host = opened(alloc)?;
-        let told = told(alloc, &mut host, &rules, message)?;
-        assert!(rt; told.as_str() == *text);
+        assert!(rt; is_told(alloc, &rules, message, text)?);
     }
     Ok(())
 }
@@ -305,15 +310,27 @@ fn the_flag_is_of_the_first_instruction(rt: HostRuntime) -> Result<(), Fail> {
     Ok(())
 }
 
+/// The three messages about claims in turn: whether each tells what it should.
+fn claims_told(alloc: Global, host: &mut FakeHost, rules: &ChainRules) -> Result<[bool; 3], Fail>
+    requires rest { IsAtRest (part_of host.old) }
+{
+    let first = told(alloc, host, rules, CLAIMS[0].0)?;
+    let second = told(alloc, host, rules, CLAIMS[1].0)?;
+    let third = told(alloc, host, rules, CLAIMS[2].0)?;
+    Ok([
+        first.as_str() == CLAIMS[0].1,
+        second.as_str() == CLAIMS[1].1,
+        third.as_str() == CLAIMS[2].1,
+    ])
+}
+
 #[test]
 fn what_no_account_takes_is_claimed_once(rt: HostRuntime) -> Result<(), Fail> {
     let alloc = rt.alloc();
     let rules = rules(alloc)?;
     let mut host = opened(alloc)?;
-    for (message, text) in &CLAIMS {
-        let told = told(alloc, &mut host, &rules, message)?;
-        assert!(rt; told.as_str() == *text);
-    }
+    let so = claims_told(alloc, &mut host, &rules)?;
+    assert!(rt; so == [true, true, true]);
     assert!(rt; holdings(&host, &A1) == [0, 0, 0]);
     assert!(rt; holdings(&host, &A2) == [5, 5, 5]);
     Ok(())
