@@ -94,7 +94,7 @@ class Schema:
 
     def at(self, pointer):
         found = self.root
-        for word in pointer.removeprefix("#/").split("/"):
+        for word in pointer[2:].split("/"):
             found = found[word]
         return found
 
