@@ -2,7 +2,6 @@
 ghost use Rattle.std.specs.Prelude.{◌≡◌, ◌-◌, if◌then◌else◌, [], ◌∷◌, Some, None, OnOk};
 ghost use Rattle.asset_bundles.specs.Bundles.{bundle_of};
 ghost use Rattle.ledgers.specs.Ledgers.{Withdrawn};
-ghost use Rattle.channel_parts.specs.declared.cargo.Cargo.{Cargo};
 ghost use Rattle.exec_base.specs.Answers.{Answers, TakesIn};
 ghost use Rattle.exec_base.specs.Part.{accounts_of};
 ghost use Rattle.exec_base.specs.Host as host;
@@ -11,10 +10,8 @@ ghost use Rattle.chain_state.specs.PartOf.{part_of};
 
 use crate::ChainState;
 use crate::arrivals::ArrivalCall;
-use crate::carried::call_of;
 use asset_bundles::{AssetBundle, law_of_bundles};
 use asset_lists::{Asset, Assets};
-use chain_queues::Cargo;
 use exec_base::HostFault;
 use locations::Location;
 use message_parts::XcmError;
@@ -158,15 +155,6 @@ impl ChainState {
         }
     }
 
-    /// Ends the cargo, if it is taken.
-    fn end_cargo(&mut self, ends: bool)
-        ensures { part_of self.new ≡ record (part_of self.old) { cargo = if ends then (record { sender = (part_of self.old).cargo.sender; cargo = Cargo.Nothing }) else (part_of self.old).cargo } }
-    {
-        if ends {
-            self.cargo = Cargo::Nothing;
-        }
-    }
-
     /// Lowers the checking accounts of the rows of teleported assets.
     fn lower_for(&mut self, teleport: bool, list: &[Asset])
         ensures { part_of self.new ≡ record (part_of self.old) { checking = if teleport then changed_all (λ n a. n - a) list.now (part_of self.old).rows (part_of self.old).checking else (part_of self.old).checking } }
@@ -187,7 +175,9 @@ impl ChainState {
     {
         let ends = self.is_cargo(ArrivalCall::Withdrawal, a)?;
         let goods = self.take_out(a, who)?;
-        self.end_cargo(ends);
+        if ends {
+            self.land_cargo(ArrivalCall::Withdrawal, a).melt();
+        }
         Ok(goods)
     }
 
@@ -216,10 +206,8 @@ impl ChainState {
         if let Some(error) = self.receive_fault(a.items(), from, teleport) {
             return Err(HostFault::Xcm(error));
         }
-        let ends = self.is_cargo(call_of(teleport), a)?;
-        let goods = AssetBundle::mint(*self.events.allocator(), a.items())?;
+        let goods = self.arrived(a, teleport)?;
         self.lower_for(teleport, a.items());
-        self.end_cargo(ends);
         Ok(goods)
     }
 }

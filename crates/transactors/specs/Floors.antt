@@ -1,0 +1,37 @@
+-- How much of each unit each account must keep: this project's own rule, after the lock instructions of the XCM format.
+--     UnitFloors      what each account must keep of each unit
+--     no_floors      nothing must be kept
+--     floor_at, locked_floors      what a chain's locks keep
+--     higher_floors      the higher of two floors, so that both are kept
+--     KeepsFloors      each account has at least its floor of each unit
+use Rattle.std.specs.Prelude.{ℕ, ◌≤◌, max, List, Option, None}
+use Rattle.amounts.specs.Amounts.{amount}
+use Rattle.asset_lists.specs.declared.units.AssetId.{AssetId}
+use Rattle.asset_lists.specs.declared.units.Instance.{Instance}
+use Rattle.asset_lists.specs.Units.{Unit}
+use Rattle.asset_locks.specs.LockMaps.{LocksAndNotes, floor}
+use Rattle.ledgers.specs.Ledgers.{Held}
+
+-- what an account, by its bytes, must keep of a unit
+abbrev pub UnitFloors : Type 0
+UnitFloors = List ℕ → Unit → ℕ
+
+-- nothing must be kept
+abbrev pub no_floors : UnitFloors
+no_floors who unit = 0
+
+-- what is locked: only fungible assets are
+abbrev pub floor_at : LocksAndNotes → List ℕ → AssetId → Option Instance → ℕ
+floor_at l who (AssetId.Concrete id) None = floor who id l
+floor_at l who _ _ = 0
+
+abbrev pub locked_floors : LocksAndNotes → UnitFloors
+locked_floors l who unit = floor_at l who unit.0 unit.1
+
+-- what keeps both floors
+abbrev pub higher_floors : UnitFloors → UnitFloors → UnitFloors
+higher_floors f g who unit = max (f who unit) (g who unit)
+
+-- each account has at least its floor of each unit
+abbrev pub KeepsFloors : UnitFloors → Held → Type 0
+KeepsFloors floors held = (who : List ℕ) (unit : Unit) → floors who unit ≤ amount held (who, unit)
