@@ -7,7 +7,7 @@ use Rattle.ledgers.specs.Ledgers.{Held}
 use Rattle.chain_pools.specs.declared.pool.Pool.{Pool}
 use Rattle.chain_pools.specs.Exchanges.{is_pool_account}
 use Rattle.exec_base.specs.Part.{ChainPart}
-use Rattle.exec_base.specs.Host.{floor_at}
+use Rattle.asset_locks.specs.UnitFloors.{floor_at}
 
 -- each account has at least its floor of each unit
 abbrev pub HasFloors : LocksAndNotes → Held → Type 0

@@ -22,13 +22,14 @@ use Rattle.trust_tables.specs.Trust.{row_of}
 use Rattle.ledgers.specs.Ledgers.{Holder, account_cmp, holder_cmp, Held, held_by, Withdrawn, Deposited}
 use Rattle.ledgers.specs.Laws.{account_keys, holder_keys, held_by_total, less_other}
 use Rattle.exec_base.specs.Part.{ChainPart, accounts_of}
-use Rattle.exec_base.specs.Host.{at_account, first_fault, floor_at, floor_of, give_fault, given, got, settled, fungible_id, lock_key, is_lockable, lock_refusal}
+use Rattle.exec_base.specs.Host.{at_account, first_fault, floor_of, give_fault, given, got, settled, fungible_id, lock_key, is_lockable, lock_refusal}
 use Rattle.exec_rules.specs.AnswerLaws.{unless_held, unless_next, none_first, none_next}
 use Rattle.std.specs.Option.{option_map, option_map_or, option_and_then}
 use Rattle.message_parts.specs.declared.error.XcmError.TheVariants as error
 use Rattle.asset_lists.specs.declared.units.AssetId.{AssetId}
 use Rattle.asset_lists.specs.declared.units.Fun.{Fun}
 use Rattle.asset_lists.specs.declared.units.Instance.{Instance}
+use Rattle.asset_locks.specs.UnitFloors.{floor_at}
 use Rattle.asset_locks.specs.Laws.{locked_asset_keys, lock_keys, floor_at_most, locked_other, unlocked_less, locks_stay-Noted, locks_stay-Reduced, floor-Locked, floor_other-Locked, floor_less-Unlocked, floor_stays-Noted, floor_stays-Reduced}
 use Rattle.call_dispatch.specs.declared.call.Call.TheVariants.{Batch}
 use Rattle.call_dispatch.specs.Spelling.{AnyCall}

@@ -17,7 +17,7 @@ use Rattle.asset_lists.specs.declared.filters.Wild.{Wild}
 use Rattle.asset_lists.specs.declared.filters.Filter.{Filter}
 use Rattle.asset_lists.specs.Units.{Unit, unit_of, amount_of, unit_cmp, instance_in, amount_in}
 use Rattle.asset_bundles.specs.Bundles.{Bundle, unit_keys, rows_of, bundle_of, IsHolding}
-use Rattle.asset_bundles.specs.BundleLaws.{same_bundles, amount-bundle_of, rows-holding, found-holding}
+use Rattle.asset_bundles.specs.BundleLaws.{same_bundles, amount-bundle_of, rows-holding, found-holding, rows_of-take}
 use Rattle.asset_bundles.specs.Filters.{is_all_of, first_kinds, Taken, Left}
 use Rattle.asset_bundles.specs.Joins.{IsListOf}
 use Rattle.asset_bundles.specs.Changed.{rows_with, with_amounts, amount-with_amounts}
@@ -160,11 +160,6 @@ restricted id fun b = same_bundles _ _ (λ u.
 
 unchanged : (b : Bundle) → with_amounts (λ u n. n) b ≡ b
 unchanged b = same_bundles _ _ (λ u. amount-with_amounts unit_keys (λ u n. n) (λ u. refl) b u)
-
-rows_of-take : (n : ℕ) (xs : List Asset) → rows_of (take n xs) ≡ take n (rows_of xs)
-rows_of-take zero xs = refl
-rows_of-take (suc n) [] = refl
-rows_of-take (suc n) (a ∷ xs) = ap (λ es. (unit_of a, amount_of a) ∷ es) (rows_of-take n xs)
 
 first_of : (n : ℕ) (xs : List Asset) → IsHolding xs → bundle_of (take n xs) ≡ first_kinds n (bundle_of xs)
 unfolding bundle_of first_kinds

@@ -1,5 +1,5 @@
 -- Proofs that a reader skips: a bundle and the list of its assets tell the same.
-use Rattle.std.specs.Prelude.{◌≡◌, suc, Bool, List, [], ◌∷◌, length, refl}
+use Rattle.std.specs.Prelude.{◌≡◌, ℕ, zero, suc, Bool, List, [], ◌∷◌, length, take, drop, refl}
 use Rattle.std.specs.Ordering.{eq_by_cmp}
 use Rattle.std.specs.declared.cmp.Ordering.{Ordering}
 use Rattle.std.proofs.Common.{sym, ap, ◌∙◌}
@@ -9,7 +9,7 @@ use Rattle.amounts.specs.Amounts.{amount, total, rows, empty, from_rows, map_key
 use Rattle.amounts.specs.Laws.{amount-from_rows, total-from_rows, rows-from_rows}
 use Rattle.asset_lists.specs.declared.units.Fun.{Fun}
 use Rattle.asset_lists.specs.declared.units.Asset.{Asset}
-use Rattle.asset_lists.specs.Units.{Unit, unit_cmp, instance_in, amount_in}
+use Rattle.asset_lists.specs.Units.{Unit, unit_of, amount_of, unit_cmp, instance_in, amount_in}
 use Rattle.asset_bundles.specs.Bundles.{Bundle, unit_keys, rows_of, bundle_of, fun_of, assets_at, held_assets, IsHolding, IsGoods, found}
 
 pub same_bundles : (m n : Bundle) → ((u : Unit) → amount m u ≡ amount n u) → m ≡ n
@@ -18,6 +18,10 @@ same_bundles = same_amounts unit_keys
 pub amount-bundle_of : (xs : List Asset) (u : Unit) → amount (bundle_of xs) u ≡ sum_where (eq_by_cmp unit_cmp u) (rows_of xs)
 unfolding bundle_of
 amount-bundle_of xs u = amount-from_rows unit_keys (rows_of xs) u
+
+bundle_of-rows : (xs : List Asset) → bundle_of xs ≡ from_rows (rows_of xs)
+unfolding bundle_of
+bundle_of-rows xs = refl
 
 pub total-bundle_of : (p : Unit → Bool) (xs : List Asset) → total p (bundle_of xs) ≡ sum_where p (rows_of xs)
 unfolding bundle_of
@@ -65,3 +69,25 @@ kinds-holding xs h = sym (length-rows_of xs) ∙ sym (ap length (rows-holding xs
 pub map_keys-bundle_of : {K : Type 0} {R : K → K → Ordering} (f : Unit → K) (xs : List Asset) → IsHolding xs → from_rows {R = R} (rows_at f (rows_of xs)) ≡ map_keys f (bundle_of xs)
 unfolding map_keys
 map_keys-bundle_of {R = R} f xs h = ap (λ es. from_rows {R = R} (rows_at f es)) (sym (rows-holding xs h))
+
+-- ---- a part of a list
+pub rows_of-take : (n : ℕ) (xs : List Asset) → rows_of (take n xs) ≡ take n (rows_of xs)
+rows_of-take zero xs = refl
+rows_of-take (suc n) [] = refl
+rows_of-take (suc n) (a ∷ xs) = ap (λ es. (unit_of a, amount_of a) ∷ es) (rows_of-take n xs)
+
+pub rows_of-drop : (n : ℕ) (xs : List Asset) → rows_of (drop n xs) ≡ drop n (rows_of xs)
+rows_of-drop zero xs = refl
+rows_of-drop (suc n) [] = refl
+rows_of-drop (suc n) (a ∷ xs) = rows_of-drop n xs
+
+pub rest_holding : (n : ℕ) (xs : List Asset) → IsHolding xs → IsHolding (drop n xs)
+unfolding IsStrictlySortedBy
+rest_holding zero xs h = h
+rest_holding (suc n) [] h = h
+rest_holding (suc n) (a ∷ xs) h = rest_holding n xs (record { rising = h.rising.1; positive = h.positive.1 })
+
+-- a part of a holding has that part of the bundle's rows
+pub bundle_of-part : (from most : ℕ) (xs : List Asset) → IsHolding xs → bundle_of (take most (drop from xs)) ≡ from_rows (take most (drop from (rows (bundle_of xs))))
+bundle_of-part from most xs h =
+    bundle_of-rows (take most (drop from xs)) ∙ ap from_rows (rows_of-take most (drop from xs) ∙ ap (take most) (rows_of-drop from xs ∙ ap (drop from) (sym (rows-holding xs h))))

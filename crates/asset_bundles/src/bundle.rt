@@ -1,6 +1,7 @@
 //! Bundles of assets.
 ghost use Rattle.std.specs.Prelude.{◌≡◌, ◌≤◌, ◌↔◌, None, length, IsTrue, IsFalse, IfOk, IfErr, OnOk, OnErr};
 ghost use Rattle.amounts.specs.Amounts.{empty, amount, total, rows, minus, merge, difference, IsWithin};
+ghost use Rattle.asset_lists.specs.declared.filters.Filter.{Filter};
 ghost use Rattle.asset_lists.specs.Units.{Unit, unit_of, amount_of};
 ghost use Rattle.asset_lists.specs.Lists.{has_zero};
 ghost use Rattle.asset_lists.specs.Moves.{occurrences};
@@ -11,7 +12,7 @@ ghost use Rattle.asset_bundles.specs.Taking.{IsTakeFault};
 
 use crate::TakeFault;
 use crate::items::{amounts_fit, held, holds, total};
-use crate::portions::{chosen, cut, parted};
+use crate::portions::{chosen, cut, parted, parted_by_list};
 use crate::spending::give_up;
 use asset_lists::{Asset, AssetId, Assets, Filter, Fun, Kind, copied};
 use std::alloc::{AllocError, Global};
@@ -142,6 +143,21 @@ impl AssetBundle {
         amounts_fit(self.items.as_slice());
         let alloc = *self.items.allocator();
         let (taken, left) = parted(alloc, self.items.as_slice(), filter)?;
+        self.items = left;
+        Ok(AssetBundle { items: taken })
+    }
+
+    /// Takes the listed assets, as far as they are held.
+    pub fn take_listed(&mut self, list: &Assets) -> Result<AssetBundle, AllocError>
+        ensures taken { IfOk result (λ goods. goods ≡ Taken (Filter.Definite list.now) self.old) }
+        ensures left { OnOk result (self.new ≡ Left (Filter.Definite list.now) self.old) }
+        ensures whole { IfOk result (λ goods. merge self.new goods ≡ self.old) }
+        ensures fits_back { IfOk result (λ goods. IsWithinMost (merge self.new goods)) }
+        ensures err { OnErr result (self.new ≡ self.old) }
+    {
+        amounts_fit(self.items.as_slice());
+        let alloc = *self.items.allocator();
+        let (taken, left) = parted_by_list(alloc, self.items.as_slice(), list)?;
         self.items = left;
         Ok(AssetBundle { items: taken })
     }

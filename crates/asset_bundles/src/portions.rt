@@ -1,5 +1,6 @@
 //! Parts of a list in holding order.
 ghost use Rattle.std.specs.Prelude.{◌≡◌, ◌++◌, [], IfOk, OnOk};
+ghost use Rattle.asset_lists.specs.declared.filters.Filter.{Filter};
 ghost use Rattle.asset_lists.specs.Units.{unit_of, amount_of};
 ghost use Rattle.amounts.specs.Amounts.{difference};
 ghost use Rattle.asset_bundles.specs.Bundles.{bundle_of, IsHolding};
@@ -8,7 +9,7 @@ ghost use Rattle.asset_bundles.specs.Filters.{is_fun, is_all_of, Taken, Left};
 ghost use Rattle.asset_bundles.specs.Portions.{asset_with, kept, changed, left_of, common_with, wanted_wild, count_wild, at_most, chosen, IsListed};
 
 use crate::items::held;
-use asset_lists::{Asset, AssetId, Filter, Fun, Wild, WildFun, copied};
+use asset_lists::{Asset, AssetId, Assets, Filter, Fun, Wild, WildFun, copied};
 use std::alloc::{AllocError, Global};
 
 /// The same asset with this amount; an instance stays as it is.
@@ -174,6 +175,23 @@ pub(crate) fn parted(
     ensures left { IfOk result (λ parts. IsListOf (Left filter.now (bundle_of items.now)) parts.1.items) }
 {
     let taken = chosen(alloc, items, filter)?;
+    let left = without(alloc, items, taken.as_slice())?;
+    Ok((taken, left))
+}
+
+/// What there is of the listed assets, as far as it is asked for, and what is left.
+pub(crate) fn parted_by_list(
+    alloc: Global,
+    items: &[Asset],
+    asked: &Assets,
+) -> Result<(Vec<Asset>, Vec<Asset>), AllocError>
+    requires { IsHolding items.now }
+    ensures taken { IfOk result
+        (λ parts. IsListOf (Taken (Filter.Definite asked.now) (bundle_of items.now)) parts.0.items) }
+    ensures left { IfOk result
+        (λ parts. IsListOf (Left (Filter.Definite asked.now) (bundle_of items.now)) parts.1.items) }
+{
+    let taken = common(alloc, items, asked.items())?;
     let left = without(alloc, items, taken.as_slice())?;
     Ok((taken, left))
 }

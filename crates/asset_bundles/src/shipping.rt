@@ -1,7 +1,7 @@
 //! Shipments sent off, read and lost.
 ghost use Rattle.std.specs.Prelude.{◌≡◌, IfOk};
 ghost use Rattle.amounts.specs.Amounts.{total};
-ghost use Rattle.asset_bundles.specs.Bundles.{bundle_of, held_assets, is_asset};
+ghost use Rattle.asset_bundles.specs.Bundles.{IsHolding, bundle_of, held_assets, is_asset};
 ghost use Rattle.asset_bundles.specs.Books.{AreListed};
 ghost use Rattle.asset_bundles.specs.Losing.{book_after_loss};
 
@@ -44,6 +44,15 @@ impl Shipment {
         ensures bundle { IfOk result (λ assets. bundle_of assets.items ≡ self.now.units) }
     {
         self.units.list()
+    }
+
+    /// The same, lent.
+    pub fn items(&self) -> &[Asset]
+        ensures holding { IsHolding result.now }
+        ensures listed { result.now ≡ held_assets self.now.units }
+        ensures bundle { bundle_of result.now ≡ self.now.units }
+    {
+        self.units.items()
     }
 
     /// Ends a shipment that came nowhere: a teleport is booked as lost, and nothing else.

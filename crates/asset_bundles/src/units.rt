@@ -1,7 +1,7 @@
 //! Bundles at rest.
-ghost use Rattle.std.specs.Prelude.{◌≡◌, ◌↔◌, IsTrue, IfOk};
-ghost use Rattle.amounts.specs.Amounts.{total};
-ghost use Rattle.asset_bundles.specs.Bundles.{bundle_of, held_assets, is_asset};
+ghost use Rattle.std.specs.Prelude.{◌≡◌, ◌↔◌, length, take, drop, IsTrue, IfOk};
+ghost use Rattle.amounts.specs.Amounts.{total, rows, from_rows};
+ghost use Rattle.asset_bundles.specs.Bundles.{IsHolding, bundle_of, held_assets, is_asset};
 
 use crate::AssetBundle;
 use crate::items::{are_same, total};
@@ -50,6 +50,13 @@ impl AssetBundle {
 }
 
 impl Units {
+    /// How many kinds there are: a kind is one fungible id or one instance.
+    pub fn kinds(&self) -> usize
+        ensures { result ≡ length (rows self.now) }
+    {
+        self.items.len()
+    }
+
     /// The amount of a fungible asset in its smallest unit, or the number of instances of a class.
     pub fn total(&self, id: &AssetId, kind: Kind) -> u128
         ensures { result ≡ total (is_asset id.now kind) self.now }
@@ -64,6 +71,28 @@ impl Units {
     {
         let assets = copied(*self.items.allocator(), self.items.as_slice())?;
         Ok(assets)
+    }
+
+    /// The same, lent.
+    pub fn items(&self) -> &[Asset]
+        ensures holding { IsHolding result.now }
+        ensures listed { result.now ≡ held_assets self.now }
+        ensures bundle { bundle_of result.now ≡ self.now }
+    {
+        self.items.as_slice()
+    }
+
+    /// The units behind the first `from` in holding order, at most `most` of them. The whole stays as it is, so
+    /// that nothing is lost where memory is refused for a later part: keep all the parts, or the whole. An
+    /// `Err` is out of memory.
+    pub fn part(&self, from: usize, most: usize) -> Result<Units, AllocError>
+        ensures { IfOk result (λ part. part ≡ from_rows (take most (drop from (rows self.now)))) }
+    {
+        let items = self.items.as_slice();
+        let behind = &items[from.min(items.len())..];
+        let part = &behind[..most.min(behind.len())];
+        let items = copied(*self.items.allocator(), part)?;
+        Ok(Units { items })
     }
 
     /// Whether it holds just the listed assets.

@@ -39,13 +39,17 @@ pub fn law_of_insertion()
 {}
 
 /// A list that is reanchored has the ids that the target gives each asset. The relation of the call tells one list, the
-/// one that is computed; and where the call is refused, but for memory, none is computed.
+/// one that is computed, and what is computed stands in the relation; and where the call is refused, but for memory,
+/// none is computed.
 pub fn law_of_reanchored_lists()
     ensures list { (all new : List Asset) → IsMoved all new → IsAssetList new }
     ensures named { (target : Location) (context : List Junction) (xs all : List Asset) → all_moved target context xs ≡ Some all
         → (i : ℕ) (a : Asset) → slice_get xs i ≡ Some a → IsNamed target context a.id }
     ensures computed { (target : Location) (context : List Junction) (xs new : List Asset)
         → IsSomeAnd (all_moved target context xs) (λ all. IsMoved all new) → reanchored_list target context xs ≡ Some new }
+    ensures moved { (target : Location) (context : List Junction) (xs new : List Asset)
+        → IsAssetList new → reanchored_list target context xs ≡ Some new
+        → IsSomeAnd (all_moved target context xs) (λ all. IsMoved all new) }
     ensures refused { (target : Location) (context : List Junction) (xs : List Asset)
         → IsNone (all_moved target context xs) ⊎ IsSomeAnd (all_moved target context xs) HasTwice
         → reanchored_list target context xs ≡ None }

@@ -16,8 +16,8 @@ use Rattle.asset_lists.specs.declared.filters.Wild.TheVariants.{All, AllOf, AllC
 use Rattle.asset_lists.specs.declared.filters.Filter.{Filter}
 use Rattle.asset_lists.specs.declared.filters.Filter.TheVariants as filters
 use Rattle.asset_lists.specs.Lists.{is_asset_list}
-use Rattle.asset_wire.specs.declared.version.Version.{Version}
-use Rattle.asset_wire.specs.declared.version.Version.TheVariants.{V3, V4}
+use Rattle.message_parts.specs.declared.version.Version.{Version}
+use Rattle.message_parts.specs.declared.version.Version.TheVariants.{V3, V4}
 
 abbrev pub asset_id_forms : List (Reader AssetId)
 asset_id_forms = made1 location_at Concrete ∷ made1 (take_at 32) Abstract ∷ []

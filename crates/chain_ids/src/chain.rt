@@ -5,7 +5,7 @@ ghost use Rattle.chain_ids.specs.Texts.{chain_text};
 use std::fmt;
 
 /// A chain of a network: the relay chain, or one of its parachains. Its text is `relay`, or the parachain's number in decimal.
-#[derive(Clone, Copy, Debug, PartialEq, Eq, PartialOrd, Ord)]
+#[derive(Clone, Copy, Debug, PartialEq, Eq, PartialOrd, Ord, Hash)]
 pub enum ChainId {
     /// The relay chain.
     Relay,

@@ -87,7 +87,7 @@ impl Net {
         if !is_claim(&program) {
             return Ok(StepResult::NotAClaim);
         }
-        match self.chains[sender].post_claim(to, &program) {
+        match self.chains[sender].send(to, &program) {
             Ok(number) => Ok(StepResult::Sent(number)),
             Err(HostFault::Xcm(error)) => Ok(StepResult::Unsent(error)),
             Err(HostFault::Memory) => Err(AllocError),

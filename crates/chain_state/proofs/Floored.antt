@@ -6,14 +6,13 @@ use Rattle.std.specs.Ordering.{eq_by_cmp}
 use Rattle.std.proofs.lemmas.Bool.Decides.{nat_tests}
 use Rattle.amounts.specs.Amounts.{amount}
 use Rattle.asset_lists.specs.Listed.{listed_cmp}
-use Rattle.asset_lists.specs.declared.units.Asset.{Asset}
 use Rattle.asset_bundles.specs.Bundles.{Bundle}
 use Rattle.asset_lists.specs.declared.units.AssetId.TheVariants.{Concrete}
 use Rattle.asset_lists.specs.declared.units.Kind.TheVariants.{Fungible}
 use Rattle.asset_locks.specs.LockMaps.{LocksAndNotes, no_locks, floor}
 use Rattle.trust_tables.specs.declared.rows.AssetRow.{AssetRow}
 use Rattle.trust_tables.specs.Trust.{listing}
-use Rattle.ledgers.specs.Ledgers.{Held, Accounts, held_by, Withdrawn, Deposited}
+use Rattle.ledgers.specs.Ledgers.{Held, Accounts, held_by, Deposited}
 use Rattle.call_dispatch.specs.declared.faults.ShiftFault.{ShiftFault}
 use Rattle.call_dispatch.specs.declared.faults.ShiftFault.TheVariants.{NoRow, NotEnough, Overflow, Memory}
 use Rattle.call_dispatch.specs.Shifts.{is_same_account, spare, shift_fault, shifted, Shifts}
@@ -21,11 +20,11 @@ use Rattle.row_accounts.specs.RowAccounts.{unit_of_row, unit_at, is_fungible_row
 use Rattle.row_accounts.specs.Laws.{amount_of_row, fungible_there, known_by_rows, held_again}
 use Rattle.row_ledger.specs.Nothing.{Nothing}
 use Rattle.row_ledger.specs.Laws.{is_fungible_at, number_is}
-use Rattle.exec_base.specs.Part.{ChainPart, accounts_of}
-use Rattle.exec_base.specs.Host.{first_fault, give_fault, floor_of}
+use Rattle.exec_base.specs.Part.{ChainPart}
+use Rattle.exec_base.specs.Host.{floor_of}
 use Rattle.exec_base.specs.Calls.{floors_of}
 use Rattle.account_floors.specs.Floors.{HasFloors, HoldsFloors}
-use Rattle.account_floors.specs.Laws.{none_kept, HasOnce, out_floors, more_floors, merged_more, shifted_floors}
+use Rattle.account_floors.specs.Laws.{none_kept, more_floors, merged_more, shifted_floors}
 use Rattle.chain_state.specs.Calls.{shortage_above_floor}
 
 -- what a change leaves, or what was there
@@ -34,10 +33,6 @@ after_either P old after new (Ok done) made kept before later = subst P (sym mad
 after_either P old after new (Err fault) made kept before later = subst P (sym kept) before
 
 -- ---- accounts that give, and that get
-pub given_after : (p : ChainPart) (who : List ℕ) (list : List Asset) → HasOnce list → first_fault (give_fault p (Some who)) list ≡ None → HoldsFloors p
-    → HasFloors p.locked (Withdrawn who list (accounts_of p)).held
-given_after p who list once free floors = out_floors p who list once free floors
-
 pub got_after : (locked : LocksAndNotes) (l : Accounts) (who : List ℕ) (goods : Bundle) → HasFloors locked l.held → HasFloors locked (Deposited who goods l).held
 got_after locked l who goods floors = more_floors locked l.held (Deposited who goods l).held (merged_more l.held (held_by who goods)) floors
 

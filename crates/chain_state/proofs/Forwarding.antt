@@ -23,7 +23,7 @@ use Rattle.asset_lists.specs.Lists.{has_zero, is_rising, in_order, place_in}
 use Rattle.asset_lists.specs.Moves.{id_of_result, moved_id, moved, both, all_moved, list_if, reanchored_list}
 use Rattle.asset_lists.specs.Laws.{both_parts, in_order_moves}
 use Rattle.asset_bundles.specs.Bundles.{Bundle, fun_of, assets_at, held_assets}
-use Rattle.asset_wire.specs.declared.version.Version.{Version}
+use Rattle.message_parts.specs.declared.version.Version.{Version}
 use Rattle.xcm_program.specs.declared.instruction.Instruction.{Instruction, ClearOrigin, roll-Instruction, out-Instruction, out-roll-Instruction, roll-out-Instruction}
 use Rattle.xcm_program.specs.declared.instruction.Instruction.TheOpen.{Instruction-F}
 use Rattle.xcm_program.specs.Everywhere.{AllInside}

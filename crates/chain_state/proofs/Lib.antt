@@ -1,6 +1,7 @@
 pub mod Rows
 pub mod BurnedLines
-pub mod Moving
+pub mod Transacting
+pub mod Transacted
 pub mod Nothing
 pub mod Queries
 pub mod Claims

@@ -1,5 +1,5 @@
 -- What always holds of a chain: of its settings, of what is locked there, and of its channels' fees. Each is one fact of a few parts. This project's own rules; that a location has at most 8 junctions is the XCM format's.
-use Rattle.std.specs.Prelude.{ℕ, ◌≡◌, ◌≤◌, Bool, true, List, length}
+use Rattle.std.specs.Prelude.{ℕ, ◌≡◌, ◌≤◌, true, List, length}
 use Rattle.std.specs.Coded.{Coded-set, coded_bool, coded_ℕ, Π_prop, le_prop}
 use Rattle.locations.specs.declared.grammar.Junction.{Junction}
 use Rattle.std.specs.List.{IsDistinct, IsDistinct-prop}

@@ -10,3 +10,4 @@ pub mod Settling
 pub mod Aside
 pub mod Calls
 pub mod Locks
+pub mod Transacting

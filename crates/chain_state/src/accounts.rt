@@ -1,100 +1,131 @@
 //! Assets that move into accounts and out of them, and those that other chains send here.
-ghost use Rattle.std.specs.Prelude.{◌≡◌, ◌-◌, if◌then◌else◌, [], ◌∷◌, Some, None, OnOk};
+ghost use Rattle.std.specs.Prelude.{◌≡◌, ◌-◌, ℕ, List, if◌then◌else◌, [], ◌∷◌, Some, None, OnOk};
+ghost use Rattle.amounts.specs.Amounts.{amount};
+ghost use Rattle.asset_lists.specs.Units.{unit_of};
 ghost use Rattle.asset_bundles.specs.Bundles.{bundle_of};
-ghost use Rattle.ledgers.specs.Ledgers.{Withdrawn};
-ghost use Rattle.channel_parts.specs.declared.cargo.Cargo.{Cargo};
-ghost use Rattle.exec_base.specs.Answers.{Answers, TakesIn};
-ghost use Rattle.exec_base.specs.Part.{accounts_of};
+ghost use Rattle.trust_tables.specs.Accounts.{account_of};
+ghost use Rattle.exec_base.specs.Answers.{Answers, TakesIn, Keeps, Gives};
 ghost use Rattle.exec_base.specs.Host as host;
-ghost use Rattle.exec_base.specs.Host.{IsPrice, first_fault, give_fault, take_fault, given, fee_drawn, withdraw_refusal, withdrawn, deposit_refusal, deposited, transferred, receive_refusal, received, changed_all};
+ghost use Rattle.exec_base.specs.Host.{IsPrice, given, fee_drawn, withdraw_refusal, withdrawn, deposit_refusal, deposited, transfer_refusal, transferred, receive_refusal, received, changed_all};
 ghost use Rattle.chain_state.specs.PartOf.{part_of};
 
-use crate::ChainState;
 use crate::arrivals::ArrivalCall;
-use crate::carried::call_of;
+use crate::transactor::{error_of, fault_of, transactors_of};
+use crate::{ChainState, law_of_transactors};
 use asset_bundles::{AssetBundle, law_of_bundles};
 use asset_lists::{Asset, Assets};
-use chain_queues::Cargo;
 use exec_base::HostFault;
 use locations::Location;
 use message_parts::XcmError;
+use std::alloc::AllocError;
+use transactors::{
+    deposit_all, deposit_checked, deposit_fault, law_of_floors_of_moves, transfer_all,
+    transfer_checked, transfer_fault, withdraw_all,
+};
 use trust_tables::account_of;
 
 impl ChainState {
     /// Takes the listed assets out of the location's account.
-    #[tactic(auto, unfolding(exec_base::specs::Host::withdraw_refusal))]
     pub(crate) fn take_out(
         &mut self,
         list: &Assets,
         who: &Location,
     ) -> Result<AssetBundle, HostFault>
-        ensures { Answers (withdraw_refusal (part_of self.old) list.now who.now) (bundle_of list.now) (given (part_of self.old) list.now who.now) (part_of self.old) result (part_of self.new) }
+        ensures { Answers (withdraw_refusal (part_of self.old) list.now who.now)
+            (bundle_of list.now) (given (part_of self.old) list.now who.now)
+            (part_of self.old) result (part_of self.new) }
     {
+        law_of_transactors();
+        law_of_floors_of_moves();
         law_of_bundles();
-        let account = account_of(who, &self.settings.site);
-        if let Some(error) = self.give_refusal(&account, list.items()) {
-            return Err(HostFault::Xcm(error));
-        }
-        let Some(account) = account else {
-            return Ok(AssetBundle::empty(*self.events.allocator()));
-        };
-        match self.ledger.withdraw(&account, list) {
+        // For the prover alone: no asset stands twice in a list.
+        let _items = list.items();
+        let alloc = *self.events.allocator();
+        let movers = transactors_of(&self.settings, &self.locked);
+        match withdraw_all(alloc, &movers, &mut self.ledger, list, who) {
             Ok(goods) => Ok(goods),
-            Err(_) => Err(HostFault::Memory),
+            Err(fault) => Err(fault_of(fault)),
+        }
+    }
+
+    /// What the location's account has of the asset's unit; 0 without account.
+    fn held_at(&self, asset: &Asset, who: &Location) -> u128
+        ensures { (account : List ℕ) → account_of who.now (part_of self.now).site ≡ Some account
+            → result ≡ amount (part_of self.now).held (account, unit_of asset.now) }
+    {
+        match account_of(who, &self.settings.site) {
+            Some(account) => self.ledger.held_of(&account, asset),
+            None => 0,
         }
     }
 
     /// Takes a fee out of the location's account, which can take it back.
-    #[tactic(auto, unfolding(exec_base::specs::Host::withdraw_refusal, exec_base::specs::Host::fee_drawn))]
+    #[tactic(auto, unfolding(exec_base::specs::Host::fee_drawn))]
     pub(crate) fn take_fee_out(
         &mut self,
         fee: &Asset,
         who: &Location,
     ) -> Result<AssetBundle, HostFault>
         requires price { IsPrice fee.now }
-        ensures step { Answers (withdraw_refusal (part_of self.old) (fee.now ∷ []) who.now) (bundle_of (fee.now ∷ [])) (fee_drawn (part_of self.old) (fee.now ∷ []) who.now) (part_of self.old) result (part_of self.new) }
-        ensures back { OnOk result (deposit_refusal (part_of self.new) (bundle_of (fee.now ∷ [])) who.now ≡ None) }
+        ensures step { Answers (withdraw_refusal (part_of self.old) (fee.now ∷ []) who.now)
+            (bundle_of (fee.now ∷ [])) (fee_drawn (part_of self.old) (fee.now ∷ []) who.now)
+            (part_of self.old) result (part_of self.new) }
+        ensures back { OnOk result
+            (deposit_refusal (part_of self.new) (bundle_of (fee.now ∷ [])) who.now ≡ None) }
     {
-        let account = account_of(who, &self.settings.site);
-        if let Some(error) = self.give_fault(&account, fee) {
-            return Err(HostFault::Xcm(error));
-        }
-        let Some(account) = account else {
-            unreachable!();
-        };
-        let _have = self.ledger.held_of(&account, fee);
+        // For the prover alone: an amount has 128 bits.
+        let _have = self.held_at(fee, who);
         let list = Assets::one(*self.events.allocator(), fee.copy())?;
-        match self.ledger.withdraw(&account, &list) {
-            Ok(goods) => Ok(goods),
-            Err(_) => Err(HostFault::Memory),
+        self.take_out(&list, who)
+    }
+
+    /// Why goods aren't put into the location's account.
+    pub(crate) fn deposit_refusal(&self, goods: &AssetBundle, who: &Location) -> Option<XcmError>
+        ensures { result ≡ host.deposit_refusal (part_of self.now) goods.now who.now }
+    {
+        law_of_transactors();
+        let movers = transactors_of(&self.settings, &self.locked);
+        match deposit_fault(&movers, &self.ledger, goods, who) {
+            None => None,
+            Some(fault) => Some(error_of(fault)),
         }
     }
 
     /// Puts goods into the location's account.
-    #[tactic(auto, unfolding(exec_base::specs::Host::deposit_refusal, exec_base::specs::Host::deposited))]
     pub(crate) fn put_in(
         &mut self,
         goods: AssetBundle,
         who: &Location,
     ) -> Result<(), (AssetBundle, HostFault)>
-        ensures room { self.new.kept_back ≡ self.old.kept_back }
-        ensures step { TakesIn (deposit_refusal (part_of self.old) goods who.now) goods tt (deposited (part_of self.old) goods who.now) (part_of self.old) result (part_of self.new) }
+        ensures step { TakesIn (deposit_refusal (part_of self.old) goods who.now) goods tt
+            (deposited (part_of self.old) goods who.now)
+            (part_of self.old) result (part_of self.new) }
     {
-        let Ok(assets) = goods.list() else {
-            return Err((goods, HostFault::Memory));
-        };
-        let account = account_of(who, &self.settings.site);
-        if let Some(error) = self.take_refusal(&account, assets.as_slice()) {
-            return Err((goods, HostFault::Xcm(error)));
-        }
-        let Some(account) = account else {
-            goods.melt();
-            return Ok(());
-        };
-        match self.ledger.deposit(&account, goods) {
+        law_of_transactors();
+        law_of_floors_of_moves();
+        let movers = transactors_of(&self.settings, &self.locked);
+        match deposit_all(&movers, &mut self.ledger, goods, who) {
             Ok(()) => Ok(()),
-            Err((goods, _)) => Err((goods, HostFault::Memory)),
+            Err((goods, fault)) => Err((goods, fault_of(fault))),
         }
+    }
+
+    /// Puts goods into the location's account, where `deposit_refusal` is None. They are handed back where memory is
+    /// refused.
+    pub(crate) fn put_in_checked(
+        &mut self,
+        goods: AssetBundle,
+        who: &Location,
+    ) -> Result<(), AssetBundle>
+        requires free { deposit_refusal (part_of self.old) goods who.now ≡ None }
+        ensures room { self.new.kept_back ≡ self.old.kept_back }
+        ensures step { Keeps goods (deposited (part_of self.old) goods who.now)
+            (part_of self.old) result (part_of self.new) }
+    {
+        law_of_transactors();
+        law_of_floors_of_moves();
+        let movers = transactors_of(&self.settings, &self.locked);
+        deposit_checked(&movers, &mut self.ledger, goods, who)
     }
 
     /// Why the listed assets aren't moved from one location's account to another's.
@@ -106,27 +137,11 @@ impl ChainState {
     ) -> Option<XcmError>
         ensures { result ≡ host.transfer_refusal (part_of self.now) list.now from.now to.now }
     {
-        let giver = account_of(from, &self.settings.site);
-        if let Some(error) = self.give_refusal(&giver, list.items()) {
-            return Some(error);
-        }
-        let Some(giver) = giver else {
-            return None;
-        };
-        let Some(taker) = account_of(to, &self.settings.site) else {
-            return self.take_refusal(&None, list.items());
-        };
-        self.taker_refusal(list, &giver, &taker)
-    }
-
-    /// Why an account can't take in what another one gives, which has it.
-    fn taker_refusal(&self, list: &Assets, giver: &[u8; 32], taker: &[u8; 32]) -> Option<XcmError>
-        requires { first_fault (give_fault (part_of self.now) (Some giver.now)) list.now ≡ None }
-        ensures { result ≡ first_fault (take_fault (record (part_of self.now) { held = (Withdrawn giver.now list.now (accounts_of (part_of self.now))).held }) (Some taker.now)) list.now }
-    {
-        match self.ledger.transfer_fault(giver, taker, list) {
+        law_of_transactors();
+        let movers = transactors_of(&self.settings, &self.locked);
+        match transfer_fault(&movers, &self.ledger, list, from, to) {
             None => None,
-            Some(_) => Some(XcmError::FailedToTransactAsset),
+            Some(fault) => Some(error_of(fault)),
         }
     }
 
@@ -137,34 +152,41 @@ impl ChainState {
         from: &Location,
         to: &Location,
     ) -> Result<(), HostFault>
-        ensures room { self.new.kept_back ≡ self.old.kept_back }
-        ensures step { Answers (host.transfer_refusal (part_of self.old) list.now from.now to.now) tt (transferred (part_of self.old) list.now from.now to.now) (part_of self.old) result (part_of self.new) }
+        ensures step { Answers (host.transfer_refusal (part_of self.old) list.now from.now to.now)
+            tt (transferred (part_of self.old) list.now from.now to.now)
+            (part_of self.old) result (part_of self.new) }
     {
+        law_of_transactors();
+        law_of_floors_of_moves();
         law_of_bundles();
         // For the prover alone: no asset stands twice in a list.
         let _items = list.items();
-        if let Some(error) = self.transfer_refusal(list, from, to) {
-            return Err(HostFault::Xcm(error));
-        }
-        let Some(giver) = account_of(from, &self.settings.site) else {
-            return Ok(());
-        };
-        let Some(taker) = account_of(to, &self.settings.site) else {
-            return Ok(());
-        };
-        match self.ledger.transfer(&giver, &taker, list) {
+        let movers = transactors_of(&self.settings, &self.locked);
+        match transfer_all(&movers, &mut self.ledger, list, from, to) {
             Ok(()) => Ok(()),
-            Err(_) => Err(HostFault::Memory),
+            Err(fault) => Err(fault_of(fault)),
         }
     }
 
-    /// Ends the cargo, if it is taken.
-    fn end_cargo(&mut self, ends: bool)
-        ensures { part_of self.new ≡ record (part_of self.old) { cargo = if ends then (record { sender = (part_of self.old).cargo.sender; cargo = Cargo.Nothing }) else (part_of self.old).cargo } }
+    /// Moves the listed assets from one location's account to another's, where `transfer_refusal` is None.
+    pub(crate) fn move_checked(
+        &mut self,
+        list: &Assets,
+        from: &Location,
+        to: &Location,
+    ) -> Result<(), AllocError>
+        requires free { transfer_refusal (part_of self.old) list.now from.now to.now ≡ None }
+        ensures room { self.new.kept_back ≡ self.old.kept_back }
+        ensures step { Gives tt (transferred (part_of self.old) list.now from.now to.now)
+            (part_of self.old) result (part_of self.new) }
     {
-        if ends {
-            self.cargo = Cargo::Nothing;
-        }
+        law_of_transactors();
+        law_of_floors_of_moves();
+        law_of_bundles();
+        // For the prover alone: no asset stands twice in a list.
+        let _items = list.items();
+        let movers = transactors_of(&self.settings, &self.locked);
+        transfer_checked(&movers, &mut self.ledger, list, from, to)
     }
 
     /// Lowers the checking accounts of the rows of teleported assets.
@@ -187,7 +209,9 @@ impl ChainState {
     {
         let ends = self.is_cargo(ArrivalCall::Withdrawal, a)?;
         let goods = self.take_out(a, who)?;
-        self.end_cargo(ends);
+        if ends {
+            self.land_cargo(ArrivalCall::Withdrawal, a).melt();
+        }
         Ok(goods)
     }
 
@@ -216,10 +240,8 @@ impl ChainState {
         if let Some(error) = self.receive_fault(a.items(), from, teleport) {
             return Err(HostFault::Xcm(error));
         }
-        let ends = self.is_cargo(call_of(teleport), a)?;
-        let goods = AssetBundle::mint(*self.events.allocator(), a.items())?;
+        let goods = self.arrived(a, teleport)?;
         self.lower_for(teleport, a.items());
-        self.end_cargo(ends);
         Ok(goods)
     }
 }

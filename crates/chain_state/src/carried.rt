@@ -1,18 +1,21 @@
 //! Assets that arrive with a message.
-ghost use Rattle.std.specs.Prelude.{◌≡◌, IfOk};
+ghost use Rattle.std.specs.Prelude.{◌≡◌, IsTrue, IsFalse, IfOk, OnOk, OnErr, if◌then◌else◌};
 ghost use Rattle.std.specs.Ordering.{eq_by_cmp};
 ghost use Rattle.asset_lists.specs.Units.{assets_cmp};
-ghost use Rattle.exec_base.specs.Host.{arrival_of, fits_call, cargo_list, is_cargo};
+ghost use Rattle.asset_bundles.specs.Bundles.{bundle_of};
+ghost use Rattle.channel_parts.specs.declared.cargo.Cargo.{Cargo};
+ghost use Rattle.exec_base.specs.Host.{arrival_of, arrives_by_deposit, fits_call, cargo_list, cargo_after, is_cargo};
 ghost use Rattle.chain_state.specs.PartOf.{part_of};
-ghost use Rattle.chain_state.specs.Arrivals.{arrival_by};
+ghost use Rattle.chain_state.specs.Arrivals.{arrival_by, is_away};
 
 use crate::ChainState;
 use crate::arrivals::ArrivalCall;
-use asset_bundles::Way;
-use asset_lists::{Asset, Assets, copied};
+use asset_bundles::{AssetBundle, Shipment, Way, law_of_landing};
+use asset_lists::{Asset, Assets, copied, law_of_reanchored_lists};
 use chain_lists::{named, place_for};
 use chain_queues::Cargo;
 use std::alloc::{AllocError, Global};
+use std::mem::replace;
 use trust_tables::Site;
 
 /// By which call assets are received.
@@ -63,6 +66,18 @@ fn are_same(one: &[Asset], other: &[Asset]) -> bool
     one.cmp(other).is_eq()
 }
 
+/// The shipment of a cargo that has one.
+fn shipment_of(cargo: Cargo) -> Shipment
+    requires { IsTrue (is_away cargo) }
+    ensures { cargo ≡ Cargo.Away result }
+{
+    match cargo {
+        Cargo::Away(shipment) => shipment,
+        Cargo::Nothing => unreachable!(),
+        Cargo::Deposit(_) => unreachable!(),
+    }
+}
+
 impl ChainState {
     /// Whether the call takes what the message carries that is being delivered: the kind fits, and the list, as this chain names it, is
     /// the call's.
@@ -85,5 +100,56 @@ impl ChainState {
             return Ok(false);
         };
         Ok(are_same(seen.as_slice(), list.items()))
+    }
+
+    /// Ends what the message carries, a shipment that the call takes: its units under this chain's ids. It takes no memory.
+    pub(crate) fn land_cargo(&mut self, call: ArrivalCall, list: &Assets) -> AssetBundle
+        requires taken { IsTrue (is_cargo (part_of self.old) (arrival_by call) list.now) }
+        requires shipped { IsFalse (arrives_by_deposit (arrival_by call)) }
+        ensures landed { result ≡ bundle_of list.now }
+        ensures ended { part_of self.new ≡ record (part_of self.old) { cargo = record { sender = (part_of self.old).cargo.sender; cargo = Cargo.Nothing } } }
+    {
+        law_of_landing();
+        law_of_reanchored_lists();
+        let shipment = shipment_of(replace(&mut self.cargo, Cargo::Nothing));
+        let Some(target) = place_for(self.sender, self.settings.site.chain) else {
+            unreachable!();
+        };
+        let sender = Site {
+            network: self.settings.site.network,
+            chain: self.sender,
+        };
+        // For the prover alone: what is shipped is held, and the call's list is one.
+        let _units = shipment.items();
+        let _list = list.items();
+        shipment.land(&target, &sender.path())
+    }
+
+    /// Ends what the message carries, if a call takes it that has no shipment.
+    fn end_deposit(&mut self, ends: bool)
+        ensures { part_of self.new ≡ record (part_of self.old) { cargo = if ends then (record { sender = (part_of self.old).cargo.sender; cargo = Cargo.Nothing }) else (part_of self.old).cargo } }
+    {
+        if ends {
+            self.cargo = Cargo::Nothing;
+        }
+    }
+
+    /// The assets of a call: a teleport that it takes lands, and all else is made. It ends the cargo that it takes.
+    pub(crate) fn arrived(
+        &mut self,
+        list: &Assets,
+        teleport: bool,
+    ) -> Result<AssetBundle, AllocError>
+        ensures goods { IfOk result (λ goods. goods ≡ bundle_of list.now) }
+        ensures ended { OnOk result (part_of self.new ≡ record (part_of self.old) { cargo = cargo_after (part_of self.old) (arrival_of teleport) list.now }) }
+        ensures kept { OnErr result (part_of self.new ≡ part_of self.old) }
+    {
+        let ends = self.is_cargo(call_of(teleport), list)?;
+        if ends && teleport {
+            return Ok(self.land_cargo(ArrivalCall::Teleport, list));
+        }
+        let goods = AssetBundle::mint(*self.events.allocator(), list.items())?;
+        self.end_deposit(ends);
+        Ok(goods)
     }
 }

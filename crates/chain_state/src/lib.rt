@@ -14,6 +14,7 @@ mod dispatching;
 mod exchanging;
 mod fees;
 mod hosting;
+mod laws;
 mod lines;
 mod locks;
 mod losses;
@@ -30,8 +31,10 @@ mod shipping;
 mod state;
 mod steps;
 mod telling;
+mod transactor;
 mod trapping;
 mod weights;
 mod wide;
 
+pub use laws::law_of_transactors;
 pub use state::ChainState;

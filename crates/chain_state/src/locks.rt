@@ -85,16 +85,6 @@ fn own_account(place: &Location) -> Option<[u8; 32]>
 }
 
 impl ChainState {
-    /// How much of the asset the account must keep.
-    pub(crate) fn floor_for(&self, who: &[u8; 32], asset: &Asset) -> u128
-        ensures { result ≡ host.floor_of (part_of self.now) who.now (unit_of asset.now) }
-    {
-        match lock_id(asset) {
-            Some(id) => self.locked.floor(who, id),
-            None => 0,
-        }
-    }
-
     /// The account and the asset of a lock.
     fn lock_place(&self, asset: &Asset, owner: &Location) -> Option<([u8; 32], Location)>
         ensures { (unlocker : Location) → option_map (λ place. (place.0, place.1, unlocker)) result ≡ lock_key (part_of self.now) asset.now owner.now unlocker }

@@ -15,7 +15,6 @@ use chain_ids::ChainId;
 use chain_queues::Cargo;
 use exec_base::HostFault;
 use locations::Location;
-use trust_tables::account_of;
 use xcm_program::Program;
 
 impl ChainState {
@@ -33,13 +32,10 @@ impl ChainState {
             × (deposit_out_refusal (part_of self.now) goods.now dest.now xcm.now ≡ None) × (ready.2 ≡ held_assets goods.now))
             (IsSendFault (deposit_out_refusal (part_of self.now) goods.now dest.now xcm.now)) }
     {
-        let list = goods.list()?;
-        if let Some(error) = self.take_refusal(
-            &account_of(dest, &self.settings.site),
-            list.as_slice(),
-        ) {
+        if let Some(error) = self.deposit_refusal(goods, dest) {
             return Err(HostFault::Xcm(error));
         }
+        let list = goods.list()?;
         let (to, bytes) = match self.encoded_around(
             list.as_slice(),
             dest,
@@ -72,8 +68,8 @@ impl ChainState {
         if self.kept_back.reserve(1).is_err() {
             return Err((goods, HostFault::Memory));
         }
-        if let Err(refused) = self.put_in(goods, dest) {
-            return Err(refused);
+        if let Err(goods) = self.put_in_checked(goods, dest) {
+            return Err((goods, HostFault::Memory));
         }
         Ok(self.post(to, bytes, Cargo::Deposit(cargo)))
     }
@@ -120,9 +116,7 @@ impl ChainState {
             Err(fault) => return Err(fault),
         };
         self.kept_back.reserve(1)?;
-        if let Err(fault) = self.move_over(list, from, dest) {
-            return Err(fault);
-        }
+        self.move_checked(list, from, dest)?;
         Ok(self.post(to, bytes, Cargo::Deposit(cargo)))
     }
 }

@@ -69,7 +69,7 @@ impl ChainState {
 
     /// Puts a program that carries nothing last in the channel to that chain, and tells nothing. The answer is its number, or why the
     /// channel doesn't take it.
-    pub fn post_claim(&mut self, to: ChainId, program: &Program) -> Result<u64, HostFault>
+    pub fn send(&mut self, to: ChainId, program: &Program) -> Result<u64, HostFault>
         requires forwardable { IsForwardable program.now }
         ensures step { Answers (channel_refusal (channel_to to (part_of self.old).channels) true program.now) (option_map_or (λ (c : Outgoing). c.next) (channel_to to (part_of self.old).channels) 0) (record (part_of self.old) { channels = pushed to program.now Nothing (part_of self.old).channels }) (part_of self.old) result (part_of self.new) }
     {

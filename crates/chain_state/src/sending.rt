@@ -1,6 +1,5 @@
 //! Messages that are sent.
-ghost use Rattle.trust_tables.specs.Chains.{location_of};
-ghost use Rattle.std.specs.Prelude.{◌≡◌, ◌≢◌, IfSome, ◌+◌, ◌≤◌, ◌++◌, [], ◌∷◌, List, None, Some, length, nat_le, nat_lt, true, false, IsTrue, MatchResult, vec_len, vec_capacity};
+ghost use Rattle.std.specs.Prelude.{◌≡◌, ◌+◌, ◌≤◌, ◌++◌, [], ◌∷◌, List, None, Some, length, nat_le, nat_lt, true, false, IsTrue, MatchResult, vec_len, vec_capacity};
 ghost use Rattle.std.specs.Option.{option_map};
 ghost use Rattle.message_parts.specs.declared.error.XcmError.TheVariants as error;
 ghost use Rattle.xcm_program.specs.declared.instruction.Instruction.{Instruction};
@@ -25,7 +24,6 @@ use chain_queues::{Cargo, Queue};
 use exec_base::{Event, HostFault};
 use locations::Location;
 use message_parts::XcmError;
-use trust_tables::location_of;
 use versioned_xcm::{EncodeFault, encode_message, law_of_round_trip};
 use xcm_program::Program;
 
@@ -117,16 +115,5 @@ impl ChainState {
         let (to, bytes) = self.encoded_to(dest, program)?;
         self.kept_back.reserve(1)?;
         Ok(self.post(to, bytes, Cargo::Nothing))
-    }
-
-    /// Sends a program that carries nothing to another chain.
-    pub fn send(&mut self, to: ChainId, program: &Program) -> Result<u64, HostFault>
-        requires forwardable { IsForwardable program.now }
-        requires other { (part_of self.old).site.chain ≢ to }
-        ensures step { IfSome (location_of (part_of self.old).site.chain to) (λ dest.
-            Answers (send_refusal (part_of self.old) dest true program.now) (number_to (part_of self.old) dest) (sent (part_of self.old) dest program.now Cargo.Nothing) (part_of self.old) result (part_of self.new)) }
-    {
-        let dest = location_of(self.settings.site.chain, to);
-        self.send_to(&dest, program)
     }
 }

@@ -11,7 +11,7 @@ use crate::ChainState;
 use crate::above::book_all;
 use asset_bundles::{AssetBundle, law_of_bundles};
 use asset_lists::Asset;
-use ledgers::{DepositFault, Ledger};
+use ledgers::Ledger;
 use std::alloc::{AllocError, Global};
 use std::mem::swap;
 
@@ -30,16 +30,11 @@ fn deposit_into(
 {
     law_of_bundles();
     let goods = AssetBundle::mint(alloc, coins)?;
-    match ledger.deposit(who, goods) {
+    match ledger.deposit_checked(who, goods) {
         Ok(()) => Ok(()),
-        Err((goods, fault)) => {
+        Err(goods) => {
             goods.melt();
-            match fault {
-                DepositFault::Memory => Err(AllocError),
-                DepositFault::Overflow { .. } | DepositFault::InstanceExists { .. } => {
-                    unreachable!()
-                }
-            }
+            Err(AllocError)
         }
     }
 }

@@ -3,7 +3,6 @@ ghost use Rattle.std.specs.Prelude.{◌≡◌, ◌<◌, IsFalse, IfOk, []};
 ghost use Rattle.amounts.specs.Amounts.{empty};
 ghost use Rattle.asset_lists.specs.Units.{is_zero};
 ghost use Rattle.asset_bundles.specs.Books.{AreListed};
-ghost use Rattle.chain_ids.specs.declared.chain.ChainId.{ChainId};
 ghost use Rattle.trust_tables.specs.Trust.{listing};
 ghost use Rattle.channel_parts.specs.declared.cargo.Cargo.{Cargo};
 ghost use Rattle.chain_state.specs.PartOf.{part_of};
@@ -48,7 +47,6 @@ pub(crate) fn relay(alloc: Global) -> Result<ChainState, Fail>
     ensures slot { IfOk result (λ chain. (part_of chain).fee_slot ≡ empty) }
     ensures cargo { IfOk result (λ chain. (part_of chain).cargo.cargo ≡ Cargo.Nothing) }
     ensures parked { IfOk result (λ chain. (part_of chain).parked ≡ []) }
-    ensures site { IfOk result (λ chain. (part_of chain).site.chain ≡ ChainId.Relay) }
 {
     law_of_valid_networks();
     let spec = read_network(alloc, NETWORK.as_bytes())?;

@@ -16,8 +16,8 @@ use Rattle.asset_lists.specs.declared.units.Instance.{Instance}
 use Rattle.asset_lists.specs.declared.units.Kind.{Kind}
 use Rattle.asset_lists.specs.declared.units.Kind.TheVariants as kinds
 use Rattle.asset_wire.specs.Reading.{instance_at}
-use Rattle.asset_wire.specs.declared.version.Version.{Version}
-use Rattle.asset_wire.specs.declared.version.Version.TheVariants.{V3, V4}
+use Rattle.message_parts.specs.declared.version.Version.{Version}
+use Rattle.message_parts.specs.declared.version.Version.TheVariants.{V3, V4}
 use Rattle.barriers.specs.declared.barrier.Barrier.{Barrier}
 use Rattle.barriers.specs.declared.barrier.Barrier.TheVariants.{Credit, Paid, Explicit, Unpaid, Responses}
 use Rattle.weight_trader.specs.declared.rate.Rate.{Rate}

@@ -6,7 +6,7 @@ ghost use Rattle.serde_json.specs.View.{view};
 ghost use Rattle.document_forms.specs.Answers.{Answers};
 ghost use Rattle.document_forms.specs.Forms.{defaulted, number_within, fields};
 ghost use Rattle.document_entries.specs.Entries.{channel_entry, channel_fields, version, fee};
-ghost use Rattle.asset_wire.specs.declared.version.Version.TheVariants.{V4};
+ghost use Rattle.message_parts.specs.declared.version.Version.TheVariants.{V4};
 
 use crate::{amount_of, location_of};
 use asset_lists::{Asset, AssetId, Fun};

@@ -53,6 +53,17 @@ fn a_network_that_is_read_is_valid(rt: HostRuntime) -> Result<(), Fail> {
         chains,
         channels,
     } = read;
+    let of_ethereum = NetworkSpec {
+        network: NetworkId::Ethereum { chain_id: 1 },
+        chains,
+        channels,
+    };
+    assert!(rt; !is_valid(alloc, &of_ethereum)?);
+    let NetworkSpec {
+        network: _,
+        chains,
+        channels,
+    } = of_ethereum;
     let mut turned = channels.into_vec();
     for channel in turned.iter_mut() {
         channel.channel.to = channel.from;

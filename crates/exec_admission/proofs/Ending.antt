@@ -1,22 +1,28 @@
 -- How an execution begins and ends.
-use Rattle.std.proofs.Common.{◌≡◌, ℕ, ◌<◌, Bool, true, false, Result, Err, refl, ap, ◌∙◌, arith}
+use Rattle.std.proofs.Common.{◌≡◌, ℕ, ◌<◌, Bool, true, false, Option, Some, None, Result, Err, inl, inr, refl, sym, ap, ◌∙◌, subst, arith}
 use Rattle.std.specs.Prelude.{nat_eq, if◌then◌else◌, length}
 use Rattle.std.proofs.lemmas.Bool.Decides.{nat_tests}
 use Rattle.amounts.specs.Amounts.{empty, rows}
 use Rattle.locations.specs.declared.relative.Location.{Location}
+use Rattle.message_parts.specs.declared.error.XcmError.{XcmError}
+use Rattle.message_parts.specs.declared.weight.Weight.{Weight}
+use Rattle.message_parts.specs.Weights.{IsWithin}
 use Rattle.trap_store.specs.Traps.{with_trapped}
 use Rattle.weight_trader.specs.Refunds.{Closed}
+use Rattle.xcm_program.specs.declared.instruction.Instruction.{Instruction, out-roll-Instruction}
+use Rattle.xcm_program.specs.declared.instruction.Instruction.TheOpen.{Instruction-F}
 use Rattle.xcm_program.specs.declared.outcome.Outcome.{Outcome}
 use Rattle.exec_base.specs.declared.event.Event.{Event}
 use Rattle.exec_base.specs.declared.event.Part.TheVariants as parts
 use Rattle.exec_base.specs.declared.registers.Registers.{Registers}
 use Rattle.exec_base.specs.Part.{ChainPart}
 use Rattle.exec_base.specs.Host.{told, settled, trapped}
-use Rattle.exec_run.specs.Machine.{Machine, control_of}
-use Rattle.exec_run.specs.Accounts.{Balances, IsBalanced, ref_time, proof_size}
-use Rattle.exec_run.specs.Outcome.{owner_of, end_event, refunded_last, finished}
+use Rattle.exec_run.specs.Machine.{Machine, Control, control_of, Steers, IsOrderly}
+use Rattle.exec_run.specs.Run.{left_after}
+use Rattle.exec_run.specs.Accounts.{Balances, IsBalanced, KeepsAccounts, ref_time, proof_size}
+use Rattle.exec_run.specs.Outcome.{owner_of, end_event, refund_surplus, refunded_last, finished}
 use Rattle.exec_run.specs.RunLaws.{begin_balanced}
-use Rattle.exec_rules.specs.Instructions.{xcm}
+use Rattle.exec_rules.specs.Instructions.{refusal_of, xcm}
 use Rattle.exec_admission.specs.declared.rules.ChainRules.{ChainRules}
 use Rattle.exec_admission.specs.declared.admission.Admitted.{Admitted}
 use Rattle.exec_admission.specs.Admission.{IsWeighed}
@@ -113,3 +119,23 @@ ends_untrapped m none =
     let told_part = told last.part (end_event last.regs) in
     ap (λ (p : ChainPart). p.traps) (none_is_trapped (length (rows last.regs.holding)) (settled told_part) (trapped (settled told_part) last.regs.holding (owner_of last.regs)) none)
     ∙ settled_traps told_part ∙ told_traps last.part (end_event last.regs)
+
+-- ---- weights behind the last refund
+kept_behind : (most : Weight) (c d : Control) → Steers {X = Instruction} (λ p. p) Instruction-F.RefundSurplus c d → (IsWithin c.surplus most) × (IsWithin c.refunded c.surplus)
+    → (IsWithin d.surplus most) × (IsWithin d.refunded d.surplus)
+kept_behind most c d (inl same) k = subst (λ (e : Control). (IsWithin e.surplus most) × (IsWithin e.refunded e.surplus)) (sym same) k
+kept_behind most c d (inr spent) k =
+    subst (λ (e : Control). (IsWithin e.surplus most) × (IsWithin e.refunded e.surplus)) (sym spent)
+    (k.0, record { ref_time = omega arith; proof_size = omega arith })
+
+refund_keeps : (most : Weight) (m : Machine) (o : Option XcmError) → refusal_of refund_surplus m ≡ o → IsOrderly xcm → KeepsAccounts most m.regs
+    → KeepsAccounts most (left_after xcm refund_surplus m o).regs
+refund_keeps most m (Some error) e orderly k = k
+refund_keeps most m None e orderly k =
+    let steers = subst (λ (l : Instruction-F Instruction). Steers (λ p. p) l (control_of m.regs) (control_of (xcm.done refund_surplus m).regs))
+    (out-roll-Instruction Instruction-F.RefundSurplus) (orderly refund_surplus m e) in
+    let kept = kept_behind most _ _ steers (k.surplus, k.refunded) in
+    record { surplus = kept.0; refunded = kept.1 }
+
+pub last_accounts : (most : Weight) (m : Machine) → IsOrderly xcm → KeepsAccounts most m.regs → KeepsAccounts most (refunded_last xcm m).regs
+last_accounts most m orderly k = refund_keeps most m (refusal_of refund_surplus m) refl orderly k

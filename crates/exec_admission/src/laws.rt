@@ -27,7 +27,7 @@ use exec_calls::{law_of_readiness, law_of_rules};
 use exec_run::law_of_runs;
 
 /// What is admitted weighs what is said; its run begins balanced with that weight, so wherever it comes the surplus is at most the weight,
-/// and what was refunded at most the surplus; from a chain at rest it is ready for whichever instruction comes next; it ends, and leaves the chain at rest. A program that isn't admitted changes nothing. At the end no fee is left aside,
+/// and what was refunded at most the surplus, behind the last refund too; from a chain at rest it is ready for whichever instruction comes next; it ends, and leaves the chain at rest. A program that isn't admitted changes nothing. At the end no fee is left aside,
 /// nothing is left with the trader, and a holding is trapped just where it isn't empty.
 pub fn law_of_admission()
     ensures weighed { (rules : ChainRules) (origin : Location) (credit : Weight) (queries : List OpenQuery) (program : List Instruction) (a : Admitted)
@@ -35,6 +35,8 @@ pub fn law_of_admission()
     ensures balanced { (rules : ChainRules) (origin : Location) (a : Admitted) (p : ChainPart) → IsWeighed rules.weight a → IsBalanced a.weight (first_stage rules origin a p) }
     ensures accounts { (rules : ChainRules) (origin : Location) (a : Admitted) (p : ChainPart) (g : Stage)
         → IsWeighed rules.weight a → Reaches xcm (first_stage rules origin a p) g → KeepsAccounts a.weight (machine_of g).regs }
+    ensures at_end { (rules : ChainRules) (origin : Location) (a : Admitted) (p : ChainPart)
+        → IsWeighed rules.weight a → KeepsAccounts a.weight (refunded_last xcm (last_machine rules origin a p)).regs }
     ensures forwardable { (rules : ChainRules) (origin : Location) (credit : Weight) (queries : List OpenQuery) (program : List Instruction) (a : Admitted)
         → IsForwardable program → admitted rules origin credit queries program ≡ Ok a → IsForwardable a.program }
     ensures ready { (rules : ChainRules) (origin : Location) (a : Admitted) (p : ChainPart) (part : Part) (place : ℕ) (x : Instruction) (behind : List Instruction) (m : Machine)

@@ -58,14 +58,13 @@ pub fn deposit_asset<H: Host>(
 pub fn burn_asset<H: Host>(
     r: &mut Registers,
     h: &mut H,
-    assets: Assets,
+    assets: &Assets,
 ) -> Result<Result<(), XcmError>, AllocError>
-    requires ready { IsReadyFor (Instruction-F.BurnAsset assets) (machine r.old (H.part h.old)) }
-    ensures ok { IfOk result (λ answer. Ran (Instruction-F.BurnAsset assets) (machine r.old (H.part h.old)) answer (machine r.new (H.part h.new))) }
-    ensures err { OnErr result (Spilled (Instruction-F.BurnAsset assets) (machine r.old (H.part h.old)) (machine r.new (H.part h.new))) }
+    requires ready { IsReadyFor (Instruction-F.BurnAsset assets.now) (machine r.old (H.part h.old)) }
+    ensures ok { IfOk result (λ answer. Ran (Instruction-F.BurnAsset assets.now) (machine r.old (H.part h.old)) answer (machine r.new (H.part h.new))) }
+    ensures err { OnErr result (Spilled (Instruction-F.BurnAsset assets.now) (machine r.old (H.part h.old)) (machine r.new (H.part h.new))) }
 {
-    let filter = Filter::Definite(assets);
-    let goods = r.holding.take(&filter)?;
+    let goods = r.holding.take_listed(assets)?;
     match h.burn(goods) {
         Ok(()) => Ok(Ok(())),
         Err(goods) => {

@@ -52,7 +52,8 @@ use Rattle.exec_base.specs.declared.event.Event.{Event}
 use Rattle.exec_base.specs.Part.{Taken, ChainPart, accounts_of, book_of}
 use Rattle.exec_base.specs.Arrivals.{arrived_list, is_this_list}
 use Rattle.exec_base.specs.Sending.{unless, or_else, channel_to, send_refusal, sent, deposit_program, away_program, listed_refusal, listed_program, named_refusal, named_sent}
-use Rattle.asset_locks.specs.LockMaps.{LockKey, NoteKey, LocksAndNotes, lock_at, floor, noted, Locked, Unlocked, Noted, Reduced}
+use Rattle.asset_locks.specs.UnitFloors.{floor_at}
+use Rattle.asset_locks.specs.LockMaps.{LockKey, NoteKey, LocksAndNotes, lock_at, noted, Locked, Unlocked, Noted, Reduced}
 
 -- the first asset in order that is refused decides
 abbrev pub first_fault : (Asset → Option XcmError) → List Asset → Option XcmError
@@ -122,11 +123,7 @@ unfoldable pub cargo_after : ChainPart → Arrival → List Asset → Taken
 cargo_after p arrival list = if is_cargo p arrival list then (record { sender = p.cargo.sender; cargo = Nothing }) else p.cargo
 
 -- ---- moves
--- how much of a unit an account must keep: only fungible assets are locked
-abbrev pub floor_at : LocksAndNotes → List ℕ → AssetId → Option Instance → ℕ
-floor_at l who (AssetId.Concrete id) None = floor who id l
-floor_at l who _ _ = 0
-
+-- how much of a unit an account must keep for its locks
 abbrev pub floor_of : ChainPart → List ℕ → Unit → ℕ
 floor_of p who unit = floor_at p.locked who unit.0 unit.1
 

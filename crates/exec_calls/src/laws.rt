@@ -29,8 +29,8 @@ pub fn law_of_calls()
     ensures stopped { (l : Instruction-F Instruction) (m now : Machine) → Spilled l m now → IsLedTo l m now }
 {}
 
-/// The instructions steer a run only as they may, so the laws of runs hold of it; and a refused instruction leaves accounts, queues,
-/// traps, burns, checking accounts and the holding as they were.
+/// The instructions steer a run only as they may, so the laws of runs hold of it; and a refused instruction changes no register but the
+/// error, the surplus and those of the handler and the appendix, and nothing of the chain but what is told.
 pub fn law_of_rules()
     ensures steers { IsOrderly xcm }
     ensures refused { (part : Part) (place : ℕ) (x : Instruction) (behind : List Instruction) (m : Machine) (e : XcmError)

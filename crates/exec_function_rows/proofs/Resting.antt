@@ -4,7 +4,7 @@ use Rattle.asset_lists.specs.declared.units.Asset.{Asset}
 use Rattle.message_parts.specs.declared.query.OpenQuery.{OpenQuery}
 use Rattle.trust_tables.specs.declared.chains.Site.{Site}
 use Rattle.trust_tables.specs.declared.rows.AssetRow.{AssetRow}
-use Rattle.asset_wire.specs.declared.version.Version.{Version}
+use Rattle.message_parts.specs.declared.version.Version.{Version}
 use Rattle.xcm_program.specs.declared.instruction.Instruction.{Instruction}
 use Rattle.xcm_format.specs.Messages.{IsReadable}
 use Rattle.xcm_format.specs.Writable.{IsWritable}

@@ -11,21 +11,18 @@ use Rattle.exec_run.specs.Machine.{Machine, Rules, Control, control_of}
 use Rattle.exec_run.specs.Run.{Stage, At, Ended, failed, without_handler, without_appendix, handler_dropped}
 use Rattle.exec_run.specs.Accounts.{IsAffordable}
 
--- a refused instruction changes the trace and the registers by which the run is steered; all else is as it was
+-- a refused instruction changes no register but the error and the surplus, and the handler and the appendix with their weights, of which one
+-- is next; and nothing of the chain but what is told
 pub record LeavesAll (m n : Machine) : Type 0 where
-  pub holding : n.regs.holding ≡ m.regs.holding
-  pub origin : n.regs.origin ≡ m.regs.origin
-  pub accounts : n.part.held ≡ m.part.held
-  pub traps : n.part.traps ≡ m.part.traps
-  pub queues : n.part.channels ≡ m.part.channels
-  pub burns : n.part.burns ≡ m.part.burns
-  pub checking : n.part.checking ≡ m.part.checking
-  pub trader : n.part.lines ≡ m.part.lines
-  pub fees : n.part.fees ≡ m.part.fees
-  pub slot : n.part.fee_slot ≡ m.part.fee_slot
-  pub parked : n.part.parked ≡ m.part.parked
-  pub queries : n.part.queries ≡ m.part.queries
-  pub cargo : n.part.cargo ≡ m.part.cargo
+  pub registers : n.regs ≡ record m.regs {
+    error = n.regs.error;
+    surplus = n.regs.surplus;
+    handler = n.regs.handler;
+    handler_weight = n.regs.handler_weight;
+    appendix = n.regs.appendix;
+    appendix_weight = n.regs.appendix_weight;
+  }
+  pub chain : n.part ≡ record m.part { events = n.part.events; kept_back = n.part.kept_back }
 
 -- a fact of every instruction that may still run
 pub record AllAhead (Q : Instruction → Type 0) (ahead : List Instruction) (c : Control) : Type 0 where

@@ -11,7 +11,8 @@ ghost use Rattle.exec_run.specs.Keeping.{LeavesAll, IsAheadOf};
 
 /// Where instructions steer a run only as they may: each instruction is taken at most once, so every run ends, and a run from a stage
 /// that it reaches is the same run. Wherever it stands, the surplus is at most the weight that was admitted, what was refunded is at most
-/// the surplus, and the next instruction may be taken. A refused instruction leaves the chain and the holding as they were.
+/// the surplus, and the next instruction may be taken. A refused instruction changes no
+/// register but the error, the surplus and those of the handler and the appendix, and nothing of the chain but what is told.
 pub fn law_of_runs()
     ensures once { (rules : Rules) (g : Stage) → IsOrderly rules → IsUnderWay g → 1 + still_to_run (next rules g) ≤ still_to_run g }
     ensures ends { (rules : Rules) (g : Stage) → IsOrderly rules → IsEnd (run rules g) }

@@ -36,7 +36,7 @@ fn counts_line(alloc: Global, counts: &Counts) -> Result<String, AllocError>
 fn supply_block(alloc: Global, net: &Net) -> Result<String, AllocError>
     ensures { IfOk result (λ text. string_bytes text ≡ reads.supply_block (world_of net.now)) }
 {
-    supply_text::supply_block(alloc, net.chains())
+    report_text::supply_block(alloc, net.chains())
 }
 
 /// Draws steps and runs them in a network in which nothing has happened yet, and reports what came of them.

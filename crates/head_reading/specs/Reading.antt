@@ -3,7 +3,7 @@
 use Rattle.std.specs.Prelude.{ℕ, ◌-◌, ◌^◌, List, [], ◌∷◌, None, nat_lt, if◌then◌else◌}
 use Rattle.scale_codec.specs.Reading.{◌>>=◌, Reader, u8_at, below_at, take_at, done, made1, made2, made3, made4, made5, chosen, flag_at, optional_at}
 use Rattle.location_wire.specs.Reading.{network_at, junction_at, junctions_at, location_at}
-use Rattle.asset_wire.specs.declared.version.Version.{Version}
+use Rattle.message_parts.specs.declared.version.Version.{Version}
 use Rattle.asset_wire.specs.Reading.{asset_at, assets_at, filter_at}
 use Rattle.part_wire.specs.Reading.{weight_at, weight_limit_at, origin_kind_at, failure_at, bytes_at, maybe_error_at, query_info_at, response_at}
 use Rattle.xcm_program.specs.declared.instruction.Instruction.{Instruction}

@@ -1,7 +1,7 @@
 //! The laws of the heads of instructions: what stands in front of the program inside.
 
 ghost use Rattle.std.specs.Prelude.{◌≡◌, ◌++◌, ℕ, List, [], Option, Some};
-ghost use Rattle.asset_wire.specs.declared.version.Version.{Version};
+ghost use Rattle.message_parts.specs.declared.version.Version.{Version};
 ghost use Rattle.xcm_program.specs.declared.instruction.Instruction.{Instruction};
 ghost use Rattle.xcm_program.specs.Measure.{with_inner};
 ghost use Rattle.xcm_format.specs.Programs.{head, FitsHead};

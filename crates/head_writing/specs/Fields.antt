@@ -1,6 +1,6 @@
 -- What stands behind the index of an instruction, up to the program inside.
 use Rattle.std.specs.Prelude.{ℕ, List, drop}
-use Rattle.asset_wire.specs.declared.version.Version.{Version}
+use Rattle.message_parts.specs.declared.version.Version.{Version}
 use Rattle.xcm_program.specs.declared.instruction.Instruction.TheOpen.{Instruction-F}
 use Rattle.xcm_format.specs.Programs.{head}
 

@@ -1,22 +1,28 @@
 -- What an accepted instruction conserves, instruction by instruction.
-use Rattle.std.proofs.Common.{◌≡◌, ℕ, ◌+◌, Bool, true, false, List, Option, Some, None, refl, ap, arith}
+use Rattle.std.proofs.Common.{◌≡◌, ◌⊎◌, inl, inr, ℕ, ◌+◌, Bool, true, false, List, Option, Some, None, refl, ap, ◌∙◌, arith}
 use Rattle.amounts.specs.Amounts.{total, empty, total-empty}
+use Rattle.locations.specs.declared.relative.Location.{Location}
 use Rattle.asset_lists.specs.declared.units.Asset.{Asset}
 use Rattle.asset_lists.specs.Listed.{Listed}
 use Rattle.asset_lists.specs.Units.{unit_cmp}
-use Rattle.asset_bundles.specs.Bundles.{unit_keys, bundle_of}
+use Rattle.asset_bundles.specs.Bundles.{Bundle, unit_keys, bundle_of}
 use Rattle.asset_bundles.specs.Books.{is_unit_where}
 use Rattle.weight_trader.specs.Laws.{MovesAreKept}
 use Rattle.xcm_program.specs.declared.instruction.Instruction.{Instruction, out-Instruction}
 use Rattle.xcm_program.specs.declared.instruction.Instruction.TheOpen.{Instruction-F}
+use Rattle.exec_base.specs.Part.{ChainPart}
 use Rattle.exec_base.specs.Host.{received}
 use Rattle.exec_run.specs.Machine.{Machine}
 use Rattle.exec_rules.specs.Instructions.{refused, done, refusal_of, xcm}
+use Rattle.exec_rules.specs.Holdings.{at_origin}
 use Rattle.exec_rules.specs.Readiness.{IsSteady}
+use Rattle.exec_rules.specs.Stopping.{parking, NotJoined, Spilled, spills}
+use Rattle.exec_calls.specs.Reasons.{IsLedTo}
 use Rattle.host_laws.specs.Wholes.{whole}
-use Rattle.host_laws.specs.Accepted.{whole_of, made, HasList, AreFees, HasRoomFor}
+use Rattle.host_laws.specs.Accepted.{whole_of, made, IsMadeOrNothing, HasList, AreFees, HasRoomFor}
 use Rattle.host_laws.proofs.Moving.{Withdraws, received_whole}
-use Rattle.host_laws.proofs.Accepting.{more_whole, whole_done}
+use Rattle.host_laws.proofs.Booking.{conserves_park}
+use Rattle.host_laws.proofs.Accepting.{more_whole, whole_done, whole_stopped}
 
 -- where nothing is made
 plain : (before now : ℕ) (test : Listed → Bool) → now ≡ before → now ≡ before + total {R = unit_cmp} (is_unit_where test) empty
@@ -34,3 +40,31 @@ module _ (withdraws : Withdraws) (moves : MovesAreKept) where
   pub conserves_accepted : (x : Instruction) (m : Machine) (test : Listed → Bool) → IsSteady m → HasList (out-Instruction x) → AreFees m.part → HasRoomFor (made (out-Instruction x)) m → refusal_of x m ≡ None
       → whole_of test (xcm.done x m) ≡ whole_of test m + total (is_unit_where test) (made (out-Instruction x))
   conserves_accepted x m test steady in_order fees room ok = conserved (out-Instruction x) m test steady in_order fees room ok
+
+-- ---- where memory stops an instruction
+parked_whole : (m : Machine) (p : ChainPart) (goods : Bundle) (test : Listed → Bool) → whole test p ≡ whole test m.part → whole_of test (parking m p goods) ≡ whole_of test m + total (is_unit_where test) goods
+parked_whole m p goods test same =
+    let moved = conserves_park p goods test in
+    let none = total-empty unit_keys (is_unit_where test) in
+    omega (arith, moved, none, same)
+
+arrived_stops : (l : Instruction-F Instruction) (m now : Machine) (list : List Asset) (teleport : Bool) (o : Option Location) (test : Listed → Bool)
+    → now ≡ at_origin o (λ who. parking m (received m.part list teleport) (bundle_of list)) m → IsMadeOrNothing (bundle_of list) (whole_of test m) (whole_of test now) test
+arrived_stops l m now list teleport None test e = inl (ap (whole_of test) e)
+arrived_stops l m now list teleport (Some who) test e = inr (ap (whole_of test) e ∙ parked_whole m (received m.part list teleport) (bundle_of list) test (received_whole m.part list teleport test))
+
+receiving_stops : (l : Instruction-F Instruction) (m now : Machine) (list : List Asset) (teleport : Bool) (test : Listed → Bool)
+    → (now ≡ m) ⊎ NotJoined l m (λ who. received m.part list teleport) (bundle_of list) now → IsMadeOrNothing (bundle_of list) (whole_of test m) (whole_of test now) test
+receiving_stops l m now list teleport test (inl e) = inl (ap (whole_of test) e)
+receiving_stops l m now list teleport test (inr stops) = arrived_stops l m now list teleport m.regs.origin test stops.1
+
+module _ (withdraws : Withdraws) (moves : MovesAreKept) (lead : (l : Instruction-F Instruction) (m now : Machine) → Spilled l m now → IsLedTo l m now) where
+  spilt : (l : Instruction-F Instruction) (m now : Machine) (test : Listed → Bool) → IsSteady m → HasList l → AreFees m.part → HasRoomFor (made l) m → Spilled l m now
+      → IsMadeOrNothing (made l) (whole_of test m) (whole_of test now) test
+  spilt (Instruction-F.ReserveAssetDeposited list) m now test steady in_order fees room s = receiving_stops (Instruction-F.ReserveAssetDeposited list) m now list false test s
+  spilt (Instruction-F.ReceiveTeleportedAsset list) m now test steady in_order fees room s = receiving_stops (Instruction-F.ReceiveTeleportedAsset list) m now list true test s
+  spilt l m now test steady in_order fees room s = inl (whole_stopped withdraws moves l m steady in_order fees room refl now (lead l m now s) test)
+
+  pub conserves_spilt : (x : Instruction) (m now : Machine) (test : Listed → Bool) → IsSteady m → HasList (out-Instruction x) → AreFees m.part → HasRoomFor (made (out-Instruction x)) m → spills x m now
+      → IsMadeOrNothing (made (out-Instruction x)) (whole_of test m) (whole_of test now) test
+  conserves_spilt x m now test steady in_order fees room s = spilt (out-Instruction x) m now test steady in_order fees room s

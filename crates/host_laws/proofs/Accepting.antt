@@ -35,8 +35,8 @@ use Rattle.exec_rules.specs.Readiness.{IsSteady}
 use Rattle.exec_rules.specs.HoldingLaws.{payment_within}
 use Rattle.exec_calls.specs.Calls.{MachineWithGoods, between, here, MachineCall, why_not, after, effect, turned_at}
 use Rattle.exec_calls.specs.Footprints.{part_is}
-use Rattle.exec_calls.specs.Reasons.{arriving, IsFee, IsFrom, Moment, HasReason}
-use Rattle.exec_calls.specs.ReasonLaws.{done_keeps, turns}
+use Rattle.exec_calls.specs.Reasons.{arriving, IsFee, IsFrom, IsLedTo, Moment, HasReason}
+use Rattle.exec_calls.specs.ReasonLaws.{done_keeps, lead_keeps, turns}
 use Rattle.host_laws.specs.Wholes.{on_chain, whole, Conserves, BooksBelow, BuysBelow, KeepsBelow}
 use Rattle.host_laws.specs.Accepted.{whole_of, HasList, AreFees, HasRoomFor}
 use Rattle.host_laws.proofs.Booking.{conserves_join, conserves_burn, conserves_park, conserves_answer, conserves_held_fee, conserves_taken_fee, conserves_kept_fee}
@@ -231,3 +231,9 @@ module _ (withdraws : Withdraws) (moves : MovesAreKept) (l : Instruction-F Instr
   whole_done free test =
       let all : Whole m (between (done l m)) = done_keeps l m (Whole m) (λ c t asks from ok w test. step c t asks ok w test ∙ w test) holding_stays free (at_rest m) in
       sym (at_rest (done l m) test) ∙ all test
+
+  -- the same where memory stops it
+  pub whole_stopped : (now : Machine) → IsLedTo l m now → (test : Listed → Bool) → whole_of test now ≡ whole_of test m
+  whole_stopped now led test =
+      let all : Whole m (between now) = lead_keeps l m (Whole m) (λ c t early asks from ok w test. step c t asks ok w test ∙ w test) now led (at_rest m) in
+      sym (at_rest now test) ∙ all test

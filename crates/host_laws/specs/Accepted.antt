@@ -1,6 +1,6 @@
 -- What an accepted instruction conserves: what is on the chain, burned and held together, but for what it makes. This project's own
 -- vocabulary.
-use Rattle.std.specs.Prelude.{◌≡◌, ℕ, ◌+◌, ◌≤◌, Bool, [], ◌∷◌, Some, ⊤}
+use Rattle.std.specs.Prelude.{◌≡◌, ◌⊎◌, ℕ, ◌+◌, ◌≤◌, Bool, [], ◌∷◌, Some, ⊤}
 use Rattle.std.specs.Ordering.{eq_by_cmp}
 use Rattle.amounts.specs.Amounts.{total, empty}
 use Rattle.locations.specs.declared.relative.Location.{Location}
@@ -25,6 +25,10 @@ abbrev pub made : Instruction-F Instruction → Bundle
 made (Instruction-F.ReserveAssetDeposited list) = bundle_of list
 made (Instruction-F.ReceiveTeleportedAsset list) = bundle_of list
 made _ = empty
+
+-- what was made is there too, or nothing was made yet
+abbrev pub IsMadeOrNothing : Bundle → ℕ → ℕ → (Listed → Bool) → Type 0
+IsMadeOrNothing goods before now test = (now ≡ before) ⊎ (now ≡ before + total (is_unit_where test) goods)
 
 -- the lists that leave accounts are in their order, as the type of lists says
 abbrev pub HasList : Instruction-F Instruction → Type 0

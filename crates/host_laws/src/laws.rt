@@ -27,9 +27,11 @@ ghost use Rattle.exec_base.specs.Pools.{exchanged, exchange_goods};
 ghost use Rattle.exec_run.specs.Machine.{Machine};
 ghost use Rattle.exec_rules.specs.Instructions.{refusal_of, xcm};
 ghost use Rattle.exec_rules.specs.Readiness.{IsSteady};
-ghost use Rattle.host_laws.specs.Accepted.{whole_of, made, HasList, AreFees, HasRoomFor};
+ghost use Rattle.exec_rules.specs.Stopping.{spills};
+ghost use Rattle.host_laws.specs.Accepted.{whole_of, made, IsMadeOrNothing, HasList, AreFees, HasRoomFor};
 ghost use Rattle.host_laws.specs.Wholes.{whole, Conserves, BooksBelow, BuysBelow, KeepsBelow, IsFeeAccountWithin, account_total, IsOtherAccount};
 
+use exec_calls::law_of_calls;
 use ledgers::law_of_ledgers;
 use trap_store::law_of_traps;
 use weight_trader::law_of_trading;
@@ -113,11 +115,16 @@ pub fn law_of_fees()
 }
 
 /// What is on a chain, burned and held together: an accepted instruction leaves as much of each listed asset, and of what it makes so much
-/// more. Only ReserveAssetDeposited and ReceiveTeleportedAsset make anything.
+/// more. Only ReserveAssetDeposited and ReceiveTeleportedAsset make anything. Where memory is refused inside an instruction, what was taken out
+/// is put aside, and there is as much as before; or what it makes is there too.
 pub fn law_of_instructions()
     ensures conserved { (x : Instruction) (m : Machine) (test : Listed → Bool) → IsSteady m → HasList (out-Instruction x) → AreFees m.part → HasRoomFor (made (out-Instruction x)) m
         → refusal_of x m ≡ None → whole_of test (xcm.done x m) ≡ whole_of test m + total (is_unit_where test) (made (out-Instruction x)) }
+    ensures spilt { (x : Instruction) (m now : Machine) (test : Listed → Bool)
+        → IsSteady m → HasList (out-Instruction x) → AreFees m.part → HasRoomFor (made (out-Instruction x)) m
+        → spills x m now → IsMadeOrNothing (made (out-Instruction x)) (whole_of test m) (whole_of test now) test }
 {
+    law_of_calls();
     law_of_ledgers();
     law_of_trading();
 }

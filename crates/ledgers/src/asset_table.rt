@@ -14,7 +14,7 @@ use std::marker::Model;
 
 /// The assets that a chain lists, each once. The place of an asset is its number.
 #[derive(Drop)]
-pub(crate) struct AssetTable {
+pub struct AssetTable {
     assets: IndexSet<ListedAsset>,
 }
 
@@ -34,7 +34,7 @@ impl Model for AssetTable {
 
 impl AssetTable {
     /// The table of these assets, of which none is there twice.
-    pub(crate) fn open(alloc: Global, list: Vec<(Location, Kind)>) -> Result<AssetTable, AllocError>
+    pub fn open(alloc: Global, list: Vec<(Location, Kind)>) -> Result<AssetTable, AllocError>
         requires distinct { IsDistinct (eq_by_cmp listed_cmp) (map listed_pair list.items) }
         requires few { length list.items < 2 ^ 32 }
         ensures opened { IfOk result (λ table. table ≡ map listed_pair list.items) }
@@ -47,14 +47,14 @@ impl AssetTable {
     }
 
     /// How many assets there are.
-    pub(crate) fn len(&self) -> u32
+    pub fn len(&self) -> u32
         ensures { result ≡ length self.now }
     {
         self.assets.len() as u32
     }
 
     /// The asset of a number.
-    pub(crate) fn get(&self, number: u32) -> Option<(AssetId, Kind)>
+    pub fn get(&self, number: u32) -> Option<(AssetId, Kind)>
         ensures { result ≡ slice_get self.now number }
     {
         match self.assets.get_index(number as usize) {
@@ -64,7 +64,7 @@ impl AssetTable {
     }
 
     /// The number of an asset.
-    pub(crate) fn number_of(&self, id: &AssetId, kind: Kind) -> Option<u32>
+    pub fn number_of(&self, id: &AssetId, kind: Kind) -> Option<u32>
         ensures { result ≡ number_in self.now (id.now, kind) }
     {
         match id {

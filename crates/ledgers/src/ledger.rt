@@ -184,10 +184,26 @@ impl Ledger {
         ensures fault { IfErr result (IsLedgerFault self.old.held who.now list.now) }
         ensures kept { OnErr result (self.new ≡ self.old) }
     {
-        let assets = list.items();
-        if let Some(have) = shortage(&self.rows, who, assets) {
+        if let Some(have) = self.shortage(who, list.items()) {
             return Err(LedgerFault::NotEnough { have });
         }
+        let goods = self.withdraw_checked(who, list)?;
+        Ok(goods)
+    }
+
+    /// Takes the listed assets out of an account, which has enough of each (`shortage`): all of them, or none. An
+    /// `Err` is out of memory.
+    pub fn withdraw_checked(
+        &mut self,
+        who: &[u8; 32],
+        list: &Assets,
+    ) -> Result<AssetBundle, AllocError>
+        requires enough { shortage self.old.held who.now list.now ≡ None }
+        ensures goods { IfOk result (λ goods. goods ≡ bundle_of list.now) }
+        ensures withdrawn { OnOk result (self.new ≡ Withdrawn who.now list.now self.old) }
+        ensures kept { OnErr result (self.new ≡ self.old) }
+    {
+        let assets = list.items();
         let goods = AssetBundle::mint(*self.rows.sums.allocator(), assets)?;
         take_all(&mut self.rows, who, assets);
         sweep_all(&mut self.rows, who, assets);
@@ -208,11 +224,26 @@ impl Ledger {
         ensures fault { IfErr result (λ refusal. IsDepositFault self.old.held who.now (held_assets goods) refusal.1) }
         ensures kept { OnErr result (self.new ≡ self.old) }
     {
-        if let Some(fault) = barred(&self.rows, who, goods.items()) {
+        if let Some(fault) = self.barred(who, goods.items()) {
             return Err((goods, fault));
         }
+        match self.deposit_checked(who, goods) {
+            Ok(()) => Ok(()),
+            Err(goods) => Err((goods, DepositFault::Memory)),
+        }
+    }
+
+    /// Puts a bundle into an account, which can take in each asset of it (`barred`): all of it, or nothing, and then
+    /// the bundle is handed back, for want of memory. Each asset of it must be listed.
+    pub fn deposit_checked(&mut self, who: &[u8; 32], goods: AssetBundle) -> Result<(), AssetBundle>
+        requires listed { AreListed self.old.listed goods }
+        requires free { barred self.old.held who.now (held_assets goods) ≡ None }
+        ensures deposited { OnOk result (self.new ≡ Deposited who.now goods self.old) }
+        ensures back { IfErr result (λ back. back ≡ goods) }
+        ensures kept { OnErr result (self.new ≡ self.old) }
+    {
         let Ok(()) = make_all_room(&mut self.rows, who, goods.items()) else {
-            return Err((goods, DepositFault::Memory));
+            return Err(goods);
         };
         give_all(&mut self.rows, who, goods.items());
         goods.melt();
@@ -251,6 +282,23 @@ impl Ledger {
         self.rows.give(who, &given);
     }
 
+    /// What the receiver has of the first of these assets of which it would have more than 2^128-1, once the giver,
+    /// which has enough of each (`shortage`), gave them; None where it can take in each. It takes no memory.
+    pub fn transfer_overflow(&self, from: &[u8; 32], to: &[u8; 32], list: &Assets) -> Option<u128>
+        requires enough { shortage self.now.held from.now list.now ≡ None }
+        ensures overflow { MatchOption result
+            (barred (Withdrawn from.now list.now self.now).held to.now list.now ≡ None)
+            (λ have. IsFirstBarred (Withdrawn from.now list.now self.now).held to.now list.now
+            (DepositFault.Overflow have)) }
+    {
+        let rows = &self.rows;
+        let assets = list.items();
+        if from.cmp(to).is_eq() {
+            return None;
+        }
+        overflow(rows, to, assets)
+    }
+
     /// Why `transfer` would be refused, before it is made; None where only memory can refuse it. It takes no memory.
     pub fn transfer_fault(
         &self,
@@ -262,14 +310,10 @@ impl Ledger {
             (IsTransferable self.now from.now to.now list.now)
             (IsTransferBar self.now from.now to.now list.now) }
     {
-        let assets = list.items();
-        if let Some(have) = shortage(&self.rows, from, assets) {
+        if let Some(have) = self.shortage(from, list.items()) {
             return Some(TransferFault::NotEnough { have });
         }
-        if from.cmp(to).is_eq() {
-            return None;
-        }
-        let Some(have) = overflow(&self.rows, to, assets) else {
+        let Some(have) = self.transfer_overflow(from, to, list) else {
             return None;
         };
         Some(TransferFault::Overflow { have })
@@ -289,10 +333,26 @@ impl Ledger {
         ensures fault { IfErr result (IsTransferFault self.old from.now to.now list.now) }
         ensures kept { OnErr result (self.new ≡ self.old) }
     {
-        let assets = list.items();
         if let Some(fault) = self.transfer_fault(from, to, list) {
             return Err(fault);
         }
+        self.transfer_checked(from, to, list)?;
+        Ok(())
+    }
+
+    /// Moves the listed assets from one account, which has enough of each, to another, which can then take in each
+    /// (`transfer_fault`): all of them, or none. An `Err` is out of memory.
+    pub fn transfer_checked(
+        &mut self,
+        from: &[u8; 32],
+        to: &[u8; 32],
+        list: &Assets,
+    ) -> Result<(), AllocError>
+        requires able { IsTransferable self.old from.now to.now list.now }
+        ensures transferred { OnOk result (self.new ≡ Transferred from.now to.now list.now self.old) }
+        ensures kept { OnErr result (self.new ≡ self.old) }
+    {
+        let assets = list.items();
         if from.cmp(to).is_eq() {
             return Ok(());
         }

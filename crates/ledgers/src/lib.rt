@@ -15,8 +15,11 @@ mod row_state;
 mod row_writes;
 mod rows;
 mod sums;
+mod supplies;
 
+pub use asset_table::AssetTable;
 pub use faults::{DepositFault, LedgerFault, TransferFault};
 pub use laws::law_of_ledgers;
 pub use ledger::Ledger;
+pub use supplies::{Backing, Supply};
 pub use trap_store::{Trap, TrapStore, Unknown, law_of_traps};

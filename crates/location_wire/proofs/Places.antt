@@ -1,13 +1,10 @@
--- The place behind a list, in the array that holds it.
-use Rattle.std.proofs.Common.{◌≡◌, List, [], ◌∷◌, ◌++◌, ◌+◌, length, take, slice_set, refl}
+-- The last place of a list that is lent for writing.
+use Rattle.std.proofs.Common.{◌≡◌, List, [], ◌∷◌, ◌++◌, length, slice_set, refl}
+use Rattle.std.specs.List.{refill}
 
 -- what is written to the last place of a list is what the list ends with
-pub written_last : {X : Type 0} (old : List X) (p w : X) (places : List X)
-    → take (length (old ++ p ∷ [])) places ≡ old ++ p ∷ []
-    → take (length (old ++ p ∷ [])) (slice_set places (length old) w) ≡ old ++ w ∷ []
-written_last [] p w [] front = cc
-written_last [] p w (x ∷ places) front = refl
-written_last (a ∷ old) p w [] front = cc
-written_last (a ∷ old) p w (x ∷ places) front =
-    let rest : take (length (old ++ p ∷ [])) places ≡ old ++ p ∷ [] = cc in
-    let written = written_last old p w places rest in cc
+pub written_last : {X : Type 0} (old : List X) (p w : X)
+    → refill (length (old ++ p ∷ [])) (old ++ p ∷ []) (slice_set (old ++ p ∷ []) (length old) w)
+    ≡ old ++ w ∷ []
+written_last [] p w = refl
+written_last (a ∷ old) p w = let written = written_last old p w in cc

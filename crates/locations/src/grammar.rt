@@ -140,3 +140,15 @@ pub enum Junction {
     /// A network, seen from the root of all.
     GlobalConsensus(NetworkId),
 }
+
+/// What stands where no junction does.
+impl Default for Junction {
+    ghost use Rattle.std.specs.Prelude.{◌≡◌};
+    ghost use Rattle.locations.specs.declared.grammar.Junction.TheVariants.{Parachain};
+
+    ghost is_default = { λ junction. junction ≡ Parachain 0 };
+
+    fn default() -> Junction {
+        Junction::Parachain(0)
+    }
+}

@@ -1,5 +1,5 @@
 //! The list of junctions of a location.
-ghost use Rattle.std.specs.Prelude.{◌≡◌, [], ◌∷◌, ◌++◌, ◌+◌, length, take, ◌<◌, ◌≤◌, ◌↔◌, IsTrue, IsOk, IfOk, OnOk, OnErr, refl};
+ghost use Rattle.std.specs.Prelude.{◌≡◌, [], ◌∷◌, ◌++◌, ◌+◌, length, ◌<◌, ◌≤◌, ◌↔◌, IsTrue, IsOk, IfOk, OnOk, OnErr, refl};
 ghost use Rattle.std.specs.List.{common_prefix_len};
 ghost use Rattle.std.specs.Borrow.{sem};
 ghost use Rattle.locations.specs.Lending.{LendsPlaces};
@@ -11,28 +11,28 @@ ghost use Rattle.locations.specs.Order.{junctions_cmp};
 ghost use Rattle.locations.specs.OrderLaws.{junctions_total};
 
 use crate::{Full, Junction};
+use arrayvec::ArrayVec;
 use std::cmp::Ordering;
 use std::marker::Model;
 
 /// How many junctions a location holds at most, by the XCM format.
 pub const MAX_JUNCTIONS: usize = 8;
 
-/// At most eight junctions, from the outer to the inner. It takes no memory. The junctions behind the first `count` stand for none.
+/// At most eight junctions, from the outer to the inner. It takes no memory.
 #[derive(Debug, Drop)]
 pub struct Junctions {
-    count: usize,
-    items: [Junction; MAX_JUNCTIONS],
+    items: ArrayVec<Junction, MAX_JUNCTIONS>,
 }
 
 impl Model for Junctions {
-    ghost use Rattle.std.specs.Prelude.{◌≤◌, List, take};
+    ghost use Rattle.std.specs.Prelude.{◌≤◌, List, length};
     ghost use Rattle.locations.specs.declared.grammar.Junction.{Junction};
 
     ghost Value = { List Junction };
 
-    ghost view = { λ j. take j.count j.items };
+    ghost view = { λ j. j.items.items };
 
-    ghost invariant = { λ j. j.count ≤ 8 };
+    ghost invariant = { λ j. length j.items.items ≤ 8 };
 }
 
 impl Junctions {
@@ -41,8 +41,7 @@ impl Junctions {
         ensures { result ≡ [] }
     {
         Junctions {
-            count: 0,
-            items: [Junction::Parachain(0); MAX_JUNCTIONS],
+            items: ArrayVec::new(),
         }
     }
 
@@ -51,7 +50,7 @@ impl Junctions {
         ensures value { result.now ≡ self.now }
         ensures bound { length self.now ≤ 8 }
     {
-        &self.items[..self.count]
+        self.items.as_slice()
     }
 
     /// The same junctions.
@@ -59,10 +58,7 @@ impl Junctions {
         ensures same { result ≡ self.now }
         ensures bound { length self.now ≤ 8 }
     {
-        Junctions {
-            count: self.count,
-            items: self.items,
-        }
+        Junctions::from_few(self.items())
     }
 
     /// The junctions of a slice, of which there must be at most eight.
@@ -81,21 +77,20 @@ impl Junctions {
         ensures ok { OnOk result (self.new ≡ self.old ++ junction ∷ []) }
         ensures err { OnErr result (self.new ≡ self.old) }
     {
-        if self.count == MAX_JUNCTIONS {
+        if self.items.is_full() {
             return Err(Full);
         }
-        self.items[self.count] = junction;
-        self.count += 1;
+        self.items.push(junction);
         Ok(())
     }
 
-    /// The places of the junctions, for writing. The list stays as long as it is; what is written behind it counts for nothing.
-    pub fn places(&mut self) -> &mut [Junction; MAX_JUNCTIONS]
+    /// The junctions that there are, for writing, and no place behind them. The list stays as long as it is.
+    pub fn places(&mut self) -> &mut [Junction]
         ensures* writes_back { sem 𝓛 (LendsPlaces self.entry result) }
-        ensures value { take (length self.old) result.now ≡ self.old }
+        ensures value { result.now ≡ self.old }
         ensures bound { length self.old ≤ 8 }
     {
-        &mut self.items
+        self.items.as_mut_slice()
     }
 
     /// Appends the other junctions, or `Full` where the two are more than eight.
@@ -113,13 +108,7 @@ impl Junctions {
         ensures ok { OnOk result (self.new ≡ self.old ++ more.now) }
         ensures err { OnErr result (self.new ≡ self.old) }
     {
-        if more.len() > MAX_JUNCTIONS - self.count {
-            return Err(Full);
-        }
-        let end = self.count + more.len();
-        self.items[self.count..end].copy_from_slice(more);
-        self.count = end;
-        Ok(())
+        self.items.try_extend_from_slice(more).map_err(|_| Full)
     }
 
     /// The first junctions and then the others, or `Full` where they are more than eight.

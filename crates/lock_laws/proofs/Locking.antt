@@ -16,7 +16,8 @@ use Rattle.trust_tables.specs.Accounts.{account_of}
 use Rattle.xcm_program.specs.declared.instruction.Instruction.{Instruction}
 use Rattle.exec_base.specs.Part.{ChainPart}
 use Rattle.exec_base.specs.Sending.{sent, named_sent}
-use Rattle.exec_base.specs.Host.{floor_at, floor_of, lock_id, lock_key, note_program, with_lock, asset_locked, request_key, unlock_program, with_less_noted, asset_requested}
+use Rattle.asset_locks.specs.UnitFloors.{floor_at}
+use Rattle.exec_base.specs.Host.{floor_of, lock_id, lock_key, note_program, with_lock, asset_locked, request_key, unlock_program, with_less_noted, asset_requested}
 use Rattle.network_steps.specs.Steps.{is_sovereign}
 use Rattle.lock_laws.specs.Floors.{FallsOnly, RisesOnly, NoSovereignLocks}
 

@@ -23,7 +23,8 @@ use Rattle.chain_queues.specs.Queues.{leads_to, channel_to, first_of, oldest}
 use Rattle.exec_base.specs.declared.event.Event.{Event}
 use Rattle.exec_base.specs.Part.{ChainPart}
 use Rattle.exec_base.specs.Sending.{channel_refusal}
-use Rattle.exec_base.specs.Host.{floor_at, told}
+use Rattle.asset_locks.specs.UnitFloors.{floor_at}
+use Rattle.exec_base.specs.Host.{told}
 use Rattle.exec_run.specs.Machine.{IsOrderly}
 use Rattle.exec_run.specs.Run.{steps}
 use Rattle.exec_rules.specs.Instructions.{xcm}

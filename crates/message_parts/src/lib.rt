@@ -6,6 +6,7 @@ mod origin;
 mod pallet;
 mod query;
 mod status;
+mod version;
 mod weight;
 
 pub use error::XcmError;
@@ -14,4 +15,5 @@ pub use pallet::{PalletInfo, PalletInfos, PalletName};
 pub use plain_lists::{BoundedVec, LongBytes};
 pub use query::{OpenQuery, QueryInfo, Response};
 pub use status::{ErrorBytes, MaybeError};
+pub use version::Version;
 pub use weight::{Weight, WeightLimit};

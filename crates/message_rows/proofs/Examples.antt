@@ -2,7 +2,7 @@
 use denote.Hole.Carrier
 use Rattle.std.proofs.Common.{◌≡◌, ◌<◌, ◌≤◌, ◌^◌, ◌+◌, ◌∙◌, ℕ, List, [], ◌∷◌, ◌++◌, length, get_or, refl, sym, ap, subst, arith}
 use Rattle.std.specs.List.{AllByRecursion}
-use Rattle.asset_wire.specs.declared.version.Version.{Version}
+use Rattle.message_parts.specs.declared.version.Version.{Version}
 use Rattle.xcm_program.specs.declared.instruction.Instruction.{Instruction, ClearOrigin, Trap, out-Instruction}
 use Rattle.xcm_program.specs.declared.instruction.Instruction.TheOpen.{Instruction-F}
 use Rattle.xcm_program.specs.Measure.{inner, deep_count_one, deep_count}

@@ -6,3 +6,4 @@ pub mod Matching
 pub mod Calm
 pub mod Sends
 pub mod Drains
+pub mod Lost

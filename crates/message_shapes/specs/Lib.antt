@@ -1,3 +1,4 @@
 pub mod Shapes
 pub mod StepLaws
 pub mod Calm
+pub mod Lost

@@ -1,11 +1,14 @@
 //! What holds of every message that waits: laws, as the contracts of functions that do nothing.
-ghost use Rattle.std.specs.Prelude.{◌≡◌, ◌≤◌, ◌+◌, ℕ, true, List, Some, None, Ok, length, slice_get};
+ghost use Rattle.std.specs.Prelude.{◌≡◌, ◌≤◌, ◌+◌, ℕ, true, List, Some, None, Ok, length, slice_get, if◌then◌else◌};
+ghost use Rattle.amounts.specs.Amounts.{empty};
 ghost use Rattle.std.specs.List.{AllByRecursion};
 ghost use Rattle.chain_ids.specs.declared.chain.ChainId.{ChainId};
 ghost use Rattle.locations.specs.declared.relative.Location.{Location};
 ghost use Rattle.message_parts.specs.declared.query.OpenQuery.{OpenQuery};
 ghost use Rattle.message_parts.specs.declared.weight.Weight.{Weight};
 ghost use Rattle.asset_lists.specs.declared.units.Asset.{Asset};
+ghost use Rattle.asset_bundles.specs.declared.shipment.Shipment.{Shipment};
+ghost use Rattle.asset_bundles.specs.declared.shipment.Way.{Way};
 ghost use Rattle.trust_tables.specs.declared.chains.Site.{Site};
 ghost use Rattle.xcm_program.specs.declared.instruction.Instruction.{Instruction};
 ghost use Rattle.channel_parts.specs.declared.cargo.Cargo.{Cargo};
@@ -18,14 +21,17 @@ ghost use Rattle.exec_admission.specs.declared.rules.ChainRules.{ChainRules};
 ghost use Rattle.exec_admission.specs.declared.admission.Admitted.{Admitted};
 ghost use Rattle.exec_admission.specs.Admission.{admitted};
 ghost use Rattle.exec_admission.specs.Execution.{first_stage, executed, IsAbandoned};
-ghost use Rattle.network_steps.specs.Worlds.{Member, World, place_of};
-ghost use Rattle.network_steps.specs.Steps.{exec, deliver, claim, Link, Step, waiting, next_channel, drain, world_behind, after, worlds};
+ghost use Rattle.network_steps.specs.Acting.{lost_of};
+ghost use Rattle.network_steps.specs.Worlds.{Member, World, chain_of, place_of};
+ghost use Rattle.network_steps.specs.Steps.{exec, deliver, claim, run_for, Link, Step, waiting, next_channel, drain, world_behind, after, worlds};
 ghost use Rattle.network_steps.specs.Sends.{deliveries_left};
 ghost use Rattle.network_steps.specs.Drains.{AreApart};
 ghost use Rattle.message_shapes.specs.Shapes.{named_there, IsShape, IsShaped, AreShapedAt, AllShaped, NothingWaits};
 ghost use Rattle.message_shapes.specs.Calm.{MuteAt};
+ghost use Rattle.message_shapes.specs.Lost.{is_first_done};
 
 use exec_calls::law_of_rules;
+use exec_run::law_of_runs;
 
 /// Each message that waits has one of the seven shapes, in every world from one in which nothing waits on.
 pub fn law_of_shapes()
@@ -79,3 +85,16 @@ pub fn law_of_matched_cargoes()
     ensures { (here : Site) (p : ChainPart) (cargo : Cargo) (arrival : Arrival) (list : List Asset) → p.site.network ≡ here.network → p.cargo.sender ≡ here.chain → p.cargo.cargo ≡ cargo
         → fits_call arrival cargo ≡ true → named_there here p.site.chain (cargo_list cargo) ≡ Some list → is_cargo p arrival list ≡ true }
 {}
+
+/// A teleport is lost where the first instruction of its message isn't done, and nowhere else: the flag of the execution tells it, whatever comes
+/// behind.
+pub fn law_of_lost_teleports()
+    ensures { (sender receiver : Member) (x : Waiting) (shipment : Shipment)
+        → IsShaped sender.part.site (chain_of receiver) x → receiver.part.site.network ≡ sender.part.site.network
+        → x.cargo ≡ Cargo.Away shipment → shipment.way ≡ Way.Teleport
+        → lost_of (run_for sender receiver x).left
+        ≡ (if is_first_done sender receiver x then empty else shipment.units) }
+{
+    law_of_rules();
+    law_of_runs();
+}

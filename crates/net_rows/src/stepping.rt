@@ -4,14 +4,11 @@ use input_lines::{Line, read_line};
 use network_coherence::coherent;
 use network_config::read_network;
 use network_laws::law_of_valid_networks;
+use report_text::{balances_text, queues_text, step_text, supply_block, traps_text};
 use std::alloc::{AllocError, Global};
 use std::process::Abort;
 use std::test::Fail;
-use step_text::{
-    balances_text, checking_text, drained_line, locked_text, opening_line, queue_text, step_text,
-    traps_text,
-};
-use supply_text::supply_block;
+use step_text::{drained_line, opening_line};
 
 /// Short words of the tables, and what they stand for: accounts, their bytes within a message, and the account of parachain 2000 at the
 /// relay chain.
@@ -68,38 +65,6 @@ fn told(alloc: Global, net: &Net, answer: StepResult) -> Result<String, Fail> {
     Ok(step_text(alloc, net.trace(), &answer)?)
 }
 
-/// What the accounts of all chains hold, their checking accounts, and their locks.
-fn balances(alloc: Global, net: &Net) -> Result<String, Fail> {
-    let mut text = String::new(alloc);
-    for chain in net.chains() {
-        let name = chain.site().chain;
-        text.push_str(&balances_text(alloc, name, chain.ledger())?)?;
-        text.push_str(&checking_text(alloc, name, chain.rows(), chain.checkings())?)?;
-        text.push_str(&locked_text(alloc, name, chain.lock_book())?)?;
-    }
-    Ok(text)
-}
-
-/// What is trapped at all chains.
-fn traps(alloc: Global, net: &Net) -> Result<String, Fail> {
-    let mut text = String::new(alloc);
-    for chain in net.chains() {
-        text.push_str(&traps_text(alloc, chain.site().chain, chain.traps())?)?;
-    }
-    Ok(text)
-}
-
-/// What waits, chain by chain, each one's channels as the document lists them.
-fn queues(alloc: Global, net: &Net) -> Result<String, Fail> {
-    let mut text = String::new(alloc);
-    for chain in net.chains() {
-        for queue in chain.queues().channels() {
-            text.push_str(&queue_text(alloc, chain.site().chain, queue)?)?;
-        }
-    }
-    Ok(text)
-}
-
 /// Takes a step in the network, or reads it: what is told of it.
 fn step(alloc: Global, net: &mut Net, line: Line) -> Result<String, Fail> {
     if net.stopped() {
@@ -123,9 +88,12 @@ fn step(alloc: Global, net: &mut Net, line: Line) -> Result<String, Fail> {
             told(alloc, net, answer)
         }
         Line::Drain => Ok(drained_line(alloc, net.drain()?)?),
-        Line::Balances => balances(alloc, net),
-        Line::Traps => traps(alloc, net),
-        Line::Queues => queues(alloc, net),
+        Line::Balances => Ok(balances_text(alloc, net.chains())?),
+        Line::Traps => Ok(traps_text(alloc, net.chains())?),
+        Line::Queues => {
+            let channels = net.spec().channels.items();
+            Ok(queues_text(alloc, channels, net.chains())?)
+        }
         Line::Supply => Ok(supply_block(alloc, net.chains())?),
         Line::NoStep | Line::Refused => Err(Fail::new("no step")),
     }

@@ -6,6 +6,8 @@ pub mod Summing
 pub mod Arranging
 pub mod Documents
 pub mod Holding
+pub mod Naming
+pub mod RowTables
 pub mod Asking
 pub mod Shaped
 pub mod ShapedChains

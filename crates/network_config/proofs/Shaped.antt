@@ -7,7 +7,7 @@ use Rattle.std.proofs.Common.{◌≡◌, refl, ap, subst, arith}
 use Rattle.std.proofs.lemmas.Bool.{and_parts, and_from, lt-ltb, not-true, eqb-false, false≢true}
 use Rattle.serde_json.specs.Data.{Data}
 use Rattle.serde_json.specs.Find.{get}
-use Rattle.asset_wire.specs.declared.version.Version.TheVariants.{V4}
+use Rattle.message_parts.specs.declared.version.Version.TheVariants.{V4}
 use Rattle.asset_lists.specs.declared.units.Asset.{Asset}
 use Rattle.asset_lists.specs.declared.units.AssetId.TheVariants.{Concrete}
 use Rattle.asset_lists.specs.declared.units.Fun.{Fun}

@@ -1,11 +1,13 @@
 -- For proofs alone: a reader may skip this file. What the forms of chains and of the document give is in its ranges.
-use Rattle.std.specs.Prelude.{ℕ, ◌+◌, ◌<◌, ◌^◌, List, [], ◌∷◌, length, codes, Bool, true, false, ◌&&◌, ◌||◌, nat_le, Option, Some, None, is_some, is_none, Result, Ok, Err, is_ok, ⊤, if◌then◌else◌}
+use Rattle.std.specs.Prelude.{ℕ, ◌+◌, ◌<◌, ◌^◌, List, [], ◌∷◌, length, bytes_eq, codes, Bool, true, false, ◌&&◌, ◌||◌, nat_le, Option, Some, None, is_some, is_none, Result, Ok, Err, is_ok, ⊤, if◌then◌else◌}
 use Rattle.std.specs.List.{list_any, list_all, AllByRecursion}
+use Rattle.std.specs.Option.{option_map}
 use Rattle.std.proofs.Common.{◌≡◌, ◌∙◌, refl, sym, ap, subst, arith}
 use Rattle.std.proofs.lemmas.Bool.{and_parts, and_from, leb-true, false≢true}
 use Rattle.serde_json.specs.Data.{Data, null, boolean, number, string, array, object, Items, no_items, item}
 use Rattle.serde_json.specs.Find.{as_object, get}
-use Rattle.locations.specs.declared.grammar.NetworkId.TheVariants.{Polkadot}
+use Rattle.locations.specs.declared.grammar.NetworkId.{NetworkId}
+use Rattle.locations.specs.declared.grammar.NetworkId.TheVariants.{ByGenesis, Polkadot, Kusama, Westend, Rococo, Wococo}
 use Rattle.chain_ids.specs.declared.chain.ChainId.{ChainId}
 use Rattle.chain_ids.specs.declared.chain.ChainId.TheVariants.{Relay, Para}
 use Rattle.chain_ids.specs.Chains.{same_chain}
@@ -15,17 +17,17 @@ use Rattle.network_spec.specs.declared.chain.Balance.{Balance}
 use Rattle.network_spec.specs.declared.chain.ChainSpec.{ChainSpec}
 use Rattle.network_spec.specs.declared.network.NetworkSpec.{NetworkSpec}
 use Rattle.document_forms.specs.declared.fault.NetworkFault.{NetworkFault}
-use Rattle.document_forms.specs.declared.fault.NetworkFault.TheVariants.{LimitPassed}
+use Rattle.document_forms.specs.declared.fault.NetworkFault.TheVariants.{BadValue, LimitPassed}
 use Rattle.document_forms.specs.declared.fault.Place.{Place}
 use Rattle.document_forms.specs.declared.fault.Section.{Section}
 use Rattle.document_forms.specs.declared.fault.Section.TheVariants.{Rates, Assets, Accounts, Pallets, Queries, Pools}
-use Rattle.document_forms.specs.Forms.{Form, ◌>>=◌, ◌>>◌, where_true, fields, of_optional, defaulted, number_within, bytes, onto, next_index, entries, count, list_field}
+use Rattle.document_forms.specs.Forms.{Form, ◌>>=◌, ◌>>◌, or_fault, where_true, fields, of_optional, defaulted, number_within, text, bytes, bytes32, onto, next_index, entries, count, list_field}
 use Rattle.document_entries.specs.Entries.{made, u32, rate, asset_row, account, pallet, query, pool, channel_entry}
 use Rattle.network_config.specs.declared.head.ChainHead.{ChainHead}
 use Rattle.network_config.specs.declared.head.Served.{Served}
 use Rattle.network_config.specs.Chains.{top, fields_of, in_chain, channel_at, para_field, weight_field, no_account, head, flag, short_list, lists, entries_field, barriers_field, chain_fields, with_head, own_fields, chain_entry}
-use Rattle.network_config.specs.Document.{network, has_fees, is_relay_entry, has_relay, chain_count, chains_list, top_fields, shapes}
-use Rattle.network_config.specs.Valid.{is_within, fits_rate, fits_role, fits_asset, fits_pallet, fits_pool, fits_chain, fits_channel}
+use Rattle.network_config.specs.Document.{network_of_text, network, has_fees, is_relay_entry, has_relay, chain_count, chains_list, top_fields, shapes}
+use Rattle.network_config.specs.Valid.{is_within, fits_rate, fits_role, fits_asset, fits_pallet, fits_pool, fits_chain, fits_channel, is_named}
 use Rattle.network_config.specs.Faultless.{ok_both}
 use Rattle.network_config.specs.Arranged.{is_relay}
 use Rattle.network_config.proofs.Shaped.{Gives, ok_gives, err_gives, one_by_one, with_first, after, after_ok, weaker, where_gives, defaulted_gives, number_gives, rate_gives, asset_gives, account_gives, pallet_gives, pool_gives, channel_gives}
@@ -214,11 +216,39 @@ chain_gives more chain value =
 -- ---- the document
 
 pub record Shape (spec : NetworkSpec) : Type 0 where
+  pub network : is_named spec.network ≡ true
   pub chains : nat_le (if list_any is_relay spec.chains then length spec.chains else length spec.chains + 1) 64 ≡ true
   pub channels : nat_le (length spec.channels) 256 ≡ true
   pub fit_chains : list_all fits_chain spec.chains ≡ true
   pub fit_channels : list_all fits_channel spec.channels ≡ true
   pub named : AllByRecursion (λ (c : ChainSpec). IsChain c.chain) spec.chains
+
+-- the network that a text means, if it means one, can be named
+abbrev HasName : Option NetworkId → Type 0
+HasName None = ⊤
+HasName (Some n) = is_named n ≡ true
+
+either_named : (b : Bool) (n : NetworkId) (o : Option NetworkId) → is_named n ≡ true → HasName o → HasName (if b then Some n else o)
+either_named true n o h k = h
+either_named false n o h k = k
+
+hash_named : (o : Option (List ℕ)) → HasName (option_map ByGenesis o)
+hash_named None = tt
+hash_named (Some hash) = refl
+
+text_named : (s : List ℕ) → HasName (network_of_text s)
+text_named s =
+    either_named (bytes_eq s (codes "Polkadot")) Polkadot _ refl (either_named (bytes_eq s (codes "Kusama")) Kusama _ refl
+    (either_named (bytes_eq s (codes "Westend")) Westend _ refl (either_named (bytes_eq s (codes "Rococo")) Rococo _ refl
+    (either_named (bytes_eq s (codes "Wococo")) Wococo _ refl (hash_named (bytes32 s))))))
+
+named_gives : (fault : NetworkFault) (o : Option NetworkId) → HasName o → Gives (λ n. is_named n ≡ true) (or_fault fault o)
+named_gives fault None h = err_gives _ fault
+named_gives fault (Some n) h = ok_gives _ n h
+
+network_gives : (place : Place) (value : Data) → Gives (λ n. is_named n ≡ true) (network place value)
+unfolding network
+network_gives place value = one_by_one (text place value) _ (λ s e. named_gives (BadValue place) (network_of_text s) (text_named s))
 
 few_give : (place : Place) (value : Data) → Gives (λ items. nat_le (chain_count items) 64 ≡ true) (chains_list place value)
 unfolding chains_list
@@ -238,7 +268,7 @@ pub shapes_give : (value : Data) → Gives Shape (shapes value)
 unfolding shapes
 shapes_give value =
     after (fields top_fields top value) _
-    (one_by_one (defaulted (codes "network") Polkadot network top value) _ (λ id e.
+    (with_first (defaulted (codes "network") Polkadot network top value) _ (defaulted_gives (codes "network") Polkadot network top value refl (network_gives top)) (λ id named.
     with_first (chains_list top value) _ (few_give top value) (λ chain_items few.
     with_first (short_list (codes "channels") 256 top value) _ (few_channels top value) (λ channel_items short.
     one_by_one (defaulted (codes "format") false has_fees top value) _ (λ fees f.
@@ -246,6 +276,7 @@ shapes_give value =
     with_first (entries (λ index. channel_entry fees (channel_at index)) 0 channel_items) _
     (entries_gives (λ v c. fits_channel c ≡ true) (λ index. channel_entry fees (channel_at index)) (λ i v. channel_gives fees (channel_at i) v) 0 channel_items) (λ channels n.
     ok_gives Shape (record { network = id; chains = chains; channels = channels }) (record {
+      network = named;
       chains = subst (λ count. nat_le count 64 ≡ true) (sym (counted chain_items chains m)) few;
       channels = subst (λ count. nat_le count 256 ≡ true) (sym (match_length (λ v c. fits_channel c ≡ true) channel_items channels n)) short;
       fit_chains = match_test FitsChain fits_chain (λ v c h. h.fits) chain_items chains m;

@@ -6,9 +6,12 @@ use Rattle.std.specs.declared.cmp.Ordering.{Ordering}
 use Rattle.std.specs.Ordering.{nat_cmp, on, then_cmp, eq_by_cmp}
 use Rattle.std.specs.Cmp.Lexicographic.{slice_cmp}
 use Rattle.asset_lists.specs.DerivedOrder.{derived_instance_cmp}
+use Rattle.asset_lists.specs.Units.{unit_of}
+use Rattle.asset_lists.specs.Listed.{Listed, listed_of}
 use Rattle.asset_lists.specs.declared.units.Fun.{Fun}
 use Rattle.asset_lists.specs.declared.units.Fun.TheVariants.{Fungible, NonFungible}
 use Rattle.asset_lists.specs.declared.units.Instance.{Instance}
+use Rattle.ledgers.specs.Ledgers.{number_in}
 use Rattle.trust_tables.specs.declared.rows.AssetRow.{AssetRow}
 use Rattle.trust_tables.specs.Trust.{is_row_of}
 use Rattle.network_spec.specs.declared.chain.Balance.{Balance}
@@ -50,3 +53,7 @@ is_of_holding (Some row) balance key = eq_by_cmp holding_key_cmp (holding_of row
 -- the row that lists the entry's asset
 abbrev pub row_number : List AssetRow → Balance → Option ℕ
 row_number rows balance = position (is_row_of balance.asset) rows
+
+-- the number of the entry's asset among those listed
+abbrev pub listed_number : List Listed → Balance → Option ℕ
+listed_number listed balance = number_in listed (listed_of (unit_of balance.asset))

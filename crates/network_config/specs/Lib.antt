@@ -7,6 +7,7 @@ pub mod Valid
 pub mod Totals
 pub mod Holdings
 pub mod Queries
+pub mod Names
 pub mod Faultless
 pub mod Summed
 pub mod Arranged

@@ -1,8 +1,10 @@
--- When a network is valid: its chains are in order, each value is in its range, no list is too long, no entry says anew what an
+-- When a network is valid: a document can name it, its chains are in order, each value is in its range, no list is too long, no entry says anew what an
 -- earlier one has said or names what isn't there, and no sum is too large. Source: this project's own rule.
 use Rattle.std.specs.Prelude.{ℕ, length, Bool, true, false, ◌&&◌, nat_lt, nat_le, Option, Some, None, is_ok}
 use Rattle.std.specs.List.{list_all}
 use Rattle.std.specs.Str.{is_utf8}
+use Rattle.locations.specs.declared.grammar.NetworkId.{NetworkId}
+use Rattle.locations.specs.declared.grammar.NetworkId.TheVariants.{ByGenesis, Polkadot, Kusama, Westend, Rococo, Wococo}
 use Rattle.asset_lists.specs.declared.units.Asset.{Asset}
 use Rattle.asset_lists.specs.declared.units.AssetId.{AssetId}
 use Rattle.asset_lists.specs.declared.units.AssetId.TheVariants.{Concrete, Abstract}
@@ -85,6 +87,16 @@ fits_channel c = is_within 1 32 c.channel.capacity && (is_within 1 65536 c.chann
 abbrev pub fits : NetworkSpec → Bool
 fits spec = nat_le (length spec.chains) 64 && (nat_le (length spec.channels) 256 && (list_all fits_chain spec.chains && list_all fits_channel spec.channels))
 
--- in order, in range, and without a fault among its entries
+-- one of the five networks that a document names, or one that it tells by the hash of its first block
+abbrev pub is_named : NetworkId → Bool
+is_named (ByGenesis hash) = true
+is_named Polkadot = true
+is_named Kusama = true
+is_named Westend = true
+is_named Rococo = true
+is_named Wococo = true
+is_named _ = false
+
+-- in a network that a document can name, in order, in range, and without a fault among its entries
 abbrev pub is_valid : NetworkSpec → Bool
-is_valid spec = is_in_order spec.chains && (fits spec && (is_ok (references spec) && is_ok (sums spec)))
+is_valid spec = is_named spec.network && (is_in_order spec.chains && (fits spec && (is_ok (references spec) && is_ok (sums spec))))

@@ -1,25 +1,30 @@
 //! The accounts of a chain, looked at beside one another: each of an asset's row and an account, or of an instance.
-ghost use Rattle.std.specs.Prelude.{◌≡◌, ◌||◌, [], true, OnOk, if◌then◌else◌};
+ghost use Rattle.std.specs.Prelude.{◌≡◌, ◌||◌, [], true, map, IfOk, OnOk, if◌then◌else◌};
 ghost use Rattle.std.specs.Ordering.{eq_by_cmp};
+ghost use Rattle.std.specs.List.{IsDistinct};
+ghost use Rattle.asset_lists.specs.Listed.{listed_cmp};
+ghost use Rattle.ledgers.specs.Ledgers.{listed_pair};
+ghost use Rattle.trust_tables.specs.Trust.{listing};
 ghost use Rattle.document_forms.specs.Answers.{Answers};
 ghost use Rattle.document_forms.specs.declared.fault.Section.TheVariants as sections;
 ghost use Rattle.network_config.specs.References.{flaw_at, each_in, account_flaws};
-ghost use Rattle.network_config.specs.Holdings.{HoldingKey, holding_key_cmp, is_held, flaws_beside, is_of_holding};
+ghost use Rattle.network_config.specs.Holdings.{HoldingKey, holding_key_cmp, is_held, flaws_beside, is_of_holding, listed_number};
 ghost use Rattle.network_config.specs.Holdings as spec;
 
-use crate::references::is_row;
-use asset_lists::{Fun, Instance};
+use asset_lists::{Fun, Instance, Kind};
 use document_forms::{NetworkFault, Place, Section, Stop};
+use ledgers::AssetTable;
+use locations::Location;
 use network_spec::Balance;
 use std::alloc::{AllocError, Global};
 use std::collections::BTreeSet;
 use trust_tables::AssetRow;
 
 /// The number of an asset's row with an account, or the number and an instance.
-type Holding = ((usize, Option<[u8; 32]>), Option<Instance>);
+type Holding = ((u32, Option<[u8; 32]>), Option<Instance>);
 
 /// What an entry whose asset has this row is of.
-fn holding_of(row: usize, balance: &Balance) -> Holding
+fn holding_of(row: u32, balance: &Balance) -> Holding
     ensures { result ≡ spec.holding_of row balance.now }
 {
     match balance.asset.fun {
@@ -28,11 +33,35 @@ fn holding_of(row: usize, balance: &Balance) -> Holding
     }
 }
 
-/// The number of the row that lists the entry's asset.
-fn row_number(rows: &[AssetRow], balance: &Balance) -> Option<usize>
-    ensures { result ≡ spec.row_number rows.now balance.now }
+/// The assets that the rows list, by their places.
+fn places(alloc: Global, rows: &[AssetRow]) -> Result<Vec<(Location, Kind)>, AllocError>
+    ensures { IfOk result (λ list. map listed_pair list.items ≡ listing rows.now) }
 {
-    rows.iter().position(|row| is_row(row, &balance.asset))
+    let mut list = Vec::with_capacity(alloc, rows.len())?;
+    for row in rows {
+        list.push((row.id.copy(), row.kind))?;
+    }
+    Ok(list)
+}
+
+/// The table of the assets that the rows list. A row's number is its place.
+fn row_table(alloc: Global, rows: &[AssetRow]) -> Result<AssetTable, AllocError>
+    requires distinct { IsDistinct (eq_by_cmp listed_cmp) (listing rows.now) }
+    ensures { IfOk result (λ table. table ≡ listing rows.now) }
+{
+    let list = places(alloc, rows)?;
+    // A table has fewer than 2^32 assets, and so many rows pass all memory.
+    if list.len() > u32::MAX as usize {
+        return Err(AllocError);
+    }
+    AssetTable::open(alloc, list)
+}
+
+/// The number of the row that lists the entry's asset.
+fn listed_number(table: &AssetTable, balance: &Balance) -> Option<u32>
+    ensures { result ≡ listed_number table.now balance.now }
+{
+    table.number_of(&balance.asset.id, balance.asset.kind())
 }
 
 /// Whether one of the holdings is this one.
@@ -53,14 +82,16 @@ fn add(held: &mut BTreeSet<Holding>, holding: Holding) -> Result<(), AllocError>
 /// Adds what an entry is of, and refuses one whose asset no row lists, or that says anew what an earlier one has said.
 fn add_account(
     held: &mut BTreeSet<Holding>,
-    rows: &[AssetRow],
+    table: &AssetTable,
     place: Place,
     balance: &Balance,
 ) -> Result<(), Stop>
-    ensures flaws { Answers result (flaw_at place (flaws_beside (spec.row_number rows.now balance.now) held.old.keys balance.now)) }
-    ensures added { OnOk result ((q : HoldingKey) → is_held held.new.keys q ≡ (is_of_holding (spec.row_number rows.now balance.now) balance.now q || is_held held.old.keys q)) }
+    ensures flaws { Answers result (flaw_at place
+        (flaws_beside (listed_number table.now balance.now) held.old.keys balance.now)) }
+    ensures added { OnOk result ((q : HoldingKey) → is_held held.new.keys q
+        ≡ (is_of_holding (listed_number table.now balance.now) balance.now q || is_held held.old.keys q)) }
 {
-    let Some(row) = row_number(rows, balance) else {
+    let Some(row) = listed_number(table, balance) else {
         return Err(Stop::Fault(NetworkFault::BadValue(place)));
     };
     let holding = holding_of(row, balance);
@@ -80,8 +111,10 @@ pub(crate) fn check_accounts(
     rows: &[AssetRow],
     accounts: &[Balance],
 ) -> Result<(), Stop>
+    requires distinct { IsDistinct (eq_by_cmp listed_cmp) (listing rows.now) }
     ensures { Answers result (each_in (account_flaws rows.now) chain sections.Accounts 0 [] accounts.now) }
 {
+    let table = row_table(alloc, rows)?;
     let mut held: BTreeSet<Holding> = BTreeSet::new(alloc);
     let mut index: u32 = 0;
     for balance in accounts {
@@ -90,7 +123,7 @@ pub(crate) fn check_accounts(
             section: Section::Accounts,
             index,
         };
-        match add_account(&mut held, rows, place, balance) {
+        match add_account(&mut held, &table, place, balance) {
             Ok(()) => {}
             Err(stop) => return Err(stop),
         }

@@ -7,10 +7,10 @@ ghost use Rattle.network_config.specs.References.{flaw_at, each_in, query_flaws}
 ghost use Rattle.network_config.specs.Queries.{QueryKey, query_key_cmp, is_asked, flaws_beside};
 ghost use Rattle.network_config.specs.Queries as spec;
 
+use crate::names::NamedChains;
 use crate::references::is_other;
 use chain_ids::ChainId;
 use document_forms::{NetworkFault, Place, Section, Stop};
-use network_spec::ChainSpec;
 use std::alloc::{AllocError, Global};
 use std::collections::BTreeSet;
 
@@ -52,7 +52,7 @@ fn add(asked: &mut BTreeSet<Query>, query: Query) -> Result<(), AllocError>
 /// Adds what an entry is of, and refuses one that says anew what an earlier one has said, or whose chain isn't there.
 fn add_query(
     asked: &mut BTreeSet<Query>,
-    chains: &[ChainSpec],
+    chains: &NamedChains,
     here: ChainId,
     place: Place,
     query: &(u64, ChainId),
@@ -77,7 +77,7 @@ fn add_query(
 pub(crate) fn check_queries(
     alloc: Global,
     chain: Option<u32>,
-    chains: &[ChainSpec],
+    chains: &NamedChains,
     here: ChainId,
     queries: &[(u64, ChainId)],
 ) -> Result<(), Stop>

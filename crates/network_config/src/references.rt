@@ -1,5 +1,5 @@
 //! What entries of a document say of one another.
-ghost use Rattle.std.specs.Prelude.{◌≡◌, ◌≤◌, ◌==◌, ◌&&◌, ◌||◌, not, [], length, nat_lt};
+ghost use Rattle.std.specs.Prelude.{◌≡◌, ◌≤◌, ◌==◌, ◌&&◌, ◌||◌, not, [], length, nat_lt, take};
 ghost use Rattle.std.specs.List.{list_any, list_all};
 ghost use Rattle.trust_tables.specs.Chains.{path_of_site};
 ghost use Rattle.document_forms.specs.Answers.{Answers};
@@ -11,6 +11,7 @@ ghost use Rattle.network_config.specs.References.{is_there, is_other, lists_fung
 
 use crate::checks::{Check, Flaws, check_each, check_flaws};
 use crate::holdings::check_accounts;
+use crate::names::NamedChains;
 use crate::queries::check_queries;
 use asset_lists::{Asset, AssetId, Kind};
 use chain_ids::ChainId;
@@ -35,10 +36,10 @@ fn same_chain(a: ChainId, b: ChainId) -> bool
 }
 
 /// Whether the chain is there, as the relay chain always is.
-fn is_there(chains: &[ChainSpec], chain: ChainId) -> bool
+fn is_there(chains: &NamedChains, chain: ChainId) -> bool
     ensures { result ≡ is_there chains.now chain }
 {
-    same_chain(chain, ChainId::Relay) || has_chain(chains, chain)
+    same_chain(chain, ChainId::Relay) || chains.has(chain)
 }
 
 /// Whether a chain of the list has this name.
@@ -49,7 +50,7 @@ pub(crate) fn has_chain(chains: &[ChainSpec], chain: ChainId) -> bool
 }
 
 /// Whether the chain is there, and another than this.
-pub(crate) fn is_other(chains: &[ChainSpec], here: ChainId, chain: ChainId) -> bool
+pub(crate) fn is_other(chains: &NamedChains, here: ChainId, chain: ChainId) -> bool
     ensures { result ≡ is_other chains.now here chain }
 {
     !same_chain(here, chain) && is_there(chains, chain)
@@ -104,7 +105,7 @@ impl Check<Rate> for RateCheck<'_> {
 }
 
 /// Whether the chains are there, and others than this.
-fn are_others(chains: &[ChainSpec], here: ChainId, named: &[ChainId]) -> bool
+fn are_others(chains: &NamedChains, here: ChainId, named: &[ChainId]) -> bool
     ensures { result ≡ list_all (λ chain. is_other chains.now here chain) named.now }
 {
     named.iter().all(|chain| is_other(chains, here, *chain))
@@ -139,7 +140,7 @@ fn is_long(network: NetworkId, here: ChainId, id: &Location) -> bool
 }
 
 /// Whether the chains that the role names are there, and others than this.
-fn names_others(chains: &[ChainSpec], here: ChainId, role: &AssetRole) -> bool
+fn names_others(chains: &NamedChains, here: ChainId, role: &AssetRole) -> bool
     ensures { result ≡ names_others chains.now here role.now }
 {
     match role {
@@ -149,7 +150,7 @@ fn names_others(chains: &[ChainSpec], here: ChainId, role: &AssetRole) -> bool
 }
 
 /// Whether the row names a chain that isn't there, or the chain itself, or its id passes the root.
-fn is_misplaced(chains: &[ChainSpec], network: NetworkId, here: ChainId, row: &AssetRow) -> bool
+fn is_misplaced(chains: &NamedChains, network: NetworkId, here: ChainId, row: &AssetRow) -> bool
     ensures { result ≡ (not (names_others chains.now here row.now.role) || nat_lt (length (path_of_site (record { network = network; chain = here }))) row.now.id.parents) }
 {
     if !names_others(chains, here, &row.role) {
@@ -161,7 +162,7 @@ fn is_misplaced(chains: &[ChainSpec], network: NetworkId, here: ChainId, row: &A
 /// The assets of a chain.
 #[derive(Clone, Copy)]
 struct AssetCheck<'a> {
-    chains: &'a [ChainSpec],
+    chains: &'a NamedChains<'a>,
     network: NetworkId,
     here: ChainId,
 }
@@ -181,7 +182,7 @@ impl Check<AssetRow> for AssetCheck<'_> {
 }
 
 /// Whether the row lists the asset: its id, and amounts or instances.
-pub(crate) fn is_row(row: &AssetRow, asset: &Asset) -> bool
+fn is_row(row: &AssetRow, asset: &Asset) -> bool
     ensures { result ≡ is_row_of asset.now row.now }
 {
     match &asset.id {
@@ -293,7 +294,7 @@ fn lists_fee(chains: &[ChainSpec], from: ChainId, fee: &Option<Asset>) -> bool
 /// The channels between these chains.
 #[derive(Clone, Copy)]
 struct ChannelCheck<'a> {
-    chains: &'a [ChainSpec],
+    chains: &'a NamedChains<'a>,
 }
 
 impl Check<ChannelSpec> for ChannelCheck<'_> {
@@ -306,7 +307,7 @@ impl Check<ChannelSpec> for ChannelCheck<'_> {
         let between = is_there(self.chains, from) && is_other(self.chains, from, to);
         Flaws {
             repeated: has_channel(earlier, from, to),
-            bad: !between || !lists_fee(self.chains, from, &c.channel.fee),
+            bad: !between || !lists_fee(self.chains.items(), from, &c.channel.fee),
             past: false,
         }
     }
@@ -316,13 +317,14 @@ impl Check<ChannelSpec> for ChannelCheck<'_> {
 #[tactic(auto, unfolding(crate::specs::References::chain_references))]
 fn check_chain(
     alloc: Global,
-    chains: &[ChainSpec],
+    chains: &NamedChains,
     network: NetworkId,
     index: u32,
-    earlier: &[ChainSpec],
+    at: usize,
     chain: &ChainSpec,
 ) -> Result<(), Stop>
-    ensures { Answers result (chain_references chains.now network index earlier.now chain.now) }
+    ensures { Answers result
+        (chain_references chains.now network index (take at chains.now) chain.now) }
 {
     let here = chain.chain;
     let entry = Some(index);
@@ -332,7 +334,7 @@ fn check_chain(
         index: 0,
     };
     let flaws = Flaws {
-        repeated: has_chain(earlier, here),
+        repeated: chains.has_before(at, here),
         bad: false,
         past: false,
     };
@@ -359,12 +361,12 @@ fn check_chain(
 }
 
 /// Refuses the chains by the first of their entries.
-fn check_chains(alloc: Global, chains: &[ChainSpec], network: NetworkId) -> Result<(), Stop>
+fn check_chains(alloc: Global, chains: &NamedChains, network: NetworkId) -> Result<(), Stop>
     ensures { Answers result (chains_references chains.now network 0 [] chains.now) }
 {
     let mut index: u32 = 0;
-    for (at, chain) in chains.iter().enumerate() {
-        match check_chain(alloc, chains, network, index, &chains[..at], chain) {
+    for (at, chain) in chains.items().iter().enumerate() {
+        match check_chain(alloc, chains, network, index, at, chain) {
             Ok(()) => {}
             Err(stop) => return Err(stop),
         }
@@ -378,10 +380,10 @@ fn check_chains(alloc: Global, chains: &[ChainSpec], network: NetworkId) -> Resu
 pub fn check_references(alloc: Global, spec: &NetworkSpec) -> Result<(), Stop>
     ensures { Answers result (references spec.now) }
 {
-    let chains = spec.chains.items();
-    check_chains(alloc, chains, spec.network)?;
+    let chains = NamedChains::of(alloc, spec.chains.items())?;
+    check_chains(alloc, &chains, spec.network)?;
     check_each(
-        &ChannelCheck { chains },
+        &ChannelCheck { chains: &chains },
         None,
         Section::Channels,
         spec.channels.items(),

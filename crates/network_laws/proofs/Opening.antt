@@ -12,7 +12,7 @@ use Rattle.network_spec.specs.Networks.{is_in_order}
 use Rattle.document_entries.specs.Entries.{amount_limit}
 use Rattle.network_config.specs.References.{channel_flaws, chain_flaws, references}
 use Rattle.network_config.specs.Sums.{sums}
-use Rattle.network_config.specs.Valid.{fits_chain, fits_channel, fits, is_valid}
+use Rattle.network_config.specs.Valid.{fits_chain, fits_channel, fits, is_named, is_valid}
 use Rattle.network_config.specs.Faultless.{all_sound, chain_sound, ok_references}
 use Rattle.network_config.specs.Summed.{ok_sums}
 use Rattle.network_genesis.specs.Tests.{past_amounts}
@@ -32,7 +32,7 @@ chains_open chains network (c ∷ cs) named fits sound =
 pub opens : (spec : NetworkSpec) → All (λ (c : ChainSpec). IsChain c.chain) spec.chains → is_valid spec ≡ true → IsOpenable spec
 unfolding amount_limit
 opens spec named valid =
-    let order = and_parts (is_in_order spec.chains) (fits spec && (is_ok (references spec) && is_ok (sums spec))) valid in
+    let order = and_parts (is_in_order spec.chains) (fits spec && (is_ok (references spec) && is_ok (sums spec))) (and_parts (is_named spec.network) _ valid).1 in
     let fitting = and_parts (fits spec) (is_ok (references spec) && is_ok (sums spec)) order.1 in
     let faultless = and_parts (is_ok (references spec)) (is_ok (sums spec)) fitting.1 in
     let sound = and_parts (all_sound chain_flaws [] spec.chains && list_all (chain_sound spec.chains spec.network) spec.chains) (all_sound (channel_flaws spec.chains) [] spec.channels) (sym (ok_references spec) ∙ faultless.0) in

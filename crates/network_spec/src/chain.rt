@@ -27,7 +27,7 @@ pub struct ChainSpec {
     pub rules: WeightRule,
     /// The most that a program may weigh: picoseconds of computation, and bytes of the storage proof.
     pub limit: Weight,
-    /// How many kinds of assets an execution holds at most; a program may bring twice as many.
+    /// Half of the most kinds of assets that an execution may hold.
     pub max_holding: u32,
     /// The account that fees are paid to.
     pub fee_account: [u8; 32],

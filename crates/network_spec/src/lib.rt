@@ -5,4 +5,5 @@ mod chain;
 mod network;
 
 pub use chain::{Balance, ChainSpec};
+pub use chain_pools::Pool;
 pub use network::{ChannelSpec, NetworkSpec};

@@ -7,6 +7,7 @@ ghost use Rattle.network_config.specs.Valid.{fits};
 use crate::chains::{fit_chains, fit_channels};
 use chain_ids::ChainId;
 use document_forms::Stop;
+use locations::NetworkId;
 use network_config::{check_references, check_sums, comes_before};
 use network_spec::{ChainSpec, NetworkSpec};
 use std::alloc::{AllocError, Global};
@@ -47,12 +48,27 @@ fn fits(network: &NetworkSpec) -> bool
     chains.len() <= 64 && channels.len() <= 256 && fit_chains(chains) && fit_channels(channels)
 }
 
-/// Whether a network is one that a document may describe: its chains are in order, each value is in its range, and no entry has a
+/// Whether a document can name the network: by its name, or by the hash of its first block.
+fn is_named(network: NetworkId) -> bool
+    ensures { result ≡ valid.is_named network }
+{
+    match network {
+        NetworkId::ByGenesis(_) => true,
+        NetworkId::Polkadot => true,
+        NetworkId::Kusama => true,
+        NetworkId::Westend => true,
+        NetworkId::Rococo => true,
+        NetworkId::Wococo => true,
+        _ => false,
+    }
+}
+
+/// Whether a network is one that a document may describe: it can be named, its chains are in order, each value is in its range, and no entry has a
 /// fault beside the others. An `Err` is out of memory.
 pub fn is_valid(alloc: Global, network: &NetworkSpec) -> Result<bool, AllocError>
     ensures { IfOk result (λ holds. holds ≡ valid.is_valid network.now) }
 {
-    if !is_in_order(network.chains.items()) || !fits(network) {
+    if !is_named(network.network) || !is_in_order(network.chains.items()) || !fits(network) {
         return Ok(false);
     }
     match check_references(alloc, network) {

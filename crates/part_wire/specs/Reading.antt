@@ -2,7 +2,7 @@
 use Rattle.std.specs.Prelude.{ℕ, ◌^◌, List, [], ◌∷◌, nat_le}
 use Rattle.scale_codec.specs.Reading.{Reader, fixed_at, below_at, done, made1, made2, made3, made4, both_at, guarded_at, indexed_at, optional_at, counted_at, measured_at}
 use Rattle.location_wire.specs.Reading.{location_at}
-use Rattle.asset_wire.specs.declared.version.Version.{Version}
+use Rattle.message_parts.specs.declared.version.Version.{Version}
 use Rattle.asset_wire.specs.Reading.{assets_at}
 use Rattle.message_parts.specs.declared.weight.Weight.{Weight}
 use Rattle.message_parts.specs.declared.weight.WeightLimit.{WeightLimit}

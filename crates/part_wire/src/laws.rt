@@ -6,7 +6,7 @@ ghost use Rattle.scale_codec.specs.Spelling.{HasOneSpelling, IsPrefixFree, optio
 ghost use Rattle.scale_codec.specs.Reading.{Reads, optional_at};
 ghost use Rattle.location_wire.specs.Spelling.{location, FitsLocation};
 ghost use Rattle.location_wire.specs.Reading.{location_at};
-ghost use Rattle.asset_wire.specs.declared.version.Version.{Version};
+ghost use Rattle.message_parts.specs.declared.version.Version.{Version};
 ghost use Rattle.message_parts.specs.declared.query.Response.{Response};
 ghost use Rattle.xcm_format.specs.Parts.{weight, FitsWeight, weight_limit, FitsLimit, origin_kind, xcm_error, FitsError, failure, FitsFailure, bytes, FitsBytes, maybe_error, FitsMaybeError, pallet_info, FitsPallet, query_info, FitsInfo, response, FitsResponse};
 ghost use Rattle.part_wire.specs.Reading.{weight_at, weight_limit_at, origin_kind_at, error_at, failure_at, bytes_at, maybe_error_at, pallet_info_at, query_info_at, response_at};

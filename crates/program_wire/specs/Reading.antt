@@ -2,7 +2,7 @@
 use Rattle.std.specs.Prelude.{ℕ, zero, suc, ◌-◌, ◌^◌, List, Option, Some, None, nat_eq, if◌then◌else◌}
 use Rattle.std.specs.Option.{option_map}
 use Rattle.scale_codec.specs.Reading.{◌>>=◌, Reader, below_at, repeated}
-use Rattle.asset_wire.specs.declared.version.Version.{Version}
+use Rattle.message_parts.specs.declared.version.Version.{Version}
 use Rattle.xcm_program.specs.declared.instruction.Instruction.{Instruction, roll-Instruction}
 use Rattle.xcm_program.specs.Measure.{inner, with_inner}
 use Rattle.head_reading.specs.Reading.{Layer, head_at}

@@ -3,7 +3,7 @@
 ghost use Rattle.std.specs.Prelude.{◌≡◌, true, List};
 ghost use Rattle.scale_codec.specs.Spelling.{HasOneSpelling, IsPrefixFree};
 ghost use Rattle.scale_codec.specs.Reading.{Reads};
-ghost use Rattle.asset_wire.specs.declared.version.Version.{Version};
+ghost use Rattle.message_parts.specs.declared.version.Version.{Version};
 ghost use Rattle.xcm_format.specs.Programs.{instruction_spelling, FitsInstruction, program_spelling, FitsProgram};
 ghost use Rattle.xcm_format.specs.Messages.{IsReadable};
 ghost use Rattle.xcm_program.specs.Conversions.{is_convertible};

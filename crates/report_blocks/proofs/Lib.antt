@@ -1,4 +1,3 @@
 mod Apart
 mod Draining
-mod Found
 mod Reading

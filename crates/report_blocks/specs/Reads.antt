@@ -12,7 +12,7 @@ use Rattle.network_coherence.specs.declared.faults.IncoherentCause.{IncoherentCa
 use Rattle.network_coherence.specs.declared.faults.IncoherentCause.TheVariants.{PathTwice, IdNotNormal, PartnerUnlisted, ReserveUnlisted, InstanceTwice, NotBacked, CheckingShort}
 use Rattle.step_text.specs.Lines.{opening_line}
 use Rattle.step_text.specs.Blocks.{balances_of, traps_of, queues_of}
-use Rattle.supply_text.specs.Block as supply
+use Rattle.report_text.specs.Block as supply
 
 -- the name of a cause
 abbrev pub named : Cause → IncoherentCause

@@ -2,7 +2,6 @@
 #![tactic(auto)]
 
 mod opening;
-mod queues;
 mod reads;
 mod served;
 mod serving;

@@ -8,8 +8,7 @@ ghost use Rattle.network_steps.specs.Steps.{drain, after, exec, deliver, claim};
 ghost use Rattle.network_steps.specs.Steps as steps;
 ghost use Rattle.network_genesis.specs.Genesis.{order_of};
 
-use crate::queues::queues_block;
-use crate::reads::{balances_block, supply_block, traps_block};
+use crate::reads::{balances_block, queues_block, supply_block, traps_block};
 use chain_ids::ChainId;
 use chain_net::Net;
 use input_lines::Line;

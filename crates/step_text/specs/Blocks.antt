@@ -4,7 +4,7 @@ use Rattle.std.specs.Option.{option_and_then, option_map_or}
 use Rattle.amounts.specs.Amounts.{rows}
 use Rattle.chain_ids.specs.Chains.{same_chain}
 use Rattle.chain_ids.specs.declared.chain.ChainId.{ChainId}
-use Rattle.asset_wire.specs.declared.version.Version.{Version}
+use Rattle.message_parts.specs.declared.version.Version.{Version}
 use Rattle.asset_bundles.specs.Bundles.{held_assets}
 use Rattle.trust_tables.specs.declared.rows.AssetRow.{AssetRow}
 use Rattle.asset_locks.specs.LockMaps.{LocksAndNotes, locks_of}
@@ -24,8 +24,8 @@ abbrev pub holder_line : ChainId → Holder × ℕ → List ℕ
 holder_line chain row = balance_line chain row.0.0 (asset_held row)
 
 -- a line for each account, by bytes, and each of its assets in holding order: the order of the rows of what all accounts hold
-unfoldable pub balances_text : ChainId → Held → List ℕ
-balances_text chain held = flat_map (holder_line chain) (rows held)
+unfoldable pub accounts_text : ChainId → Held → List ℕ
+accounts_text chain held = flat_map (holder_line chain) (rows held)
 
 abbrev pub checking_if : ChainId → AssetRow → Option ℕ → List ℕ
 checking_if chain row None = []
@@ -43,7 +43,7 @@ locked_text chain locked = flat_map (locked_line chain) (locks_of locked)
 
 abbrev pub balances_of : ChainPart → List ℕ
 balances_of p =
-    balances_text p.site.chain p.held ++ checking_text p.site.chain p.rows p.checking
+    accounts_text p.site.chain p.held ++ checking_text p.site.chain p.rows p.checking
     ++ locked_text p.site.chain p.locked
 
 -- ---- under `traps`
@@ -52,11 +52,11 @@ abbrev pub trap_text : ChainId → Trap → List ℕ
 trap_text chain t = trap_line chain t.number t.origin (held_assets t.goods)
 
 -- oldest first
-abbrev pub traps_text : ChainId → List Trap → List ℕ
-traps_text chain traps = flat_map (trap_text chain) traps
+abbrev pub trapped_text : ChainId → List Trap → List ℕ
+trapped_text chain traps = flat_map (trap_text chain) traps
 
 abbrev pub traps_of : ChainPart → List ℕ
-traps_of p = traps_text p.site.chain p.traps.traps
+traps_of p = trapped_text p.site.chain p.traps.traps
 
 -- ---- under `queues`
 

@@ -12,8 +12,8 @@ use Rattle.document_forms.specs.Texts.{fault_text}
 use Rattle.document_forms.specs.declared.fault.NetworkFault.{NetworkFault}
 use Rattle.network_coherence.specs.declared.faults.Incoherent.{Incoherent}
 use Rattle.network_coherence.specs.Texts.{incoherent_text}
-use Rattle.step_text.specs.declared.sums.Supply.{Supply}
-use Rattle.step_text.specs.declared.sums.Backing.{Backing}
+use Rattle.ledgers.specs.declared.supplies.Supply.{Supply}
+use Rattle.ledgers.specs.declared.supplies.Backing.{Backing}
 use Rattle.step_text.specs.Texts.{kind_name, total_text, asset_text, assets_text}
 
 -- ---- blocks

@@ -6,7 +6,7 @@ ghost use Rattle.asset_bundles.specs.Bundles.{held_assets};
 ghost use Rattle.ledgers.specs.Ledgers.{account_goods};
 ghost use Rattle.chain_queues.specs.Queues.{outgoing_of};
 ghost use Rattle.step_text.specs.Lines.{balance_line, locked_line};
-ghost use Rattle.step_text.specs.Blocks.{balances_text, channel_text, checking_if, checking_text, locked_text, trap_text, traps_text, queued_line};
+ghost use Rattle.step_text.specs.Blocks.{accounts_text, channel_text, checking_if, checking_text, locked_text, trap_text, trapped_text, queued_line};
 
 use crate::laws::law_of_queued;
 use crate::lines::{balance_line, checking_line, locked_line, queue_line, trap_line};
@@ -20,9 +20,9 @@ use trap_store::{Trap, TrapStore};
 use trust_tables::AssetRow;
 
 /// The lines of what a chain's accounts hold: accounts by bytes, and each one's assets in holding order.
-#[tactic(auto, unfolding(crate::specs::Blocks::balances_text))]
-pub fn balances_text(alloc: Global, chain: ChainId, ledger: &Ledger) -> Result<String, AllocError>
-    ensures { IfOk result (λ text. string_bytes text ≡ balances_text chain ledger.now.held) }
+#[tactic(auto, unfolding(crate::specs::Blocks::accounts_text))]
+pub fn accounts_text(alloc: Global, chain: ChainId, ledger: &Ledger) -> Result<String, AllocError>
+    ensures { IfOk result (λ text. string_bytes text ≡ accounts_text chain ledger.now.held) }
 {
     let mut text = String::new(alloc);
     let mut after = None;
@@ -65,8 +65,8 @@ fn push_balances(
 }
 
 /// The lines of a chain's traps, oldest first.
-pub fn traps_text(alloc: Global, chain: ChainId, store: &TrapStore) -> Result<String, AllocError>
-    ensures { IfOk result (λ text. string_bytes text ≡ traps_text chain store.now.traps) }
+pub fn trapped_text(alloc: Global, chain: ChainId, store: &TrapStore) -> Result<String, AllocError>
+    ensures { IfOk result (λ text. string_bytes text ≡ trapped_text chain store.now.traps) }
 {
     let mut text = String::new(alloc);
     push_traps(alloc, &mut text, chain, store)?;
@@ -80,7 +80,7 @@ fn push_traps(
     chain: ChainId,
     store: &TrapStore,
 ) -> Result<(), AllocError>
-    ensures { OnOk result (string_bytes text.new ≡ string_bytes text.old ++ traps_text chain store.now.traps) }
+    ensures { OnOk result (string_bytes text.new ≡ string_bytes text.old ++ trapped_text chain store.now.traps) }
 {
     for trap in store.traps() {
         push_trap(alloc, text, chain, trap)?;

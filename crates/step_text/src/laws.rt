@@ -2,7 +2,7 @@
 
 ghost use Rattle.std.specs.Prelude.{◌≡◌, IsTrue};
 ghost use Rattle.chain_ids.specs.declared.chain.ChainId.{ChainId};
-ghost use Rattle.asset_wire.specs.declared.version.Version.{Version};
+ghost use Rattle.message_parts.specs.declared.version.Version.{Version};
 ghost use Rattle.chain_queues.specs.Decoded.{decodes};
 ghost use Rattle.chain_queues.specs.Queues.{waiting_of};
 ghost use Rattle.chain_queues.specs.declared.queues.Queued.{Queued};

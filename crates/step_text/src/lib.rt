@@ -9,15 +9,14 @@ mod lines;
 mod names;
 mod opening;
 mod steps;
-mod sums;
 mod words;
 
-pub use blocks::{balances_text, checking_text, locked_text, queue_text, traps_text};
+pub use blocks::{accounts_text, checking_text, locked_text, queue_text, trapped_text};
 pub use headings::{StepWords, heading};
 pub use laws::{law_of_names, law_of_queued};
+pub use ledgers::{Backing, Supply};
 pub use lines::{
     backing_line, balance_line, checking_line, locked_line, queue_line, supply_line, trap_line,
 };
 pub use opening::{line_refused_line, network_refused_line, opening_line};
 pub use steps::{drained_line, step_text};
-pub use sums::{Backing, Supply};

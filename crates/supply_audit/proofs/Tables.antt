@@ -22,7 +22,7 @@ use Rattle.chain_state.specs.Known.{paths_there}
 use Rattle.supply_audit.specs.declared.figures.Carried.TheVariants.{Teleports}
 use Rattle.supply_audit.specs.declared.figures.Figure.{Figure}
 use Rattle.supply_audit.specs.declared.figures.Figure.TheVariants.{Placed, Burned, Sent}
-use Rattle.supply_audit.specs.declared.totals.Supply.{Supply}
+use Rattle.ledgers.specs.declared.supplies.Supply.{Supply}
 use Rattle.supply_audit.specs.Assets.{asset_cmp, listed_at}
 use Rattle.supply_audit.specs.AssetLaws.{asset_exact, asset_tests}
 use Rattle.supply_audit.specs.Places.{table_of, is_row_of, row_share, figure}

@@ -2,7 +2,7 @@
 use Rattle.std.specs.Prelude.{◌≡◌, min, Option}
 use Rattle.asset_bundles.specs.Books.{most_burned}
 use Rattle.asset_bundles.specs.Totals.{total_value}
-use Rattle.supply_audit.specs.declared.totals.Backing.{Backing}
+use Rattle.ledgers.specs.declared.supplies.Backing.{Backing}
 use Rattle.supply_audit.specs.Supply.{Debt, held_for, owed_by, of_debt}
 
 -- each total saturates

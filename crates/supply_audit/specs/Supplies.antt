@@ -13,7 +13,7 @@ use Rattle.supply_audit.specs.declared.figures.Carried.TheVariants.{Teleports}
 use Rattle.supply_audit.specs.declared.figures.Figure.{Figure}
 use Rattle.supply_audit.specs.declared.figures.Figure.TheVariants.{Placed, Burned, Sent}
 use Rattle.supply_audit.specs.declared.table.Supplies.{Supplies}
-use Rattle.supply_audit.specs.declared.totals.Supply.{Supply}
+use Rattle.ledgers.specs.declared.supplies.Supply.{Supply}
 use Rattle.supply_audit.specs.Assets.{asset_cmp}
 use Rattle.supply_audit.specs.Places.{table_of, row_share, figure}
 use Rattle.supply_audit.specs.Supply.{home, flight, burned}

@@ -10,6 +10,7 @@ mod table;
 mod totals;
 
 pub use audit::{backing, supply};
+pub use ledgers::{Backing, Supply};
 pub use network_asset::NetworkAsset;
+pub use network_coherence::{Incoherent, IncoherentCause, coherent};
 pub use table::Supplies;
-pub use totals::{Backing, Supply};

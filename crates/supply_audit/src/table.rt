@@ -17,9 +17,10 @@ ghost use Rattle.supply_audit.specs.Supplies.{AreSupplies, HasSums, Raises, row_
 use crate::figures::{Carried, Figure};
 use crate::network_asset::NetworkAsset;
 use crate::places::{figure, is_native};
-use crate::totals::{Supply, none};
+use crate::totals::{no_supply, none, sum};
 use asset_lists::AssetId;
 use chain_state::ChainState;
+use ledgers::Supply;
 use std::alloc::{AllocError, Global};
 use std::collections::{BTreeMap, BTreeSet};
 use trust_tables::AssetRow;
@@ -58,7 +59,7 @@ impl Supplies {
 fn supply_in(sums: &Sums, asset: &NetworkAsset) -> Supply
     ensures { result ≡ supply_in sums.now.entries asset.now }
 {
-    sums.get(asset).copied().unwrap_or(Supply::no_supply())
+    sums.get(asset).copied().unwrap_or(no_supply())
 }
 
 /// Writes what there is of an asset.
@@ -74,7 +75,7 @@ fn raise(sums: &mut Sums, asset: NetworkAsset, more: Supply) -> Result<(), Alloc
     ensures { OnOk result ((has : Figure → ℕ) → HasSums more has → Raises sums.old.entries sums.new.entries (λ a f. if eq_by_cmp asset_cmp asset a then has f else 0)) }
 {
     let found = supply_in(sums, &asset);
-    write_supply(sums, asset, found.sum(more))
+    write_supply(sums, asset, sum(found, more))
 }
 
 /// What a row of a chain lists: what stands there, what was sent as teleports and what was burned.

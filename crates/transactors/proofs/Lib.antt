@@ -1,3 +1,5 @@
 pub mod Rows
 pub mod Moving
 pub mod Nothing
+pub mod Flooring
+pub mod Keeping

@@ -1,27 +1,27 @@
 -- What is refused to an account, and where there is none.
-use Rattle.std.proofs.Common.{◌≡◌, ℕ, ◌+◌, ◌<◌, zero, suc, Bool, true, false, ◌||◌, not, if◌then◌else◌, List, [], ◌∷◌, length, get_or, drop, refl, sym, ap, ◌∙◌, subst, true≢false}
-use Rattle.std.specs.Prelude.{Option, None, Some, is_some, IsSomeAnd, slice_get, Result, Ok, Err}
+use Rattle.std.proofs.Common.{◌≡◌, ℕ, ◌+◌, ◌<◌, zero, suc, Bool, true, false, ◌||◌, if◌then◌else◌, List, [], ◌∷◌, length, get_or, drop, refl, sym, ap, ◌∙◌, arith, true≢false}
+use Rattle.std.specs.Prelude.{Option, None, Some, is_some, IsSomeAnd, slice_get, nat_lt, ◌==◌, Result, Ok, Err}
 use Rattle.std.specs.List.{list_all}
 use Rattle.std.proofs.lemmas.Bool.{and_from, and_parts}
 use Rattle.std.proofs.lemmas.List.{drop_more}
 use Rattle.amounts.specs.Amounts.{amount}
 use Rattle.locations.specs.declared.relative.Location.{Location}
 use Rattle.asset_lists.specs.declared.units.Asset.{Asset}
-use Rattle.asset_lists.specs.Units.{unit_of}
+use Rattle.asset_lists.specs.Units.{unit_of, amount_of}
 use Rattle.asset_lists.specs.Listed.{Listed, listed_of, lists}
 use Rattle.trust_tables.specs.declared.chains.Site.{Site}
 use Rattle.trust_tables.specs.declared.rows.AssetRow.{AssetRow}
 use Rattle.trust_tables.specs.Accounts.{account_of}
 use Rattle.trust_tables.specs.Trust.{row_of, listed_row}
 use Rattle.trust_tables.specs.TrustLaws.{row_found}
-use Rattle.ledgers.specs.Ledgers.{Held, Accounts, shortage, barred, is_barred, Withdrawn}
-use Rattle.ledgers.specs.LedgerFaults.{IsBarred, IsTransferBar}
+use Rattle.ledgers.specs.Ledgers.{Held, shortage, barred, is_barred}
+use Rattle.ledgers.specs.LedgerFaults.{IsBarred, IsFirstBarred}
 use Rattle.ledgers.specs.declared.faults.DepositFault.{DepositFault}
-use Rattle.ledgers.specs.declared.faults.TransferFault.{TransferFault}
+use Rattle.transactors.specs.Floors.{UnitFloors}
 use Rattle.transactors.specs.declared.faults.MoveFault.{MoveFault}
-use Rattle.transactors.specs.declared.faults.MoveFault.TheVariants.{NotHandled, NoAccount, Refused, Memory}
+use Rattle.transactors.specs.declared.faults.MoveFault.TheVariants.{NotHandled, NoAccount, Refused}
 use Rattle.transactors.specs.Checks.{accepted, is_unhandled, lacks, account_fault, move_fault, check_in, check_out}
-use Rattle.transactors.specs.Moves.{or_fault, first_fault, are_listed, Moves}
+use Rattle.transactors.specs.Moves.{or_fault, first_fault, are_listed}
 
 -- ---- answers
 fault_told : Result (Unit {0}) MoveFault → Option MoveFault
@@ -36,13 +36,6 @@ told_back (Some fault) = refl
 pub fault_is : (o : Option MoveFault) (fault : MoveFault) → Err fault ≡ accepted o → o ≡ Some fault
 unfolding fault_told
 fault_is o fault is = sym (told_back o) ∙ ap fault_told (sym is)
-
-pub none_is : (o : Option MoveFault) (done : Unit {0}) → Ok done ≡ accepted o → o ≡ None
-unfolding fault_told
-none_is o done is = sym (told_back o) ∙ ap fault_told (sym is)
-
-pub accepted_in : (x y : Option MoveFault) → x ≡ y → accepted x ≡ accepted y
-accepted_in x y same = ap accepted same
 
 -- ---- the first fault
 pub both_none : (x rest : Option MoveFault) → or_fault x rest ≡ None → (x ≡ None) × (rest ≡ None)
@@ -63,50 +56,57 @@ nobody : (account : Option (List ℕ)) (refused : List ℕ → Bool) → account
 nobody account refused none h = (let e : Some NoAccount ≡ None = ap (λ o. account_fault o refused) (sym none) ∙ h in absurd (cc))
 
 -- without an account only nothing is moved
-pub nobody_gives : (rows : List AssetRow) (site : Site) (held : Held) (who : Location) (list : List Asset) → account_of who site ≡ None → first_fault (check_out rows site held who) list ≡ None → list ≡ []
-nobody_gives rows site held who [] none h = refl
-nobody_gives rows site held who (a ∷ rest) none h =
-    absurd (nobody (account_of who site) (λ account. lacks held account a) none (handled_and (is_some (row_of rows a)) (account_of who site) (λ account. lacks held account a) (both_none _ _ h).0).1)
+pub nobody_gives : (rows : List AssetRow) (site : Site) (floors : UnitFloors) (held : Held) (who : Location) (list : List Asset) → account_of who site ≡ None → first_fault (check_out rows site floors held who) list ≡ None → list ≡ []
+nobody_gives rows site floors held who [] none h = refl
+nobody_gives rows site floors held who (a ∷ rest) none h =
+    absurd (nobody (account_of who site) (λ account. lacks floors held account a) none (handled_and (is_some (row_of rows a)) (account_of who site) (λ account. lacks floors held account a) (both_none _ _ h).0).1)
 
 pub nobody_takes : (rows : List AssetRow) (site : Site) (held : Held) (who : Location) (list : List Asset) → account_of who site ≡ None → first_fault (check_in rows site held who) list ≡ None → list ≡ []
 nobody_takes rows site held who [] none h = refl
 nobody_takes rows site held who (a ∷ rest) none h =
     absurd (nobody (account_of who site) (λ account. is_barred held account a) none (handled_and (is_some (row_of rows a)) (account_of who site) (λ account. is_barred held account a) (both_none _ _ h).0).1)
 
--- without an account it doesn't matter what is held
-fault_anyhow : (account : Option (List ℕ)) (x y : List ℕ → Bool) → account ≡ None → account_fault account x ≡ account_fault account y
-fault_anyhow account x y none = ap (λ o. account_fault o x) none ∙ sym (ap (λ o. account_fault o y) none)
-
-pub in_anyhow : (rows : List AssetRow) (site : Site) (held other : Held) (who : Location) (list : List Asset) → account_of who site ≡ None
-    → first_fault (check_in rows site held who) list ≡ first_fault (check_in rows site other who) list
-in_anyhow rows site held other who [] none = refl
-in_anyhow rows site held other who (a ∷ rest) none =
-    λ i. or_fault (if is_some (row_of rows a) then fault_anyhow (account_of who site) (λ account. is_barred held account a) (λ account. is_barred other account a) none i else Some NotHandled)
-    (in_anyhow rows site held other who rest none i)
+-- without an account no asset that is handled is taken
+pub nobody_takes_any : (rows : List AssetRow) (site : Site) (held : Held) (who : Location) (list : List Asset) → account_of who site ≡ None → list_all (λ a. is_some (row_of rows a)) list ≡ true → (list ≡ [] → ⊥)
+    → first_fault (check_in rows site held who) list ≡ Some NoAccount
+nobody_takes_any rows site held who [] none handled some = absurd (some refl)
+nobody_takes_any rows site held who (a ∷ rest) none handled some =
+    let here = (and_parts (is_some (row_of rows a)) (list_all (λ b. is_some (row_of rows b)) rest) handled).0 in
+    λ i. or_fault (move_fault (here i) (none i) (λ account. is_barred held account a)) (first_fault (check_in rows site held who) rest)
 
 -- ---- an account that can give all
-no_lack : (b : Bool) (who : List ℕ) (account : Option (List ℕ)) (refused : List ℕ → Bool) → account ≡ Some who → account_fault account refused ≡ None → refused who ≡ false
-no_lack b who account refused is h =
+no_lack : (who : List ℕ) (account : Option (List ℕ)) (refused : List ℕ → Bool) → account ≡ Some who → account_fault account refused ≡ None → refused who ≡ false
+no_lack who account refused is h =
     (let e : (if refused who then Some Refused else None) ≡ None = ap (λ o. account_fault o refused) (sym is) ∙ h in
     elim (refused who) as (λ t. (if t then Some Refused else None) ≡ None → t ≡ false) [
       | true ↦ λ g. absurd (cc)
       | false ↦ λ g. refl
     ] e)
 
-pub enough_given : (rows : List AssetRow) (site : Site) (held : Held) (from : Location) (who : List ℕ) (list : List Asset) → account_of from site ≡ Some who
-    → first_fault (check_out rows site held from) list ≡ None → shortage held who list ≡ None
-enough_given rows site held from who [] is h = refl
-enough_given rows site held from who (a ∷ rest) is h =
-    let parts = both_none _ _ h in
-    let here = handled_and (is_some (row_of rows a)) (account_of from site) (λ account. lacks held account a) parts.0 in
-    let has = no_lack true who (account_of from site) (λ account. lacks held account a) is here.1 in
-    ap (λ b. if b then Some (amount held (who, unit_of a)) else shortage held who rest) has ∙ enough_given rows site held from who rest is parts.1
+pub nothing_lacked : (rows : List AssetRow) (site : Site) (floors : UnitFloors) (held : Held) (from : Location) (who : List ℕ) (a : Asset) → account_of from site ≡ Some who
+    → check_out rows site floors held from a ≡ None → lacks floors held who a ≡ false
+nothing_lacked rows site floors held from who a is h =
+    let here = handled_and (is_some (row_of rows a)) (account_of from site) (λ account. lacks floors held account a) h in
+    no_lack who (account_of from site) (λ account. lacks floors held account a) is here.1
 
-pub rows_given : (rows : List AssetRow) (site : Site) (held : Held) (who : Location) (list : List Asset) → first_fault (check_out rows site held who) list ≡ None → list_all (λ a. is_some (row_of rows a)) list ≡ true
-rows_given rows site held who [] h = refl
-rows_given rows site held who (a ∷ rest) h =
+-- what has the amount and the floor has the amount
+less_too : (have n floor : ℕ) → nat_lt have (n + floor) ≡ false → nat_lt have n ≡ false
+less_too have n floor h = grind (arith, h)
+
+pub enough_given : (rows : List AssetRow) (site : Site) (floors : UnitFloors) (held : Held) (from : Location) (who : List ℕ) (list : List Asset) → account_of from site ≡ Some who
+    → first_fault (check_out rows site floors held from) list ≡ None → shortage held who list ≡ None
+enough_given rows site floors held from who [] is h = refl
+enough_given rows site floors held from who (a ∷ rest) is h =
     let parts = both_none _ _ h in
-    and_from _ _ (handled_and (is_some (row_of rows a)) (account_of who site) (λ account. lacks held account a) parts.0).0 (rows_given rows site held who rest parts.1)
+    let has = nothing_lacked rows site floors held from who a is parts.0 in
+    let enough = less_too (amount held (who, unit_of a)) (amount_of a) (floors who (unit_of a)) has in
+    ap (λ b. if b then Some (amount held (who, unit_of a)) else shortage held who rest) enough ∙ enough_given rows site floors held from who rest is parts.1
+
+pub rows_given : (rows : List AssetRow) (site : Site) (floors : UnitFloors) (held : Held) (who : Location) (list : List Asset) → first_fault (check_out rows site floors held who) list ≡ None → list_all (λ a. is_some (row_of rows a)) list ≡ true
+rows_given rows site floors held who [] h = refl
+rows_given rows site floors held who (a ∷ rest) h =
+    let parts = both_none _ _ h in
+    and_from _ _ (handled_and (is_some (row_of rows a)) (account_of who site) (λ account. lacks floors held account a) parts.0).0 (rows_given rows site floors held who rest parts.1)
 
 pub rows_taken : (rows : List AssetRow) (site : Site) (held : Held) (who : Location) (list : List Asset) → first_fault (check_in rows site held who) list ≡ None → list_all (λ a. is_some (row_of rows a)) list ≡ true
 rows_taken rows site held who [] h = refl
@@ -167,11 +167,19 @@ unfolding refused_if
 some_refused P None h = absurd h
 some_refused P (Some a) h = refl
 
-pub taker_barred : (rows : List AssetRow) (site : Site) (ledger : Accounts) (who : Location) (from to : List ℕ) (list : List Asset) (have : ℕ) → account_of who site ≡ Some to → list_all (λ a. is_some (row_of rows a)) list ≡ true
-    → IsTransferBar ledger from to list (TransferFault.Overflow have) → first_fault (check_in rows site (Withdrawn from list ledger).held who) list ≡ Some Refused
-taker_barred rows site ledger who from to list have is all bar =
-    refused_as_barred rows site (Withdrawn from list ledger).held who to list is all
-    ∙ some_refused (λ a. IsBarred (Withdrawn from list ledger).held to a (DepositFault.Overflow have)) (barred (Withdrawn from list ledger).held to list) bar.1
+pub taker_barred : (rows : List AssetRow) (site : Site) (held : Held) (who : Location) (to : List ℕ) (list : List Asset) (fault : DepositFault) → account_of who site ≡ Some to → list_all (λ a. is_some (row_of rows a)) list ≡ true
+    → IsFirstBarred held to list fault → first_fault (check_in rows site held who) list ≡ Some Refused
+taker_barred rows site held who to list fault is all bar =
+    refused_as_barred rows site held who to list is all ∙ some_refused (λ a. IsBarred held to a fault) (barred held to list) bar
+
+none_refused : (o : Option Asset) → refused_if o ≡ None → o ≡ None
+unfolding refused_if
+none_refused None h = refl
+none_refused (Some a) h = absurd (cc)
+
+pub none_bars : (rows : List AssetRow) (site : Site) (held : Held) (who : Location) (to : List ℕ) (list : List Asset) → account_of who site ≡ Some to → first_fault (check_in rows site held who) list ≡ None → barred held to list ≡ None
+none_bars rows site held who to list is taken =
+    none_refused (barred held to list) (sym (refused_as_barred rows site held who to list is (rows_taken rows site held who list taken)) ∙ taken)
 
 -- ---- one transactor behind another
 account_decides : (account : Option (List ℕ)) (refused : List ℕ → Bool) → is_unhandled (accepted (account_fault account refused)) ≡ false
@@ -193,10 +201,6 @@ sooner true second account refused h = refl
 sooner false second account refused h = absurd (true≢false h)
 
 -- ---- steps of the code
-pub free : (o : Option MoveFault) (r : Result (Unit {0}) MoveFault) → ((f : MoveFault) → r ≡ Err f → ⊥) → r ≡ accepted o → o ≡ None
-free None r not is = refl
-free (Some f) r not is = absurd (not f is)
-
 pub none_if : {A : Type 0} (o : Option A) → ((x : A) → o ≡ Some x → ⊥) → o ≡ None
 none_if None h = refl
 none_if (Some x) h = absurd (h x refl)
@@ -207,13 +211,12 @@ stops check xs i a fault inside at is so_far =
     so_far ∙ ap (first_fault check) (drop_more xs i a inside)
     ∙ refused_first (check (get_or xs i a)) (first_fault check (drop (i + 1) xs)) fault (ap check (sym at) ∙ is)
 
--- what a check answers, as a refused move
-pub refuses : (o : Option MoveFault) (r : Result (Unit {0}) MoveFault) (after before : Accounts) → r ≡ accepted o → (o ≡ None → before ≡ after) → Moves o tt after before r before
-refuses None r after before is same = subst (λ x. Moves None tt after before x before) (sym is) (refl, refl, same refl)
-refuses (Some NotHandled) r after before is same = subst (λ x. Moves (Some NotHandled) tt after before x before) (sym is) (refl, refl)
-refuses (Some NoAccount) r after before is same = subst (λ x. Moves (Some NoAccount) tt after before x before) (sym is) (refl, refl)
-refuses (Some Refused) r after before is same = subst (λ x. Moves (Some Refused) tt after before x before) (sym is) (refl, refl)
-refuses (Some Memory) r after before is same = subst (λ x. Moves (Some Memory) tt after before x before) (sym is) refl
+none_counted : (n : ℕ) → (n == 0) ≡ true → n ≡ 0
+none_counted n h = grind (arith, h)
 
-pub none_some : {A : Type 0} {x : A} → None ≡ Some x → ⊥
-none_some h = absurd (cc)
+pub no_items : (list : List Asset) → (length list == 0) ≡ true → list ≡ []
+no_items [] h = refl
+no_items (a ∷ rest) h = (let none = none_counted (length (a ∷ rest)) h in absurd (omega (arith, none)))
+
+pub some_items : (list : List Asset) → (length list == 0) ≡ false → list ≡ [] → ⊥
+some_items list h none = true≢false (sym (ap (λ xs. length xs == 0) none) ∙ h)

@@ -80,3 +80,16 @@ row_of_both (row ∷ rows) more a =
     some_or (is_row_of a row) row (row_of (rows ++ more) a) ∙ ap (λ b. is_row_of a row || b) (row_of_both rows more a)
     ∙ or_or (is_row_of a row) (is_some (row_of rows a)) (is_some (row_of more a))
     ∙ ap (λ b. b || is_some (row_of more a)) (sym (some_or (is_row_of a row) row (row_of rows a)))
+
+either_kind : (kind : Kind) (some : Bool) → ((same_kind kind Kind.Fungible && some) || (same_kind kind Kind.Class && some)) ≡ some
+either_kind Fungible true = refl
+either_kind Fungible false = refl
+either_kind Class true = refl
+either_kind Class false = refl
+
+-- the rows of both kinds list what all rows list
+pub row_of_kinds : (rows : List AssetRow) (a : Asset) → is_some (row_of (rows_of_kind Kind.Fungible rows ++ rows_of_kind Kind.Class rows) a) ≡ is_some (row_of rows a)
+row_of_kinds rows a =
+    row_of_both (rows_of_kind Kind.Fungible rows) (rows_of_kind Kind.Class rows) a
+    ∙ (λ i. row_of_kind Kind.Fungible rows a i || row_of_kind Kind.Class rows a i)
+    ∙ either_kind (kind_of (unit_of a).1) (is_some (row_of rows a))

@@ -1,6 +1,6 @@
 -- Why one asset isn't moved into a location's account, or out of it. Source: xcm-executor's asset transactors; the order of the causes is
 -- this project's own rule.
-use Rattle.std.specs.Prelude.{ℕ, Bool, true, false, is_some, nat_lt, if◌then◌else◌, List, [], ◌∷◌, Option, Some, None, Result, Ok, Err}
+use Rattle.std.specs.Prelude.{ℕ, ◌+◌, Bool, true, false, is_some, nat_lt, if◌then◌else◌, List, [], ◌∷◌, Option, Some, None, Result, Ok, Err}
 use Rattle.amounts.specs.Amounts.{amount}
 use Rattle.locations.specs.declared.relative.Location.{Location}
 use Rattle.asset_lists.specs.declared.units.Asset.{Asset}
@@ -12,6 +12,7 @@ use Rattle.trust_tables.specs.declared.chains.Site.{Site}
 use Rattle.trust_tables.specs.declared.rows.AssetRow.{AssetRow}
 use Rattle.trust_tables.specs.Trust.{row_of}
 use Rattle.trust_tables.specs.Accounts.{account_of}
+use Rattle.transactors.specs.Floors.{UnitFloors}
 use Rattle.transactors.specs.declared.faults.MoveFault.{MoveFault}
 use Rattle.transactors.specs.declared.faults.MoveFault.TheVariants.{NotHandled, NoAccount, Refused, Memory}
 
@@ -33,9 +34,9 @@ abbrev pub rows_of_kind : Kind → List AssetRow → List AssetRow
 rows_of_kind kind [] = []
 rows_of_kind kind (row ∷ rows) = if same_kind kind row.kind then row ∷ rows_of_kind kind rows else rows_of_kind kind rows
 
--- the account has less of the asset than that
-abbrev pub lacks : Held → List ℕ → Asset → Bool
-lacks held who a = nat_lt (amount held (who, unit_of a)) (amount_of a)
+-- the account has less of the asset than that and its floor
+abbrev pub lacks : UnitFloors → Held → List ℕ → Asset → Bool
+lacks floors held who a = nat_lt (amount held (who, unit_of a)) (amount_of a + floors who (unit_of a))
 
 -- a row must list the asset, the location must have an account, and then the account decides
 abbrev pub account_fault : Option (List ℕ) → (List ℕ → Bool) → Option MoveFault
@@ -50,5 +51,5 @@ abbrev pub check_in : List AssetRow → Site → Held → Location → Asset →
 check_in rows site held who a = move_fault (is_some (row_of rows a)) (account_of who site) (λ account. is_barred held account a)
 
 -- why a withdrawal of the asset alone is refused; None where it isn't
-abbrev pub check_out : List AssetRow → Site → Held → Location → Asset → Option MoveFault
-check_out rows site held who a = move_fault (is_some (row_of rows a)) (account_of who site) (λ account. lacks held account a)
+abbrev pub check_out : List AssetRow → Site → UnitFloors → Held → Location → Asset → Option MoveFault
+check_out rows site floors held who a = move_fault (is_some (row_of rows a)) (account_of who site) (λ account. lacks floors held account a)

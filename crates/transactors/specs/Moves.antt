@@ -13,6 +13,7 @@ use Rattle.trust_tables.specs.Trust.{listed_row}
 use Rattle.trust_tables.specs.Accounts.{account_of}
 use Rattle.transactors.specs.declared.faults.MoveFault.{MoveFault}
 use Rattle.transactors.specs.declared.faults.MoveFault.TheVariants.{NotHandled, NoAccount, Refused, Memory}
+use Rattle.transactors.specs.Floors.{UnitFloors}
 use Rattle.transactors.specs.Checks.{check_in, check_out}
 
 -- each of these rows is listed
@@ -30,8 +31,8 @@ abbrev pub first_fault : (Asset → Option MoveFault) → List Asset → Option 
 first_fault check [] = None
 first_fault check (a ∷ rest) = or_fault (check a) (first_fault check rest)
 
-abbrev pub withdraw_fault : List AssetRow → Site → Accounts → List Asset → Location → Option MoveFault
-withdraw_fault rows site ledger list who = first_fault (check_out rows site ledger.held who) list
+abbrev pub withdraw_fault : List AssetRow → Site → UnitFloors → Accounts → List Asset → Location → Option MoveFault
+withdraw_fault rows site floors ledger list who = first_fault (check_out rows site floors ledger.held who) list
 
 abbrev pub deposit_fault : List AssetRow → Site → Accounts → Bundle → Location → Option MoveFault
 deposit_fault rows site ledger goods who = first_fault (check_in rows site ledger.held who) (held_assets goods)
@@ -53,9 +54,9 @@ abbrev pub transferred : Site → List Asset → Location → Location → Accou
 transferred site list from to ledger = deposited site (bundle_of list) to (withdrawn site list from ledger)
 
 -- all assets for the giver first, and then all for the receiver as it is after the giving
-abbrev pub transfer_fault : List AssetRow → Site → Accounts → List Asset → Location → Location → Option MoveFault
-transfer_fault rows site ledger list from to =
-    or_fault (withdraw_fault rows site ledger list from) (first_fault (check_in rows site (withdrawn site list from ledger).held to) list)
+abbrev pub transfer_fault : List AssetRow → Site → UnitFloors → Accounts → List Asset → Location → Location → Option MoveFault
+transfer_fault rows site floors ledger list from to =
+    or_fault (withdraw_fault rows site floors ledger list from) (first_fault (check_in rows site (withdrawn site list from ledger).held to) list)
 
 -- ---- answers. Memory may be refused always, and then nothing changes
 

@@ -10,6 +10,7 @@ pub trait Transactor {
     ghost use Rattle.trust_tables.specs.declared.chains.Site.{Site};
     ghost use Rattle.trust_tables.specs.declared.rows.AssetRow.{AssetRow};
     ghost use Rattle.trust_tables.specs.Accounts.{account_of};
+    ghost use Rattle.transactors.specs.Floors.{UnitFloors};
     ghost use Rattle.transactors.specs.Checks.{accepted, check_in, check_out};
 
     /// Where the chain stands.
@@ -18,7 +19,10 @@ pub trait Transactor {
     /// The rows that are handled.
     ghost rows: { Self → List AssetRow };
 
-    /// Whether all parts of it stand at one chain.
+    /// How much of each unit each account must keep.
+    ghost floors: { Self → UnitFloors };
+
+    /// Whether all parts of it stand at one chain, and have the same floors.
     ghost agrees: { Self → Type 0 };
 
     /// The account that the location has on the chain.
@@ -29,10 +33,13 @@ pub trait Transactor {
     /// Whether a deposit of that one asset alone into the location's account would be taken. It takes no memory.
     fn check_in(&self, ledger: &Ledger, a: &Asset, who: &Location) -> Result<(), MoveFault>
         requires agrees { agrees self.now }
-        ensures checked { result ≡ accepted (check_in (rows self.now) (site self.now) ledger.now.held who.now a.now) };
+        ensures checked { result ≡ accepted (check_in (rows self.now) (site self.now)
+            ledger.now.held who.now a.now) };
 
-    /// Whether a withdrawal of that one asset alone from the location's account would be made. It takes no memory.
+    /// Whether a withdrawal of that one asset alone from the location's account would be made: the account must have
+    /// the amount and its floor together. It takes no memory.
     fn check_out(&self, ledger: &Ledger, a: &Asset, who: &Location) -> Result<(), MoveFault>
         requires agrees { agrees self.now }
-        ensures checked { result ≡ accepted (check_out (rows self.now) (site self.now) ledger.now.held who.now a.now) };
+        ensures checked { result ≡ accepted (check_out (rows self.now) (site self.now) (floors self.now)
+            ledger.now.held who.now a.now) };
 }

@@ -2,6 +2,7 @@
 ghost use Rattle.std.specs.Prelude.{◌≡◌, is_some};
 ghost use Rattle.ledgers.specs.Ledgers.{is_barred};
 ghost use Rattle.trust_tables.specs.Trust.{row_of};
+ghost use Rattle.transactors.specs.Floors.{no_floors};
 ghost use Rattle.transactors.specs.Checks.{accepted, is_unhandled, rows_of_kind, move_fault, lacks};
 
 use crate::{MoveFault, Transactor};
@@ -25,7 +26,8 @@ fn checked_in(
     ledger: &Ledger,
     a: &Asset,
 ) -> Result<(), MoveFault>
-    ensures { result ≡ accepted (move_fault handled account (λ who. is_barred ledger.now.held who a.now)) }
+    ensures { result ≡ accepted (move_fault handled account
+        (λ who. is_barred ledger.now.held who a.now)) }
 {
     if !handled {
         return Err(MoveFault::NotHandled);
@@ -39,14 +41,15 @@ fn checked_in(
     Ok(())
 }
 
-/// Whether the account would give the asset, which is handled or not.
+/// Whether the account would give the asset, which is handled or not. There are no floors.
 fn checked_out(
     handled: bool,
     account: Option<[u8; 32]>,
     ledger: &Ledger,
     a: &Asset,
 ) -> Result<(), MoveFault>
-    ensures { result ≡ accepted (move_fault handled account (λ who. lacks ledger.now.held who a.now)) }
+    ensures { result ≡ accepted (move_fault handled account
+        (λ who. lacks no_floors ledger.now.held who a.now)) }
 {
     if !handled {
         return Err(MoveFault::NotHandled);
@@ -60,7 +63,7 @@ fn checked_out(
     Ok(())
 }
 
-/// Moves fungible assets: those of the rows of kind `Fungible`.
+/// Moves fungible assets: those of the rows of kind `Fungible`. It has no floors.
 #[derive(Clone, Copy)]
 pub struct Fungibles<'a> {
     /// The chain's rows.
@@ -72,11 +75,14 @@ pub struct Fungibles<'a> {
 impl<'a> Transactor for Fungibles<'a> {
     ghost use Rattle.std.specs.Prelude.{⊤};
     ghost use Rattle.asset_lists.specs.declared.units.Kind.{Kind};
+    ghost use Rattle.transactors.specs.Floors.{no_floors};
     ghost use Rattle.transactors.specs.Checks.{rows_of_kind};
 
     ghost site = { λ t. t.site.now };
 
     ghost rows = { λ t. rows_of_kind Kind.Fungible t.rows.now };
+
+    ghost floors = { λ _. no_floors };
 
     ghost agrees = { λ _. ⊤ };
 
@@ -103,7 +109,7 @@ impl<'a> Transactor for Fungibles<'a> {
     }
 }
 
-/// Moves instances: those of the rows of kind `Class`.
+/// Moves instances: those of the rows of kind `Class`. It has no floors.
 #[derive(Clone, Copy)]
 pub struct Instances<'a> {
     /// The chain's rows.
@@ -115,11 +121,14 @@ pub struct Instances<'a> {
 impl<'a> Transactor for Instances<'a> {
     ghost use Rattle.std.specs.Prelude.{⊤};
     ghost use Rattle.asset_lists.specs.declared.units.Kind.{Kind};
+    ghost use Rattle.transactors.specs.Floors.{no_floors};
     ghost use Rattle.transactors.specs.Checks.{rows_of_kind};
 
     ghost site = { λ t. t.site.now };
 
     ghost rows = { λ t. rows_of_kind Kind.Class t.rows.now };
+
+    ghost floors = { λ _. no_floors };
 
     ghost agrees = { λ _. ⊤ };
 
@@ -156,7 +165,8 @@ fn is_unhandled(answer: &Result<(), MoveFault>) -> bool
     }
 }
 
-/// Moves what the first handles, and else what the second does. Both stand at one chain.
+/// Moves what the first handles, and else what the second does. Both stand at one chain, and have the
+/// same floors.
 #[derive(Clone, Copy)]
 pub struct FirstThat<A, B> {
     /// Which is asked first.
@@ -172,7 +182,10 @@ impl<A: Transactor, B: Transactor> Transactor for FirstThat<A, B> {
 
     ghost rows = { λ t. A.rows t.first ++ B.rows t.second };
 
-    ghost agrees = { λ t. A.agrees t.first × B.agrees t.second × (A.site t.first ≡ B.site t.second) };
+    ghost floors = { λ t. A.floors t.first };
+
+    ghost agrees = { λ t. A.agrees t.first × B.agrees t.second
+        × (A.site t.first ≡ B.site t.second) × (A.floors t.first ≡ B.floors t.second) };
 
     fn account(&self, who: &Location) -> Option<[u8; 32]> {
         self.first.account(who)

@@ -1,5 +1,5 @@
--- The list of what a bundle holds is a holding: each unit once, and no amount of 0; and so are a piece of it, and a list of assets.
-use Rattle.std.proofs.Common.{◌≡◌, ℕ, zero, suc, ◌<◌, ◌≤◌, Bool, true, false, ◌&&◌, ◌||◌, List, [], ◌∷◌, take, Option, Some, None, refl, sym, ap, ◌∙◌, subst, arith, true≢false}
+-- A piece of a list in holding order is a list that an instruction may name; and such a list is in holding order.
+use Rattle.std.proofs.Common.{◌≡◌, ℕ, zero, suc, ◌<◌, Bool, true, false, ◌&&◌, ◌||◌, List, [], ◌∷◌, take, refl, ap, ◌∙◌, arith, true≢false}
 use Rattle.std.specs.Prelude.{nat_eq}
 use Rattle.std.specs.Ordering.{is_lt}
 use Rattle.std.specs.declared.cmp.Ordering.{Ordering}
@@ -9,42 +9,12 @@ use Rattle.std.proofs.lemmas.Bool.{and_parts}
 use Rattle.std.proofs.lemmas.List.{length-take}
 use Rattle.std.specs.List.Sorted.{IsStrictlySortedBy}
 use Rattle.std.specs.Map.{keys_of}
-use Rattle.amounts.specs.Rows.{IsPositive, keys_rising}
-use Rattle.amounts.specs.Amounts.{rows, rows_sorted, rows_positive}
-use Rattle.asset_lists.specs.declared.units.Instance.{Instance}
-use Rattle.asset_lists.specs.Units.{Unit, unit_of, amount_of, unit_cmp, instance_in, amount_in}
+use Rattle.amounts.specs.Rows.{IsPositive}
+use Rattle.asset_lists.specs.Units.{Unit, unit_of, amount_of, unit_cmp}
 use Rattle.asset_lists.specs.UnitLaws.{unit_total}
 use Rattle.asset_lists.specs.declared.units.Asset.{Asset}
 use Rattle.asset_lists.specs.Lists.{IsAssetList, is_rising, has_zero}
-use Rattle.asset_lists.specs.Moves.{occurrences}
-use Rattle.asset_lists.specs.Laws.{once_each}
-use Rattle.asset_bundles.specs.Bundles.{Bundle, fun_of, assets_at, held_assets, rows_of, IsHolding}
-
-instance_back : (o : Option Instance) (n : ℕ) → instance_in (fun_of o n) ≡ o
-instance_back None n = refl
-instance_back (Some instance) n = refl
-
-unit_back : (r : Unit × ℕ) → unit_of (record { id = r.0.0; fun = fun_of r.0.1 r.1 }) ≡ r.0
-unit_back r = ap (λ o. (r.0.0, o)) (instance_back r.0.1 r.1)
-
-keys_back : (rs : List (Unit × ℕ)) → keys_of (rows_of (assets_at rs)) ≡ keys_of rs
-keys_back [] = refl
-keys_back (r ∷ rs) = λ i. unit_back r i ∷ keys_back rs i
-
-some_amount : (o : Option Instance) (n : ℕ) → 0 < n → 0 < amount_in (fun_of o n)
-some_amount None n h = h
-some_amount (Some instance) n h = omega arith
-
-all_positive : (rs : List (Unit × ℕ)) → IsPositive rs → IsPositive (rows_of (assets_at rs))
-all_positive [] positive = tt
-all_positive (r ∷ rs) positive = (some_amount r.0.1 r.1 positive.0, all_positive rs positive.1)
-
-pub held_holding : (b : Bundle) → IsHolding (held_assets b)
-unfolding held_assets
-held_holding b = record {
-  rising = subst (IsStrictlySortedBy unit_cmp) (sym (keys_back (rows b))) (keys_rising unit_cmp (rows b) (rows_sorted b));
-  positive = all_positive (rows b) (rows_positive b);
-}
+use Rattle.asset_bundles.specs.Bundles.{rows_of, IsHolding}
 
 -- ---- a holding as a list
 rises : (xs : List Asset) → IsStrictlySortedBy unit_cmp (keys_of (rows_of xs)) → is_rising xs ≡ true
@@ -59,12 +29,6 @@ above_zero n h = grind (arith, h)
 none_zero : (xs : List Asset) → IsPositive (rows_of xs) → has_zero xs ≡ false
 none_zero [] positive = refl
 none_zero (a ∷ xs) positive = ap (λ b. b || has_zero xs) (above_zero (amount_of a) positive.0) ∙ none_zero xs positive.1
-
-pub holding_once : (xs : List Asset) → IsHolding xs → (u : Unit) → occurrences u xs ≤ 1
-holding_once xs h = once_each xs (rises xs h.rising)
-
-pub holding_no_zero : (xs : List Asset) → IsHolding xs → has_zero xs ≡ false
-holding_no_zero xs h = none_zero xs h.positive
 
 front_rises : (n : ℕ) (xs : List Asset) → is_rising xs ≡ true → is_rising (take n xs) ≡ true
 front_rises zero xs h = refl

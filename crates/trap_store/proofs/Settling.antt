@@ -1,15 +1,13 @@
 -- The running sums after traps came or went, written back into their place.
-use Rattle.std.proofs.Common.{◌≡◌, ℕ, zero, suc, ◌+◌, ◌-◌, ◌^◌, List, [], ◌∷◌, ◌++◌, map, length, take, refl, sym, ap, ◌∙◌, arith}
+use Rattle.std.proofs.Common.{◌≡◌, ℕ, zero, suc, List, [], ◌∷◌, ◌++◌, map, length, take, refl, ap, ◌∙◌, arith}
 use Rattle.std.specs.Prelude.{min}
-use Rattle.amounts.specs.Amounts.{rows}
 use Rattle.asset_lists.specs.declared.units.Asset.{Asset}
 use Rattle.locations.specs.declared.relative.Location.{Location}
 use Rattle.asset_lists.specs.Listed.{Listed}
-use Rattle.asset_bundles.specs.Bundles.{Bundle, rows_of, bundle_of, is_asset, IsHolding}
-use Rattle.asset_bundles.specs.BundleLaws.{rows-holding, kinds-holding}
+use Rattle.asset_bundles.specs.Bundles.{Bundle, is_asset}
 use Rattle.asset_bundles.specs.Books.{most_burned, AreListed}
 use Rattle.trap_store.specs.declared.trap.Trap.{Trap}
-use Rattle.trap_store.specs.Traps.{Store, trapped, with_trapped, traps_of, pieces_of, piece_count}
+use Rattle.trap_store.specs.Traps.{Store, trapped, with_trapped, pieces_of}
 use Rattle.trap_store.specs.Sums.{SumRow, sum_at, keys_in, raised, settled}
 use Rattle.trap_store.specs.Oldest.{IsTaken}
 use Rattle.trap_store.proofs.SumRows.{sums_raised, sums_settled}
@@ -44,20 +42,8 @@ raised_sums rows now rest n store origin goods after len changed listed more sum
     ap (sum_at k) (written (raised goods) n rows now rest len changed)
     ∙ sums_raised rows goods store.traps after listed sums (λ j. ap (trapped j.0 j.1) more ∙ trapped_kept (is_asset j.0 j.1) store origin goods) k
 
--- ---- what a bundle's list makes is what the bundle makes
-pub list_pieces : (number : ℕ) (origin : Location) (goods : Bundle) (xs : List Asset) → IsHolding xs → bundle_of xs ≡ goods
-    → traps_of (piece_count (length xs)) number origin (rows_of xs) ≡ pieces_of number origin goods
-list_pieces number origin goods xs h same =
-    ap (λ n. traps_of (piece_count n) number origin (rows_of xs)) (kinds-holding xs h)
-    ∙ ap (λ rs. traps_of (piece_count (length (rows (bundle_of xs)))) number origin rs) (sym (rows-holding xs h))
-    ∙ ap (pieces_of number origin) same
-
-pub list_count : (goods : Bundle) (xs : List Asset) → IsHolding xs → bundle_of xs ≡ goods → length xs ≡ length (rows goods)
-list_count goods xs h same = kinds-holding xs h ∙ ap (λ b. length (rows b)) same
-
-pub is_trapped : (store : Store) (origin : Location) (goods : Bundle) (more traps : List Trap) (next count : ℕ) → traps ≡ store.traps ++ more → more ≡ pieces_of store.next origin goods
-    → next ≡ min (store.next + piece_count count) (2 ^ 64 - 1) → count ≡ length (rows goods) → record { traps = traps; next = next } ≡ with_trapped store origin goods
-is_trapped store origin goods more traps next count joined pieces number kinds =
+pub is_trapped : (store : Store) (origin : Location) (goods : Bundle) (more traps : List Trap) (next : ℕ) → traps ≡ store.traps ++ more → more ≡ pieces_of store.next origin goods
+    → next ≡ (with_trapped store origin goods).next → record { traps = traps; next = next } ≡ with_trapped store origin goods
+is_trapped store origin goods more traps next joined pieces number =
     let all : traps ≡ (with_trapped store origin goods).traps = joined ∙ ap (λ ts. store.traps ++ ts) pieces in
-    let after : next ≡ (with_trapped store origin goods).next = number ∙ ap (λ n. min (store.next + piece_count n) (2 ^ 64 - 1)) kinds in
-    λ i. record { traps = all i; next = after i }
+    λ i. record { traps = all i; next = number i }

@@ -96,10 +96,9 @@ impl TrapStore {
             (λ _. self.new ≡ self.old) }
     {
         let number = self.next;
-        let assets = goods.list()?;
         let alloc = *self.sums.allocator();
-        let (traps, next) = in_pieces(alloc, assets.as_slice(), number, origin)?;
-        make_rows(&mut self.sums, assets.as_slice())?;
+        let (traps, next) = in_pieces(alloc, goods, number, origin)?;
+        make_rows(&mut self.sums, goods.items())?;
         self.traps.append(traps)?;
         raise_all(self.sums.as_mut_slice(), goods);
         self.next = next;

@@ -1,7 +1,7 @@
 -- Decoding from left to right. That it accepts just the messages, each refusal with its cause, is the law of messages.
 use Rattle.std.specs.Prelude.{ℕ, ◌==◌, nat_lt, List, [], ◌∷◌, length, Option, Some, None, Result, Ok, Err, if◌then◌else◌}
-use Rattle.asset_wire.specs.declared.version.Version.{Version}
-use Rattle.asset_wire.specs.declared.version.Version.TheVariants.{V3, V4}
+use Rattle.message_parts.specs.declared.version.Version.{Version}
+use Rattle.message_parts.specs.declared.version.Version.TheVariants.{V3, V4}
 use Rattle.xcm_program.specs.declared.instruction.Instruction.{Instruction}
 use Rattle.xcm_program.specs.Conversions.{is_convertible}
 use Rattle.program_wire.specs.Reading.{readable_at}

@@ -1,7 +1,7 @@
 //! From bytes to programs.
 
 ghost use Rattle.std.specs.Prelude.{◌≡◌, ◌⊎◌, Err, MatchResult};
-ghost use Rattle.asset_wire.specs.declared.version.Version.{Version};
+ghost use Rattle.message_parts.specs.declared.version.Version.{Version};
 ghost use Rattle.versioned_xcm.specs.Reading.{program_in, message_of};
 ghost use Rattle.versioned_xcm.specs.Message.{IsDecoded, IsCause};
 

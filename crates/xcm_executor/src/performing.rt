@@ -6,7 +6,6 @@ ghost use Rattle.exec_rules.specs.Readiness.{IsReady};
 ghost use Rattle.exec_rules.specs.Stopping.{spills};
 
 use crate::taking::no_program;
-use asset_lists::Assets;
 use exec_assets::{
     burn_asset, buy_execution, claim_asset, deposit_asset, exchange_asset, expect_asset,
     receive_teleported_asset, refund_surplus, reserve_asset_deposited, transfer_asset,
@@ -117,9 +116,7 @@ pub(crate) fn perform<H: Host>(
             max_response_weight,
         } => subscribe_version(r, h, *query_id, *max_response_weight),
         Instruction::UnsubscribeVersion => unsubscribe_version(r, h),
-        Instruction::BurnAsset { assets } => {
-            burn_asset(r, h, mem::replace(assets, Assets::empty(alloc)))
-        }
+        Instruction::BurnAsset { assets } => burn_asset(r, h, assets),
         Instruction::ExpectAsset { assets } => expect_asset(r, h, assets),
         Instruction::ExpectOrigin { origin } => expect_origin(r, h, origin),
         Instruction::ExpectError { error } => expect_error(r, h, error),

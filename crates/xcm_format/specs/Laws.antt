@@ -3,7 +3,7 @@
 use Rattle.std.proofs.Common.{◌≡◌, ℕ, ◌<◌, ◌^◌, List, ◌++◌, map, Option, Some, None, refl, sym, ap, ◌∙◌, zero, suc, ◌≤◌, Bool, true, false, ◌&&◌, [], ◌∷◌, arith}
 use Rattle.std.proofs.lemmas.List.{length-map}
 use Rattle.std.specs.Option.{option_map}
-use Rattle.asset_wire.specs.declared.version.Version.{Version}
+use Rattle.message_parts.specs.declared.version.Version.{Version}
 use Rattle.xcm_program.specs.declared.instruction.Instruction.{Instruction, out-Instruction, roll-Instruction, fold_out-Instruction, map-Instruction}
 use Rattle.xcm_program.specs.declared.instruction.Instruction.TheOpen.{Instruction-F}
 use Rattle.xcm_program.specs.Measure.{inner, with_inner, inner_of, deep_count}
@@ -20,7 +20,7 @@ use Rattle.asset_lists.specs.declared.filters.Wild.{Wild}
 use Rattle.asset_lists.specs.declared.filters.Wild.TheVariants.{All, AllOf, AllCounted, AllOfCounted}
 use Rattle.asset_lists.specs.declared.filters.Filter.{Filter}
 use Rattle.asset_lists.specs.declared.filters.Filter.TheVariants as filters
-use Rattle.asset_wire.specs.declared.version.Version.TheVariants.{V3, V4}
+use Rattle.message_parts.specs.declared.version.Version.TheVariants.{V3, V4}
 use Rattle.asset_wire.specs.Spelling.{IsNamed, AreNamed, IsWildNamed, IsFilterNamed}
 use Rattle.message_parts.specs.declared.query.Response.{Response}
 use Rattle.message_parts.specs.declared.query.Response.TheVariants as responses

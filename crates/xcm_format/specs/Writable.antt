@@ -2,7 +2,7 @@
 -- version 3 may be 32 bytes; a fungible asset has an amount above 0.
 use Rattle.std.specs.Prelude.{◌<◌, ◌^◌, List, ⊤}
 use Rattle.std.specs.List.{AllByRecursion}
-use Rattle.asset_wire.specs.declared.version.Version.{Version}
+use Rattle.message_parts.specs.declared.version.Version.{Version}
 use Rattle.asset_wire.specs.Spelling.{IsNamed, AreNamed, IsFilterNamed}
 use Rattle.message_parts.specs.declared.query.Response.{Response}
 use Rattle.message_parts.specs.declared.query.Response.TheVariants as responses

@@ -13,7 +13,7 @@ pub use instruction::{Instruction, Program};
 pub use measure::{deep_count, deep_count_one, depth, depth_one, sends};
 pub use message_parts::{
     BoundedVec, ErrorBytes, LongBytes, MaybeError, OpenQuery, OriginKind, PalletInfo, PalletInfos,
-    PalletName, QueryInfo, Response, Weight, WeightLimit, XcmError,
+    PalletName, QueryInfo, Response, Version, Weight, WeightLimit, XcmError,
 };
 pub use nested::{inner, kept, set_program};
 pub use outcome::{Outcome, OutcomeError};

@@ -24,8 +24,8 @@ use Rattle.asset_lists.specs.declared.filters.Filter.{Filter}
 use Rattle.asset_lists.specs.declared.filters.Filter.TheVariants as filters
 use Rattle.asset_lists.specs.Lists.{IsAssetList, is_asset_list}
 use Rattle.asset_lists.specs.Laws.{tests_lists}
-use Rattle.asset_wire.specs.declared.version.Version.{Version}
-use Rattle.asset_wire.specs.declared.version.Version.TheVariants.{V3, V4}
+use Rattle.message_parts.specs.declared.version.Version.{Version}
+use Rattle.message_parts.specs.declared.version.Version.TheVariants.{V3, V4}
 use Rattle.asset_wire.specs.Spelling.{asset_id, FitsId, instance, FitsInstance, fun, FitsAmount, FitsFun, asset, FitsAsset, assets, FitsAssets, wild_fun, wild, FitsWild, filter, FitsFilter}
 use Rattle.asset_wire.specs.Reading.{asset_id_forms, asset_id_at, instance_forms, instance_at, amount_at, fun_forms, fun_at, asset_at, asset_count_at, assets_at, wild_fun_forms, wild_fun_at, wild_forms, wild_at, filter_forms, filter_at}
 

@@ -12,8 +12,8 @@ use Rattle.asset_lists.specs.declared.filters.Wild.TheVariants.{All, AllOf, AllC
 use Rattle.asset_lists.specs.declared.filters.Filter.{Filter}
 use Rattle.asset_lists.specs.declared.filters.Filter.TheVariants as filters
 use Rattle.asset_lists.specs.Units.{amount_in}
-use Rattle.asset_wire.specs.declared.version.Version.{Version}
-use Rattle.asset_wire.specs.declared.version.Version.TheVariants.{V3, V4}
+use Rattle.message_parts.specs.declared.version.Version.{Version}
+use Rattle.message_parts.specs.declared.version.Version.TheVariants.{V3, V4}
 use Rattle.asset_wire.specs.Spelling.{FitsId, FitsFun, FitsAsset, FitsAssets, FitsWild, FitsFilter, IsNamed, IsWritableAsset, AreNamed, IsWildNamed, IsFilterNamed}
 
 pub id_named : (v : Version) (id : AssetId) → FitsId v id → IsNamed v id

@@ -11,7 +11,7 @@ use Rattle.scale_codec.specs.Laws.Schemes.{◌&◌, AllFormed, chosen_takes, for
 use Rattle.location_wire.specs.Spelling.{network, junction, junctions, location, FitsLocation}
 use Rattle.location_wire.specs.Reading.{location_at}
 use Rattle.location_wire.specs.Laws.FieldLaws.{network_reads, junction_reads, junctions_reads, location_reads}
-use Rattle.asset_wire.specs.declared.version.Version.{Version}
+use Rattle.message_parts.specs.declared.version.Version.{Version}
 use Rattle.asset_wire.specs.Spelling.{asset, assets, filter}
 use Rattle.asset_wire.specs.Laws.FieldLaws.{asset_reads, assets_reads, filter_reads}
 use Rattle.scale_codec.specs.declared.faults.WireFault.{WireFault}

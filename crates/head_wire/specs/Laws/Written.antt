@@ -1,5 +1,5 @@
 -- An instruction that has a spelling in a version can be written in it.
-use Rattle.asset_wire.specs.declared.version.Version.{Version}
+use Rattle.message_parts.specs.declared.version.Version.{Version}
 use Rattle.asset_wire.specs.Laws.Written.{asset_writable, assets_named, filter_named}
 use Rattle.part_wire.specs.Laws.Written.{response_named}
 use Rattle.xcm_program.specs.declared.instruction.Instruction.TheOpen.{Instruction-F}

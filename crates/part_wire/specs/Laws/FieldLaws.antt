@@ -10,7 +10,7 @@ use Rattle.scale_codec.specs.Laws.Schemes.{◌&◌, AllFormed, reads_fits, at_mo
 use Rattle.location_wire.specs.Spelling.{location, FitsLocation}
 use Rattle.location_wire.specs.Reading.{location_at}
 use Rattle.location_wire.specs.Laws.FieldLaws.{location_reads}
-use Rattle.asset_wire.specs.declared.version.Version.{Version}
+use Rattle.message_parts.specs.declared.version.Version.{Version}
 use Rattle.asset_wire.specs.Spelling.{assets}
 use Rattle.asset_wire.specs.Laws.FieldLaws.{assets_reads}
 use Rattle.message_parts.specs.declared.weight.WeightLimit.{WeightLimit}

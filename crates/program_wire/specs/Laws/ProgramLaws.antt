@@ -8,7 +8,7 @@ use Rattle.scale_codec.specs.Spelling.{compact, joined, IsPrefixFree}
 use Rattle.scale_codec.specs.Reading.{◌>>=◌, Reads, below_at, repeated}
 use Rattle.scale_codec.specs.Laws.Steps.{bind_some, same_some, unless}
 use Rattle.scale_codec.specs.Laws.Compact.{c32}
-use Rattle.asset_wire.specs.declared.version.Version.{Version}
+use Rattle.message_parts.specs.declared.version.Version.{Version}
 use Rattle.xcm_program.specs.declared.instruction.Instruction.{Instruction, out-Instruction, roll-Instruction, out-roll-Instruction, roll-out-Instruction}
 use Rattle.xcm_program.specs.Measure.{inner, inner_of, with_inner, greatest, deep_count_one, deep_count, depth_one, depth}
 use Rattle.xcm_format.specs.Programs.{head, FitsHead, behind, instruction_spelling, program_spelling, FitsInstruction, FitsProgram}

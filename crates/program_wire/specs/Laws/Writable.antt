@@ -1,7 +1,7 @@
 -- What is read can be written.
 use Rattle.std.proofs.Common.{◌≡◌, true, List, ◌∷◌, Option, Some, subst, arith}
 use Rattle.std.specs.List.{AllByRecursion}
-use Rattle.asset_wire.specs.declared.version.Version.{Version}
+use Rattle.message_parts.specs.declared.version.Version.{Version}
 use Rattle.xcm_program.specs.declared.instruction.Instruction.{Instruction, out-Instruction}
 use Rattle.xcm_program.specs.Measure.{inner_of}
 use Rattle.xcm_format.specs.Programs.{FitsInstruction, FitsProgram}

@@ -5,7 +5,7 @@ use Rattle.std.specs.List.{AllByRecursion}
 use Rattle.scale_codec.specs.Spelling.{joined}
 use Rattle.scale_codec.specs.Answers.{Drafted, Puts}
 use Rattle.scale_codec.specs.Laws.WriteLoops.{wrote_all, fits_all}
-use Rattle.asset_wire.specs.declared.version.Version.{Version}
+use Rattle.message_parts.specs.declared.version.Version.{Version}
 use Rattle.xcm_program.specs.declared.instruction.Instruction.{Instruction, out-Instruction}
 use Rattle.xcm_program.specs.Measure.{inner_of, deep_count_one, deep_count}
 use Rattle.xcm_program.specs.Everywhere.{AllInside}

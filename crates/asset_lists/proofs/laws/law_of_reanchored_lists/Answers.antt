@@ -1,4 +1,4 @@
-use Rattle.asset_lists.specs.Laws.{all_named, reanchored_list_is, no_reanchored_list}
+use Rattle.asset_lists.specs.Laws.{all_named, reanchored_list_is, reanchored_list_moves, no_reanchored_list}
 use Rattle.asset_lists.proofs.laws.law_of_reanchored_lists.Goals as goal
 
 pub returns-clause-list : goal.returns-clause-list
@@ -9,6 +9,9 @@ returns-clause-named c = all_named
 
 pub returns-clause-computed : goal.returns-clause-computed
 returns-clause-computed c = reanchored_list_is
+
+pub returns-clause-moved : goal.returns-clause-moved
+returns-clause-moved c = reanchored_list_moves
 
 pub returns-clause-refused : goal.returns-clause-refused
 returns-clause-refused c = no_reanchored_list

@@ -1,7 +1,7 @@
 use Rattle.std.proofs.Common.{ap}
 use Rattle.exec_base.specs.Part.{ChainPart}
 use Rattle.exec_base.specs.Host.{fee_kept}
-use Rattle.chain_state_rows.proofs.Known.{all_there}
+use Rattle.chain_state.specs.Known.{all_there}
 use Rattle.chain_state_rows.proofs.host_rows.weight_and_fees_are_paid_and_settled.Goals as goal
 
 pub charge-requires-2 : goal.charge-requires-2

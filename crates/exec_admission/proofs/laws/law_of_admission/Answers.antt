@@ -4,7 +4,7 @@ use Rattle.exec_rules.specs.Instructions.{xcm}
 use Rattle.exec_admission.specs.Admission.{admitted}
 use Rattle.exec_admission.specs.Execution.{first_stage, last_machine}
 use Rattle.exec_admission.proofs.Weighed.{admitted_weighed}
-use Rattle.exec_admission.proofs.Ending.{first_balanced, refused_changes_nothing, ends_settled, ends_trapped, ends_untrapped}
+use Rattle.exec_admission.proofs.Ending.{first_balanced, last_accounts, refused_changes_nothing, ends_settled, ends_trapped, ends_untrapped}
 use Rattle.exec_admission.proofs.Ready.{admitted_forwardable, first_steady, first_ahead}
 use Rattle.exec_admission.proofs.Resting.{finished_rests}
 use Rattle.exec_admission.proofs.laws.law_of_admission.Goals as goal
@@ -18,6 +18,12 @@ returns-clause-balanced c = first_balanced
 pub returns-clause-accounts : goal.returns-clause-accounts
 returns-clause-accounts c = λ rules origin a p g w r.
     c.law_of_runs.ensures.accounts xcm a.weight (first_stage rules origin a p) g c.law_of_rules.ensures.steers r (first_balanced rules origin a p w)
+
+pub returns-clause-at_end : goal.returns-clause-at_end
+returns-clause-at_end c = λ rules origin a p w.
+    let g = first_stage rules origin a p in
+    last_accounts a.weight (last_machine rules origin a p) c.law_of_rules.ensures.steers
+    (c.law_of_runs.ensures.accounts xcm a.weight g (run xcm g) c.law_of_rules.ensures.steers (still_to_run g, refl) (first_balanced rules origin a p w))
 
 pub returns-clause-forwardable : goal.returns-clause-forwardable
 returns-clause-forwardable c = λ rules origin credit queries program a f e. admitted_forwardable rules origin credit queries program f a e

@@ -1,35 +1,8 @@
+use Rattle.chain_state.specs.Known.{all_there}
 use Rattle.exec_function_rows.proofs.program_rows.what_a_program_burns_is_booked.Goals as goal
 
 pub invariant_of-host : goal.invariant_of-host
-invariant_of-host g c =
-    let s = c.executed.new.host.chain in
-    record {
-      set_up = s.set_up;
-      floors = s.floors;
-      ledger_lists = s.ledger_lists;
-      book_lists = s.book_lists;
-      rates = s.rates;
-      payable = s.payable;
-      fee_rows = s.fee_rows;
-      slot_rows = s.slot_rows;
-      spare_lines = s.spare_lines;
-      room = s.room;
-      checked = s.checked;
-    }
+invariant_of-host g c = all_there c.executed.new.host.chain
 
 pub invariant_of-host-2 : goal.invariant_of-host-2
-invariant_of-host-2 g c =
-    let s = c.executed.new.host.chain in
-    record {
-      set_up = s.set_up;
-      floors = s.floors;
-      ledger_lists = s.ledger_lists;
-      book_lists = s.book_lists;
-      rates = s.rates;
-      payable = s.payable;
-      fee_rows = s.fee_rows;
-      slot_rows = s.slot_rows;
-      spare_lines = s.spare_lines;
-      room = s.room;
-      checked = s.checked;
-    }
+invariant_of-host-2 g c = all_there c.executed.new.host.chain

@@ -1,4 +1,5 @@
-use Rattle.std.proofs.Common.{◌≡◌, [], ◌∷◌, ◌++◌, length, length-append, take, slice_set, arith}
+use Rattle.std.proofs.Common.{◌≡◌, [], ◌∷◌, ◌++◌, length, length-append, slice_set, arith}
+use Rattle.std.specs.List.{refill}
 use Rattle.std.proofs.lemmas.Result.{err_from_is_err_and}
 use Rattle.scale_codec.specs.Laws.Loops.{goes_on, fails, ends}
 use Rattle.locations.specs.declared.grammar.Junction.TheVariants.{Parachain}
@@ -18,9 +19,9 @@ pub loop-i-preserved : goal.loop-i-preserved
 loop-i-preserved c =
     let pushed : c.push.new.self ≡ c.loop-i.junctions ++ Parachain 0 ∷ [] = rw c.unwrap.ensures at c.push.ensures.ok in
     let slot = c.fill_junction.new.slot in
-    let written : take (length c.push.new.self) (slice_set c.places.result.now c.loop-i.i slot) ≡ c.loop-i.junctions ++ slot ∷ [] =
-    rw (pushed, ← c.loop-i.invariant.number)
-    (written_last c.loop-i.junctions (Parachain 0) slot c.places.result.now (rw pushed at c.places.ensures.value)) in
+    let written : refill (length c.push.new.self) c.push.new.self (slice_set c.places.result.now c.loop-i.i slot) ≡ c.loop-i.junctions ++ slot ∷ [] =
+    rw (c.places.ensures.value, pushed, ← c.loop-i.invariant.number)
+    (written_last c.loop-i.junctions (Parachain 0) slot) in
     record {
       read = rw written (goes_on junction_at c.loop-i.junctions c.args.count c.loop-i.i c.loop-i.c _ slot _ c.loop-i-test.true c.in_ok-fill_junction.ensures c.loop-i.invariant.read);
       number = rw written (omega (arith, length-append c.loop-i.junctions (slot ∷ []), c.loop-i.invariant.number));

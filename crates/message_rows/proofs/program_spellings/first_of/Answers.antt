@@ -1,5 +1,5 @@
 use Rattle.std.proofs.Common.{rules}
-use Rattle.asset_wire.specs.declared.version.Version.TheVariants.{V4}
+use Rattle.message_parts.specs.declared.version.Version.TheVariants.{V4}
 use Rattle.xcm_program.specs.Conversions.{HasAmounts}
 use Rattle.xcm_format.specs.Writable.{IsNamedOne}
 use Rattle.program_wire.specs.Laws.Writable.{fits_named, fits_amounts}

@@ -1,18 +1,21 @@
 use Rattle.std.proofs.Common.{◌≡◌, ◌∙◌, length, take, sym, ap, arith}
+use Rattle.std.specs.Prelude.{◌||◌}
 use Rattle.document_forms.specs.declared.fault.Section.TheVariants.{Accounts}
 use Rattle.document_forms.specs.Forms.{next_index}
 use Rattle.network_config.specs.References.{flaw_at, place_in, account_flaws}
-use Rattle.network_config.specs.Holdings.{flaws_beside, row_number}
+use Rattle.network_config.specs.Holdings.{is_held, is_of_holding, flaws_beside, row_number, listed_number}
 use Rattle.network_config.proofs.Checking.{checked, refused, all_checked}
 use Rattle.network_config.proofs.Holding.{flaws_same, held_more, listed_more, listed_of, stops_with}
+use Rattle.network_config.proofs.RowTables.{number_same}
 use Rattle.network_config.proofs.holdings.check_accounts.Goals as goal
 
 pub returns-in-Err : goal.returns-in-Err
 returns-in-Err c =
     let xs = c.args.accounts.now in
     let k = c.loop-balance.balance-index in
-    let same : flaws_beside (row_number c.args.rows.now c.balance-item.result) c.loop-balance.held.keys c.balance-item.result ≡ account_flaws c.args.rows.now (take k xs) c.balance-item.result =
-    flaws_same c.args.rows.now (take k xs) c.balance-item.result c.loop-balance.held.keys c.loop-balance.invariant.listed c.loop-balance.invariant.held in
+    let same : flaws_beside (listed_number c.in_ok-table.table c.balance-item.result) c.loop-balance.held.keys c.balance-item.result ≡ account_flaws c.args.rows.now (take k xs) c.balance-item.result =
+    ap (λ n. flaws_beside n c.loop-balance.held.keys c.balance-item.result) (number_same c.in_ok-table.table c.args.rows.now c.balance-item.result c.in_ok-table.ensures)
+    ∙ flaws_same c.args.rows.now (take k xs) c.balance-item.result c.loop-balance.held.keys c.loop-balance.invariant.listed c.loop-balance.invariant.held in
     stops_with c.in-Err.stop _ _ c.in-Err.ensures.flaws (λ fault e.
     c.loop-balance.invariant.entries
     ∙ refused (account_flaws c.args.rows.now) c.args.chain Accounts xs k c.loop-balance.index c.balance-item.result fault c.loop-balance-test.true c.balance-item.is
@@ -22,16 +25,21 @@ pub loop-balance-preserved : goal.loop-balance-preserved
 loop-balance-preserved c =
     let xs = c.args.accounts.now in
     let k = c.loop-balance.balance-index in
+    let keys = c.loop-balance.held.keys in
     let index : c.saturating_add-index.result ≡ next_index c.loop-balance.index = c.saturating_add-index.ensures in
-    let same : flaws_beside (row_number c.args.rows.now c.balance-item.result) c.loop-balance.held.keys c.balance-item.result ≡ account_flaws c.args.rows.now (take k xs) c.balance-item.result =
-    flaws_same c.args.rows.now (take k xs) c.balance-item.result c.loop-balance.held.keys c.loop-balance.invariant.listed c.loop-balance.invariant.held in
+    let number : listed_number c.in_ok-table.table c.balance-item.result ≡ row_number c.args.rows.now c.balance-item.result =
+    number_same c.in_ok-table.table c.args.rows.now c.balance-item.result c.in_ok-table.ensures in
+    let same : flaws_beside (row_number c.args.rows.now c.balance-item.result) keys c.balance-item.result ≡ account_flaws c.args.rows.now (take k xs) c.balance-item.result =
+    flaws_same c.args.rows.now (take k xs) c.balance-item.result keys c.loop-balance.invariant.listed c.loop-balance.invariant.held in
+    let sound = ap (λ n. flaw_at (place_in c.args.chain Accounts c.loop-balance.index) (flaws_beside n keys c.balance-item.result)) (sym number) ∙ c.in-Ok.ensures.flaws in
     record {
       entries = rw index (c.loop-balance.invariant.entries
           ∙ checked (account_flaws c.args.rows.now) c.args.chain Accounts xs k c.loop-balance.index c.balance-item.result c.loop-balance-test.true c.balance-item.is
-          (ap (flaw_at (place_in c.args.chain Accounts c.loop-balance.index)) (sym same) ∙ c.in-Ok.ensures.flaws));
+          (ap (flaw_at (place_in c.args.chain Accounts c.loop-balance.index)) (sym same) ∙ sound));
       listed = listed_more c.args.rows.now xs k c.balance-item.result c.loop-balance-test.true c.balance-item.is c.loop-balance.invariant.listed
-          (listed_of c.args.rows.now (place_in c.args.chain Accounts c.loop-balance.index) c.loop-balance.held.keys c.balance-item.result c.in-Ok.ensures.flaws);
-      held = held_more c.args.rows.now c.loop-balance.held.keys c.add_account.new.held.keys xs k c.balance-item.result c.loop-balance-test.true c.balance-item.is c.in-Ok.ensures.added c.loop-balance.invariant.held;
+          (listed_of c.args.rows.now (place_in c.args.chain Accounts c.loop-balance.index) keys c.balance-item.result sound);
+      held = held_more c.args.rows.now keys c.add_account.new.held.keys xs k c.balance-item.result c.loop-balance-test.true c.balance-item.is
+          (λ q. c.in-Ok.ensures.added q ∙ ap (λ n. is_of_holding n c.balance-item.result q || is_held keys q) number) c.loop-balance.invariant.held;
     }
 
 pub returns : goal.returns

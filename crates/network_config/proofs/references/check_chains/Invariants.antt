@@ -4,4 +4,4 @@ use Rattle.network_config.proofs.references.check_chains.Given as goal
 
 abbrev pub invariant-loop-at : goal.invariant-loop-at
 invariant-loop-at l =
-    chains_references l.chains l.fn.network 0 [] l.chains ≡ chains_references l.chains l.fn.network l.index (take l.at l.chains) (drop l.at l.chains)
+    chains_references l.fn.chains l.fn.network 0 [] l.fn.chains ≡ chains_references l.fn.chains l.fn.network l.index (take l.at l.fn.chains) (drop l.at l.fn.chains)

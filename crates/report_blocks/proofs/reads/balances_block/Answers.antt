@@ -5,4 +5,4 @@ use Rattle.report_blocks.proofs.Reading.{balances_are}
 use Rattle.report_blocks.proofs.reads.balances_block.Goals as goal
 
 pub returns : goal.returns
-returns c = subst (λ t. IfOk c.all_balances.result (λ text. string_bytes text ≡ t)) (balances_are part_of c.chains.result.now (world_of c.args.net.now) c.chains.ensures) c.all_balances.ensures
+returns c = subst (λ t. IfOk c.balances_text.result (λ text. string_bytes text ≡ t)) (balances_are part_of c.chains.result.now (world_of c.args.net.now) c.chains.ensures) c.balances_text.ensures

@@ -5,4 +5,4 @@ use Rattle.report_blocks.proofs.Reading.{traps_are}
 use Rattle.report_blocks.proofs.reads.traps_block.Goals as goal
 
 pub returns : goal.returns
-returns c = subst (λ t. IfOk c.all_traps.result (λ text. string_bytes text ≡ t)) (traps_are part_of c.chains.result.now (world_of c.args.net.now) c.chains.ensures) c.all_traps.ensures
+returns c = subst (λ t. IfOk c.traps_text.result (λ text. string_bytes text ≡ t)) (traps_are part_of c.chains.result.now (world_of c.args.net.now) c.chains.ensures) c.traps_text.ensures

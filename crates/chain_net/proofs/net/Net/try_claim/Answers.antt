@@ -79,18 +79,18 @@ returns-then-not-is_claim-clause-step c =
     ∙ ap (λ acted. record { answer = StepResult.NotAClaim; trace = told_at acted w; world = w }) (sym c.requires.idle)
 
 pub invariant_of-self-clause-ruled : goal.invariant_of-self-clause-ruled
-invariant_of-self-clause-ruled c = c.args.self.now.ruled ∙ sym (set_many c.args.self.now.chains.items c.in-Some.sender c.post_claim.new.self)
+invariant_of-self-clause-ruled c = c.args.self.now.ruled ∙ sym (set_many c.args.self.now.chains.items c.in-Some.sender c.send.new.self)
 
 pub invariant_of-self-clause-named : goal.invariant_of-self-clause-named
 invariant_of-self-clause-named c =
     let xs = c.args.self.now.chains.items in
     let p = part_of c.index_mut.result.now in
     let o = channel_to c.args.to p.channels in
-    set_names xs c.in-Some.sender c.index_mut.result.now c.post_claim.new.self (at_place xs c.in-Some.sender c.index_mut.result.now c.index_mut.ensures.value c.in-Some.ensures.there)
-    (answer_chain (channel_refusal o true c.in-Ok.program) (option_map_or (λ (q : Outgoing). q.next) o 0) c.args.to c.in-Ok.program p (part_of c.post_claim.new.self) c.post_claim.result c.post_claim.ensures.step) ∙ c.args.self.now.named
+    set_names xs c.in-Some.sender c.index_mut.result.now c.send.new.self (at_place xs c.in-Some.sender c.index_mut.result.now c.index_mut.ensures.value c.in-Some.ensures.there)
+    (answer_chain (channel_refusal o true c.in-Ok.program) (option_map_or (λ (q : Outgoing). q.next) o 0) c.args.to c.in-Ok.program p (part_of c.send.new.self) c.send.result c.send.ensures.step) ∙ c.args.self.now.named
 
-pub returns-in-Ok-post_claim-clause-step : goal.returns-in-Ok-post_claim-clause-step
-returns-in-Ok-post_claim-clause-step c =
+pub returns-in-Ok-send-clause-step : goal.returns-in-Ok-send-clause-step
+returns-in-Ok-send-clause-step c =
     let rs = c.args.self.now.rules.items in
     let xs = c.args.self.now.chains.items in
     let i = c.in-Some.sender in
@@ -104,20 +104,20 @@ returns-in-Ok-post_claim-clause-step c =
     let some = some_of c.in-Some-waits_for.field-0 o c.in-Some-waits_for.ensures in
     let at = at_place xs i c.index_mut.result.now c.index_mut.ensures.value c.in-Some.ensures.there in
     let same = same_seen (slice_get xs i) c.index.result.now c.index_mut.result.now first at in
-    let told = subst (λ (t : ChainState). channel_refusal (channel_to c.args.to (part_of t).channels) true c.in-Ok.program ≡ None) (sym same) c.in-Ok-post_claim.ensures.step.0 in
-    let number = subst (λ (t : ChainState). c.in-Ok-post_claim.number ≡ option_map_or (λ (q : Outgoing). q.next) (channel_to c.args.to (part_of t).channels) 0) (sym same) c.in-Ok-post_claim.ensures.step.1 in
-    let part = subst (λ (t : ChainState). part_of c.post_claim.new.self ≡ posted c.args.to c.in-Ok.program (part_of t)) (sym same) c.in-Ok-post_claim.ensures.step.2 in
-    let new_world = changed_world rs xs i rule.0 c.index.result.now c.post_claim.new.self (posted c.args.to c.in-Ok.program (part_of c.index.result.now)) rule.1 part in
-    on ∙ on_posted w i s c.args.to c.args.bytes.now o c.in-Ok.program c.in-Ok-post_claim.number some (read_is c.in-Ok.program (message_of c.args.bytes.now) c.in-Ok.ensures.read) (sym c.if-not-is_claim.ensures) told number
-    ∙ ap (λ v. record { answer = StepResult.Sent c.in-Ok-post_claim.number; trace = []; world = v }) (sym new_world)
-    ∙ ap (λ acted. record { answer = StepResult.Sent c.in-Ok-post_claim.number; trace = told_at acted (world_in rs (slice_set xs i c.post_claim.new.self)); world = world_in rs (slice_set xs i c.post_claim.new.self) }) (sym c.requires.idle)
+    let told = subst (λ (t : ChainState). channel_refusal (channel_to c.args.to (part_of t).channels) true c.in-Ok.program ≡ None) (sym same) c.in-Ok-send.ensures.step.0 in
+    let number = subst (λ (t : ChainState). c.in-Ok-send.number ≡ option_map_or (λ (q : Outgoing). q.next) (channel_to c.args.to (part_of t).channels) 0) (sym same) c.in-Ok-send.ensures.step.1 in
+    let part = subst (λ (t : ChainState). part_of c.send.new.self ≡ posted c.args.to c.in-Ok.program (part_of t)) (sym same) c.in-Ok-send.ensures.step.2 in
+    let new_world = changed_world rs xs i rule.0 c.index.result.now c.send.new.self (posted c.args.to c.in-Ok.program (part_of c.index.result.now)) rule.1 part in
+    on ∙ on_posted w i s c.args.to c.args.bytes.now o c.in-Ok.program c.in-Ok-send.number some (read_is c.in-Ok.program (message_of c.args.bytes.now) c.in-Ok.ensures.read) (sym c.if-not-is_claim.ensures) told number
+    ∙ ap (λ v. record { answer = StepResult.Sent c.in-Ok-send.number; trace = []; world = v }) (sym new_world)
+    ∙ ap (λ acted. record { answer = StepResult.Sent c.in-Ok-send.number; trace = told_at acted (world_in rs (slice_set xs i c.send.new.self)); world = world_in rs (slice_set xs i c.send.new.self) }) (sym c.requires.idle)
 
-pub returns-in-Ok-post_claim-clause-between : goal.returns-in-Ok-post_claim-clause-between
-returns-in-Ok-post_claim-clause-between c =
+pub returns-in-Ok-send-clause-between : goal.returns-in-Ok-send-clause-between
+returns-in-Ok-send-clause-between c =
     let xs = c.args.self.now.chains.items in
     let at = at_place xs c.in-Some.sender c.index_mut.result.now c.index_mut.ensures.value c.in-Some.ensures.there in
-    set_between xs c.in-Some.sender c.index_mut.result.now c.post_claim.new.self at c.requires.between
-    (subst IsBetweenSteps (sym c.in-Ok-post_claim.ensures.step.2) (between_posted c.args.to c.in-Ok.program (part_of c.index_mut.result.now) (c.requires.between c.in-Some.sender c.index_mut.result.now at)))
+    set_between xs c.in-Some.sender c.index_mut.result.now c.send.new.self at c.requires.between
+    (subst IsBetweenSteps (sym c.in-Ok-send.ensures.step.2) (between_posted c.args.to c.in-Ok.program (part_of c.index_mut.result.now) (c.requires.between c.in-Some.sender c.index_mut.result.now at)))
 
 pub returns-in-Err-Xcm-clause-step : goal.returns-in-Err-Xcm-clause-step
 returns-in-Err-Xcm-clause-step c =
@@ -135,20 +135,20 @@ returns-in-Err-Xcm-clause-step c =
     let at = at_place xs i c.index_mut.result.now c.index_mut.ensures.value c.in-Some.ensures.there in
     let same = same_seen (slice_get xs i) c.index.result.now c.index_mut.result.now first at in
     let q = channel_to c.args.to (part_of c.index_mut.result.now).channels in
-    let refused = xcm_told (channel_refusal q true c.in-Ok.program) (option_map_or (λ (d : Outgoing). d.next) q 0) c.args.to c.in-Ok.program (part_of c.index_mut.result.now) (part_of c.post_claim.new.self) c.post_claim.result c.in-Err-Xcm.field-0 c.in-Err-Xcm.error c.post_claim.ensures.step c.in-Err-Xcm.is c.in-Err-Xcm.field-0-is in
+    let refused = xcm_told (channel_refusal q true c.in-Ok.program) (option_map_or (λ (d : Outgoing). d.next) q 0) c.args.to c.in-Ok.program (part_of c.index_mut.result.now) (part_of c.send.new.self) c.send.result c.in-Err-Xcm.field-0 c.in-Err-Xcm.error c.send.ensures.step c.in-Err-Xcm.is c.in-Err-Xcm.field-0-is in
     let told = subst (λ (t : ChainState). channel_refusal (channel_to c.args.to (part_of t).channels) true c.in-Ok.program ≡ Some c.in-Err-Xcm.error) (sym same) refused.0 in
-    let new_world = same_world rs xs i rule.0 c.index_mut.result.now c.post_claim.new.self rule.1 at refused.1 in
+    let new_world = same_world rs xs i rule.0 c.index_mut.result.now c.send.new.self rule.1 at refused.1 in
     on ∙ on_refused w i s c.args.to c.args.bytes.now o c.in-Ok.program c.in-Err-Xcm.error some (read_is c.in-Ok.program (message_of c.args.bytes.now) c.in-Ok.ensures.read) (sym c.if-not-is_claim.ensures) told
     ∙ ap (λ v. record { answer = StepResult.Unsent c.in-Err-Xcm.error; trace = []; world = v }) (sym new_world)
-    ∙ ap (λ acted. record { answer = StepResult.Unsent c.in-Err-Xcm.error; trace = told_at acted (world_in rs (slice_set xs i c.post_claim.new.self)); world = world_in rs (slice_set xs i c.post_claim.new.self) }) (sym c.requires.idle)
+    ∙ ap (λ acted. record { answer = StepResult.Unsent c.in-Err-Xcm.error; trace = told_at acted (world_in rs (slice_set xs i c.send.new.self)); world = world_in rs (slice_set xs i c.send.new.self) }) (sym c.requires.idle)
 
 pub returns-in-Err-Xcm-clause-between : goal.returns-in-Err-Xcm-clause-between
 returns-in-Err-Xcm-clause-between c =
     let xs = c.args.self.now.chains.items in
     let at = at_place xs c.in-Some.sender c.index_mut.result.now c.index_mut.ensures.value c.in-Some.ensures.there in
     let q = channel_to c.args.to (part_of c.index_mut.result.now).channels in
-    let refused = xcm_told (channel_refusal q true c.in-Ok.program) (option_map_or (λ (d : Outgoing). d.next) q 0) c.args.to c.in-Ok.program (part_of c.index_mut.result.now) (part_of c.post_claim.new.self) c.post_claim.result c.in-Err-Xcm.field-0 c.in-Err-Xcm.error c.post_claim.ensures.step c.in-Err-Xcm.is c.in-Err-Xcm.field-0-is in
-    set_between xs c.in-Some.sender c.index_mut.result.now c.post_claim.new.self at c.requires.between (subst IsBetweenSteps (sym refused.1) (c.requires.between c.in-Some.sender c.index_mut.result.now at))
+    let refused = xcm_told (channel_refusal q true c.in-Ok.program) (option_map_or (λ (d : Outgoing). d.next) q 0) c.args.to c.in-Ok.program (part_of c.index_mut.result.now) (part_of c.send.new.self) c.send.result c.in-Err-Xcm.field-0 c.in-Err-Xcm.error c.send.ensures.step c.in-Err-Xcm.is c.in-Err-Xcm.field-0-is in
+    set_between xs c.in-Some.sender c.index_mut.result.now c.send.new.self at c.requires.between (subst IsBetweenSteps (sym refused.1) (c.requires.between c.in-Some.sender c.index_mut.result.now at))
 
 pub returns-clause-stops : goal.returns-clause-stops
 returns-clause-stops c =
@@ -158,4 +158,4 @@ returns-clause-stops c =
     let rule = something rs i (subst (λ n. i < n) (sym c.args.self.now.ruled) c.in-Some.ensures.there) in
     let at = at_place xs i c.index_mut.result.now c.index_mut.ensures.value c.in-Some.ensures.there in
     let q = channel_to c.args.to (part_of c.index_mut.result.now).channels in
-    same_world rs xs i rule.0 c.index_mut.result.now c.post_claim.new.self rule.1 at (memory_told (channel_refusal q true c.in-Ok.program) (option_map_or (λ (d : Outgoing). d.next) q 0) c.args.to c.in-Ok.program (part_of c.index_mut.result.now) (part_of c.post_claim.new.self) c.post_claim.result c.in-Err-Memory.field-0 c.post_claim.ensures.step c.in-Err-Memory.is c.in-Err-Memory.field-0-is)
+    same_world rs xs i rule.0 c.index_mut.result.now c.send.new.self rule.1 at (memory_told (channel_refusal q true c.in-Ok.program) (option_map_or (λ (d : Outgoing). d.next) q 0) c.args.to c.in-Ok.program (part_of c.index_mut.result.now) (part_of c.send.new.self) c.send.result c.in-Err-Memory.field-0 c.send.ensures.step c.in-Err-Memory.is c.in-Err-Memory.field-0-is)

@@ -10,11 +10,11 @@ use Rattle.chain_queues.specs.Queues as queues
 use Rattle.chain_queues.specs.Queues.{is_spelled_for, push_refusal, pushed}
 use Rattle.exec_base.specs.declared.event.Event.{Event}
 use Rattle.exec_base.specs.Part.{ChainPart}
-use Rattle.exec_base.specs.Sending.{deposit_program, listed_program, number_to}
+use Rattle.exec_base.specs.Sending.{deposit_program, listed_program}
 use Rattle.exec_base.specs.Host.{seen_from, deposit_refusal, deposited, deposit_out_refusal, deposited_out}
 use Rattle.chain_state.specs.PartOf.{part_of}
 use Rattle.chain_state.specs.Sends.{IsTaken}
-use Rattle.chain_state.proofs.First.{both_none, put_back}
+use Rattle.chain_state.proofs.First.{both_none}
 use Rattle.chain_state.proofs.Led.{taken_free, taken_spelled, number_is, sent_is}
 use Rattle.chain_ids.specs.declared.chain.ChainId.{ChainId}
 use Rattle.chain_state.proofs.state.ChainState.deposit_at.Goals as goal
@@ -22,17 +22,15 @@ use Rattle.chain_state.proofs.state.ChainState.deposit_at.Goals as goal
 posted : Cargo → ChainId → List ℕ → ℕ → ChainPart → ChainPart
 posted cargo to bytes n q = record q { channels = pushed to (program_read (message_of bytes)) cargo q.channels; kept_back = q.kept_back ++ Event.Sent q.site.chain to n ∷ [] }
 
-pub returns-in-Err-put_in : goal.returns-in-Err-put_in
+pub put_in_checked-requires : goal.put_in_checked-requires
 unfolding deposit_out_refusal deposit_refusal
-returns-in-Err-put_in c =
+put_in_checked-requires c = record { free = (both_none _ _ c.in-Ok.ensures.ready.1).0 }
+
+pub returns-in-Err-put_in_checked : goal.returns-in-Err-put_in_checked
+returns-in-Err-put_in_checked c =
     let p = part_of c.args.self.now in
-    let dest = c.args.dest.now in
-    let q = record p { kept_back = c.reserve.new.self.items } in
-    let same : q ≡ p = λ i. record p { kept_back = c.reserve.ensures.items i } in
-    record {
-      step = put_back (deposit_refusal q c.args.goods dest) (deposit_out_refusal p c.args.goods dest c.args.xcm.now) c.args.goods (tt {0}) (number_to p dest) (deposited q c.args.goods dest) (deposited_out p c.args.goods dest c.args.xcm.now) p q (part_of c.put_in.new.self) c.in-Err-put_in.refused same
-          (both_none _ _ c.in-Ok.ensures.ready.1).0 c.in-Err-put_in.ensures.step;
-    }
+    let back = c.in-Err-put_in_checked.ensures.step in
+    record { step = (back.0, back.1 ∙ (λ i. record p { kept_back = c.reserve.ensures.items i })) }
 
 pub post-requires-clause-free : goal.post-requires-clause-free
 unfolding deposited
@@ -40,7 +38,7 @@ post-requires-clause-free c =
     let p = part_of c.args.self.now in
     let dest = c.args.dest.now in
     let program = listed_program (λ a. deposit_program a c.args.xcm.now) (seen_from p dest (held_assets c.args.goods)) in
-    ap (λ (x : ChainPart). push_refusal (length c.in-Ok.ready.1.items) (queues.channel_to c.in-Ok.ready.0 x.channels)) c.in_default.ensures.step.2
+    ap (λ (x : ChainPart). push_refusal (length c.in-Ok.ready.1.items) (queues.channel_to c.in-Ok.ready.0 x.channels)) c.in_default.ensures.step
     ∙ taken_free p dest program c.in-Ok.ready.0 c.in-Ok.ready.1.items c.in-Ok.ensures.ready.0
 
 pub post-requires-clause-spelled : goal.post-requires-clause-spelled
@@ -49,7 +47,7 @@ post-requires-clause-spelled c =
     let p = part_of c.args.self.now in
     let dest = c.args.dest.now in
     let program = listed_program (λ a. deposit_program a c.args.xcm.now) (seen_from p dest (held_assets c.args.goods)) in
-    ap (λ (x : ChainPart). is_spelled_for (queues.channel_to c.in-Ok.ready.0 x.channels) c.in-Ok.ready.1.items) c.in_default.ensures.step.2
+    ap (λ (x : ChainPart). is_spelled_for (queues.channel_to c.in-Ok.ready.0 x.channels) c.in-Ok.ready.1.items) c.in_default.ensures.step
     ∙ taken_spelled p dest program c.in-Ok.ready.0 c.in-Ok.ready.1.items c.in-Ok.ensures.ready.0
 
 pub returns : goal.returns
@@ -63,7 +61,7 @@ returns c =
     let taken = c.in-Ok.ensures.ready.0 in
     let d = deposited p c.args.goods dest in
     let there : IsTaken d dest program to bytes = record { channel = taken.channel; found = taken.found; accepted = taken.accepted } in
-    let put = c.in_default.ensures.step.2 in
+    let put = c.in_default.ensures.step in
     let number : option_map (λ (o : Outgoing). o.next) (queues.channel_to to p.channels) ≡ Some c.post.result = sym (ap (λ (x : ChainPart). option_map (λ (o : Outgoing). o.next) (queues.channel_to to x.channels)) put) ∙ c.post.ensures.number in
     record {
       step = (

@@ -1,64 +1,92 @@
-use Rattle.std.proofs.Common.{◌≡◌, refl, sym, ap, ◌∙◌, subst}
-use Rattle.std.specs.Prelude.{Some, None}
-use Rattle.asset_bundles.specs.Bundles.{bundle_of}
-use Rattle.ledgers.specs.Ledgers.{Accounts, Withdrawn, Deposited, Transferred}
-use Rattle.trust_tables.specs.Accounts.{account_of}
+use Rattle.std.proofs.Common.{◌≡◌, ◌++◌, refl, sym, ap, ◌∙◌}
+use Rattle.std.specs.Option.{option_map}
+use Rattle.asset_lists.specs.declared.units.Kind.{Kind}
+use Rattle.trust_tables.specs.Trust.{listing}
+use Rattle.ledgers.specs.Ledgers.{Accounts}
+use Rattle.transactors.specs.Floors.{no_floors, locked_floors, higher_floors}
+use Rattle.transactors.specs.Checks.{rows_of_kind}
+use Rattle.transactors.specs.Moves as moves
+use Rattle.transactors.specs.Moves.{transfer_fault}
 use Rattle.exec_base.specs.Part.{accounts_of}
-use Rattle.exec_base.specs.Host.{at_account, transferred, first_fault, give_fault, transfer_refusal}
+use Rattle.exec_base.specs.Host.{transfer_refusal, transferred}
 use Rattle.chain_state.specs.PartOf.{part_of}
-use Rattle.chain_state.proofs.Queries.{none_if}
-use Rattle.chain_state.proofs.Moving.{from_nobody, to_nobody}
-use Rattle.chain_state.proofs.Nothing.{nothing_moved}
-use Rattle.account_floors.specs.Laws.{holding_once}
-use Rattle.chain_state.proofs.Floored.{after_either, given_after, got_after}
-use Rattle.chain_state.proofs.First.{both_none}
-use Rattle.chain_state.specs.Facts.{keeps_floors, KeepsFloors}
+use Rattle.chain_state.specs.Facts.{KeepsFloors}
 use Rattle.chain_state.specs.Known.{floors_there, pools_free}
+use Rattle.chain_state.specs.Transacting.{error_of, handled_rows, kept_floors}
+use Rattle.chain_state.proofs.Transacted.{ledger_is, refused_as, after_move, transferred_lists, as_floors, as_locks}
 use Rattle.chain_state.proofs.state.ChainState.move_over.Goals as goal
 
-pub returns-in_default-account_of-clause-step : goal.returns-in_default-account_of-clause-step
-returns-in_default-account_of-clause-step c =
-    let p = part_of c.args.self.now in
-    let free = sym c.transfer_refusal.ensures ∙ none_if c.transfer_refusal.result c.in_default.not-Some in
-    let nothing = from_nobody p c.args.list.now c.args.from.now c.args.to.now free (sym c.account_of.ensures ∙ none_if c.account_of.result c.in_default-account_of.not-Some) in
-    (free, refl, nothing_moved p c.args.from.now c.args.to.now ∙ ap (λ xs. transferred p xs c.args.from.now c.args.to.now) (sym nothing))
-
-pub returns-in_default-account_of-2-clause-step : goal.returns-in_default-account_of-2-clause-step
-returns-in_default-account_of-2-clause-step c =
-    let p = part_of c.args.self.now in
-    let free = sym c.transfer_refusal.ensures ∙ none_if c.transfer_refusal.result c.in_default.not-Some in
-    let nothing = to_nobody p c.args.list.now c.args.from.now c.args.to.now free (sym c.account_of-2.ensures ∙ none_if c.account_of-2.result c.in_default-account_of-2.not-Some) in
-    (free, refl, nothing_moved p c.args.from.now c.args.to.now ∙ ap (λ xs. transferred p xs c.args.from.now c.args.to.now) (sym nothing))
-
-pub returns-in-Ok-clause-step : goal.returns-in-Ok-clause-step
-unfolding transferred
-returns-in-Ok-clause-step c =
-    let p = part_of c.args.self.now in
+pub returns-in-Ok : goal.returns-in-Ok
+returns-in-Ok c =
+    let f = c.args.self.now in
+    let p = part_of f in
     let list = c.args.list.now in
-    let giver : Some c.in-Some-account_of.giver ≡ account_of c.args.from.now p.site = sym c.in-Some-account_of.is ∙ c.account_of.ensures in
-    let taker : Some c.in-Some-account_of-2.taker ≡ account_of c.args.to.now p.site = sym c.in-Some-account_of-2.is ∙ c.account_of-2.ensures in
-    let moved = ap (λ (l : Accounts). l.held) c.in-Ok.ensures.transferred in (
-      sym c.transfer_refusal.ensures ∙ none_if c.transfer_refusal.result c.in_default.not-Some,
-      refl,
-      (λ i. record p { held = moved i })
-          ∙ (λ i. record p {
-            held = at_account (taker i) (λ account. (Deposited account (bundle_of list) (accounts_of (record p { held = at_account (giver i) (λ a. (Withdrawn a list (accounts_of p)).held) p.held }))).held)
-                (at_account (giver i) (λ a. (Withdrawn a list (accounts_of p)).held) p.held);
-          }),
-    )
+    let from = c.args.from.now in
+    let to = c.args.to.now in
+    let movers = c.transactors_of-movers.result in
+    let is = c.transactors_of-movers.ensures in
+    let rows = rows_of_kind Kind.Fungible movers.inner.first.rows.now ++ rows_of_kind Kind.Class movers.inner.second.rows.now in
+    let site = movers.inner.first.site.now in
+    let floors = higher_floors no_floors (locked_floors movers.locks.now) in
+    let same : transfer_fault (handled_rows p) p.site (kept_floors p) (accounts_of p) list from to ≡ transfer_fault rows site floors f.ledger list from to =
+    λ i. transfer_fault (rows_of_kind Kind.Fungible (sym is.first_rows i) ++ rows_of_kind Kind.Class (sym is.second_rows i)) (sym is.first_site i) (higher_floors no_floors (locked_floors (sym is.locks i))) (sym (ledger_is f) i) list from to in
+    let m = c.in-Ok.ensures.step in
+    record {
+      step = (
+        c.law_of_transactors.ensures.transfer p list from to ∙ ap (option_map error_of) (same ∙ m.0),
+        refl,
+        ap (λ (l : Accounts). record p { held = l.held }) (m.2 ∙ (λ i. moves.transferred (is.first_site i) list from to (ledger_is f i))) ∙ sym (c.law_of_transactors.ensures.transferred p list from to),
+      );
+    }
+
+pub returns-in-Err : goal.returns-in-Err
+returns-in-Err c =
+    let f = c.args.self.now in
+    let p = part_of f in
+    let list = c.args.list.now in
+    let from = c.args.from.now in
+    let to = c.args.to.now in
+    let movers = c.transactors_of-movers.result in
+    let is = c.transactors_of-movers.ensures in
+    let rows = rows_of_kind Kind.Fungible movers.inner.first.rows.now ++ rows_of_kind Kind.Class movers.inner.second.rows.now in
+    let site = movers.inner.first.site.now in
+    let floors = higher_floors no_floors (locked_floors movers.locks.now) in
+    let same : transfer_fault (handled_rows p) p.site (kept_floors p) (accounts_of p) list from to ≡ transfer_fault rows site floors f.ledger list from to =
+    λ i. transfer_fault (rows_of_kind Kind.Fungible (sym is.first_rows i) ++ rows_of_kind Kind.Class (sym is.second_rows i)) (sym is.first_site i) (higher_floors no_floors (locked_floors (sym is.locks i))) (sym (ledger_is f) i) list from to in
+    record {
+      step = refused_as (transfer_fault rows site floors f.ledger list from to) (tt {0}) (moves.transferred site list from to f.ledger) f.ledger c.transfer_all.new.ledger c.in-Err.fault c.fault_of.result
+          (transfer_refusal p list from to) (transferred p list from to) p c.fault_of.ensures (c.law_of_transactors.ensures.transfer p list from to ∙ ap (option_map error_of) same) refl c.in-Err.ensures.step;
+    }
 
 pub invariant_of-self-clause-floors : goal.invariant_of-self-clause-floors
-unfolding transfer_refusal
 invariant_of-self-clause-floors c =
     let f = c.args.self.now in
     let p = part_of f in
     let list = c.args.list.now in
-    let from = c.in-Some-account_of.giver in
-    let to = c.in-Some-account_of-2.taker in
-    let refused = sym c.transfer_refusal.ensures ∙ none_if c.transfer_refusal.result c.in_default.not-Some in
-    let giver : account_of c.args.from.now p.site ≡ Some from = sym c.account_of.ensures ∙ c.in-Some-account_of.is in
-    let free = subst (λ o. first_fault (give_fault p o) list ≡ None) giver (both_none _ _ refused).0 in
-    let once = holding_once list (c.law_of_bundles.ensures.from_lists list c.items-items.ensures.list) in
-    let given = given_after p from list once free (floors_there f) in
-    after_either (λ (l : Accounts). KeepsFloors f.settings.pools f.locked l.held) f.ledger (Transferred from to list f.ledger) c.transfer.new.self c.transfer.result c.transfer.ensures.transferred c.transfer.ensures.kept
-    f.floors (keeps_floors _ _ _ (got_after f.locked (Withdrawn from list f.ledger) to (bundle_of list) given) (pools_free f))
+    let from = c.args.from.now in
+    let to = c.args.to.now in
+    let movers = c.transactors_of-movers.result in
+    let is = c.transactors_of-movers.ensures in
+    let rows = rows_of_kind Kind.Fungible movers.inner.first.rows.now ++ rows_of_kind Kind.Class movers.inner.second.rows.now in
+    let site = movers.inner.first.site.now in
+    let floors = higher_floors no_floors (locked_floors movers.locks.now) in
+    let once = c.law_of_bundles.ensures.from_lists list c.items-items.ensures.list in
+    after_move (λ (l : Accounts). KeepsFloors f.settings.pools f.locked l.held) (transfer_fault rows site floors f.ledger list from to) tt (moves.transferred site list from to f.ledger) f.ledger c.transfer_all.result c.transfer_all.new.ledger
+    c.transfer_all.ensures.step f.floors
+    (λ free. as_locks f.settings.pools movers.locks.now f.locked (moves.transferred site list from to f.ledger).held is.locks (pools_free f)
+    (c.law_of_floors_of_moves.ensures.transferred rows site floors f.ledger list from to once free (as_floors movers.locks.now f.locked f.ledger.held is.locks (floors_there f))))
+
+pub invariant_of-self-clause-ledger_lists : goal.invariant_of-self-clause-ledger_lists
+invariant_of-self-clause-ledger_lists c =
+    let f = c.args.self.now in
+    let p = part_of f in
+    let list = c.args.list.now in
+    let from = c.args.from.now in
+    let to = c.args.to.now in
+    let movers = c.transactors_of-movers.result in
+    let is = c.transactors_of-movers.ensures in
+    let rows = rows_of_kind Kind.Fungible movers.inner.first.rows.now ++ rows_of_kind Kind.Class movers.inner.second.rows.now in
+    let site = movers.inner.first.site.now in
+    let floors = higher_floors no_floors (locked_floors movers.locks.now) in
+    after_move (λ (l : Accounts). l.listed ≡ listing f.settings.rows) (transfer_fault rows site floors f.ledger list from to) tt (moves.transferred site list from to f.ledger) f.ledger c.transfer_all.result c.transfer_all.new.ledger
+    c.transfer_all.ensures.step f.ledger_lists (λ free. transferred_lists site list from to f.ledger ∙ f.ledger_lists)

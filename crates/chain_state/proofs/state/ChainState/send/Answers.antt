@@ -1,16 +1,40 @@
-use Rattle.std.proofs.Common.{true, subst}
-use Rattle.std.specs.Prelude.{IfSome}
-use Rattle.locations.specs.declared.relative.Location.{Location}
-use Rattle.channel_parts.specs.declared.cargo.Cargo.{Cargo}
-use Rattle.exec_base.specs.Answers.{Answers}
-use Rattle.exec_base.specs.Sending.{send_refusal, number_to, sent}
-use Rattle.chain_state.specs.PartOf.{part_of}
+use Rattle.std.proofs.Common.{refl, ap, ◌∙◌}
+use Rattle.channel_parts.specs.Channels.{with_waiting}
+use Rattle.channel_parts.specs.declared.cargo.Cargo.TheVariants.{Nothing}
+use Rattle.versioned_xcm.specs.Reading.{message_of}
+use Rattle.chain_queues.specs.Decoded.{program_read}
+use Rattle.chain_queues.specs.Queues.{channels_of, leads_to}
+use Rattle.trust_tables.specs.Trust.{listing}
+use Rattle.network_genesis.specs.Tests.{have_prices}
+use Rattle.chain_state.specs.ListedFees.{are_fees_listed}
+use Rattle.chain_state.proofs.Kept.{prices_kept, fees_kept}
+use Rattle.chain_state.proofs.Claiming.{claim_decodes, claim_spelled, claim_free}
+use Rattle.chain_state.specs.Facts.{are_payable}
+use Rattle.chain_state.specs.Known.{prices_there, fees_there}
 use Rattle.chain_state.proofs.state.ChainState.send.Goals as goal
 
-pub returns : goal.returns
-returns c =
-    let p = part_of c.args.self.now in
+pub put-requires-clause-message : goal.put-requires-clause-message
+put-requires-clause-message c = claim_decodes _ _ _ c.in-Ok.ensures.taken
+
+pub put-requires-clause-spelled : goal.put-requires-clause-spelled
+put-requires-clause-spelled c = claim_spelled _ _ _ c.in-Ok.ensures.taken
+
+pub put-requires-clause-free : goal.put-requires-clause-free
+put-requires-clause-free c = claim_free _ _ _ c.in-Ok.ensures.taken
+
+pub invariant_of-self : goal.invariant_of-self
+invariant_of-self c =
+    let f = c.args.self.now in
     record {
-      step = subst (λ o. IfSome o (λ (dest : Location).
-          Answers (send_refusal p dest true c.args.program.now) (number_to p dest) (sent p dest c.args.program.now Cargo.Nothing) p c.send_to.result (part_of c.send_to.new.self))) c.location_of-dest.ensures c.send_to.ensures.step;
+      ledger_lists = f.ledger_lists;
+      book_lists = f.book_lists;
+      floors = f.floors;
+      set_up = f.set_up;
+      rates = f.rates;
+      payable = are_payable _ _ (ap have_prices c.put.ensures.queued ∙ prices_kept (leads_to c.args.to) (with_waiting (program_read (message_of c.in-Ok.bytes.items)) Nothing) (λ o. refl) (channels_of f.queues) ∙ (prices_there f)) (ap (are_fees_listed (listing f.settings.rows)) c.put.ensures.queued ∙ fees_kept (listing f.settings.rows) (leads_to c.args.to) (with_waiting (program_read (message_of c.in-Ok.bytes.items)) Nothing) (λ o. refl) (channels_of f.queues) ∙ (fees_there f));
+      fee_rows = f.fee_rows;
+      slot_rows = f.slot_rows;
+      spare_lines = f.spare_lines;
+      room = f.room;
+      checked = f.checked;
     }

@@ -1,9 +1,8 @@
 use Rattle.std.proofs.Common.{ℕ, List, sym, ap, ◌∙◌}
 use Rattle.std.specs.Prelude.{is_some}
-use Rattle.transactors.specs.Checks.{lacks}
 use Rattle.trust_tables.specs.Trust.{row_of}
 use Rattle.trust_tables.specs.Accounts.{account_of}
-use Rattle.transactors.specs.Checks.{accepted, is_unhandled, move_fault}
+use Rattle.transactors.specs.Checks.{accepted, is_unhandled, move_fault, lacks, check_out}
 use Rattle.transactors.proofs.Rows.{row_of_both}
 use Rattle.transactors.proofs.Moving.{later, sooner}
 use Rattle.transactors.proofs.transactors.FirstThatTransactor.check_out.Goals as goal
@@ -14,11 +13,11 @@ returns-then-is_unhandled g c =
     let first = g.A.Transactor.rows c.args.self.now.first in
     let second = g.B.Transactor.rows c.args.self.now.second in
     let account = account_of c.args.who.now (g.A.Transactor.site c.args.self.now.first) in
-    let refused = λ (who : List ℕ). lacks c.args.ledger.now.held who a in
+    let refused = λ (who : List ℕ). lacks (g.A.Transactor.floors c.args.self.now.first) c.args.ledger.now.held who a in
     let unhandled = sym (c.is_unhandled.ensures ∙ ap is_unhandled c.check_out-answer.ensures.checked) ∙ c.if-is_unhandled.true in
     record {
       checked = c.check_out.ensures.checked
-          ∙ ap (λ site. accepted (move_fault (is_some (row_of second a)) (account_of c.args.who.now site) refused)) (sym c.requires.agrees.2)
+          ∙ (λ i. accepted (check_out second (sym c.requires.agrees.2 i) (sym c.requires.agrees.3 i) c.args.ledger.now.held c.args.who.now a))
           ∙ ap accepted (later (is_some (row_of first a)) (is_some (row_of second a)) account refused unhandled)
           ∙ ap (λ b. accepted (move_fault b account refused)) (sym (row_of_both first second a));
     }
@@ -29,7 +28,7 @@ returns g c =
     let first = g.A.Transactor.rows c.args.self.now.first in
     let second = g.B.Transactor.rows c.args.self.now.second in
     let account = account_of c.args.who.now (g.A.Transactor.site c.args.self.now.first) in
-    let refused = λ (who : List ℕ). lacks c.args.ledger.now.held who a in
+    let refused = λ (who : List ℕ). lacks (g.A.Transactor.floors c.args.self.now.first) c.args.ledger.now.held who a in
     let handled = sym (c.is_unhandled.ensures ∙ ap is_unhandled c.check_out-answer.ensures.checked) ∙ c.if-is_unhandled.false in
     record {
       checked = c.check_out-answer.ensures.checked

@@ -1,0 +1,17 @@
+//! The texts of a report: of a step, of what accounts hold, what is trapped and what waits, and the supply block.
+#![tactic(auto)]
+
+mod backings;
+mod block;
+mod chains;
+mod laws;
+mod natives;
+mod paths;
+mod queues;
+mod supplies;
+
+pub use block::supply_block;
+pub use chains::{balances_text, traps_text};
+pub use laws::law_of_natives;
+pub use queues::queues_text;
+pub use step_text::{Backing, Supply, backing_line, step_text, supply_line};

@@ -1,6 +1,0 @@
-pub mod Totals
-pub mod Putting
-pub mod Pieces
-pub mod Lines
-pub mod Order
-pub mod Homes

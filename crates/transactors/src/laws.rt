@@ -1,0 +1,37 @@
+//! Laws of the transactors, as the contracts of functions that do nothing.
+ghost use Rattle.std.specs.Prelude.{◌≡◌, ◌++◌, List, None, is_some};
+ghost use Rattle.locations.specs.declared.relative.Location.{Location};
+ghost use Rattle.asset_lists.specs.declared.units.Asset.{Asset};
+ghost use Rattle.asset_lists.specs.declared.units.Kind.{Kind};
+ghost use Rattle.asset_bundles.specs.Bundles.{Bundle, IsHolding};
+ghost use Rattle.ledgers.specs.Ledgers.{Accounts};
+ghost use Rattle.trust_tables.specs.declared.chains.Site.{Site};
+ghost use Rattle.trust_tables.specs.declared.rows.AssetRow.{AssetRow};
+ghost use Rattle.trust_tables.specs.Trust.{row_of};
+ghost use Rattle.transactors.specs.Floors.{UnitFloors, KeepsFloors};
+ghost use Rattle.transactors.specs.Checks.{rows_of_kind};
+ghost use Rattle.transactors.specs.Moves.{withdraw_fault, transfer_fault, withdrawn, deposited, transferred};
+
+/// The transactor of fungible assets and then that of instances, over a chain's rows, handle just what the rows list.
+pub fn law_of_kinds()
+    ensures { (rows : List AssetRow) (a : Asset)
+        → is_some (row_of (rows_of_kind Kind.Fungible rows ++ rows_of_kind Kind.Class rows) a)
+        ≡ is_some (row_of rows a) }
+{}
+
+/// Where each account has its floors, it has them after a list was withdrawn or moved that wasn't refused, and after
+/// anything was deposited.
+pub fn law_of_floors_of_moves()
+    ensures withdrawn { (rows : List AssetRow) (site : Site) (floors : UnitFloors)
+        (ledger : Accounts) (list : List Asset) (who : Location) → IsHolding list
+        → withdraw_fault rows site floors ledger list who ≡ None
+        → KeepsFloors floors ledger.held → KeepsFloors floors (withdrawn site list who ledger).held }
+    ensures deposited { (site : Site) (floors : UnitFloors)
+        (ledger : Accounts) (goods : Bundle) (who : Location)
+        → KeepsFloors floors ledger.held → KeepsFloors floors (deposited site goods who ledger).held }
+    ensures transferred { (rows : List AssetRow) (site : Site) (floors : UnitFloors)
+        (ledger : Accounts) (list : List Asset) (from to : Location) → IsHolding list
+        → transfer_fault rows site floors ledger list from to ≡ None
+        → KeepsFloors floors ledger.held
+        → KeepsFloors floors (transferred site list from to ledger).held }
+{}
