@@ -1,5 +1,5 @@
 -- The first world of a network, as conservation sees it, and that each of its chains is sound.
-use Rattle.std.proofs.Common.{◌≡◌, ℕ, zero, suc, Bool, true, false, List, [], ◌∷◌, Option, Some, None, map, refl, sym, ap, ◌∙◌, subst, arith}
+use Rattle.std.proofs.Common.{◌≡◌, ◌≤◌, ℕ, zero, suc, Bool, true, false, List, [], ◌∷◌, Option, Some, None, length, map, refl, sym, ap, ◌∙◌, subst, arith}
 use Rattle.std.specs.Prelude.{◌||◌, nat_eq, if◌then◌else◌, slice_get}
 use Rattle.std.specs.List.{All, AllByRecursion}
 use Rattle.std.proofs.lemmas.Bool.{and_parts}
@@ -181,6 +181,12 @@ pub parts_sound : (spec : NetworkSpec) (cs : List ChainSpec) → AllByRecursion 
 parts_sound spec [] all channels k m at = absurd cc
 parts_sound spec (c ∷ cs) all channels zero m at = subst (λ (y : Member). IsSoundPart y.part) (same_member (member_of spec c) m at) (part_sound spec c all.0 channels)
 parts_sound spec (c ∷ cs) all channels (suc k) m at = parts_sound spec cs all.1 channels k m at
+
+-- ---- few pools
+pub few_pools_in : (spec : NetworkSpec) (cs : List ChainSpec) → AllByRecursion (IsOpenableChain spec.network) cs → (k : ℕ) (m : Member) → slice_get (map (member_of spec) cs) k ≡ Some m → length m.part.pools ≤ 16
+few_pools_in spec [] all k m at = absurd cc
+few_pools_in spec (c ∷ cs) all zero m at = subst (λ (y : Member). length y.part.pools ≤ 16) (same_member (member_of spec c) m at) all.0.few_pools
+few_pools_in spec (c ∷ cs) all (suc k) m at = few_pools_in spec cs all.1 k m at
 
 -- ---- nothing waits
 none_wait : (cs : List Channel) → AllByRecursion (λ (c : Outgoing). c.queue ≡ []) (map opened cs)

@@ -7,7 +7,7 @@ use Rattle.network_spec.specs.declared.network.NetworkSpec.{NetworkSpec}
 use Rattle.network_genesis.specs.Genesis.{first_world, order_of, entries_of}
 use Rattle.network_genesis.specs.Openable.{IsOpenable}
 use Rattle.coherence.specs.Causes.{first_cause}
-use Rattle.conserved_steps.specs.Worlds.{AllKept}
+use Rattle.conserved_steps.specs.Worlds.{AllKept, AllSound, RunsKept, AccountsAlwaysRise}
 
 -- a network that can be opened, with none of the seven causes for which it isn't coherent
 pub record IsCoherent (spec : NetworkSpec) : Type 0 where
@@ -17,6 +17,18 @@ pub record IsCoherent (spec : NetworkSpec) : Type 0 where
 -- whatever the steps, every world from the first on
 abbrev pub NetworkKept : NetworkSpec → List Step → Type 0
 NetworkKept spec steps = AllKept (order_of spec) (first_world spec) steps
+
+-- and in each of them every unit of every place and every burn belongs to a listed row
+abbrev pub NetworkSound : NetworkSpec → List Step → Type 0
+NetworkSound spec steps = AllSound (order_of spec) (first_world spec) steps
+
+-- so is every moment inside a run, also where memory is refused to it
+abbrev pub NetworkRunsKept : NetworkSpec → List Step → Type 0
+NetworkRunsKept spec steps = RunsKept (order_of spec) (first_world spec) steps
+
+-- and in none of them would a checking account pass its end
+abbrev pub NetworkAccountsRise : NetworkSpec → List Step → Type 0
+NetworkAccountsRise spec steps = AccountsAlwaysRise (order_of spec) (first_world spec) steps
 
 -- whatever the steps, in every world from the first on each message that waits has one of the seven shapes
 abbrev pub NetworkShaped : NetworkSpec → List Step → Type 0

@@ -66,7 +66,7 @@ use Rattle.conserved_steps.specs.Receptions.{Passed, StillCarried, same_safe}
 use Rattle.conserved_steps.specs.Fates.{KeepsShapes, fate_of, comes_by, abandoned_fate, executed_fate}
 use Rattle.conserved_steps.specs.Deliveries.{trusted_front, views_set, has_name, stands, stands_inside, stands_stopped}
 use Rattle.conserved_steps.specs.Reading.{Decodes, decoded_runs, not_sovereign}
-use Rattle.conserved_steps.specs.Worlds.{AreSoundParts, IsFirst, IsReached, AllKept, arrives, while_delivered, StopsAt, where_delivery_stopped}
+use Rattle.conserved_steps.specs.Worlds.{AreSoundParts, IsFirst, IsReached, AllKept, arrives, while_delivered, StopsAt, where_delivery_stopped, AllSound}
 
 -- ---- places of a world
 some_member : (x y : Member) → Some x ≡ Some y → x ≡ y
@@ -434,6 +434,7 @@ kept_by first genesis once v history =
     record {
       agrees = agrees;
       conserved = safe.supplied;
+      below = λ a. let same = safe.supplied a in let few = genesis.small a in omega (arith, same, few);
       backed = safe.backed genesis.backed;
       small = never_passes first v genesis.agrees genesis.backed genesis.small history;
       once = λ k p row instance at inside.
@@ -441,6 +442,8 @@ kept_by first genesis once v history =
           let less = safe.rare (asset_of_row p.table row) (just (Some instance)) in
           let few = once (asset_of_row p.table row) instance in
           omega (arith, le, less, few);
+      rare = safe.rare;
+      single = λ a instance. let less = safe.rare a (just (Some instance)) in let few = once a instance in omega (arith, less, few);
       checked = safe.checked genesis.checked;
       within = safe.within first (first_within first);
       bounded = all_bounded first v genesis.agrees safe.tables genesis.small genesis.low (safe.within first (first_within first));
@@ -456,3 +459,10 @@ first_reached w f = record { history = Start; shaped = f.shaped; parts = f.parts
 
 pub worlds_kept : LawsBelow → ShapeLaws → Decodes → (order : List Link) (w : networks.World) (steps : List Step) → IsFirst w → AllKept order w steps
 worlds_kept laws shapes decodes order w steps f = all_kept (views w) f.genesis f.once (worlds order w steps) (worlds_reached laws shapes decodes (views w) f.genesis order w steps (first_reached w f))
+
+all_sound : (first : World) (ws : List networks.World) → AllByRecursion (IsReached first) ws → AllByRecursion AreSoundParts ws
+all_sound first [] all = tt
+all_sound first (w ∷ ws) all = (all.0.parts, all_sound first ws all.1)
+
+pub worlds_sound : LawsBelow → ShapeLaws → Decodes → (order : List Link) (w : networks.World) (steps : List Step) → IsFirst w → AllSound order w steps
+worlds_sound laws shapes decodes order w steps f = all_sound (views w) (worlds order w steps) (worlds_reached laws shapes decodes (views w) f.genesis order w steps (first_reached w f))

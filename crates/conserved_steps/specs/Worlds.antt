@@ -15,14 +15,17 @@ use Rattle.exec_base.specs.declared.event.Event.{Event}
 use Rattle.exec_base.specs.Host.{told}
 use Rattle.exec_base.specs.Part.{ChainPart}
 use Rattle.exec_run.specs.Machine.{Machine}
-use Rattle.exec_rules.specs.Instructions.{refused}
-use Rattle.exec_admission.specs.Execution.{executed, IsAbandoned}
+use Rattle.exec_run.specs.Run.{Stage, machine_of, Reaches, GoesOnTo}
+use Rattle.exec_rules.specs.Instructions.{refused, xcm}
+use Rattle.exec_admission.specs.declared.admission.Admitted.{Admitted}
+use Rattle.exec_admission.specs.Admission.{admitted}
+use Rattle.exec_admission.specs.Execution.{executed, first_stage, IsAbandoned}
 use Rattle.weight_trader.specs.Purchases.{no_weight}
 use Rattle.std.specs.List.{AllByRecursion}
 use Rattle.asset_lists.specs.declared.units.Instance.{Instance}
 use Rattle.network_steps.specs.Worlds as networks
 use Rattle.network_steps.specs.Worlds.{Member, chain_of}
-use Rattle.network_steps.specs.Acting.{begun, lost_of, booking_lost}
+use Rattle.network_steps.specs.Acting.{begun, caller, lost_of, booking_lost}
 use Rattle.network_steps.specs.Steps.{is_sovereign, name_at, without_message, Link, Step, worlds}
 use Rattle.conserved_runs.specs.Views.{seen, view}
 use Rattle.message_shapes.specs.Shapes.{AllShaped}
@@ -55,6 +58,10 @@ pub record IsReached (first : World) (w : networks.World) : Type 0 where
 -- conserved, backed, below 2^127, with each instance once and with right checking accounts: so is every world, whatever the steps
 abbrev pub AllKept : List Link → networks.World → List Step → Type 0
 AllKept order w steps = AllByRecursion (λ (v : networks.World). IsKept (views w) (views v)) (worlds order w steps)
+
+-- and in every world each unit of every place and each burn belongs to a listed row
+abbrev pub AllSound : List Link → networks.World → List Step → Type 0
+AllSound order w steps = AllByRecursion AreSoundParts (worlds order w steps)
 
 -- the network while the chain at a place runs a program: its part is what stands in the run, with what is held
 abbrev pub while_running : networks.World → ℕ → Machine → World
@@ -122,3 +129,48 @@ StopsAt sender receiver m q =
 abbrev pub where_delivery_stopped : networks.World → ℕ → Member → ℕ → Member → ChainPart → World
 where_delivery_stopped w from sender to receiver q =
     slice_set (slice_set (views w) from (seen empty (booking_lost (lost_of q.cargo.cargo) (without_message (chain_of receiver) sender.part)))) to (seen empty q)
+
+-- where the run of a local execution begins, and where that of a delivered message does
+abbrev pub first_of_execution : Member → List ℕ → Admitted → Stage
+first_of_execution m account a = first_stage m.rules (caller account) a (begins m)
+
+abbrev pub first_of_delivery : Member → Member → Waiting → Admitted → Stage
+first_of_delivery sender receiver m a =
+    first_stage receiver.rules (name_at (chain_of receiver) (chain_of sender)) a (arrives sender receiver m)
+
+-- the chain admits the program for its account; the receiver admits the message
+abbrev pub AdmitsExecution : Member → List ℕ → List Instruction → Admitted → Type 0
+AdmitsExecution m account program a =
+    admitted m.rules (caller account) m.rules.limit (begins m).queries program ≡ Ok a
+
+abbrev pub AdmitsDelivery : Member → Member → Waiting → Admitted → Type 0
+AdmitsDelivery sender receiver m a =
+    admitted receiver.rules (name_at (chain_of receiver) (chain_of sender)) no_weight
+    (arrives sender receiver m).queries m.program ≡ Ok a
+
+-- every moment inside a run is kept, with what the run holds counted: that of a local execution wherever it comes, that of a delivered message
+-- behind its first instruction; and where memory is refused to one, with what is parked counted
+pub record RunsKept (order : List Link) (w : networks.World) (steps : List Step) : Type 0 where
+  pub executions : (account : List ℕ) (program : List Instruction) (x : IsExecution order w steps account program)
+      (a : Admitted) (g : Stage) → AdmitsExecution x.member account program a
+      → Reaches xcm (first_of_execution x.member account a) g
+      → IsKept (views w) (while_running x.world x.place (machine_of g))
+  pub stopped_executions : (account : List ℕ) (program : List Instruction) (x : IsExecution order w steps account program)
+      (now : ChainPart) → IsAbandoned x.member.rules (caller account) x.member.rules.limit program (begins x.member) now
+      → IsKept (views w) (where_stopped x.world x.place now)
+  pub deliveries : (d : IsDelivery order w steps) (a : Admitted) (g : Stage)
+      → AdmitsDelivery d.sender d.receiver d.message a
+      → GoesOnTo xcm (first_of_delivery d.sender d.receiver d.message a) g
+      → IsKept (views w) (while_delivered d.world d.from d.sender d.to d.receiver (machine_of g))
+  pub stopped_deliveries : (d : IsDelivery order w steps) (now : ChainPart)
+      → StopsAt d.sender d.receiver d.message now
+      → IsKept (views w) (where_delivery_stopped d.world d.from d.sender d.to d.receiver now)
+
+-- wherever the run of a local execution or of a delivered message stands, no checking account would pass its end
+pub record AccountsAlwaysRise (order : List Link) (w : networks.World) (steps : List Step) : Type 0 where
+  pub executions : (account : List ℕ) (program : List Instruction) (x : IsExecution order w steps account program)
+      (a : Admitted) (g : Stage) → AdmitsExecution x.member account program a
+      → Reaches xcm (first_of_execution x.member account a) g → AccountsMayRise (machine_of g)
+  pub deliveries : (d : IsDelivery order w steps) (a : Admitted) (g : Stage)
+      → AdmitsDelivery d.sender d.receiver d.message a
+      → Reaches xcm (first_of_delivery d.sender d.receiver d.message a) g → AccountsMayRise (machine_of g)

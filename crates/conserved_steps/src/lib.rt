@@ -5,5 +5,5 @@ mod laws;
 
 pub use laws::{
     law_of_conserved_deliveries, law_of_conserved_executions, law_of_conserved_worlds,
-    law_of_foundations, law_of_rising_accounts,
+    law_of_foundations, law_of_kept_runs, law_of_rising_accounts,
 };

@@ -5,7 +5,9 @@ use Rattle.network_steps.specs.Worlds.{World}
 use Rattle.network_steps.specs.Steps.{Link, Step, last_world, deliveries, world_behind}
 use Rattle.conserved_steps.specs.Worlds.{IsDelivery}
 use Rattle.paid_messages.specs.Paid.{WithdrawalsPaid, TeleportsReceived, NoneLost}
-use Rattle.net_laws.proofs.Stopped.{last_reached, last_behind, delivery_steps, same_deliveries}
+use Rattle.conserved_networks.specs.Drained.{delivery_steps}
+use Rattle.conserved_networks.specs.DrainedLaws.{last_behind, same_deliveries}
+use Rattle.net_laws.proofs.Stopped.{last_reached}
 
 only_one : (k : ℕ) (w v : World) → slice_get (w ∷ []) k ≡ Some v → w ≡ v
 only_one zero w v e = cc
@@ -46,5 +48,5 @@ module _ (order : List Link) (first : World) (steps : List Step) where
 -- behind so many deliveries of a drain, from the world behind some steps: what holds behind any steps holds there
 pub in_drain : (P : World → Type 0) (order : List Link) (first w : World) (steps : List Step) (made : ℕ) → w ≡ last_world order first steps → ((more : List Step) → P (last_world order first more)) → P (world_behind w (deliveries made order w))
 in_drain P order first w steps made run all =
-    let more = delivery_steps made order w in
+    let more = delivery_steps (deliveries made order w) in
     subst P (last_behind order first steps more ∙ ap (λ (v : World). last_world order v more) (sym run) ∙ same_deliveries made order w) (all (steps ++ more))

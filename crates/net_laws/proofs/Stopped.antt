@@ -19,37 +19,14 @@ use Rattle.conserved_steps.specs.Views.{views}
 use Rattle.conserved_steps.specs.Deliveries.{views_set}
 use Rattle.conserved_steps.specs.Worlds.{IsFirst, AllKept, IsExecution, begins, where_stopped, IsDelivery, StopsAt, where_delivery_stopped}
 use Rattle.chain_net.specs.Stops.{ExecStopsAt, ExecStops, StandsAt, DeliverStops, DrainStops}
+use Rattle.conserved_networks.specs.Drained.{delivery_steps}
+use Rattle.conserved_networks.specs.DrainedLaws.{last_behind, same_deliveries}
 use Rattle.net_laws.proofs.Lasts.{all_last}
 
 -- the last of the worlds is one of them
 pub last_reached : (order : List Link) (w : World) (steps : List Step) → slice_get (worlds order w steps) (length steps) ≡ Some (last_world order w steps)
 last_reached order w [] = refl
 last_reached order w (s ∷ steps) = last_reached order (after order w s) steps
-
-pub last_behind : (order : List Link) (w : World) (steps more : List Step) → last_world order w (steps ++ more) ≡ last_world order (last_world order w steps) more
-last_behind order w [] more = refl
-last_behind order w (s ∷ steps) more = last_behind order (after order w s) steps more
-
--- ---- deliveries as steps
-abbrev step_of : Link → Step
-step_of link = Deliver link.0 link.1
-
--- so many deliveries of a drain, as steps
-abbrev pub delivery_steps : ℕ → List Link → World → List Step
-delivery_steps zero order w = []
-delivery_steps (suc n) order w = option_map_or (λ (link : Link). step_of link ∷ delivery_steps n order (deliver w link.0 link.1).world) (next_channel order w) []
-
-by_next : (n : ℕ) (order : List Link) (w : World) (o : Option Link) → ((v : World) → last_world order v (delivery_steps n order v) ≡ world_behind v (deliveries n order v))
-    → last_world order w (option_map_or (λ (link : Link). step_of link ∷ delivery_steps n order (deliver w link.0 link.1).world) o [])
-    ≡ world_behind w (option_map_or (λ (link : Link). (link, deliver w link.0 link.1) ∷ deliveries n order (deliver w link.0 link.1).world) o [])
-unfolding deliver
-by_next n order w None rest = refl
-by_next n order w (Some link) rest = rest (deliver w link.0 link.1).world
-
-pub same_deliveries : (n : ℕ) (order : List Link) (w : World) → last_world order w (delivery_steps n order w) ≡ world_behind w (deliveries n order w)
-unfolding deliveries
-same_deliveries zero order w = refl
-same_deliveries (suc n) order w = by_next n order w (next_channel order w) (λ v. same_deliveries n order v)
 
 -- ---- the channel of a message
 pub record FoundChannel (to : ChainId) (channels : List Outgoing) (message : Waiting) : Type 0 where
@@ -128,6 +105,6 @@ module _ (order : List Link) (first : World) (is_first : IsFirst first) (kept : 
   pub drain_kept : (steps : List Step) (now : World) → DrainStops order (last_world order first steps) now → Keeps now
   drain_kept steps now s =
       let w = last_world order first steps in
-      let more = delivery_steps s.made order w in
+      let more = delivery_steps (deliveries s.made order w) in
       let same : last_world order first (steps ++ more) ≡ world_behind w (deliveries s.made order w) = last_behind order first steps more ∙ same_deliveries s.made order w in
       deliver_kept (steps ++ more) s.link.0 s.link.1 now (subst (λ (v : World). DeliverStops v s.link.0 s.link.1 now) (sym same) s.stopped)

@@ -8,7 +8,14 @@ use Rattle.asset_bundles.specs.Bundles.{Bundle, held_assets}
 use Rattle.trust_tables.specs.Accounts.{account_of}
 use Rattle.ledgers.specs.Ledgers.{barred}
 use Rattle.exec_base.specs.Host.{given, withdraw_refusal, deposit_refusal, transfer_refusal}
+use Rattle.xcm_program.specs.declared.instruction.Instruction.{Instruction}
 use Rattle.exec_run.specs.Machine.{Machine}
+use Rattle.exec_run.specs.Run.{Stage, machine_of, Reaches}
+use Rattle.exec_rules.specs.Instructions.{xcm}
+use Rattle.exec_admission.specs.declared.admission.Admitted.{Admitted}
+use Rattle.network_steps.specs.Worlds.{World}
+use Rattle.network_steps.specs.Steps.{Link, Step}
+use Rattle.conserved_steps.specs.Worlds.{IsExecution, IsDelivery, AdmitsExecution, AdmitsDelivery, first_of_execution, first_of_delivery}
 use Rattle.exec_rules.specs.Fees.{after_fee}
 
 -- what every account can take in
@@ -24,3 +31,12 @@ pub record TakesAll (m : Machine) : Type 0 where
 pub record NothingBarred (m : Machine) : Type 0 where
   pub now : TakesAll m
   pub behind_fee : (fee : Asset) → TakesAll (after_fee m fee)
+
+-- whatever the steps, so it is wherever the run of a local execution or of a delivered message stands
+pub record NeverBarred (order : List Link) (w : World) (steps : List Step) : Type 0 where
+  pub executions : (account : List ℕ) (program : List Instruction) (x : IsExecution order w steps account program)
+      (a : Admitted) (g : Stage) → AdmitsExecution x.member account program a
+      → Reaches xcm (first_of_execution x.member account a) g → NothingBarred (machine_of g)
+  pub deliveries : (d : IsDelivery order w steps) (a : Admitted) (g : Stage)
+      → AdmitsDelivery d.sender d.receiver d.message a
+      → Reaches xcm (first_of_delivery d.sender d.receiver d.message a) g → NothingBarred (machine_of g)

@@ -15,7 +15,7 @@ ghost use Rattle.network_steps.specs.Acting.{caller};
 ghost use Rattle.network_steps.specs.Steps.{name_at, Link, Step};
 ghost use Rattle.conserved_steps.specs.Worlds.{IsFirst, IsExecution, begins, IsDelivery, arrives, StopsAt};
 ghost use Rattle.conserved_networks.specs.Kept.{IsCoherent};
-ghost use Rattle.overflow_laws.specs.Barring.{NothingBarred};
+ghost use Rattle.overflow_laws.specs.Barring.{NothingBarred, NeverBarred};
 ghost use Rattle.overflow_laws.specs.Excess.{NoExcess, NoExcessIn, NoExcessEver};
 
 use conserved_networks::law_of_conserved_networks;
@@ -23,7 +23,7 @@ use conserved_steps::law_of_foundations;
 
 /// From a first world, whatever the steps, wherever the run of a local execution or of a delivered message stands, every account can take in what is
 /// held and what another account gives. So no deposit passes 2^128-1, none is of an instance that has an owner, and none is refused where the
-/// location has an account.
+/// location has an account. So it is in every coherent network: `Overflow` and `InstanceExists` never come.
 pub fn law_of_unbarred_deposits()
     ensures executions { (order : List Link) (w : World) (steps : List Step) (account : List ℕ) (program : List Instruction) (x : IsExecution order w steps account program) (a : Admitted) (g : Stage) → IsFirst w
         → admitted x.member.rules (caller account) x.member.rules.limit (begins x.member).queries program ≡ Ok a
@@ -31,8 +31,10 @@ pub fn law_of_unbarred_deposits()
     ensures deliveries { (order : List Link) (w : World) (steps : List Step) (d : IsDelivery order w steps) (a : Admitted) (g : Stage) → IsFirst w
         → admitted d.receiver.rules (name_at (chain_of d.receiver) (chain_of d.sender)) no_weight (arrives d.sender d.receiver d.message).queries d.message.program ≡ Ok a
         → Reaches xcm (first_stage d.receiver.rules (name_at (chain_of d.receiver) (chain_of d.sender)) a (arrives d.sender d.receiver d.message)) g → NothingBarred (machine_of g) }
+    ensures networks { (spec : NetworkSpec) (steps : List Step) → IsCoherent spec → NeverBarred (order_of spec) (first_world spec) steps }
 {
     law_of_foundations();
+    law_of_conserved_networks();
 }
 
 /// No burn is ever booked because an amount passes its end or because an instance is there already: in no world that any steps lead to, from a first

@@ -13,12 +13,17 @@ use scale_codec::Out;
 use std::alloc::{AllocError, Global};
 use std::fmt::Write;
 
+/// Bytes for the text of most assets.
+const ROOM: usize = 96;
+
 /// Bytes in lower-case hex behind `0x`.
 pub(crate) fn hex_text(alloc: Global, bytes: &[u8]) -> Result<String, AllocError>
     ensures { IfOk result (λ text. string_bytes text ≡ hex_text bytes.now) }
 {
     let digits = hex::encode(alloc, bytes)?;
-    format!(in alloc; "0x{digits}")
+    let mut text = String::with_capacity(alloc, 2 + digits.len())?;
+    write!(text, "0x{digits}")?;
+    Ok(text)
 }
 
 /// The origin register.
@@ -79,7 +84,7 @@ pub(crate) fn asset_text(alloc: Global, asset: &Asset) -> Result<String, AllocEr
 {
     let id = id_text(alloc, &asset.id)?;
     let amount = fun_text(alloc, &asset.fun)?;
-    let mut text = String::new(alloc);
+    let mut text = String::with_capacity(alloc, ROOM)?;
     write!(text, "{id} {amount}")?;
     Ok(text)
 }

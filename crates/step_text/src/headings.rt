@@ -58,11 +58,14 @@ impl fmt::Display for StepWords {
     }
 }
 
+/// Bytes for a heading with the lines of most steps behind it.
+const ROOM: usize = 512;
+
 /// The first line of a step: its number, from 1, and its words, as `#3 deliver relay 2000`.
 pub fn heading(alloc: Global, number: u64, words: StepWords) -> Result<String, AllocError>
     ensures { IfOk result (λ text. string_bytes text ≡ heading number words) }
 {
-    let mut text = String::new(alloc);
+    let mut text = String::with_capacity(alloc, ROOM)?;
     write!(text, "#{number} {words}\n")?;
     Ok(text)
 }

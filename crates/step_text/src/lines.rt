@@ -14,6 +14,9 @@ use locations::{Junctions, Location};
 use std::alloc::{AllocError, Global};
 use std::fmt::Write;
 
+/// Bytes for most lines of blocks.
+const ROOM: usize = 192;
+
 /// The line of what an account holds of an asset.
 pub fn balance_line(
     alloc: Global,
@@ -25,7 +28,7 @@ pub fn balance_line(
 {
     let account = hex_text(alloc, account.as_slice())?;
     let asset = asset_text(alloc, asset)?;
-    let mut text = String::new(alloc);
+    let mut text = String::with_capacity(alloc, ROOM)?;
     write!(text, "  balance {chain} {account} {asset}\n")?;
     Ok(text)
 }
@@ -40,7 +43,7 @@ pub fn checking_line(
     ensures { IfOk result (λ text. string_bytes text ≡ checking_line chain id.now amount) }
 {
     let id = location_text(alloc, id)?;
-    let mut text = String::new(alloc);
+    let mut text = String::with_capacity(alloc, ROOM)?;
     write!(text, "  checking {chain} {id} {amount}\n")?;
     Ok(text)
 }
@@ -53,7 +56,7 @@ pub fn locked_line(alloc: Global, chain: ChainId, lock: &Lock) -> Result<String,
     let id = location_text(alloc, &lock.id)?;
     let unlocker = location_text(alloc, &lock.unlocker)?;
     let amount = lock.amount;
-    let mut text = String::new(alloc);
+    let mut text = String::with_capacity(alloc, ROOM)?;
     write!(
         text,
         "  locked {chain} {account} {id} {amount} {unlocker}\n"
@@ -73,7 +76,7 @@ pub fn trap_line(
 {
     let origin = location_text(alloc, origin)?;
     let assets = assets_text(alloc, assets)?;
-    let mut text = String::new(alloc);
+    let mut text = String::with_capacity(alloc, ROOM)?;
     write!(text, "  trap {chain} {number} {origin}: {assets}\n")?;
     Ok(text)
 }
@@ -89,7 +92,7 @@ pub fn queue_line(
     ensures { IfOk result (λ text. string_bytes text ≡ queue_line from to number bytes.now) }
 {
     let digits = hex_text(alloc, bytes)?;
-    let mut text = String::new(alloc);
+    let mut text = String::with_capacity(alloc, ROOM)?;
     write!(text, "  queue {from} {to} {number} {digits}\n")?;
     Ok(text)
 }
@@ -108,7 +111,7 @@ pub fn supply_line(
     let home = Shown(supply.home);
     let flight = Shown(supply.flight);
     let burned = Shown(supply.burned);
-    let mut text = String::new(alloc);
+    let mut text = String::with_capacity(alloc, ROOM)?;
     write!(
         text,
         "  supply {kind} {path} home {home} flight {flight} burned {burned}\n"
@@ -130,7 +133,7 @@ pub fn backing_line(
     let path = path_text(alloc, path)?;
     let held = Shown(backing.held);
     let owed = Shown(backing.owed);
-    let mut text = String::new(alloc);
+    let mut text = String::with_capacity(alloc, ROOM)?;
     write!(
         text,
         "  backing {chain} {kind} {path} held {held} owed {owed}\n"

@@ -19,13 +19,16 @@ use std::alloc::{AllocError, Global};
 use std::fmt::Write;
 use xcm_program::Outcome;
 
+/// Bytes for the lines of most steps, so that their text is seldom moved while it grows.
+const ROOM: usize = 512;
+
 /// The text of a step below its heading: a line for each event of its trace, in order, and the line of its answer. Each begins with two
 /// spaces. `Err` is out of memory alone.
 #[tactic(auto, unfolding(crate::specs::Steps::step_text))]
 pub fn step_text(alloc: Global, events: &[Event], answer: &StepResult) -> Result<String, AllocError>
     ensures { IfOk result (λ text. string_bytes text ≡ step_text events.now answer.now) }
 {
-    let mut text = String::new(alloc);
+    let mut text = String::with_capacity(alloc, ROOM)?;
     push_events(alloc, &mut text, events)?;
     push_answer(&mut text, *answer)?;
     Ok(text)

@@ -139,12 +139,12 @@ same_rest : (audit : Bool) (spec now : NetworkSpec) (w next : World) (done befor
     → steps_reply audit spec w done before taken lines ≡ steps_reply audit now next done before taken lines
 same_rest audit spec now w next done before taken lines n s = λ i. steps_reply audit (sym s i) (sym n i) done before taken lines
 
-nothing_here : (audit : Bool) (spec : NetworkSpec) (w : World) (done before taken : ℕ) (line : List ℕ) (lines : List (List ℕ)) → fits_limits taken line ≡ true → asked_of (read_line (text_of line)) ≡ Nothing
+pub nothing_here : (audit : Bool) (spec : NetworkSpec) (w : World) (done before taken : ℕ) (line : List ℕ) (lines : List (List ℕ)) → fits_limits taken line ≡ true → asked_of (read_line (text_of line)) ≡ Nothing
     → steps_reply audit spec w done before taken (line ∷ lines) ≡ steps_reply audit spec w done (before + 1) (taken + length line) lines
 unfolding steps_reply
 nothing_here audit spec w done before taken line lines within asked = rw (within, asked, steps_reply) refl
 
-block_here : (audit : Bool) (spec : NetworkSpec) (w : World) (done before taken : ℕ) (step : Step) (line : List ℕ) (lines : List (List ℕ)) → fits_limits taken line ≡ true → asked_of (read_line (text_of line)) ≡ Asks step
+pub block_here : (audit : Bool) (spec : NetworkSpec) (w : World) (done before taken : ℕ) (step : Step) (line : List ℕ) (lines : List (List ℕ)) → fits_limits taken line ≡ true → asked_of (read_line (text_of line)) ≡ Asks step
     → steps_reply audit spec w done before taken (line ∷ lines)
     ≡ then_on (step_block audit spec w (done + 1) step) (steps_reply audit spec (after (order_of spec) w step) (done + 1) (before + 1) (taken + length line) lines)
 unfolding steps_reply

@@ -45,6 +45,7 @@ front_run words audit left rest old new result r s =
       text = s.text;
       appends = s.appends;
       front = (s.front.0, ap (λ o. o.text) (reply_of words (Run audit) s.taken r) ∙ s.front.1);
+      whole = map_some left _ _ (λ bytes f. (f.0, ap (λ o. o.text) (reply_of words (Run audit) bytes r) ∙ f.1)) s.whole;
       read_failed = λ other w e. let same : other ≡ audit = cc in rw same (s.read_failed e);
       write_failed = λ other w e. let same : other ≡ audit = cc in rw same (s.write_failed e);
       past_limit = λ other w e. let same : other ≡ audit = cc in rw same (s.past_limit e);
@@ -69,6 +70,7 @@ front_written words whole left old new result same n f = record {
   text = f.text;
   appends = f.appends;
   front = (f.front.0, ap (λ o. o.text) (same []) ∙ f.front.1);
+  whole = every_some left _ (λ bytes. (f.front.0, ap (λ o. o.text) (same bytes) ∙ f.front.1));
   read_failed = λ audit w e. let read : reads (task_of words) ≡ true = ap reads w in absurd cc;
   write_failed = λ audit w e. let read : reads (task_of words) ≡ true = ap reads w in absurd cc;
   past_limit = λ audit w e. let read : reads (task_of words) ≡ true = ap reads w in absurd cc;
@@ -86,6 +88,7 @@ front_none words left known (Err gone) e = record {
   text = [];
   appends = Appends-nil known;
   front = (report words [], refl);
+  whole = every_some left _ (λ bytes. (report words bytes, refl));
   read_failed = λ audit w r. absurd cc;
   write_failed = λ audit w r. absurd cc;
   past_limit = λ audit w r. absurd cc;

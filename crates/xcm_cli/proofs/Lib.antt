@@ -3,3 +3,5 @@ pub mod Flowing
 pub mod Streams
 pub mod Headline
 pub mod Numbers
+mod FirstWorlds
+mod Telling

@@ -61,6 +61,17 @@ whole_of lines [] w n = ap (λ l. filter (ends_with 10) (lines ++ l)) (no_lines 
 whole_of lines (b ∷ rest) w n =
     ap (λ l. filter (ends_with 10) (lines ++ l)) (only_line (b ∷ rest) (omega arith) n) ∙ drops_open lines (b ∷ rest) w (no_feed_end (b ∷ rest) (omega arith) n)
 
+-- ---- the whole input
+told : (left rest : Option (List ℕ)) (taken : List ℕ) (P : List ℕ → Type 0) → Consumes left rest taken → ((more : List ℕ) → P (taken ++ more)) → IfSome left P
+told None rest taken P c f = tt
+told (Some bytes) None taken P c f = absurd c
+told (Some bytes) (Some more) taken P c f = rw c (f more)
+
+at_end_of : (left rest : Option (List ℕ)) (taken : List ℕ) (P : List ℕ → Type 0) → Consumes left rest taken → IsAtEnd rest → P taken → IfSome left P
+at_end_of None rest taken P c a p = tt
+at_end_of (Some bytes) None taken P c a p = absurd c
+at_end_of (Some bytes) (Some more) taken P c a p = let e : bytes ≡ taken = c ∙ ap (λ m. taken ++ m) a ∙ append-nil taken in rw e p
+
 module _ (audit : Bool) (left rest old now : Option (List ℕ)) (session : Session) (pending : List ℕ) (s : Streams audit left rest old now session pending) where
   -- the report of what was taken and of what comes
   stream_bytes : (more : List ℕ) → bytes_reply audit (s.taken ++ more) ≡ then_on s.text (reply_at session true (lines_of (pending ++ more)))
@@ -79,6 +90,10 @@ module _ (audit : Bool) (left rest old now : Option (List ℕ)) (session : Sessi
 
   stream_so_far : IsReady session → HasNoFeed pending → so_far audit s.taken ≡ ends s.text Done
   stream_so_far r n = ap (λ l. lines_reply audit false (filter (ends_with 10) l)) stream_lines ∙ ap (lines_reply audit false) (whole_of s.reported pending s.whole n) ∙ stream_reported r
+
+  -- what is written is a front of it, whatever comes
+  stream_ahead : (more : List ℕ) → IsFront s.text (bytes_reply audit (s.taken ++ more)).text
+  stream_ahead more = ((reply_at session true (lines_of (pending ++ more))).text, ap (λ o. o.text) (stream_bytes more))
 
   stream_front : IsFront s.text (bytes_reply audit s.taken).text
   stream_front = ((reply_at session true (lines_of pending)).text, ap (λ o. o.text) stream_taken)
@@ -104,6 +119,7 @@ module _ (audit : Bool) (left rest old now : Option (List ℕ)) (session : Sessi
     text = s.text;
     appends = s.appends;
     front = stream_front;
+    whole = told left rest s.taken (λ bytes. IsFront s.text (bytes_reply audit bytes).text) s.consumed stream_ahead;
     ended = λ status e k. absurd (k (inl cc));
     read_failed = λ e. stream_so_far r n;
     write_failed = λ e. absurd cc;
@@ -170,16 +186,6 @@ near_of pending piece before line behind e n few (inl w) =
     sym (length-append pending piece) ∙ ap length parts ∙ length-append (concat before) (line ++ concat behind) ∙ ap (λ k. length (concat before) + k) (length-append line (concat behind)) in
     omega arith
 
-told : (left rest : Option (List ℕ)) (taken : List ℕ) (P : List ℕ → Type 0) → Consumes left rest taken → ((more : List ℕ) → P (taken ++ more)) → IfSome left P
-told None rest taken P c f = tt
-told (Some bytes) None taken P c f = absurd c
-told (Some bytes) (Some more) taken P c f = rw c (f more)
-
-at_end_of : (left rest : Option (List ℕ)) (taken : List ℕ) (P : List ℕ → Type 0) → Consumes left rest taken → IsAtEnd rest → P taken → IfSome left P
-at_end_of None rest taken P c a p = tt
-at_end_of (Some bytes) None taken P c a p = absurd c
-at_end_of (Some bytes) (Some more) taken P c a p = let e : bytes ≡ taken = c ∙ ap (λ m. taken ++ m) a ∙ append-nil taken in rw e p
-
 module _ (audit : Bool) (left rest old now : Option (List ℕ)) (session : Session) (pending : List ℕ) (s : Streams audit left rest old now session pending) where
   -- the report of these lines goes on from what is written
   before_front : (before : List (List ℕ)) (text : List ℕ) → IsFront (reply_at session false before).text text → IsFront (lines_reply audit false (s.reported ++ before)).text (s.text ++ text)
@@ -226,6 +232,8 @@ module _ (audit : Bool) (left rest old now : Option (List ℕ)) (session : Sessi
     text = s.text ++ p.text;
     appends = Appends-trans old now new s.text p.text s.appends p.appends;
     front = then_front _ _ s.text p.text (piece_taken piece) (front_here piece p.text p.front);
+    whole = told left less (s.taken ++ piece) (λ bytes. IsFront (s.text ++ p.text) (bytes_reply audit bytes).text) (Consumes-trans left rest less s.taken piece s.consumed c)
+        (λ more. then_front _ _ s.text p.text (piece_bytes piece more) (p.front true more));
     ended = λ status r f. told left less (s.taken ++ piece) (λ bytes. bytes_reply audit bytes ≡ ends (s.text ++ p.text) status) (Consumes-trans left rest less s.taken piece s.consumed c)
         (λ more. then_ends _ _ s.text p.text status (piece_bytes piece more) (p.ended status (e ∙ ap (λ x. Ok (Some x)) cc) (λ w. f (inr w)) true more));
     read_failed = λ r. absurd (k (e ∙ ap (λ x. Ok (Some x)) cc));
@@ -241,6 +249,8 @@ module _ (audit : Bool) (left rest old now : Option (List ℕ)) (session : Sessi
     text = s.text ++ p.text;
     appends = Appends-trans old now new s.text p.text s.appends p.appends;
     front = then_front _ _ s.text p.text (piece_taken piece) (front_here piece p.text p.front);
+    whole = told left less (s.taken ++ piece) (λ bytes. IsFront (s.text ++ p.text) (bytes_reply audit bytes).text) (Consumes-trans left rest less s.taken piece s.consumed c)
+        (λ more. then_front _ _ s.text p.text (piece_bytes piece more) (p.front true more));
     ended = λ status r f. cc;
     read_failed = λ r. absurd cc;
     write_failed = λ r. absurd cc;
@@ -274,6 +284,8 @@ module _ (audit : Bool) (left rest old now : Option (List ℕ)) (session : Sessi
         text = s.text ++ f.text;
         appends = Appends-trans old now new s.text f.text s.appends f.appends;
         front = then_front _ _ s.text f.text (stream_taken audit left rest old now session pending s) f.front;
+        whole = at_end_of left less s.taken (λ bytes. IsFront (s.text ++ f.text) (bytes_reply audit bytes).text) consumed a
+            (then_front _ _ s.text f.text (stream_taken audit left rest old now session pending s) f.front);
         ended = λ status r k. at_end_of left less s.taken (λ bytes. bytes_reply audit bytes ≡ ends (s.text ++ f.text) status) consumed a
             (then_ends _ _ s.text f.text status (stream_taken audit left rest old now session pending s) (f.ended status r (λ w. k (inr w))));
         read_failed = λ r. absurd (f.no_read r);
@@ -292,6 +304,7 @@ module _ (audit : Bool) (left rest old now : Option (List ℕ)) (session : Sessi
     text = s.text;
     appends = s.appends;
     front = stream_front audit left rest old now session pending s;
+    whole = told left rest s.taken (λ bytes. IsFront s.text (bytes_reply audit bytes).text) s.consumed (stream_ahead audit left rest old now session pending s);
     ended = λ status e k. told left rest s.taken (λ bytes. bytes_reply audit bytes ≡ ends s.text status) s.consumed
         (λ more. then_ends _ _ s.text [] TooLong (stream_bytes audit left rest old now session pending s more) (over true more) ∙ ap (λ t. ends t TooLong) (append-nil s.text) ∙ ap (λ x. ends s.text x) cc);
     read_failed = λ e. absurd cc;

@@ -4,3 +4,4 @@ pub mod Report
 pub mod Session
 pub mod Feeding
 pub mod Serving
+pub mod Told

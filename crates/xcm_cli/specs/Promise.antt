@@ -1,18 +1,53 @@
--- What is promised of every run of a coherent network, whatever its steps. This project's own rule.
+-- What is promised of every run of a network, whatever its steps. This project's own rule.
 use Rattle.std.specs.Prelude.{List}
+use Rattle.std.specs.List.{AllByRecursion}
 use Rattle.network_spec.specs.declared.network.NetworkSpec.{NetworkSpec}
 use Rattle.network_genesis.specs.Genesis.{first_world, order_of}
-use Rattle.network_steps.specs.Steps.{Step}
-use Rattle.conserved_networks.specs.Kept.{NetworkKept}
+use Rattle.network_steps.specs.Steps.{Step, worlds}
+use Rattle.audit_laws.specs.Printed.{IsPrinted}
+use Rattle.authority.specs.Products.{NoProductFalls}
+use Rattle.authority.specs.Speakers.{AreAuthorized}
+use Rattle.lock_laws.specs.Floors.{AllHoldFloors}
+use Rattle.conserved_networks.specs.Drained.{by_deliveries}
+use Rattle.conserved_networks.specs.Kept.{NetworkKept, NetworkSound, NetworkRunsKept, NetworkAccountsRise, NetworkShaped}
+use Rattle.paid_messages.specs.Covered.{AllCovered}
 use Rattle.paid_messages.specs.Paid.{WithdrawalsPaid, TeleportsReceived, NoneLost}
+use Rattle.overflow_laws.specs.Barring.{NeverBarred}
 use Rattle.overflow_laws.specs.Excess.{NoExcessEver}
 
+-- the steps with each drain as the deliveries that it makes, one by one
+abbrev pub singly : NetworkSpec → List Step → List Step
+singly spec steps = by_deliveries (order_of spec) (first_world spec) steps
+
+-- of every network that is read, coherent or not
+pub record IsLawful (spec : NetworkSpec) (steps : List Step) : Type 0 where
+  -- an account falls only by its own executions on its chain, by a message of its chain, or as a pool's
+  pub authorized : AreAuthorized (order_of spec) (first_world spec) steps
+  -- and no pool's product of reserves ever falls
+  pub products : AllByRecursion (NoProductFalls (first_world spec)) (worlds (order_of spec) (first_world spec) steps)
+  -- each account keeps what is locked there
+  pub floors : AllByRecursion AllHoldFloors (worlds (order_of spec) (first_world spec) steps)
+  -- each message that waits has one of the seven shapes
+  pub shaped : NetworkShaped spec steps
+
+-- of every network in which none of the seven causes is found
 pub record IsSecure (spec : NetworkSpec) (steps : List Step) : Type 0 where
-  -- every world keeps each asset, backs each derivative, and covers with each checking account what stands elsewhere
+  -- every world keeps each asset, backs each derivative, has each instance at most once, and covers with each checking account what stands
+  -- elsewhere
   pub kept : NetworkKept spec steps
+  -- in every world each unit of every place and each burn belongs to a listed row
+  pub sound : NetworkSound spec steps
+  -- and so it is inside each run, wherever it comes, and where memory is refused to it
+  pub inside : NetworkRunsKept spec steps
   -- each withdrawal that is admitted is paid, and each teleport that is admitted is received, so that nothing of it is lost
   pub paid : WithdrawalsPaid (order_of spec) (first_world spec) steps
   pub received : TeleportsReceived (order_of spec) (first_world spec) steps
   pub none_lost : NoneLost (order_of spec) (first_world spec) steps
   -- nothing is burned because an amount passes its end or an instance is there already
   pub no_excess : NoExcessEver (order_of spec) (first_world spec) steps
+  -- no deposit is refused because an amount would pass its end or an instance is there; no checking account is too full or too low
+  pub unbarred : NeverBarred (order_of spec) (first_world spec) steps
+  pub rising : NetworkAccountsRise spec steps
+  pub covered : AllCovered (order_of spec) (first_world spec) steps
+  -- in every world what the supply block prints of an asset is together what it was at first, and no more is owed than held
+  pub printed : AllByRecursion (IsPrinted (first_world spec)) (worlds (order_of spec) (first_world spec) steps)

@@ -2,6 +2,7 @@
 #![tactic(auto)]
 
 mod feeder;
+mod laws;
 mod limits;
 mod phase;
 mod serving;

@@ -1,30 +1,29 @@
 //! The run of the program.
 
-ghost use Rattle.std.specs.Prelude.{◌≡◌, ◌≢◌, ◌⊎◌, true, None, Ok, IfOk, IfSome};
+ghost use Rattle.std.specs.Prelude.{◌≡◌, ◌≢◌, ◌⊎◌, ◌≤◌, ℕ, true, false, Bool, List, [], None, Ok, length, IfOk, IfSome};
 ghost use Rattle.std.specs.Io.KnownBytes.{Appends, IsAtEnd};
 ghost use Rattle.std.specs.declared.alloc.AllocError.{AllocError};
 ghost use Rattle.xcm_io.specs.Causes.{Rose};
 ghost use Rattle.network_spec.specs.declared.network.NetworkSpec.{NetworkSpec};
 ghost use Rattle.network_config.specs.Network.{network_of};
 ghost use Rattle.network_genesis.specs.Genesis.{entries_of};
+ghost use Rattle.network_steps.specs.Steps.{Step};
 ghost use Rattle.coherence.specs.Causes.{first_cause};
-ghost use Rattle.xcm_cli.specs.Report.{report, fate, ends, usage_reply, generated_reply, network_bytes, steps_of};
+ghost use Rattle.xcm_cli.specs.Report.{report, fate, ends, usage_reply, generated_reply, network_bytes, steps_of, bytes_reply, max_network};
 ghost use Rattle.generator.specs.Generated.{generated};
-ghost use Rattle.xcm_cli.specs.Promise.{IsSecure};
+ghost use Rattle.xcm_cli.specs.Promise.{IsLawful, IsSecure};
+ghost use Rattle.xcm_cli.specs.Told.{TellsOf, told_of};
 ghost use Rattle.xcm_cli.specs.Words.{task_of, reads};
 ghost use Rattle.xcm_cli.specs.declared.words.Task.TheVariants.{Usage};
 ghost use Rattle.xcm_cli.specs.Session.{IsFault, Finishes};
 ghost use Rattle.xcm_cli.specs.Serving.{ServesWords};
 
+use crate::laws::law_of_inputs;
 use crate::serving::serve;
 use crate::status::Status;
 use crate::texts::USAGE;
 use crate::words::{Task, task_of};
-use conserved_networks::law_of_conserved_networks;
 use generator::generate;
-use network_laws::law_of_read_networks;
-use overflow_laws::law_of_unsaturated_worlds;
-use paid_messages::law_of_paid_messages;
 use std::alloc::{AllocError, Global};
 use step_text::network_refused_line;
 use xcm_io::{Sink, Source, write_whole};
@@ -42,7 +41,12 @@ pub fn run<I: Source, O: Sink>(
     ensures answer { IfOk result (λ status. ¬ IsFault status → IfSome (I.left input.old) (λ bytes.
         (status ≡ fate words.now bytes) × Appends (O.written out.old) (O.written out.new) (report words.now bytes))) }
 
-    // Whatever happens, a front of the report of what was taken is written; and which front, after a fault or past a limit.
+    // With other words than those of a run that is so whatever the source tells.
+    ensures unread { reads (task_of words.now) ≡ false → IfOk result (λ status. ¬ IsFault status
+        → (status ≡ fate words.now []) × Appends (O.written out.old) (O.written out.new) (report words.now [])) }
+
+    // Whatever happens, a front of the report of what was taken is written, which is one of the whole input's; and which front, after a fault or
+    // past a limit.
     ensures front { ServesWords words.now (I.left input.old) (I.left input.new) (O.written out.old) (O.written out.new) result }
 
     // Where the input is read, Done leaves the source at its end.
@@ -56,15 +60,22 @@ pub fn run<I: Source, O: Sink>(
     ensures usage { task_of words.now ≡ Usage → IfOk result (λ status. (status ≡ Status.Usage) ⊎ (status ≡ Status.WriteFault)) }
     ensures other { result ≡ Ok Status.Usage → task_of words.now ≡ Usage }
 
-    // Where the input's network is read and none of the seven causes is found in it, every world of its run keeps each asset, backs
-    // each derivative and has right checking accounts; what is admitted is paid and received; and no joining of bundles burns what
-    // would pass an amount's end or is there already.
-    ensures kept { IfSome (I.left input.old) (λ bytes. (spec : NetworkSpec) → network_of (network_bytes bytes) ≡ Ok spec → first_cause (entries_of spec) ≡ None → IsSecure spec (steps_of bytes)) }
+    // Whatever document is read as a network and whatever the steps, as those of an input (`steps_of`), those with each drain as its deliveries
+    // (`singly`) or those that are drawn: an account falls only by its own executions, by a message of its chain or as a pool's, no pool's
+    // product falls, each account keeps what is locked there, and each message that waits has its shape.
+    ensures lawful { (part : List ℕ) (spec : NetworkSpec) (steps : List Step) → network_of part ≡ Ok spec → IsLawful spec steps }
+
+    // Where moreover none of the seven causes is found in it, every world keeps each asset, backs each derivative and has right checking
+    // accounts, inside runs too; what is admitted is paid and received; no joining of bundles burns what would pass an amount's end or is
+    // there already; and in every world the sums which the supply block prints are conserved and covered.
+    ensures kept { (part : List ℕ) (spec : NetworkSpec) (steps : List Step) → network_of part ≡ Ok spec
+        → first_cause (entries_of spec) ≡ None → IsSecure spec steps }
+
+    // The report of an input is the opening, and then the blocks of its steps, each in the world to which those before it lead.
+    ensures told { (audit : Bool) (bytes : List ℕ) (spec : NetworkSpec) → network_of (network_bytes bytes) ≡ Ok spec
+        → length (network_bytes bytes) ≤ max_network → TellsOf (bytes_reply audit bytes) (told_of audit spec (steps_of bytes)) }
 {
-    law_of_read_networks(); // For the prover alone, as the next three.
-    law_of_conserved_networks();
-    law_of_paid_messages();
-    law_of_unsaturated_worlds();
+    law_of_inputs(); // For the prover alone.
     match task_of(alloc, words)? {
         Task::Run { audit } => serve(alloc, audit, input, out),
         Task::Generate { number, steps } => write_generated(alloc, number, steps, out),

@@ -7,7 +7,8 @@ use Rattle.network_genesis.specs.Genesis.{order_of, first_world}
 use Rattle.message_shapes.specs.Shapes.{AllShaped}
 use Rattle.chain_net.specs.Nets.{world_of, spec_of}
 use Rattle.net_laws.proofs.Lasts.{all_last}
-use Rattle.net_laws.proofs.Stopped.{delivery_steps, last_behind, same_deliveries}
+use Rattle.conserved_networks.specs.Drained.{delivery_steps}
+use Rattle.conserved_networks.specs.DrainedLaws.{last_behind, same_deliveries}
 use Rattle.net_laws.proofs.StoppedShapes.{StopLaws, exec_shaped, exec_authorized, deliver_shaped, deliver_authorized}
 use Rattle.net_laws.proofs.laws.law_of_stopped_messages.Goals as goal
 
@@ -27,7 +28,7 @@ returns c =
     let shaped_behind : (old : Net) (steps : List Step) → HasRun old steps → (made : ℕ) → AllShaped (behind old made) = λ old steps run made.
     let order = order_of (spec_of old) in
     let first = first_world (spec_of old) in
-    let more = delivery_steps made order (last_world order first steps) in
+    let more = delivery_steps (deliveries made order (last_world order first steps)) in
     let same = last_behind order first steps more ∙ same_deliveries made order (last_world order first steps) ∙ ap (λ (w : World). world_behind w (deliveries made order w)) (sym run) in
     subst AllShaped same (shaped old (steps ++ more)) in
     record {
