@@ -88,7 +88,7 @@ not_both : (b : Bool) → (b && false) ≡ false
 not_both true = refl
 not_both false = refl
 
-same_test : (id other : AssetId) (x : Option Instance) → is_asset id Kind.Fungible (other, x) ≡ eq_by_cmp unit_cmp (id, None) (other, x)
+pub same_test : (id other : AssetId) (x : Option Instance) → is_asset id Kind.Fungible (other, x) ≡ eq_by_cmp unit_cmp (id, None) (other, x)
 same_test id other None = tie_id (asset_id_cmp id other)
 same_test id other (Some instance) = not_both (is_eq (asset_id_cmp id other))
 

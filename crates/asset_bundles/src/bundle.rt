@@ -11,10 +11,10 @@ ghost use Rattle.asset_bundles.specs.Joins.{IsWithinMost};
 ghost use Rattle.asset_bundles.specs.Taking.{IsTakeFault};
 
 use crate::TakeFault;
-use crate::items::{amounts_fit, held, holds, total};
+use crate::items::{amount_held, amounts_fit, holds, total};
 use crate::portions::{chosen, cut, parted, parted_by_list};
 use crate::spending::give_up;
-use asset_lists::{Asset, AssetId, Assets, Filter, Fun, Kind, copied};
+use asset_lists::{Asset, AssetId, Assets, Filter, Kind, copied};
 use std::alloc::{AllocError, Global};
 use std::marker::Model;
 
@@ -85,11 +85,7 @@ impl AssetBundle {
     pub fn amount(&self, id: &AssetId) -> u128
         ensures { result ≡ amount self.now (id.now, None) }
     {
-        let asset = Asset {
-            id: id.copy(),
-            fun: Fun::Fungible(0),
-        };
-        held(self.items.as_slice(), &asset)
+        amount_held(self.items.as_slice(), id)
     }
 
     /// The amount of a fungible asset in its smallest unit, or the number of instances of a class.

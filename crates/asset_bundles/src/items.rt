@@ -1,5 +1,5 @@
 //! Lists of assets in holding order.
-ghost use Rattle.std.specs.Prelude.{◌≡◌, nat_le};
+ghost use Rattle.std.specs.Prelude.{◌≡◌, nat_le, None};
 ghost use Rattle.std.specs.List.{list_all};
 ghost use Rattle.std.specs.Ordering.{eq_by_cmp};
 ghost use Rattle.amounts.specs.Rows.{sum_where};
@@ -33,6 +33,26 @@ pub(crate) fn held(items: &[Asset], asset: &Asset) -> u128
 {
     for item in items {
         if is_same_unit(asset, item) {
+            return item.amount();
+        }
+    }
+    0
+}
+
+/// Whether it is an amount of the fungible asset of this id.
+#[tactic(auto, using(crate::proofs::Finding::same_test))]
+fn is_amount_of(id: &AssetId, item: &Asset) -> bool
+    ensures { result ≡ eq_by_cmp unit_cmp (id.now, None) (unit_of item.now) }
+{
+    matches!(item.fun, Fun::Fungible(_)) && *id == item.id
+}
+
+/// The amount of the fungible asset of this id.
+pub(crate) fn amount_held(items: &[Asset], id: &AssetId) -> u128
+    ensures { result ≡ found (id.now, None) items.now }
+{
+    for item in items {
+        if is_amount_of(id, item) {
             return item.amount();
         }
     }
@@ -76,13 +96,7 @@ pub(crate) fn total(items: &[Asset], id: &AssetId, kind: Kind) -> u128
     ensures { result ≡ total (is_asset id.now kind) (bundle_of items.now) }
 {
     match kind {
-        Kind::Fungible => {
-            let asset = Asset {
-                id: id.copy(),
-                fun: Fun::Fungible(0),
-            };
-            held(items, &asset)
-        }
+        Kind::Fungible => amount_held(items, id),
         Kind::Class => count(items, id) as u128,
     }
 }

@@ -13,6 +13,7 @@ use asset_lists::{Asset, AssetId, Assets, Filter, Fun, Wild, WildFun, copied};
 use std::alloc::{AllocError, Global};
 
 /// The same asset with this amount; an instance stays as it is.
+#[inline(always)]
 pub(crate) fn with_amount(item: &Asset, amount: u128) -> Asset
     ensures { result ≡ asset_with item.now amount }
 {

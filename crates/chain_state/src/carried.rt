@@ -11,10 +11,10 @@ ghost use Rattle.chain_state.specs.Arrivals.{arrival_by, is_away};
 use crate::ChainState;
 use crate::arrivals::ArrivalCall;
 use asset_bundles::{AssetBundle, Shipment, Way, law_of_landing};
-use asset_lists::{Asset, Assets, copied, law_of_reanchored_lists};
+use asset_lists::{Asset, Assets, law_of_reanchored_lists};
 use chain_lists::{named, place_for};
 use chain_queues::Cargo;
-use std::alloc::{AllocError, Global};
+use std::alloc::AllocError;
 use std::mem::replace;
 use trust_tables::Site;
 
@@ -49,13 +49,13 @@ impl ArrivalCall {
 }
 
 /// The assets of a cargo, under the sender's ids.
-fn cargo_list(alloc: Global, cargo: &Cargo) -> Result<Vec<Asset>, AllocError>
-    ensures { IfOk result (λ list. list.items ≡ cargo_list cargo.now) }
+fn cargo_list(cargo: &Cargo) -> &[Asset]
+    ensures { result.now ≡ cargo_list cargo.now }
 {
     match cargo {
-        Cargo::Nothing => Ok(Vec::new(alloc)),
-        Cargo::Deposit(list) => copied(alloc, list.items()),
-        Cargo::Away(shipment) => shipment.list(),
+        Cargo::Nothing => &[],
+        Cargo::Deposit(list) => list.items(),
+        Cargo::Away(shipment) => shipment.items(),
     }
 }
 
@@ -90,13 +90,13 @@ impl ChainState {
         let Some(target) = place_for(self.sender, self.settings.site.chain) else {
             return Ok(false);
         };
-        let alloc = *self.events.allocator();
-        let carried = cargo_list(alloc, &self.cargo)?;
         let sender = Site {
             network: self.settings.site.network,
             chain: self.sender,
         };
-        let Some(seen) = named(alloc, carried.as_slice(), &target, &sender.path())? else {
+        let alloc = *self.events.allocator();
+        let carried = cargo_list(&self.cargo);
+        let Some(seen) = named(alloc, carried, &target, &sender.path())? else {
             return Ok(false);
         };
         Ok(are_same(seen.as_slice(), list.items()))

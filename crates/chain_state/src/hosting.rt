@@ -210,6 +210,7 @@ impl Host for ChainState {
         self.exchange_for(give, want, maximal)
     }
 
+    #[inline(always)]
     fn event(&mut self, e: Event) -> Result<(), AllocError> {
         self.tell(e)
     }

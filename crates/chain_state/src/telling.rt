@@ -50,6 +50,7 @@ impl ChainState {
     }
 
     /// Tells an event, and behind it what is kept back.
+    #[inline(always)]
     #[tactic(auto, unfolding(exec_base::specs::Host::told))]
     pub(crate) fn tell(&mut self, e: Event) -> Result<(), AllocError>
         ensures step { Gives tt (told (part_of self.old) e) (part_of self.old) result (part_of self.new) }

@@ -25,6 +25,7 @@ pub(crate) fn empty_place() -> Location
 
 /// Puts an instruction into its place. What stood there is dropped here alone, so that no reader has to look through all that an
 /// instruction may keep.
+#[inline(always)]
 pub(crate) fn put(slot: &mut Instruction, instruction: Instruction)
     ensures { slot.new ≡ instruction }
 {

@@ -2,3 +2,4 @@ pub mod DerivedOrders
 pub mod CommonPrefix
 pub mod Inversion
 pub mod ThreeSteps
+pub mod WaysDown

@@ -1,7 +1,9 @@
 //! What a location becomes when another chain looks at the same place.
 ghost use Rattle.std.specs.Prelude.{◌≡◌, ◌<◌, ◌≤◌, OnOk, MatchResult, length};
-ghost use Rattle.locations.specs.Steps.{inverted, prepended, simplified, Becomes};
-ghost use Rattle.locations.specs.Reanchoring.{reanchored};
+ghost use Rattle.std.specs.List.{common_prefix_len};
+ghost use Rattle.locations.specs.Chains.{same_junction};
+ghost use Rattle.locations.specs.Steps.{inverted, prepended, shortened, simplified, Becomes};
+ghost use Rattle.locations.specs.Reanchoring.{raised_parents, reanchored, way_down};
 
 use crate::interior::{common_length, last};
 use crate::{Full, Junction, Junctions, Location, LocationFault, MAX_JUNCTIONS};
@@ -79,10 +81,70 @@ impl Location {
     ) -> Result<Location, LocationFault>
         ensures { result ≡ reanchored self.now target.now context.now }
     {
-        let own = invert_target(context, target)?;
-        let mut seen = self.copy();
-        seen.prepend_with(&own)?;
-        seen.simplify(&target.interior);
-        Ok(seen)
+        if usize::from(target.parents) > MAX_JUNCTIONS {
+            return Err(LocationFault::Full);
+        }
+        if self.parents > target.parents {
+            return self.raised(target);
+        }
+        let way = self.way_down(target, context)?;
+        Ok(forked(way, target))
+    }
+
+    /// The location where it lies above all that it shares with the target: as many parents more as the target has junctions behind its own
+    /// parents.
+    fn raised(&self, target: &Location) -> Result<Location, LocationFault>
+        requires above { target.now.parents < self.now.parents }
+        ensures { MatchResult result
+            (λ l. (raised_parents self.now target.now ≤ 255) × (l ≡ record { parents = raised_parents self.now target.now; interior = self.now.interior }))
+            (λ fault. (255 < raised_parents self.now target.now) × (fault ≡ LocationFault.TooHigh)) }
+    {
+        let above = usize::from(self.parents) - usize::from(target.parents);
+        let parents = target.interior.items().len() + above;
+        if parents > 255 {
+            return Err(LocationFault::TooHigh);
+        }
+        Ok(Location {
+            parents: parents as u8,
+            interior: self.interior.copy(),
+        })
+    }
+
+    /// The way down to the place from the highest point that the target reaches: the first of the context's last junctions, `OnlyChild`
+    /// for each one that is missing, and then its own.
+    fn way_down(&self, target: &Location, context: &Junctions) -> Result<Junctions, Full>
+        requires near { target.now.parents ≤ 8 }
+        requires below { self.now.parents ≤ target.now.parents }
+        ensures { MatchResult result
+            (λ way. (length (way_down self.now target.now context.now) ≤ 8) × (way ≡ way_down self.now target.now context.now))
+            (λ _. 8 < length (way_down self.now target.now context.now)) }
+    {
+        let known = last(context.items(), usize::from(target.parents));
+        let missing = usize::from(target.parents) - known.len();
+        let above = usize::from(target.parents) - usize::from(self.parents);
+        let blanks = above.min(missing);
+        let unknown = [Junction::OnlyChild; MAX_JUNCTIONS];
+        let mut way = Junctions::joined(&unknown[..blanks], &known[..above - blanks])?;
+        way.append(&self.interior)?;
+        Ok(way)
+    }
+}
+
+/// The location at the end of a way down, without the junctions with which it goes along the target's, each with a parent.
+fn forked(way: Junctions, target: &Location) -> Location
+    ensures { result ≡ shortened (common_prefix_len same_junction target.now.interior way) (record { parents = length target.now.interior; interior = way }) }
+{
+    let down = target.interior.items();
+    let shared = common_length(down, way.items());
+    let parents = (down.len() - shared) as u8;
+    if shared == 0 {
+        return Location {
+            parents,
+            interior: way,
+        };
+    }
+    Location {
+        parents,
+        interior: Junctions::from_few(&way.items()[shared..]),
     }
 }

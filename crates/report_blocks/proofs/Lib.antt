@@ -1,3 +1,4 @@
 mod Apart
 mod Draining
 mod Reading
+pub mod Listed

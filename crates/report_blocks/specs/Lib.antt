@@ -3,3 +3,5 @@ pub mod Titles
 pub mod Reads
 pub mod Blocks
 pub mod Serving
+pub mod Tables
+pub mod NetCode

@@ -5,6 +5,7 @@ ghost use Rattle.chain_net.specs.Nets.{world_of, spec_of, is_stopped};
 ghost use Rattle.report_blocks.specs.Blocks as blocks;
 ghost use Rattle.report_blocks.specs.Serving.{IsOpened, IsRefused};
 
+use crate::AuditedNet;
 use crate::reads::{coherence_line, supply_block};
 use chain_net::Net;
 use document_forms::NetworkFault;
@@ -29,12 +30,12 @@ pub fn open_network(alloc: Global, bytes: &[u8]) -> Result<Result<Net, NetworkFa
 
 /// What is written when a network opens: whether it is coherent, and what its assets sum to. `Err` is out of memory alone.
 #[tactic(auto, unfolding(crate::specs::Blocks::opening_text))]
-pub fn opening_text(alloc: Global, net: &Net) -> Result<String, AllocError>
+pub fn opening_text(alloc: Global, net: &AuditedNet) -> Result<String, AllocError>
     requires first { world_of net.now ≡ first_world (spec_of net.now) }
     ensures text { IfOk result (λ text. string_bytes text ≡ blocks.opening_text (spec_of net.now)) }
 {
-    let mut text = coherence_line(alloc, net)?;
-    let sums = supply_block(alloc, net)?;
+    let mut text = coherence_line(alloc, &net.net)?;
+    let sums = supply_block(alloc, &net.net, &net.plan)?;
     text.push_str(&sums)?;
     Ok(text)
 }

@@ -2,11 +2,12 @@
 ghost use Rattle.std.specs.Prelude.{◌≡◌, IfOk, string_bytes};
 ghost use Rattle.network_genesis.specs.Genesis.{order_of};
 ghost use Rattle.chain_net.specs.Nets.{world_of, spec_of};
+ghost use Rattle.report_blocks.specs.Tables.{IsPlanOf};
 ghost use Rattle.report_blocks.specs.Reads as reads;
 
 use chain_net::Net;
 use network_coherence::coherent;
-use report_text::{balances_text, queues_text, traps_text};
+use report_text::{SupplyPlan, balances_text, queues_text, traps_text};
 use std::alloc::{AllocError, Global};
 use step_text::opening_line;
 
@@ -41,9 +42,17 @@ pub(crate) fn queues_block(alloc: Global, net: &Net) -> Result<String, AllocErro
     queues_text(alloc, net.spec().channels.items(), net.chains())
 }
 
-/// What the network has of each asset that is native somewhere, and what backs each derivative.
-pub(crate) fn supply_block(alloc: Global, net: &Net) -> Result<String, AllocError>
+/// What the network has of each asset that is native somewhere, and what backs each derivative; by a plan, where there is one.
+pub(crate) fn supply_block(
+    alloc: Global,
+    net: &Net,
+    plan: &Option<SupplyPlan>,
+) -> Result<String, AllocError>
+    requires { IsPlanOf plan.now (world_of net.now) }
     ensures { IfOk result (λ text. string_bytes text ≡ reads.supply_block (world_of net.now)) }
 {
-    report_text::supply_block(alloc, net.chains())
+    match plan {
+        Some(plan) => plan.block(alloc, net.chains()),
+        None => report_text::supply_block(alloc, net.chains()),
+    }
 }

@@ -4,13 +4,13 @@ ghost use Rattle.chain_net.specs.Nets.{world_of, spec_of, is_stopped};
 ghost use Rattle.report_blocks.specs.Asked.{asked_of};
 ghost use Rattle.report_blocks.specs.Serving.{IsServed};
 
-use crate::Served;
 use crate::reads::supply_block;
 use crate::steps::step_lines;
 use crate::title::Title;
 use crate::titles::title_of;
-use chain_net::Net;
+use crate::{AuditedNet, Served};
 use input_lines::Line;
+use network_steps::law_of_settings;
 use std::alloc::{AllocError, Global};
 use step_text::heading;
 
@@ -19,7 +19,7 @@ use step_text::heading;
 #[tactic(auto, unfolding(crate::specs::Blocks::step_block))]
 pub fn serve(
     alloc: Global,
-    net: &mut Net,
+    net: &mut AuditedNet,
     audit: bool,
     number: u64,
     line: &Line,
@@ -29,16 +29,19 @@ pub fn serve(
     ensures running { OnOk result (is_stopped net.new ≡ false) }
     ensures spec { spec_of net.new ≡ spec_of net.old }
 {
+    law_of_settings(); // For the prover alone.
     let words = match title_of(line) {
         Title::Nothing => return Ok(Served::Nothing),
         Title::Unknown => return Ok(Served::Unknown),
         Title::Step(words) => words,
     };
     let mut text = heading(alloc, number, words)?;
-    let lines = step_lines(alloc, net, line)?;
+    let plan = net.plan.take();
+    let lines = step_lines(alloc, &mut net.net, &plan, line)?;
+    net.plan = plan;
     text.push_str(&lines)?;
     if audit {
-        let sums = supply_block(alloc, net)?;
+        let sums = supply_block(alloc, &net.net, &net.plan)?;
         text.push_str(&sums)?;
     }
     Ok(Served::Block(text))

@@ -3,6 +3,7 @@ ghost use Rattle.std.specs.Prelude.{◌≡◌, IfOk, OnOk, false, string_bytes};
 ghost use Rattle.chain_net.specs.Nets.{world_of, spec_of, is_stopped};
 ghost use Rattle.report_blocks.specs.Asked.{asked_of};
 ghost use Rattle.report_blocks.specs.Blocks.{drain_lines, lines_of_step};
+ghost use Rattle.report_blocks.specs.Tables.{IsPlanOf};
 ghost use Rattle.report_blocks.specs.Serving.{IsRun, IsStep};
 ghost use Rattle.network_steps.specs.Steps.{drain, after, exec, deliver, claim};
 ghost use Rattle.network_steps.specs.Steps as steps;
@@ -13,14 +14,21 @@ use chain_ids::ChainId;
 use chain_net::Net;
 use input_lines::Line;
 use message_shapes::law_of_drains;
+use report_text::SupplyPlan;
 use std::alloc::{AllocError, Global};
 use step_text::{drained_line, step_text};
 
 /// Runs the step that the line asks for, and gives the lines that stand below its heading.
 #[tactic(auto, unfolding(crate::specs::Asked::asked_of, crate::specs::Blocks::step_lines))]
-pub(crate) fn step_lines(alloc: Global, net: &mut Net, line: &Line) -> Result<String, AllocError>
+pub(crate) fn step_lines(
+    alloc: Global,
+    net: &mut Net,
+    plan: &Option<SupplyPlan>,
+    line: &Line,
+) -> Result<String, AllocError>
     requires running { is_stopped net.old ≡ false }
     requires step { IsStep (asked_of line.now) }
+    requires plan { IsPlanOf plan.now (world_of net.old) }
     ensures run { IfOk result (λ text. IsRun (spec_of net.old) (world_of net.old) (asked_of line.now) (string_bytes text) (world_of net.new)) }
     ensures running { OnOk result (is_stopped net.new ≡ false) }
     ensures spec { spec_of net.new ≡ spec_of net.old }
@@ -46,7 +54,7 @@ pub(crate) fn step_lines(alloc: Global, net: &mut Net, line: &Line) -> Result<St
         Line::Balances => balances_block(alloc, net),
         Line::Traps => traps_block(alloc, net),
         Line::Queues => queues_block(alloc, net),
-        Line::Supply => supply_block(alloc, net),
+        Line::Supply => supply_block(alloc, net, plan),
         Line::NoStep | Line::Refused => unreachable!(),
     }
 }

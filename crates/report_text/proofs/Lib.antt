@@ -1,8 +1,8 @@
 pub mod Totals
 pub mod Putting
 pub mod Pieces
-pub mod Lines
 pub mod Order
 pub mod Homes
 pub mod Found
 pub mod Links
+pub mod Planning

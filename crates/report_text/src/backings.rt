@@ -4,90 +4,157 @@ ghost use Rattle.std.specs.List.{enumerate_from};
 ghost use Rattle.trust_tables.specs.Chains.{path_of_site};
 ghost use Rattle.network_genesis.specs.Tests.{has_path, have_paths};
 ghost use Rattle.chain_state.specs.PartOf.{part_of};
-ghost use Rattle.report_text.specs.Block.{backing_text_of, backing_if, backings_of};
+ghost use Rattle.supply_audit.specs.Places.{table_of};
+ghost use Rattle.report_text.specs.Plan.{backing_beginning, planned_backing, planned_if, planned_backings, planned_backing_text};
 
+use crate::figures::{kind_name, push_sum};
 use crate::paths::path_in;
 use chain_state::ChainState;
+use location_wire::path_text;
 use std::alloc::{AllocError, Global};
-use step_text::backing_line;
-use supply_audit::backing;
+use std::fmt::Write;
+use std::marker::Model;
+use supply_audit::{Cover, backing_at};
 use trust_tables::{AssetRole, AssetRow, Site};
 
-/// The line of the derivative in a row, which is at this place of its chain's list.
-fn row_line(
+/// The line of a derivative: its beginning, and where it and what covers it stand.
+#[derive(Drop)]
+pub(crate) struct BackingEntry {
+    beginning: String,
+    cover: Option<Cover>,
+}
+
+impl Model for BackingEntry {
+    ghost use Rattle.std.specs.Prelude.{string_bytes};
+    ghost use Rattle.report_text.specs.Planned.{PlannedBacking};
+
+    ghost Value = { PlannedBacking };
+
+    ghost view = { λ e. record { beginning = string_bytes e.beginning; cover = e.cover } };
+}
+
+/// What stands in front of a derivative's figures.
+#[tactic(auto, unfolding(crate::specs::Plan::backing_beginning))]
+fn beginning(alloc: Global, site: &Site, row: &AssetRow) -> Result<String, AllocError>
+    requires { IsTrue (has_path (path_of_site site.now) row.now) }
+    ensures { IfOk result (λ text. string_bytes text ≡ backing_beginning site.now row.now) }
+{
+    let chain = site.chain;
+    let kind = kind_name(row.kind);
+    let path = path_text(alloc, &path_in(site, row))?;
+    let mut text = String::new(alloc);
+    write!(text, "  backing {chain} {kind} {path} held ")?;
+    Ok(text)
+}
+
+/// The entry of the derivative in a row, which is at this place of its chain's list.
+fn entry_of(
     alloc: Global,
     chains: &[ChainState],
     site: &Site,
     place: usize,
     row: &AssetRow,
-) -> Result<String, AllocError>
+) -> Result<BackingEntry, AllocError>
     requires { IsTrue (has_path (path_of_site site.now) row.now) }
-    ensures { IfOk result (λ text. string_bytes text ≡ backing_text_of (map part_of chains.now) site.now place row.now) }
+    ensures { IfOk result (λ entry. entry ≡ planned_backing (map table_of (map part_of chains.now)) site.now place row.now) }
 {
-    let found = backing(chains, site.chain, place);
-    backing_line(alloc, site.chain, row.kind, &path_in(site, row), &found)
+    let beginning = beginning(alloc, site, row)?;
+    let cover = Cover::of(alloc, chains, site.chain, place)?;
+    Ok(BackingEntry { beginning, cover })
 }
 
-/// Appends the line of a row, where it is of a derivative.
-fn push_row(
+/// Appends the entry of a row, where it is of a derivative.
+fn plan_row(
     alloc: Global,
-    text: &mut String,
+    entries: &mut Vec<BackingEntry>,
     chains: &[ChainState],
     site: &Site,
     place: usize,
     row: &AssetRow,
 ) -> Result<(), AllocError>
     requires { IsTrue (has_path (path_of_site site.now) row.now) }
-    ensures { OnOk result (string_bytes text.new ≡ string_bytes text.old ++ backing_if (map part_of chains.now) site.now (place, row.now)) }
+    ensures { OnOk result (entries.new.items ≡ entries.old.items ++ planned_if (map table_of (map part_of chains.now)) site.now (place, row.now)) }
 {
     match &row.role {
         AssetRole::Native { .. } => Ok(()),
         AssetRole::Derivative { .. } => {
-            let line = row_line(alloc, chains, site, place, row)?;
-            text.push_str(&line)
+            let entry = entry_of(alloc, chains, site, place, row)?;
+            entries.push(entry)?;
+            Ok(())
         }
     }
 }
 
-/// Appends the lines of a chain's rows.
-fn push_rows(
+/// Appends the entries of a chain's rows.
+fn plan_rows(
     alloc: Global,
-    text: &mut String,
+    entries: &mut Vec<BackingEntry>,
     chains: &[ChainState],
     site: &Site,
     rows: &[AssetRow],
 ) -> Result<(), AllocError>
     requires { IsTrue (have_paths (path_of_site site.now) rows.now) }
-    ensures { OnOk result (string_bytes text.new ≡ string_bytes text.old ++ flat_map (backing_if (map part_of chains.now) site.now) (enumerate_from 0 rows.now)) }
+    ensures { OnOk result (entries.new.items ≡ entries.old.items ++ flat_map (planned_if (map table_of (map part_of chains.now)) site.now) (enumerate_from 0 rows.now)) }
 {
     for (place, row) in rows.iter().enumerate() {
-        push_row(alloc, text, chains, site, place, row)?;
+        plan_row(alloc, entries, chains, site, place, row)?;
     }
     Ok(())
 }
 
-/// Appends the lines of a chain.
-fn push_chain(
+/// Appends the entries of a chain.
+fn plan_chain(
     alloc: Global,
-    text: &mut String,
+    entries: &mut Vec<BackingEntry>,
     chains: &[ChainState],
     chain: &ChainState,
 ) -> Result<(), AllocError>
-    ensures { OnOk result (string_bytes text.new ≡ string_bytes text.old ++ backings_of (map part_of chains.now) (part_of chain.now)) }
+    ensures { OnOk result (entries.new.items ≡ entries.old.items ++ planned_backings (map table_of (map part_of chains.now)) (table_of (part_of chain.now))) }
 {
-    push_rows(alloc, text, chains, chain.site(), chain.rows())
+    plan_rows(alloc, entries, chains, chain.site(), chain.rows())
 }
 
-/// Appends the lines of all chains, of which `chains` is the network.
-pub(crate) fn push_backings(
+/// The entries of the derivatives of all chains, of which `chains` is the network.
+pub(crate) fn plan_backings(
     alloc: Global,
+    chains: &[ChainState],
+) -> Result<Vec<BackingEntry>, AllocError>
+    ensures { IfOk result (λ entries. entries.items
+        ≡ flat_map (planned_backings (map table_of (map part_of chains.now))) (map table_of (map part_of chains.now))) }
+{
+    let mut entries = Vec::new(alloc);
+    for chain in chains {
+        plan_chain(alloc, &mut entries, chains, chain)?;
+    }
+    Ok(entries)
+}
+
+/// Appends the line of an entry.
+fn push_line(
     text: &mut String,
     chains: &[ChainState],
+    entry: &BackingEntry,
 ) -> Result<(), AllocError>
-    ensures { OnOk result (string_bytes text.new ≡ string_bytes text.old ++ flat_map (backings_of (map part_of chains.now)) (map part_of chains.now)) }
+    ensures { OnOk result (string_bytes text.new ≡ string_bytes text.old ++ planned_backing_text (map part_of chains.now) entry.now) }
 {
-    for chain in chains {
-        push_chain(alloc, text, chains, chain)?;
+    let found = backing_at(chains, &entry.cover);
+    text.push_str(&entry.beginning)?;
+    push_sum(text, found.held)?;
+    text.push_str(" owed ")?;
+    push_sum(text, found.owed)?;
+    text.push_str("\n")
+}
+
+/// Appends the lines of entries.
+pub(crate) fn push_backings(
+    text: &mut String,
+    chains: &[ChainState],
+    entries: &[BackingEntry],
+) -> Result<(), AllocError>
+    ensures { OnOk result (string_bytes text.new ≡ string_bytes text.old ++ flat_map (planned_backing_text (map part_of chains.now)) entries.now) }
+{
+    for entry in entries {
+        push_line(text, chains, entry)?;
     }
     Ok(())
 }

@@ -3,9 +3,7 @@ ghost use Rattle.std.specs.Prelude.{◌≡◌, map, IfOk, string_bytes};
 ghost use Rattle.chain_state.specs.PartOf.{part_of};
 ghost use Rattle.report_text.specs.Block.{supply_block};
 
-use crate::backings::push_backings;
-use crate::natives::native_assets;
-use crate::supplies::push_supplies;
+use crate::SupplyPlan;
 use chain_state::ChainState;
 use std::alloc::{AllocError, Global};
 
@@ -14,9 +12,6 @@ use std::alloc::{AllocError, Global};
 pub fn supply_block(alloc: Global, chains: &[ChainState]) -> Result<String, AllocError>
     ensures { IfOk result (λ text. string_bytes text ≡ supply_block (map part_of chains.now)) }
 {
-    let natives = native_assets(alloc, chains)?;
-    let mut text = String::new(alloc);
-    push_supplies(alloc, &mut text, chains, &natives)?;
-    push_backings(alloc, &mut text, chains)?;
-    Ok(text)
+    let plan = SupplyPlan::of(alloc, chains)?;
+    plan.block(alloc, chains)
 }

@@ -4,14 +4,17 @@
 mod backings;
 mod block;
 mod chains;
+mod figures;
 mod laws;
 mod natives;
 mod paths;
+mod plan;
 mod queues;
 mod supplies;
 
 pub use block::supply_block;
 pub use chains::{balances_text, traps_text};
 pub use laws::law_of_natives;
+pub use plan::SupplyPlan;
 pub use queues::queues_text;
 pub use step_text::{Backing, Supply, backing_line, step_text, supply_line};

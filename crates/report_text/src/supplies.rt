@@ -1,37 +1,118 @@
 //! The lines of what there is of each asset that has a home.
-ghost use Rattle.std.specs.Prelude.{◌≡◌, ◌++◌, List, map, IfOk, OnOk, flat_map, string_bytes};
-ghost use Rattle.exec_base.specs.Part.{ChainPart};
+ghost use Rattle.std.specs.Prelude.{◌≡◌, ◌++◌, map, IfOk, OnOk, flat_map, string_bytes};
 ghost use Rattle.chain_state.specs.PartOf.{part_of};
-ghost use Rattle.supply_audit.specs.Supplies.{AreSupplies};
-ghost use Rattle.report_text.specs.Block.{supply_text_of};
+ghost use Rattle.supply_audit.specs.Places.{table_of};
+ghost use Rattle.supply_audit.specs.RowPlaces.{places_in};
+ghost use Rattle.report_text.specs.Plan.{supply_beginning, planned_supply, planned_supply_text};
 
+use crate::figures::{kind_name, push_sum};
 use crate::natives::Natives;
 use chain_state::ChainState;
+use location_wire::path_text;
 use std::alloc::{AllocError, Global};
-use step_text::supply_line;
-use supply_audit::{NetworkAsset, Supplies};
+use std::fmt::Write;
+use std::marker::Model;
+use supply_audit::{HomePlaces, NetworkAsset, Place, supply_at};
 
-/// The line of an asset.
-fn asset_line(alloc: Global, table: &Supplies, asset: &NetworkAsset) -> Result<String, AllocError>
-    ensures { (parts : List ChainPart) → AreSupplies table.now parts → IfOk result (λ text. string_bytes text ≡ supply_text_of parts asset.now) }
-{
-    let found = table.supply(asset);
-    supply_line(alloc, asset.kind(), asset.path(), &found)
+/// The line of an asset: its beginning, and where the rows stand whose figures it has.
+#[derive(Drop)]
+pub(crate) struct SupplyEntry {
+    beginning: String,
+    places: Vec<Place>,
 }
 
-/// Appends the lines of assets.
-pub(crate) fn push_supplies(
+impl Model for SupplyEntry {
+    ghost use Rattle.std.specs.Prelude.{string_bytes};
+    ghost use Rattle.report_text.specs.Planned.{PlannedSupply};
+
+    ghost Value = { PlannedSupply };
+
+    ghost view = { λ e. record { beginning = string_bytes e.beginning; places = e.places.items } };
+}
+
+/// What stands in front of an asset's figures.
+#[tactic(auto, unfolding(crate::specs::Plan::supply_beginning))]
+fn beginning(alloc: Global, asset: &NetworkAsset) -> Result<String, AllocError>
+    ensures { IfOk result (λ text. string_bytes text ≡ supply_beginning asset.now) }
+{
+    let kind = kind_name(asset.kind());
+    let path = path_text(alloc, asset.path())?;
+    let mut text = String::new(alloc);
+    write!(text, "  supply {kind} {path} home ")?;
+    Ok(text)
+}
+
+/// The entry of an asset.
+fn entry_of(
     alloc: Global,
-    text: &mut String,
+    homes: &HomePlaces,
+    asset: &NetworkAsset,
+) -> Result<SupplyEntry, AllocError>
+    ensures { IfOk result (λ entry. entry ≡ record { beginning = supply_beginning asset.now; places = places_in homes.now.places.entries asset.now }) }
+{
+    let beginning = beginning(alloc, asset)?;
+    let places = homes.places(alloc, asset)?;
+    Ok(SupplyEntry { beginning, places })
+}
+
+/// The entries of the assets that some chain lists as native.
+pub(crate) fn plan_supplies(
+    alloc: Global,
     chains: &[ChainState],
     assets: &Natives,
-) -> Result<(), AllocError>
-    ensures { OnOk result (string_bytes text.new ≡ string_bytes text.old ++ flat_map (supply_text_of (map part_of chains.now)) assets.now.keys) }
+) -> Result<Vec<SupplyEntry>, AllocError>
+    ensures { IfOk result (λ entries. entries.items ≡ map (planned_supply (map table_of (map part_of chains.now))) assets.now.keys) }
 {
-    let table = Supplies::of(alloc, chains)?;
+    let homes = HomePlaces::of(alloc, chains)?;
+    let mut entries = Vec::new(alloc);
     for asset in assets {
-        let line = asset_line(alloc, &table, asset)?;
-        text.push_str(&line)?;
+        let entry = entry_of(alloc, &homes, asset)?;
+        entries.push(entry)?;
+    }
+    Ok(entries)
+}
+
+/// Appends a line with the figures of these places.
+fn push_figures(
+    text: &mut String,
+    chains: &[ChainState],
+    beginning: &str,
+    places: &[Place],
+) -> Result<(), AllocError>
+    ensures { OnOk result (string_bytes text.new ≡ string_bytes text.old ++ planned_supply_text (map part_of chains.now) (record { beginning = beginning.now; places = places.now })) }
+{
+    let found = supply_at(chains, places);
+    text.push_str(beginning)?;
+    push_sum(text, found.home)?;
+    text.push_str(" flight ")?;
+    push_sum(text, found.flight)?;
+    text.push_str(" burned ")?;
+    push_sum(text, found.burned)?;
+    text.push_str("\n")?;
+    Ok(())
+}
+
+/// Appends the line of an entry.
+fn push_line(
+    text: &mut String,
+    chains: &[ChainState],
+    entry: &SupplyEntry,
+) -> Result<(), AllocError>
+    ensures { OnOk result (string_bytes text.new ≡ string_bytes text.old ++ planned_supply_text (map part_of chains.now) entry.now) }
+{
+    push_figures(text, chains, &entry.beginning, entry.places.as_slice())
+}
+
+/// Appends the lines of entries.
+pub(crate) fn push_supplies(
+    text: &mut String,
+    chains: &[ChainState],
+    entries: &[SupplyEntry],
+) -> Result<(), AllocError>
+    ensures { OnOk result (string_bytes text.new ≡ string_bytes text.old ++ flat_map (planned_supply_text (map part_of chains.now)) entries.now) }
+{
+    for entry in entries {
+        push_line(text, chains, entry)?;
     }
     Ok(())
 }

@@ -1,7 +1,7 @@
 -- Where no message waits, nothing is on its way.
 use Rattle.std.specs.Prelude.{◌≡◌, ℕ, min, Bool, true, false, not, ◌||◌, nat_eq, if◌then◌else◌, List, [], ◌∷◌, length, Option, refl, sum_by}
 use Rattle.std.specs.List.{list_all}
-use Rattle.std.proofs.Common.{true≢false, ap, sym, ◌∙◌, arith}
+use Rattle.std.proofs.Common.{ap, sym, ◌∙◌, arith}
 use Rattle.std.proofs.lemmas.Bool.{and_parts, eqb-true}
 use Rattle.std.proofs.lemmas.List.Sums.{sum_by-cons}
 use Rattle.asset_lists.specs.declared.units.AssetId.{AssetId}
@@ -32,7 +32,7 @@ no_share what to id kind c idle =
       | false ↦ λ q. refl
     ] idle
 
-none_sent : (what : Carried) (to : Option ChainId) (id : AssetId) (kind : Kind) (cs : List Outgoing) → list_all (is_idle to) cs ≡ true → sent what to cs id kind ≡ 0
+pub none_sent : (what : Carried) (to : Option ChainId) (id : AssetId) (kind : Kind) (cs : List Outgoing) → list_all (is_idle to) cs ≡ true → sent what to cs id kind ≡ 0
 none_sent what to id kind [] idle = refl
 none_sent what to id kind (c ∷ cs) idle =
     let parts = and_parts (is_idle to c) (list_all (is_idle to) cs) idle in

@@ -2,3 +2,4 @@ pub mod Saturating
 pub mod Naming
 pub mod Tables
 pub mod Idle
+pub mod Listing

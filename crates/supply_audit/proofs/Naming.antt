@@ -1,5 +1,5 @@
 -- Chains by their names, paths of locations that are seen from the root, and units by their holders.
-use Rattle.std.specs.Prelude.{◌≡◌, ℕ, ◌-◌, ◌&&◌, Bool, true, false, List, [], ◌∷◌, Option, None, Some, option_map, find, map, sum_by, refl}
+use Rattle.std.specs.Prelude.{◌≡◌, ℕ, ◌&&◌, Bool, true, false, List, [], ◌∷◌, Option, None, Some, option_map, find, map, sum_by, refl}
 use Rattle.std.specs.Ordering.{eq_by_cmp}
 use Rattle.std.specs.Cmp.{both_ways}
 use Rattle.std.proofs.Common.{sym, ◌∙◌, subst, arith, cond}

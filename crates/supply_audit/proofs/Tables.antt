@@ -84,7 +84,7 @@ raises_both old mid new m n k e r s a has h =
 
 -- ---- assets
 
-same_asset : (x y : UniversalAsset) → eq_by_cmp asset_cmp x y ≡ true → x ≡ y
+pub same_asset : (x y : UniversalAsset) → eq_by_cmp asset_cmp x y ≡ true → x ≡ y
 same_asset x y h = asset_exact x y (tied (asset_cmp x y) h)
   where
     tied : (r : Ordering) → is_eq r ≡ true → r ≡ Equal
@@ -137,7 +137,7 @@ row_away old p row h = raises_nothing old (row_part p row) (λ a w. sym (part_is
 sum_one : {X : Type 0} (f : X → ℕ) (x : X) → sum_by f (x ∷ []) ≡ f x
 sum_one f x = search (rules, add-zero)
 
-sum_more : {X : Type 0} (f : X → ℕ) (xs : List X) (k : ℕ) (x : X) → k < length xs → x ≡ get_or xs k x → sum_by f (take k xs) + f x ≡ sum_by f (take (k + 1) xs)
+pub sum_more : {X : Type 0} (f : X → ℕ) (xs : List X) (k : ℕ) (x : X) → k < length xs → x ≡ get_or xs k x → sum_by f (take k xs) + f x ≡ sum_by f (take (k + 1) xs)
 sum_more f xs k x l e =
     let front : take (k + 1) xs ≡ take k xs ++ x ∷ [] = take_more xs k x l ∙ ap (λ y. take k xs ++ y ∷ []) (sym e) in
     ap (λ n. sum_by f (take k xs) + n) (sym (sum_one f x)) ∙ sym (sum_by-append f (take k xs) (x ∷ [])) ∙ ap (sum_by f) (sym front)

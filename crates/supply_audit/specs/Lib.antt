@@ -4,3 +4,8 @@ pub mod Assets
 pub mod AssetLaws
 pub mod Supplies
 pub mod Covering
+pub mod Covered
+pub mod RowPlaces
+pub mod Covers
+pub mod PlaceLaws
+pub mod ListLaws

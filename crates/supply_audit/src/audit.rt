@@ -65,7 +65,7 @@ pub fn supply(chains: &[ChainState], path: &Junctions, kind: Kind) -> Supply
 }
 
 /// Which chain it is.
-fn name_of(chain: &ChainState) -> ChainId
+pub(crate) fn name_of(chain: &ChainState) -> ChainId
     ensures { result ≡ (part_of chain.now).site.chain }
 {
     chain.site().chain

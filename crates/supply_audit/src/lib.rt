@@ -2,15 +2,23 @@
 #![tactic(auto)]
 
 mod audit;
+mod cover;
 mod figures;
+mod home_places;
 mod messages;
 mod network_asset;
+mod over_places;
+mod place;
 mod places;
 mod table;
 mod totals;
 
 pub use audit::{backing, supply};
+pub use cover::{Cover, backing_at};
+pub use home_places::HomePlaces;
 pub use ledgers::{Backing, Supply};
 pub use network_asset::NetworkAsset;
 pub use network_coherence::{Incoherent, IncoherentCause, coherent};
+pub use over_places::supply_at;
+pub use place::Place;
 pub use table::Supplies;

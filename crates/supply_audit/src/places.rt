@@ -78,7 +78,7 @@ fn same_kind(a: Kind, b: Kind) -> bool
 }
 
 /// Whether a row is of the asset of this path and kind.
-fn is_row_of(
+pub(crate) fn is_row_of(
     context: &Junctions,
     home: &Junctions,
     id: &Location,
@@ -91,7 +91,7 @@ fn is_row_of(
 }
 
 /// The junctions from the root of all networks to the chain.
-fn context_of(chain: &ChainState) -> Junctions
+pub(crate) fn context_of(chain: &ChainState) -> Junctions
     ensures { result ≡ path_of_site (part_of chain.now).site }
 {
     chain.site().path()

@@ -79,7 +79,7 @@ fn raise(sums: &mut Sums, asset: NetworkAsset, more: Supply) -> Result<(), Alloc
 }
 
 /// What a row of a chain lists: what stands there, what was sent as teleports and what was burned.
-fn row_supply(chain: &ChainState, row: &AssetRow) -> Supply
+pub(crate) fn row_supply(chain: &ChainState, row: &AssetRow) -> Supply
     ensures { HasSums result (λ f. places.figure f (part_of chain.now) (Concrete row.now.id) row.now.kind) }
 {
     let id = AssetId::Concrete(row.id.copy());
@@ -95,7 +95,7 @@ fn row_supply(chain: &ChainState, row: &AssetRow) -> Supply
 }
 
 /// The assets that are at home at a chain.
-type Homes = BTreeSet<NetworkAsset>;
+pub(crate) type Homes = BTreeSet<NetworkAsset>;
 
 /// Adds the asset of a row, where the row is native.
 fn add_home(homes: &mut Homes, chain: &ChainState, row: &AssetRow) -> Result<(), AllocError>
@@ -109,7 +109,7 @@ fn add_home(homes: &mut Homes, chain: &ChainState, row: &AssetRow) -> Result<(),
 }
 
 /// The assets of which a row of the chain is native.
-fn homes_of(alloc: Global, chain: &ChainState) -> Result<Homes, AllocError>
+pub(crate) fn homes_of(alloc: Global, chain: &ChainState) -> Result<Homes, AllocError>
     ensures { IfOk result (λ homes. (a : UniversalAsset) → contains asset_cmp homes a ≡ is_home a (table_of (part_of chain.now))) }
 {
     let mut homes = BTreeSet::new(alloc);

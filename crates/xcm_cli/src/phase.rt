@@ -1,7 +1,7 @@
 //! Where a run stands.
 
 use crate::status::Status;
-use chain_net::Net;
+use report_blocks::AuditedNet;
 
 /// Which part of the input is read.
 #[derive(Drop)]
@@ -11,7 +11,7 @@ pub(crate) enum Phase {
     /// The lines after it.
     Steps {
         /// The network, as the steps have left it.
-        net: Net,
+        net: AuditedNet,
         /// So many steps are done.
         done: u64,
     },
@@ -31,7 +31,7 @@ pub(crate) struct Session {
 #[derive(Drop)]
 pub(crate) enum Opened {
     /// The network runs.
-    Runs(Net),
+    Runs(AuditedNet),
     /// The run is over.
     Over(Status),
 }

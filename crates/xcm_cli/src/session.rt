@@ -10,9 +10,8 @@ ghost use Rattle.xcm_cli.specs.Session.{Writes, Advances, Finishes, HasWriteCaus
 use crate::limits::{MAX_INPUT, MAX_LINE, MAX_NETWORK};
 use crate::phase::{Opened, Phase, Session};
 use crate::status::Status;
-use chain_net::Net;
 use input_lines::{ends_network, line_len, read_line, text_of, without_feed};
-use report_blocks::{Served, open_network, opening_text, serve};
+use report_blocks::{AuditedNet, Served, open_network, opening_text, serve};
 use std::alloc::{AllocError, Global};
 use step_text::{line_refused_line, network_refused_line};
 use xcm_io::{Sink, write_whole};
@@ -150,6 +149,7 @@ fn opened<O: Sink>(alloc: Global, part: &[u8], out: &mut O) -> Result<Opened, Al
 {
     match open_network(alloc, part) {
         Ok(Ok(net)) => {
+            let net = AuditedNet::new(alloc, net)?;
             let text = opening_text(alloc, &net)?;
             match write_text(out, &text, None) {
                 None => Ok(Opened::Runs(net)),
@@ -179,7 +179,7 @@ fn fits_limits(taken: u64, line: &[u8]) -> bool
 fn take_step<O: Sink>(
     alloc: Global,
     audit: bool,
-    net: &mut Net,
+    net: &mut AuditedNet,
     done: &mut u64,
     before: u64,
     taken: u64,

@@ -46,11 +46,8 @@ some_count (x ∷ p) = let a = some_count p in let c = at_least x in omega (arit
 pub accounted : (part : Part) (p : List Instruction) (m : Machine) (a : IsAccounted p m.regs) → IsBalanced a.0 (begin part p m)
 accounted part p m a = begin_balanced a.0 part p m a.1
 
-pub place_fits : (place : ℕ) (items p : List Instruction) (x : Instruction) (behind : List Instruction) (r : Registers) → IsAccounted p r → items ≡ x ∷ behind → place + length items ≡ length p → place + 1 < 2 ^ 32
-place_fits place items p x behind r a is e = let n = ap length is in let f = some_count p in omega (arith, a.1.few, n, f, e)
-
-pub counted_on : (place : ℕ) (items : List Instruction) (x : Instruction) (behind : List Instruction) (n : ℕ) → items ≡ x ∷ behind → place + length items ≡ n → place + 1 + length behind ≡ n
-counted_on place items x behind n is e = let l = ap length is in omega (arith, l, e)
+pub place_fits : (place : ℕ) (p : List Instruction) (r : Registers) → IsAccounted p r → place < length p → place < 2 ^ 32
+place_fits place p r a inside = let f = some_count p in omega (arith, a.1.few, f, inside)
 
 positive : (n : ℕ) → nat_lt 0 (suc n) ≡ true
 positive n = let h : 0 < suc n = omega arith in grind (arith, h)

@@ -35,15 +35,14 @@ fn outcome(weight: Weight, r: &Registers) -> Outcome
     }
 }
 
-/// Takes the registers apart: what is held, and for whom it is trapped.
-fn taken_apart(r: Registers) -> (AssetBundle, Location)
-    ensures holding { result.0 ≡ r.holding }
-    ensures owner { result.1 ≡ owner_of r }
+/// What is held, as the registers are let go.
+fn let_go(r: Registers) -> AssetBundle
+    ensures { result ≡ r.holding }
 {
     let Registers {
         holding,
-        origin,
-        original,
+        origin: _,
+        original: _,
         error: _,
         handler: _,
         handler_weight: _,
@@ -57,9 +56,16 @@ fn taken_apart(r: Registers) -> (AssetBundle, Location)
         rule: _,
         max_holding: _,
     } = r;
-    match origin {
-        Some(origin) => (holding, origin),
-        None => (holding, original),
+    holding
+}
+
+/// For whom what is left is trapped.
+fn owner(r: &Registers) -> &Location
+    ensures { result.now ≡ owner_of r.now }
+{
+    match &r.origin {
+        Some(origin) => origin,
+        None => &r.original,
     }
 }
 
@@ -68,8 +74,7 @@ pub(crate) fn abandon<H: Host>(r: Registers, h: &mut H)
     requires few { length (H.part h.old).parked < 4 }
     ensures { H.part h.new ≡ abandoned r (H.part h.old) }
 {
-    let (holding, _) = taken_apart(r);
-    h.park(holding);
+    h.park(let_go(r));
 }
 
 /// Traps the holding, where it isn't empty.
@@ -78,12 +83,12 @@ fn trap_rest<H: Host>(r: Registers, h: &mut H) -> Result<(), AllocError>
     ensures ok { OnOk result (H.part h.new ≡ rest_trapped r (H.part h.old)) }
     ensures err { OnErr result (H.part h.new ≡ abandoned r (H.part h.old)) }
 {
-    let (holding, owner) = taken_apart(r);
-    if holding.kinds() == 0 {
-        holding.melt();
+    if r.holding.kinds() == 0 {
+        let_go(r).melt();
         return Ok(());
     }
-    match h.trap(holding, &owner) {
+    let owner = owner(&r).copy();
+    match h.trap(let_go(r), &owner) {
         Ok(()) => Ok(()),
         Err(goods) => {
             h.park(goods);

@@ -8,13 +8,14 @@ ghost use Rattle.exec_rules.specs.Stopping.{spills};
 ghost use Rattle.xcm_executor.specs.Running.{IsRunnable};
 
 use crate::performing::perform;
-use crate::weights::{NOTHING, added, weigh_behind};
+use crate::weights::{NOTHING, added};
 use exec_base::{Event, Host, Part, Registers};
 use exec_calls::law_of_rules;
 use message_parts::{Weight, XcmError};
 use plain_lists::Listed;
 use std::alloc::{AllocError, Global};
 use std::mem;
+use weight_trader::weigh_rest;
 use xcm_program::{Instruction, Program};
 
 /// A program of no instructions.
@@ -79,18 +80,16 @@ fn take<H: Host>(
     alloc: Global,
     part: Part,
     place: u32,
-    mut instruction: Instruction,
+    instruction: &mut Instruction,
     r: &mut Registers,
     h: &mut H,
 ) -> Result<Option<XcmError>, AllocError>
-    requires ready { IsReady instruction (machine r.old (H.part h.old)) }
-    ensures ok { IfOk result (λ error. IsTaken xcm part place instruction (machine r.old (H.part h.old)) error (machine r.new (H.part h.new))) }
-    ensures err { OnErr result (Halted xcm spills instruction (machine r.old (H.part h.old)) (machine r.new (H.part h.new))) }
+    requires ready { IsReady instruction.old (machine r.old (H.part h.old)) }
+    ensures ok { IfOk result (λ error. IsTaken xcm part place instruction.old (machine r.old (H.part h.old)) error (machine r.new (H.part h.new))) }
+    ensures err { OnErr result (Halted xcm spills instruction.old (machine r.old (H.part h.old)) (machine r.new (H.part h.new))) }
 {
     let number = instruction.index();
-    let answer = perform(alloc, &mut instruction, r, h);
-    drop(instruction);
-    let error = match answer? {
+    let error = match perform(alloc, instruction, r, h)? {
         Ok(()) => None,
         Err(error) => Some(error),
     };
@@ -119,15 +118,14 @@ pub(crate) fn take_program<H: Host>(
     ensures err { OnErr result (StoppedIn xcm spills (begin part program (machine r.old (H.part h.old))) (machine r.new (H.part h.new))) }
 {
     law_of_rules(); // For the prover alone.
-    let mut place = 0u32;
-    let mut behind = program.into_vec().into_iter();
-    while let Some(instruction) = behind.next() {
-        if let Some(error) = take(alloc, part, place, instruction, r, h)? {
-            let unused = weigh_behind(behind, r.rule);
-            let (next_part, next) = fail(alloc, r, place, error, unused);
+    let mut instructions = program.into_vec();
+    for place in 0..instructions.len() {
+        let at = place as u32;
+        if let Some(error) = take(alloc, part, at, &mut instructions[place], r, h)? {
+            let unused = weigh_rest(&instructions[place + 1..], &r.rule);
+            let (next_part, next) = fail(alloc, r, at, error, unused);
             return Ok((next_part, next, place > 0));
         }
-        place += 1;
     }
     let (next_part, next) = succeed(alloc, r);
     Ok((next_part, next, true))

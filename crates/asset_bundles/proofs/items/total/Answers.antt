@@ -8,7 +8,7 @@ use Rattle.asset_bundles.proofs.items.total.Goals as goal
 
 pub returns-in-Fungible : goal.returns-in-Fungible
 returns-in-Fungible c =
-    c.held.ensures ∙ ap (λ i. found (i, None) c.args.items.now) c.copy.ensures ∙ found-holding c.args.items.now _ c.requires
+    c.amount_held.ensures ∙ found-holding c.args.items.now _ c.requires
     ∙ total-fungible c.args.id.now (bundle_of c.args.items.now) ∙ ap (λ k. total (is_asset c.args.id.now k) (bundle_of c.args.items.now)) (sym c.in-Fungible.is)
 
 pub returns-in-Class : goal.returns-in-Class

@@ -1,73 +1,127 @@
-use Rattle.std.proofs.Common.{◌+◌, ◌<◌, length, sym, ap, ◌∙◌, arith}
+use Rattle.std.proofs.Common.{◌≡◌, ◌+◌, ◌-◌, ◌<◌, ◌^◌, ◌∷◌, [], List, length, length-set, drop, take, sym, ap, ◌∙◌, arith, rules, subst, refl}
+use Rattle.std.specs.Prelude.{slice_set}
 use Rattle.std.proofs.lemmas.Result.{err_from_is_err_and}
+use Rattle.weight_trader.specs.Sums.{weight_sum}
+use Rattle.xcm_program.specs.declared.instruction.Instruction.{Instruction}
+use Rattle.xcm_program.specs.Measure.{deep_count}
+use Rattle.xcm_program.specs.Weights.{ref_time_of, proof_size_of}
 use Rattle.exec_run.specs.Machine.{machine}
-use Rattle.xcm_executor.proofs.Standing.{accounted, nil, place_fits, counted_on, stands_init, stands_ready, stands_more, stands_stopped, failed_weighable, failed_short, failed_small, failed_goes_on, began_more, failed_began, ended_goes_on, ended_short, ended_small}
+use Rattle.xcm_executor.proofs.Standing.{accounted, place_fits, nil, stands_init, stands_ready, stands_more, stands_stopped, failed_weighable, failed_short, failed_small, failed_goes_on, began_more, failed_began, ended_goes_on, ended_short, ended_small}
+use Rattle.xcm_executor.proofs.Taken.{at_hand, behind_stays, rest_of, none_left}
 use Rattle.xcm_executor.proofs.taking.take_program.Goals as goal
 
-pub loop-instruction-init : goal.loop-instruction-init
-loop-instruction-init g c =
-    let whole = c.into_iter-behind.ensures.rest ∙ c.into_vec.ensures in
-    record { stands = stands_init _ _ _ _ whole c.requires.some; began = λ h. absurd (omega (arith, h)); counted = let e = ap length whole in omega (arith, e) }
+pub loop-place-init : goal.loop-place-init
+loop-place-init g c =
+    record { stands = stands_init _ _ _ _ c.into_vec-instructions.ensures c.requires.some; began = λ h. absurd (omega (arith, h)); whole = ap length c.into_vec-instructions.ensures }
+
+pub overflow_cast-at : goal.overflow_cast-at
+overflow_cast-at g c =
+    let n = ap length c.into_vec-instructions.ensures in
+    let few : c.loop-place.place < 4294967296 = place_fits c.loop-place.place c.args.program c.args.r.now c.requires.runnable.accounted (omega (arith, c.loop-place-test.true, c.len-place-end.ensures, n)) in
+    search (rules, few)
 
 pub take-requires : goal.take-requires
-take-requires g c = record { ready = stands_ready _ _ _ _ _ _ _ c.loop-instruction.invariant.stands c.in-Some.ensures.cases.0 c.requires.runnable.ready }
+take-requires g c =
+    let n = ap length c.into_vec-instructions.ensures in
+    let here = at_hand c.loop-place.instructions.items c.loop-place.place c.index_mut.result.now (omega (arith, c.loop-place-test.true, c.len-place-end.ensures, n, c.loop-place.invariant.whole)) c.index_mut.ensures.value in
+    record { ready = stands_ready _ _ _ _ _ _ _ c.loop-place.invariant.stands here c.requires.runnable.ready }
 
 pub returns-in_err-error-clause-err : goal.returns-in_err-error-clause-err
 returns-in_err-error-clause-err g c =
+    let n = ap length c.into_vec-instructions.ensures in
+    let here = at_hand c.loop-place.instructions.items c.loop-place.place c.index_mut.result.now (omega (arith, c.loop-place-test.true, c.len-place-end.ensures, n, c.loop-place.invariant.whole)) c.index_mut.ensures.value in
     let p = err_from_is_err_and c.from_residual.result c.from_residual.ensures.1 in
-    rw p.1 (stands_stopped _ _ _ _ _ _ _ c.loop-instruction.invariant.stands c.in-Some.ensures.cases.0 _ c.in_err-error.ensures.err)
+    rw p.1 (stands_stopped _ _ _ _ _ _ _ c.loop-place.invariant.stands here _ c.in_err-error.ensures.err)
 
-pub weigh_behind-unused-requires : goal.weigh_behind-unused-requires
-weigh_behind-unused-requires g c =
-    failed_weighable _ _ _ _ _ _ _ c.loop-instruction.invariant.stands c.in-Some.ensures.cases.0 _ _ _ c.in-Some-2.is c.in_ok-error.ensures.ok c.law_of_rules.ensures.steers _
+pub weigh_rest-unused-requires-clause-few : goal.weigh_rest-unused-requires-clause-few
+weigh_rest-unused-requires-clause-few g c =
+    let n = ap length c.into_vec-instructions.ensures in
+    let here = at_hand c.loop-place.instructions.items c.loop-place.place c.index_mut.result.now (omega (arith, c.loop-place-test.true, c.len-place-end.ensures, n, c.loop-place.invariant.whole)) c.index_mut.ensures.value in
+    let rest = rest_of c.deref.result.now (c.loop-place.place + 1) ∙ behind_stays c.loop-place.instructions.items c.deref.result.now c.loop-place.place c.take.new.instruction c.deref.ensures.value in
+    let w = failed_weighable _ _ _ _ _ _ _ c.loop-place.invariant.stands here _ _ _ c.in-Some.is c.in_ok-error.ensures.ok c.law_of_rules.ensures.steers _
+    (accounted c.args.part c.args.program (machine c.args.r.now (g.H.Host.part c.args.h.now)) c.requires.runnable.accounted) in
+    subst (λ (q : List Instruction). deep_count q < 2 ^ 32) (sym rest) w.few
+
+pub weigh_rest-unused-requires-clause-short : goal.weigh_rest-unused-requires-clause-short
+weigh_rest-unused-requires-clause-short g c =
+    let n = ap length c.into_vec-instructions.ensures in
+    let here = at_hand c.loop-place.instructions.items c.loop-place.place c.index_mut.result.now (omega (arith, c.loop-place-test.true, c.len-place-end.ensures, n, c.loop-place.invariant.whole)) c.index_mut.ensures.value in
+    let rest = rest_of c.deref.result.now (c.loop-place.place + 1) ∙ behind_stays c.loop-place.instructions.items c.deref.result.now c.loop-place.place c.take.new.instruction c.deref.ensures.value in
+    let w = failed_weighable _ _ _ _ _ _ _ c.loop-place.invariant.stands here _ _ _ c.in-Some.is c.in_ok-error.ensures.ok c.law_of_rules.ensures.steers _
+    (accounted c.args.part c.args.program (machine c.args.r.now (g.H.Host.part c.args.h.now)) c.requires.runnable.accounted) in
+    subst (λ (q : List Instruction). ref_time_of c.take.new.r.rule q < 2 ^ 64) (sym rest) w.short
+
+pub weigh_rest-unused-requires-clause-small : goal.weigh_rest-unused-requires-clause-small
+weigh_rest-unused-requires-clause-small g c =
+    let n = ap length c.into_vec-instructions.ensures in
+    let here = at_hand c.loop-place.instructions.items c.loop-place.place c.index_mut.result.now (omega (arith, c.loop-place-test.true, c.len-place-end.ensures, n, c.loop-place.invariant.whole)) c.index_mut.ensures.value in
+    let rest = rest_of c.deref.result.now (c.loop-place.place + 1) ∙ behind_stays c.loop-place.instructions.items c.deref.result.now c.loop-place.place c.take.new.instruction c.deref.ensures.value in
+    let w = failed_weighable _ _ _ _ _ _ _ c.loop-place.invariant.stands here _ _ _ c.in-Some.is c.in_ok-error.ensures.ok c.law_of_rules.ensures.steers _
+    (accounted c.args.part c.args.program (machine c.args.r.now (g.H.Host.part c.args.h.now)) c.requires.runnable.accounted) in
+    subst (λ (q : List Instruction). proof_size_of c.take.new.r.rule q < 2 ^ 64) (sym rest) w.small
+
+pub fail-next_part-requires-clause-short : goal.fail-next_part-requires-clause-short
+fail-next_part-requires-clause-short g c =
+    let n = ap length c.into_vec-instructions.ensures in
+    let here = at_hand c.loop-place.instructions.items c.loop-place.place c.index_mut.result.now (omega (arith, c.loop-place-test.true, c.len-place-end.ensures, n, c.loop-place.invariant.whole)) c.index_mut.ensures.value in
+    let rest = rest_of c.deref.result.now (c.loop-place.place + 1) ∙ behind_stays c.loop-place.instructions.items c.deref.result.now c.loop-place.place c.take.new.instruction c.deref.ensures.value in
+    failed_short _ _ _ _ _ _ _ c.loop-place.invariant.stands here _ _ _ c.in-Some.is c.in_ok-error.ensures.ok c.law_of_rules.ensures.steers _
+    (accounted c.args.part c.args.program (machine c.args.r.now (g.H.Host.part c.args.h.now)) c.requires.runnable.accounted) _ (c.weigh_rest-unused.ensures ∙ ap (weight_sum c.take.new.r.rule) rest)
+
+pub fail-next_part-requires-clause-small : goal.fail-next_part-requires-clause-small
+fail-next_part-requires-clause-small g c =
+    let n = ap length c.into_vec-instructions.ensures in
+    let here = at_hand c.loop-place.instructions.items c.loop-place.place c.index_mut.result.now (omega (arith, c.loop-place-test.true, c.len-place-end.ensures, n, c.loop-place.invariant.whole)) c.index_mut.ensures.value in
+    let rest = rest_of c.deref.result.now (c.loop-place.place + 1) ∙ behind_stays c.loop-place.instructions.items c.deref.result.now c.loop-place.place c.take.new.instruction c.deref.ensures.value in
+    failed_small _ _ _ _ _ _ _ c.loop-place.invariant.stands here _ _ _ c.in-Some.is c.in_ok-error.ensures.ok c.law_of_rules.ensures.steers _
+    (accounted c.args.part c.args.program (machine c.args.r.now (g.H.Host.part c.args.h.now)) c.requires.runnable.accounted) _ (c.weigh_rest-unused.ensures ∙ ap (weight_sum c.take.new.r.rule) rest)
+
+pub returns-in-Some-clause-ok : goal.returns-in-Some-clause-ok
+returns-in-Some-clause-ok g c =
+    let n = ap length c.into_vec-instructions.ensures in
+    let here = at_hand c.loop-place.instructions.items c.loop-place.place c.index_mut.result.now (omega (arith, c.loop-place-test.true, c.len-place-end.ensures, n, c.loop-place.invariant.whole)) c.index_mut.ensures.value in
+    let rest = rest_of c.deref.result.now (c.loop-place.place + 1) ∙ behind_stays c.loop-place.instructions.items c.deref.result.now c.loop-place.place c.take.new.instruction c.deref.ensures.value in
+    failed_goes_on _ _ _ _ _ _ _ c.loop-place.invariant.stands here _ _ _ c.in-Some.is c.in_ok-error.ensures.ok _ (c.weigh_rest-unused.ensures ∙ ap (weight_sum c.take.new.r.rule) rest) _ _ _ c.fail-next_part.ensures
+
+pub returns-in-Some-clause-began : goal.returns-in-Some-clause-began
+returns-in-Some-clause-began g c =
+    let n = ap length c.into_vec-instructions.ensures in
+    let here = at_hand c.loop-place.instructions.items c.loop-place.place c.index_mut.result.now (omega (arith, c.loop-place-test.true, c.len-place-end.ensures, n, c.loop-place.invariant.whole)) c.index_mut.ensures.value in
+    failed_began _ _ _ _ _ _ here _ _ c.requires.some c.loop-place.invariant.stands c.loop-place.invariant.began _ _ _ c.in-Some.is c.in_ok-error.ensures.ok
+
+pub loop-place-preserved : goal.loop-place-preserved
+loop-place-preserved g c =
+    let n = ap length c.into_vec-instructions.ensures in
+    let items = c.loop-place.instructions.items in
+    let here = at_hand items c.loop-place.place c.index_mut.result.now (omega (arith, c.loop-place-test.true, c.len-place-end.ensures, n, c.loop-place.invariant.whole)) c.index_mut.ensures.value in
+    let stay = behind_stays items (slice_set items c.loop-place.place c.take.new.instruction) c.loop-place.place c.take.new.instruction refl in
+    record {
+      stands = rw stay (stands_more _ _ _ _ _ _ _ c.loop-place.invariant.stands here _ _ c.in_default.is c.in_ok-error.ensures.ok);
+      began = λ h. began_more _ _ _ _ _ _ here _ _ c.requires.some c.loop-place.invariant.stands c.loop-place.invariant.began _ _ c.in_default.is c.in_ok-error.ensures.ok;
+      whole = length-set items c.loop-place.place c.take.new.instruction ∙ c.loop-place.invariant.whole;
+    }
+
+pub succeed-next_part-requires-clause-short : goal.succeed-next_part-requires-clause-short
+succeed-next_part-requires-clause-short g c =
+    let n = ap length c.into_vec-instructions.ensures in
+    let none = none_left c.loop-place.instructions.items c.loop-place.place (omega (arith, c.loop-place-test.false, c.len-place-end.ensures, n, c.loop-place.invariant.whole)) in
+    ended_short _ _ _ _ _ c.loop-place.invariant.stands none c.law_of_rules.ensures.steers _
     (accounted c.args.part c.args.program (machine c.args.r.now (g.H.Host.part c.args.h.now)) c.requires.runnable.accounted)
 
-pub fail-next_part-requires : goal.fail-next_part-requires
-fail-next_part-requires g c = record {
-  short = failed_short _ _ _ _ _ _ _ c.loop-instruction.invariant.stands c.in-Some.ensures.cases.0 _ _ _ c.in-Some-2.is c.in_ok-error.ensures.ok c.law_of_rules.ensures.steers _
-      (accounted c.args.part c.args.program (machine c.args.r.now (g.H.Host.part c.args.h.now)) c.requires.runnable.accounted) _ c.weigh_behind-unused.ensures;
-  small = failed_small _ _ _ _ _ _ _ c.loop-instruction.invariant.stands c.in-Some.ensures.cases.0 _ _ _ c.in-Some-2.is c.in_ok-error.ensures.ok c.law_of_rules.ensures.steers _
-      (accounted c.args.part c.args.program (machine c.args.r.now (g.H.Host.part c.args.h.now)) c.requires.runnable.accounted) _ c.weigh_behind-unused.ensures;
-}
-
-pub returns-in-Some-2-clause-ok : goal.returns-in-Some-2-clause-ok
-returns-in-Some-2-clause-ok g c =
-    failed_goes_on _ _ _ _ _ _ _ c.loop-instruction.invariant.stands c.in-Some.ensures.cases.0 _ _ _ c.in-Some-2.is c.in_ok-error.ensures.ok _ c.weigh_behind-unused.ensures _ _ _ c.fail-next_part.ensures
-
-pub overflow_add-place : goal.overflow_add-place
-overflow_add-place g c =
-    let h : c.loop-instruction.place + 1 < 4294967296 = place_fits _ _ _ _ _ c.args.r.now c.requires.runnable.accounted c.in-Some.ensures.cases.0 c.loop-instruction.invariant.counted in
-    omega (arith, h)
-
-pub loop-instruction-preserved : goal.loop-instruction-preserved
-loop-instruction-preserved g c = record {
-  stands = stands_more _ _ _ _ _ _ _ c.loop-instruction.invariant.stands c.in-Some.ensures.cases.0 _ _ c.in_default-2.is c.in_ok-error.ensures.ok;
-  began = λ h. began_more _ _ _ _ _ _ c.in-Some.ensures.cases.0 _ _ c.requires.some c.loop-instruction.invariant.stands c.loop-instruction.invariant.began _ _ c.in_default-2.is c.in_ok-error.ensures.ok;
-  counted = counted_on _ _ _ _ _ c.in-Some.ensures.cases.0 c.loop-instruction.invariant.counted;
-}
-
-pub succeed-next_part-requires : goal.succeed-next_part-requires
-succeed-next_part-requires g c =
-    let none = nil _ (sym c.loop-instruction.behind.rest.ok.0 ∙ c.in_default.ensures.cases.0) in
-    record {
-      short = ended_short _ _ _ _ _ c.loop-instruction.invariant.stands none c.law_of_rules.ensures.steers _
-          (accounted c.args.part c.args.program (machine c.args.r.now (g.H.Host.part c.args.h.now)) c.requires.runnable.accounted);
-      small = ended_small _ _ _ _ _ c.loop-instruction.invariant.stands none c.law_of_rules.ensures.steers _
-          (accounted c.args.part c.args.program (machine c.args.r.now (g.H.Host.part c.args.h.now)) c.requires.runnable.accounted);
-    }
+pub succeed-next_part-requires-clause-small : goal.succeed-next_part-requires-clause-small
+succeed-next_part-requires-clause-small g c =
+    let n = ap length c.into_vec-instructions.ensures in
+    let none = none_left c.loop-place.instructions.items c.loop-place.place (omega (arith, c.loop-place-test.false, c.len-place-end.ensures, n, c.loop-place.invariant.whole)) in
+    ended_small _ _ _ _ _ c.loop-place.invariant.stands none c.law_of_rules.ensures.steers _
+    (accounted c.args.part c.args.program (machine c.args.r.now (g.H.Host.part c.args.h.now)) c.requires.runnable.accounted)
 
 pub returns-clause-ok : goal.returns-clause-ok
 returns-clause-ok g c =
-    let none = nil _ (sym c.loop-instruction.behind.rest.ok.0 ∙ c.in_default.ensures.cases.0) in
-    let some : 0 < c.loop-instruction.place = let e = ap length none in let k = c.loop-instruction.invariant.counted in omega (arith, e, k, c.requires.some) in
-    ended_goes_on _ _ _ _ _ c.loop-instruction.invariant.stands none some _ _ _ c.succeed-next_part.ensures
-
-pub returns-in-Some-2-clause-began : goal.returns-in-Some-2-clause-began
-returns-in-Some-2-clause-began g c =
-    failed_began _ _ _ _ _ _ c.in-Some.ensures.cases.0 _ _ c.requires.some c.loop-instruction.invariant.stands c.loop-instruction.invariant.began _ _ _ c.in-Some-2.is c.in_ok-error.ensures.ok
+    let n = ap length c.into_vec-instructions.ensures in
+    let none = none_left c.loop-place.instructions.items c.loop-place.place (omega (arith, c.loop-place-test.false, c.len-place-end.ensures, n, c.loop-place.invariant.whole)) in
+    ended_goes_on _ _ _ _ _ c.loop-place.invariant.stands none (omega (arith, c.loop-place-test.false, c.len-place-end.ensures, n, c.requires.some)) _ _ _ c.succeed-next_part.ensures
 
 pub returns-clause-began : goal.returns-clause-began
 returns-clause-began g c =
-    let none = nil _ (sym c.loop-instruction.behind.rest.ok.0 ∙ c.in_default.ensures.cases.0) in
-    let some : 0 < c.loop-instruction.place = let e = ap length none in let k = c.loop-instruction.invariant.counted in omega (arith, e, k, c.requires.some) in
-    sym (c.loop-instruction.invariant.began some)
+    let n = ap length c.into_vec-instructions.ensures in
+    sym (c.loop-place.invariant.began (omega (arith, c.loop-place-test.false, c.len-place-end.ensures, n, c.requires.some)))

@@ -6,5 +6,5 @@ use Rattle.asset_bundles.proofs.bundle.AssetBundle.amount.Goals as goal
 
 pub returns : goal.returns
 returns c =
-    c.held.ensures ∙ ap (found (c.copy.result, None)) c.as_slice.ensures.value ∙ ap (λ i. found (i, None) c.self.inside.items.items) c.copy.ensures
+    c.amount_held.ensures ∙ ap (found (c.args.id.now, None)) c.as_slice.ensures.value
     ∙ found-holding _ _ c.self.invariant ∙ ap (λ b. amount b (c.args.id.now, None)) c.self.view_is

@@ -24,9 +24,9 @@ pub returns-in_default-2 : goal.returns-in_default-2
 returns-in_default-2 c =
     let f = c.args.self.now in
     let target = c.in-Some.target in
-    let seen = λ (xs : Vec Asset Global). reanchored_list target c.path.result c.as_slice.result.now ≡ Some xs.items in
-    let none : reanchored_list target c.path.result c.as_slice.result.now ≡ None = at_none seen c.in_ok-seen.field-0 c.in_default-2.not-Some c.in_ok-seen.ensures in
-    let carried = c.as_slice.ensures.value ∙ c.in_ok-carried.ensures in
+    let seen = λ (xs : Vec Asset Global). reanchored_list target c.path.result c.cargo_list-carried.result.now ≡ Some xs.items in
+    let none : reanchored_list target c.path.result c.cargo_list-carried.result.now ≡ None = at_none seen c.in_ok-seen.field-0 c.in_default-2.not-Some c.in_ok-seen.ensures in
+    let carried = c.cargo_list-carried.ensures in
     sym (not_arrived (part_of f) (arrival_by c.args.call) c.args.list.now
     (from_sender f.settings.site f.sender target (cargo_list f.cargo) (sym c.place_for.ensures ∙ c.in-Some.is) ∙ (λ i. reanchored_list target (sym c.path.ensures i) (sym carried i)) ∙ none))
 
@@ -34,10 +34,10 @@ pub returns : goal.returns
 returns c =
     let f = c.args.self.now in
     let target = c.in-Some.target in
-    let seen = λ (xs : Vec Asset Global). reanchored_list target c.path.result c.as_slice.result.now ≡ Some xs.items in
-    let some : reanchored_list target c.path.result c.as_slice.result.now ≡ Some c.in-Some-2.seen.items =
-    at_some (reanchored_list target c.path.result c.as_slice.result.now ≡ None) seen c.in_ok-seen.field-0 c.in-Some-2.seen c.in-Some-2.is c.in_ok-seen.ensures in
-    let carried = c.as_slice.ensures.value ∙ c.in_ok-carried.ensures in
+    let seen = λ (xs : Vec Asset Global). reanchored_list target c.path.result c.cargo_list-carried.result.now ≡ Some xs.items in
+    let some : reanchored_list target c.path.result c.cargo_list-carried.result.now ≡ Some c.in-Some-2.seen.items =
+    at_some (reanchored_list target c.path.result c.cargo_list-carried.result.now ≡ None) seen c.in_ok-seen.field-0 c.in-Some-2.seen c.in-Some-2.is c.in_ok-seen.ensures in
+    let carried = c.cargo_list-carried.ensures in
     let at = from_sender f.settings.site f.sender target (cargo_list f.cargo) (sym c.place_for.ensures ∙ c.in-Some.is) ∙ (λ i. reanchored_list target (sym c.path.ensures i) (sym carried i)) ∙ some in
-    c.are_same.ensures ∙ (λ i. eq_by_cmp assets_cmp (c.as_slice-2.ensures.value i) (c.items.ensures.value i))
+    c.are_same.ensures ∙ (λ i. eq_by_cmp assets_cmp (c.as_slice.ensures.value i) (c.items.ensures.value i))
     ∙ sym (arrived (part_of f) (arrival_by c.args.call) c.args.list.now c.in-Some-2.seen.items (sym c.fits.ensures ∙ c.if-not-fits.false) at)

@@ -1,0 +1,244 @@
+//! Where a derivative and what covers it stand.
+ghost use Rattle.std.specs.Prelude.{◌≡◌, ◌++◌, min, map, IfOk, OnOk, Some, None, option_map, position, slice_get, true};
+ghost use Rattle.std.specs.Option.{option_copied};
+ghost use Rattle.asset_bundles.specs.Books.{most_burned};
+ghost use Rattle.asset_bundles.specs.Totals.{total_value};
+ghost use Rattle.locations.specs.Chains.{path_of};
+ghost use Rattle.trust_tables.specs.Chains.{path_of_site};
+ghost use Rattle.chain_ids.specs.Chains.{same_chain};
+ghost use Rattle.chain_state.specs.PartOf.{part_of};
+ghost use Rattle.supply_audit.specs.Places.{table_of};
+ghost use Rattle.supply_audit.specs.RowPlaces.{chain_places, place_if};
+ghost use Rattle.supply_audit.specs.Covers.{cover_at, cover_between, cover_by, cover_of_row, cover_of_chain, number_of, of_cover, held_at, owed_at};
+
+use crate::audit::name_of;
+use crate::figures::{Carried, Figure};
+use crate::messages::same_chain;
+use crate::over_places::{chain_of, over_places};
+use crate::places::{context_of, is_row_of};
+use crate::totals::none;
+use crate::{Backing, Place};
+use asset_bundles::Total;
+use asset_lists::Kind;
+use chain_ids::ChainId;
+use chain_state::ChainState;
+use locations::{Junctions, Location};
+use network_coherence::sovereign_account;
+use std::alloc::{AllocError, Global};
+use std::marker::Model;
+use trust_tables::{AssetRole, AssetRow};
+
+/// Where the rows of a derivative's asset stand, at its chain and at its reserve. Contracts see it as `Covered`.
+#[derive(Drop)]
+pub struct Cover {
+    here: ChainId,
+    there: ChainId,
+    own: Vec<Place>,
+    kept: Vec<Place>,
+}
+
+impl Model for Cover {
+    ghost use Rattle.supply_audit.specs.Covered.{Covered};
+
+    ghost Value = { Covered };
+
+    ghost view = { λ c. record { here = c.here; there = c.there; own = c.own.items; kept = c.kept.items } };
+}
+
+/// The place of the first chain of this name.
+fn place_of(chains: &[ChainState], chain: ChainId) -> Option<usize>
+    ensures { result ≡ position (λ c. same_chain (part_of c).site.chain chain) chains.now }
+{
+    chains.iter().position(|c| same_chain(name_of(c), chain))
+}
+
+/// The number of the first chain of this name, or how many chains there are.
+fn number_of(chains: &[ChainState], chain: ChainId) -> usize
+    ensures { result ≡ number_of (map table_of (map part_of chains.now)) chain }
+{
+    place_of(chains, chain).unwrap_or(chains.len())
+}
+
+/// The chain of this number.
+fn listed_chain(chains: &[ChainState], number: usize) -> Option<&ChainState>
+    ensures { option_map (λ c. table_of (part_of c)) (option_copied result) ≡ slice_get (map table_of (map part_of chains.now)) number }
+{
+    chain_of(chains, number)
+}
+
+/// Appends the place of a chain's row, where it is of the asset.
+fn push_place(
+    list: &mut Vec<Place>,
+    chain: &ChainState,
+    context: &Junctions,
+    home: &Junctions,
+    id: &Location,
+    kind: Kind,
+    place: Place,
+    row: &AssetRow,
+) -> Result<(), AllocError>
+    requires { context.now ≡ path_of_site (part_of chain.now).site }
+    ensures { OnOk result (list.new.items ≡ list.old.items
+        ++ place_if true (table_of (part_of chain.now)) (path_of home.now id.now, kind) place.chain (place.row, row.now)) }
+{
+    if is_row_of(context, home, id, kind, row) {
+        list.push(place)?;
+    }
+    Ok(())
+}
+
+/// The places of a chain's rows that are of an asset.
+fn row_places(
+    alloc: Global,
+    number: usize,
+    chain: &ChainState,
+    home: &Junctions,
+    id: &Location,
+    kind: Kind,
+) -> Result<Vec<Place>, AllocError>
+    ensures { IfOk result (λ list. list.items ≡ chain_places true (path_of home.now id.now, kind) (number, table_of (part_of chain.now))) }
+{
+    let context = context_of(chain);
+    let mut list = Vec::new(alloc);
+    let rows = chain.rows();
+    for (k, row) in rows.iter().enumerate() {
+        let place = Place {
+            chain: number,
+            row: k,
+        };
+        push_place(&mut list, chain, &context, home, id, kind, place, row)?;
+    }
+    Ok(list)
+}
+
+impl Cover {
+    /// Where the derivative in a chain's row stands, and what covers it. `row` is the place in the chain's list, from 0. There is nothing where
+    /// the chain, the row or its reserve isn't there, or the row is native. An `Err` is out of memory.
+    pub fn of(
+        alloc: Global,
+        chains: &[ChainState],
+        chain: ChainId,
+        row: usize,
+    ) -> Result<Option<Cover>, AllocError>
+        ensures { IfOk result (λ cover. cover ≡ cover_at (map table_of (map part_of chains.now)) chain row) }
+    {
+        let number = number_of(chains, chain);
+        match listed_chain(chains, number) {
+            None => Ok(None),
+            Some(here) => place_cover(alloc, chains, number, here, row),
+        }
+    }
+
+    /// What the chain's account at the reserve has.
+    fn held(&self, chains: &[ChainState]) -> Total
+        ensures { total_value result ≡ min (held_at (map part_of chains.now) self.now) most_burned }
+    {
+        let who = sovereign_account(self.there, self.here);
+        over_places(Figure::Account(who), chains, self.kept.as_slice())
+    }
+
+    /// What the chain has, with what is on its way to it and back.
+    fn owed(&self, chains: &[ChainState]) -> Total
+        ensures { total_value result ≡ min (owed_at (map part_of chains.now) self.now) most_burned }
+    {
+        let own = self.own.as_slice();
+        let kept = self.kept.as_slice();
+        owed_over(chains, self.here, self.there, own, kept)
+    }
+}
+
+/// What stands at a chain's own places, with what is on its way to it as deposits and what is on its way back as withdrawals.
+fn owed_over(
+    chains: &[ChainState],
+    here: ChainId,
+    there: ChainId,
+    own: &[Place],
+    kept: &[Place],
+) -> Total
+    ensures { total_value result ≡ min (owed_at (map part_of chains.now) (record { here = here; there = there; own = own.now; kept = kept.now })) most_burned }
+{
+    let to_here = Figure::Sent(Carried::Deposits, Some(here));
+    let to_there = Figure::Sent(Carried::Withdrawals, Some(there));
+    let placed = over_places(Figure::Placed, chains, own);
+    let coming = over_places(to_here, chains, kept);
+    let leaving = over_places(to_there, chains, own);
+    placed.sum(coming).sum(leaving)
+}
+
+/// How a derivative is covered, by where it stands: what the chain's account at the reserve has, and what is owed: what the chain has, what
+/// is on its way to it as deposits, and what is on its way back as withdrawals. Both are 0 where there is none. It takes no memory.
+pub fn backing_at(chains: &[ChainState], cover: &Option<Cover>) -> Backing
+    ensures held { total_value result.held ≡ min (of_cover (held_at (map part_of chains.now)) cover.now) most_burned }
+    ensures owed { total_value result.owed ≡ min (of_cover (owed_at (map part_of chains.now)) cover.now) most_burned }
+{
+    match cover {
+        None => Backing {
+            held: none(),
+            owed: none(),
+        },
+        Some(cover) => Backing {
+            held: cover.held(chains),
+            owed: cover.owed(chains),
+        },
+    }
+}
+
+/// The cover of a row with its reserve.
+fn covering(
+    alloc: Global,
+    number: usize,
+    here: &ChainState,
+    row: &AssetRow,
+    other: usize,
+    there: &ChainState,
+) -> Result<Option<Cover>, AllocError>
+    ensures { IfOk result (λ cover. cover ≡ cover_between (number, table_of (part_of here.now)) row.now other (Some (table_of (part_of there.now)))) }
+{
+    let home = context_of(here);
+    let own = row_places(alloc, number, here, &home, &row.id, row.kind)?;
+    let kept = row_places(alloc, other, there, &home, &row.id, row.kind)?;
+    Ok(Some(Cover {
+        here: name_of(here),
+        there: name_of(there),
+        own,
+        kept,
+    }))
+}
+
+/// The cover of a row, by its role.
+fn row_cover(
+    alloc: Global,
+    chains: &[ChainState],
+    number: usize,
+    here: &ChainState,
+    row: &AssetRow,
+) -> Result<Option<Cover>, AllocError>
+    ensures { IfOk result (λ cover. cover ≡ cover_by (map table_of (map part_of chains.now)) (number, table_of (part_of here.now)) row.now row.now.role) }
+{
+    match &row.role {
+        AssetRole::Native { .. } => Ok(None),
+        AssetRole::Derivative { reserve } => {
+            let other = number_of(chains, *reserve);
+            match listed_chain(chains, other) {
+                None => Ok(None),
+                Some(there) => covering(alloc, number, here, row, other, there),
+            }
+        }
+    }
+}
+
+/// The cover of the row at this place of a chain's list.
+fn place_cover(
+    alloc: Global,
+    chains: &[ChainState],
+    number: usize,
+    here: &ChainState,
+    row: usize,
+) -> Result<Option<Cover>, AllocError>
+    ensures { IfOk result (λ cover. cover ≡ cover_of_row (map table_of (map part_of chains.now)) (number, table_of (part_of here.now)) (slice_get (part_of here.now).rows row)) }
+{
+    match here.rows().get(row) {
+        None => Ok(None),
+        Some(row) => row_cover(alloc, chains, number, here, row),
+    }
+}

@@ -1,0 +1,147 @@
+//! Where the rows of assets stand at their homes.
+ghost use Rattle.std.specs.Prelude.{◌≡◌, ◌++◌, ◌∷◌, [], false, map, IfOk, OnOk, IsTrue, if◌then◌else◌};
+ghost use Rattle.std.specs.BTreeSet.{contains};
+ghost use Rattle.std.specs.Ordering.{eq_by_cmp};
+ghost use Rattle.trust_tables.specs.Chains.{path_of_site};
+ghost use Rattle.coherence.specs.UniversalAssets.{UniversalAsset};
+ghost use Rattle.coherence.specs.Networks.{is_home};
+ghost use Rattle.network_genesis.specs.Tests.{has_path};
+ghost use Rattle.chain_state.specs.PartOf.{part_of};
+ghost use Rattle.supply_audit.specs.Assets.{asset_cmp};
+ghost use Rattle.supply_audit.specs.Places.{table_of};
+ghost use Rattle.supply_audit.specs.RowPlaces.{chain_places, home_places, place_if, places_in};
+
+use crate::Place;
+use crate::network_asset::NetworkAsset;
+use crate::table::{Homes, homes_of};
+use chain_state::ChainState;
+use std::alloc::{AllocError, Global};
+use std::collections::BTreeMap;
+use trust_tables::AssetRow;
+
+/// The places of the rows of each asset that has a home, at its homes.
+type Places = BTreeMap<NetworkAsset, Vec<Place>>;
+
+/// Where the rows of each asset stand, at the chains where it is at home.
+#[derive(Drop)]
+pub struct HomePlaces {
+    places: Places,
+}
+
+impl HomePlaces {
+    /// Where the rows stand at these chains. An `Err` is out of memory.
+    pub fn of(alloc: Global, chains: &[ChainState]) -> Result<HomePlaces, AllocError>
+        ensures { IfOk result (λ table. (a : UniversalAsset) → places_in table.places.entries a ≡ home_places a (map table_of (map part_of chains.now))) }
+    {
+        let mut places = BTreeMap::new(alloc);
+        for (number, chain) in chains.iter().enumerate() {
+            add_chain(alloc, &mut places, number, chain)?;
+        }
+        Ok(HomePlaces { places })
+    }
+
+    /// Where the rows of an asset stand, chain by chain in listed order. An `Err` is out of memory.
+    pub fn places(&self, alloc: Global, asset: &NetworkAsset) -> Result<Vec<Place>, AllocError>
+        ensures { IfOk result (λ list. list.items ≡ places_in self.now.places.entries asset.now) }
+    {
+        match self.places.get(asset) {
+            None => Ok(Vec::new(alloc)),
+            Some(list) => list.as_slice().to_vec(alloc),
+        }
+    }
+}
+
+/// Takes the places of an asset out.
+fn take_places(alloc: Global, places: &mut Places, asset: &NetworkAsset) -> Vec<Place>
+    ensures taken { result.items ≡ places_in places.old.entries asset.now }
+    ensures others { (a : UniversalAsset) → eq_by_cmp asset_cmp asset.now a ≡ false → places_in places.new.entries a ≡ places_in places.old.entries a }
+{
+    match places.remove(asset) {
+        Some(list) => list,
+        None => Vec::new(alloc),
+    }
+}
+
+/// Writes the places of an asset.
+fn write_places(
+    places: &mut Places,
+    asset: NetworkAsset,
+    list: Vec<Place>,
+) -> Result<(), AllocError>
+    ensures { OnOk result ((a : UniversalAsset) → places_in places.new.entries a ≡ (if eq_by_cmp asset_cmp asset a then list.items else places_in places.old.entries a)) }
+{
+    places.insert(asset, list)?;
+    Ok(())
+}
+
+/// Adds a place to those of an asset.
+fn add_place(
+    alloc: Global,
+    places: &mut Places,
+    asset: NetworkAsset,
+    place: Place,
+) -> Result<(), AllocError>
+    ensures { OnOk result ((a : UniversalAsset) → places_in places.new.entries a ≡ (if eq_by_cmp asset_cmp asset a then places_in places.old.entries asset ++ place ∷ [] else places_in places.old.entries a)) }
+{
+    let mut list = take_places(alloc, places, &asset);
+    list.push(place)?;
+    write_places(places, asset, list)
+}
+
+/// Adds the place of a row, where its asset is at home at the chain.
+fn add_row(
+    alloc: Global,
+    places: &mut Places,
+    homes: &Homes,
+    chain: &ChainState,
+    place: Place,
+    row: &AssetRow,
+) -> Result<(), AllocError>
+    requires path { IsTrue (has_path (path_of_site (part_of chain.now).site) row.now) }
+    requires homes { (a : UniversalAsset) → contains asset_cmp homes.now a ≡ is_home a (table_of (part_of chain.now)) }
+    ensures { OnOk result ((a : UniversalAsset) → places_in places.new.entries a
+        ≡ places_in places.old.entries a ++ place_if (is_home a (table_of (part_of chain.now))) (table_of (part_of chain.now)) a place.chain (place.row, row.now)) }
+{
+    let asset = NetworkAsset::listed_at(chain.site(), row);
+    if !homes.contains(&asset) {
+        return Ok(());
+    }
+    add_place(alloc, places, asset, place)
+}
+
+/// Adds the places of a chain's rows.
+fn add_rows(
+    alloc: Global,
+    places: &mut Places,
+    homes: &Homes,
+    number: usize,
+    chain: &ChainState,
+) -> Result<(), AllocError>
+    requires homes { (a : UniversalAsset) → contains asset_cmp homes.now a ≡ is_home a (table_of (part_of chain.now)) }
+    ensures { OnOk result ((a : UniversalAsset) → places_in places.new.entries a
+        ≡ places_in places.old.entries a ++ chain_places (is_home a (table_of (part_of chain.now))) a (number, table_of (part_of chain.now))) }
+{
+    let rows = chain.rows();
+    for (k, row) in rows.iter().enumerate() {
+        let place = Place {
+            chain: number,
+            row: k,
+        };
+        add_row(alloc, places, homes, chain, place, row)?;
+    }
+    Ok(())
+}
+
+/// Adds a chain.
+fn add_chain(
+    alloc: Global,
+    places: &mut Places,
+    number: usize,
+    chain: &ChainState,
+) -> Result<(), AllocError>
+    ensures { OnOk result ((a : UniversalAsset) → places_in places.new.entries a
+        ≡ places_in places.old.entries a ++ chain_places (is_home a (table_of (part_of chain.now))) a (number, table_of (part_of chain.now))) }
+{
+    let homes = homes_of(alloc, chain)?;
+    add_rows(alloc, places, &homes, number, chain)
+}

@@ -1,0 +1,117 @@
+//! What the rows at places count for.
+ghost use Rattle.std.specs.Prelude.{◌≡◌, IsTrue, min, map, Some, option_map, slice_get};
+ghost use Rattle.std.specs.Option.{option_copied};
+ghost use Rattle.asset_bundles.specs.Books.{most_burned};
+ghost use Rattle.asset_bundles.specs.Totals.{total_value};
+ghost use Rattle.asset_lists.specs.declared.units.AssetId.{AssetId};
+ghost use Rattle.asset_lists.specs.declared.units.Kind.{Kind};
+ghost use Rattle.chain_state.specs.PartOf.{part_of};
+ghost use Rattle.supply_audit.specs.Places.{figure};
+ghost use Rattle.supply_audit.specs.Supplies.{HasSums};
+ghost use Rattle.supply_audit.specs.RowPlaces.{over_places, placed_over, flight_over, burned_over, place_share, share_in};
+ghost use Rattle.supply_audit.specs.RowPlaces as at;
+
+use crate::Place;
+use crate::figures::Figure;
+use crate::messages::are_idle;
+use crate::places::figure;
+use crate::table::row_supply;
+use crate::totals::{no_supply, none, sum};
+use asset_bundles::Total;
+use asset_lists::AssetId;
+use chain_state::ChainState;
+use ledgers::Supply;
+
+/// The chain of this number.
+pub(crate) fn chain_of(chains: &[ChainState], number: usize) -> Option<&ChainState>
+    ensures { option_map part_of (option_copied result) ≡ slice_get (map part_of chains.now) number }
+{
+    chains.get(number)
+}
+
+/// Whether it is known that a chain has nothing of the figure, since no message waits.
+fn is_nothing(which: Figure, chain: &ChainState) -> bool
+    ensures { IsTrue result → (id : AssetId) (kind : Kind) → figure which (part_of chain.now) id kind ≡ 0 }
+{
+    match which {
+        Figure::Sent(_, to) => are_idle(to, chain.queues()),
+        _ => false,
+    }
+}
+
+/// A figure of the row at this place of a chain's list. Where no message waits, the row isn't looked at for what was sent.
+fn row_share(which: Figure, chain: &ChainState, row: usize) -> Total
+    ensures { total_value result ≡ min (share_in which row (Some (part_of chain.now))) most_burned }
+{
+    if is_nothing(which, chain) {
+        return none();
+    }
+    match chain.rows().get(row) {
+        None => none(),
+        Some(row) => {
+            let id = AssetId::Concrete(row.id.copy());
+            figure(which, chain, &id, row.kind)
+        }
+    }
+}
+
+/// A figure of the row at a place.
+fn place_share(which: Figure, chains: &[ChainState], place: Place) -> Total
+    ensures { total_value result ≡ min (place_share which (map part_of chains.now) place) most_burned }
+{
+    match chain_of(chains, place.chain) {
+        None => none(),
+        Some(chain) => row_share(which, chain, place.row),
+    }
+}
+
+/// A figure of the rows at these places. It saturates at 2^160-1.
+pub(crate) fn over_places(which: Figure, chains: &[ChainState], places: &[Place]) -> Total
+    ensures { total_value result ≡ min (over_places which (map part_of chains.now) places.now) most_burned }
+{
+    let mut total = none();
+    for place in places {
+        total = total.sum(place_share(which, chains, *place));
+    }
+    total
+}
+
+/// What stands under the row at this place of a chain's list, what was sent from there as teleports and what was burned there.
+fn row_supply_at(chain: &ChainState, row: usize) -> Supply
+    ensures { HasSums result (λ f. share_in f row (Some (part_of chain.now))) }
+{
+    match chain.rows().get(row) {
+        None => no_supply(),
+        Some(row) => row_supply(chain, row),
+    }
+}
+
+/// What stands at a place, what was sent from there as teleports and what was burned there.
+fn place_supply(chains: &[ChainState], place: &Place) -> Supply
+    ensures { HasSums result (λ f. at.place_share f (map part_of chains.now) place.now) }
+{
+    match chain_of(chains, place.chain) {
+        None => no_supply(),
+        Some(chain) => row_supply_at(chain, place.row),
+    }
+}
+
+/// The figures of these places.
+fn summed(chains: &[ChainState], places: &[Place]) -> Supply
+    ensures { HasSums result (λ f. at.over_places f (map part_of chains.now) places.now) }
+{
+    let mut total = no_supply();
+    for place in places {
+        total = sum(total, place_supply(chains, place));
+    }
+    total
+}
+
+/// What stands at these places, what was sent from there as teleports and what was burned there. Each total saturates at 2^160-1.
+pub fn supply_at(chains: &[ChainState], places: &[Place]) -> Supply
+    ensures home { total_value result.home ≡ min (placed_over (map part_of chains.now) places.now) most_burned }
+    ensures flight { total_value result.flight ≡ min (flight_over (map part_of chains.now) places.now) most_burned }
+    ensures burned { total_value result.burned ≡ min (burned_over (map part_of chains.now) places.now) most_burned }
+{
+    summed(chains, places)
+}
