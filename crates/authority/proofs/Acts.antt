@@ -11,15 +11,15 @@ use Rattle.chain_pools.specs.Spending.{IsSpeaker}
 use Rattle.exec_base.specs.Part.{ChainPart}
 use Rattle.exec_base.specs.Sending.{sent}
 use Rattle.exec_base.specs.Host.{withdrawn, deposited, transferred, transferred_out, deposited_out, fee_drawn}
-use Rattle.exec_run.specs.Machine.{Machine, Performed}
-use Rattle.exec_run.specs.Run.{Halted}
+use Rattle.exec_rules.specs.Machine.{Machine, Performed}
+use Rattle.exec_rules.specs.Run.{Halted}
 use Rattle.exec_rules.specs.Stopping.{Stops, Spilled, spills}
 use Rattle.exec_rules.specs.Instructions.{done, xcm}
 use Rattle.exec_calls.specs.Calls.{MachineWithGoods, MachineCall, after}
 use Rattle.exec_calls.specs.Footprints.{settings_after}
 use Rattle.exec_calls.specs.Reasons.{IsFrom, IsFirst, SpeaksBy, Moment, HasReason}
 use Rattle.exec_calls.specs.ReasonLaws.{each_keeps}
-use Rattle.exec_keeping.specs.KeptLaws.{halted_keeps}
+use Rattle.exec_admission.specs.KeptLaws.{halted_keeps}
 use Rattle.authority.specs.Origins.{speaker_at, speaker_of, SpendsOnly}
 use Rattle.authority.proofs.Lowering.{LowersOnly, same_lowers, given_lowers, got_lowers, moved_lowers, dispatched_lowers, settled_lowers}
 use Rattle.authority.specs.SpendingLaws.{same_spends, then_spends}

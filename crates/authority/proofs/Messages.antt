@@ -21,17 +21,17 @@ use Rattle.chain_pools.specs.Spending.{IsSpeaker}
 use Rattle.exec_base.specs.Part.{ChainPart}
 use Rattle.exec_base.specs.Sending.{led_by, away_program}
 use Rattle.exec_base.specs.Host.{told}
-use Rattle.exec_run.specs.Machine.{Machine, machine}
-use Rattle.exec_run.specs.Run.{Stage, At, Ended, begin, go_on, traced, by_answer, steps, machine_of, run, still_to_run, Reaches, Halted, StoppedIn}
-use Rattle.exec_run.specs.RunLaws.{steps_end}
-use Rattle.exec_run.specs.Outcome.{abandoned, finished, HaltedAtEnd}
+use Rattle.exec_rules.specs.Machine.{Machine, machine}
+use Rattle.exec_rules.specs.Run.{Stage, At, Ended, begin, go_on, traced, by_answer, steps, machine_of, run, still_to_run, Reaches, Halted, StoppedIn}
+use Rattle.exec_rules.specs.RunLaws.{steps_end}
+use Rattle.exec_rules.specs.Outcome.{abandoned, finished, HaltedAtEnd}
 use Rattle.exec_rules.specs.Stopping.{spills}
 use Rattle.exec_rules.specs.Instructions.{refused, refusal_of, done, xcm}
 use Rattle.exec_admission.specs.declared.rules.ChainRules.{ChainRules}
 use Rattle.exec_admission.specs.declared.admission.Admitted.{Admitted}
 use Rattle.exec_admission.specs.Execution.{first_machine, first_stage, last_machine, executed_by, AbandonedIn}
 use Rattle.exec_calls.specs.Calls.{between}
-use Rattle.exec_keeping.specs.KeptLaws.{any_kind, keeps_reached, go_on_kept}
+use Rattle.exec_admission.specs.KeptLaws.{any_kind, keeps_reached, go_on_kept}
 use Rattle.message_shapes.specs.Shapes.{stands_alone, IsAlone, IsLedByClaim, IsShape}
 use Rattle.authority.specs.Origins.{speaker_at, speaker_of, SpendsOnly}
 use Rattle.authority.specs.SpendingLaws.{same_spends, then_spends, none_spends}

@@ -11,9 +11,9 @@ use Rattle.xcm_program.specs.declared.instruction.Instruction.{Instruction}
 use Rattle.xcm_program.specs.declared.instruction.Instruction.TheOpen.{Instruction-F}
 use Rattle.exec_base.specs.declared.registers.Registers.{Registers}
 use Rattle.exec_base.specs.Part.{ChainPart}
-use Rattle.exec_run.specs.Machine.{Machine}
-use Rattle.exec_run.specs.Run.{Stage, machine_of, Reaches}
-use Rattle.exec_run.specs.Outcome.{abandoned, finished, HaltedAtEnd}
+use Rattle.exec_rules.specs.Machine.{Machine}
+use Rattle.exec_rules.specs.Run.{Stage, machine_of, Reaches}
+use Rattle.exec_rules.specs.Outcome.{abandoned, finished, HaltedAtEnd}
 use Rattle.exec_rules.specs.Origins.{descended}
 use Rattle.exec_rules.specs.Instructions.{xcm}
 use Rattle.exec_rules.specs.Stopping.{spills}
@@ -22,8 +22,8 @@ use Rattle.exec_admission.specs.declared.admission.Admitted.{Admitted}
 use Rattle.exec_admission.specs.Execution.{started, first_stage, executed, IsAbandoned}
 use Rattle.exec_calls.specs.Calls.{MachineWithGoods, MachineCall, after}
 use Rattle.exec_calls.specs.Reasons.{IsFrom, Moment, HasReason, ComesAtEnd, TurnsOrigin}
-use Rattle.exec_keeping.specs.Kept.{IsKeptAtEnd, IsKeptByCalls}
-use Rattle.exec_keeping.specs.KeptLaws.{any_kind, abandoned_kept, finished_kept, at_end_kept, keeps_run, keeps_executed, keeps_abandoned}
+use Rattle.exec_admission.specs.Kept.{IsKeptAtEnd, IsKeptByCalls}
+use Rattle.exec_admission.specs.KeptLaws.{any_kind, abandoned_kept, finished_kept, at_end_kept, keeps_run, keeps_executed, keeps_abandoned}
 use Rattle.network_steps.specs.Acting.{caller}
 use Rattle.authority.specs.Origins.{speaker_at, SpendsOnly, IsAtOrBelow}
 use Rattle.authority.proofs.Lowering.{settled_lowers}

@@ -6,7 +6,7 @@ use Rattle.trust_tables.specs.declared.chains.Site.{Site}
 use Rattle.trust_tables.specs.Accounts.{account_of}
 use Rattle.chain_pools.specs.Spending.{IsSpeaker, Spends}
 use Rattle.exec_base.specs.Part.{ChainPart}
-use Rattle.exec_run.specs.Machine.{Machine}
+use Rattle.exec_rules.specs.Machine.{Machine}
 use Rattle.exec_rules.specs.Origins.{descended}
 
 -- the account of an origin on a chain

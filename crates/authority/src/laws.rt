@@ -12,8 +12,8 @@ ghost use Rattle.xcm_program.specs.declared.instruction.Instruction.{Instruction
 ghost use Rattle.channel_parts.specs.declared.cargo.Cargo.{Cargo};
 ghost use Rattle.exec_base.specs.declared.event.Part.{Part};
 ghost use Rattle.exec_base.specs.Part.{ChainPart};
-ghost use Rattle.exec_run.specs.Machine.{Machine};
-ghost use Rattle.exec_run.specs.Run.{Stage, At, steps, machine_of, Reaches};
+ghost use Rattle.exec_rules.specs.Machine.{Machine};
+ghost use Rattle.exec_rules.specs.Run.{Stage, At, steps, machine_of, Reaches};
 ghost use Rattle.exec_rules.specs.Instructions.{xcm};
 ghost use Rattle.exec_admission.specs.declared.rules.ChainRules.{ChainRules};
 ghost use Rattle.exec_admission.specs.declared.admission.Admitted.{Admitted};

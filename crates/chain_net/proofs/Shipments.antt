@@ -26,7 +26,7 @@ use Rattle.exec_base.specs.Part.{ChainPart, Taken}
 use Rattle.exec_base.specs.Sending as sending_to
 use Rattle.exec_base.specs.Sending.{sent, named_sent}
 use Rattle.exec_base.specs.Host.{withdrawn, received, deposited, transferred, transferred_out, deposited_out, raised_for, shipped, querier_seen, report_program, responded, trapped, settled, told, Arrival, ByWithdrawal, arrival_of, cargo_after, is_cargo, lock_key, with_lock, note_program, asset_locked, request_key, with_less_noted, unlock_program, asset_requested}
-use Rattle.exec_run.specs.Outcome.{owner_of, end_event, end_told, refunded_last}
+use Rattle.exec_rules.specs.Outcome.{owner_of, end_event, end_told, refunded_last}
 use Rattle.exec_rules.specs.Instructions.{xcm}
 use Rattle.exec_rules.specs.Readiness.{IsAtRest}
 use Rattle.exec_admission.specs.declared.rules.ChainRules.{ChainRules}
@@ -35,8 +35,8 @@ use Rattle.exec_admission.specs.Admission.{admitted}
 use Rattle.exec_admission.specs.Execution.{first_machine, last_machine, executed_by, executed, IsAbandoned}
 use Rattle.exec_calls.specs.Calls.{MachineWithGoods, between, MachineCall, why_not, after}
 use Rattle.exec_calls.specs.ListingLaws.{nothing_listed, HasListed, listed_after}
-use Rattle.exec_keeping.specs.Kept.{IsKeptByCalls}
-use Rattle.exec_keeping.specs.KeptLaws.{any_kind, keeps_executed, keeps_abandoned}
+use Rattle.exec_admission.specs.Kept.{IsKeptByCalls}
+use Rattle.exec_admission.specs.KeptLaws.{any_kind, keeps_executed, keeps_abandoned}
 use Rattle.network_steps.specs.Fixed.{Fixed, fixed_of}
 use Rattle.network_steps.specs.FixedLaws.{fixed_is_kept, executed_fixed}
 use Rattle.chain_net.specs.Sound.{IsListedCargo, AreListedIn}

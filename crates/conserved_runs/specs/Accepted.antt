@@ -28,7 +28,7 @@ use Rattle.chain_pools.specs.Keeping.{not_sovereign}
 use Rattle.exec_base.specs.Part.{ChainPart}
 use Rattle.exec_base.specs.Host.{trust_fault, receive_refusal, unspent, refund_goods, fee_taken}
 use Rattle.exec_base.specs.Pools.{exchange_goods}
-use Rattle.exec_run.specs.Machine.{Machine, machine}
+use Rattle.exec_rules.specs.Machine.{Machine, machine}
 use Rattle.exec_rules.specs.Holdings.{with_origin, with_holding, payment_of}
 use Rattle.exec_rules.specs.AnswerLaws.{unless_held, unless_next, none_first}
 use Rattle.exec_rules.specs.Instructions.{refused, done}

@@ -14,15 +14,15 @@ use Rattle.weight_trader.specs.Laws.{MovesAreKept}
 use Rattle.xcm_program.specs.declared.instruction.Instruction.TheOpen.{Instruction-F}
 use Rattle.exec_base.specs.Part.{ChainPart}
 use Rattle.exec_base.specs.Host.{refund_goods, refunded, settled}
-use Rattle.exec_run.specs.Machine.{Machine, machine}
-use Rattle.exec_run.specs.Outcome.{finished, HaltedAtEnd}
+use Rattle.exec_rules.specs.Machine.{Machine, machine}
+use Rattle.exec_rules.specs.Outcome.{finished, HaltedAtEnd}
 use Rattle.exec_rules.specs.Instructions.{xcm}
 use Rattle.exec_rules.specs.Stopping.{spills}
 use Rattle.exec_calls.specs.Calls.{MachineWithGoods, between, MachineCall, after, effect}
 use Rattle.exec_calls.specs.Footprints.{part_is}
 use Rattle.exec_calls.specs.Reasons.{Moment, HasReason, ComesAtEnd}
-use Rattle.exec_keeping.specs.Kept.{IsKeptAtEnd, Ends}
-use Rattle.exec_keeping.specs.KeptLaws.{finished_kept, at_end_kept}
+use Rattle.exec_admission.specs.Kept.{IsKeptAtEnd, Ends}
+use Rattle.exec_admission.specs.KeptLaws.{finished_kept, at_end_kept}
 use Rattle.conserved_runs.specs.Sums.{Sum, sum_of, none, with, nobody, Call, HasRoom}
 use Rattle.conserved_runs.specs.Calls.{Trapping, call_then, call_with, still, room_kept, room_with, joining, telling, answering, refunding, parking_goods, keeping, settling, trapping_goods}
 use Rattle.conserved_runs.specs.Safety.{hold}

@@ -36,7 +36,7 @@ use Rattle.channel_parts.specs.Channels.{Outgoing}
 use Rattle.exec_base.specs.Part.{ChainPart}
 use Rattle.exec_base.specs.Sending.{unless, or_else, is_sendable, channel_refusal, channel_to, send_refusal, listed_refusal}
 use Rattle.exec_base.specs.Host.{first_fault, with_account, give_fault, withdraw_refusal, trust_fault, checking_of, raise_fault, seen_from, ship_refusal, fee_held, fee_drawn, fee_to}
-use Rattle.exec_run.specs.Machine.{Machine, machine}
+use Rattle.exec_rules.specs.Machine.{Machine, machine}
 use Rattle.exec_rules.specs.Holdings.{with_origin, at_origin, holds_asset, payment_of, holding_paid, taken_of}
 use Rattle.exec_rules.specs.Fees.{fee_refusal, after_fee, refused_around}
 use Rattle.exec_rules.specs.Instructions.{refused}

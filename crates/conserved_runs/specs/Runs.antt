@@ -23,12 +23,12 @@ use Rattle.exec_base.specs.declared.event.Event.{Event}
 use Rattle.exec_base.specs.declared.registers.Registers.{Registers}
 use Rattle.exec_base.specs.Part.{ChainPart}
 use Rattle.exec_base.specs.Host.{told}
-use Rattle.exec_run.specs.Machine.{Machine, machine, IsOrderly}
-use Rattle.exec_run.specs.Run.{Stage, failed, without_handler, without_appendix, handler_dropped, steps, machine_of}
-use Rattle.exec_run.specs.Accounts.{IsBalanced}
-use Rattle.exec_run.specs.Outcome.{finished}
-use Rattle.exec_run.specs.Keeping.{IsKeptByRuns, IsAheadOf, GoesInside}
-use Rattle.exec_run.specs.KeepingLaws.{steps_keep}
+use Rattle.exec_rules.specs.Machine.{Machine, machine, IsOrderly}
+use Rattle.exec_rules.specs.Run.{Stage, failed, without_handler, without_appendix, handler_dropped, steps, machine_of}
+use Rattle.exec_rules.specs.Accounts.{IsBalanced}
+use Rattle.exec_rules.specs.Outcome.{finished}
+use Rattle.exec_rules.specs.Keeping.{IsKeptByRuns, IsAheadOf, GoesInside}
+use Rattle.exec_rules.specs.KeepingLaws.{steps_keep}
 use Rattle.exec_rules.specs.Holdings.{payment_of}
 use Rattle.exec_rules.specs.Origins.{descended}
 use Rattle.exec_rules.specs.Instructions.{refusal_of, done, xcm}

@@ -38,7 +38,7 @@ use Rattle.exec_base.specs.Sending.{channel_to, leads_to}
 use Rattle.exec_base.specs.Host.{fee_to}
 use Rattle.asset_lists.specs.Lists.{IsAssetList}
 use Rattle.std.specs.Option.{option_and_then}
-use Rattle.exec_run.specs.Machine.{Machine}
+use Rattle.exec_rules.specs.Machine.{Machine}
 use Rattle.coherence.specs.UniversalAssets.{UniversalAsset, Choice, every, is_asset_at, is_unit_at}
 use Rattle.trust_tables.specs.declared.rows.AssetRole.TheVariants.{Derivative}
 use Rattle.coherence.specs.Networks.{Table, context_of, IsIn, asset_of_row, is_home}

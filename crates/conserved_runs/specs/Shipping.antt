@@ -45,7 +45,7 @@ use Rattle.exec_base.specs.Part.{ChainPart}
 use Rattle.asset_locks.specs.LockMaps.{NoteKey, LocksAndNotes, noted}
 use Rattle.exec_base.specs.Sending.{named_refusal, named_sent, channel_to, leads_to, is_sendable, channel_refusal, send_refusal, sent, led_by, listed_refusal, listed_program, deposit_program, away_program}
 use Rattle.exec_base.specs.Host.{lock_key, is_lockable, place_seen, asset_seen, note_program, lock_refusal, asset_locked, account_place, request_key, unlock_program, request_refusal, asset_requested, first_fault, give_fault, trust_fault, deposit_refusal, deposited, transfer_refusal, withdraw_refusal, transferred, transfer_out_refusal, transferred_out, deposit_out_refusal, deposited_out, is_teleport, changed_all, ship_refusal, shipped, seen_from, querier_seen, report_program, report_refusal, respond_refusal, responded}
-use Rattle.exec_run.specs.Machine.{Machine, machine}
+use Rattle.exec_rules.specs.Machine.{Machine, machine}
 use Rattle.exec_rules.specs.Holdings.{with_holding}
 use Rattle.exec_rules.specs.AnswerLaws.{unless_held, unless_next, none_first, none_next, withdrawn_is_listed}
 use Rattle.coherence.specs.UniversalAssets.{UniversalAsset, every}

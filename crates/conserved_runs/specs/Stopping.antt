@@ -1,7 +1,7 @@
 -- Lemmas: where a run is abandoned, what is held is parked. A reader may skip this file.
 use Rattle.exec_base.specs.Host.{parked}
-use Rattle.exec_run.specs.Machine.{Machine}
-use Rattle.exec_run.specs.Outcome.{abandoned}
+use Rattle.exec_rules.specs.Machine.{Machine}
+use Rattle.exec_rules.specs.Outcome.{abandoned}
 use Rattle.conserved_runs.specs.Sums.{none, nobody, Call}
 use Rattle.conserved_runs.specs.Calls.{parking_goods}
 use Rattle.conserved_runs.specs.Safety.{hold}

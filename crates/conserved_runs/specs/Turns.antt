@@ -8,7 +8,7 @@ use Rattle.asset_bundles.specs.Bundles.{Bundle, unit_keys}
 use Rattle.asset_bundles.specs.Joins.{Joined}
 use Rattle.exec_base.specs.Part.{ChainPart}
 use Rattle.exec_base.specs.Host.{joined}
-use Rattle.exec_run.specs.Machine.{Machine, machine}
+use Rattle.exec_rules.specs.Machine.{Machine, machine}
 use Rattle.exec_rules.specs.Holdings.{holds_asset, holding_more, payment_of}
 use Rattle.exec_rules.specs.HoldingLaws.{payment_within}
 use Rattle.conserved_runs.specs.Sums.{sum_of, none, with, nobody, Call, HasRoom}

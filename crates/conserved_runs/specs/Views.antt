@@ -11,7 +11,7 @@ use Rattle.channel_parts.specs.declared.cargo.Cargo.TheVariants as cargos
 use Rattle.channel_parts.specs.Channels.{Waiting, Outgoing}
 use Rattle.weight_trader.specs.Purchases.{paid_goods}
 use Rattle.exec_base.specs.Part.{ChainPart}
-use Rattle.exec_run.specs.Machine.{Machine}
+use Rattle.exec_rules.specs.Machine.{Machine}
 use Rattle.coherence.specs.Networks.{Table}
 use Rattle.conservation.specs.Parts.{Cargo, Nothing, Deposit, Withdrawal, Teleport, Channel, Part}
 

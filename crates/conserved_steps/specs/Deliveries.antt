@@ -35,7 +35,7 @@ use Rattle.chain_queues.specs.Queues.{leads_to, channel_to, oldest, first_of, wi
 use Rattle.exec_base.specs.Part.{ChainPart, book_of}
 use Rattle.network_steps.specs.Worlds as networks
 use Rattle.network_steps.specs.Worlds.{Member}
-use Rattle.exec_run.specs.Machine.{Machine}
+use Rattle.exec_rules.specs.Machine.{Machine}
 use Rattle.network_steps.specs.Acting.{lost_by, lost_of, booking_lost}
 use Rattle.network_steps.specs.Steps.{without_message}
 use Rattle.coherence.specs.UniversalAssets.{UniversalAsset, Choice, every}

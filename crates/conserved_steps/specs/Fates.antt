@@ -21,7 +21,7 @@ use Rattle.exec_base.specs.declared.event.Event.{Event}
 use Rattle.exec_base.specs.Part.{ChainPart, Taken}
 use Rattle.exec_base.specs.Sending.{away_program}
 use Rattle.exec_base.specs.Host.{ByWithdrawal, ByTeleport, fits_call, cargo_list, told}
-use Rattle.exec_run.specs.Machine.{Machine}
+use Rattle.exec_rules.specs.Machine.{Machine}
 use Rattle.exec_rules.specs.Instructions.{refused}
 use Rattle.exec_rules.specs.Stopping.{Stops}
 use Rattle.exec_admission.specs.declared.rules.ChainRules.{ChainRules}

@@ -19,13 +19,13 @@ use Rattle.exec_base.specs.declared.event.Part.TheVariants as parts
 use Rattle.exec_base.specs.declared.registers.Registers.{Registers}
 use Rattle.exec_base.specs.Part.{ChainPart}
 use Rattle.exec_base.specs.Host.{told, refunded, joined, booked, settled, trapped}
-use Rattle.exec_run.specs.Machine.{Machine, machine}
-use Rattle.exec_run.specs.Run.{Stage, At, Ended, begin, go_on, failed, without_appendix, handler_dropped, traced, by_answer, next, steps, run, still_to_run, machine_of, left_after, Reaches, GoesOnTo}
-use Rattle.exec_run.specs.RunLaws.{steps_end, reached_balanced, reaches_here, reaches_next, run_reached, run_from}
-use Rattle.exec_run.specs.KeepingLaws.{begin_machine, reached_hold}
-use Rattle.exec_run.specs.Accounts.{IsBalanced}
-use Rattle.exec_run.specs.Keeping.{IsAheadOf}
-use Rattle.exec_run.specs.Outcome.{owner_of, end_told, end_event, refund_surplus, refunded_last, finished}
+use Rattle.exec_rules.specs.Machine.{Machine, machine}
+use Rattle.exec_rules.specs.Run.{Stage, At, Ended, begin, go_on, failed, without_appendix, handler_dropped, traced, by_answer, next, steps, run, still_to_run, machine_of, left_after, Reaches, GoesOnTo}
+use Rattle.exec_rules.specs.RunLaws.{steps_end, reached_balanced, reaches_here, reaches_next, run_reached, run_from}
+use Rattle.exec_rules.specs.KeepingLaws.{begin_machine, reached_hold}
+use Rattle.exec_rules.specs.Accounts.{IsBalanced}
+use Rattle.exec_rules.specs.Keeping.{IsAheadOf}
+use Rattle.exec_rules.specs.Outcome.{owner_of, end_told, end_event, refund_surplus, refunded_last, finished}
 use Rattle.exec_rules.specs.Holdings.{refund_now, refund_done}
 use Rattle.exec_rules.specs.Instructions.{refused, done, refusal_of, xcm}
 use Rattle.exec_rules.specs.Readiness.{IsAtRest, IsSteady}

@@ -8,12 +8,12 @@ use Rattle.xcm_program.specs.declared.instruction.Instruction.{Instruction}
 use Rattle.weight_trader.specs.Purchases.{no_weight}
 use Rattle.exec_base.specs.declared.event.Part.TheVariants as parts
 use Rattle.exec_base.specs.Part.{ChainPart}
-use Rattle.exec_run.specs.Machine.{Machine}
-use Rattle.exec_run.specs.Run.{Stage, At, run, still_to_run, machine_of, Reaches, GoesOnTo, StoppedIn}
-use Rattle.exec_run.specs.Accounts.{IsBalanced}
-use Rattle.exec_run.specs.Keeping.{IsAheadOf}
-use Rattle.exec_run.specs.KeepingLaws.{begin_machine, reached_hold, reached_keeps}
-use Rattle.exec_run.specs.Outcome.{abandoned, HaltedAtEnd}
+use Rattle.exec_rules.specs.Machine.{Machine}
+use Rattle.exec_rules.specs.Run.{Stage, At, run, still_to_run, machine_of, Reaches, GoesOnTo, StoppedIn}
+use Rattle.exec_rules.specs.Accounts.{IsBalanced}
+use Rattle.exec_rules.specs.Keeping.{IsAheadOf}
+use Rattle.exec_rules.specs.KeepingLaws.{begin_machine, reached_hold, reached_keeps}
+use Rattle.exec_rules.specs.Outcome.{abandoned, HaltedAtEnd}
 use Rattle.exec_rules.specs.Instructions.{xcm}
 use Rattle.exec_rules.specs.Stopping.{spills}
 use Rattle.exec_admission.specs.declared.rules.ChainRules.{ChainRules}

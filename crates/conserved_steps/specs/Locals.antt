@@ -16,12 +16,12 @@ use Rattle.channel_parts.specs.declared.cargo.Cargo.TheVariants as cargos
 use Rattle.channel_parts.specs.declared.channel.Channel.{Channel}
 use Rattle.exec_base.specs.declared.event.Part.TheVariants as parts
 use Rattle.exec_base.specs.Part.{ChainPart}
-use Rattle.exec_run.specs.Machine.{Machine}
-use Rattle.exec_run.specs.Run.{Stage, begin, run, still_to_run, machine_of}
-use Rattle.exec_run.specs.Accounts.{IsBalanced}
-use Rattle.exec_run.specs.Keeping.{IsAheadOf}
-use Rattle.exec_run.specs.KeepingLaws.{begin_machine}
-use Rattle.exec_run.specs.Outcome.{finished}
+use Rattle.exec_rules.specs.Machine.{Machine}
+use Rattle.exec_rules.specs.Run.{Stage, begin, run, still_to_run, machine_of}
+use Rattle.exec_rules.specs.Accounts.{IsBalanced}
+use Rattle.exec_rules.specs.Keeping.{IsAheadOf}
+use Rattle.exec_rules.specs.KeepingLaws.{begin_machine}
+use Rattle.exec_rules.specs.Outcome.{finished}
 use Rattle.exec_rules.specs.Instructions.{xcm}
 use Rattle.exec_rules.specs.Readiness.{IsAtRest}
 use Rattle.exec_admission.specs.declared.rules.ChainRules.{ChainRules}

@@ -35,11 +35,11 @@ use Rattle.exec_base.specs.Arrivals.{arrived_list, is_this_list}
 use Rattle.exec_base.specs.Part.{Taken, ChainPart, accounts_of, book_of}
 use Rattle.exec_base.specs.Sending.{led_by}
 use Rattle.exec_base.specs.Host.{Arrival, ByWithdrawal, ByDeposit, ByTeleport, arrival_of, fits_call, cargo_list, is_cargo, cargo_after, changed_all, first_fault, receive_refusal, withdraw_refusal, give_fault, at_account, withdrawn, received, joined, booked, claimed, answered, asset_unlocked, asset_noted, told, parked}
-use Rattle.exec_run.specs.Machine.{Machine}
-use Rattle.exec_run.specs.Run.{machine_of}
-use Rattle.exec_run.specs.Accounts.{IsBalanced}
-use Rattle.exec_run.specs.Keeping.{IsAheadOf}
-use Rattle.exec_run.specs.Outcome.{finished, abandoned}
+use Rattle.exec_rules.specs.Machine.{Machine}
+use Rattle.exec_rules.specs.Run.{machine_of}
+use Rattle.exec_rules.specs.Accounts.{IsBalanced}
+use Rattle.exec_rules.specs.Keeping.{IsAheadOf}
+use Rattle.exec_rules.specs.Outcome.{finished, abandoned}
 use Rattle.exec_rules.specs.Holdings.{has_room, is_ticket, holding_more}
 use Rattle.exec_rules.specs.AnswerLaws.{unless_next, none_first, received_is_listed}
 use Rattle.exec_rules.specs.Instructions.{refused, done, refusal_of, xcm}

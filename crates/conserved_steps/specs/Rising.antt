@@ -5,9 +5,9 @@ use Rattle.amounts.specs.Amounts.{empty}
 use Rattle.channel_parts.specs.Channels.{Waiting}
 use Rattle.exec_base.specs.declared.event.Part.TheVariants as parts
 use Rattle.exec_base.specs.Host.{told}
-use Rattle.exec_run.specs.Machine.{Machine}
-use Rattle.exec_run.specs.Run.{Stage, steps, machine_of, Reaches, GoesOnTo}
-use Rattle.exec_run.specs.KeepingLaws.{begin_machine}
+use Rattle.exec_rules.specs.Machine.{Machine}
+use Rattle.exec_rules.specs.Run.{Stage, steps, machine_of, Reaches, GoesOnTo}
+use Rattle.exec_rules.specs.KeepingLaws.{begin_machine}
 use Rattle.exec_rules.specs.Instructions.{xcm}
 use Rattle.exec_admission.specs.declared.admission.Admitted.{Admitted}
 use Rattle.exec_admission.specs.Execution.{first_machine, first_stage}

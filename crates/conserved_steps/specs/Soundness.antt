@@ -11,9 +11,9 @@ use Rattle.weight_trader.specs.Laws.{MovesAreKept}
 use Rattle.channel_parts.specs.declared.channel.Channel.{Channel}
 use Rattle.channel_parts.specs.declared.cargo.Cargo.TheVariants as cargos
 use Rattle.exec_base.specs.Part.{ChainPart}
-use Rattle.exec_run.specs.Machine.{IsOrderly}
-use Rattle.exec_run.specs.Accounts.{IsBalanced}
-use Rattle.exec_run.specs.Outcome.{finished}
+use Rattle.exec_rules.specs.Machine.{IsOrderly}
+use Rattle.exec_rules.specs.Accounts.{IsBalanced}
+use Rattle.exec_rules.specs.Outcome.{finished}
 use Rattle.exec_rules.specs.Instructions.{xcm}
 use Rattle.exec_rules.specs.Readiness.{IsAtRest}
 use Rattle.exec_admission.specs.declared.rules.ChainRules.{ChainRules}

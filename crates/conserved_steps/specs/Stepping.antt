@@ -25,7 +25,7 @@ use Rattle.chain_queues.specs.Queues.{leads_to, channel_to, first_of, oldest, pu
 use Rattle.exec_base.specs.declared.event.Event.{Event}
 use Rattle.exec_base.specs.Part.{ChainPart}
 use Rattle.exec_base.specs.Sending.{channel_refusal}
-use Rattle.exec_run.specs.Run.{Stage, machine_of, GoesOnTo}
+use Rattle.exec_rules.specs.Run.{Stage, machine_of, GoesOnTo}
 use Rattle.exec_rules.specs.Instructions.{xcm}
 use Rattle.weight_trader.specs.Purchases.{no_weight}
 use Rattle.exec_admission.specs.declared.admission.Admitted.{Admitted}

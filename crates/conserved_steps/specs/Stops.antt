@@ -13,12 +13,12 @@ use Rattle.exec_base.specs.declared.event.Part.TheVariants as parts
 use Rattle.exec_base.specs.declared.registers.Registers.{Registers}
 use Rattle.exec_base.specs.Part.{ChainPart, Taken}
 use Rattle.exec_base.specs.Host.{parked}
-use Rattle.exec_run.specs.Machine.{Machine, machine, Performed}
-use Rattle.exec_run.specs.Run.{Stage, At, Ended, begin, next, steps, machine_of, failed, without_appendix, handler_dropped, traced, GoesOnTo, StoppedIn, Halted}
-use Rattle.exec_run.specs.RunLaws.{steps_end}
-use Rattle.exec_run.specs.KeepingLaws.{reached_hold}
-use Rattle.exec_run.specs.Accounts.{IsBalanced}
-use Rattle.exec_run.specs.Outcome.{abandoned, HaltedAtEnd}
+use Rattle.exec_rules.specs.Machine.{Machine, machine, Performed}
+use Rattle.exec_rules.specs.Run.{Stage, At, Ended, begin, next, steps, machine_of, failed, without_appendix, handler_dropped, traced, GoesOnTo, StoppedIn, Halted}
+use Rattle.exec_rules.specs.RunLaws.{steps_end}
+use Rattle.exec_rules.specs.KeepingLaws.{reached_hold}
+use Rattle.exec_rules.specs.Accounts.{IsBalanced}
+use Rattle.exec_rules.specs.Outcome.{abandoned, HaltedAtEnd}
 use Rattle.exec_rules.specs.Instructions.{done, refusal_of, xcm}
 use Rattle.exec_rules.specs.Readiness.{IsSteady}
 use Rattle.exec_rules.specs.Stopping.{Stops, Spilled, spills}
@@ -36,8 +36,8 @@ use Rattle.conserved_runs.specs.Stopping.{abandoned_call}
 use Rattle.conserved_runs.specs.Ending.{halted_call}
 use Rattle.exec_calls.specs.Calls.{MachineWithGoods, MachineCall, after}
 use Rattle.exec_calls.specs.Reasons.{ComesAtEnd}
-use Rattle.exec_keeping.specs.Kept.{IsKeptAtEnd}
-use Rattle.exec_keeping.specs.KeptLaws.{at_end_kept}
+use Rattle.exec_admission.specs.Kept.{IsKeptAtEnd}
+use Rattle.exec_admission.specs.KeptLaws.{at_end_kept}
 use Rattle.conserved_steps.specs.Soundness.{LawsBelow}
 use Rattle.conserved_steps.specs.Firsts.{IsSetBehind, second, stopped, alone, told_safely, told_cargo, step_on, stays_here, refused_next, refused_last, alone_next, alone_last, led_once, led_on, led_last}
 

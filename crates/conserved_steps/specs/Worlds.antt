@@ -14,8 +14,8 @@ use Rattle.chain_queues.specs.Queues.{channel_to, oldest}
 use Rattle.exec_base.specs.declared.event.Event.{Event}
 use Rattle.exec_base.specs.Host.{told}
 use Rattle.exec_base.specs.Part.{ChainPart}
-use Rattle.exec_run.specs.Machine.{Machine}
-use Rattle.exec_run.specs.Run.{Stage, machine_of, Reaches, GoesOnTo}
+use Rattle.exec_rules.specs.Machine.{Machine}
+use Rattle.exec_rules.specs.Run.{Stage, machine_of, Reaches, GoesOnTo}
 use Rattle.exec_rules.specs.Instructions.{refused, xcm}
 use Rattle.exec_admission.specs.declared.admission.Admitted.{Admitted}
 use Rattle.exec_admission.specs.Admission.{admitted}

@@ -17,11 +17,11 @@ use Rattle.exec_base.specs.declared.event.Part.TheVariants as parts
 use Rattle.exec_base.specs.declared.registers.Registers.{Registers}
 use Rattle.exec_base.specs.Part.{ChainPart}
 use Rattle.exec_base.specs.Host.{told, settled, trapped}
-use Rattle.exec_run.specs.Machine.{Machine, Control, control_of, Steers, IsOrderly}
-use Rattle.exec_run.specs.Run.{left_after}
-use Rattle.exec_run.specs.Accounts.{Balances, IsBalanced, KeepsAccounts, ref_time, proof_size}
-use Rattle.exec_run.specs.Outcome.{owner_of, end_event, refund_surplus, refunded_last, finished}
-use Rattle.exec_run.specs.RunLaws.{begin_balanced}
+use Rattle.exec_rules.specs.Machine.{Machine, Control, control_of, Steers, IsOrderly}
+use Rattle.exec_rules.specs.Run.{left_after}
+use Rattle.exec_rules.specs.Accounts.{Balances, IsBalanced, KeepsAccounts, ref_time, proof_size}
+use Rattle.exec_rules.specs.Outcome.{owner_of, end_event, refund_surplus, refunded_last, finished}
+use Rattle.exec_rules.specs.RunLaws.{begin_balanced}
 use Rattle.exec_rules.specs.Instructions.{refusal_of, xcm}
 use Rattle.exec_admission.specs.declared.rules.ChainRules.{ChainRules}
 use Rattle.exec_admission.specs.declared.admission.Admitted.{Admitted}

@@ -23,10 +23,10 @@ use Rattle.barriers.specs.Barriers.{with_limit, limited, purchase_index, left_by
 use Rattle.exec_base.specs.declared.event.Part.TheVariants as parts
 use Rattle.exec_base.specs.Part.{ChainPart}
 use Rattle.exec_base.specs.Sending.{IsForwardable}
-use Rattle.exec_run.specs.Machine.{Machine, control_of}
-use Rattle.exec_run.specs.Run.{begin, machine_of}
-use Rattle.exec_run.specs.Keeping.{AllAhead, IsAheadOf}
-use Rattle.exec_run.specs.KeepingLaws.{begin_machine}
+use Rattle.exec_rules.specs.Machine.{Machine, control_of}
+use Rattle.exec_rules.specs.Run.{begin, machine_of}
+use Rattle.exec_rules.specs.Keeping.{AllAhead, IsAheadOf}
+use Rattle.exec_rules.specs.KeepingLaws.{begin_machine}
 use Rattle.exec_rules.specs.Readiness.{IsAtRest, IsSteady, IsSound}
 use Rattle.exec_calls.specs.ListingLaws.{nothing_listed}
 use Rattle.exec_admission.specs.declared.rules.ChainRules.{ChainRules}

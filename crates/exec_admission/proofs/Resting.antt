@@ -12,9 +12,9 @@ use Rattle.xcm_program.specs.declared.instruction.Instruction.{Instruction}
 use Rattle.exec_base.specs.declared.event.Event.{Event}
 use Rattle.exec_base.specs.Part.{ChainPart}
 use Rattle.exec_base.specs.Host.{told, settled, trapped}
-use Rattle.exec_run.specs.Machine.{Machine}
-use Rattle.exec_run.specs.Run.{left_after}
-use Rattle.exec_run.specs.Outcome.{owner_of, end_event, end_told, rest_trapped, refund_surplus, refunded_last, finished}
+use Rattle.exec_rules.specs.Machine.{Machine}
+use Rattle.exec_rules.specs.Run.{left_after}
+use Rattle.exec_rules.specs.Outcome.{owner_of, end_event, end_told, rest_trapped, refund_surplus, refunded_last, finished}
 use Rattle.exec_rules.specs.Instructions.{refusal_of, xcm}
 use Rattle.exec_rules.specs.Readiness.{IsAtRest, IsSteady}
 use Rattle.exec_calls.specs.ListingLaws.{trapped_listed, closed_within}

@@ -17,7 +17,7 @@ use Rattle.barriers.specs.declared.barrier.Barrier.{Barrier}
 use Rattle.barriers.specs.declared.barrier.Barrier.TheVariants.{Credit, Paid, Explicit, Unpaid, Responses}
 use Rattle.barriers.specs.Barriers.{with_limit, limited, purchase_index, left_by, decided, allows}
 use Rattle.weight_trader.specs.Sums.{weight_sum}
-use Rattle.exec_run.specs.Accounts.{ref_time, proof_size}
+use Rattle.exec_rules.specs.Accounts.{ref_time, proof_size}
 use Rattle.xcm_program.specs.Laws.{deep_count_inside, deep_count_one-is, total_of, total_inside, kept_one-is, weight_one-is}
 use Rattle.exec_admission.specs.declared.rules.ChainRules.{ChainRules}
 use Rattle.exec_admission.specs.declared.admission.Admitted.{Admitted}

@@ -10,9 +10,9 @@ use Rattle.xcm_program.specs.declared.outcome.Outcome.{Outcome}
 use Rattle.exec_base.specs.declared.event.Part.TheVariants as parts
 use Rattle.exec_base.specs.declared.registers.Registers.{Registers}
 use Rattle.exec_base.specs.Part.{ChainPart}
-use Rattle.exec_run.specs.Machine.{Machine, machine}
-use Rattle.exec_run.specs.Run.{Stage, begin, run, machine_of, begins_well, StoppedIn}
-use Rattle.exec_run.specs.Outcome.{outcome_of, abandoned, refunded_last, finished, HaltedAtEnd}
+use Rattle.exec_rules.specs.Machine.{Machine, machine}
+use Rattle.exec_rules.specs.Run.{Stage, begin, run, machine_of, begins_well, StoppedIn}
+use Rattle.exec_rules.specs.Outcome.{outcome_of, abandoned, refunded_last, finished, HaltedAtEnd}
 use Rattle.exec_rules.specs.Instructions.{xcm}
 use Rattle.exec_rules.specs.Stopping.{spills}
 use Rattle.exec_admission.specs.declared.rules.ChainRules.{ChainRules}

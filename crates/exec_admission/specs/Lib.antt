@@ -1,2 +1,4 @@
 pub mod Admission
 pub mod Execution
+pub mod Kept
+pub mod KeptLaws

@@ -12,10 +12,10 @@ ghost use Rattle.xcm_program.specs.Measure.{deep_count};
 ghost use Rattle.exec_base.specs.declared.event.Part.{Part};
 ghost use Rattle.exec_base.specs.Part.{ChainPart};
 ghost use Rattle.exec_base.specs.Sending.{IsForwardable};
-ghost use Rattle.exec_run.specs.Machine.{Machine};
-ghost use Rattle.exec_run.specs.Run.{Stage, At, run, machine_of, Reaches, IsEnd};
-ghost use Rattle.exec_run.specs.Accounts.{IsBalanced, KeepsAccounts};
-ghost use Rattle.exec_run.specs.Outcome.{owner_of, refunded_last, finished};
+ghost use Rattle.exec_rules.specs.Machine.{Machine};
+ghost use Rattle.exec_rules.specs.Run.{Stage, At, run, machine_of, Reaches, IsEnd};
+ghost use Rattle.exec_rules.specs.Accounts.{IsBalanced, KeepsAccounts};
+ghost use Rattle.exec_rules.specs.Outcome.{owner_of, refunded_last, finished};
 ghost use Rattle.exec_rules.specs.Instructions.{xcm};
 ghost use Rattle.exec_rules.specs.Readiness.{IsAtRest, IsReady};
 ghost use Rattle.exec_admission.specs.declared.rules.ChainRules.{ChainRules};
@@ -24,7 +24,7 @@ ghost use Rattle.exec_admission.specs.Admission.{admitted, IsWeighed};
 ghost use Rattle.exec_admission.specs.Execution.{first_stage, last_machine, executed};
 
 use exec_calls::{law_of_readiness, law_of_rules};
-use exec_run::law_of_runs;
+use exec_rules::law_of_runs;
 
 /// What is admitted weighs what is said; its run begins balanced with that weight, so wherever it comes the surplus is at most the weight,
 /// and what was refunded at most the surplus, behind the last refund too; from a chain at rest it is ready for whichever instruction comes next; it ends, and leaves the chain at rest. A program that isn't admitted changes nothing. At the end no fee is left aside,

@@ -27,7 +27,7 @@ use Rattle.exec_base.specs.Part.{ChainPart}
 use Rattle.exec_base.specs.Sending.{unless}
 use Rattle.exec_base.specs.Host.{withdraw_refusal, withdrawn, receive_refusal, received, claim_refusal, claimed, buy_refusal, bought, unspent, refunded, refund_goods}
 use Rattle.exec_base.specs.Pools.{exchange_refusal, exchanged, exchange_goods}
-use Rattle.exec_run.specs.Machine.{Machine}
+use Rattle.exec_rules.specs.Machine.{Machine}
 use Rattle.exec_rules.specs.Holdings.{with_origin, at_origin, has_room, with_room, holds_asset, holds_list, holding_more, taken_of, holding_left, holding_paid, payment_of, is_ticket, not_refunded, refund_now, refund_refusal, refund_done, refund_joined}
 use Rattle.exec_rules.specs.AnswerLaws.{withdrawn_is_listed, received_is_listed}
 use Rattle.exec_rules.specs.Instructions.{refused, done, refusal_of, xcm}

@@ -3,7 +3,7 @@ ghost use Rattle.std.specs.Prelude.{◌≡◌, ◌+◌, ◌*◌, ◌||◌, nat_l
 ghost use Rattle.amounts.specs.Amounts.{amount, rows};
 ghost use Rattle.asset_lists.specs.declared.units.AssetId.TheVariants.{Concrete};
 ghost use Rattle.xcm_program.specs.declared.instruction.Instruction.TheOpen.{Instruction-F};
-ghost use Rattle.exec_run.specs.Machine.{machine};
+ghost use Rattle.exec_rules.specs.Machine.{machine};
 ghost use Rattle.exec_rules.specs.Functions.{Ran, IsReadyFor};
 ghost use Rattle.exec_rules.specs.Stopping.{Spilled};
 ghost use Rattle.weight_trader.specs.Refunds.{weight_minus};

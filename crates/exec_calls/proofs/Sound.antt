@@ -14,13 +14,13 @@ use Rattle.exec_base.specs.declared.event.Part.{Part}
 use Rattle.exec_base.specs.declared.event.Event.{Event}
 use Rattle.exec_base.specs.Sending.{IsForwardable}
 use Rattle.exec_base.specs.Host.{told}
-use Rattle.exec_run.specs.Machine.{Machine}
-use Rattle.exec_run.specs.Run.{Stage, At, Ended, Reaches, machine_of, failed, without_handler, without_appendix, handler_dropped}
-use Rattle.exec_run.specs.Accounts.{IsBalanced}
-use Rattle.exec_run.specs.Keeping.{IsAheadOf, IsKeptByRuns}
-use Rattle.exec_run.specs.BalanceLaws.{affordable}
-use Rattle.exec_run.specs.RunLaws.{reached_balanced}
-use Rattle.exec_run.specs.KeepingLaws.{reached_hold, reached_keeps}
+use Rattle.exec_rules.specs.Machine.{Machine}
+use Rattle.exec_rules.specs.Run.{Stage, At, Ended, Reaches, machine_of, failed, without_handler, without_appendix, handler_dropped}
+use Rattle.exec_rules.specs.Accounts.{IsBalanced}
+use Rattle.exec_rules.specs.Keeping.{IsAheadOf, IsKeptByRuns}
+use Rattle.exec_rules.specs.BalanceLaws.{affordable}
+use Rattle.exec_rules.specs.RunLaws.{reached_balanced}
+use Rattle.exec_rules.specs.KeepingLaws.{reached_hold, reached_keeps}
 use Rattle.exec_rules.specs.Instructions.{xcm}
 use Rattle.exec_rules.specs.Readiness.{IsSteady, IsSound, IsReady}
 use Rattle.exec_calls.proofs.Steering.{xcm_steers}

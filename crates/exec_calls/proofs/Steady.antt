@@ -18,7 +18,7 @@ use Rattle.call_dispatch.specs.Spelling.{AnyCall}
 use Rattle.exec_base.specs.declared.registers.Registers.{Registers}
 use Rattle.exec_base.specs.Part.{ChainPart}
 use Rattle.exec_base.specs.Host.{fee_to}
-use Rattle.exec_run.specs.Machine.{Machine, machine}
+use Rattle.exec_rules.specs.Machine.{Machine, machine}
 use Rattle.exec_rules.specs.Calls.{call_in, caller_in}
 use Rattle.exec_rules.specs.Holdings.{refund_now}
 use Rattle.exec_rules.specs.Fees.{after_fee}

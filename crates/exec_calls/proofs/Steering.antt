@@ -11,7 +11,7 @@ use Rattle.call_dispatch.specs.Spelling.{AnyCall}
 use Rattle.xcm_program.specs.declared.instruction.Instruction.{Instruction, out-Instruction}
 use Rattle.xcm_program.specs.declared.instruction.Instruction.TheOpen.{Instruction-F}
 use Rattle.exec_base.specs.declared.registers.Registers.{Registers}
-use Rattle.exec_run.specs.Machine.{Machine, Control, control_of, Steers, IsOrderly}
+use Rattle.exec_rules.specs.Machine.{Machine, Control, control_of, Steers, IsOrderly}
 use Rattle.exec_rules.specs.Calls.{call_in, caller_in, call_weight, spare_weight, call_refusal}
 use Rattle.exec_rules.specs.Holdings.{with_origin, with_holding, refund_now}
 use Rattle.exec_rules.specs.Instructions.{refused, done, xcm}

@@ -28,7 +28,7 @@ use Rattle.exec_base.specs.Part.{ChainPart}
 use Rattle.exec_base.specs.Sending.{unless, or_else, channel_to}
 use Rattle.exec_base.specs.Host.{querier_seen, fee_to, fee_held, receive_refusal, joined, refund_goods}
 use Rattle.exec_base.specs.Calls.{dispatched}
-use Rattle.exec_run.specs.Machine.{Machine, machine}
+use Rattle.exec_rules.specs.Machine.{Machine, machine}
 use Rattle.exec_rules.specs.Holdings.{with_origin, at_origin, with_holding, holding_paid, payment_of, with_room, has_room, holding_more, holding_left, buying_refusal, buying_done, not_refunded, refund_now, refund_refusal, refund_done}
 use Rattle.exec_rules.specs.Fees.{fee_refusal, after_fee, keeping_fee, refused_around, done_around}
 use Rattle.exec_rules.specs.Reports.{report_refused, report_done, pallets_of, reported_list, too_many_refused, holding_report_refused, holding_report_done}

@@ -40,7 +40,7 @@ use Rattle.exec_base.specs.Sending.{unless, or_else, channel_to}
 use Rattle.exec_base.specs.Host.{withdraw_refusal, withdrawn, deposit_refusal, deposited, transfer_refusal, transferred, receive_refusal, received, transfer_out_refusal, transferred_out, deposit_out_refusal, deposited_out, ship_refusal, shipped, querier_seen, respond_refusal, responded, answered, buy_refusal, unspent, bought, refund_goods, refunded, joined, burnt, claim_refusal, claimed, trapped, parked, settled, lock_refusal, asset_locked, unlock_refusal, asset_unlocked, note_refusal, asset_noted, request_refusal, asset_requested, fee_to, fee_held, fee_taken, fee_kept, fee_drawn, told}
 use Rattle.exec_base.specs.Calls.{held_dispatched, call_line, dispatch_end}
 use Rattle.exec_base.specs.Pools.{exchange_refusal, exchanged, exchange_goods}
-use Rattle.exec_run.specs.Machine.{Machine, machine, weight_added}
+use Rattle.exec_rules.specs.Machine.{Machine, machine, weight_added}
 use Rattle.exec_rules.specs.Holdings.{with_origin, with_holding, has_room, holds_asset, holds_list, payment_of, is_ticket, not_refunded, refund_now, holds_some}
 use Rattle.exec_rules.specs.Fees.{after_fee}
 use Rattle.exec_rules.specs.Reports.{pallets_of, reported_list}

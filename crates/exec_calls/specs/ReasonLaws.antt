@@ -27,7 +27,7 @@ use Rattle.call_dispatch.specs.Spelling.{AnyCall}
 use Rattle.exec_base.specs.declared.registers.Registers.{Registers}
 use Rattle.exec_base.specs.Sending.{or_else}
 use Rattle.exec_base.specs.Host.{fee_to, fee_held, fee_drawn}
-use Rattle.exec_run.specs.Machine.{Machine, machine}
+use Rattle.exec_rules.specs.Machine.{Machine, machine}
 use Rattle.exec_rules.specs.AnswerLaws.{none_first, none_next}
 use Rattle.exec_rules.specs.Holdings.{at_origin, with_holding, holding_paid, payment_of, refund_now}
 use Rattle.exec_rules.specs.Fees.{after_fee}

@@ -18,7 +18,7 @@ use Rattle.xcm_program.specs.declared.instruction.Instruction.{Instruction}
 use Rattle.xcm_program.specs.declared.instruction.Instruction.TheOpen.{Instruction-F}
 use Rattle.exec_base.specs.declared.registers.Registers.{Registers}
 use Rattle.exec_base.specs.Host.{fee_to}
-use Rattle.exec_run.specs.Machine.{Machine}
+use Rattle.exec_rules.specs.Machine.{Machine}
 use Rattle.exec_rules.specs.Holdings.{with_holding, payment_of, not_refunded}
 use Rattle.exec_rules.specs.Origins.{descended}
 use Rattle.exec_calls.specs.Calls.{MachineWithGoods, between, MachineCall, after, after_all, refusal_along}

@@ -26,7 +26,7 @@ use Rattle.exec_base.specs.Sending.{unless, or_else}
 use Rattle.exec_base.specs.Host.{receive_refusal, unspent, bought, refund_goods, parked, fee_to, fee_taken}
 use Rattle.exec_base.specs.Calls.{floors_of}
 use Rattle.exec_base.specs.Pools.{exchanged, exchange_goods}
-use Rattle.exec_run.specs.Machine.{Machine, machine}
+use Rattle.exec_rules.specs.Machine.{Machine, machine}
 use Rattle.exec_rules.specs.AnswerLaws.{unless_held, unless_next}
 use Rattle.exec_rules.specs.Holdings.{with_origin, at_origin, has_room, holds_asset, taken_of, holding_left, holding_paid, payment_of, is_ticket, not_refunded, buying_refusal}
 use Rattle.exec_rules.specs.Fees.{after_fee}

@@ -7,17 +7,17 @@ ghost use Rattle.xcm_program.specs.declared.instruction.Instruction.{Instruction
 ghost use Rattle.xcm_program.specs.declared.instruction.Instruction.TheOpen.{Instruction-F};
 ghost use Rattle.exec_base.specs.Sending.{IsForwardable};
 ghost use Rattle.exec_base.specs.declared.event.Part.{Part};
-ghost use Rattle.exec_run.specs.Machine.{Machine, IsOrderly};
-ghost use Rattle.exec_run.specs.Run.{Stage, At, next, machine_of, Reaches};
-ghost use Rattle.exec_run.specs.Accounts.{IsBalanced};
-ghost use Rattle.exec_run.specs.Keeping.{LeavesAll, IsAheadOf};
+ghost use Rattle.exec_rules.specs.Machine.{Machine, IsOrderly};
+ghost use Rattle.exec_rules.specs.Run.{Stage, At, next, machine_of, Reaches};
+ghost use Rattle.exec_rules.specs.Accounts.{IsBalanced};
+ghost use Rattle.exec_rules.specs.Keeping.{LeavesAll, IsAheadOf};
 ghost use Rattle.exec_rules.specs.Instructions.{refused, done, refusal_of, xcm};
 ghost use Rattle.exec_rules.specs.Readiness.{IsSteady, IsSound, IsReady};
 ghost use Rattle.exec_rules.specs.Stopping.{Spilled};
 ghost use Rattle.exec_calls.specs.Calls.{between, refusal_along, calls, through};
 ghost use Rattle.exec_calls.specs.Reasons.{HaveReasons, IsLedTo};
 
-use exec_run::law_of_runs;
+use exec_rules::law_of_runs;
 
 /// An instruction is refused by the first of its calls that is refused, and else leaves what they leave, with the registers that it changes. Each
 /// call has its reason, and where memory stops an instruction, accepted calls have led there, which change nothing else yet or did a front of a

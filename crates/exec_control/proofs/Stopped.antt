@@ -12,7 +12,7 @@ use Rattle.call_dispatch.specs.Spelling.{AnyCall}
 use Rattle.call_dispatch.specs.Reading.{call_of}
 use Rattle.exec_base.specs.Part.{ChainPart}
 use Rattle.exec_base.specs.Calls.{IsDispatchedInPart, Dispatches}
-use Rattle.exec_run.specs.Machine.{Machine, machine}
+use Rattle.exec_rules.specs.Machine.{Machine, machine}
 use Rattle.exec_rules.specs.Calls.{read_of, call_in, caller_in, CallStops, CallStopsAt}
 use Rattle.exec_rules.specs.Stopping.{Spilled}
 

@@ -3,7 +3,7 @@ ghost use Rattle.std.specs.Prelude.{◌≡◌, ◌<◌, [], if◌then◌else◌,
 ghost use Rattle.message_parts.specs.Weights.{is_within};
 ghost use Rattle.trust_tables.specs.Accounts.{account_of};
 ghost use Rattle.xcm_program.specs.declared.instruction.Instruction.TheOpen.{Instruction-F};
-ghost use Rattle.exec_run.specs.Machine.{machine};
+ghost use Rattle.exec_rules.specs.Machine.{machine};
 ghost use Rattle.exec_rules.specs.Calls.{account_by, call_weight, spare_weight, status_of};
 ghost use Rattle.exec_rules.specs.Functions.{Ran, IsReadyFor};
 ghost use Rattle.exec_rules.specs.Stopping.{Spilled};

@@ -1,7 +1,7 @@
 //! The origin register.
 ghost use Rattle.std.specs.Prelude.{◌≡◌, true, false, MatchOption, IfOk, OnErr};
 ghost use Rattle.xcm_program.specs.declared.instruction.Instruction.TheOpen.{Instruction-F};
-ghost use Rattle.exec_run.specs.Machine.{machine};
+ghost use Rattle.exec_rules.specs.Machine.{machine};
 ghost use Rattle.exec_rules.specs.Functions.{Ran, IsReadyFor};
 ghost use Rattle.exec_rules.specs.Stopping.{Spilled};
 ghost use Rattle.exec_rules.specs.Origins.{fits_below, descended};

@@ -1,12 +1,12 @@
 //! The programs that a run keeps.
 ghost use Rattle.std.specs.Prelude.{◌≡◌, ◌+◌, ◌<◌, ◌^◌, Some, IfOk, OnErr};
 ghost use Rattle.xcm_program.specs.declared.instruction.Instruction.TheOpen.{Instruction-F};
-ghost use Rattle.exec_run.specs.Machine.{machine};
+ghost use Rattle.exec_rules.specs.Machine.{machine};
 ghost use Rattle.exec_rules.specs.Functions.{Ran, IsReadyFor};
 ghost use Rattle.exec_rules.specs.Stopping.{Spilled};
 ghost use Rattle.weight_trader.specs.Sums.{weight_sum};
-ghost use Rattle.exec_run.specs.Machine.{weight_added};
-ghost use Rattle.exec_run.specs.Accounts.{HasWeight};
+ghost use Rattle.exec_rules.specs.Machine.{weight_added};
+ghost use Rattle.exec_rules.specs.Accounts.{HasWeight};
 
 use exec_base::{Host, Registers};
 use message_parts::{Weight, XcmError};

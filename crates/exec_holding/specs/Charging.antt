@@ -8,7 +8,7 @@ use Rattle.message_parts.specs.declared.error.XcmError.{XcmError}
 use Rattle.asset_lists.specs.declared.units.Asset.{Asset}
 use Rattle.asset_bundles.specs.Joins.{IsWithinMost}
 use Rattle.exec_base.specs.Host.{deposit_refusal, deposited, fee_taken, fee_drawn}
-use Rattle.exec_run.specs.Machine.{Machine, machine}
+use Rattle.exec_rules.specs.Machine.{Machine, machine}
 use Rattle.exec_rules.specs.Holdings.{with_holding, payment_of}
 use Rattle.exec_rules.specs.Fees.{fee_refusal, after_fee, keeping_fee}
 use Rattle.exec_rules.specs.Stopping.{fee_parked}

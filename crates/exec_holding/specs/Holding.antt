@@ -12,7 +12,7 @@ use Rattle.trust_tables.specs.Trust.{listing}
 use Rattle.exec_base.specs.declared.faults.HostFault.{HostFault}
 use Rattle.exec_base.specs.declared.faults.HostFault.TheVariants.{Xcm, Memory}
 use Rattle.exec_base.specs.Part.{ChainPart}
-use Rattle.exec_run.specs.Machine.{Machine}
+use Rattle.exec_rules.specs.Machine.{Machine}
 use Rattle.exec_rules.specs.Holdings.{payment_of}
 
 -- what an instruction answers to a call of the host that is refused

@@ -32,7 +32,7 @@ use Rattle.exec_base.specs.Answers.{TakesIn}
 use Rattle.exec_base.specs.Part.{ChainPart}
 use Rattle.exec_base.specs.Sending.{unless, or_else}
 use Rattle.exec_base.specs.Host.{first_fault, floor_of, give_fault, at_account, withdraw_refusal, deposit_refusal, deposited, fee_to, is_price, IsPrice, IsFeeOf, IsFeeOrNothing, fee_held, fee_taken, fee_drawn, joined, booked}
-use Rattle.exec_run.specs.Machine.{Machine, machine}
+use Rattle.exec_rules.specs.Machine.{Machine, machine}
 use Rattle.exec_rules.specs.Holdings.{with_origin, at_origin, with_holding, holds_asset, payment_of, holding_paid, holding_more}
 use Rattle.exec_rules.specs.HoldingLaws.{payment_within}
 use Rattle.exec_rules.specs.AnswerLaws.{unless_held, unless_next, none_first}

@@ -2,7 +2,7 @@
 ghost use Rattle.std.specs.Prelude.{◌≡◌, IfOk, OnOk, OnErr};
 ghost use Rattle.amounts.specs.Amounts.{empty};
 ghost use Rattle.exec_base.specs.Host.{IsPrice, IsFeeOf, fee_to};
-ghost use Rattle.exec_run.specs.Machine.{machine};
+ghost use Rattle.exec_rules.specs.Machine.{machine};
 ghost use Rattle.exec_rules.specs.Holdings.{payment_of};
 ghost use Rattle.exec_rules.specs.Stopping.{fee_parked};
 ghost use Rattle.exec_holding.specs.Charging.{Charged, IsRefundable, fee_returned, Begins, CanEnd, Ends};

@@ -1,1 +1,2 @@
 mod Origins
+pub mod Refusing

@@ -6,7 +6,7 @@ use Rattle.xcm_program.specs.declared.instruction.Instruction.{Instruction, out-
 use Rattle.xcm_program.specs.declared.instruction.Instruction.TheOpen.{Instruction-F}
 use Rattle.exec_base.specs.declared.registers.Registers.{Registers}
 use Rattle.exec_base.specs.Part.{ChainPart}
-use Rattle.exec_run.specs.Machine.{Machine, machine}
+use Rattle.exec_rules.specs.Machine.{Machine, machine}
 use Rattle.exec_rules.specs.Origins.{needs_origin}
 use Rattle.exec_rules.specs.Instructions.{refused, refusal_of}
 

@@ -22,7 +22,7 @@ use Rattle.call_dispatch.specs.Units.{units_of}
 use Rattle.exec_base.specs.Part.{ChainPart}
 use Rattle.exec_base.specs.Sending.{unless}
 use Rattle.exec_base.specs.Calls.{dispatch_end, dispatched, IsDispatchedInPart}
-use Rattle.exec_run.specs.Machine.{Machine, machine, weight_added}
+use Rattle.exec_rules.specs.Machine.{Machine, machine, weight_added}
 
 -- the call that was read, if one was
 abbrev pub read_of : Result AnyCall CallFault → Option AnyCall

@@ -9,7 +9,7 @@ use Rattle.message_parts.specs.declared.pallet.PalletInfo.{PalletInfo}
 use Rattle.message_parts.specs.declared.status.MaybeError.{MaybeError}
 use Rattle.xcm_format.specs.Parts.{failure, maybe_error}
 use Rattle.exec_base.specs.Sending.{unless}
-use Rattle.exec_run.specs.Machine.{Machine}
+use Rattle.exec_rules.specs.Machine.{Machine}
 
 abbrev pub expected : Bool → Option XcmError
 expected so = unless so error.ExpectationFalse None

@@ -7,7 +7,7 @@ use Rattle.message_parts.specs.declared.error.XcmError.TheVariants as error
 use Rattle.asset_lists.specs.declared.units.Asset.{Asset}
 use Rattle.exec_base.specs.Sending.{unless, or_else}
 use Rattle.exec_base.specs.Host.{withdraw_refusal, fee_to, fee_held, fee_kept, fee_drawn}
-use Rattle.exec_run.specs.Machine.{Machine, machine}
+use Rattle.exec_rules.specs.Machine.{Machine, machine}
 use Rattle.exec_rules.specs.Holdings.{with_origin, at_origin, holds_asset, holding_paid, payment_of}
 
 -- in fees mode the fee comes from the origin's account, else from the holding

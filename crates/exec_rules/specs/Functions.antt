@@ -6,8 +6,8 @@ use Rattle.message_parts.specs.Weights.{IsWithin}
 use Rattle.xcm_program.specs.declared.instruction.Instruction.{Instruction, roll-Instruction}
 use Rattle.xcm_program.specs.declared.instruction.Instruction.TheOpen.{Instruction-F}
 use Rattle.xcm_program.specs.Weights.{kept}
-use Rattle.exec_run.specs.Machine.{Machine, control_of}
-use Rattle.exec_run.specs.Accounts.{freed, HasWeight}
+use Rattle.exec_rules.specs.Machine.{Machine, control_of}
+use Rattle.exec_rules.specs.Accounts.{freed, HasWeight}
 use Rattle.exec_rules.specs.Instructions.{refused, done}
 use Rattle.exec_rules.specs.Readiness.{IsSteady, IsSound}
 

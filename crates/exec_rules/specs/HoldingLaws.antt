@@ -11,7 +11,7 @@ use Rattle.asset_lists.specs.declared.units.Asset.{Asset}
 use Rattle.asset_lists.specs.Units.{Unit, unit_cmp, unit_of, amount_of}
 use Rattle.asset_bundles.specs.Bundles.{unit_keys}
 use Rattle.asset_bundles.specs.BundleLaws.{amount-bundle_of}
-use Rattle.exec_run.specs.Machine.{Machine}
+use Rattle.exec_rules.specs.Machine.{Machine}
 use Rattle.exec_rules.specs.Holdings.{holds_asset, payment_of}
 
 amount_one : (a : Asset) (u : Unit) → amount (payment_of a) u ≡ amount_if (eq_by_cmp unit_cmp u (unit_of a)) (amount_of a)

@@ -14,7 +14,7 @@ use Rattle.xcm_program.specs.declared.instruction.Instruction.TheOpen.{Instructi
 use Rattle.exec_base.specs.Sending.{unless}
 use Rattle.exec_base.specs.Host.{withdraw_refusal, withdrawn, deposit_refusal, deposited, transfer_refusal, transferred, receive_refusal, received, transfer_out_refusal, transferred_out, deposit_out_refusal, deposited_out, ship_refusal, shipped, answered, burnt, claim_refusal, claimed, where_locks, lock_refusal, asset_locked, unlock_refusal, asset_unlocked, note_refusal, asset_noted, request_refusal, asset_requested}
 use Rattle.exec_base.specs.Pools.{exchange_refusal, exchanged, exchange_goods}
-use Rattle.exec_run.specs.Machine.{Machine, machine, Rules}
+use Rattle.exec_rules.specs.Machine.{Machine, machine, Rules}
 use Rattle.exec_rules.specs.Holdings.{with_origin, at_origin, with_room, holds_list, holding_more, taken_of, holding_left, is_ticket, buying_refusal, buying_done, refund_now, refund_refusal, refund_done}
 use Rattle.exec_rules.specs.Fees.{refused_sending, done_sending}
 use Rattle.exec_rules.specs.Reports.{report_refused, report_done, pallets_of, reported_list, holding_report_refused, holding_report_done}

@@ -11,3 +11,11 @@ pub mod AnswerLaws
 pub mod HoldingLaws
 pub mod Readiness
 pub mod Functions
+pub mod Machine
+pub mod Run
+pub mod Accounts
+pub mod Outcome
+pub mod Keeping
+pub mod BalanceLaws
+pub mod RunLaws
+pub mod KeepingLaws

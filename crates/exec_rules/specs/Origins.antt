@@ -9,7 +9,7 @@ use Rattle.message_parts.specs.declared.error.XcmError.TheVariants as error
 use Rattle.trust_tables.specs.Chains.{path_of_site}
 use Rattle.xcm_program.specs.declared.instruction.Instruction.TheOpen.{Instruction-F}
 use Rattle.exec_base.specs.Sending.{unless}
-use Rattle.exec_run.specs.Machine.{Machine}
+use Rattle.exec_rules.specs.Machine.{Machine}
 
 -- two origins are the same, both empty or both the same location
 abbrev pub same_origin : Option Location → Option Location → Bool

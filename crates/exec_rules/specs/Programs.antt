@@ -3,7 +3,7 @@ use Rattle.std.specs.Prelude.{List}
 use Rattle.weight_trader.specs.Sums.{weight_sum}
 use Rattle.xcm_program.specs.declared.instruction.Instruction.{Instruction}
 use Rattle.exec_base.specs.declared.registers.Registers.{Registers}
-use Rattle.exec_run.specs.Machine.{Machine, machine, weight_added}
+use Rattle.exec_rules.specs.Machine.{Machine, machine, weight_added}
 
 abbrev pub with_registers : Machine → Registers → Machine
 with_registers m r = machine r m.part

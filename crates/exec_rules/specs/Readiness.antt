@@ -11,8 +11,8 @@ use Rattle.weight_trader.specs.Purchases.{AreRatesListed, AreWithinEnd}
 use Rattle.xcm_program.specs.declared.instruction.Instruction.{Instruction}
 use Rattle.exec_base.specs.Part.{ChainPart}
 use Rattle.exec_base.specs.Sending.{IsForwardable}
-use Rattle.exec_run.specs.Machine.{Machine}
-use Rattle.exec_run.specs.Accounts.{IsAffordable}
+use Rattle.exec_rules.specs.Machine.{Machine}
+use Rattle.exec_rules.specs.Accounts.{IsAffordable}
 
 -- what is in each trap is listed
 abbrev pub AreTrapsListed : List Listed → List Trap → Type 0

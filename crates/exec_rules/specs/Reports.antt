@@ -20,7 +20,7 @@ use Rattle.trust_tables.specs.Chains.{path_of_site}
 use Rattle.exec_base.specs.Part.{ChainPart}
 use Rattle.exec_base.specs.Sending.{unless, channel_to}
 use Rattle.exec_base.specs.Host.{querier_seen, respond_refusal, responded}
-use Rattle.exec_run.specs.Machine.{Machine, machine}
+use Rattle.exec_rules.specs.Machine.{Machine, machine}
 use Rattle.exec_rules.specs.Holdings.{taken_of}
 
 -- a response is sent to where the query's info says, for the origin register

@@ -13,7 +13,7 @@ use Rattle.xcm_program.specs.declared.instruction.Instruction.TheOpen.{Instructi
 use Rattle.exec_base.specs.Part.{ChainPart}
 use Rattle.exec_base.specs.Host.{withdrawn, received, claimed, unspent, bought, refund_goods, refunded, parked, fee_to, fee_taken}
 use Rattle.exec_base.specs.Pools.{exchanged, exchange_goods}
-use Rattle.exec_run.specs.Machine.{Machine, machine}
+use Rattle.exec_rules.specs.Machine.{Machine, machine}
 use Rattle.exec_rules.specs.Holdings.{at_origin, holds_asset, taken_of, holding_left, holding_paid, payment_of, not_refunded, refund_now, refund_refusal, buying_refusal}
 use Rattle.exec_rules.specs.Fees.{fee_refusal, after_fee}
 use Rattle.exec_rules.specs.Calls.{CallStopsAt}

@@ -2,7 +2,7 @@
 ghost use Rattle.std.specs.Prelude.{◌≡◌, Some, None, IsTrue};
 ghost use Rattle.message_parts.specs.declared.error.XcmError.TheVariants.{BadOrigin};
 ghost use Rattle.xcm_program.specs.declared.instruction.Instruction.{Instruction, out-Instruction};
-ghost use Rattle.exec_run.specs.Machine.{Machine};
+ghost use Rattle.exec_rules.specs.Machine.{Machine};
 ghost use Rattle.exec_rules.specs.Origins.{needs_origin};
 ghost use Rattle.exec_rules.specs.Instructions.{refusal_of};
 

@@ -8,7 +8,7 @@ use Rattle.asset_lists.specs.declared.units.Asset.{Asset}
 use Rattle.xcm_program.specs.declared.instruction.Instruction.{Instruction}
 use Rattle.xcm_program.specs.declared.instruction.Instruction.TheOpen.{Instruction-F}
 use Rattle.exec_base.specs.Host.{fee_held, fee_drawn}
-use Rattle.exec_run.specs.Machine.{Machine, machine}
+use Rattle.exec_rules.specs.Machine.{Machine, machine}
 use Rattle.exec_rules.specs.Holdings.{at_origin, holding_paid, payment_of}
 use Rattle.exec_rules.specs.Instructions.{refused, done}
 use Rattle.exec_rules.specs.Fees.{refused_around, done_around}

@@ -13,7 +13,7 @@ use Rattle.xcm_program.specs.declared.instruction.Instruction.TheOpen.{Instructi
 use Rattle.xcm_program.specs.Measure.{inner}
 use Rattle.exec_base.specs.Sending.{unless}
 use Rattle.exec_base.specs.Host.{lock_refusal, asset_locked, request_refusal, asset_requested, fee_to, transfer_out_refusal, transferred_out, deposit_out_refusal, deposited_out, ship_refusal, shipped}
-use Rattle.exec_run.specs.Machine.{Machine, machine}
+use Rattle.exec_rules.specs.Machine.{Machine, machine}
 use Rattle.exec_rules.specs.Holdings.{with_origin, at_origin, taken_of, holding_left}
 use Rattle.exec_rules.specs.Fees.{refused_sending, done_sending}
 use Rattle.exec_rules.specs.Reports.{report_refused, report_done, pallets_of, reported_list, holding_report_refused, holding_report_done}

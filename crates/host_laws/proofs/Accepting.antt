@@ -26,7 +26,7 @@ use Rattle.exec_base.specs.Part.{ChainPart}
 use Rattle.exec_base.specs.Sending.{unless}
 use Rattle.exec_base.specs.Host.{burnt, unspent, bought, refund_goods, refunded, fee_held, fee_kept, fee_drawn, withdraw_refusal}
 use Rattle.exec_base.specs.Pools.{exchange_goods}
-use Rattle.exec_run.specs.Machine.{Machine, machine}
+use Rattle.exec_rules.specs.Machine.{Machine, machine}
 use Rattle.exec_rules.specs.Holdings.{with_origin, at_origin, holds_asset, holding_more, taken_of, holding_left, payment_of, holding_paid, not_refunded, refund_done}
 use Rattle.exec_rules.specs.Fees.{fee_refusal, after_fee, refused_around, keeping_fee, done_around}
 use Rattle.exec_rules.specs.AnswerLaws.{unless_held, none_first, none_next}

@@ -24,7 +24,7 @@ ghost use Rattle.exec_base.specs.Host.{withdraw_refusal, withdrawn, deposit_refu
 ghost use Rattle.call_dispatch.specs.Spelling.{AnyCall};
 ghost use Rattle.exec_base.specs.Calls.{dispatched, IsDispatchedInPart};
 ghost use Rattle.exec_base.specs.Pools.{exchanged, exchange_goods};
-ghost use Rattle.exec_run.specs.Machine.{Machine};
+ghost use Rattle.exec_rules.specs.Machine.{Machine};
 ghost use Rattle.exec_rules.specs.Instructions.{refusal_of, xcm};
 ghost use Rattle.exec_rules.specs.Readiness.{IsSteady};
 ghost use Rattle.exec_rules.specs.Stopping.{spills};

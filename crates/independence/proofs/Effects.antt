@@ -30,7 +30,7 @@ use Rattle.exec_base.specs.Sending.{or_else}
 use Rattle.exec_base.specs.Host.{withdraw_refusal, receive_refusal, deposit_refusal, transfer_refusal, claim_refusal, buy_refusal, unlock_refusal, note_refusal, unspent, refund_goods, querier_seen, fee_to, fee_held, fee_taken, fee_kept, fee_drawn, parked, told, trapped, settled}
 use Rattle.exec_base.specs.Pools.{exchange_refusal, exchange_goods}
 use Rattle.exec_base.specs.Calls.{dispatch_end}
-use Rattle.exec_run.specs.Machine.{Machine, machine}
+use Rattle.exec_rules.specs.Machine.{Machine, machine}
 use Rattle.exec_rules.specs.Fees.{after_fee}
 use Rattle.exec_rules.specs.Calls.{call_in, caller_in}
 use Rattle.exec_rules.specs.Reports.{reported_list}

@@ -12,14 +12,14 @@ use Rattle.channel_parts.specs.Channels.{Outgoing, with_waiting}
 use Rattle.exec_base.specs.declared.event.Part.{Part}
 use Rattle.exec_base.specs.declared.settings.Settings.{Settings}
 use Rattle.exec_base.specs.Part.{ChainPart}
-use Rattle.exec_run.specs.Machine.{Machine}
-use Rattle.exec_run.specs.Run.{Stage, begin, next, steps, machine_of}
+use Rattle.exec_rules.specs.Machine.{Machine}
+use Rattle.exec_rules.specs.Run.{Stage, begin, next, steps, machine_of}
 use Rattle.exec_rules.specs.Instructions.{xcm}
 use Rattle.exec_admission.specs.declared.rules.ChainRules.{ChainRules}
 use Rattle.exec_calls.specs.Calls.{MachineWithGoods, MachineCall, after}
 use Rattle.exec_calls.specs.Footprints.{settings_after, channels_after}
-use Rattle.exec_keeping.specs.Kept.{IsKeptByCalls}
-use Rattle.exec_keeping.specs.KeptLaws.{any_kind, keeps_reached, keeps_executed}
+use Rattle.exec_admission.specs.Kept.{IsKeptByCalls}
+use Rattle.exec_admission.specs.KeptLaws.{any_kind, keeps_reached, keeps_executed}
 use Rattle.network_steps.specs.Acting.{acted}
 use Rattle.independence.proofs.Channels.{by_channel}
 

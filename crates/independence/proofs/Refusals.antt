@@ -26,7 +26,7 @@ use Rattle.exec_base.specs.Part.{ChainPart}
 use Rattle.exec_base.specs.Sending as sending_to
 use Rattle.exec_base.specs.Sending.{unless, or_else, send_refusal, listed_refusal, deposit_program, away_program, named_refusal}
 use Rattle.exec_base.specs.Host.{is_lockable, lock_key, note_program, lock_refusal, request_key, unlock_program, request_refusal, first_fault, trust_fault, raise_fault, is_teleport, withdraw_refusal, deposit_refusal, transfer_refusal, receive_refusal, seen_from, transfer_out_refusal, deposit_out_refusal, ship_refusal, report_program, report_refusal, querier_seen, respond_refusal, buy_refusal, claim_refusal, fee_to, fee_held, fee_drawn}
-use Rattle.exec_run.specs.Machine.{Machine, machine}
+use Rattle.exec_rules.specs.Machine.{Machine, machine}
 use Rattle.exec_rules.specs.Holdings.{with_origin, at_origin, taken_of, buying_refusal, refund_now, refund_refusal}
 use Rattle.exec_rules.specs.Fees.{fee_refusal, after_fee, refused_around, refused_sending}
 use Rattle.exec_rules.specs.Reports.{report_refused, pallets_of, reported_list, holding_report_refused, too_many_refused}

@@ -19,7 +19,7 @@ use Rattle.channel_parts.specs.Channels.{Waiting}
 use Rattle.exec_base.specs.declared.event.Event.{Event}
 use Rattle.exec_base.specs.Part.{ChainPart}
 use Rattle.exec_base.specs.Host.{told}
-use Rattle.exec_run.specs.Run.{Stage, At, Ended, Reaches}
+use Rattle.exec_rules.specs.Run.{Stage, At, Ended, Reaches}
 use Rattle.exec_rules.specs.Instructions.{refusal_of, xcm}
 use Rattle.exec_calls.specs.Reasons.{destination}
 use Rattle.exec_admission.specs.declared.rules.ChainRules.{ChainRules}

@@ -10,15 +10,15 @@ use Rattle.xcm_program.specs.declared.instruction.Instruction.TheOpen.{Instructi
 use Rattle.exec_base.specs.declared.settings.Settings.{Settings}
 use Rattle.exec_base.specs.Sending.{sent}
 use Rattle.exec_base.specs.Host.{given, withdraw_refusal, withdrawn, deposited, transfer_refusal, transferred, transfer_out_refusal, transferred_out, deposited_out, fee_drawn, lock_key, asset_unlocked, note_key, asset_noted, request_key}
-use Rattle.exec_run.specs.Machine.{Machine}
-use Rattle.exec_run.specs.Run.{Halted}
+use Rattle.exec_rules.specs.Machine.{Machine}
+use Rattle.exec_rules.specs.Run.{Halted}
 use Rattle.exec_rules.specs.AnswerLaws.{none_first}
 use Rattle.exec_rules.specs.Instructions.{xcm}
 use Rattle.exec_rules.specs.Stopping.{spills}
 use Rattle.exec_calls.specs.Calls.{MachineWithGoods, between, MachineCall, why_not, after}
 use Rattle.exec_calls.specs.Reasons.{IsFrom, Moment, HasReason}
 use Rattle.exec_calls.specs.ReasonLaws.{each_keeps}
-use Rattle.exec_keeping.specs.KeptLaws.{halted_keeps}
+use Rattle.exec_admission.specs.KeptLaws.{halted_keeps}
 use Rattle.conserved_runs.specs.Safety.{HasList}
 use Rattle.authority.specs.Origins.{speaker_at}
 use Rattle.message_shapes.specs.Calm.{IsMute}

@@ -11,14 +11,14 @@ use Rattle.xcm_program.specs.declared.instruction.Instruction.TheOpen.{Instructi
 use Rattle.exec_base.specs.Part.{ChainPart}
 use Rattle.exec_base.specs.Sending.{unless}
 use Rattle.exec_base.specs.Host.{where_locks, lock_refusal, unlock_refusal, note_refusal, request_refusal}
-use Rattle.exec_run.specs.Machine.{Machine}
+use Rattle.exec_rules.specs.Machine.{Machine}
 use Rattle.exec_rules.specs.Holdings.{with_origin}
 use Rattle.exec_rules.specs.Instructions.{refused}
 use Rattle.exec_admission.specs.declared.rules.ChainRules.{ChainRules}
 use Rattle.exec_admission.specs.Execution.{executed, IsAbandoned}
 use Rattle.exec_calls.specs.Calls.{MachineWithGoods, MachineCall, why_not, after}
-use Rattle.exec_keeping.specs.Kept.{IsKeptByCalls}
-use Rattle.exec_keeping.specs.KeptLaws.{any_kind, keeps_executed, keeps_abandoned}
+use Rattle.exec_admission.specs.Kept.{IsKeptByCalls}
+use Rattle.exec_admission.specs.KeptLaws.{any_kind, keeps_executed, keeps_abandoned}
 
 -- ---- the four instructions
 closed : (b : Bool) (next : Option XcmError) → b ≡ false → unless b error.LockError next ≡ Some error.LockError

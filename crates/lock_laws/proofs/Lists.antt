@@ -8,11 +8,11 @@ use Rattle.xcm_program.specs.Everywhere.{AllInside}
 use Rattle.xcm_program.specs.Laws.{everywhere_open, everywhere_made}
 use Rattle.versioned_xcm.specs.Reading.{message_of}
 use Rattle.exec_base.specs.declared.event.Part.TheVariants.{Program}
-use Rattle.exec_run.specs.Machine.{Machine, IsOrderly}
-use Rattle.exec_run.specs.Run.{Stage, begin, steps}
-use Rattle.exec_run.specs.Outcome.{refund_surplus}
-use Rattle.exec_run.specs.Keeping.{IsAheadOf}
-use Rattle.exec_run.specs.KeepingLaws.{steps_hold}
+use Rattle.exec_rules.specs.Machine.{Machine, IsOrderly}
+use Rattle.exec_rules.specs.Run.{Stage, begin, steps}
+use Rattle.exec_rules.specs.Outcome.{refund_surplus}
+use Rattle.exec_rules.specs.Keeping.{IsAheadOf}
+use Rattle.exec_rules.specs.KeepingLaws.{steps_hold}
 use Rattle.exec_rules.specs.Instructions.{xcm}
 use Rattle.conserved_runs.specs.Safety.{HasList, AreLists}
 use Rattle.conserved_runs.specs.Shipping.{HasList-IsOfLayer}

@@ -16,11 +16,11 @@ use Rattle.exec_base.specs.declared.event.Part.TheVariants.{Program, Appendix}
 use Rattle.exec_base.specs.declared.registers.Registers.{Registers}
 use Rattle.exec_base.specs.Part.{ChainPart}
 use Rattle.exec_base.specs.Host.{told}
-use Rattle.exec_run.specs.Machine.{Machine, IsOrderly}
-use Rattle.exec_run.specs.Run.{Stage, At, Ended, begin, to_appendix, to_handler, go_on, failed, without_appendix, handler_dropped, traced, by_answer, next, steps, machine_of, run, still_to_run, Reaches, StoppedIn}
-use Rattle.exec_run.specs.Outcome.{abandoned, finished, HaltedAtEnd}
-use Rattle.exec_run.specs.Keeping.{IsAheadOf}
-use Rattle.exec_run.specs.KeepingLaws.{begin_machine}
+use Rattle.exec_rules.specs.Machine.{Machine, IsOrderly}
+use Rattle.exec_rules.specs.Run.{Stage, At, Ended, begin, to_appendix, to_handler, go_on, failed, without_appendix, handler_dropped, traced, by_answer, next, steps, machine_of, run, still_to_run, Reaches, StoppedIn}
+use Rattle.exec_rules.specs.Outcome.{abandoned, finished, HaltedAtEnd}
+use Rattle.exec_rules.specs.Keeping.{IsAheadOf}
+use Rattle.exec_rules.specs.KeepingLaws.{begin_machine}
 use Rattle.exec_rules.specs.Origins.{descended}
 use Rattle.exec_rules.specs.Instructions.{refusal_of, xcm}
 use Rattle.exec_rules.specs.Stopping.{spills}
@@ -30,8 +30,8 @@ use Rattle.exec_admission.specs.Admission.{admitted}
 use Rattle.exec_admission.specs.Execution.{first_machine, first_stage, last_machine, executed_by, executed, AbandonedIn, IsAbandoned}
 use Rattle.exec_calls.specs.Calls.{MachineWithGoods, between, MachineCall, after}
 use Rattle.exec_calls.specs.Reasons.{IsFrom, Moment, HasReason, ComesAtEnd, TurnsOrigin}
-use Rattle.exec_keeping.specs.Kept.{IsKeptAtEnd, IsKeptByCalls}
-use Rattle.exec_keeping.specs.KeptLaws.{any_kind, reached_kept, kept_at_end, ran_kept, abandoned_in_kept, keeps_executed, keeps_abandoned, finished_kept, abandoned_kept, at_end_kept}
+use Rattle.exec_admission.specs.Kept.{IsKeptAtEnd, IsKeptByCalls}
+use Rattle.exec_admission.specs.KeptLaws.{any_kind, reached_kept, kept_at_end, ran_kept, abandoned_in_kept, keeps_executed, keeps_abandoned, finished_kept, abandoned_kept, at_end_kept}
 use Rattle.network_steps.specs.Acting.{caller}
 use Rattle.authority.specs.Origins.{speaker_at, IsAtOrBelow}
 use Rattle.message_shapes.specs.Calm.{MuteAt}

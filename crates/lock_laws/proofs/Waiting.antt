@@ -29,7 +29,7 @@ use Rattle.chain_queues.specs.Queues.{without_oldest}
 use Rattle.exec_base.specs.Part.{ChainPart}
 use Rattle.exec_base.specs.Sending.{leads_to, is_sendable, channel_to, channel_refusal, send_refusal, sent, led_by, deposit_program, away_program, listed_refusal, listed_program, named_sent}
 use Rattle.exec_base.specs.Host.{transferred, transferred_out, deposited, deposited_out, raised_for, ship_refusal, shipped, seen_from, querier_seen, report_program, responded, lock_key, place_seen, asset_seen, note_program, with_lock, asset_locked, account_place, request_key, unlock_program, with_less_noted, asset_requested}
-use Rattle.exec_run.specs.Machine.{Machine}
+use Rattle.exec_rules.specs.Machine.{Machine}
 use Rattle.exec_rules.specs.AnswerLaws.{unless_held, none_next}
 use Rattle.exec_calls.specs.Calls.{MachineWithGoods, MachineCall, why_not, after}
 use Rattle.exec_calls.specs.Footprints.{part_is}

@@ -25,8 +25,8 @@ use Rattle.exec_base.specs.Part.{ChainPart}
 use Rattle.exec_base.specs.Sending.{channel_refusal}
 use Rattle.asset_locks.specs.UnitFloors.{floor_at}
 use Rattle.exec_base.specs.Host.{told}
-use Rattle.exec_run.specs.Machine.{IsOrderly}
-use Rattle.exec_run.specs.Run.{steps}
+use Rattle.exec_rules.specs.Machine.{IsOrderly}
+use Rattle.exec_rules.specs.Run.{steps}
 use Rattle.exec_rules.specs.Instructions.{xcm}
 use Rattle.exec_admission.specs.declared.rules.ChainRules.{ChainRules}
 use Rattle.exec_admission.specs.declared.admission.Admitted.{Admitted}

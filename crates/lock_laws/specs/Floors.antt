@@ -9,7 +9,7 @@ use Rattle.xcm_program.specs.declared.instruction.Instruction.TheOpen.{Instructi
 use Rattle.channel_parts.specs.Channels.{Waiting, Outgoing}
 use Rattle.exec_base.specs.Part.{ChainPart}
 use Rattle.account_floors.specs.Floors.{HoldsFloors, FreesPools}
-use Rattle.exec_run.specs.Machine.{Machine}
+use Rattle.exec_rules.specs.Machine.{Machine}
 use Rattle.conserved_runs.specs.Safety.{AreLists}
 use Rattle.network_steps.specs.Worlds.{Member, World}
 use Rattle.network_steps.specs.Steps.{is_sovereign}

@@ -17,17 +17,17 @@ use Rattle.exec_base.specs.declared.event.Part.TheVariants.{Program, Appendix}
 use Rattle.exec_base.specs.Part.{ChainPart}
 use Rattle.exec_base.specs.Sending.{led_by, away_program}
 use Rattle.exec_base.specs.Host.{told}
-use Rattle.exec_run.specs.Machine.{Machine}
-use Rattle.exec_run.specs.Run.{Stage, At, Ended, begin, go_on, traced, by_answer, steps, machine_of}
-use Rattle.exec_run.specs.RunLaws.{steps_end}
+use Rattle.exec_rules.specs.Machine.{Machine}
+use Rattle.exec_rules.specs.Run.{Stage, At, Ended, begin, go_on, traced, by_answer, steps, machine_of}
+use Rattle.exec_rules.specs.RunLaws.{steps_end}
 use Rattle.exec_rules.specs.Origins.{descended}
 use Rattle.exec_rules.specs.Instructions.{refused, refusal_of, done, xcm}
 use Rattle.exec_admission.specs.declared.rules.ChainRules.{ChainRules}
 use Rattle.exec_admission.specs.Execution.{first_machine}
 use Rattle.exec_calls.specs.Calls.{MachineWithGoods, MachineCall, after}
 use Rattle.exec_calls.specs.Reasons.{TurnsOrigin}
-use Rattle.exec_keeping.specs.Kept.{IsKeptByCalls}
-use Rattle.exec_keeping.specs.KeptLaws.{any_kind, keeps_reached, go_on_kept}
+use Rattle.exec_admission.specs.Kept.{IsKeptByCalls}
+use Rattle.exec_admission.specs.KeptLaws.{any_kind, keeps_reached, go_on_kept}
 use Rattle.message_shapes.specs.Shapes.{stands_alone, IsAlone, IsLedByClaim, IsShape}
 use Rattle.message_shapes.specs.Calm.{IsMute, MuteAt}
 

@@ -23,10 +23,10 @@ use Rattle.exec_base.specs.declared.event.Part.TheVariants as parts
 use Rattle.exec_base.specs.Part.{ChainPart, Taken}
 use Rattle.exec_base.specs.Sending.{away_program}
 use Rattle.exec_base.specs.Host.{Arrival, ByWithdrawal, ByTeleport, arrives_by, arrival_of, is_cargo, cargo_after, withdrawn, received, joined, told, booked}
-use Rattle.exec_run.specs.Machine.{Machine, machine, IsOrderly}
-use Rattle.exec_run.specs.Run.{Stage, At, Ended, begin, run, next, steps, by_answer, traced, machine_of, still_to_run, failed, without_appendix, begins_well, is_accepted, Reaches}
-use Rattle.exec_run.specs.Outcome.{finished}
-use Rattle.exec_run.specs.RunLaws.{reaches_here, reaches_next, run_reached}
+use Rattle.exec_rules.specs.Machine.{Machine, machine, IsOrderly}
+use Rattle.exec_rules.specs.Run.{Stage, At, Ended, begin, run, next, steps, by_answer, traced, machine_of, still_to_run, failed, without_appendix, begins_well, is_accepted, Reaches}
+use Rattle.exec_rules.specs.Outcome.{finished}
+use Rattle.exec_rules.specs.RunLaws.{reaches_here, reaches_next, run_reached}
 use Rattle.exec_rules.specs.Instructions.{refused, done, refusal_of, xcm}
 use Rattle.exec_admission.specs.declared.rules.ChainRules.{ChainRules}
 use Rattle.exec_admission.specs.declared.admission.Admitted.{Admitted}
@@ -34,8 +34,8 @@ use Rattle.exec_admission.specs.Admission.{admitted}
 use Rattle.exec_admission.specs.Execution.{started, first_machine, first_stage, last_machine, executed_by, executed}
 use Rattle.exec_calls.specs.Calls.{MachineWithGoods, between, MachineCall, after}
 use Rattle.exec_calls.specs.Reasons.{ComesAtEnd}
-use Rattle.exec_keeping.specs.Kept.{IsKeptAtEnd, IsKeptByCalls, Ends}
-use Rattle.exec_keeping.specs.KeptLaws.{any_kind, finished_kept, keeps_reached}
+use Rattle.exec_admission.specs.Kept.{IsKeptAtEnd, IsKeptByCalls, Ends}
+use Rattle.exec_admission.specs.KeptLaws.{any_kind, finished_kept, keeps_reached}
 use Rattle.network_steps.specs.Acting.{begun, lost_by, lost_of}
 use Rattle.network_steps.specs.Worlds.{Member, chain_of}
 use Rattle.network_steps.specs.Steps.{name_at, run_for}

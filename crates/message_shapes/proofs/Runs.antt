@@ -4,14 +4,14 @@ use Rattle.locations.specs.declared.relative.Location.{Location}
 use Rattle.message_parts.specs.declared.weight.Weight.{Weight}
 use Rattle.xcm_program.specs.declared.instruction.Instruction.{Instruction}
 use Rattle.exec_base.specs.Part.{ChainPart}
-use Rattle.exec_run.specs.Run.{Stage, machine_of, Reaches}
+use Rattle.exec_rules.specs.Run.{Stage, machine_of, Reaches}
 use Rattle.exec_rules.specs.Instructions.{xcm}
 use Rattle.exec_admission.specs.declared.rules.ChainRules.{ChainRules}
 use Rattle.exec_admission.specs.Execution.{executed, IsAbandoned}
 use Rattle.exec_calls.specs.Calls.{MachineWithGoods, MachineCall, why_not, after}
 use Rattle.exec_calls.specs.Footprints.{part_is}
-use Rattle.exec_keeping.specs.Kept.{IsKeptByCalls}
-use Rattle.exec_keeping.specs.KeptLaws.{any_kind, keeps_reached, keeps_executed, keeps_abandoned}
+use Rattle.exec_admission.specs.Kept.{IsKeptByCalls}
+use Rattle.exec_admission.specs.KeptLaws.{any_kind, keeps_reached, keeps_executed, keeps_abandoned}
 use Rattle.message_shapes.specs.Shapes.{AreShapedAt}
 use Rattle.message_shapes.proofs.Channels.{transferred_shaped, deposited_shaped, shipped_shaped, responded_shaped, locked_shaped, requested_shaped}
 

@@ -39,9 +39,9 @@ use Rattle.exec_base.specs.Part.{ChainPart}
 use Rattle.exec_base.specs.Sending.{sent, led_by, deposit_program, away_program, listed_program}
 use Rattle.exec_base.specs.Sending as sending_to
 use Rattle.exec_base.specs.Host.{deposited, transferred, transferred_out, deposited_out, raised_for, shipped, seen_from, querier_seen, report_program, responded, told}
-use Rattle.exec_run.specs.Machine.{Machine, machine, Control, control_of, Steers, IsOrderly}
-use Rattle.exec_run.specs.Run.{Stage, At, Ended, begin, to_appendix, to_handler, go_on, failed, without_appendix, handler_dropped, traced, by_answer, next, steps, machine_of, run, still_to_run}
-use Rattle.exec_run.specs.Outcome.{finished}
+use Rattle.exec_rules.specs.Machine.{Machine, machine, Control, control_of, Steers, IsOrderly}
+use Rattle.exec_rules.specs.Run.{Stage, At, Ended, begin, to_appendix, to_handler, go_on, failed, without_appendix, handler_dropped, traced, by_answer, next, steps, machine_of, run, still_to_run}
+use Rattle.exec_rules.specs.Outcome.{finished}
 use Rattle.exec_rules.specs.Instructions.{done, refusal_of, xcm}
 use Rattle.exec_admission.specs.declared.rules.ChainRules.{ChainRules}
 use Rattle.exec_admission.specs.declared.admission.Admitted.{Admitted}
@@ -50,8 +50,8 @@ use Rattle.exec_admission.specs.Execution.{first_machine, first_stage, last_mach
 use Rattle.exec_calls.specs.Calls.{MachineWithGoods, MachineCall, after}
 use Rattle.exec_calls.specs.Reasons.{shipping, IsReport, Moment, HasReason, ComesAtEnd}
 use Rattle.exec_calls.specs.ReasonLaws.{each_keeps}
-use Rattle.exec_keeping.specs.Kept.{IsKeptAtEnd}
-use Rattle.exec_keeping.specs.KeptLaws.{finished_kept}
+use Rattle.exec_admission.specs.Kept.{IsKeptAtEnd}
+use Rattle.exec_admission.specs.KeptLaws.{finished_kept}
 use Rattle.asset_lists.specs.declared.filters.Filter.{Filter}
 use Rattle.network_steps.specs.Worlds.{Member, chain_of, World, with_part}
 use Rattle.network_steps.specs.Sends.{message_count, queue_count, queued, deliveries_left}

@@ -15,7 +15,7 @@ ghost use Rattle.channel_parts.specs.declared.cargo.Cargo.{Cargo};
 ghost use Rattle.channel_parts.specs.Channels.{Waiting};
 ghost use Rattle.exec_base.specs.Part.{ChainPart};
 ghost use Rattle.exec_base.specs.Host.{Arrival, fits_call, cargo_list, is_cargo};
-ghost use Rattle.exec_run.specs.Run.{Stage, steps, machine_of, Reaches};
+ghost use Rattle.exec_rules.specs.Run.{Stage, steps, machine_of, Reaches};
 ghost use Rattle.exec_rules.specs.Instructions.{xcm};
 ghost use Rattle.exec_admission.specs.declared.rules.ChainRules.{ChainRules};
 ghost use Rattle.exec_admission.specs.declared.admission.Admitted.{Admitted};
@@ -31,7 +31,7 @@ ghost use Rattle.message_shapes.specs.Calm.{MuteAt};
 ghost use Rattle.message_shapes.specs.Lost.{is_first_done};
 
 use exec_calls::law_of_rules;
-use exec_run::law_of_runs;
+use exec_rules::law_of_runs;
 
 /// Each message that waits has one of the seven shapes, in every world from one in which nothing waits on.
 pub fn law_of_shapes()

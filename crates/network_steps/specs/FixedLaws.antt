@@ -13,8 +13,8 @@ use Rattle.exec_admission.specs.declared.rules.ChainRules.{ChainRules}
 use Rattle.exec_admission.specs.Execution.{executed}
 use Rattle.exec_calls.specs.Calls.{MachineWithGoods, MachineCall, after}
 use Rattle.exec_calls.specs.Footprints.{settings_after, channels_after}
-use Rattle.exec_keeping.specs.Kept.{IsKeptByCalls}
-use Rattle.exec_keeping.specs.KeptLaws.{any_kind, keeps_executed}
+use Rattle.exec_admission.specs.Kept.{IsKeptByCalls}
+use Rattle.exec_admission.specs.KeptLaws.{any_kind, keeps_executed}
 use Rattle.network_steps.specs.Fixed.{Fixed, fixed_of}
 
 -- ---- a message put last, or taken

@@ -29,7 +29,7 @@ use Rattle.ledgers.specs.Laws.{holder_keys}
 use Rattle.exec_base.specs.Part.{ChainPart, accounts_of}
 use Rattle.exec_base.specs.Sending.{unless, or_else}
 use Rattle.exec_base.specs.Host.{first_fault, give_fault, take_fault, at_account, given, withdraw_refusal, deposit_refusal, transfer_refusal, fee_held, fee_drawn}
-use Rattle.exec_run.specs.Machine.{Machine, machine}
+use Rattle.exec_rules.specs.Machine.{Machine, machine}
 use Rattle.exec_rules.specs.AnswerLaws.{unless_held, unless_next, none_first, none_next}
 use Rattle.exec_rules.specs.Holdings.{at_origin, holding_paid, payment_of}
 use Rattle.exec_rules.specs.Fees.{after_fee}

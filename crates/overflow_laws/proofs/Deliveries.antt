@@ -40,9 +40,9 @@ use Rattle.exec_base.specs.declared.registers.Registers.{Registers}
 use Rattle.exec_base.specs.Part.{ChainPart, book_of}
 use Rattle.exec_base.specs.Sending.{led_by, away_program}
 use Rattle.exec_base.specs.Host.{asset_unlocked, asset_noted, received, withdrawn, claimed, answered, joined, booked, receive_refusal, told}
-use Rattle.exec_run.specs.Machine.{Machine, machine}
-use Rattle.exec_run.specs.Run.{Stage, next, run, still_to_run, machine_of, without_appendix, handler_dropped}
-use Rattle.exec_run.specs.Accounts.{IsBalanced}
+use Rattle.exec_rules.specs.Machine.{Machine, machine}
+use Rattle.exec_rules.specs.Run.{Stage, next, run, still_to_run, machine_of, without_appendix, handler_dropped}
+use Rattle.exec_rules.specs.Accounts.{IsBalanced}
 use Rattle.exec_rules.specs.Holdings.{has_room, is_ticket, holding_more}
 use Rattle.exec_rules.specs.AnswerLaws.{unless_next, received_is_listed}
 use Rattle.exec_rules.specs.Instructions.{refused, done, refusal_of, xcm}

@@ -8,9 +8,9 @@ use Rattle.xcm_program.specs.declared.outcome.Outcome.{Outcome}
 use Rattle.channel_parts.specs.declared.cargo.Cargo.TheVariants as cargos
 use Rattle.exec_base.specs.declared.event.Part.TheVariants as parts
 use Rattle.exec_base.specs.Part.{ChainPart}
-use Rattle.exec_run.specs.Machine.{Machine}
-use Rattle.exec_run.specs.Run.{run, still_to_run, machine_of}
-use Rattle.exec_run.specs.KeepingLaws.{begin_machine}
+use Rattle.exec_rules.specs.Machine.{Machine}
+use Rattle.exec_rules.specs.Run.{run, still_to_run, machine_of}
+use Rattle.exec_rules.specs.KeepingLaws.{begin_machine}
 use Rattle.exec_rules.specs.Instructions.{xcm}
 use Rattle.exec_admission.specs.declared.admission.Admitted.{Admitted}
 use Rattle.exec_admission.specs.Admission.{admitted}

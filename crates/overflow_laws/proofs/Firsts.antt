@@ -13,11 +13,11 @@ use Rattle.exec_base.specs.declared.event.Part.TheVariants as parts
 use Rattle.exec_base.specs.declared.registers.Registers.{Registers}
 use Rattle.exec_base.specs.Part.{ChainPart}
 use Rattle.exec_base.specs.Host.{told}
-use Rattle.exec_run.specs.Machine.{Machine, machine}
-use Rattle.exec_run.specs.Run.{Stage, At, Ended, begin, go_on, failed, without_appendix, handler_dropped, traced, by_answer, next, steps, machine_of, Reaches}
-use Rattle.exec_run.specs.RunLaws.{one_step, steps_end, reached_balanced}
-use Rattle.exec_run.specs.KeepingLaws.{begin_machine, reached_hold}
-use Rattle.exec_run.specs.Accounts.{IsBalanced}
+use Rattle.exec_rules.specs.Machine.{Machine, machine}
+use Rattle.exec_rules.specs.Run.{Stage, At, Ended, begin, go_on, failed, without_appendix, handler_dropped, traced, by_answer, next, steps, machine_of, Reaches}
+use Rattle.exec_rules.specs.RunLaws.{one_step, steps_end, reached_balanced}
+use Rattle.exec_rules.specs.KeepingLaws.{begin_machine, reached_hold}
+use Rattle.exec_rules.specs.Accounts.{IsBalanced}
 use Rattle.exec_rules.specs.Instructions.{refused, done, refusal_of, xcm}
 use Rattle.exec_admission.specs.declared.rules.ChainRules.{ChainRules}
 use Rattle.exec_admission.specs.declared.admission.Admitted.{Admitted}

@@ -22,7 +22,7 @@ use Rattle.trust_tables.specs.Trust.{listing, listed_row}
 use Rattle.ledgers.specs.Ledgers.{Holder, Held}
 use Rattle.ledgers.specs.Laws.{holder_keys}
 use Rattle.exec_base.specs.Part.{ChainPart}
-use Rattle.exec_run.specs.Machine.{Machine}
+use Rattle.exec_rules.specs.Machine.{Machine}
 use Rattle.coherence.specs.UniversalAssets.{UniversalAsset, Choice, every, just, is_asset_at, is_unit_at}
 use Rattle.coherence.specs.Networks.{Table, IsIn, asset_of_row}
 use Rattle.conservation.specs.Parts.{World}

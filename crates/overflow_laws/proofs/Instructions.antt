@@ -8,7 +8,7 @@ use Rattle.xcm_program.specs.declared.instruction.Instruction.{Instruction}
 use Rattle.xcm_program.specs.declared.instruction.Instruction.TheOpen.{Instruction-F}
 use Rattle.exec_base.specs.Part.{ChainPart}
 use Rattle.exec_base.specs.Host.{joined}
-use Rattle.exec_run.specs.Machine.{Machine}
+use Rattle.exec_rules.specs.Machine.{Machine}
 use Rattle.exec_rules.specs.Holdings.{holding_more}
 use Rattle.exec_rules.specs.Instructions.{refused, done, xcm}
 use Rattle.exec_rules.specs.Readiness.{IsSteady}
@@ -26,9 +26,9 @@ use Rattle.coherence.specs.Networks.{Table, Agrees}
 use Rattle.exec_calls.specs.Calls.{MachineWithGoods, between, MachineCall, after, effect}
 use Rattle.exec_calls.specs.Footprints.{part_is}
 use Rattle.exec_calls.specs.ReasonLaws.{done_keeps}
-use Rattle.exec_keeping.specs.Kept.{IsKeptAtEnd}
-use Rattle.exec_keeping.specs.KeptLaws.{finished_kept, at_end_kept}
-use Rattle.exec_run.specs.Outcome.{finished, HaltedAtEnd}
+use Rattle.exec_admission.specs.Kept.{IsKeptAtEnd}
+use Rattle.exec_admission.specs.KeptLaws.{finished_kept, at_end_kept}
+use Rattle.exec_rules.specs.Outcome.{finished, HaltedAtEnd}
 use Rattle.exec_rules.specs.Stopping.{spills}
 use Rattle.conserved_runs.specs.Ending.{IsEnding, begins_ending, ending_is_kept}
 

@@ -4,8 +4,8 @@ use Rattle.weight_trader.specs.Laws.{MovesAreKept}
 use Rattle.xcm_program.specs.declared.instruction.Instruction.{Instruction, out-Instruction}
 use Rattle.xcm_program.specs.Laws.{everywhere_open}
 use Rattle.exec_base.specs.Host.{told}
-use Rattle.exec_run.specs.Machine.{Machine}
-use Rattle.exec_run.specs.Keeping.{IsKeptByRuns}
+use Rattle.exec_rules.specs.Machine.{Machine}
+use Rattle.exec_rules.specs.Keeping.{IsKeptByRuns}
 use Rattle.exec_rules.specs.Instructions.{refusal_of, done, xcm}
 use Rattle.coherence.specs.Networks.{Table, Agrees}
 use Rattle.conserved_runs.specs.Calls.{Withdraws}

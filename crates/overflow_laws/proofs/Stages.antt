@@ -6,12 +6,12 @@ use Rattle.message_parts.specs.declared.error.XcmError.{XcmError}
 use Rattle.message_parts.specs.declared.weight.Weight.{Weight}
 use Rattle.xcm_program.specs.declared.instruction.Instruction.{Instruction, out-Instruction}
 use Rattle.exec_base.specs.Part.{ChainPart}
-use Rattle.exec_run.specs.Machine.{Machine, Performed}
-use Rattle.exec_run.specs.Run.{Stage, At, Ended, run, still_to_run, machine_of, Reaches, StoppedIn}
-use Rattle.exec_run.specs.Accounts.{IsBalanced}
-use Rattle.exec_run.specs.Keeping.{IsAheadOf}
-use Rattle.exec_run.specs.KeepingLaws.{reached_hold, reached_keeps}
-use Rattle.exec_run.specs.Outcome.{abandoned, finished, HaltedAtEnd}
+use Rattle.exec_rules.specs.Machine.{Machine, Performed}
+use Rattle.exec_rules.specs.Run.{Stage, At, Ended, run, still_to_run, machine_of, Reaches, StoppedIn}
+use Rattle.exec_rules.specs.Accounts.{IsBalanced}
+use Rattle.exec_rules.specs.Keeping.{IsAheadOf}
+use Rattle.exec_rules.specs.KeepingLaws.{reached_hold, reached_keeps}
+use Rattle.exec_rules.specs.Outcome.{abandoned, finished, HaltedAtEnd}
 use Rattle.exec_rules.specs.Instructions.{refusal_of, xcm}
 use Rattle.exec_rules.specs.Readiness.{IsSteady}
 use Rattle.exec_rules.specs.Stopping.{spills}

@@ -6,7 +6,7 @@ use Rattle.amounts.specs.Amounts.{empty}
 use Rattle.locations.specs.declared.relative.Location.{Location}
 use Rattle.channel_parts.specs.Channels.{Waiting}
 use Rattle.exec_base.specs.Host.{told}
-use Rattle.exec_run.specs.Machine.{Machine}
+use Rattle.exec_rules.specs.Machine.{Machine}
 use Rattle.exec_admission.specs.declared.rules.ChainRules.{ChainRules}
 use Rattle.exec_admission.specs.Execution.{first_machine}
 use Rattle.network_steps.specs.Worlds as networks

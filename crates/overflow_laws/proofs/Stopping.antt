@@ -8,7 +8,7 @@ use Rattle.xcm_program.specs.declared.instruction.Instruction.{Instruction}
 use Rattle.xcm_program.specs.declared.instruction.Instruction.TheOpen.{Instruction-F}
 use Rattle.exec_base.specs.Part.{ChainPart}
 use Rattle.exec_base.specs.Host.{bought, unspent, parked}
-use Rattle.exec_run.specs.Machine.{Machine}
+use Rattle.exec_rules.specs.Machine.{Machine}
 use Rattle.exec_rules.specs.Holdings.{holds_asset, payment_of, holding_paid, buying_refusal}
 use Rattle.exec_rules.specs.HoldingLaws.{payment_within}
 use Rattle.exec_rules.specs.AnswerLaws.{unless_held}

@@ -19,7 +19,7 @@ use Rattle.chain_queues.specs.Queues.{channel_to, oldest}
 use Rattle.exec_base.specs.Part.{ChainPart, book_of}
 use Rattle.exec_base.specs.Host.{told}
 use Rattle.exec_base.specs.Sending.{channel_refusal}
-use Rattle.exec_run.specs.Run.{Stage, machine_of, Reaches}
+use Rattle.exec_rules.specs.Run.{Stage, machine_of, Reaches}
 use Rattle.exec_rules.specs.Instructions.{xcm}
 use Rattle.exec_admission.specs.declared.admission.Admitted.{Admitted}
 use Rattle.exec_admission.specs.Admission.{admitted}

@@ -9,8 +9,8 @@ use Rattle.trust_tables.specs.Accounts.{account_of}
 use Rattle.ledgers.specs.Ledgers.{barred}
 use Rattle.exec_base.specs.Host.{given, withdraw_refusal, deposit_refusal, transfer_refusal}
 use Rattle.xcm_program.specs.declared.instruction.Instruction.{Instruction}
-use Rattle.exec_run.specs.Machine.{Machine}
-use Rattle.exec_run.specs.Run.{Stage, machine_of, Reaches}
+use Rattle.exec_rules.specs.Machine.{Machine}
+use Rattle.exec_rules.specs.Run.{Stage, machine_of, Reaches}
 use Rattle.exec_rules.specs.Instructions.{xcm}
 use Rattle.exec_admission.specs.declared.admission.Admitted.{Admitted}
 use Rattle.network_steps.specs.Worlds.{World}

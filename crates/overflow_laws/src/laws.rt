@@ -3,7 +3,7 @@ ghost use Rattle.std.specs.Prelude.{◌≡◌, ℕ, List, Ok};
 ghost use Rattle.weight_trader.specs.Purchases.{no_weight};
 ghost use Rattle.xcm_program.specs.declared.instruction.Instruction.{Instruction};
 ghost use Rattle.exec_base.specs.Part.{ChainPart};
-ghost use Rattle.exec_run.specs.Run.{Stage, machine_of, Reaches};
+ghost use Rattle.exec_rules.specs.Run.{Stage, machine_of, Reaches};
 ghost use Rattle.exec_rules.specs.Instructions.{xcm};
 ghost use Rattle.exec_admission.specs.declared.admission.Admitted.{Admitted};
 ghost use Rattle.exec_admission.specs.Admission.{admitted};

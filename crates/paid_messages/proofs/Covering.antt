@@ -17,10 +17,10 @@ use Rattle.exec_base.specs.declared.event.Part.TheVariants as parts
 use Rattle.exec_base.specs.Host.{receive_refusal, arrives_by, ByTeleport, fits_call}
 use Rattle.exec_base.specs.Part.{ChainPart}
 use Rattle.exec_base.specs.Sending.{led_by, away_program}
-use Rattle.exec_run.specs.Machine.{Machine}
-use Rattle.exec_run.specs.Run.{Stage, At, Ended, begin, to_appendix, to_handler, go_on, failed, handler_dropped, without_appendix, traced, by_answer, next, steps, machine_of, Reaches}
-use Rattle.exec_run.specs.KeepingLaws.{begin_machine}
-use Rattle.exec_run.specs.RunLaws.{steps_end}
+use Rattle.exec_rules.specs.Machine.{Machine}
+use Rattle.exec_rules.specs.Run.{Stage, At, Ended, begin, to_appendix, to_handler, go_on, failed, handler_dropped, without_appendix, traced, by_answer, next, steps, machine_of, Reaches}
+use Rattle.exec_rules.specs.KeepingLaws.{begin_machine}
+use Rattle.exec_rules.specs.RunLaws.{steps_end}
 use Rattle.exec_rules.specs.Instructions.{refused, done, refusal_of, xcm}
 use Rattle.exec_admission.specs.declared.rules.ChainRules.{ChainRules}
 use Rattle.exec_admission.specs.declared.admission.Admitted.{Admitted}

@@ -17,8 +17,8 @@ use Rattle.weight_trader.specs.Purchases.{no_weight}
 use Rattle.exec_base.specs.declared.event.Event.{Event}
 use Rattle.exec_base.specs.Host.{Arrival, ByWithdrawal, ByTeleport, arrives_by, fits_call, cargo_list, is_cargo, floor_of, told}
 use Rattle.exec_base.specs.Part.{ChainPart}
-use Rattle.exec_run.specs.Machine.{Machine}
-use Rattle.exec_run.specs.Run.{machine_of}
+use Rattle.exec_rules.specs.Machine.{Machine}
+use Rattle.exec_rules.specs.Run.{machine_of}
 use Rattle.exec_admission.specs.declared.admission.Admitted.{Admitted}
 use Rattle.exec_admission.specs.Admission.{admitted}
 use Rattle.network_steps.specs.Worlds as networks

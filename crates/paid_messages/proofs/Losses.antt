@@ -13,8 +13,8 @@ use Rattle.exec_base.specs.declared.event.Part.TheVariants as parts
 use Rattle.exec_base.specs.Host.{ByTeleport, is_cargo, cargo_after, received, told}
 use Rattle.exec_base.specs.Part.{Taken, ChainPart}
 use Rattle.exec_base.specs.Sending.{led_by}
-use Rattle.exec_run.specs.Machine.{Machine}
-use Rattle.exec_run.specs.Run.{Stage, begin, traced, by_answer, steps, machine_of, GoesOnTo}
+use Rattle.exec_rules.specs.Machine.{Machine}
+use Rattle.exec_rules.specs.Run.{Stage, begin, traced, by_answer, steps, machine_of, GoesOnTo}
 use Rattle.exec_rules.specs.Instructions.{refused, done, refusal_of, xcm}
 use Rattle.exec_admission.specs.declared.rules.ChainRules.{ChainRules}
 use Rattle.exec_admission.specs.declared.admission.Admitted.{Admitted}

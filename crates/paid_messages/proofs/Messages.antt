@@ -24,7 +24,7 @@ use Rattle.exec_base.specs.declared.event.Event.{Event}
 use Rattle.exec_base.specs.Part.{ChainPart}
 use Rattle.exec_base.specs.Sending.{or_else, led_by, away_program}
 use Rattle.exec_base.specs.Host.{ByWithdrawal, ByTeleport, fits_call, cargo_list, first_fault, floor_of, give_fault, withdraw_refusal, trust_fault, lower_fault, receive_refusal, told}
-use Rattle.exec_run.specs.Machine.{Machine}
+use Rattle.exec_rules.specs.Machine.{Machine}
 use Rattle.exec_rules.specs.Holdings.{has_room}
 use Rattle.exec_admission.specs.declared.rules.ChainRules.{ChainRules}
 use Rattle.exec_admission.specs.declared.admission.Admitted.{Admitted}

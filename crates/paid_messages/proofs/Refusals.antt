@@ -23,7 +23,7 @@ use Rattle.message_shapes.specs.Shapes.{stands_alone}
 use Rattle.exec_base.specs.Sending.{named_refusal, unless, or_else, is_sendable, channel_refusal, channel_to, send_refusal, listed_refusal}
 use Rattle.exec_base.specs.Host.{note_program, lock_refusal, unlock_refusal, note_refusal, request_key, unlock_program, request_refusal, first_fault, with_account, give_fault, take_fault, given, withdraw_refusal, deposit_refusal, transfer_refusal, trust_fault, lower_fault, raise_fault, receive_refusal, transfer_out_refusal, deposit_out_refusal, is_teleport, ship_refusal, querier_seen, report_refusal, respond_refusal, no_line_refusal, buy_refusal, claim_refusal}
 use Rattle.exec_base.specs.Pools.{exchange_at, exchange_refusal}
-use Rattle.exec_run.specs.Machine.{Machine}
+use Rattle.exec_rules.specs.Machine.{Machine}
 use Rattle.exec_rules.specs.Holdings.{with_origin, holds_asset, has_room, is_ticket}
 use Rattle.exec_rules.specs.Instructions.{refused}
 use Rattle.exec_calls.specs.Calls.{MachineWithGoods, here, MachineCall, why_not}

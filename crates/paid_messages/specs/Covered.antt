@@ -2,7 +2,7 @@
 use Rattle.std.specs.Prelude.{◌≡◌, ◌≢◌, ⊤, ℕ, List, Some, Ok}
 use Rattle.message_parts.specs.declared.error.XcmError.TheVariants as error
 use Rattle.xcm_program.specs.declared.instruction.Instruction.{Instruction}
-use Rattle.exec_run.specs.Run.{Stage, At, Ended, Reaches}
+use Rattle.exec_rules.specs.Run.{Stage, At, Ended, Reaches}
 use Rattle.exec_rules.specs.Instructions.{refusal_of, xcm}
 use Rattle.exec_admission.specs.declared.admission.Admitted.{Admitted}
 use Rattle.exec_admission.specs.Admission.{admitted}

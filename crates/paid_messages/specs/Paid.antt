@@ -13,7 +13,7 @@ use Rattle.xcm_program.specs.declared.instruction.Instruction.{Instruction}
 use Rattle.xcm_program.specs.declared.instruction.Instruction.TheOpen.{Instruction-F}
 use Rattle.exec_base.specs.Host.{ByWithdrawal, ByTeleport, fits_call, cargo_list}
 use Rattle.exec_base.specs.Sending.{led_by}
-use Rattle.exec_run.specs.Machine.{Machine}
+use Rattle.exec_rules.specs.Machine.{Machine}
 use Rattle.exec_rules.specs.Instructions.{refused}
 use Rattle.exec_admission.specs.declared.admission.Admitted.{Admitted}
 use Rattle.exec_admission.specs.Admission.{admitted}

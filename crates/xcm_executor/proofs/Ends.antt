@@ -20,12 +20,12 @@ use Rattle.xcm_program.specs.Weights.{kept}
 use Rattle.exec_base.specs.declared.event.Part.TheVariants as parts
 use Rattle.exec_base.specs.declared.registers.Registers.{Registers}
 use Rattle.exec_base.specs.Part.{ChainPart}
-use Rattle.exec_run.specs.Machine.{Machine, machine, Control, control_of, IsOrderly}
-use Rattle.exec_run.specs.Run.{Stage, Ended, begin, run, still_to_run, machine_of, left_after, Reaches, StoppedIn}
-use Rattle.exec_run.specs.Outcome.{refund_surplus, refunded_last, rest_trapped, finished, abandoned, HaltedAtEnd}
-use Rattle.exec_run.specs.Accounts.{Balances, IsBalanced, freed, HasWeight, IsAffordable, ref_time, proof_size}
-use Rattle.exec_run.specs.RunLaws.{reached_balanced}
-use Rattle.exec_run.specs.KeepingLaws.{begin_machine}
+use Rattle.exec_rules.specs.Machine.{Machine, machine, Control, control_of, IsOrderly}
+use Rattle.exec_rules.specs.Run.{Stage, Ended, begin, run, still_to_run, machine_of, left_after, Reaches, StoppedIn}
+use Rattle.exec_rules.specs.Outcome.{refund_surplus, refunded_last, rest_trapped, finished, abandoned, HaltedAtEnd}
+use Rattle.exec_rules.specs.Accounts.{Balances, IsBalanced, freed, HasWeight, IsAffordable, ref_time, proof_size}
+use Rattle.exec_rules.specs.RunLaws.{reached_balanced}
+use Rattle.exec_rules.specs.KeepingLaws.{begin_machine}
 use Rattle.exec_rules.specs.Holdings.{refund_now, refund_done}
 use Rattle.exec_rules.specs.Instructions.{refusal_of, done, xcm}
 use Rattle.exec_rules.specs.Readiness.{IsAtRest, IsSteady, IsSound, IsReady}

@@ -7,9 +7,9 @@ use Rattle.xcm_program.specs.declared.instruction.Instruction.TheOpen.{Instructi
 use Rattle.exec_base.specs.declared.event.Event.{Event}
 use Rattle.exec_base.specs.Part.{ChainPart}
 use Rattle.exec_base.specs.Host.{parked, told, settled}
-use Rattle.exec_run.specs.Machine.{Machine, machine, Performed}
-use Rattle.exec_run.specs.Run.{Stage, StoppedIn}
-use Rattle.exec_run.specs.Outcome.{refund_surplus, end_event, end_told}
+use Rattle.exec_rules.specs.Machine.{Machine, machine, Performed}
+use Rattle.exec_rules.specs.Run.{Stage, StoppedIn}
+use Rattle.exec_rules.specs.Outcome.{refund_surplus, end_event, end_told}
 use Rattle.exec_rules.specs.Instructions.{refusal_of, xcm}
 use Rattle.exec_rules.specs.Readiness.{IsSteady}
 use Rattle.exec_rules.specs.Stopping.{spills}

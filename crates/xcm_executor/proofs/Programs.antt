@@ -3,9 +3,9 @@ use Rattle.std.proofs.Common.{◌≡◌, ℕ, zero, suc, ◌+◌, ◌<◌, ◌�
 use Rattle.xcm_program.specs.declared.instruction.Instruction.{Instruction}
 use Rattle.xcm_program.specs.Measure.{deep_count}
 use Rattle.exec_base.specs.declared.event.Part.{Part}
-use Rattle.exec_run.specs.Machine.{Machine, IsOrderly}
-use Rattle.exec_run.specs.Run.{Stage, At, Ended, begin, next, steps, still_to_run, IsUnderWay, run, Reaches, GoesOnTo, StoppedIn}
-use Rattle.exec_run.specs.RunLaws.{begin_balanced, begin_left, next_left, reached_balanced, reaches_then, run_reached}
+use Rattle.exec_rules.specs.Machine.{Machine, IsOrderly}
+use Rattle.exec_rules.specs.Run.{Stage, At, Ended, begin, next, steps, still_to_run, IsUnderWay, run, Reaches, GoesOnTo, StoppedIn}
+use Rattle.exec_rules.specs.RunLaws.{begin_balanced, begin_left, next_left, reached_balanced, reaches_then, run_reached}
 use Rattle.exec_rules.specs.Instructions.{xcm}
 use Rattle.exec_rules.specs.Stopping.{spills}
 use Rattle.xcm_executor.specs.Running.{IsRunnable}

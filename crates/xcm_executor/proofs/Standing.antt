@@ -10,11 +10,11 @@ use Rattle.xcm_program.specs.Laws.{deep_count_one-kept}
 use Rattle.exec_base.specs.declared.event.Part.{Part}
 use Rattle.exec_base.specs.declared.event.Part.TheVariants.{Appendix}
 use Rattle.exec_base.specs.declared.registers.Registers.{Registers}
-use Rattle.exec_run.specs.Machine.{Machine, machine, control_of, IsOrderly}
-use Rattle.exec_run.specs.Run.{Stage, At, begin, to_appendix, to_handler, go_on, failed_with, appendix_of, next_program, without_appendix, handler_dropped, traced, left_after, by_answer, steps, is_accepted, begins_well, IsTaken, Halted, GoesOnTo, StoppedIn}
-use Rattle.exec_run.specs.Accounts.{Balances, IsBalanced, IsAccounted}
-use Rattle.exec_run.specs.BalanceLaws.{failed_balances}
-use Rattle.exec_run.specs.RunLaws.{begin_balanced, steps_balanced, steps_plus, one_step}
+use Rattle.exec_rules.specs.Machine.{Machine, machine, control_of, IsOrderly}
+use Rattle.exec_rules.specs.Run.{Stage, At, begin, to_appendix, to_handler, go_on, failed_with, appendix_of, next_program, without_appendix, handler_dropped, traced, left_after, by_answer, steps, is_accepted, begins_well, IsTaken, Halted, GoesOnTo, StoppedIn}
+use Rattle.exec_rules.specs.Accounts.{Balances, IsBalanced, IsAccounted}
+use Rattle.exec_rules.specs.BalanceLaws.{failed_balances}
+use Rattle.exec_rules.specs.RunLaws.{begin_balanced, steps_balanced, steps_plus, one_step}
 use Rattle.exec_rules.specs.Instructions.{xcm}
 use Rattle.exec_rules.specs.Readiness.{IsReady}
 use Rattle.exec_rules.specs.Stopping.{spills}

@@ -6,10 +6,10 @@ use Rattle.xcm_program.specs.Measure.{deep_count}
 use Rattle.xcm_program.specs.Weights.{ref_time_of, proof_size_of}
 use Rattle.exec_base.specs.declared.event.Part.{Part}
 use Rattle.exec_base.specs.Host.{settled}
-use Rattle.exec_run.specs.Machine.{Machine, machine}
-use Rattle.exec_run.specs.Run.{Stage, At, begin, Reaches}
-use Rattle.exec_run.specs.Accounts.{IsAccounted}
-use Rattle.exec_run.specs.Outcome.{refund_surplus, end_told, refunded_last}
+use Rattle.exec_rules.specs.Machine.{Machine, machine}
+use Rattle.exec_rules.specs.Run.{Stage, At, begin, Reaches}
+use Rattle.exec_rules.specs.Accounts.{IsAccounted}
+use Rattle.exec_rules.specs.Outcome.{refund_surplus, end_told, refunded_last}
 use Rattle.exec_rules.specs.Instructions.{xcm}
 use Rattle.exec_rules.specs.Readiness.{IsReady}
 use Rattle.exec_rules.specs.Stopping.{spills}

@@ -1,8 +1,8 @@
 //! The end of a run.
 ghost use Rattle.std.specs.Prelude.{◌≡◌, ◌<◌, length, OnOk, OnErr, IfOk};
 ghost use Rattle.message_parts.specs.Weights.{IsWithin};
-ghost use Rattle.exec_run.specs.Machine.{machine};
-ghost use Rattle.exec_run.specs.Outcome.{refund_surplus, outcome_of, owner_of, refunded_last, rest_trapped, finished, abandoned, HaltedAtEnd};
+ghost use Rattle.exec_rules.specs.Machine.{machine};
+ghost use Rattle.exec_rules.specs.Outcome.{refund_surplus, outcome_of, owner_of, refunded_last, rest_trapped, finished, abandoned, HaltedAtEnd};
 ghost use Rattle.exec_rules.specs.Instructions.{xcm};
 ghost use Rattle.exec_rules.specs.Readiness.{IsReady};
 ghost use Rattle.exec_rules.specs.Stopping.{spills};

@@ -1,6 +1,6 @@
 //! One instruction: each is handed to its function.
 ghost use Rattle.std.specs.Prelude.{IfOk, OnErr};
-ghost use Rattle.exec_run.specs.Machine.{machine, Performed};
+ghost use Rattle.exec_rules.specs.Machine.{machine, Performed};
 ghost use Rattle.exec_rules.specs.Instructions.{xcm};
 ghost use Rattle.exec_rules.specs.Readiness.{IsReady};
 ghost use Rattle.exec_rules.specs.Stopping.{spills};

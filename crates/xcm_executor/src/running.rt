@@ -1,7 +1,7 @@
 //! A whole run.
 ghost use Rattle.std.specs.Prelude.{◌≡◌, OnOk, OnErr, IfOk};
-ghost use Rattle.exec_run.specs.Machine.{machine};
-ghost use Rattle.exec_run.specs.Run.{begin, run, begins_well, Ended, StoppedIn};
+ghost use Rattle.exec_rules.specs.Machine.{machine};
+ghost use Rattle.exec_rules.specs.Run.{begin, run, begins_well, Ended, StoppedIn};
 ghost use Rattle.exec_rules.specs.Instructions.{xcm};
 ghost use Rattle.exec_rules.specs.Stopping.{spills};
 ghost use Rattle.xcm_executor.specs.Running.{IsRunnable};

@@ -1,7 +1,7 @@
 //! One program of a run.
 ghost use Rattle.std.specs.Prelude.{◌≡◌, ◌+◌, ◌<◌, ◌^◌, [], length, IfOk, OnErr};
-ghost use Rattle.exec_run.specs.Machine.{machine};
-ghost use Rattle.exec_run.specs.Run.{without_appendix, without_handler, handler_dropped, failed_with, appendix_of, next_program, begin, begins_well, IsTaken, Halted, GoesOnTo, StoppedIn};
+ghost use Rattle.exec_rules.specs.Machine.{machine};
+ghost use Rattle.exec_rules.specs.Run.{without_appendix, without_handler, handler_dropped, failed_with, appendix_of, next_program, begin, begins_well, IsTaken, Halted, GoesOnTo, StoppedIn};
 ghost use Rattle.exec_rules.specs.Instructions.{xcm};
 ghost use Rattle.exec_rules.specs.Readiness.{IsReady};
 ghost use Rattle.exec_rules.specs.Stopping.{spills};

@@ -1,6 +1,6 @@
 //! Sums of weights that fit.
 ghost use Rattle.std.specs.Prelude.{◌≡◌, ◌+◌, ◌<◌, ◌^◌};
-ghost use Rattle.exec_run.specs.Machine.{weight_added};
+ghost use Rattle.exec_rules.specs.Machine.{weight_added};
 
 use message_parts::Weight;
 

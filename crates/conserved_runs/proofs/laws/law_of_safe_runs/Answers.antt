@@ -1,6 +1,6 @@
 use Rattle.xcm_program.specs.declared.instruction.Instruction.{out-Instruction}
 use Rattle.xcm_program.specs.Laws.{everywhere_open}
-use Rattle.exec_run.specs.KeepingLaws.{reached_keeps}
+use Rattle.exec_rules.specs.KeepingLaws.{reached_keeps}
 use Rattle.exec_rules.specs.Instructions.{xcm}
 use Rattle.conserved_runs.specs.Safety.{HasList, AreLists}
 use Rattle.conserved_runs.specs.Shipping.{HasList-IsOfLayer}

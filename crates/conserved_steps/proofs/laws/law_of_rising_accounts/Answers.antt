@@ -7,7 +7,7 @@ use Rattle.conserved_steps.specs.Views.{views}
 use Rattle.conserved_steps.specs.Stepping.{seen_at}
 use Rattle.conserved_steps.specs.Insides.{all_at}
 use Rattle.conserved_steps.specs.Rising.{rises_in, rises_delivered}
-use Rattle.exec_run.specs.Run.{machine_of}
+use Rattle.exec_rules.specs.Run.{machine_of}
 use Rattle.conserved_steps.proofs.laws.law_of_rising_accounts.Goals as goal
 
 pub returns : goal.returns

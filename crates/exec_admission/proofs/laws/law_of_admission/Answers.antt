@@ -1,5 +1,5 @@
 use Rattle.std.proofs.Common.{refl}
-use Rattle.exec_run.specs.Run.{run, still_to_run}
+use Rattle.exec_rules.specs.Run.{run, still_to_run}
 use Rattle.exec_rules.specs.Instructions.{xcm}
 use Rattle.exec_admission.specs.Admission.{admitted}
 use Rattle.exec_admission.specs.Execution.{first_stage, last_machine}

@@ -1,6 +1,6 @@
 use Rattle.std.proofs.Common.{◌≡◌, true, List, length, ap, sym, ◌∙◌}
 use Rattle.asset_lists.specs.declared.units.Asset.{Asset}
-use Rattle.exec_run.specs.Machine.{machine}
+use Rattle.exec_rules.specs.Machine.{machine}
 use Rattle.exec_rules.specs.Holdings.{has_room}
 use Rattle.exec_assets.proofs.Joining.{claimed_joinable}
 use Rattle.exec_assets.proofs.arriving.claim_asset.Goals as goal

@@ -1,4 +1,4 @@
-use Rattle.exec_run.specs.Machine.{machine}
+use Rattle.exec_rules.specs.Machine.{machine}
 use Rattle.exec_assets.proofs.Joining.{withdrawn_joinable}
 use Rattle.exec_assets.proofs.arriving.withdraw_asset.Goals as goal
 

@@ -1,5 +1,5 @@
 use Rattle.std.proofs.Common.{Some}
-use Rattle.exec_run.specs.Machine.{machine}
+use Rattle.exec_rules.specs.Machine.{machine}
 use Rattle.exec_holding.specs.Holding.{TakesAsset}
 use Rattle.exec_assets.proofs.Joining.{fees_some, bought_joinable}
 use Rattle.exec_assets.proofs.buying.buy_execution.Goals as goal

@@ -4,7 +4,7 @@ use Rattle.message_parts.specs.declared.weight.Weight.{Weight}
 use Rattle.weight_trader.specs.Refunds.{refund_of}
 use Rattle.exec_base.specs.Sending.{unless}
 use Rattle.exec_base.specs.Host.{refund_goods, refunded}
-use Rattle.exec_run.specs.Machine.{machine}
+use Rattle.exec_rules.specs.Machine.{machine}
 use Rattle.exec_assets.proofs.Joining.{refunded_joinable}
 use Rattle.exec_assets.proofs.buying.refund_surplus.Goals as goal
 

@@ -3,7 +3,7 @@ use Rattle.trust_tables.specs.Accounts.{account_of}
 use Rattle.trust_tables.specs.declared.chains.Site.{Site}
 use Rattle.call_dispatch.specs.Reading.{call_of}
 use Rattle.exec_base.specs.Calls.{IsDispatchedInPart}
-use Rattle.exec_run.specs.Machine.{machine}
+use Rattle.exec_rules.specs.Machine.{machine}
 use Rattle.exec_rules.specs.Calls.{account_by, caller_in}
 use Rattle.exec_control.proofs.Stopped.{was_read, stopped_by, stopped, on_err}
 use Rattle.exec_control.proofs.calls.transact.Goals as goal

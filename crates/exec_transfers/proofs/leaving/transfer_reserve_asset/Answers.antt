@@ -1,6 +1,6 @@
 use Rattle.std.proofs.Common.{Ok, Err, refl, ap, sym, ◌∙◌, Some}
 use Rattle.exec_base.specs.Host.{fee_to}
-use Rattle.exec_run.specs.Machine.{machine}
+use Rattle.exec_rules.specs.Machine.{machine}
 use Rattle.exec_holding.specs.Charging.{Begins}
 use Rattle.exec_transfers.proofs.Around.{begin_refused, may_end, end_ran}
 use Rattle.xcm_program.specs.declared.instruction.Instruction.TheOpen.{Instruction-F}

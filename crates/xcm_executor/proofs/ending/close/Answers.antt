@@ -1,5 +1,5 @@
-use Rattle.exec_run.specs.Machine.{machine}
-use Rattle.exec_run.specs.Outcome.{refunded_last}
+use Rattle.exec_rules.specs.Machine.{machine}
+use Rattle.exec_rules.specs.Outcome.{refunded_last}
 use Rattle.exec_rules.specs.Instructions.{xcm}
 use Rattle.xcm_executor.proofs.Parking.{halted_few}
 use Rattle.xcm_executor.proofs.Ends.{refunded_steady, halted_before, wound_within, wound_few}

@@ -1,7 +1,7 @@
 use Rattle.std.proofs.lemmas.Result.{err_from_is_err_and}
 use Rattle.exec_base.specs.declared.event.Part.TheVariants as parts
-use Rattle.exec_run.specs.Machine.{machine}
-use Rattle.exec_run.specs.Run.{begin}
+use Rattle.exec_rules.specs.Machine.{machine}
+use Rattle.exec_rules.specs.Run.{begin}
 use Rattle.xcm_executor.specs.Running.{IsReadyThroughout}
 use Rattle.exec_admission.specs.Execution.{first_stage}
 use Rattle.xcm_executor.proofs.Parking.{stopped_few}

@@ -1,8 +1,8 @@
 use Rattle.std.proofs.Common.{rules, ◌≡◌, ◌<◌, length}
 use Rattle.std.proofs.lemmas.Result.{err_from_is_err_and}
 use Rattle.exec_base.specs.declared.event.Part.TheVariants as parts
-use Rattle.exec_run.specs.Machine.{machine}
-use Rattle.exec_run.specs.RunLaws.{reaches_here}
+use Rattle.exec_rules.specs.Machine.{machine}
+use Rattle.exec_rules.specs.RunLaws.{reaches_here}
 use Rattle.xcm_executor.proofs.Standing.{nil}
 use Rattle.xcm_executor.proofs.Programs.{reached_more, reached_stopped, reached_runnable, less_is_left, reached_end}
 use Rattle.xcm_executor.proofs.running.run_all.Goals as goal

@@ -1,8 +1,8 @@
 use Rattle.std.proofs.Common.{◌+◌}
 use Rattle.xcm_program.specs.Measure.{deep_count}
 use Rattle.exec_base.specs.declared.event.Part.TheVariants as parts
-use Rattle.exec_run.specs.Machine.{machine}
-use Rattle.exec_run.specs.Run.{begin, Reaches}
+use Rattle.exec_rules.specs.Machine.{machine}
+use Rattle.exec_rules.specs.Run.{begin, Reaches}
 use Rattle.exec_rules.specs.Instructions.{xcm}
 use Rattle.xcm_executor.proofs.running.run_all.Given as goal
 

@@ -1,6 +1,6 @@
 use Rattle.std.proofs.Common.{◌≡◌, ◌<◌, true, length, drop}
-use Rattle.exec_run.specs.Machine.{machine}
-use Rattle.exec_run.specs.Run.{begin, begins_well}
+use Rattle.exec_rules.specs.Machine.{machine}
+use Rattle.exec_rules.specs.Run.{begin, begins_well}
 use Rattle.exec_rules.specs.Instructions.{xcm}
 use Rattle.xcm_executor.proofs.Standing.{Stands}
 use Rattle.xcm_executor.proofs.taking.take_program.Given as goal

@@ -7,11 +7,11 @@ use Rattle.xcm_program.specs.Measure.{deep_count_one, deep_count}
 use Rattle.exec_base.specs.declared.event.Part.{Part}
 use Rattle.exec_base.specs.declared.event.Part.TheVariants.{Appendix}
 use Rattle.exec_base.specs.declared.registers.Registers.{Registers}
-use Rattle.exec_run.specs.Machine.{Machine, Rules, control_of, IsOrderly}
-use Rattle.exec_run.specs.Run.{Stage, At, Ended, begin, to_appendix, to_handler, go_on, failed, without_handler, without_appendix, handler_dropped, traced, by_answer, next, steps, still_to_run, machine_of, IsUnderWay, IsEnd, run, Reaches}
-use Rattle.exec_run.specs.Accounts.{Balances, IsBalanced, KeepsAccounts}
+use Rattle.exec_rules.specs.Machine.{Machine, Rules, control_of, IsOrderly}
+use Rattle.exec_rules.specs.Run.{Stage, At, Ended, begin, to_appendix, to_handler, go_on, failed, without_handler, without_appendix, handler_dropped, traced, by_answer, next, steps, still_to_run, machine_of, IsUnderWay, IsEnd, run, Reaches}
+use Rattle.exec_rules.specs.Accounts.{Balances, IsBalanced, KeepsAccounts}
 use Rattle.xcm_program.specs.Laws.{deep_count_one-kept}
-use Rattle.exec_run.specs.BalanceLaws.{counts, ran_balances, failed_balances, handler_balances, dropped_balances, appendix_balances}
+use Rattle.exec_rules.specs.BalanceLaws.{counts, ran_balances, failed_balances, handler_balances, dropped_balances, appendix_balances}
 
 -- ---- the balance, wherever the run goes
 pub begin_balanced : (most : Weight) (part : Part) (p : List Instruction) (m : Machine) → Balances most p (control_of m.regs) → IsBalanced most (begin part p m)

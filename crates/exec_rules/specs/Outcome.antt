@@ -15,8 +15,8 @@ use Rattle.exec_base.specs.declared.event.Event.{Event}
 use Rattle.exec_base.specs.declared.registers.Registers.{Registers}
 use Rattle.exec_base.specs.Part.{ChainPart}
 use Rattle.exec_base.specs.Host.{told, settled, trapped, parked}
-use Rattle.exec_run.specs.Machine.{Machine, Rules}
-use Rattle.exec_run.specs.Run.{left_after}
+use Rattle.exec_rules.specs.Machine.{Machine, Rules}
+use Rattle.exec_rules.specs.Run.{left_after}
 
 -- complete where the error register is empty, else incomplete with its error
 abbrev pub outcome_by : Weight → Option (ℕ × XcmError) → Outcome

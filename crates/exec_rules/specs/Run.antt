@@ -17,7 +17,7 @@ use Rattle.exec_base.specs.declared.event.Part.TheVariants.{Handler, Appendix}
 use Rattle.exec_base.specs.declared.event.Event.{Event}
 use Rattle.exec_base.specs.declared.registers.Registers.{Registers}
 use Rattle.exec_base.specs.Host.{told}
-use Rattle.exec_run.specs.Machine.{Machine, Rules, Performed, weight_added}
+use Rattle.exec_rules.specs.Machine.{Machine, Rules, Performed, weight_added}
 
 -- ---- what a run itself does to the registers
 

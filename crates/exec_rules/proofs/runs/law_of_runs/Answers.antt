@@ -1,8 +1,8 @@
-use Rattle.exec_run.specs.BalanceLaws.{affordable}
-use Rattle.exec_run.specs.RunLaws.{next_left, run_ends, run_from, reached_balanced, balanced_accounts}
-use Rattle.exec_run.specs.Run.{At}
-use Rattle.exec_run.proofs.Refusing.{refused_leaves}
-use Rattle.exec_run.proofs.laws.law_of_runs.Goals as goal
+use Rattle.exec_rules.specs.BalanceLaws.{affordable}
+use Rattle.exec_rules.specs.RunLaws.{next_left, run_ends, run_from, reached_balanced, balanced_accounts}
+use Rattle.exec_rules.specs.Run.{At}
+use Rattle.exec_rules.proofs.Refusing.{refused_leaves}
+use Rattle.exec_rules.proofs.runs.law_of_runs.Goals as goal
 
 pub returns-clause-once : goal.returns-clause-once
 returns-clause-once c = λ rules g orderly. next_left rules orderly g

@@ -5,8 +5,8 @@ use Rattle.xcm_program.specs.declared.instruction.Instruction.{Instruction, out-
 use Rattle.xcm_program.specs.declared.instruction.Instruction.TheOpen.{Instruction-F}
 use Rattle.exec_base.specs.declared.registers.Registers.{Registers}
 use Rattle.exec_base.specs.Part.{ChainPart}
-use Rattle.exec_run.specs.Machine.{Machine, machine}
-use Rattle.exec_run.specs.Outcome.{refund_surplus}
+use Rattle.exec_rules.specs.Machine.{Machine, machine}
+use Rattle.exec_rules.specs.Outcome.{refund_surplus}
 use Rattle.exec_calls.specs.Calls.{MachineWithGoods, between, MachineCall, why_not, after}
 use Rattle.exec_calls.specs.Reasons.{IsFrom, Turns, Moment, HasReason, ComesAtEnd}
 

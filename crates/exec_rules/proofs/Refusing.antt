@@ -8,10 +8,10 @@ use Rattle.exec_base.specs.declared.event.Part.{Part}
 use Rattle.exec_base.specs.declared.event.Event.{Event}
 use Rattle.exec_base.specs.declared.registers.Registers.{Registers}
 use Rattle.exec_base.specs.Host.{told}
-use Rattle.exec_run.specs.Machine.{Machine, Rules}
-use Rattle.exec_run.specs.Run.{At, failed, to_appendix, to_handler, traced, by_answer, next, machine_of, without_appendix}
-use Rattle.exec_run.specs.Keeping.{LeavesAll}
-use Rattle.exec_run.specs.KeepingLaws.{begin_machine}
+use Rattle.exec_rules.specs.Machine.{Machine, Rules}
+use Rattle.exec_rules.specs.Run.{At, failed, to_appendix, to_handler, traced, by_answer, next, machine_of, without_appendix}
+use Rattle.exec_rules.specs.Keeping.{LeavesAll}
+use Rattle.exec_rules.specs.KeepingLaws.{begin_machine}
 use Rattle.exec_base.specs.declared.event.Part.TheVariants.{Appendix}
 
 -- what is told changes the lines alone

@@ -7,9 +7,9 @@ use Rattle.xcm_program.specs.Everywhere.{AllInside}
 use Rattle.xcm_program.specs.Weights.{kept}
 use Rattle.exec_base.specs.declared.event.Event.{Event}
 use Rattle.exec_base.specs.Host.{told}
-use Rattle.exec_run.specs.Machine.{Machine, Rules, Control, control_of}
-use Rattle.exec_run.specs.Run.{Stage, At, Ended, failed, without_handler, without_appendix, handler_dropped}
-use Rattle.exec_run.specs.Accounts.{IsAffordable}
+use Rattle.exec_rules.specs.Machine.{Machine, Rules, Control, control_of}
+use Rattle.exec_rules.specs.Run.{Stage, At, Ended, failed, without_handler, without_appendix, handler_dropped}
+use Rattle.exec_rules.specs.Accounts.{IsAffordable}
 
 -- a refused instruction changes no register but the error and the surplus, and the handler and the appendix with their weights, of which one
 -- is next; and nothing of the chain but what is told

@@ -9,12 +9,12 @@ use Rattle.xcm_program.specs.Everywhere.{AllInside}
 use Rattle.xcm_program.specs.Weights.{kept}
 use Rattle.exec_base.specs.declared.event.Part.{Part}
 use Rattle.exec_base.specs.declared.event.Part.TheVariants.{Appendix}
-use Rattle.exec_run.specs.Machine.{Machine, Rules, Control, control_of, Steers, IsOrderly}
-use Rattle.exec_run.specs.Run.{Stage, At, Ended, begin, to_appendix, to_handler, go_on, failed, without_appendix, handler_dropped, traced, by_answer, next, steps, machine_of, Reaches}
-use Rattle.exec_run.specs.Accounts.{Balances, IsBalanced}
-use Rattle.exec_run.specs.Keeping.{IsKeptByRuns, AllAhead, IsAheadOf, GoesInside}
-use Rattle.exec_run.specs.BalanceLaws.{affordable}
-use Rattle.exec_run.specs.RunLaws.{next_balanced}
+use Rattle.exec_rules.specs.Machine.{Machine, Rules, Control, control_of, Steers, IsOrderly}
+use Rattle.exec_rules.specs.Run.{Stage, At, Ended, begin, to_appendix, to_handler, go_on, failed, without_appendix, handler_dropped, traced, by_answer, next, steps, machine_of, Reaches}
+use Rattle.exec_rules.specs.Accounts.{Balances, IsBalanced}
+use Rattle.exec_rules.specs.Keeping.{IsKeptByRuns, AllAhead, IsAheadOf, GoesInside}
+use Rattle.exec_rules.specs.BalanceLaws.{affordable}
+use Rattle.exec_rules.specs.RunLaws.{next_balanced}
 
 pub begin_machine : (part : Part) (p : List Instruction) (m : Machine) → machine_of (begin part p m) ≡ m
 begin_machine part [] m = refl

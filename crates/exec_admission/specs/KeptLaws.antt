@@ -25,10 +25,10 @@ use Rattle.exec_base.specs.declared.event.Part.TheVariants as parts
 use Rattle.exec_base.specs.declared.registers.Registers.{Registers}
 use Rattle.exec_base.specs.Part.{ChainPart}
 use Rattle.exec_base.specs.Host.{told, settled, trapped}
-use Rattle.exec_run.specs.Machine.{Machine, machine, Performed}
-use Rattle.exec_run.specs.Run.{Stage, At, Ended, begin, to_appendix, to_handler, go_on, failed, without_handler, without_appendix, handler_dropped, traced, by_answer, next, steps, machine_of, left_after, run, still_to_run, Reaches, Halted, StoppedIn}
-use Rattle.exec_run.specs.Outcome.{owner_of, end_event, end_told, abandoned, refund_surplus, refunded_last, finished, HaltedAtEnd}
-use Rattle.exec_run.specs.Keeping.{IsAheadOf}
+use Rattle.exec_rules.specs.Machine.{Machine, machine, Performed}
+use Rattle.exec_rules.specs.Run.{Stage, At, Ended, begin, to_appendix, to_handler, go_on, failed, without_handler, without_appendix, handler_dropped, traced, by_answer, next, steps, machine_of, left_after, run, still_to_run, Reaches, Halted, StoppedIn}
+use Rattle.exec_rules.specs.Outcome.{owner_of, end_event, end_told, abandoned, refund_surplus, refunded_last, finished, HaltedAtEnd}
+use Rattle.exec_rules.specs.Keeping.{IsAheadOf}
 use Rattle.exec_rules.specs.Holdings.{with_holding, refund_now}
 use Rattle.exec_rules.specs.Instructions.{refused, refusal_of, done, xcm}
 use Rattle.exec_rules.specs.Stopping.{Spilled, spills}
@@ -41,7 +41,7 @@ use Rattle.exec_calls.specs.Footprints.{part_is}
 use Rattle.exec_calls.specs.Reasons.{IsFrom, IsFee, Moment, HasReason, ComesAtEnd}
 use Rattle.exec_calls.specs.ReasonLaws.{stays_origin, turns, from_itself, done_keeps, lead_keeps}
 use Rattle.exec_calls.specs.StopLaws.{spilled_lead}
-use Rattle.exec_keeping.specs.Kept.{IsKeptAtEnd, IsKeptByCalls, Ends}
+use Rattle.exec_admission.specs.Kept.{IsKeptAtEnd, IsKeptByCalls, Ends}
 
 -- ---- the end of a run
 refund_layer : out-Instruction refund_surplus ≡ Instruction-F.RefundSurplus

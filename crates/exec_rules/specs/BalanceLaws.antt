@@ -11,8 +11,8 @@ use Rattle.exec_base.specs.declared.registers.Registers.{Registers}
 use Rattle.message_parts.specs.Weights.{IsWithin}
 use Rattle.weight_trader.specs.Purchases.{no_weight}
 use Rattle.weight_trader.specs.Sums.{weight_sum}
-use Rattle.exec_run.specs.Machine.{weight_added, Control, control_of, Steers}
-use Rattle.exec_run.specs.Accounts.{BalancesIn, Balances, ref_time, proof_size, freed, HasWeight, IsAffordable}
+use Rattle.exec_rules.specs.Machine.{weight_added, Control, control_of, Steers}
+use Rattle.exec_rules.specs.Accounts.{BalancesIn, Balances, ref_time, proof_size, freed, HasWeight, IsAffordable}
 use Rattle.xcm_program.specs.Laws.{total_of, total_inside, kept_one-is, weight_one-is, deep_count_one-kept}
 
 abbrev itself : List Instruction → List Instruction

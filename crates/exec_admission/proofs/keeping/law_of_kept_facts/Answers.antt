@@ -1,5 +1,5 @@
-use Rattle.exec_keeping.specs.KeptLaws.{done_kept, spilled_kept, run_kept, executed_by_kept, abandoned_in_kept}
-use Rattle.exec_keeping.proofs.laws.law_of_kept_facts.Goals as goal
+use Rattle.exec_admission.specs.KeptLaws.{done_kept, spilled_kept, run_kept, executed_by_kept, abandoned_in_kept}
+use Rattle.exec_admission.proofs.keeping.law_of_kept_facts.Goals as goal
 
 pub returns-clause-done : goal.returns-clause-done
 returns-clause-done g c = done_kept g.K.KeptByCalls.kind g.K.KeptByCalls.fact g.K.KeptByCalls.kept

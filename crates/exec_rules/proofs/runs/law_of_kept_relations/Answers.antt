@@ -1,5 +1,5 @@
-use Rattle.exec_run.specs.KeepingLaws.{reached_hold, reached_keeps}
-use Rattle.exec_run.proofs.laws.law_of_kept_relations.Goals as goal
+use Rattle.exec_rules.specs.KeepingLaws.{reached_hold, reached_keeps}
+use Rattle.exec_rules.proofs.runs.law_of_kept_relations.Goals as goal
 
 pub returns-clause-ahead : goal.returns-clause-ahead
 returns-clause-ahead g c = λ a b ahead reaches. reached_hold g.K.KeptByRuns.rules g.K.KeptByRuns.orderly g.K.KeptByRuns.kind g.K.KeptByRuns.inside a b reaches ahead

@@ -4,22 +4,22 @@ ghost use Rattle.locations.specs.declared.relative.Location.{Location};
 ghost use Rattle.xcm_program.specs.declared.instruction.Instruction.{Instruction};
 ghost use Rattle.xcm_program.specs.declared.outcome.Outcome.{Outcome};
 ghost use Rattle.exec_base.specs.Part.{ChainPart};
-ghost use Rattle.exec_run.specs.Machine.{Machine};
-ghost use Rattle.exec_run.specs.Run.{Stage, machine_of, steps, Reaches};
-ghost use Rattle.exec_run.specs.Keeping.{IsAheadOf};
+ghost use Rattle.exec_rules.specs.Machine.{Machine};
+ghost use Rattle.exec_rules.specs.Run.{Stage, machine_of, steps, Reaches};
+ghost use Rattle.exec_rules.specs.Keeping.{IsAheadOf};
 ghost use Rattle.exec_rules.specs.Instructions.{refusal_of, xcm};
 ghost use Rattle.exec_rules.specs.Stopping.{spills};
 ghost use Rattle.exec_calls.specs.Calls.{between};
 ghost use Rattle.exec_admission.specs.declared.rules.ChainRules.{ChainRules};
 ghost use Rattle.exec_admission.specs.declared.admission.Admitted.{Admitted};
 ghost use Rattle.exec_admission.specs.Execution.{first_machine, first_stage, executed_by, AbandonedIn};
-ghost use Rattle.exec_keeping.specs.Kept.{Ends};
+ghost use Rattle.exec_admission.specs.Kept.{Ends};
 
 /// A fact that each call keeps, where the instructions are of one kind.
 pub trait KeptByCalls {
     ghost use Rattle.xcm_program.specs.declared.instruction.Instruction.{Instruction};
     ghost use Rattle.exec_calls.specs.Calls.{MachineWithGoods};
-    ghost use Rattle.exec_keeping.specs.Kept.{IsKeptByCalls};
+    ghost use Rattle.exec_admission.specs.Kept.{IsKeptByCalls};
 
     /// Of what kind the instructions are.
     ghost kind: { Instruction → Type 0 };

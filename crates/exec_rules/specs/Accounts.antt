@@ -9,8 +9,8 @@ use Rattle.xcm_program.specs.declared.instruction.Instruction.TheOpen.{Instructi
 use Rattle.xcm_program.specs.Measure.{deep_count}
 use Rattle.xcm_program.specs.Weights.{kept, required, kept_count, weight_in, ref_time_of, proof_size_of, weight_of}
 use Rattle.exec_base.specs.declared.registers.Registers.{Registers}
-use Rattle.exec_run.specs.Machine.{Control, control_of}
-use Rattle.exec_run.specs.Run.{Stage, At, Ended}
+use Rattle.exec_rules.specs.Machine.{Control, control_of}
+use Rattle.exec_rules.specs.Run.{Stage, At, Ended}
 
 -- in one dimension: of the most that may be used, what isn't used yet is in the instructions ahead, the handler, the appendix and the surplus
 pub record BalancesIn (dimension : Weight → ℕ) (most ahead : ℕ) (c : Control) : Type 0 where

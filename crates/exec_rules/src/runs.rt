@@ -4,10 +4,10 @@ ghost use Rattle.message_parts.specs.declared.error.XcmError.{XcmError};
 ghost use Rattle.message_parts.specs.declared.weight.Weight.{Weight};
 ghost use Rattle.xcm_program.specs.declared.instruction.Instruction.{Instruction};
 ghost use Rattle.exec_base.specs.declared.event.Part.{Part};
-ghost use Rattle.exec_run.specs.Machine.{Machine, Rules, IsOrderly};
-ghost use Rattle.exec_run.specs.Run.{Stage, At, next, run, still_to_run, IsUnderWay, IsEnd, machine_of, Reaches};
-ghost use Rattle.exec_run.specs.Accounts.{IsBalanced, IsAffordable, KeepsAccounts};
-ghost use Rattle.exec_run.specs.Keeping.{LeavesAll, IsAheadOf};
+ghost use Rattle.exec_rules.specs.Machine.{Machine, Rules, IsOrderly};
+ghost use Rattle.exec_rules.specs.Run.{Stage, At, next, run, still_to_run, IsUnderWay, IsEnd, machine_of, Reaches};
+ghost use Rattle.exec_rules.specs.Accounts.{IsBalanced, IsAffordable, KeepsAccounts};
+ghost use Rattle.exec_rules.specs.Keeping.{LeavesAll, IsAheadOf};
 
 /// Where instructions steer a run only as they may: each instruction is taken at most once, so every run ends, and a run from a stage
 /// that it reaches is the same run. Wherever it stands, the surplus is at most the weight that was admitted, what was refunded is at most
@@ -27,8 +27,8 @@ pub fn law_of_runs()
 /// A relation between machines that each step of a run keeps, where its instructions, and those that they keep, are of one kind.
 pub trait KeptByRuns {
     ghost use Rattle.xcm_program.specs.declared.instruction.Instruction.{Instruction};
-    ghost use Rattle.exec_run.specs.Machine.{Machine, Rules, IsOrderly};
-    ghost use Rattle.exec_run.specs.Keeping.{GoesInside, IsKeptByRuns};
+    ghost use Rattle.exec_rules.specs.Machine.{Machine, Rules, IsOrderly};
+    ghost use Rattle.exec_rules.specs.Keeping.{GoesInside, IsKeptByRuns};
 
     /// What the instructions do.
     ghost rules: { Rules };
