@@ -8,7 +8,7 @@ use Rattle.std.specs.List.Sorted.{IsStrictlySortedBy}
 use Rattle.std.proofs.lemmas.Bool.{and_parts, and_from}
 use Rattle.std.proofs.lemmas.List.{drop_all, append-nil}
 use Rattle.amounts.specs.Rows.{IsPositive, amount_if, sum_where, sum_where-find, keys_rising}
-use Rattle.amounts.specs.Amounts.{amount, rows, from_rows, rows_sorted, rows_positive, find-rows}
+use Rattle.amounts.specs.Amounts.{amount, empty, amount-empty, rows, from_rows, rows_sorted, rows_positive, find-rows}
 use Rattle.amounts.specs.Laws.{same_key, key_same, amount-from_rows, amount-merge, amount-difference, from_rows-rows, amount-rows}
 use Rattle.asset_lists.specs.declared.units.AssetId.{AssetId}
 use Rattle.asset_lists.specs.declared.units.AssetId.TheVariants.{Abstract}
@@ -19,11 +19,13 @@ use Rattle.asset_lists.specs.Lists.{has_zero}
 use Rattle.asset_lists.specs.Listed.{Listed, listed_of, lists}
 use Rattle.asset_bundles.specs.Bundles.{Bundle, unit_keys, rows_of, bundle_of, IsHolding}
 use Rattle.asset_bundles.specs.Books.{AreListed}
+use Rattle.asset_bundles.specs.BundleLaws.{amount-bundle_of}
 use Rattle.asset_bundles.specs.Changed.{rows_with, with_amounts, is_sorted-rows_with}
 use Rattle.trust_tables.specs.Trust.{listing}
 use Rattle.ledgers.specs.Ledgers.{Held, Accounts, Deposited, is_barred, barred}
 use Rattle.weight_trader.specs.Purchases.{Line, coin_of, paid_goods}
 use Rattle.fee_rows.specs.Fees.{Fee, kept_goods, has_row, is_coin, HaveRows, HaveRowsFor, some_row, some_rows}
+use Rattle.fee_rows.specs.Laws.{rows_are}
 use Rattle.exec_base.specs.Part.{ChainPart}
 use Rattle.exec_base.specs.Host.{all_fees, fees_above, fees_within}
 use Rattle.network_genesis.specs.Tests.{is_rate_listed, are_rates_listed}
@@ -122,6 +124,18 @@ either : (P : Type 0) (m n : ℕ) → (0 < m → P) → (0 < n → P) → 0 < m 
 either P zero n first second some = second (omega (arith, some))
 either P (suc m) n first second some = first (omega arith)
 
+-- where all fees have rows, so has what fits and what would pass the end
+module _ (p : ChainPart) (fees : List Fee) (rowed : HaveRowsFor fees (all_fees p)) where
+  pub fits_rowed : HaveRowsFor fees (fees_within p)
+  fits_rowed u some = (let is = within_at p u in rowed u (omega (arith, is, some)))
+
+  some_of : (m n : ℕ) → (n ≡ 0 → m ≡ 0) → 0 < m → 0 < n
+  some_of m zero none some = (let h = none refl in absurd (omega (arith, h, some)))
+  some_of m (suc n) none some = omega arith
+
+  pub rest_rowed : HaveRowsFor fees (fees_above p)
+  rest_rowed u some = rowed u (some_of (amount (fees_above p) u) (amount (all_fees p) u) (nothing_above p u) some)
+
 module _ (p : ChainPart) (fees : List Fee) (kept : p.fees ≡ kept_goods fees) (have : HaveRows (listing p.rows) fees) (rates : are_rates_listed (listing p.rows) p.lines ≡ true) where
   all_rowed : HaveRowsFor fees (all_fees p)
   all_rowed u some =
@@ -129,14 +143,38 @@ module _ (p : ChainPart) (fees : List Fee) (kept : p.fees ≡ kept_goods fees) (
       (subst (λ n. 0 < n) (all_at p u) some)
 
   pub within_rowed : HaveRowsFor fees (fees_within p)
-  within_rowed u some = (let is = within_at p u in all_rowed u (omega (arith, is, some)))
-
-  some_of : (m n : ℕ) → (n ≡ 0 → m ≡ 0) → 0 < m → 0 < n
-  some_of m zero none some = (let h = none refl in absurd (omega (arith, h, some)))
-  some_of m (suc n) none some = omega arith
+  within_rowed = fits_rowed p fees all_rowed
 
   pub above_rowed : HaveRowsFor fees (fees_above p)
-  above_rowed u some = all_rowed u (some_of (amount (fees_above p) u) (amount (all_fees p) u) (nothing_above p u) some)
+  above_rowed = rest_rowed p fees all_rowed
+
+-- ---- nothing is kept: what was paid is all
+rising_none : (keys : List Unit) → length keys ≤ 1 → IsStrictlySortedBy unit_cmp keys
+unfolding IsStrictlySortedBy
+rising_none [] few = tt
+rising_none (key ∷ []) few = (tt, tt)
+rising_none (key ∷ next ∷ keys) few = absurd (omega (arith, few))
+
+module _ (p : ChainPart) (payments : List Asset) (few : length (keys_of (rows_of payments)) ≤ 1) (paid : bundle_of payments ≡ paid_goods p.lines) (clear : p.fees ≡ empty) where
+  none_kept : (u : Unit) → amount p.fees u ≡ 0
+  none_kept u = ap (λ (b : Bundle). amount b u) clear ∙ amount-empty unit_keys u
+
+  payments_at : (u : Unit) → amount (paid_goods p.lines) u ≡ sum_where (eq_by_cmp unit_cmp u) (rows_of payments)
+  payments_at u = ap (λ (b : Bundle). amount b u) (sym paid) ∙ amount-bundle_of payments u
+
+  payments_rowed : HaveRowsFor (rows_of payments) (all_fees p)
+  payments_rowed u some =
+      let all = all_at p u in
+      let none = none_kept u in
+      let is = payments_at u in
+      found_row (rows_of payments) u (omega (arith, some, all, none, is))
+
+  -- the rows of what fits, and of what would pass the end, are at most the one of what was paid
+  pub payments_within : rows (fees_within p) ≡ some_rows (amount (fees_within p)) (rows_of payments)
+  payments_within = rows_are (fees_within p) (rows_of payments) (rising_none (keys_of (rows_of payments)) few) (fits_rowed p (rows_of payments) payments_rowed)
+
+  pub payments_above : rows (fees_above p) ≡ some_rows (amount (fees_above p)) (rows_of payments)
+  payments_above = rows_are (fees_above p) (rows_of payments) (rising_none (keys_of (rows_of payments)) few) (rest_rowed p (rows_of payments) payments_rowed)
 
 -- what has a row is listed
 pub rowed_listed : (listed : List Listed) (fees : List Fee) (goods : Bundle) → HaveRows listed fees → HaveRowsFor fees goods → AreListed listed goods
@@ -177,6 +215,27 @@ barred_more held who (x ∷ xs) more fits free =
       | true ↦ λ h. absurd (cc)
       | false ↦ λ h. barred_more held who xs more fits h
     ] free
+
+-- one asset was paid in
+module _ (p : ChainPart) (id : AssetId) (n : ℕ) (paid : bundle_of (record { id = id; fun = Fun.Fungible n } ∷ []) ≡ paid_goods p.lines) (clear : p.fees ≡ empty) where
+  pub lone_paid : n ≡ amount (paid_goods p.lines) (id, None)
+  lone_paid =
+      let is = payments_at p (record { id = id; fun = Fun.Fungible n } ∷ []) (omega arith) paid clear (id, None) in
+      sym (is ∙ ap (λ b. amount_if b n + 0) (same_key unit_keys (id, None)) ∙ omega arith)
+
+  pub lone_kept : 0 ≡ amount p.fees (id, None)
+  lone_kept = sym (ap (λ (b : Bundle). amount b (id, None)) clear ∙ amount-empty unit_keys (id, None))
+
+  -- so much of it is the one row of what fits, or of what would pass the end
+  pub lone_within : (fits : ℕ) → fits ≡ amount (fees_within p) (id, None) → rows_of (some_coins id fits) ≡ rows (fees_within p)
+  lone_within fits is =
+      coins_more [] id fits ∙ ap (some_row (id, None)) is ∙ sym (append-nil (some_row (id, None) (amount (fees_within p) (id, None))))
+      ∙ sym (payments_within p (record { id = id; fun = Fun.Fungible n } ∷ []) (omega arith) paid clear)
+
+  pub lone_above : (above : ℕ) → above ≡ amount (fees_above p) (id, None) → some_row (id, None) above ≡ rows (fees_above p)
+  lone_above above is =
+      ap (some_row (id, None)) is ∙ sym (append-nil (some_row (id, None) (amount (fees_above p) (id, None))))
+      ∙ sym (payments_above p (record { id = id; fun = Fun.Fungible n } ∷ []) (omega arith) paid clear)
 
 -- ---- nothing came in of an asset
 pub none_in : (p : ChainPart) (u : Unit) (paid kept : ℕ) → paid ≡ amount (paid_goods p.lines) u → kept ≡ amount p.fees u → paid ≡ 0 → kept ≡ 0 → (0 ≡ amount (fees_within p) u) × (0 ≡ amount (fees_above p) u)

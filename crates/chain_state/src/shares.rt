@@ -1,9 +1,11 @@
 //! What the fee account gets of paid fees, and what would pass 2^128-1 there.
-ghost use Rattle.std.specs.Prelude.{◌≡◌, ◌≤◌, ◌+◌, ◌-◌, ◌^◌, ◌++◌, map, None, IsTrue, IfOk, OnOk};
-ghost use Rattle.amounts.specs.Amounts.{amount, rows};
+ghost use Rattle.std.specs.Prelude.{◌≡◌, ◌++◌, [], ◌∷◌, map, None, IsTrue, IfOk, OnOk};
+ghost use Rattle.amounts.specs.Amounts.{amount, empty, rows};
+ghost use Rattle.asset_lists.specs.declared.units.Fun.TheVariants.{Fungible};
 ghost use Rattle.asset_lists.specs.Listed.{listed_of, lists};
 ghost use Rattle.asset_bundles.specs.declared.book.Cause.{Cause};
-ghost use Rattle.asset_bundles.specs.Bundles.{rows_of, assets_at};
+ghost use Rattle.asset_bundles.specs.Bundles.{bundle_of, rows_of, assets_at};
+ghost use Rattle.asset_bundles.specs.Totals.{total_value};
 ghost use Rattle.trust_tables.specs.Trust.{listing};
 ghost use Rattle.ledgers.specs.Ledgers.{barred};
 ghost use Rattle.weight_trader.specs.Purchases.{paid_goods};
@@ -15,10 +17,9 @@ ghost use Rattle.chain_state.specs.Settling.{wide_value, are_units_listed, asset
 use crate::ChainState;
 use crate::above::Above;
 use crate::wide::{Wide, parted};
-use asset_bundles::Cause;
+use asset_bundles::{Cause, Total};
 use asset_lists::{Asset, AssetId, Fun, Kind};
 use exec_base::Event;
-use fee_rows::FeeRow;
 use std::alloc::AllocError;
 
 /// Adds so much of a fungible asset to the list, if it isn't 0.
@@ -58,17 +59,15 @@ impl ChainState {
         }
     }
 
-    /// What the fee account gets of a row's asset, which it takes in, and what would pass 2^128-1 there. Where nothing came in, what the
-    /// account has isn't looked up.
-    fn share(&self, row: &FeeRow) -> (u128, Wide)
-        requires kept { row.now.1 ≡ amount (part_of self.now).fees row.now.0 }
-        ensures within { result.0 ≡ amount (fees_within (part_of self.now)) row.now.0 }
-        ensures above { wide_value result.1 ≡ amount (fees_above (part_of self.now)) row.now.0 }
-        ensures free { barred (part_of self.now).held (part_of self.now).fee_account (some_coins row.now.0.0 result.0) ≡ None }
+    /// What the fee account gets of an asset in which so much was paid and so much is kept, which it takes in, and what would pass 2^128-1
+    /// there. Where nothing came in, what the account has isn't looked up.
+    fn share(&self, id: &AssetId, paid: u128, kept: Total) -> (u128, Wide)
+        requires paid { paid ≡ amount (paid_goods (part_of self.now).lines) (id.now, None) }
+        requires kept { total_value kept ≡ amount (part_of self.now).fees (id.now, None) }
+        ensures within { result.0 ≡ amount (fees_within (part_of self.now)) (id.now, None) }
+        ensures above { wide_value result.1 ≡ amount (fees_above (part_of self.now)) (id.now, None) }
+        ensures free { barred (part_of self.now).held (part_of self.now).fee_account (some_coins id.now result.0) ≡ None }
     {
-        let id = row.id();
-        let paid = self.paid_in(id);
-        let kept = row.sum();
         if paid == 0 && kept.high == 0 && kept.low == 0 {
             return (0, Wide { high: 0, low: 0 });
         }
@@ -76,8 +75,25 @@ impl ChainState {
         parted(held, paid, kept)
     }
 
-    /// What the fee account gets, and what would pass 2^128-1 there, in holding order.
-    pub(crate) fn shares(&self) -> Result<(Vec<Asset>, Vec<Above>), AllocError>
+    /// As `shares`, where this much of one asset was paid, and no more was paid or kept.
+    fn lone_share(&self, id: &AssetId, paid: u128) -> Result<(Vec<Asset>, Vec<Above>), AllocError>
+        requires paid { bundle_of (record { id = id.now; fun = Fungible paid } ∷ []) ≡ paid_goods (part_of self.now).lines }
+        requires clear { (part_of self.now).fees ≡ empty }
+        ensures within { IfOk result (λ shares. rows_of shares.0.items ≡ rows (fees_within (part_of self.now))) }
+        ensures free { IfOk result (λ shares. barred (part_of self.now).held (part_of self.now).fee_account shares.0.items ≡ None) }
+        ensures above { IfOk result (λ shares. shares.1.items ≡ rows (fees_above (part_of self.now))) }
+    {
+        let alloc = *self.events.allocator();
+        let mut within = Vec::new(alloc);
+        let mut above = Vec::new(alloc);
+        let (fits, rest) = self.share(id, paid, Total { high: 0, low: 0 });
+        push_coins(&mut within, id, fits)?;
+        push_above(&mut above, id, rest)?;
+        Ok((within, above))
+    }
+
+    /// As `shares`, row by row of the fees.
+    fn row_shares(&self) -> Result<(Vec<Asset>, Vec<Above>), AllocError>
         ensures within { IfOk result (λ shares. rows_of shares.0.items ≡ rows (fees_within (part_of self.now))) }
         ensures free { IfOk result (λ shares. barred (part_of self.now).held (part_of self.now).fee_account shares.0.items ≡ None) }
         ensures above { IfOk result (λ shares. shares.1.items ≡ rows (fees_above (part_of self.now))) }
@@ -86,11 +102,38 @@ impl ChainState {
         let mut within = Vec::new(alloc);
         let mut above = Vec::new(alloc);
         for row in self.fees.rows() {
-            let (fits, rest) = self.share(row);
-            push_coins(&mut within, row.id(), fits)?;
-            push_above(&mut above, row.id(), rest)?;
+            let id = row.id();
+            let paid = self.paid_in(id);
+            let kept = row.sum();
+            let (fits, rest) = self.share(id, paid, kept);
+            push_coins(&mut within, id, fits)?;
+            push_above(&mut above, id, rest)?;
         }
         Ok((within, above))
+    }
+
+    /// What the fee account gets, and what would pass 2^128-1 there, in holding order. Where one asset was paid in and nothing is kept, the
+    /// rows of the fees aren't looked at.
+    pub(crate) fn shares(&self) -> Result<(Vec<Asset>, Vec<Above>), AllocError>
+        ensures within { IfOk result (λ shares. rows_of shares.0.items ≡ rows (fees_within (part_of self.now))) }
+        ensures free { IfOk result (λ shares. barred (part_of self.now).held (part_of self.now).fee_account shares.0.items ≡ None) }
+        ensures above { IfOk result (λ shares. shares.1.items ≡ rows (fees_above (part_of self.now))) }
+    {
+        if self.fees.is_clear() {
+            let alloc = *self.events.allocator();
+            let payments = self.trader.payments()?;
+            match payments.as_slice() {
+                [] => return Ok((Vec::new(alloc), Vec::new(alloc))),
+                [
+                    Asset {
+                        id,
+                        fun: Fun::Fungible(paid),
+                    },
+                ] => return self.lone_share(id, *paid),
+                _ => {}
+            }
+        }
+        self.row_shares()
     }
 
     /// The line of so much of a listed asset that is booked as saturated.

@@ -1,5 +1,5 @@
 //! What is kept of the fees in all assets.
-ghost use Rattle.std.specs.Prelude.{◌≡◌, None, IfOk, map};
+ghost use Rattle.std.specs.Prelude.{◌≡◌, None, IsTrue, IfOk, map};
 ghost use Rattle.std.specs.List.Sorted.{IsStrictlySortedBy};
 ghost use Rattle.std.specs.Map.{keys_of};
 ghost use Rattle.amounts.specs.Amounts.{amount, empty};
@@ -91,6 +91,13 @@ impl FeeRows {
         ensures rising { IsStrictlySortedBy unit_cmp (keys_of self.now) }
     {
         self.rows.as_slice()
+    }
+
+    /// Whether it is known, without a look at the rows, that nothing is kept.
+    pub fn is_clear(&self) -> bool
+        ensures { IsTrue result → kept_goods self.now ≡ empty }
+    {
+        self.is_clear
     }
 
     /// What is kept of a fungible asset, in its smallest unit; 0 where it has no row. It takes no time in proportion to the rows where

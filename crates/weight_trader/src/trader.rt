@@ -5,6 +5,7 @@ ghost use Rattle.amounts.specs.Amounts.{amount, single};
 ghost use Rattle.asset_lists.specs.declared.units.AssetId.TheVariants.{Concrete};
 ghost use Rattle.asset_lists.specs.declared.units.Kind.{Kind};
 ghost use Rattle.asset_lists.specs.Listed.{lists};
+ghost use Rattle.asset_bundles.specs.Bundles.{bundle_of};
 ghost use Rattle.weight_trader.specs.Purchases.{new_lines, coin_of, NameEachOnce, AreApart, AreRatesListed, paid_goods, is_covered, some_amount, excess_of, AreWithinEnd, IsTooExpensive, IsCharge, with_saturated, IsPurchase};
 ghost use Rattle.weight_trader.specs.Refunds.{refund_at, is_refunded, refund_of, goods_of, Refunded, Closed};
 ghost use Rattle.weight_trader.specs.Closing.{paid_assets};
@@ -224,6 +225,15 @@ impl Trader {
         let goods = minted(alloc, self.lines.as_slice())?;
         clear_all(self.lines.as_mut_slice());
         Ok(goods)
+    }
+
+    /// What is still paid, an asset for each rate at which something is, in listed order. An `Err` is out of memory.
+    pub fn payments(&self) -> Result<Vec<Asset>, AllocError>
+        ensures assets { IfOk result (λ assets. assets.items ≡ paid_assets self.now) }
+        ensures goods { IfOk result (λ assets. bundle_of assets.items ≡ paid_goods self.now) }
+    {
+        let assets = paid_assets(*self.lines.allocator(), self.lines.as_slice())?;
+        Ok(assets)
     }
 
     /// What is still paid in this asset, in its smallest unit; 0 where no rate names it.

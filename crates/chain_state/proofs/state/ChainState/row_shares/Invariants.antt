@@ -6,7 +6,7 @@ use Rattle.ledgers.specs.Ledgers.{barred}
 use Rattle.fee_rows.specs.Fees.{some_rows}
 use Rattle.exec_base.specs.Host.{fees_within, fees_above}
 use Rattle.chain_state.specs.PartOf.{part_of}
-use Rattle.chain_state.proofs.state.ChainState.shares.Given as goal
+use Rattle.chain_state.proofs.state.ChainState.row_shares.Given as goal
 
 abbrev pub invariant-loop-row : goal.invariant-loop-row
 invariant-loop-row l = record {

@@ -13,14 +13,15 @@ use Rattle.exec_base.specs.Host.{fees_within, fees_above}
 use Rattle.chain_state.specs.PartOf.{part_of}
 use Rattle.chain_state.specs.Settling.{some_coins}
 use Rattle.chain_state.proofs.Settled.{coins_more, barred_more, row_next, rows_end, within_rowed, above_rowed}
-use Rattle.chain_state.proofs.state.ChainState.shares.Goals as goal
+use Rattle.chain_state.proofs.state.ChainState.row_shares.Goals as goal
 
-pub share-fits-requires : goal.share-fits-requires
-share-fits-requires c =
+pub share-fits-requires-clause-kept : goal.share-fits-requires-clause-kept
+share-fits-requires-clause-kept c =
     let same = c.rows-row-items.ensures.rows in
     let fee = c.row-item.result in
     let rising = subst (λ (es : List Fee). IsStrictlySortedBy unit_cmp (keys_of es)) (sym same) c.rows-row-items.ensures.rising in
-    record { kept = row_kept c.rows-row-items.result.now c.loop-row.row-index fee rising c.loop-row-test.true c.row-item.is ∙ ap (λ (es : List Fee). amount (kept_goods es) fee.0) same }
+    c.sum-kept.ensures ∙ row_kept c.rows-row-items.result.now c.loop-row.row-index fee rising c.loop-row-test.true c.row-item.is
+    ∙ (λ j. amount (kept_goods (same j)) (c.id-id.ensures j))
 
 pub loop-row-preserved : goal.loop-row-preserved
 loop-row-preserved c =
@@ -29,15 +30,17 @@ loop-row-preserved c =
     let i = c.loop-row.row-index in
     let fee = c.row-item.result in
     let old = c.loop-row.within.items in
-    let id = c.id.result.now in
+    let id = c.id-id.result.now in
     let n = c.share-fits.result.0 in
-    let grown = ap rows_of c.in_ok-push_coins.ensures ∙ coins_more old id n ∙ (λ j. rows_of old ++ some_row (sym c.id.ensures j) (c.share-fits.ensures.within j)) in
-    let taken_in = subst (λ (u : Unit). barred p.held p.fee_account (some_coins u.0 n) ≡ None) c.id.ensures c.share-fits.ensures.free in
+    let unit : (id, None) ≡ fee.0 = sym c.id-id.ensures in
+    let fits = c.share-fits.ensures.within ∙ ap (amount (fees_within p)) unit in
+    let rest = c.share-fits.ensures.above ∙ ap (amount (fees_above p)) unit in
+    let grown = ap rows_of c.in_ok-push_coins.ensures ∙ coins_more old id n ∙ (λ j. rows_of old ++ some_row (unit j) (fits j)) in
     record {
       within = row_next (amount (fees_within p)) items i fee (rows_of old) _ _ c.loop-row-test.true c.row-item.is grown c.loop-row.invariant.within;
-      free = subst (λ (xs : List Asset). barred p.held p.fee_account xs ≡ None) (sym c.in_ok-push_coins.ensures) (barred_more p.held p.fee_account old (some_coins id n) taken_in c.loop-row.invariant.free);
+      free = subst (λ (xs : List Asset). barred p.held p.fee_account xs ≡ None) (sym c.in_ok-push_coins.ensures) (barred_more p.held p.fee_account old (some_coins id n) c.share-fits.ensures.free c.loop-row.invariant.free);
       above = row_next (amount (fees_above p)) items i fee c.loop-row.above.items _ _ c.loop-row-test.true c.row-item.is
-          (c.in_ok-push_above.ensures ∙ (λ j. c.loop-row.above.items ++ some_row (sym c.id-in-loop-row.ensures j) (c.share-fits.ensures.above j))) c.loop-row.invariant.above;
+          (c.in_ok-push_above.ensures ∙ (λ j. c.loop-row.above.items ++ some_row (unit j) (rest j))) c.loop-row.invariant.above;
     }
 
 pub returns-clause-within : goal.returns-clause-within
