@@ -11,6 +11,6 @@ mod title;
 mod titles;
 
 pub use audited::AuditedNet;
-pub use opening::{open_network, opening_text};
+pub use opening::{open_audited, open_network, opening_text};
 pub use served::Served;
 pub use serving::serve;

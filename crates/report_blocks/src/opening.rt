@@ -28,6 +28,23 @@ pub fn open_network(alloc: Global, bytes: &[u8]) -> Result<Result<Net, NetworkFa
     }
 }
 
+/// As `open_network`, with the plan of the network's supply block.
+pub fn open_audited(
+    alloc: Global,
+    bytes: &[u8],
+) -> Result<Result<AuditedNet, NetworkFault>, AllocError>
+    ensures opened { IfOk result (λ answer. MatchResult answer (IsOpened bytes.now) (IsRefused bytes.now)) }
+{
+    match open_network(alloc, bytes) {
+        Ok(Ok(net)) => match AuditedNet::new(alloc, net) {
+            Ok(audited) => Ok(Ok(audited)),
+            Err(refused) => Err(refused),
+        },
+        Ok(Err(fault)) => Ok(Err(fault)),
+        Err(refused) => Err(refused),
+    }
+}
+
 /// What is written when a network opens: whether it is coherent, and what its assets sum to. `Err` is out of memory alone.
 #[tactic(auto, unfolding(crate::specs::Blocks::opening_text))]
 pub fn opening_text(alloc: Global, net: &AuditedNet) -> Result<String, AllocError>

@@ -11,7 +11,7 @@ use crate::limits::{MAX_INPUT, MAX_LINE, MAX_NETWORK};
 use crate::phase::{Opened, Phase, Session};
 use crate::status::Status;
 use input_lines::{ends_network, line_len, read_line, text_of, without_feed};
-use report_blocks::{AuditedNet, Served, open_network, opening_text, serve};
+use report_blocks::{AuditedNet, Served, open_audited, opening_text, serve};
 use std::alloc::{AllocError, Global};
 use step_text::{line_refused_line, network_refused_line};
 use xcm_io::{Sink, write_whole};
@@ -147,9 +147,8 @@ fn opened<O: Sink>(alloc: Global, part: &[u8], out: &mut O) -> Result<Opened, Al
     ensures later { O.faults out.old ≤ O.faults out.new }
     ensures cause { result ≡ Ok (Opened.Over Status.WriteFault) → Rose (O.faults out.old) (O.faults out.new) }
 {
-    match open_network(alloc, part) {
+    match open_audited(alloc, part) {
         Ok(Ok(net)) => {
-            let net = AuditedNet::new(alloc, net)?;
             let text = opening_text(alloc, &net)?;
             match write_text(out, &text, None) {
                 None => Ok(Opened::Runs(net)),
