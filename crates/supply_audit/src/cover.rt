@@ -42,7 +42,12 @@ impl Model for Cover {
 
     ghost Value = { Covered };
 
-    ghost view = { λ c. record { here = c.here; there = c.there; own = c.own.items; kept = c.kept.items } };
+    ghost view = { λ c. record {
+      here = c.here;
+      there = c.there;
+      own = c.own.items;
+      kept = c.kept.items;
+    } };
 }
 
 /// The place of the first chain of this name.
