@@ -23,18 +23,22 @@ use Rattle.xcm_cli.specs.declared.status.Status.TheVariants.{WriteFault, ReadFau
 
 abbrev pub phase_reply : Bool → Phase → ℕ → ℕ → Bool → List (List ℕ) → Reply
 phase_reply audit (Network part) before taken at_end lines =
-    part_reply audit (has_mark lines || at_end) (part.items ++ network_part lines) (before + lines_through lines) (taken + bytes_through lines) (later_lines lines)
-phase_reply audit (Steps net done) before taken at_end lines = steps_reply audit (spec_of net) (world_of net) done before taken lines
+    part_reply audit (has_mark lines || at_end) (part.items ++ network_part lines)
+    (before + lines_through lines) (taken + bytes_through lines) (later_lines lines)
+phase_reply audit (Steps net done) before taken at_end lines =
+    steps_reply audit (spec_of net) (world_of net) done before taken lines
 
 -- what is written from here on where these lines come, at whose end the input ends or not, and the answer
 unfoldable pub reply_at : Session → Bool → List (List ℕ) → Reply
-reply_at session at_end lines = phase_reply session.audit session.phase session.lines session.taken at_end lines
+reply_at session at_end lines =
+    phase_reply session.audit session.phase session.lines session.taken at_end lines
 
 -- the text was written and this is the answer, or the write failed with a proper front of it written
 pub record Writes (text : List ℕ) (answer : Option Status) (old new : Option (List ℕ)) (result : Option Status) : Type 0 where
   pub part : List ℕ
   pub appends : Appends old new part
-  pub whole : ((result ≡ answer) × (part ≡ text)) ⊎ ((result ≡ Some WriteFault) × IsProperFront part text)
+  pub whole : ((result ≡ answer) × (part ≡ text))
+      ⊎ ((result ≡ Some WriteFault) × IsProperFront part text)
 
 -- A call went from `before` to `after`, which say what is still to come. What it wrote is a front of that. Where it answers
 -- `None` the run goes on, and where it answers a status other than a fault the run is over. A write that failed wrote a proper
@@ -44,7 +48,8 @@ pub record Advances {X E : Type 0} (before after : X → Reply) (due : List ℕ)
   pub appends : Appends old new text
   pub front : (more : X) → IsFront text (before more).text
   pub goes_on : result ≡ Ok None → (more : X) → before more ≡ then_on text (after more)
-  pub ended : (status : Status) → result ≡ Ok (Some status) → status ≢ WriteFault → (more : X) → before more ≡ ends text status
+  pub ended : (status : Status) → result ≡ Ok (Some status) → status ≢ WriteFault → (more : X)
+      → before more ≡ ends text status
   pub short : result ≡ Ok (Some WriteFault) → IsProperFront text due
   pub long : result ≡ Ok (Some TooLong) → text ≡ []
 
@@ -84,9 +89,12 @@ head_of (Err fault) = network_refused_line fault
 pub record Opens {E : Type 0} (part : List ℕ) (old new : Option (List ℕ)) (result : Result Opened E) : Type 0 where
   pub text : List ℕ
   pub appends : Appends old new text
-  pub runs : (net : Net) → result ≡ Ok (Runs net) → Begins part net × (text ≡ opening_text (spec_of net))
+  pub runs : (net : Net) → result ≡ Ok (Runs net)
+      → Begins part net × (text ≡ opening_text (spec_of net))
   pub over : (status : Status) → result ≡ Ok (Over status)
-      → ((status ≡ NetworkRefused) × ((fault : NetworkFault) × ((network_of part ≡ Err fault) × (text ≡ network_refused_line fault))))
+      → ((status ≡ NetworkRefused)
+      × ((fault : NetworkFault)
+      × ((network_of part ≡ Err fault) × (text ≡ network_refused_line fault))))
       ⊎ ((status ≡ WriteFault) × IsProperFront text (head_of (network_of part)))
   pub none : (refused : E) → result ≡ Err refused → text ≡ []
 
@@ -124,7 +132,8 @@ pub record Flows (session now : Session) (bytes rest : List ℕ) (old new : Opti
   pub appends : Appends old new text
   pub cut : (more : List ℕ) → lines_of (bytes ++ more) ≡ took ++ lines_of (rest ++ more)
   pub whole : AllWhole took
-  pub goes : (at_end : Bool) (lines : List (List ℕ)) → reply_at session at_end (took ++ lines) ≡ then_on text (reply_at now at_end lines)
+  pub goes : (at_end : Bool) (lines : List (List ℕ)) → reply_at session at_end (took ++ lines)
+      ≡ then_on text (reply_at now at_end lines)
 
 -- The text ends inside the report of one of the lines, the first whose report isn't written whole. That line is whole, or the last.
 pub record StopsInLine (session : Session) (bytes text : List ℕ) : Type 0 where
@@ -147,8 +156,11 @@ pub record StopsAtLimit (session : Session) (bytes text : List ℕ) : Type 0 whe
 pub record Stops {E : Type 0} (session : Session) (bytes : List ℕ) (old new : Option (List ℕ)) (result : Result (Option Status) E) : Type 0 where
   pub text : List ℕ
   pub appends : Appends old new text
-  pub front : (at_end : Bool) (more : List ℕ) → IsFront text (reply_at session at_end (lines_of (bytes ++ more))).text
-  pub ended : (status : Status) → result ≡ Ok (Some status) → status ≢ WriteFault → (at_end : Bool) (more : List ℕ) → reply_at session at_end (lines_of (bytes ++ more)) ≡ ends text status
+  pub front : (at_end : Bool) (more : List ℕ)
+      → IsFront text (reply_at session at_end (lines_of (bytes ++ more))).text
+  pub ended : (status : Status) → result ≡ Ok (Some status) → status ≢ WriteFault
+      → (at_end : Bool) (more : List ℕ) → reply_at session at_end (lines_of (bytes ++ more))
+      ≡ ends text status
   pub short : result ≡ Ok (Some WriteFault) → StopsInLine session bytes text
   pub long : result ≡ Ok (Some TooLong) → StopsAtLimit session bytes text
 
