@@ -22,7 +22,8 @@ pub record StopsAtEnd (session : Session) (bytes text : List ℕ) : Type 0 where
   pub short : IsProperFront text (reply_at session true (lines_of bytes)).text
 
 -- The run is over at the end of its input, which ends with these bytes.
-pub record Ends {E : Type 0} (session : Session) (bytes : List ℕ) (old new : Option (List ℕ)) (result : Result Status E) : Type 0 where
+pub record Ends {E : Type 0} (session : Session) (bytes : List ℕ) (old new : Option (List ℕ))
+    (result : Result Status E) : Type 0 where
   pub text : List ℕ
   pub appends : Appends old new text
   pub front : IsFront text (reply_at session true (lines_of bytes)).text

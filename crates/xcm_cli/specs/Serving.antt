@@ -40,7 +40,8 @@ pub record StoppedAtLimit (audit : Bool) (taken text : List ℕ) : Type 0 where
 -- the whole of the input's report, and the answer its fate, unless source or sink failed. With ReadFault the whole lines taken pass no limit and none is refused, and the
 -- text is exactly their report. With WriteFault the failure stands in the first line whose report isn't written whole, and little
 -- was taken behind it. With TooLong the text is exactly the report of lines that are within the limits.
-pub record Serves {E : Type 0} (audit : Bool) (left rest old new : Option (List ℕ)) (result : Result Status E) : Type 0 where
+pub record Serves {E : Type 0} (audit : Bool) (left rest old new : Option (List ℕ))
+    (result : Result Status E) : Type 0 where
   pub taken : List ℕ
   pub consumed : Consumes left rest taken
   pub text : List ℕ
@@ -56,7 +57,8 @@ pub record Serves {E : Type 0} (audit : Bool) (left rest old new : Option (List 
 
 -- The same for any words: these bytes were taken, and a front of their report was written, which is one of the whole input's too. With the words of a run the three further
 -- parts hold; with other words nothing is taken.
-pub record ServesWords {E : Type 0} (words : List (String Global)) (left rest old new : Option (List ℕ)) (result : Result Status E) : Type 0 where
+pub record ServesWords {E : Type 0} (words : List (String Global))
+    (left rest old new : Option (List ℕ)) (result : Result Status E) : Type 0 where
   pub taken : List ℕ
   pub consumed : Consumes left rest taken
   pub text : List ℕ
