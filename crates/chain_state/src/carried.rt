@@ -107,7 +107,9 @@ impl ChainState {
         requires taken { IsTrue (is_cargo (part_of self.old) (arrival_by call) list.now) }
         requires shipped { IsFalse (arrives_by_deposit (arrival_by call)) }
         ensures landed { result ≡ bundle_of list.now }
-        ensures ended { part_of self.new ≡ record (part_of self.old) { cargo = record { sender = (part_of self.old).cargo.sender; cargo = Cargo.Nothing } } }
+        ensures ended { part_of self.new ≡ record (part_of self.old) {
+          cargo = record { sender = (part_of self.old).cargo.sender; cargo = Cargo.Nothing };
+        } }
     {
         law_of_landing();
         law_of_reanchored_lists();
@@ -127,7 +129,11 @@ impl ChainState {
 
     /// Ends what the message carries, if a call takes it that has no shipment.
     fn end_deposit(&mut self, ends: bool)
-        ensures { part_of self.new ≡ record (part_of self.old) { cargo = if ends then (record { sender = (part_of self.old).cargo.sender; cargo = Cargo.Nothing }) else (part_of self.old).cargo } }
+        ensures { part_of self.new ≡ record (part_of self.old) {
+          cargo = if ends
+              then (record { sender = (part_of self.old).cargo.sender; cargo = Cargo.Nothing })
+              else (part_of self.old).cargo;
+        } }
     {
         if ends {
             self.cargo = Cargo::Nothing;
@@ -141,7 +147,9 @@ impl ChainState {
         teleport: bool,
     ) -> Result<AssetBundle, AllocError>
         ensures goods { IfOk result (λ goods. goods ≡ bundle_of list.now) }
-        ensures ended { OnOk result (part_of self.new ≡ record (part_of self.old) { cargo = cargo_after (part_of self.old) (arrival_of teleport) list.now }) }
+        ensures ended { OnOk result (part_of self.new ≡ record (part_of self.old) {
+          cargo = cargo_after (part_of self.old) (arrival_of teleport) list.now;
+        }) }
         ensures kept { OnErr result (part_of self.new ≡ part_of self.old) }
     {
         let ends = self.is_cargo(call_of(teleport), list)?;

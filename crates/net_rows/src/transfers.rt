@@ -1,10 +1,13 @@
 //! Assets that are sent from their reserve and back.
 use crate::documents::{COHERENT, RESERVE};
-use crate::stepping::{check, opened};
+use crate::stepping::{check, opened, stepped};
 use asset_lists::Kind;
 use chain_ids::ChainId;
+use chain_state::ChainState;
+use std::alloc::Global;
+use std::process::Abort;
 use std::test::Fail;
-use supply_audit::supply;
+use supply_audit::{Cover, Place, backing, backing_at, supply, supply_at};
 
 /// An account sends 1000 from the relay chain to parachain 2000, where weight is paid of it; and 500 of it come back.
 const THERE_AND_BACK: &[(&str, &str)] = &[
@@ -152,6 +155,40 @@ fn an_asset_is_summed_at_its_home_alone(rt: HostRuntime) -> Result<(), Fail> {
         assert!(rt; found.home.low == wanted);
     }
     Ok(())
+}
+
+/// An account sends 1000 from the relay chain to parachain 2000.
+const SENT: &str = "exec relay A1 04040504000000a10f000100411f08130100009101000d01020400010100B2";
+
+/// While these are on their way: a chain and its number, what stands at its first row, and what the reserve has for the chain, which owes it.
+const ON_THE_WAY: &[(ChainId, usize, u128, u128)] = &[
+    (ChainId::Relay, 0, 1_000_000, 0),
+    (ChainId::Para(2000), 1, 0, 1000),
+    (ChainId::Para(2001), 2, 0, 0),
+];
+
+/// Looks at the first row of each chain, by its place and by its chain.
+fn check_first_rows(rt: &impl Abort, alloc: Global, chains: &[ChainState]) -> Result<(), Fail> {
+    for (chain, number, stands, owed) in ON_THE_WAY {
+        let place = Place {
+            chain: *number,
+            row: 0,
+        };
+        let cover = Cover::of(alloc, chains, *chain, 0)?;
+        let by_place = backing_at(chains, &cover);
+        let by_row = backing(chains, *chain, 0);
+        assert!(rt; supply_at(chains, &[place]).home.low == *stands);
+        assert!(rt; by_place.held.low == *owed && by_place.owed.low == *owed);
+        assert!(rt; by_row.held.low == *owed && by_row.owed.low == *owed);
+    }
+    Ok(())
+}
+
+#[test]
+fn places_have_what_rows_have(rt: HostRuntime) -> Result<(), Fail> {
+    let mut net = opened(rt.alloc(), RESERVE)?;
+    let _lines = stepped(rt.alloc(), &mut net, SENT)?;
+    check_first_rows(&rt, rt.alloc(), net.chains())
 }
 
 /// The same chains; the channel to parachain 2000 holds one message, of version 3, and the one to parachain 2001 short ones alone.

@@ -19,7 +19,9 @@ lines_of_step s = step_text s.trace s.answer
 
 -- those of a drain's deliveries, and how many they were
 abbrev pub drain_lines : List (Link × Stepped) → List ℕ
-drain_lines deliveries = flat_map (λ (d : Link × Stepped). lines_of_step d.1) deliveries ++ drained_line (length deliveries)
+drain_lines deliveries =
+    flat_map (λ (d : Link × Stepped). lines_of_step d.1) deliveries
+    ++ drained_line (length deliveries)
 
 -- the lines below a step's heading, in a world
 unfoldable pub step_lines : NetworkSpec → World → Step → List ℕ
@@ -38,4 +40,6 @@ audit_lines audit w = if audit then supply_block w else []
 
 -- a step: its heading, its lines, and the audit of the next world
 unfoldable pub step_block : Bool → NetworkSpec → World → ℕ → Step → List ℕ
-step_block audit spec w number step = heading number (words_of step) ++ (step_lines spec w step ++ audit_lines audit (after (order_of spec) w step))
+step_block audit spec w number step =
+    heading number (words_of step)
+    ++ (step_lines spec w step ++ audit_lines audit (after (order_of spec) w step))

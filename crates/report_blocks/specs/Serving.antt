@@ -28,11 +28,14 @@ abbrev pub IsServed : Bool → NetworkSpec → World → ℕ → Asked → Serve
 IsServed audit spec w number asked served.Nothing now = (asked ≡ Nothing) × (now ≡ w)
 IsServed audit spec w number asked served.Unknown now = (asked ≡ Unknown) × (now ≡ w)
 IsServed audit spec w number asked (served.Block text) now =
-    (step : Step) × (asked ≡ Asks step) × (string_bytes text ≡ step_block audit spec w number step) × (now ≡ after (order_of spec) w step)
+    (step : Step) × (asked ≡ Asks step) × (string_bytes text ≡ step_block audit spec w number step)
+    × (now ≡ after (order_of spec) w step)
 
 -- the step that was asked for was run, and these are its lines
 abbrev pub IsRun : NetworkSpec → World → Asked → List ℕ → World → Type 0
-IsRun spec w asked text now = (step : Step) × (asked ≡ Asks step) × (text ≡ step_lines spec w step) × (now ≡ after (order_of spec) w step)
+IsRun spec w asked text now =
+    (step : Step) × (asked ≡ Asks step) × (text ≡ step_lines spec w step)
+    × (now ≡ after (order_of spec) w step)
 
 -- a step is asked for
 abbrev pub IsStep : Asked → Type 0

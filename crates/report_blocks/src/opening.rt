@@ -15,7 +15,8 @@ use std::alloc::{AllocError, Global};
 
 /// Opens the network that the bytes describe, or says what is wrong with them. `Err` is out of memory alone.
 pub fn open_network(alloc: Global, bytes: &[u8]) -> Result<Result<Net, NetworkFault>, AllocError>
-    ensures opened { IfOk result (λ answer. MatchResult answer (IsOpened bytes.now) (IsRefused bytes.now)) }
+    ensures opened { IfOk result
+        (λ answer. MatchResult answer (IsOpened bytes.now) (IsRefused bytes.now)) }
 {
     law_of_valid_networks(); // For the prover alone.
     match read_network(alloc, bytes) {

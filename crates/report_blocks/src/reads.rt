@@ -37,7 +37,8 @@ pub(crate) fn traps_block(alloc: Global, net: &Net) -> Result<String, AllocError
 
 /// What waits, channel by channel in the order of the document.
 pub(crate) fn queues_block(alloc: Global, net: &Net) -> Result<String, AllocError>
-    ensures { IfOk result (λ text. string_bytes text ≡ reads.queues_block (order_of (spec_of net.now)) (world_of net.now)) }
+    ensures { IfOk result (λ text. string_bytes text
+        ≡ reads.queues_block (order_of (spec_of net.now)) (world_of net.now)) }
 {
     queues_text(alloc, net.spec().channels.items(), net.chains())
 }

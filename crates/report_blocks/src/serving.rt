@@ -25,7 +25,9 @@ pub fn serve(
     line: &Line,
 ) -> Result<Served, AllocError>
     requires running { is_stopped net.old ≡ false }
-    ensures served { IfOk result (λ served. IsServed audit (spec_of net.old) (world_of net.old) number (asked_of line.now) served (world_of net.new)) }
+    ensures served { IfOk result
+        (λ served. IsServed audit (spec_of net.old) (world_of net.old) number
+        (asked_of line.now) served (world_of net.new)) }
     ensures running { OnOk result (is_stopped net.new ≡ false) }
     ensures spec { spec_of net.new ≡ spec_of net.old }
 {

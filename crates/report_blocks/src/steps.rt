@@ -29,7 +29,9 @@ pub(crate) fn step_lines(
     requires running { is_stopped net.old ≡ false }
     requires step { IsStep (asked_of line.now) }
     requires plan { IsPlanOf plan.now (world_of net.old) }
-    ensures run { IfOk result (λ text. IsRun (spec_of net.old) (world_of net.old) (asked_of line.now) (string_bytes text) (world_of net.new)) }
+    ensures run { IfOk result
+        (λ text. IsRun (spec_of net.old) (world_of net.old) (asked_of line.now) (string_bytes text)
+        (world_of net.new)) }
     ensures running { OnOk result (is_stopped net.new ≡ false) }
     ensures spec { spec_of net.new ≡ spec_of net.old }
 {
@@ -62,8 +64,10 @@ pub(crate) fn step_lines(
 /// Delivers until no message waits, and gives the lines of all deliveries. `Err` is out of memory, or more than 2^64-1 deliveries.
 fn drained(alloc: Global, net: &mut Net) -> Result<String, AllocError>
     requires running { is_stopped net.old ≡ false }
-    ensures lines { IfOk result (λ text. string_bytes text ≡ drain_lines (drain (order_of (spec_of net.old)) (world_of net.old))) }
-    ensures world { OnOk result (world_of net.new ≡ after (order_of (spec_of net.old)) (world_of net.old) steps.Drain) }
+    ensures lines { IfOk result (λ text. string_bytes text
+        ≡ drain_lines (drain (order_of (spec_of net.old)) (world_of net.old))) }
+    ensures world { OnOk result (world_of net.new
+        ≡ after (order_of (spec_of net.old)) (world_of net.old) steps.Drain) }
     ensures running { OnOk result (is_stopped net.new ≡ false) }
     ensures spec { spec_of net.new ≡ spec_of net.old }
 {
@@ -86,7 +90,8 @@ fn drained(alloc: Global, net: &mut Net) -> Result<String, AllocError>
 /// Delivers the oldest message of a channel, and gives the lines of the delivery.
 fn delivered(alloc: Global, net: &mut Net, from: ChainId, to: ChainId) -> Result<String, AllocError>
     requires running { is_stopped net.old ≡ false }
-    ensures lines { IfOk result (λ text. string_bytes text ≡ lines_of_step (deliver (world_of net.old) from to)) }
+    ensures lines { IfOk result (λ text. string_bytes text
+        ≡ lines_of_step (deliver (world_of net.old) from to)) }
     ensures world { OnOk result (world_of net.new ≡ (deliver (world_of net.old) from to).world) }
     ensures running { OnOk result (is_stopped net.new ≡ false) }
     ensures spec { spec_of net.new ≡ spec_of net.old }

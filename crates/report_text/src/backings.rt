@@ -56,7 +56,8 @@ fn entry_of(
     row: &AssetRow,
 ) -> Result<BackingEntry, AllocError>
     requires { IsTrue (has_path (path_of_site site.now) row.now) }
-    ensures { IfOk result (λ entry. entry ≡ planned_backing (map table_of (map part_of chains.now)) site.now place row.now) }
+    ensures { IfOk result (λ entry. entry
+        ≡ planned_backing (map table_of (map part_of chains.now)) site.now place row.now) }
 {
     let beginning = beginning(alloc, site, row)?;
     let cover = Cover::of(alloc, chains, site.chain, place)?;
@@ -73,7 +74,9 @@ fn plan_row(
     row: &AssetRow,
 ) -> Result<(), AllocError>
     requires { IsTrue (has_path (path_of_site site.now) row.now) }
-    ensures { OnOk result (entries.new.items ≡ entries.old.items ++ planned_if (map table_of (map part_of chains.now)) site.now (place, row.now)) }
+    ensures { OnOk result (entries.new.items
+        ≡ entries.old.items ++ planned_if (map table_of (map part_of chains.now)) site.now
+        (place, row.now)) }
 {
     match &row.role {
         AssetRole::Native { .. } => Ok(()),
@@ -94,7 +97,9 @@ fn plan_rows(
     rows: &[AssetRow],
 ) -> Result<(), AllocError>
     requires { IsTrue (have_paths (path_of_site site.now) rows.now) }
-    ensures { OnOk result (entries.new.items ≡ entries.old.items ++ flat_map (planned_if (map table_of (map part_of chains.now)) site.now) (enumerate_from 0 rows.now)) }
+    ensures { OnOk result (entries.new.items
+        ≡ entries.old.items ++ flat_map
+        (planned_if (map table_of (map part_of chains.now)) site.now) (enumerate_from 0 rows.now)) }
 {
     for (place, row) in rows.iter().enumerate() {
         plan_row(alloc, entries, chains, site, place, row)?;
@@ -109,7 +114,9 @@ fn plan_chain(
     chains: &[ChainState],
     chain: &ChainState,
 ) -> Result<(), AllocError>
-    ensures { OnOk result (entries.new.items ≡ entries.old.items ++ planned_backings (map table_of (map part_of chains.now)) (table_of (part_of chain.now))) }
+    ensures { OnOk result (entries.new.items
+        ≡ entries.old.items ++ planned_backings (map table_of (map part_of chains.now))
+        (table_of (part_of chain.now))) }
 {
     plan_rows(alloc, entries, chains, chain.site(), chain.rows())
 }
@@ -120,7 +127,8 @@ pub(crate) fn plan_backings(
     chains: &[ChainState],
 ) -> Result<Vec<BackingEntry>, AllocError>
     ensures { IfOk result (λ entries. entries.items
-        ≡ flat_map (planned_backings (map table_of (map part_of chains.now))) (map table_of (map part_of chains.now))) }
+        ≡ flat_map (planned_backings (map table_of (map part_of chains.now)))
+        (map table_of (map part_of chains.now))) }
 {
     let mut entries = Vec::new(alloc);
     for chain in chains {
@@ -135,7 +143,8 @@ fn push_line(
     chains: &[ChainState],
     entry: &BackingEntry,
 ) -> Result<(), AllocError>
-    ensures { OnOk result (string_bytes text.new ≡ string_bytes text.old ++ planned_backing_text (map part_of chains.now) entry.now) }
+    ensures { OnOk result (string_bytes text.new
+        ≡ string_bytes text.old ++ planned_backing_text (map part_of chains.now) entry.now) }
 {
     let found = backing_at(chains, &entry.cover);
     text.push_str(&entry.beginning)?;
@@ -151,7 +160,9 @@ pub(crate) fn push_backings(
     chains: &[ChainState],
     entries: &[BackingEntry],
 ) -> Result<(), AllocError>
-    ensures { OnOk result (string_bytes text.new ≡ string_bytes text.old ++ flat_map (planned_backing_text (map part_of chains.now)) entries.now) }
+    ensures { OnOk result (string_bytes text.new
+        ≡ string_bytes text.old
+        ++ flat_map (planned_backing_text (map part_of chains.now)) entries.now) }
 {
     for entry in entries {
         push_line(text, chains, entry)?;

@@ -10,7 +10,8 @@ use step_text::{accounts_text, checking_text, locked_text, trapped_text};
 
 /// What the accounts of all chains hold, their checking accounts, and their locks: a line each. An `Err` is out of memory.
 pub fn balances_text(alloc: Global, chains: &[ChainState]) -> Result<String, AllocError>
-    ensures { IfOk result (λ text. string_bytes text ≡ flat_map (λ (c : ChainState). balances_of (part_of c)) chains.now) }
+    ensures { IfOk result (λ text. string_bytes text
+        ≡ flat_map (λ (c : ChainState). balances_of (part_of c)) chains.now) }
 {
     let mut text = String::new(alloc);
     for place in 0..chains.len() {
@@ -21,7 +22,8 @@ pub fn balances_text(alloc: Global, chains: &[ChainState]) -> Result<String, All
 
 /// Appends those of a chain.
 fn push_balances(alloc: Global, text: &mut String, chain: &ChainState) -> Result<(), AllocError>
-    ensures { OnOk result (string_bytes text.new ≡ string_bytes text.old ++ balances_of (part_of chain.now)) }
+    ensures { OnOk result (string_bytes text.new
+        ≡ string_bytes text.old ++ balances_of (part_of chain.now)) }
 {
     let lines = chain_balances(alloc, chain)?;
     text.push_str(&lines)
@@ -42,7 +44,8 @@ fn chain_balances(alloc: Global, chain: &ChainState) -> Result<String, AllocErro
 
 /// What is trapped at all chains: the lines of each trap. An `Err` is out of memory.
 pub fn traps_text(alloc: Global, chains: &[ChainState]) -> Result<String, AllocError>
-    ensures { IfOk result (λ text. string_bytes text ≡ flat_map (λ (c : ChainState). traps_of (part_of c)) chains.now) }
+    ensures { IfOk result (λ text. string_bytes text
+        ≡ flat_map (λ (c : ChainState). traps_of (part_of c)) chains.now) }
 {
     let mut text = String::new(alloc);
     for place in 0..chains.len() {
@@ -53,7 +56,8 @@ pub fn traps_text(alloc: Global, chains: &[ChainState]) -> Result<String, AllocE
 
 /// Appends those of a chain.
 fn push_traps(alloc: Global, text: &mut String, chain: &ChainState) -> Result<(), AllocError>
-    ensures { OnOk result (string_bytes text.new ≡ string_bytes text.old ++ traps_of (part_of chain.now)) }
+    ensures { OnOk result (string_bytes text.new
+        ≡ string_bytes text.old ++ traps_of (part_of chain.now)) }
 {
     let lines = chain_traps(alloc, chain)?;
     text.push_str(&lines)

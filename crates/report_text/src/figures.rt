@@ -35,7 +35,8 @@ fn push_total(text: &mut String, total: Total) -> Result<(), AllocError>
 
 /// Appends the sum of which this is the total, which saturates.
 pub(crate) fn push_sum(text: &mut String, total: Total) -> Result<(), AllocError>
-    ensures { OnOk result ((n : ℕ) → total_value total ≡ min n most_burned → string_bytes text.new ≡ string_bytes text.old ++ sum_text n) }
+    ensures { OnOk result ((n : ℕ) → total_value total ≡ min n most_burned
+        → string_bytes text.new ≡ string_bytes text.old ++ sum_text n) }
 {
     push_total(text, total)
 }

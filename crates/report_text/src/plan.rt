@@ -52,7 +52,8 @@ impl SupplyPlan {
 
     /// The lines of the plan, with the figures of these chains.
     fn text(&self, alloc: Global, chains: &[ChainState]) -> Result<String, AllocError>
-        ensures { IfOk result (λ text. string_bytes text ≡ planned_block (map part_of chains.now) self.now) }
+        ensures { IfOk result (λ text. string_bytes text
+            ≡ planned_block (map part_of chains.now) self.now) }
     {
         let mut text = String::new(alloc);
         push_supplies(&mut text, chains, self.supplies.as_slice())?;

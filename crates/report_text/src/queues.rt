@@ -20,7 +20,9 @@ pub fn queues_text(
     channels: &[ChannelSpec],
     chains: &[ChainState],
 ) -> Result<String, AllocError>
-    ensures { IfOk result (λ text. string_bytes text ≡ flat_map (λ (c : ChannelSpec). link_text (map part_of chains.now) (c.from, c.channel.to)) channels.now) }
+    ensures { IfOk result (λ text. string_bytes text
+        ≡ flat_map (λ (c : ChannelSpec).
+        link_text (map part_of chains.now) (c.from, c.channel.to)) channels.now) }
 {
     let mut text = String::new(alloc);
     for place in 0..channels.len() {
@@ -36,7 +38,9 @@ fn push_queue(
     chains: &[ChainState],
     channel: &ChannelSpec,
 ) -> Result<(), AllocError>
-    ensures { OnOk result (string_bytes text.new ≡ string_bytes text.old ++ link_text (map part_of chains.now) (channel.now.from, channel.now.channel.to)) }
+    ensures { OnOk result (string_bytes text.new
+        ≡ string_bytes text.old
+        ++ link_text (map part_of chains.now) (channel.now.from, channel.now.channel.to)) }
 {
     let lines = link_text(alloc, chains, channel.from, channel.channel.to)?;
     text.push_str(&lines)
@@ -49,7 +53,8 @@ fn link_text(
     from: ChainId,
     to: ChainId,
 ) -> Result<String, AllocError>
-    ensures { IfOk result (λ text. string_bytes text ≡ link_text (map part_of chains.now) (from, to)) }
+    ensures { IfOk result (λ text. string_bytes text
+        ≡ link_text (map part_of chains.now) (from, to)) }
 {
     let Some(chain) = chain_named(chains, from) else {
         return Ok(String::new(alloc));
@@ -62,7 +67,8 @@ fn link_text(
 
 /// The first chain of that name.
 fn chain_named(chains: &[ChainState], name: ChainId) -> Option<&ChainState>
-    ensures { option_copied result ≡ find (λ (c : ChainState). is_part_of name (part_of c)) chains.now }
+    ensures { option_copied result
+        ≡ find (λ (c : ChainState). is_part_of name (part_of c)) chains.now }
 {
     chains.iter().find(|chain| chain.site().chain == name)
 }

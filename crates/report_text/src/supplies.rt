@@ -48,7 +48,10 @@ fn entry_of(
     homes: &HomePlaces,
     asset: &NetworkAsset,
 ) -> Result<SupplyEntry, AllocError>
-    ensures { IfOk result (λ entry. entry ≡ record { beginning = supply_beginning asset.now; places = places_in homes.now.places.entries asset.now }) }
+    ensures { IfOk result (λ entry. entry ≡ record {
+      beginning = supply_beginning asset.now;
+      places = places_in homes.now.places.entries asset.now;
+    }) }
 {
     let beginning = beginning(alloc, asset)?;
     let places = homes.places(alloc, asset)?;
@@ -61,7 +64,8 @@ pub(crate) fn plan_supplies(
     chains: &[ChainState],
     assets: &Natives,
 ) -> Result<Vec<SupplyEntry>, AllocError>
-    ensures { IfOk result (λ entries. entries.items ≡ map (planned_supply (map table_of (map part_of chains.now))) assets.now.keys) }
+    ensures { IfOk result (λ entries. entries.items
+        ≡ map (planned_supply (map table_of (map part_of chains.now))) assets.now.keys) }
 {
     let homes = HomePlaces::of(alloc, chains)?;
     let mut entries = Vec::new(alloc);
@@ -79,7 +83,10 @@ fn push_figures(
     beginning: &str,
     places: &[Place],
 ) -> Result<(), AllocError>
-    ensures { OnOk result (string_bytes text.new ≡ string_bytes text.old ++ planned_supply_text (map part_of chains.now) (record { beginning = beginning.now; places = places.now })) }
+    ensures { OnOk result (string_bytes text.new
+        ≡ string_bytes text.old
+        ++ planned_supply_text (map part_of chains.now)
+        (record { beginning = beginning.now; places = places.now })) }
 {
     let found = supply_at(chains, places);
     text.push_str(beginning)?;
@@ -98,7 +105,8 @@ fn push_line(
     chains: &[ChainState],
     entry: &SupplyEntry,
 ) -> Result<(), AllocError>
-    ensures { OnOk result (string_bytes text.new ≡ string_bytes text.old ++ planned_supply_text (map part_of chains.now) entry.now) }
+    ensures { OnOk result (string_bytes text.new
+        ≡ string_bytes text.old ++ planned_supply_text (map part_of chains.now) entry.now) }
 {
     push_figures(text, chains, &entry.beginning, entry.places.as_slice())
 }
@@ -109,7 +117,9 @@ pub(crate) fn push_supplies(
     chains: &[ChainState],
     entries: &[SupplyEntry],
 ) -> Result<(), AllocError>
-    ensures { OnOk result (string_bytes text.new ≡ string_bytes text.old ++ flat_map (planned_supply_text (map part_of chains.now)) entries.now) }
+    ensures { OnOk result (string_bytes text.new
+        ≡ string_bytes text.old
+        ++ flat_map (planned_supply_text (map part_of chains.now)) entries.now) }
 {
     for entry in entries {
         push_line(text, chains, entry)?;

@@ -11,7 +11,9 @@ use Rattle.coherence.specs.UniversalAssets.{UniversalAsset}
 
 -- by path (number of junctions, then junctions), then fungible assets before classes
 abbrev pub asset_cmp : UniversalAsset → UniversalAsset → Ordering
-asset_cmp = then_cmp (on (λ (a : UniversalAsset). a.0) junctions_cmp) (on (λ (a : UniversalAsset). kind_number a.1) nat_cmp)
+asset_cmp =
+    then_cmp (on (λ (a : UniversalAsset). a.0) junctions_cmp)
+    (on (λ (a : UniversalAsset). kind_number a.1) nat_cmp)
 
 -- the asset of a row of the chain at a site
 abbrev pub listed_at : Site → AssetRow → UniversalAsset

@@ -31,7 +31,8 @@ cover_between here row other (Some there) = Some (record {
 
 abbrev pub cover_by : List Table → ℕ × Table → AssetRow → AssetRole → Option Covered
 cover_by tables here row (Native partners checking) = None
-cover_by tables here row (Derivative reserve) = cover_between here row (number_of tables reserve) (slice_get tables (number_of tables reserve))
+cover_by tables here row (Derivative reserve) =
+    cover_between here row (number_of tables reserve) (slice_get tables (number_of tables reserve))
 
 abbrev pub cover_of_row : List Table → ℕ × Table → Option AssetRow → Option Covered
 cover_of_row tables here None = None
@@ -39,11 +40,13 @@ cover_of_row tables here (Some row) = cover_by tables here row row.role
 
 abbrev pub cover_of_chain : List Table → ℕ → ℕ → Option Table → Option Covered
 cover_of_chain tables row number None = None
-cover_of_chain tables row number (Some here) = cover_of_row tables (number, here) (slice_get here.rows row)
+cover_of_chain tables row number (Some here) =
+    cover_of_row tables (number, here) (slice_get here.rows row)
 
 -- None where the chain, the row or its reserve isn't there, or the row is native
 abbrev pub cover_at : List Table → ChainId → ℕ → Option Covered
-cover_at tables chain row = cover_of_chain tables row (number_of tables chain) (slice_get tables (number_of tables chain))
+cover_at tables chain row =
+    cover_of_chain tables row (number_of tables chain) (slice_get tables (number_of tables chain))
 
 -- what the chain's account at the reserve has
 abbrev pub held_at : List ChainPart → Covered → ℕ
@@ -51,7 +54,9 @@ held_at parts c = over_places (Account (sovereign_account c.there c.here)) parts
 
 -- what the chain has, what is on its way to it as deposits, and what is on its way back as withdrawals
 abbrev pub owed_at : List ChainPart → Covered → ℕ
-owed_at parts c = over_places Placed parts c.own + over_places (Sent Deposits (Some c.here)) parts c.kept + over_places (Sent Withdrawals (Some c.there)) parts c.own
+owed_at parts c =
+    over_places Placed parts c.own + over_places (Sent Deposits (Some c.here)) parts c.kept
+    + over_places (Sent Withdrawals (Some c.there)) parts c.own
 
 -- a figure of a derivative; 0 where there is none
 abbrev pub of_cover : (Covered → ℕ) → Option Covered → ℕ

@@ -45,7 +45,8 @@ table_of p = record { site = p.site; rows = p.rows }
 
 -- the row is of the asset
 abbrev pub is_row_of : ChainPart → UniversalAsset → AssetRow → Bool
-is_row_of p a row = eq_by_cmp junctions_cmp (path_of_row (table_of p) row) a.0 && same_kind row.kind a.1
+is_row_of p a row =
+    eq_by_cmp junctions_cmp (path_of_row (table_of p) row) a.0 && same_kind row.kind a.1
 
 -- what the rows of the asset have together, each under its id and kind
 abbrev pub row_share : ChainPart → UniversalAsset → (AssetId → Kind → ℕ) → AssetRow → ℕ
@@ -60,7 +61,9 @@ abbrev pub placed : ChainPart → AssetId → Kind → ℕ
 placed p id kind = sum_of (id, kind) p.held + trapped id kind p.traps.traps + aside p id kind
 
 abbrev pub burned : Burns → AssetId → Kind → ℕ
-burned burns id kind = amount burns ((id, kind), Cause.BurnAsset) + amount burns ((id, kind), Cause.LostTeleport) + amount burns ((id, kind), Cause.Merged) + amount burns ((id, kind), Cause.Saturated)
+burned burns id kind =
+    amount burns ((id, kind), Cause.BurnAsset) + amount burns ((id, kind), Cause.LostTeleport)
+    + amount burns ((id, kind), Cause.Merged) + amount burns ((id, kind), Cause.Saturated)
 
 -- ---- messages
 
@@ -83,7 +86,8 @@ abbrev pub carried : Carried → AssetId → Kind → Cargo → ℕ
 carried Teleports id kind (Away shipment) = by_way ways.Teleport shipment.way id kind shipment.units
 carried Teleports id kind (Deposit list) = 0
 carried Teleports id kind Nothing = 0
-carried Withdrawals id kind (Away shipment) = by_way ways.Withdrawal shipment.way id kind shipment.units
+carried Withdrawals id kind (Away shipment) =
+    by_way ways.Withdrawal shipment.way id kind shipment.units
 carried Withdrawals id kind (Deposit list) = 0
 carried Withdrawals id kind Nothing = 0
 carried Deposits id kind (Deposit list) = asset_in id kind (bundle_of list)

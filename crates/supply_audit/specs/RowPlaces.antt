@@ -32,11 +32,13 @@ is_listed t a row = eq_by_cmp junctions_cmp (path_of_row t row) a.0 && same_kind
 
 -- the place of a chain's row with its number, where it counts and the row is of the asset
 abbrev pub place_if : Bool → Table → UniversalAsset → ℕ → ℕ × AssetRow → List Place
-place_if counts t a chain row = if counts && is_listed t a row.1 then record { chain = chain; row = row.0 } ∷ [] else []
+place_if counts t a chain row =
+    if counts && is_listed t a row.1 then record { chain = chain; row = row.0 } ∷ [] else []
 
 -- of a chain with its number, where it counts
 abbrev pub chain_places : Bool → UniversalAsset → ℕ × Table → List Place
-chain_places counts a chain = flat_map (place_if counts chain.1 a chain.0) (enumerate_from 0 chain.1.rows)
+chain_places counts a chain =
+    flat_map (place_if counts chain.1 a chain.0) (enumerate_from 0 chain.1.rows)
 
 -- of a chain with its number, where the asset is at home there
 abbrev pub places_at_home : UniversalAsset → ℕ × Table → List Place
@@ -47,7 +49,9 @@ home_places a tables = flat_map (places_at_home a) (enumerate_from 0 tables)
 
 -- the places of an asset by a table of them
 abbrev pub places_in : List (UniversalAsset × Vec Place Global) → UniversalAsset → List Place
-places_in entries a = unwrap_or (option_map (λ (list : Vec Place Global). list.items) (lookup (eq_by_cmp asset_cmp a) entries)) []
+places_in entries a =
+    unwrap_or (option_map (λ (list : Vec Place Global). list.items)
+    (lookup (eq_by_cmp asset_cmp a) entries)) []
 
 -- ---- figures
 

@@ -26,7 +26,12 @@ pub record IsSupply (supply : Supply) (a : UniversalAsset) (parts : List ChainPa
 
 -- what a table says of an asset; there is nothing of one that it doesn't have
 abbrev pub no_supply : Supply
-no_supply = let zero : Total = record { high = 0; low = 0 } in record { home = zero; flight = zero; burned = zero }
+no_supply =
+    let zero : Total = record { high = 0; low = 0 } in record {
+      home = zero;
+      flight = zero;
+      burned = zero;
+    }
 
 abbrev pub supply_in : List (UniversalAsset × Supply) → UniversalAsset → Supply
 supply_in entries a = unwrap_or (lookup (eq_by_cmp asset_cmp a) entries) no_supply
@@ -47,12 +52,16 @@ pub record HasSums (supply : Supply) (has : Figure → ℕ) : Type 0 where
   pub burned : total_value supply.burned ≡ min (has Burned) most_burned
 
 -- the figures of each asset rise by so much
-abbrev pub Raises : List (UniversalAsset × Supply) → List (UniversalAsset × Supply) → (UniversalAsset → Figure → ℕ) → Type 0
-Raises old new more = (a : UniversalAsset) (has : Figure → ℕ) → HasSums (supply_in old a) has → HasSums (supply_in new a) (λ f. has f + more a f)
+abbrev pub Raises : List (UniversalAsset × Supply) → List (UniversalAsset × Supply)
+    → (UniversalAsset → Figure → ℕ) → Type 0
+Raises old new more =
+    (a : UniversalAsset) (has : Figure → ℕ) → HasSums (supply_in old a) has
+    → HasSums (supply_in new a) (λ f. has f + more a f)
 
 -- what a row of a chain counts for, and what rows count for together: nothing, where the asset isn't at home there
 abbrev pub row_part : ChainPart → AssetRow → UniversalAsset → Figure → ℕ
 row_part p row a f = if is_home a (table_of p) then row_share p a (figure f p) row else 0
 
 abbrev pub rows_part : ChainPart → List AssetRow → UniversalAsset → Figure → ℕ
-rows_part p rows a f = if is_home a (table_of p) then sum_by (row_share p a (figure f p)) rows else 0
+rows_part p rows a f =
+    if is_home a (table_of p) then sum_by (row_share p a (figure f p)) rows else 0

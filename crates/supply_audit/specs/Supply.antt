@@ -72,11 +72,14 @@ asset_of d = asset_of_row (table_of d.here) d.row
 
 -- what the chain's account at the reserve has
 abbrev pub held_for : Debt → ℕ
-held_for d = account_at (sovereign_account d.there.site.chain d.here.site.chain) (asset_of d) d.there
+held_for d =
+    account_at (sovereign_account d.there.site.chain d.here.site.chain) (asset_of d) d.there
 
 -- what the chain has, what is on its way to it as deposits, and what is on its way back as withdrawals
 abbrev pub owed_by : Debt → ℕ
-owed_by d = placed_at (asset_of d) d.here + deposits_to d.here.site.chain (asset_of d) d.there + withdrawals_to d.there.site.chain (asset_of d) d.here
+owed_by d =
+    placed_at (asset_of d) d.here + deposits_to d.here.site.chain (asset_of d) d.there
+    + withdrawals_to d.there.site.chain (asset_of d) d.here
 
 -- a figure of a derivative; 0 where there is none
 abbrev pub of_debt : (Debt → ℕ) → Option Debt → ℕ

@@ -32,7 +32,9 @@ fn at_homes(
     id: &Location,
     kind: Kind,
 ) -> Total
-    ensures { total_value result ≡ min (at_homes which (path_of home.now id.now, kind) (map part_of chains.now)) most_burned }
+    ensures { total_value result
+        ≡ min (at_homes which (path_of home.now id.now, kind) (map part_of chains.now))
+        most_burned }
 {
     let mut total = none();
     for chain in chains {
@@ -44,9 +46,12 @@ fn at_homes(
 /// What the chains have of the asset of a path and a kind: at its homes, on its way as teleports that homes sent, and burned at its homes.
 /// What stands at a chain is read from running totals. It takes no memory.
 pub fn supply(chains: &[ChainState], path: &Junctions, kind: Kind) -> Supply
-    ensures home { total_value result.home ≡ min (home (path.now, kind) (map part_of chains.now)) most_burned }
-    ensures flight { total_value result.flight ≡ min (flight (path.now, kind) (map part_of chains.now)) most_burned }
-    ensures burned { total_value result.burned ≡ min (burned (path.now, kind) (map part_of chains.now)) most_burned }
+    ensures home { total_value result.home
+        ≡ min (home (path.now, kind) (map part_of chains.now)) most_burned }
+    ensures flight { total_value result.flight
+        ≡ min (flight (path.now, kind) (map part_of chains.now)) most_burned }
+    ensures burned { total_value result.burned
+        ≡ min (burned (path.now, kind) (map part_of chains.now)) most_burned }
 {
     let root = Junctions::empty();
     let id = Location {
@@ -73,7 +78,8 @@ pub(crate) fn name_of(chain: &ChainState) -> ChainId
 
 /// The first chain of this name.
 fn find_chain(chains: &[ChainState], chain: ChainId) -> Option<&ChainState>
-    ensures { option_copied result ≡ find (λ c. same_chain (part_of c).site.chain chain) chains.now }
+    ensures { option_copied result
+        ≡ find (λ c. same_chain (part_of c).site.chain chain) chains.now }
 {
     chains.iter().find(|c| same_chain(name_of(c), chain))
 }
@@ -87,7 +93,9 @@ fn chain_at(chains: &[ChainState], chain: ChainId) -> Option<&ChainState>
 
 /// A figure of one chain, of the asset in another chain's row.
 fn of_row(which: Figure, at: &ChainState, here: &ChainState, row: &AssetRow) -> Total
-    ensures { total_value result ≡ min (over_rows (part_of at.now) (asset_of_row (table_of (part_of here.now)) row.now) (figure which (part_of at.now))) most_burned }
+    ensures { total_value result
+        ≡ min (over_rows (part_of at.now) (asset_of_row (table_of (part_of here.now)) row.now)
+        (figure which (part_of at.now))) most_burned }
 {
     over_rows(which, at, &here.site().path(), &row.id, row.kind)
 }
@@ -100,7 +108,9 @@ fn sent_of_row(
     here: &ChainState,
     row: &AssetRow,
 ) -> Total
-    ensures { total_value result ≡ min (over_rows (part_of at.now) (asset_of_row (table_of (part_of here.now)) row.now) (sent what (Some to) (part_of at.now).channels)) most_burned }
+    ensures { total_value result
+        ≡ min (over_rows (part_of at.now) (asset_of_row (table_of (part_of here.now)) row.now)
+        (sent what (Some to) (part_of at.now).channels)) most_burned }
 {
     if are_idle(Some(to), at.queues()) {
         return none();
@@ -110,7 +120,12 @@ fn sent_of_row(
 
 /// What the account of a derivative's chain has at the reserve.
 fn held(here: &ChainState, there: &ChainState, row: &AssetRow) -> Total
-    ensures { total_value result ≡ min (held_for (record { here = part_of here.now; there = part_of there.now; row = row.now })) most_burned }
+    ensures { total_value result
+        ≡ min (held_for (record {
+          here = part_of here.now;
+          there = part_of there.now;
+          row = row.now;
+        })) most_burned }
 {
     let who = sovereign_account(name_of(there), name_of(here));
     of_row(Figure::Account(who), there, here, row)
@@ -118,7 +133,12 @@ fn held(here: &ChainState, there: &ChainState, row: &AssetRow) -> Total
 
 /// What a derivative's chain has, with what is on its way to it as deposits and what is on its way back as withdrawals.
 fn owed(here: &ChainState, there: &ChainState, row: &AssetRow) -> Total
-    ensures { total_value result ≡ min (owed_by (record { here = part_of here.now; there = part_of there.now; row = row.now })) most_burned }
+    ensures { total_value result
+        ≡ min (owed_by (record {
+          here = part_of here.now;
+          there = part_of there.now;
+          row = row.now;
+        })) most_burned }
 {
     let placed = of_row(Figure::Placed, here, here, row);
     let coming = sent_of_row(Carried::Deposits, name_of(here), there, here, row);
@@ -128,7 +148,8 @@ fn owed(here: &ChainState, there: &ChainState, row: &AssetRow) -> Total
 
 /// How a derivative is covered.
 fn covering(here: &ChainState, there: &ChainState, row: &AssetRow) -> Backing
-    ensures { CoversBy result (Some (record { here = part_of here.now; there = part_of there.now; row = row.now })) }
+    ensures { CoversBy result
+        (Some (record { here = part_of here.now; there = part_of there.now; row = row.now })) }
 {
     Backing {
         held: held(here, there, row),
@@ -148,7 +169,8 @@ fn nothing() -> Backing
 
 /// How a row is covered, by its role.
 fn row_backing(chains: &[ChainState], here: &ChainState, row: &AssetRow) -> Backing
-    ensures { CoversBy result (debt_by (map part_of chains.now) (part_of here.now) row.now row.now.role) }
+    ensures { CoversBy result
+        (debt_by (map part_of chains.now) (part_of here.now) row.now row.now.role) }
 {
     match &row.role {
         AssetRole::Native { .. } => nothing(),
@@ -161,7 +183,9 @@ fn row_backing(chains: &[ChainState], here: &ChainState, row: &AssetRow) -> Back
 
 /// How the row at this place of a chain's list is covered.
 fn place_backing(chains: &[ChainState], here: &ChainState, row: usize) -> Backing
-    ensures { CoversBy result (debt_of_row (map part_of chains.now) (part_of here.now) (slice_get (part_of here.now).rows row)) }
+    ensures { CoversBy result
+        (debt_of_row (map part_of chains.now) (part_of here.now)
+        (slice_get (part_of here.now).rows row)) }
 {
     match here.rows().get(row) {
         None => nothing(),
@@ -184,8 +208,10 @@ fn chain_backing(chains: &[ChainState], chain: ChainId, row: usize) -> Backing
 /// where the chain, the row or its reserve isn't there, or the row is native. What stands at a chain is read from running totals. It takes
 /// no memory.
 pub fn backing(chains: &[ChainState], chain: ChainId, row: usize) -> Backing
-    ensures held { total_value result.held ≡ min (of_debt held_for (debt_at (map part_of chains.now) chain row)) most_burned }
-    ensures owed { total_value result.owed ≡ min (of_debt owed_by (debt_at (map part_of chains.now) chain row)) most_burned }
+    ensures held { total_value result.held
+        ≡ min (of_debt held_for (debt_at (map part_of chains.now) chain row)) most_burned }
+    ensures owed { total_value result.owed
+        ≡ min (of_debt owed_by (debt_at (map part_of chains.now) chain row)) most_burned }
 {
     chain_backing(chains, chain, row)
 }

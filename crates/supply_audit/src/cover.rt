@@ -42,7 +42,12 @@ impl Model for Cover {
 
     ghost Value = { Covered };
 
-    ghost view = { λ c. record { here = c.here; there = c.there; own = c.own.items; kept = c.kept.items } };
+    ghost view = { λ c. record {
+      here = c.here;
+      there = c.there;
+      own = c.own.items;
+      kept = c.kept.items;
+    } };
 }
 
 /// The place of the first chain of this name.
@@ -61,7 +66,8 @@ fn number_of(chains: &[ChainState], chain: ChainId) -> usize
 
 /// The chain of this number.
 fn listed_chain(chains: &[ChainState], number: usize) -> Option<&ChainState>
-    ensures { option_map (λ c. table_of (part_of c)) (option_copied result) ≡ slice_get (map table_of (map part_of chains.now)) number }
+    ensures { option_map (λ c. table_of (part_of c)) (option_copied result)
+        ≡ slice_get (map table_of (map part_of chains.now)) number }
 {
     chain_of(chains, number)
 }
@@ -79,7 +85,8 @@ fn push_place(
 ) -> Result<(), AllocError>
     requires { context.now ≡ path_of_site (part_of chain.now).site }
     ensures { OnOk result (list.new.items ≡ list.old.items
-        ++ place_if true (table_of (part_of chain.now)) (path_of home.now id.now, kind) place.chain (place.row, row.now)) }
+        ++ place_if true (table_of (part_of chain.now)) (path_of home.now id.now, kind)
+        place.chain (place.row, row.now)) }
 {
     if is_row_of(context, home, id, kind, row) {
         list.push(place)?;
@@ -96,7 +103,9 @@ fn row_places(
     id: &Location,
     kind: Kind,
 ) -> Result<Vec<Place>, AllocError>
-    ensures { IfOk result (λ list. list.items ≡ chain_places true (path_of home.now id.now, kind) (number, table_of (part_of chain.now))) }
+    ensures { IfOk result (λ list. list.items
+        ≡ chain_places true (path_of home.now id.now, kind)
+        (number, table_of (part_of chain.now))) }
 {
     let context = context_of(chain);
     let mut list = Vec::new(alloc);
@@ -120,7 +129,8 @@ impl Cover {
         chain: ChainId,
         row: usize,
     ) -> Result<Option<Cover>, AllocError>
-        ensures { IfOk result (λ cover. cover ≡ cover_at (map table_of (map part_of chains.now)) chain row) }
+        ensures { IfOk result (λ cover. cover
+            ≡ cover_at (map table_of (map part_of chains.now)) chain row) }
     {
         let number = number_of(chains, chain);
         match listed_chain(chains, number) {
@@ -155,7 +165,9 @@ fn owed_over(
     own: &[Place],
     kept: &[Place],
 ) -> Total
-    ensures { total_value result ≡ min (owed_at (map part_of chains.now) (record { here = here; there = there; own = own.now; kept = kept.now })) most_burned }
+    ensures { total_value result
+        ≡ min (owed_at (map part_of chains.now)
+        (record { here = here; there = there; own = own.now; kept = kept.now })) most_burned }
 {
     let to_here = Figure::Sent(Carried::Deposits, Some(here));
     let to_there = Figure::Sent(Carried::Withdrawals, Some(there));
@@ -168,8 +180,10 @@ fn owed_over(
 /// How a derivative is covered, by where it stands: what the chain's account at the reserve has, and what is owed: what the chain has, what
 /// is on its way to it as deposits, and what is on its way back as withdrawals. Both are 0 where there is none. It takes no memory.
 pub fn backing_at(chains: &[ChainState], cover: &Option<Cover>) -> Backing
-    ensures held { total_value result.held ≡ min (of_cover (held_at (map part_of chains.now)) cover.now) most_burned }
-    ensures owed { total_value result.owed ≡ min (of_cover (owed_at (map part_of chains.now)) cover.now) most_burned }
+    ensures held { total_value result.held
+        ≡ min (of_cover (held_at (map part_of chains.now)) cover.now) most_burned }
+    ensures owed { total_value result.owed
+        ≡ min (of_cover (owed_at (map part_of chains.now)) cover.now) most_burned }
 {
     match cover {
         None => Backing {
@@ -192,7 +206,9 @@ fn covering(
     other: usize,
     there: &ChainState,
 ) -> Result<Option<Cover>, AllocError>
-    ensures { IfOk result (λ cover. cover ≡ cover_between (number, table_of (part_of here.now)) row.now other (Some (table_of (part_of there.now)))) }
+    ensures { IfOk result (λ cover. cover
+        ≡ cover_between (number, table_of (part_of here.now)) row.now other
+        (Some (table_of (part_of there.now)))) }
 {
     let home = context_of(here);
     let own = row_places(alloc, number, here, &home, &row.id, row.kind)?;
@@ -213,7 +229,9 @@ fn row_cover(
     here: &ChainState,
     row: &AssetRow,
 ) -> Result<Option<Cover>, AllocError>
-    ensures { IfOk result (λ cover. cover ≡ cover_by (map table_of (map part_of chains.now)) (number, table_of (part_of here.now)) row.now row.now.role) }
+    ensures { IfOk result (λ cover. cover
+        ≡ cover_by (map table_of (map part_of chains.now))
+        (number, table_of (part_of here.now)) row.now row.now.role) }
 {
     match &row.role {
         AssetRole::Native { .. } => Ok(None),
@@ -235,7 +253,9 @@ fn place_cover(
     here: &ChainState,
     row: usize,
 ) -> Result<Option<Cover>, AllocError>
-    ensures { IfOk result (λ cover. cover ≡ cover_of_row (map table_of (map part_of chains.now)) (number, table_of (part_of here.now)) (slice_get (part_of here.now).rows row)) }
+    ensures { IfOk result (λ cover. cover
+        ≡ cover_of_row (map table_of (map part_of chains.now)) (number, table_of (part_of here.now))
+        (slice_get (part_of here.now).rows row)) }
 {
     match here.rows().get(row) {
         None => Ok(None),

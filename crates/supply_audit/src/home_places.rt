@@ -31,7 +31,8 @@ pub struct HomePlaces {
 impl HomePlaces {
     /// Where the rows stand at these chains. An `Err` is out of memory.
     pub fn of(alloc: Global, chains: &[ChainState]) -> Result<HomePlaces, AllocError>
-        ensures { IfOk result (λ table. (a : UniversalAsset) → places_in table.places.entries a ≡ home_places a (map table_of (map part_of chains.now))) }
+        ensures { IfOk result (λ table. (a : UniversalAsset) → places_in table.places.entries a
+            ≡ home_places a (map table_of (map part_of chains.now))) }
     {
         let mut places = BTreeMap::new(alloc);
         for (number, chain) in chains.iter().enumerate() {
@@ -54,7 +55,8 @@ impl HomePlaces {
 /// Takes the places of an asset out.
 fn take_places(alloc: Global, places: &mut Places, asset: &NetworkAsset) -> Vec<Place>
     ensures taken { result.items ≡ places_in places.old.entries asset.now }
-    ensures others { (a : UniversalAsset) → eq_by_cmp asset_cmp asset.now a ≡ false → places_in places.new.entries a ≡ places_in places.old.entries a }
+    ensures others { (a : UniversalAsset) → eq_by_cmp asset_cmp asset.now a ≡ false
+        → places_in places.new.entries a ≡ places_in places.old.entries a }
 {
     match places.remove(asset) {
         Some(list) => list,
@@ -68,7 +70,8 @@ fn write_places(
     asset: NetworkAsset,
     list: Vec<Place>,
 ) -> Result<(), AllocError>
-    ensures { OnOk result ((a : UniversalAsset) → places_in places.new.entries a ≡ (if eq_by_cmp asset_cmp asset a then list.items else places_in places.old.entries a)) }
+    ensures { OnOk result ((a : UniversalAsset) → places_in places.new.entries a
+        ≡ (if eq_by_cmp asset_cmp asset a then list.items else places_in places.old.entries a)) }
 {
     places.insert(asset, list)?;
     Ok(())
@@ -81,7 +84,10 @@ fn add_place(
     asset: NetworkAsset,
     place: Place,
 ) -> Result<(), AllocError>
-    ensures { OnOk result ((a : UniversalAsset) → places_in places.new.entries a ≡ (if eq_by_cmp asset_cmp asset a then places_in places.old.entries asset ++ place ∷ [] else places_in places.old.entries a)) }
+    ensures { OnOk result ((a : UniversalAsset)
+        → places_in places.new.entries a
+        ≡ (if eq_by_cmp asset_cmp asset a then places_in places.old.entries asset ++ place ∷ []
+        else places_in places.old.entries a)) }
 {
     let mut list = take_places(alloc, places, &asset);
     list.push(place)?;
@@ -98,9 +104,12 @@ fn add_row(
     row: &AssetRow,
 ) -> Result<(), AllocError>
     requires path { IsTrue (has_path (path_of_site (part_of chain.now).site) row.now) }
-    requires homes { (a : UniversalAsset) → contains asset_cmp homes.now a ≡ is_home a (table_of (part_of chain.now)) }
+    requires homes { (a : UniversalAsset) → contains asset_cmp homes.now a
+        ≡ is_home a (table_of (part_of chain.now)) }
     ensures { OnOk result ((a : UniversalAsset) → places_in places.new.entries a
-        ≡ places_in places.old.entries a ++ place_if (is_home a (table_of (part_of chain.now))) (table_of (part_of chain.now)) a place.chain (place.row, row.now)) }
+        ≡ places_in places.old.entries a
+        ++ place_if (is_home a (table_of (part_of chain.now))) (table_of (part_of chain.now)) a
+        place.chain (place.row, row.now)) }
 {
     let asset = NetworkAsset::listed_at(chain.site(), row);
     if !homes.contains(&asset) {
@@ -117,9 +126,12 @@ fn add_rows(
     number: usize,
     chain: &ChainState,
 ) -> Result<(), AllocError>
-    requires homes { (a : UniversalAsset) → contains asset_cmp homes.now a ≡ is_home a (table_of (part_of chain.now)) }
+    requires homes { (a : UniversalAsset) → contains asset_cmp homes.now a
+        ≡ is_home a (table_of (part_of chain.now)) }
     ensures { OnOk result ((a : UniversalAsset) → places_in places.new.entries a
-        ≡ places_in places.old.entries a ++ chain_places (is_home a (table_of (part_of chain.now))) a (number, table_of (part_of chain.now))) }
+        ≡ places_in places.old.entries a
+        ++ chain_places (is_home a (table_of (part_of chain.now))) a
+        (number, table_of (part_of chain.now))) }
 {
     let rows = chain.rows();
     for (k, row) in rows.iter().enumerate() {
@@ -140,7 +152,9 @@ fn add_chain(
     chain: &ChainState,
 ) -> Result<(), AllocError>
     ensures { OnOk result ((a : UniversalAsset) → places_in places.new.entries a
-        ≡ places_in places.old.entries a ++ chain_places (is_home a (table_of (part_of chain.now))) a (number, table_of (part_of chain.now))) }
+        ≡ places_in places.old.entries a
+        ++ chain_places (is_home a (table_of (part_of chain.now))) a
+        (number, table_of (part_of chain.now))) }
 {
     let homes = homes_of(alloc, chain)?;
     add_rows(alloc, places, &homes, number, chain)

@@ -81,7 +81,8 @@ fn carried(what: Carried, id: &AssetId, kind: Kind, cargo: &Cargo) -> Total
 
 /// What the messages of a channel carry of an asset.
 fn in_channel(what: Carried, id: &AssetId, kind: Kind, queue: &Queue) -> Total
-    ensures { total_value result ≡ min (in_channel what id.now kind (outgoing_of queue.now)) most_burned }
+    ensures { total_value result
+        ≡ min (in_channel what id.now kind (outgoing_of queue.now)) most_burned }
 {
     let mut total = none();
     for i in 0..queue.waiting.len() {
@@ -140,7 +141,8 @@ fn channel_share(
     kind: Kind,
     queue: &Queue,
 ) -> Total
-    ensures { total_value result ≡ min (channel_share what to id.now kind (outgoing_of queue.now)) most_burned }
+    ensures { total_value result
+        ≡ min (channel_share what to id.now kind (outgoing_of queue.now)) most_burned }
 {
     if is_towards(to, queue) {
         return in_channel(what, id, kind, queue);
@@ -156,7 +158,8 @@ fn in_channels(
     kind: Kind,
     channels: &[Queue],
 ) -> Total
-    ensures { total_value result ≡ min (sent what to (map outgoing_of channels.now) id.now kind) most_burned }
+    ensures { total_value result
+        ≡ min (sent what to (map outgoing_of channels.now) id.now kind) most_burned }
 {
     let mut total = none();
     for queue in channels {
@@ -173,7 +176,8 @@ pub(crate) fn sent(
     kind: Kind,
     queues: &Queues,
 ) -> Total
-    ensures { total_value result ≡ min (sent what to (channels_of queues.now) id.now kind) most_burned }
+    ensures { total_value result
+        ≡ min (sent what to (channels_of queues.now) id.now kind) most_burned }
 {
     in_channels(what, to, id, kind, queues.channels())
 }

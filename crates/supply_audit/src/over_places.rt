@@ -24,14 +24,16 @@ use ledgers::Supply;
 
 /// The chain of this number.
 pub(crate) fn chain_of(chains: &[ChainState], number: usize) -> Option<&ChainState>
-    ensures { option_map part_of (option_copied result) ≡ slice_get (map part_of chains.now) number }
+    ensures { option_map part_of (option_copied result)
+        ≡ slice_get (map part_of chains.now) number }
 {
     chains.get(number)
 }
 
 /// Whether it is known that a chain has nothing of the figure, since no message waits.
 fn is_nothing(which: Figure, chain: &ChainState) -> bool
-    ensures { IsTrue result → (id : AssetId) (kind : Kind) → figure which (part_of chain.now) id kind ≡ 0 }
+    ensures { IsTrue result → (id : AssetId) (kind : Kind)
+        → figure which (part_of chain.now) id kind ≡ 0 }
 {
     match which {
         Figure::Sent(_, to) => are_idle(to, chain.queues()),
@@ -57,7 +59,8 @@ fn row_share(which: Figure, chain: &ChainState, row: usize) -> Total
 
 /// A figure of the row at a place.
 fn place_share(which: Figure, chains: &[ChainState], place: Place) -> Total
-    ensures { total_value result ≡ min (place_share which (map part_of chains.now) place) most_burned }
+    ensures { total_value result
+        ≡ min (place_share which (map part_of chains.now) place) most_burned }
 {
     match chain_of(chains, place.chain) {
         None => none(),
@@ -67,7 +70,8 @@ fn place_share(which: Figure, chains: &[ChainState], place: Place) -> Total
 
 /// A figure of the rows at these places. It saturates at 2^160-1.
 pub(crate) fn over_places(which: Figure, chains: &[ChainState], places: &[Place]) -> Total
-    ensures { total_value result ≡ min (over_places which (map part_of chains.now) places.now) most_burned }
+    ensures { total_value result
+        ≡ min (over_places which (map part_of chains.now) places.now) most_burned }
 {
     let mut total = none();
     for place in places {
@@ -109,9 +113,12 @@ fn summed(chains: &[ChainState], places: &[Place]) -> Supply
 
 /// What stands at these places, what was sent from there as teleports and what was burned there. Each total saturates at 2^160-1.
 pub fn supply_at(chains: &[ChainState], places: &[Place]) -> Supply
-    ensures home { total_value result.home ≡ min (placed_over (map part_of chains.now) places.now) most_burned }
-    ensures flight { total_value result.flight ≡ min (flight_over (map part_of chains.now) places.now) most_burned }
-    ensures burned { total_value result.burned ≡ min (burned_over (map part_of chains.now) places.now) most_burned }
+    ensures home { total_value result.home
+        ≡ min (placed_over (map part_of chains.now) places.now) most_burned }
+    ensures flight { total_value result.flight
+        ≡ min (flight_over (map part_of chains.now) places.now) most_burned }
+    ensures burned { total_value result.burned
+        ≡ min (burned_over (map part_of chains.now) places.now) most_burned }
 {
     summed(chains, places)
 }

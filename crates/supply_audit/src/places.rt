@@ -60,7 +60,8 @@ fn account(ledger: &Ledger, who: &[u8; 32], id: &AssetId, kind: Kind) -> u128
 
 /// A figure of a chain under an id. It saturates at 2^160-1.
 pub(crate) fn figure(figure: Figure, chain: &ChainState, id: &AssetId, kind: Kind) -> Total
-    ensures { total_value result ≡ min (places.figure figure (part_of chain.now) id.now kind) most_burned }
+    ensures { total_value result
+        ≡ min (places.figure figure (part_of chain.now) id.now kind) most_burned }
 {
     match figure {
         Figure::Placed => placed(chain, id, kind),
@@ -85,7 +86,8 @@ pub(crate) fn is_row_of(
     kind: Kind,
     row: &AssetRow,
 ) -> bool
-    ensures { result ≡ (eq_by_cmp junctions_cmp (path_of context.now row.now.id) (path_of home.now id.now) && same_kind row.now.kind kind) }
+    ensures { result ≡ (eq_by_cmp junctions_cmp (path_of context.now row.now.id)
+        (path_of home.now id.now) && same_kind row.now.kind kind) }
 {
     same_kind(row.kind, kind) && same_path(context, &row.id, home, id)
 }
@@ -108,7 +110,9 @@ fn row_share(
     row: &AssetRow,
 ) -> Total
     requires { context.now ≡ path_of_site (part_of chain.now).site }
-    ensures { total_value result ≡ min (row_share (part_of chain.now) (path_of home.now id.now, kind) (places.figure which (part_of chain.now)) row.now) most_burned }
+    ensures { total_value result
+        ≡ min (row_share (part_of chain.now) (path_of home.now id.now, kind)
+        (places.figure which (part_of chain.now)) row.now) most_burned }
 {
     if !is_row_of(context, home, id, kind, row) {
         return none();
@@ -125,7 +129,9 @@ pub(crate) fn over_rows(
     id: &Location,
     kind: Kind,
 ) -> Total
-    ensures { total_value result ≡ min (over_rows (part_of chain.now) (path_of home.now id.now, kind) (places.figure which (part_of chain.now))) most_burned }
+    ensures { total_value result
+        ≡ min (over_rows (part_of chain.now) (path_of home.now id.now, kind)
+        (places.figure which (part_of chain.now))) most_burned }
 {
     let context = context_of(chain);
     let mut total = none();
@@ -154,14 +160,17 @@ fn is_native_row(
     kind: Kind,
     row: &AssetRow,
 ) -> bool
-    ensures { result ≡ (is_native_role row.now.role && (eq_by_cmp junctions_cmp (path_of context.now row.now.id) (path_of home.now id.now) && same_kind row.now.kind kind)) }
+    ensures { result ≡ (is_native_role row.now.role
+        && (eq_by_cmp junctions_cmp (path_of context.now row.now.id) (path_of home.now id.now)
+        && same_kind row.now.kind kind)) }
 {
     is_native(&row.role) && is_row_of(context, home, id, kind, row)
 }
 
 /// Whether the asset is at home at a chain.
 fn is_home(chain: &ChainState, home: &Junctions, id: &Location, kind: Kind) -> bool
-    ensures { result ≡ networks.is_home (path_of home.now id.now, kind) (table_of (part_of chain.now)) }
+    ensures { result ≡ networks.is_home (path_of home.now id.now, kind)
+        (table_of (part_of chain.now)) }
 {
     let context = context_of(chain);
     let rows = chain.rows();
@@ -177,7 +186,9 @@ pub(crate) fn if_home(
     id: &Location,
     kind: Kind,
 ) -> Total
-    ensures { total_value result ≡ min (if_home (λ p. over_rows p (path_of home.now id.now, kind) (places.figure which p)) (path_of home.now id.now, kind) (part_of chain.now)) most_burned }
+    ensures { total_value result
+        ≡ min (if_home (λ p. over_rows p (path_of home.now id.now, kind) (places.figure which p))
+        (path_of home.now id.now, kind) (part_of chain.now)) most_burned }
 {
     if is_home(chain, home, id, kind) {
         return over_rows(which, chain, home, id, kind);

@@ -64,7 +64,8 @@ fn supply_in(sums: &Sums, asset: &NetworkAsset) -> Supply
 
 /// Writes what there is of an asset.
 fn write_supply(sums: &mut Sums, asset: NetworkAsset, supply: Supply) -> Result<(), AllocError>
-    ensures { OnOk result ((a : UniversalAsset) → supply_in sums.new.entries a ≡ (if eq_by_cmp asset_cmp asset a then supply else supply_in sums.old.entries a)) }
+    ensures { OnOk result ((a : UniversalAsset) → supply_in sums.new.entries a
+        ≡ (if eq_by_cmp asset_cmp asset a then supply else supply_in sums.old.entries a)) }
 {
     sums.insert(asset, supply)?;
     Ok(())
@@ -72,7 +73,9 @@ fn write_supply(sums: &mut Sums, asset: NetworkAsset, supply: Supply) -> Result<
 
 /// Adds to what there is of an asset.
 fn raise(sums: &mut Sums, asset: NetworkAsset, more: Supply) -> Result<(), AllocError>
-    ensures { OnOk result ((has : Figure → ℕ) → HasSums more has → Raises sums.old.entries sums.new.entries (λ a f. if eq_by_cmp asset_cmp asset a then has f else 0)) }
+    ensures { OnOk result ((has : Figure → ℕ) → HasSums more has
+        → Raises sums.old.entries sums.new.entries
+        (λ a f. if eq_by_cmp asset_cmp asset a then has f else 0)) }
 {
     let found = supply_in(sums, &asset);
     write_supply(sums, asset, sum(found, more))
@@ -80,7 +83,8 @@ fn raise(sums: &mut Sums, asset: NetworkAsset, more: Supply) -> Result<(), Alloc
 
 /// What a row of a chain lists: what stands there, what was sent as teleports and what was burned.
 pub(crate) fn row_supply(chain: &ChainState, row: &AssetRow) -> Supply
-    ensures { HasSums result (λ f. places.figure f (part_of chain.now) (Concrete row.now.id) row.now.kind) }
+    ensures { HasSums result
+        (λ f. places.figure f (part_of chain.now) (Concrete row.now.id) row.now.kind) }
 {
     let id = AssetId::Concrete(row.id.copy());
     let teleports = Figure::Sent(Carried::Teleports, None);
@@ -100,7 +104,10 @@ pub(crate) type Homes = BTreeSet<NetworkAsset>;
 /// Adds the asset of a row, where the row is native.
 fn add_home(homes: &mut Homes, chain: &ChainState, row: &AssetRow) -> Result<(), AllocError>
     requires { IsTrue (has_path (path_of_site (part_of chain.now).site) row.now) }
-    ensures { OnOk result ((a : UniversalAsset) → contains asset_cmp homes.new a ≡ (is_native_row (table_of (part_of chain.now)) a row.now || contains asset_cmp homes.old a)) }
+    ensures { OnOk result ((a : UniversalAsset)
+        → contains asset_cmp homes.new a
+        ≡ (is_native_row (table_of (part_of chain.now)) a row.now
+        || contains asset_cmp homes.old a)) }
 {
     if is_native(&row.role) {
         homes.insert(NetworkAsset::listed_at(chain.site(), row))?;
@@ -110,7 +117,8 @@ fn add_home(homes: &mut Homes, chain: &ChainState, row: &AssetRow) -> Result<(),
 
 /// The assets of which a row of the chain is native.
 pub(crate) fn homes_of(alloc: Global, chain: &ChainState) -> Result<Homes, AllocError>
-    ensures { IfOk result (λ homes. (a : UniversalAsset) → contains asset_cmp homes a ≡ is_home a (table_of (part_of chain.now))) }
+    ensures { IfOk result (λ homes. (a : UniversalAsset) → contains asset_cmp homes a
+        ≡ is_home a (table_of (part_of chain.now))) }
 {
     let mut homes = BTreeSet::new(alloc);
     let rows = chain.rows();
@@ -128,8 +136,10 @@ fn add_row(
     row: &AssetRow,
 ) -> Result<(), AllocError>
     requires path { IsTrue (has_path (path_of_site (part_of chain.now).site) row.now) }
-    requires homes { (a : UniversalAsset) → contains asset_cmp homes.now a ≡ is_home a (table_of (part_of chain.now)) }
-    ensures { OnOk result (Raises sums.old.entries sums.new.entries (row_part (part_of chain.now) row.now)) }
+    requires homes { (a : UniversalAsset) → contains asset_cmp homes.now a
+        ≡ is_home a (table_of (part_of chain.now)) }
+    ensures { OnOk result (Raises sums.old.entries sums.new.entries
+        (row_part (part_of chain.now) row.now)) }
 {
     let asset = NetworkAsset::listed_at(chain.site(), row);
     if !homes.contains(&asset) {
@@ -140,8 +150,10 @@ fn add_row(
 
 /// Adds the rows of a chain.
 fn add_rows(sums: &mut Sums, homes: &Homes, chain: &ChainState) -> Result<(), AllocError>
-    requires homes { (a : UniversalAsset) → contains asset_cmp homes.now a ≡ is_home a (table_of (part_of chain.now)) }
-    ensures { OnOk result (Raises sums.old.entries sums.new.entries (rows_part (part_of chain.now) (part_of chain.now).rows)) }
+    requires homes { (a : UniversalAsset) → contains asset_cmp homes.now a
+        ≡ is_home a (table_of (part_of chain.now)) }
+    ensures { OnOk result (Raises sums.old.entries sums.new.entries
+        (rows_part (part_of chain.now) (part_of chain.now).rows)) }
 {
     let rows = chain.rows();
     for row in rows {
@@ -152,7 +164,8 @@ fn add_rows(sums: &mut Sums, homes: &Homes, chain: &ChainState) -> Result<(), Al
 
 /// Adds a chain.
 fn add_chain(alloc: Global, sums: &mut Sums, chain: &ChainState) -> Result<(), AllocError>
-    ensures { OnOk result (Raises sums.old.entries sums.new.entries (rows_part (part_of chain.now) (part_of chain.now).rows)) }
+    ensures { OnOk result (Raises sums.old.entries sums.new.entries
+        (rows_part (part_of chain.now) (part_of chain.now).rows)) }
 {
     let homes = homes_of(alloc, chain)?;
     add_rows(sums, &homes, chain)

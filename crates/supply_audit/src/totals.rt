@@ -27,9 +27,12 @@ pub(crate) fn no_supply() -> Supply
 
 /// The sums of both; each saturates at 2^160-1.
 pub(crate) fn sum(one: Supply, other: Supply) -> Supply
-    ensures home { total_value result.home ≡ min (total_value one.home + total_value other.home) most_burned }
-    ensures flight { total_value result.flight ≡ min (total_value one.flight + total_value other.flight) most_burned }
-    ensures burned { total_value result.burned ≡ min (total_value one.burned + total_value other.burned) most_burned }
+    ensures home { total_value result.home
+        ≡ min (total_value one.home + total_value other.home) most_burned }
+    ensures flight { total_value result.flight
+        ≡ min (total_value one.flight + total_value other.flight) most_burned }
+    ensures burned { total_value result.burned
+        ≡ min (total_value one.burned + total_value other.burned) most_burned }
 {
     Supply {
         home: one.home.sum(other.home),

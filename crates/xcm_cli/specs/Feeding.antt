@@ -22,11 +22,14 @@ pub record StopsAtEnd (session : Session) (bytes text : List ℕ) : Type 0 where
   pub short : IsProperFront text (reply_at session true (lines_of bytes)).text
 
 -- The run is over at the end of its input, which ends with these bytes.
-pub record Ends {E : Type 0} (session : Session) (bytes : List ℕ) (old new : Option (List ℕ)) (result : Result Status E) : Type 0 where
+pub record Ends {E : Type 0} (session : Session) (bytes : List ℕ) (old new : Option (List ℕ))
+    (result : Result Status E) : Type 0 where
   pub text : List ℕ
   pub appends : Appends old new text
   pub front : IsFront text (reply_at session true (lines_of bytes)).text
-  pub ended : (status : Status) → result ≡ Ok status → status ≢ WriteFault → reply_at session true (lines_of bytes) ≡ ends text status
-  pub short : result ≡ Ok WriteFault → StopsInLine session bytes text ⊎ StopsAtEnd session bytes text
+  pub ended : (status : Status) → result ≡ Ok status → status ≢ WriteFault
+      → reply_at session true (lines_of bytes) ≡ ends text status
+  pub short : result ≡ Ok WriteFault
+      → StopsInLine session bytes text ⊎ StopsAtEnd session bytes text
   pub long : result ≡ Ok TooLong → StopsAtLimit session bytes text
   pub no_read : result ≢ Ok ReadFault

@@ -24,7 +24,8 @@ pub record IsLawful (spec : NetworkSpec) (steps : List Step) : Type 0 where
   -- an account falls only by its own executions on its chain, by a message of its chain, or as a pool's
   pub authorized : AreAuthorized (order_of spec) (first_world spec) steps
   -- and no pool's product of reserves ever falls
-  pub products : AllByRecursion (NoProductFalls (first_world spec)) (worlds (order_of spec) (first_world spec) steps)
+  pub products : AllByRecursion (NoProductFalls (first_world spec))
+      (worlds (order_of spec) (first_world spec) steps)
   -- each account keeps what is locked there
   pub floors : AllByRecursion AllHoldFloors (worlds (order_of spec) (first_world spec) steps)
   -- each message that waits has one of the seven shapes
@@ -50,4 +51,5 @@ pub record IsSecure (spec : NetworkSpec) (steps : List Step) : Type 0 where
   pub rising : NetworkAccountsRise spec steps
   pub covered : AllCovered (order_of spec) (first_world spec) steps
   -- in every world what the supply block prints of an asset is together what it was at first, and no more is owed than held
-  pub printed : AllByRecursion (IsPrinted (first_world spec)) (worlds (order_of spec) (first_world spec) steps)
+  pub printed : AllByRecursion (IsPrinted (first_world spec))
+      (worlds (order_of spec) (first_world spec) steps)

@@ -53,7 +53,8 @@ max_line = 262144
 
 -- the line is within its limit, and the input up to its end is, with this many bytes taken before it
 abbrev pub fits_limits : ℕ → List ℕ → Bool
-fits_limits taken line = nat_le (length (without_feed line)) max_line && nat_le (taken + length line) max_input
+fits_limits taken line =
+    nat_le (length (without_feed line)) max_line && nat_le (taken + length line) max_input
 
 -- ---- the run
 
@@ -65,15 +66,18 @@ steps_reply audit spec w steps before taken (line ∷ lines) =
     then elim (asked_of (read_line (text_of line))) [
       | Nothing ↦ steps_reply audit spec w steps (before + 1) (taken + length line) lines
       | Asks step ↦ then_on (step_block audit spec w (steps + 1) step)
-          (steps_reply audit spec (after (order_of spec) w step) (steps + 1) (before + 1) (taken + length line) lines)
+          (steps_reply audit spec (after (order_of spec) w step)
+          (steps + 1) (before + 1) (taken + length line) lines)
       | Unknown ↦ ends (line_refused_line (before + 1)) LineRefused
     ]
     else ends [] TooLong
 
 -- the lines after a network, with this many lines and bytes before them
 abbrev pub network_reply : Bool → Result NetworkSpec NetworkFault → ℕ → ℕ → List (List ℕ) → Reply
-network_reply audit (Ok spec) before taken lines = then_on (opening_text spec) (steps_reply audit spec (first_world spec) 0 before taken lines)
-network_reply audit (Err fault) before taken lines = ends (network_refused_line fault) NetworkRefused
+network_reply audit (Ok spec) before taken lines =
+    then_on (opening_text spec) (steps_reply audit spec (first_world spec) 0 before taken lines)
+network_reply audit (Err fault) before taken lines =
+    ends (network_refused_line fault) NetworkRefused
 
 -- a network part, and the lines after it; the part is read once it is closed, by the line `---` or the end of the input
 abbrev pub part_reply : Bool → Bool → List ℕ → ℕ → ℕ → List (List ℕ) → Reply
@@ -85,7 +89,9 @@ part_reply audit closed part before taken lines =
 -- These lines, at whose end the input ends or not, with the audit behind each step or without. Where the input doesn't end, the
 -- text is what is reported of them whatever lines come behind, and Done says that so far no limit is passed and nothing is refused.
 unfoldable pub lines_reply : Bool → Bool → List (List ℕ) → Reply
-lines_reply audit at_end lines = part_reply audit (has_mark lines || at_end) (network_part lines) (lines_through lines) (bytes_through lines) (later_lines lines)
+lines_reply audit at_end lines =
+    part_reply audit (has_mark lines || at_end) (network_part lines) (lines_through lines)
+    (bytes_through lines) (later_lines lines)
 
 -- a whole input
 abbrev pub bytes_reply : Bool → List ℕ → Reply

@@ -40,30 +40,37 @@ pub record StoppedAtLimit (audit : Bool) (taken text : List ℕ) : Type 0 where
 -- the whole of the input's report, and the answer its fate, unless source or sink failed. With ReadFault the whole lines taken pass no limit and none is refused, and the
 -- text is exactly their report. With WriteFault the failure stands in the first line whose report isn't written whole, and little
 -- was taken behind it. With TooLong the text is exactly the report of lines that are within the limits.
-pub record Serves {E : Type 0} (audit : Bool) (left rest old new : Option (List ℕ)) (result : Result Status E) : Type 0 where
+pub record Serves {E : Type 0} (audit : Bool) (left rest old new : Option (List ℕ))
+    (result : Result Status E) : Type 0 where
   pub taken : List ℕ
   pub consumed : Consumes left rest taken
   pub text : List ℕ
   pub appends : Appends old new text
   pub front : IsFront text (bytes_reply audit taken).text
   pub whole : IfSome left (λ bytes. IsFront text (bytes_reply audit bytes).text)
-  pub ended : (status : Status) → result ≡ Ok status → (IsFault status → ⊥) → IfSome left (λ bytes. bytes_reply audit bytes ≡ ends text status)
+  pub ended : (status : Status) → result ≡ Ok status → (IsFault status → ⊥)
+      → IfSome left (λ bytes. bytes_reply audit bytes ≡ ends text status)
   pub read_failed : result ≡ Ok ReadFault → so_far audit taken ≡ ends text Done
-  pub write_failed : result ≡ Ok WriteFault → FailedInLine audit taken text ⊎ FailedAtEnd audit taken text rest
+  pub write_failed : result ≡ Ok WriteFault
+      → FailedInLine audit taken text ⊎ FailedAtEnd audit taken text rest
   pub past_limit : result ≡ Ok TooLong → StoppedAtLimit audit taken text
 
 -- The same for any words: these bytes were taken, and a front of their report was written, which is one of the whole input's too. With the words of a run the three further
 -- parts hold; with other words nothing is taken.
-pub record ServesWords {E : Type 0} (words : List (String Global)) (left rest old new : Option (List ℕ)) (result : Result Status E) : Type 0 where
+pub record ServesWords {E : Type 0} (words : List (String Global))
+    (left rest old new : Option (List ℕ)) (result : Result Status E) : Type 0 where
   pub taken : List ℕ
   pub consumed : Consumes left rest taken
   pub text : List ℕ
   pub appends : Appends old new text
   pub front : IsFront text (report words taken)
   pub whole : IfSome left (λ bytes. IsFront text (report words bytes))
-  pub read_failed : (audit : Bool) → task_of words ≡ Run audit → result ≡ Ok ReadFault → so_far audit taken ≡ ends text Done
-  pub write_failed : (audit : Bool) → task_of words ≡ Run audit → result ≡ Ok WriteFault → FailedInLine audit taken text ⊎ FailedAtEnd audit taken text rest
-  pub past_limit : (audit : Bool) → task_of words ≡ Run audit → result ≡ Ok TooLong → StoppedAtLimit audit taken text
+  pub read_failed : (audit : Bool) → task_of words ≡ Run audit → result ≡ Ok ReadFault
+      → so_far audit taken ≡ ends text Done
+  pub write_failed : (audit : Bool) → task_of words ≡ Run audit → result ≡ Ok WriteFault
+      → FailedInLine audit taken text ⊎ FailedAtEnd audit taken text rest
+  pub past_limit : (audit : Bool) → task_of words ≡ Run audit → result ≡ Ok TooLong
+      → StoppedAtLimit audit taken text
   pub no_read : reads (task_of words) ≡ false → result ≢ Ok ReadFault
   pub no_limit : reads (task_of words) ≡ false → result ≢ Ok TooLong
   pub none_taken : reads (task_of words) ≡ false → taken ≡ []

@@ -23,34 +23,42 @@ use Rattle.xcm_cli.specs.declared.status.Status.TheVariants.{WriteFault, ReadFau
 
 abbrev pub phase_reply : Bool → Phase → ℕ → ℕ → Bool → List (List ℕ) → Reply
 phase_reply audit (Network part) before taken at_end lines =
-    part_reply audit (has_mark lines || at_end) (part.items ++ network_part lines) (before + lines_through lines) (taken + bytes_through lines) (later_lines lines)
-phase_reply audit (Steps net done) before taken at_end lines = steps_reply audit (spec_of net) (world_of net) done before taken lines
+    part_reply audit (has_mark lines || at_end) (part.items ++ network_part lines)
+    (before + lines_through lines) (taken + bytes_through lines) (later_lines lines)
+phase_reply audit (Steps net done) before taken at_end lines =
+    steps_reply audit (spec_of net) (world_of net) done before taken lines
 
 -- what is written from here on where these lines come, at whose end the input ends or not, and the answer
 unfoldable pub reply_at : Session → Bool → List (List ℕ) → Reply
-reply_at session at_end lines = phase_reply session.audit session.phase session.lines session.taken at_end lines
+reply_at session at_end lines =
+    phase_reply session.audit session.phase session.lines session.taken at_end lines
 
 -- the text was written and this is the answer, or the write failed with a proper front of it written
-pub record Writes (text : List ℕ) (answer : Option Status) (old new : Option (List ℕ)) (result : Option Status) : Type 0 where
+pub record Writes (text : List ℕ) (answer : Option Status) (old new : Option (List ℕ))
+    (result : Option Status) : Type 0 where
   pub part : List ℕ
   pub appends : Appends old new part
-  pub whole : ((result ≡ answer) × (part ≡ text)) ⊎ ((result ≡ Some WriteFault) × IsProperFront part text)
+  pub whole : ((result ≡ answer) × (part ≡ text))
+      ⊎ ((result ≡ Some WriteFault) × IsProperFront part text)
 
 -- A call went from `before` to `after`, which say what is still to come. What it wrote is a front of that. Where it answers
 -- `None` the run goes on, and where it answers a status other than a fault the run is over. A write that failed wrote a proper
 -- front of `due`. TooLong is answered before anything is written.
-pub record Advances {X E : Type 0} (before after : X → Reply) (due : List ℕ) (old new : Option (List ℕ)) (result : Result (Option Status) E) : Type 0 where
+pub record Advances {X E : Type 0} (before after : X → Reply) (due : List ℕ)
+    (old new : Option (List ℕ)) (result : Result (Option Status) E) : Type 0 where
   pub text : List ℕ
   pub appends : Appends old new text
   pub front : (more : X) → IsFront text (before more).text
   pub goes_on : result ≡ Ok None → (more : X) → before more ≡ then_on text (after more)
-  pub ended : (status : Status) → result ≡ Ok (Some status) → status ≢ WriteFault → (more : X) → before more ≡ ends text status
+  pub ended : (status : Status) → result ≡ Ok (Some status) → status ≢ WriteFault → (more : X)
+      → before more ≡ ends text status
   pub short : result ≡ Ok (Some WriteFault) → IsProperFront text due
   pub long : result ≡ Ok (Some TooLong) → text ≡ []
 
 -- The count has not fallen, and a call whose answer is a write fault has raised it. It answers neither what the
 -- source nor what the words call for, nor that all is done.
-pub record HasWriteCause {E : Type 0} (old new : ℕ) (result : Result (Option Status) E) : Type 0 where
+pub record HasWriteCause {E : Type 0} (old new : ℕ)
+    (result : Result (Option Status) E) : Type 0 where
   pub later : old ≤ new
   pub failed : result ≡ Ok (Some WriteFault) → Rose old new
   pub no_read : result ≢ Ok (Some ReadFault)
@@ -59,7 +67,8 @@ pub record HasWriteCause {E : Type 0} (old new : ℕ) (result : Result (Option S
 
 -- At the end of the input the run is over. What was written is a front of what was still to come, and all of it unless a write
 -- failed, which wrote a proper front of it.
-pub record Finishes {E : Type 0} (rest : Reply) (old new : Option (List ℕ)) (result : Result Status E) : Type 0 where
+pub record Finishes {E : Type 0} (rest : Reply) (old new : Option (List ℕ))
+    (result : Result Status E) : Type 0 where
   pub text : List ℕ
   pub appends : Appends old new text
   pub front : IsFront text rest.text
@@ -81,12 +90,16 @@ head_of (Err fault) = network_refused_line fault
 
 -- A network part was read, and this text written: the opening of the network that runs from now on, or the line that refuses it, or a
 -- proper front of it where the write failed. Where memory was refused nothing was written.
-pub record Opens {E : Type 0} (part : List ℕ) (old new : Option (List ℕ)) (result : Result Opened E) : Type 0 where
+pub record Opens {E : Type 0} (part : List ℕ) (old new : Option (List ℕ))
+    (result : Result Opened E) : Type 0 where
   pub text : List ℕ
   pub appends : Appends old new text
-  pub runs : (net : Net) → result ≡ Ok (Runs net) → Begins part net × (text ≡ opening_text (spec_of net))
+  pub runs : (net : Net) → result ≡ Ok (Runs net)
+      → Begins part net × (text ≡ opening_text (spec_of net))
   pub over : (status : Status) → result ≡ Ok (Over status)
-      → ((status ≡ NetworkRefused) × ((fault : NetworkFault) × ((network_of part ≡ Err fault) × (text ≡ network_refused_line fault))))
+      → ((status ≡ NetworkRefused)
+      × ((fault : NetworkFault)
+      × ((network_of part ≡ Err fault) × (text ≡ network_refused_line fault))))
       ⊎ ((status ≡ WriteFault) × IsProperFront text (head_of (network_of part)))
   pub none : (refused : E) → result ≡ Err refused → text ≡ []
 
@@ -118,13 +131,15 @@ AllWhole (line ∷ lines) = (ends_with 10 line ≡ true) × AllWhole lines
 
 -- Of these bytes some whole lines were taken and this text was written for them. Whatever comes, the rest of the bytes and what
 -- is then still to come in the session are left.
-pub record Flows (session now : Session) (bytes rest : List ℕ) (old new : Option (List ℕ)) : Type 0 where
+pub record Flows (session now : Session) (bytes rest : List ℕ)
+    (old new : Option (List ℕ)) : Type 0 where
   pub took : List (List ℕ)
   pub text : List ℕ
   pub appends : Appends old new text
   pub cut : (more : List ℕ) → lines_of (bytes ++ more) ≡ took ++ lines_of (rest ++ more)
   pub whole : AllWhole took
-  pub goes : (at_end : Bool) (lines : List (List ℕ)) → reply_at session at_end (took ++ lines) ≡ then_on text (reply_at now at_end lines)
+  pub goes : (at_end : Bool) (lines : List (List ℕ)) → reply_at session at_end (took ++ lines)
+      ≡ then_on text (reply_at now at_end lines)
 
 -- The text ends inside the report of one of the lines, the first whose report isn't written whole. That line is whole, or the last.
 pub record StopsInLine (session : Session) (bytes text : List ℕ) : Type 0 where
@@ -144,15 +159,20 @@ pub record StopsAtLimit (session : Session) (bytes text : List ℕ) : Type 0 whe
   pub reported : reply_at session false before ≡ ends text Done
 
 -- A call on these bytes that ended the run, or gave up.
-pub record Stops {E : Type 0} (session : Session) (bytes : List ℕ) (old new : Option (List ℕ)) (result : Result (Option Status) E) : Type 0 where
+pub record Stops {E : Type 0} (session : Session) (bytes : List ℕ) (old new : Option (List ℕ))
+    (result : Result (Option Status) E) : Type 0 where
   pub text : List ℕ
   pub appends : Appends old new text
-  pub front : (at_end : Bool) (more : List ℕ) → IsFront text (reply_at session at_end (lines_of (bytes ++ more))).text
-  pub ended : (status : Status) → result ≡ Ok (Some status) → status ≢ WriteFault → (at_end : Bool) (more : List ℕ) → reply_at session at_end (lines_of (bytes ++ more)) ≡ ends text status
+  pub front : (at_end : Bool) (more : List ℕ)
+      → IsFront text (reply_at session at_end (lines_of (bytes ++ more))).text
+  pub ended : (status : Status) → result ≡ Ok (Some status) → status ≢ WriteFault
+      → (at_end : Bool) (more : List ℕ) → reply_at session at_end (lines_of (bytes ++ more))
+      ≡ ends text status
   pub short : result ≡ Ok (Some WriteFault) → StopsInLine session bytes text
   pub long : result ≡ Ok (Some TooLong) → StopsAtLimit session bytes text
 
 -- what a call did that takes the whole lines of some bytes
-pub record TakesLines {E : Type 0} (session now : Session) (bytes rest : List ℕ) (old new : Option (List ℕ)) (result : Result (Option Status) E) : Type 0 where
+pub record TakesLines {E : Type 0} (session now : Session) (bytes rest : List ℕ)
+    (old new : Option (List ℕ)) (result : Result (Option Status) E) : Type 0 where
   pub going : result ≡ Ok None → Flows session now bytes rest old new
   pub over : result ≢ Ok None → Stops session bytes old new result

@@ -13,7 +13,8 @@ use Rattle.xcm_cli.specs.Report.{Reply}
 abbrev pub blocks_of : Bool → NetworkSpec → World → ℕ → List Step → List ℕ
 blocks_of audit spec w done [] = []
 blocks_of audit spec w done (step ∷ steps) =
-    step_block audit spec w (done + 1) step ++ blocks_of audit spec (after (order_of spec) w step) (done + 1) steps
+    step_block audit spec w (done + 1) step
+    ++ blocks_of audit spec (after (order_of spec) w step) (done + 1) steps
 
 -- the opening, and the blocks of all steps from the first world on
 abbrev pub told_of : Bool → NetworkSpec → List Step → List ℕ
@@ -23,4 +24,5 @@ told_of audit spec steps = opening_text spec ++ blocks_of audit spec (first_worl
 pub record TellsOf (reply : Reply) (told : List ℕ) : Type 0 where
   pub behind : List ℕ
   pub text : reply.text ≡ told ++ behind
-  pub last : (behind ≡ []) ⊎ ((number : ℕ) × ((reply.status ≡ LineRefused) × (behind ≡ line_refused_line number)))
+  pub last : (behind ≡ []) ⊎ ((number : ℕ)
+      × ((reply.status ≡ LineRefused) × (behind ≡ line_refused_line number)))

@@ -15,7 +15,8 @@ is_run (word ∷ other ∷ words) = false
 abbrev pub is_audit : List (String Global) → Bool
 is_audit [] = false
 is_audit (word ∷ []) = false
-is_audit (word ∷ other ∷ []) = bytes_eq (string_bytes word) (codes "run") && bytes_eq (string_bytes other) (codes "--audit")
+is_audit (word ∷ other ∷ []) =
+    bytes_eq (string_bytes word) (codes "run") && bytes_eq (string_bytes other) (codes "--audit")
 is_audit (word ∷ other ∷ more ∷ words) = false
 
 -- the words are `gen` and two more
@@ -35,7 +36,8 @@ number_of word =
 
 -- at most 100,000 steps, drawn from a number
 abbrev pub generation_of : Option ℕ → Option ℕ → Task
-generation_of (Some number) (Some steps) = if nat_le steps 100000 then Generate number steps else Usage
+generation_of (Some number) (Some steps) =
+    if nat_le steps 100000 then Generate number steps else Usage
 generation_of (Some number) None = Usage
 generation_of None steps = Usage
 
@@ -44,11 +46,15 @@ abbrev pub generation : List (String Global) → Task
 generation [] = Usage
 generation (word ∷ []) = Usage
 generation (word ∷ number ∷ []) = Usage
-generation (word ∷ number ∷ steps ∷ words) = generation_of (number_of (string_bytes number)) (number_of (string_bytes steps))
+generation (word ∷ number ∷ steps ∷ words) =
+    generation_of (number_of (string_bytes number)) (number_of (string_bytes steps))
 
 -- the run of an input, with the audit or without; the run of steps that are drawn; or nothing that the program does
 abbrev pub task_of : List (String Global) → Task
-task_of words = if is_run words then Run false else (if is_audit words then Run true else (if is_generation words then generation words else Usage))
+task_of words =
+    if is_run words then Run false
+    else (if is_audit words then Run true
+    else (if is_generation words then generation words else Usage))
 
 -- the input is read
 abbrev pub reads : Task → Bool

@@ -26,7 +26,8 @@ pub(crate) struct Feeder {
 impl Feeder {
     /// A run at the start of its input.
     pub(crate) fn new(alloc: Global, audit: bool) -> Feeder
-        ensures start { (at_end : Bool) (lines : List (List ℕ)) → reply_at result.session at_end lines ≡ lines_reply audit at_end lines }
+        ensures start { (at_end : Bool) (lines : List (List ℕ))
+            → reply_at result.session at_end lines ≡ lines_reply audit at_end lines }
         ensures fed { IsFed result }
         ensures none { result.pending.items ≡ [] }
         ensures size { result.session.taken + length result.pending.items ≡ 0 }
@@ -46,11 +47,15 @@ impl Feeder {
     ) -> Result<Option<Status>, AllocError>
         requires fed { IsFed self.old }
         requires few { length piece.now ≤ 65536 }
-        ensures run { TakesLines self.old.session self.new.session (self.old.pending.items ++ piece.now) self.new.pending.items (O.written out.old) (O.written out.new) result }
+        ensures run { TakesLines self.old.session self.new.session
+            (self.old.pending.items ++ piece.now) self.new.pending.items (O.written out.old)
+            (O.written out.new) result }
         ensures cause { HasWriteCause (O.faults out.old) (O.faults out.new) result }
         ensures ready { result ≡ Ok None → IsReady self.new.session }
         ensures open { result ≡ Ok None → HasNoFeed self.new.pending.items }
-        ensures size { result ≡ Ok None → self.new.session.taken + length self.new.pending.items ≡ self.old.session.taken + length self.old.pending.items + length piece.now }
+        ensures size { result ≡ Ok None
+            → self.new.session.taken + length self.new.pending.items
+            ≡ self.old.session.taken + length self.old.pending.items + length piece.now }
     {
         self.pending.extend_from_slice(piece)?;
         let mut used = 0;
@@ -74,7 +79,9 @@ impl Feeder {
     pub(crate) fn is_over(&self) -> bool
         requires ready { IsReady self.now.session }
         requires open { HasNoFeed self.now.pending.items }
-        ensures over { IsTrue result → (at_end : Bool) (more : List ℕ) → reply_at self.now.session at_end (lines_of (self.now.pending.items ++ more)) ≡ ends [] Status.TooLong }
+        ensures over { IsTrue result → (at_end : Bool) (more : List ℕ)
+            → reply_at self.now.session at_end (lines_of (self.now.pending.items ++ more))
+            ≡ ends [] Status.TooLong }
         ensures short { result ≡ false → length self.now.pending.items ≤ max_input }
     {
         let pending = self.pending.len();
@@ -95,7 +102,8 @@ impl Feeder {
         out: &mut O,
     ) -> Result<Status, AllocError>
         requires fed { IsFed self.old }
-        ensures run { Ends self.old.session self.old.pending.items (O.written out.old) (O.written out.new) result }
+        ensures run { Ends self.old.session self.old.pending.items (O.written out.old)
+            (O.written out.new) result }
         ensures later { O.faults out.old ≤ O.faults out.new }
         ensures cause { result ≡ Ok Status.WriteFault → Rose (O.faults out.old) (O.faults out.new) }
         ensures usage { result ≢ Ok Status.Usage }

@@ -23,11 +23,15 @@ use paid_messages::{law_of_lowered_accounts, law_of_paid_messages};
 /// What holds of every network holds of each that a document describes, whatever the steps; and so does what holds of coherent networks, where
 /// none of the seven causes is found in it. And the report of an input is told by its steps.
 pub(crate) fn law_of_inputs()
-    ensures lawful { (part : List ℕ) (spec : NetworkSpec) (steps : List Step) → network_of part ≡ Ok spec → IsLawful spec steps }
-    ensures kept { (part : List ℕ) (spec : NetworkSpec) (steps : List Step) → network_of part ≡ Ok spec
+    ensures lawful { (part : List ℕ) (spec : NetworkSpec) (steps : List Step)
+        → network_of part ≡ Ok spec → IsLawful spec steps }
+    ensures kept { (part : List ℕ) (spec : NetworkSpec) (steps : List Step)
+        → network_of part ≡ Ok spec
         → first_cause (entries_of spec) ≡ None → IsSecure spec steps }
-    ensures told { (audit : Bool) (bytes : List ℕ) (spec : NetworkSpec) → network_of (network_bytes bytes) ≡ Ok spec
-        → length (network_bytes bytes) ≤ max_network → TellsOf (bytes_reply audit bytes) (told_of audit spec (steps_of bytes)) }
+    ensures told { (audit : Bool) (bytes : List ℕ) (spec : NetworkSpec)
+        → network_of (network_bytes bytes) ≡ Ok spec
+        → length (network_bytes bytes) ≤ max_network
+        → TellsOf (bytes_reply audit bytes) (told_of audit spec (steps_of bytes)) }
 {
     law_of_read_networks();
     law_of_opened_networks();

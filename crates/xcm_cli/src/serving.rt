@@ -18,7 +18,8 @@ pub(crate) fn serve<I: Source, O: Sink>(
     input: &mut I,
     out: &mut O,
 ) -> Result<Status, AllocError>
-    ensures run { Serves audit (I.left input.old) (I.left input.new) (O.written out.old) (O.written out.new) result }
+    ensures run { Serves audit (I.left input.old) (I.left input.new) (O.written out.old)
+        (O.written out.new) result }
     ensures end { result ≡ Ok Status.Done → IsAtEnd (I.left input.new) }
     ensures read { result ≡ Ok Status.ReadFault → Rose (I.faults input.old) (I.faults input.new) }
     ensures write { result ≡ Ok Status.WriteFault → Rose (O.faults out.old) (O.faults out.new) }

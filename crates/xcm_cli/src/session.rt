@@ -19,7 +19,8 @@ use xcm_io::{Sink, write_whole};
 impl Session {
     /// A run at the start of its input.
     pub(crate) fn new(alloc: Global, audit: bool) -> Session
-        ensures start { (at_end : Bool) (lines : List (List ℕ)) → reply_at result at_end lines ≡ lines_reply audit at_end lines }
+        ensures start { (at_end : Bool) (lines : List (List ℕ))
+            → reply_at result at_end lines ≡ lines_reply audit at_end lines }
         ensures ready { IsReady result }
         ensures taken { result.taken ≡ 0 }
     {
@@ -41,8 +42,11 @@ impl Session {
         requires ready { IsReady self.old }
         requires some { 0 < length line.now }
         requires few { length line.now < 2 ^ 40 }
-        ensures run { Advances (λ (x : Bool × List (List ℕ)). reply_at self.old x.0 (line.now ∷ x.1)) (λ x. reply_at self.new x.0 x.1)
-            (reply_at self.old false (line.now ∷ [])).text (O.written out.old) (O.written out.new) result }
+        ensures run { Advances
+            (λ (x : Bool × List (List ℕ)). reply_at self.old x.0 (line.now ∷ x.1))
+            (λ x. reply_at self.new x.0 x.1)
+            (reply_at self.old false (line.now ∷ [])).text
+            (O.written out.old) (O.written out.new) result }
         ensures cause { HasWriteCause (O.faults out.old) (O.faults out.new) result }
         ensures taken { result ≡ Ok None → self.new.taken ≡ self.old.taken + length line.now }
         ensures ready { result ≡ Ok None → IsReady self.new }
@@ -85,7 +89,8 @@ impl Session {
     ) -> Result<Option<Status>, AllocError>
         requires ready { IsReady self.old }
         requires few { length bytes.now < 2 ^ 40 }
-        ensures run { TakesLines self.old self.new bytes.now (drop used.new bytes.now) (O.written out.old) (O.written out.new) result }
+        ensures run { TakesLines self.old self.new bytes.now (drop used.new bytes.now)
+            (O.written out.old) (O.written out.new) result }
         ensures cause { HasWriteCause (O.faults out.old) (O.faults out.new) result }
         ensures used { used.new ≤ length bytes.now }
         ensures rest { result ≡ Ok None → HasNoFeed (drop used.new bytes.now) }
@@ -113,7 +118,8 @@ impl Session {
     /// Ends the run where the input ends.
     pub(crate) fn finish<O: Sink>(&self, alloc: Global, out: &mut O) -> Result<Status, AllocError>
         requires { IsReady self.now }
-        ensures run { Finishes (reply_at self.now true []) (O.written out.old) (O.written out.new) result }
+        ensures run { Finishes (reply_at self.now true []) (O.written out.old)
+            (O.written out.new) result }
         ensures later { O.faults out.old ≤ O.faults out.new }
         ensures cause { result ≡ Ok Status.WriteFault → Rose (O.faults out.old) (O.faults out.new) }
         ensures usage { result ≢ Ok Status.Usage }
@@ -133,7 +139,8 @@ impl Session {
 fn write_text<O: Sink>(out: &mut O, text: &str, answer: Option<Status>) -> Option<Status>
     ensures text { Writes text.now answer (O.written out.old) (O.written out.new) result }
     ensures later { O.faults out.old ≤ O.faults out.new }
-    ensures cause { (result ≡ answer) ⊎ ((result ≡ Some Status.WriteFault) × Rose (O.faults out.old) (O.faults out.new)) }
+    ensures cause { (result ≡ answer)
+        ⊎ ((result ≡ Some Status.WriteFault) × Rose (O.faults out.old) (O.faults out.new)) }
 {
     match write_whole(out, text.as_bytes()) {
         Ok(()) => answer,
@@ -145,7 +152,8 @@ fn write_text<O: Sink>(out: &mut O, text: &str, answer: Option<Status>) -> Optio
 fn opened<O: Sink>(alloc: Global, part: &[u8], out: &mut O) -> Result<Opened, AllocError>
     ensures opened { Opens part.now (O.written out.old) (O.written out.new) result }
     ensures later { O.faults out.old ≤ O.faults out.new }
-    ensures cause { result ≡ Ok (Opened.Over Status.WriteFault) → Rose (O.faults out.old) (O.faults out.new) }
+    ensures cause { result ≡ Ok (Opened.Over Status.WriteFault)
+        → Rose (O.faults out.old) (O.faults out.new) }
 {
     match open_audited(alloc, part) {
         Ok(Ok(net)) => {
@@ -189,9 +197,14 @@ fn take_step<O: Sink>(
     requires bytes { taken + length line.now < 2 ^ 64 }
     requires steps { done.old ≤ before }
     requires running { is_stopped net.old ≡ false }
-    ensures run { Advances (λ lines. steps_reply audit (spec_of net.old) (world_of net.old) done.old before taken (line.now ∷ lines))
-        (steps_reply audit (spec_of net.new) (world_of net.new) done.new (before + 1) (taken + length line.now))
-        (steps_reply audit (spec_of net.old) (world_of net.old) done.old before taken (line.now ∷ [])).text (O.written out.old) (O.written out.new) result }
+    ensures run { Advances
+        (λ lines. steps_reply audit (spec_of net.old) (world_of net.old) done.old before taken
+        (line.now ∷ lines))
+        (steps_reply audit (spec_of net.new) (world_of net.new) done.new (before + 1)
+        (taken + length line.now))
+        (steps_reply audit (spec_of net.old) (world_of net.old) done.old before taken
+        (line.now ∷ [])).text
+        (O.written out.old) (O.written out.new) result }
     ensures cause { HasWriteCause (O.faults out.old) (O.faults out.new) result }
     ensures steps { done.new ≤ before + 1 }
     ensures within { result ≡ Ok None → taken + length line.now ≤ max_input }

@@ -39,41 +39,50 @@ pub fn run<I: Source, O: Sink>(
 ) -> Result<Status, AllocError>
     // The answer is the fate of the words and the input, and what is written is their report, unless source or sink failed.
     ensures answer { IfOk result (λ status. ¬ IsFault status → IfSome (I.left input.old) (λ bytes.
-        (status ≡ fate words.now bytes) × Appends (O.written out.old) (O.written out.new) (report words.now bytes))) }
+        (status ≡ fate words.now bytes)
+        × Appends (O.written out.old) (O.written out.new) (report words.now bytes))) }
 
     // With other words than those of a run that is so whatever the source tells.
     ensures unread { reads (task_of words.now) ≡ false → IfOk result (λ status. ¬ IsFault status
-        → (status ≡ fate words.now []) × Appends (O.written out.old) (O.written out.new) (report words.now [])) }
+        → (status ≡ fate words.now [])
+        × Appends (O.written out.old) (O.written out.new) (report words.now [])) }
 
     // Whatever happens, a front of the report of what was taken is written, which is one of the whole input's; and which front, after a fault or
     // past a limit.
-    ensures front { ServesWords words.now (I.left input.old) (I.left input.new) (O.written out.old) (O.written out.new) result }
+    ensures front { ServesWords words.now (I.left input.old) (I.left input.new) (O.written out.old)
+        (O.written out.new) result }
 
     // Where the input is read, Done leaves the source at its end.
-    ensures end { reads (task_of words.now) ≡ true → result ≡ Ok Status.Done → IsAtEnd (I.left input.new) }
+    ensures end { reads (task_of words.now) ≡ true → result ≡ Ok Status.Done
+        → IsAtEnd (I.left input.new) }
 
     // A fault is answered only where the source, the sink failed in this call.
     ensures read { result ≡ Ok Status.ReadFault → Rose (I.faults input.old) (I.faults input.new) }
     ensures write { result ≡ Ok Status.WriteFault → Rose (O.faults out.old) (O.faults out.new) }
 
     // Other words are answered by their usage, whatever the source tells, and only they.
-    ensures usage { task_of words.now ≡ Usage → IfOk result (λ status. (status ≡ Status.Usage) ⊎ (status ≡ Status.WriteFault)) }
+    ensures usage { task_of words.now ≡ Usage
+        → IfOk result (λ status. (status ≡ Status.Usage) ⊎ (status ≡ Status.WriteFault)) }
     ensures other { result ≡ Ok Status.Usage → task_of words.now ≡ Usage }
 
     // Whatever document is read as a network and whatever the steps, as those of an input (`steps_of`), those with each drain as its deliveries
     // (`singly`) or those that are drawn: an account falls only by its own executions, by a message of its chain or as a pool's, no pool's
     // product falls, each account keeps what is locked there, and each message that waits has its shape.
-    ensures lawful { (part : List ℕ) (spec : NetworkSpec) (steps : List Step) → network_of part ≡ Ok spec → IsLawful spec steps }
+    ensures lawful { (part : List ℕ) (spec : NetworkSpec) (steps : List Step)
+        → network_of part ≡ Ok spec → IsLawful spec steps }
 
     // Where moreover none of the seven causes is found in it, every world keeps each asset, backs each derivative and has right checking
     // accounts, inside runs too; what is admitted is paid and received; no joining of bundles burns what would pass an amount's end or is
     // there already; and in every world the sums which the supply block prints are conserved and covered.
-    ensures kept { (part : List ℕ) (spec : NetworkSpec) (steps : List Step) → network_of part ≡ Ok spec
+    ensures kept { (part : List ℕ) (spec : NetworkSpec) (steps : List Step)
+        → network_of part ≡ Ok spec
         → first_cause (entries_of spec) ≡ None → IsSecure spec steps }
 
     // The report of an input is the opening, and then the blocks of its steps, each in the world to which those before it lead.
-    ensures told { (audit : Bool) (bytes : List ℕ) (spec : NetworkSpec) → network_of (network_bytes bytes) ≡ Ok spec
-        → length (network_bytes bytes) ≤ max_network → TellsOf (bytes_reply audit bytes) (told_of audit spec (steps_of bytes)) }
+    ensures told { (audit : Bool) (bytes : List ℕ) (spec : NetworkSpec)
+        → network_of (network_bytes bytes) ≡ Ok spec
+        → length (network_bytes bytes) ≤ max_network
+        → TellsOf (bytes_reply audit bytes) (told_of audit spec (steps_of bytes)) }
 {
     law_of_inputs(); // For the prover alone.
     match task_of(alloc, words)? {
@@ -85,7 +94,8 @@ pub fn run<I: Source, O: Sink>(
 
 /// Writes the usage line.
 fn write_usage<O: Sink>(out: &mut O) -> Status
-    ensures run { Finishes {E = AllocError} usage_reply (O.written out.old) (O.written out.new) (Ok result) }
+    ensures run { Finishes {E = AllocError} usage_reply (O.written out.old) (O.written out.new)
+        (Ok result) }
     ensures answer { (result ≡ Status.Usage) ⊎ (result ≡ Status.WriteFault) }
     ensures cause { result ≡ Status.WriteFault → Rose (O.faults out.old) (O.faults out.new) }
 {
@@ -99,7 +109,8 @@ fn write_generated<O: Sink>(
     steps: u64,
     out: &mut O,
 ) -> Result<Status, AllocError>
-    ensures run { Finishes (generated_reply (generated number steps)) (O.written out.old) (O.written out.new) result }
+    ensures run { Finishes (generated_reply (generated number steps)) (O.written out.old)
+        (O.written out.new) result }
     ensures cause { result ≡ Ok Status.WriteFault → Rose (O.faults out.old) (O.faults out.new) }
     ensures usage { result ≢ Ok Status.Usage }
 {
@@ -118,7 +129,8 @@ fn write_reply<O: Sink>(out: &mut O, text: &str, answer: Status) -> Status
     requires read { answer ≢ Status.ReadFault }
     requires write { answer ≢ Status.WriteFault }
     requires long { answer ≢ Status.TooLong }
-    ensures run { Finishes {E = AllocError} (ends text.now answer) (O.written out.old) (O.written out.new) (Ok result) }
+    ensures run { Finishes {E = AllocError} (ends text.now answer) (O.written out.old)
+        (O.written out.new) (Ok result) }
     ensures answer { (result ≡ answer) ⊎ (result ≡ Status.WriteFault) }
     ensures cause { result ≡ Status.WriteFault → Rose (O.faults out.old) (O.faults out.new) }
 {

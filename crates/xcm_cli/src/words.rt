@@ -66,7 +66,8 @@ fn is_generation(words: &[String]) -> bool
 
 /// The run of so many steps that are drawn from a number, where both words are numbers in their ranges.
 fn generation_of(alloc: Global, number: &str, steps: &str) -> Result<Task, AllocError>
-    ensures { IfOk result (λ task. task ≡ generation_of (number_of number.now) (number_of steps.now)) }
+    ensures { IfOk result (λ task. task
+        ≡ generation_of (number_of number.now) (number_of steps.now)) }
 {
     let Some(number) = number_of(alloc, number)? else {
         return Ok(Task::Usage);
