@@ -23,14 +23,12 @@ use Rattle.trust_tables.specs.Trust.{listing, listed_row}
 use Rattle.trust_tables.specs.Accounts.{account_of}
 use Rattle.ledgers.specs.Ledgers.{Held, Accounts, Withdrawn, Deposited}
 use Rattle.transactors.specs.declared.faults.MoveFault.{MoveFault}
-use Rattle.transactors.specs.declared.faults.MoveFault.TheVariants.{NotHandled, NoAccount, Refused, Memory}
-use Rattle.transactors.specs.Floors.{no_floors, locked_floors, higher_floors}
+use Rattle.transactors.specs.declared.faults.MoveFault.TheVariants.{Memory}
+use Rattle.transactors.specs.Floors.{UnitFloors, no_floors, locked_floors, higher_floors}
 use Rattle.transactors.specs.Floors as floors
 use Rattle.transactors.specs.Checks.{rows_of_kind}
 use Rattle.transactors.specs.Moves as moves
-use Rattle.transactors.specs.Moves.{are_listed, Moves, MovesIn}
-use Rattle.account_floors.specs.Floors.{HasFloors, NoPoolLocks}
-use Rattle.chain_pools.specs.declared.pool.Pool.{Pool}
+use Rattle.transactors.specs.Moves.{are_listed, withdraw_fault, deposit_fault, transfer_fault, Moves, MovesIn}
 use Rattle.exec_base.specs.declared.faults.HostFault.{HostFault}
 use Rattle.std.specs.declared.alloc.AllocError.{AllocError}
 use Rattle.exec_base.specs.Answers.{Answers, Gives}
@@ -39,52 +37,33 @@ use Rattle.exec_base.specs.Host.{IsPrice, first_fault, at_account, give_fault, g
 use Rattle.chain_state.specs.declared.state.ChainState.{ChainState}
 use Rattle.chain_state.specs.PartOf.{part_of}
 use Rattle.chain_state.specs.Facts.{KeepsFloors, keeps_floors}
-use Rattle.chain_state.specs.Transacting.{error_of, fault_of}
+use Rattle.chain_state.specs.Known.{floors_there, pools_free}
+use Rattle.chain_state.specs.Transacting.{error_of, fault_of, handled_rows, kept_floors}
 use Rattle.chain_state.proofs.First.{both_none}
 use Rattle.chain_state.proofs.FeeBack.{fee_back, gives}
+use Rattle.chain_state.proofs.Floored.{after_either}
 
 -- the ledger is the chain's accounts over its listing
-pub ledger_is : (f : ChainState) → f.ledger ≡ accounts_of (part_of f)
+ledger_is : (f : ChainState) → f.ledger ≡ accounts_of (part_of f)
 ledger_is f = λ i. record { listed = f.ledger_lists i; held = f.ledger.held }
 
-pub none_mapped : (o : Option MoveFault) → option_map error_of o ≡ None → o ≡ None
+none_mapped : (o : Option MoveFault) → option_map error_of o ≡ None → o ≡ None
 none_mapped None h = refl
 none_mapped (Some fault) h = absurd (cc)
 
--- ---- answers
-pub refused_as : {A : Type 0} (fault : Option MoveFault) (answer : A) (after before now : Accounts) (e : MoveFault) (h : HostFault) (refusal : Option XcmError) (left p : ChainPart)
-    → h ≡ fault_of e → refusal ≡ option_map error_of fault → record p { held = before.held } ≡ p
-    → Moves fault answer after before (Err e) now → Answers refusal answer left p (Err h) (record p { held = now.held })
-refused_as fault answer after before now NotHandled h refusal left p is told same m =
-    subst (λ (x : HostFault). Answers refusal answer left p (Err x) (record p { held = now.held })) (sym is)
-    (told ∙ ap (option_map error_of) m.0, ap (λ (l : Accounts). record p { held = l.held }) m.1 ∙ same)
-refused_as fault answer after before now NoAccount h refusal left p is told same m =
-    subst (λ (x : HostFault). Answers refusal answer left p (Err x) (record p { held = now.held })) (sym is)
-    (told ∙ ap (option_map error_of) m.0, ap (λ (l : Accounts). record p { held = l.held }) m.1 ∙ same)
-refused_as fault answer after before now Refused h refusal left p is told same m =
-    subst (λ (x : HostFault). Answers refusal answer left p (Err x) (record p { held = now.held })) (sym is)
-    (told ∙ ap (option_map error_of) m.0, ap (λ (l : Accounts). record p { held = l.held }) m.1 ∙ same)
-refused_as fault answer after before now Memory h refusal left p is told same m =
-    subst (λ (x : HostFault). Answers refusal answer left p (Err x) (record p { held = now.held })) (sym is)
-    (ap (λ (l : Accounts). record p { held = l.held }) m ∙ same)
-
 -- ---- what stays
 -- what holds before and after a move holds of whatever stands now
-pub after_move : {A : Type 0} (P : Accounts → Type 0) (fault : Option MoveFault) (answer : A) (after before : Accounts) (r : Result A MoveFault) (now : Accounts)
+after_move : {A : Type 0} (P : Accounts → Type 0) (fault : Option MoveFault) (answer : A) (after before : Accounts) (r : Result A MoveFault) (now : Accounts)
     → Moves fault answer after before r now → P before → (fault ≡ None → P after) → P now
 after_move P fault answer after before (Ok out) now m was is = subst P (sym m.2) (is m.0)
-after_move P fault answer after before (Err NotHandled) now m was is = subst P (sym m.1) was
-after_move P fault answer after before (Err NoAccount) now m was is = subst P (sym m.1) was
-after_move P fault answer after before (Err Refused) now m was is = subst P (sym m.1) was
 after_move P fault answer after before (Err Memory) now m was is = subst P (sym m) was
+after_move P fault answer after before (Err e) now m was is = subst P (sym m.1) was
 
-pub after_move_in : (P : Accounts → Type 0) (fault : Option MoveFault) (goods : Bundle) (after before : Accounts) (r : Result (Prim.Unit {0}) (Bundle × MoveFault)) (now : Accounts)
+after_move_in : (P : Accounts → Type 0) (fault : Option MoveFault) (goods : Bundle) (after before : Accounts) (r : Result (Prim.Unit {0}) (Bundle × MoveFault)) (now : Accounts)
     → MovesIn fault goods after before r now → P before → (fault ≡ None → P after) → P now
 after_move_in P fault goods after before (Ok out) now m was is = subst P (sym m.1) (is m.0)
-after_move_in P fault goods after before (Err (back, NotHandled)) now m was is = subst P (sym m.2) was
-after_move_in P fault goods after before (Err (back, NoAccount)) now m was is = subst P (sym m.2) was
-after_move_in P fault goods after before (Err (back, Refused)) now m was is = subst P (sym m.2) was
 after_move_in P fault goods after before (Err (back, Memory)) now m was is = subst P (sym m.1) was
+after_move_in P fault goods after before (Err (back, e)) now m was is = subst P (sym m.2) was
 
 -- the listing
 same_listing : (o : Option (List ℕ)) (change : List ℕ → Accounts) (l : Accounts) → ((who : List ℕ) → (change who).listed ≡ l.listed) → (moves.at_account o change l).listed ≡ l.listed
@@ -106,16 +85,6 @@ not_less n m h = grind (arith, h)
 
 less : (n m : ℕ) → max 0 n ≤ m → n ≤ m
 less n m h = grind (arith, h)
-
-pub as_floors : (locks locked : LocksAndNotes) (held : Held) → locks ≡ locked → HasFloors locked held → floors.KeepsFloors (higher_floors no_floors (locked_floors locks)) held
-as_floors locks locked held same has = λ who unit. not_less (locked_floors locks who unit) (amount held (who, unit)) (subst (λ (l : LocksAndNotes). locked_floors l who unit ≤ amount held (who, unit)) (sym same) (has who unit))
-
-pub as_locks : (pools : List Pool) (locks locked : LocksAndNotes) (held : Held) → locks ≡ locked → NoPoolLocks pools locked
-    → floors.KeepsFloors (higher_floors no_floors (locked_floors locks)) held → KeepsFloors pools locked held
-as_locks pools locks locked held same free keeps =
-    keeps_floors pools locked held
-    (λ who unit. subst (λ (l : LocksAndNotes). locked_floors l who unit ≤ amount held (who, unit)) same (less (locked_floors locks who unit) (amount held (who, unit)) (keeps who unit)))
-    free
 
 -- ---- each row that is handled is listed
 or_true : (b c : Bool) → c ≡ true → (b || c) ≡ true
@@ -140,13 +109,11 @@ both_all : (P : AssetRow → Bool) (xs ys : List AssetRow) → list_all P xs ≡
 both_all P [] ys h more = more
 both_all P (x ∷ xs) ys h more = (let parts = and_parts (P x) (list_all P xs) h in and_from _ _ parts.0 (both_all P xs ys parts.1 more))
 
-pub handled_listed : (listed : List Listed) (rows one two : List AssetRow) → listed ≡ listing rows → one ≡ rows → two ≡ rows
-    → are_listed listed (rows_of_kind Kind.Fungible one ++ rows_of_kind Kind.Class two) ≡ true
-handled_listed listed rows one two is first second =
-    (λ i. are_listed (is i) (rows_of_kind Kind.Fungible (first i) ++ rows_of_kind Kind.Class (second i)))
-    ∙ both_all (λ row. lists (listing rows) (listed_row row)) (rows_of_kind Kind.Fungible rows) (rows_of_kind Kind.Class rows)
-    (of_kind (λ row. lists (listing rows) (listed_row row)) Kind.Fungible rows (listed_in (listing rows) rows (λ k h. h)))
-    (of_kind (λ row. lists (listing rows) (listed_row row)) Kind.Class rows (listed_in (listing rows) rows (λ k h. h)))
+handled_listed : (rows : List AssetRow) → are_listed (listing rows) (rows_of_kind Kind.Fungible rows ++ rows_of_kind Kind.Class rows) ≡ true
+handled_listed rows =
+    let P : AssetRow → Bool = λ row. lists (listing rows) (listed_row row) in
+    let all = listed_in (listing rows) rows (λ k h. h) in
+    both_all P (rows_of_kind Kind.Fungible rows) (rows_of_kind Kind.Class rows) (of_kind P Kind.Fungible rows all) (of_kind P Kind.Class rows all)
 
 -- ---- a fee that an account gave can be given back
 passed : (b : Bool) (e f : XcmError) → (if b then Some f else Some e) ≡ None → ⊥
@@ -173,8 +140,136 @@ fee_returns p fee who list (Ok out) now is price small m =
     ∙ drawn_back p fee who (account_of who p.site) refl price small free
 fee_returns p fee who list (Err e) now is price small m = tt
 
--- ---- a move that only memory could refuse
-pub checked_gives : (p : ChainPart) (after before : Accounts) (r : Result (Prim.Unit {0}) AllocError) (now : Accounts) (left : ChainPart) → record p { held = before.held } ≡ p → record p { held = after.held } ≡ left
-    → OnOk r (now ≡ after) → OnErr r (now ≡ before) → Gives tt left p r (record p { held = now.held })
-checked_gives p after before (Ok done) now left same is made kept = (refl, ap (λ (l : Accounts). record p { held = l.held }) made ∙ is)
-checked_gives p after before (Err e) now left same is made kept = ap (λ (l : Accounts). record p { held = l.held }) kept ∙ same
+-- ---- the moves that the transactors of a chain make
+-- why one is refused, what it leaves, and that it leaves the listing
+abbrev pub Move : Type 0
+Move = record {
+  fault : List AssetRow → Site → UnitFloors → Accounts → Option MoveFault;
+  leaves : Site → Accounts → Accounts;
+  lists : (site : Site) (l : Accounts) → (leaves site l).listed ≡ l.listed;
+}
+
+abbrev pub withdrawal : List Asset → Location → Move
+withdrawal list who = record {
+  fault = λ rows site floors l. withdraw_fault rows site floors l list who;
+  leaves = λ site l. moves.withdrawn site list who l;
+  lists = λ site l. withdrawn_lists site list who l;
+}
+
+abbrev pub deposit : Bundle → Location → Move
+deposit goods who = record {
+  fault = λ rows site floors l. deposit_fault rows site l goods who;
+  leaves = λ site l. moves.deposited site goods who l;
+  lists = λ site l. deposited_lists site goods who l;
+}
+
+abbrev pub transfer : List Asset → Location → Location → Move
+transfer list from to = record {
+  fault = λ rows site floors l. transfer_fault rows site floors l list from to;
+  leaves = λ site l. moves.transferred site list from to l;
+  lists = λ site l. transferred_lists site list from to l;
+}
+
+-- that transactors have the rows, the site and the locks of the chain
+abbrev pub AreOf : ChainState → List AssetRow → List AssetRow → Site → Site → LocksAndNotes → Type 0
+AreOf f one two site other kept = record {
+  first_rows : one ≡ f.settings.rows;
+  second_rows : two ≡ f.settings.rows;
+  first_site : site ≡ f.settings.site;
+  second_site : other ≡ f.settings.site;
+  locks : kept ≡ f.locked;
+}
+
+module _ (f : ChainState) {one two : List AssetRow} {site other : Site} {kept : LocksAndNotes} (are : AreOf f one two site other kept) where
+  abbrev handled : List AssetRow
+  handled = rows_of_kind Kind.Fungible one ++ rows_of_kind Kind.Class two
+
+  abbrev floored : UnitFloors
+  floored = higher_floors no_floors (locked_floors kept)
+
+  pub rows_listed : are_listed f.ledger.listed handled ≡ true
+  rows_listed = (λ i. are_listed (f.ledger_lists i) (rows_of_kind Kind.Fungible (are.first_rows i) ++ rows_of_kind Kind.Class (are.second_rows i))) ∙ handled_listed f.settings.rows
+
+  -- where each account keeps the transactors' floors, it keeps the chain's
+  floors_stay : (after : Held) → (floors.KeepsFloors floored f.ledger.held → floors.KeepsFloors floored after) → KeepsFloors f.settings.pools f.locked after
+  floors_stay after keeps =
+      let had : floors.KeepsFloors floored f.ledger.held =
+      λ who unit. not_less (locked_floors kept who unit) (amount f.ledger.held (who, unit)) (subst (λ (l : LocksAndNotes). locked_floors l who unit ≤ amount f.ledger.held (who, unit)) (sym are.locks) (floors_there f who unit)) in
+      keeps_floors f.settings.pools f.locked after
+      (λ who unit. subst (λ (l : LocksAndNotes). locked_floors l who unit ≤ amount after (who, unit)) are.locks (less (locked_floors kept who unit) (amount after (who, unit)) (keeps had who unit)))
+      (pools_free f)
+
+  module _ (move : Move) where
+    abbrev fault : Option MoveFault
+    fault = move.fault handled site floored f.ledger
+
+    abbrev after : Accounts
+    after = move.leaves site f.ledger
+
+    abbrev IsTold : Option XcmError → Type 0
+    IsTold refusal = refusal ≡ option_map error_of (move.fault (handled_rows (part_of f)) f.settings.site (kept_floors (part_of f)) (accounts_of (part_of f)))
+
+    abbrev IsLeft : ChainPart → Type 0
+    IsLeft left = left ≡ record (part_of f) { held = (move.leaves f.settings.site (accounts_of (part_of f))).held }
+
+    abbrev KeepThem : Type 0
+    KeepThem = (rows : List AssetRow) (at : Site) (least : UnitFloors) → move.fault rows at least f.ledger ≡ None → floors.KeepsFloors least f.ledger.held → floors.KeepsFloors least (move.leaves at f.ledger).held
+
+    -- the host refuses just what they refuse
+    pub refuses : (refusal : Option XcmError) → IsTold refusal → refusal ≡ option_map error_of fault
+    refuses refusal told =
+        told
+        ∙ (λ i. option_map error_of (move.fault (rows_of_kind Kind.Fungible (sym are.first_rows i) ++ rows_of_kind Kind.Class (sym are.second_rows i)) (sym are.first_site i) (higher_floors no_floors (locked_floors (sym are.locks i))) (sym (ledger_is f) i)))
+
+    pub is_free : (refusal : Option XcmError) → IsTold refusal → refusal ≡ None → fault ≡ None
+    is_free refusal told free = none_mapped fault (sym (refuses refusal told) ∙ free)
+
+    -- and has what they leave
+    leaves : (left : ChainPart) → IsLeft left → record (part_of f) { held = after.held } ≡ left
+    leaves left is = (λ i. record (part_of f) { held = (move.leaves (are.first_site i) (ledger_is f i)).held }) ∙ sym is
+
+    floors_left : KeepThem → fault ≡ None → KeepsFloors f.settings.pools f.locked after.held
+    floors_left law free = floors_stay after.held (law handled site floored free)
+
+    listing_left : after.listed ≡ listing f.settings.rows
+    listing_left = move.lists site f.ledger ∙ f.ledger_lists
+
+    module _ {A : Type 0} (answer : A) (r : Result A MoveFault) (now : Accounts) (m : Moves fault answer after f.ledger r now) where
+      pub floors_moved : KeepThem → KeepsFloors f.settings.pools f.locked now.held
+      floors_moved law = after_move (λ (l : Accounts). KeepsFloors f.settings.pools f.locked l.held) fault answer after f.ledger r now m f.floors (floors_left law)
+
+      pub listing_moved : now.listed ≡ listing f.settings.rows
+      listing_moved = after_move (λ (l : Accounts). l.listed ≡ listing f.settings.rows) fault answer after f.ledger r now m f.ledger_lists (λ free. listing_left)
+
+    module _ (goods : Bundle) (r : Result (Prim.Unit {0}) (Bundle × MoveFault)) (now : Accounts) (m : MovesIn fault goods after f.ledger r now) where
+      pub floors_moved_in : KeepThem → KeepsFloors f.settings.pools f.locked now.held
+      floors_moved_in law = after_move_in (λ (l : Accounts). KeepsFloors f.settings.pools f.locked l.held) fault goods after f.ledger r now m f.floors (floors_left law)
+
+      pub listing_moved_in : now.listed ≡ listing f.settings.rows
+      listing_moved_in = after_move_in (λ (l : Accounts). l.listed ≡ listing f.settings.rows) fault goods after f.ledger r now m f.ledger_lists (λ free. listing_left)
+
+    -- where only memory could refuse it
+    module _ {A E : Type 0} (r : Result A E) (now : Accounts) (made : OnOk r (now ≡ after)) (same : OnErr r (now ≡ f.ledger)) where
+      pub floors_checked : KeepThem → fault ≡ None → KeepsFloors f.settings.pools f.locked now.held
+      floors_checked law free = after_either (λ (l : Accounts). KeepsFloors f.settings.pools f.locked l.held) f.ledger after now r made same f.floors (floors_left law free)
+
+      pub listing_checked : now.listed ≡ listing f.settings.rows
+      listing_checked = after_either (λ (l : Accounts). l.listed ≡ listing f.settings.rows) f.ledger after now r made same f.ledger_lists listing_left
+
+    -- what the host answers
+    module _ (refusal : Option XcmError) (told : IsTold refusal) (left : ChainPart) (is : IsLeft left) {A : Type 0} (answer : A) (now : Accounts) where
+      pub accepted : (out : A) → Moves fault answer after f.ledger (Ok out) now → Answers refusal answer left (part_of f) (Ok out) (record (part_of f) { held = now.held })
+      accepted out m = (refuses refusal told ∙ ap (option_map error_of) m.0, m.1, ap (λ (l : Accounts). record (part_of f) { held = l.held }) m.2 ∙ leaves left is)
+
+      pub refused : (e : MoveFault) (h : HostFault) → h ≡ fault_of e → Moves fault answer after f.ledger (Err e) now → Answers refusal answer left (part_of f) (Err h) (record (part_of f) { held = now.held })
+      refused Memory h same m =
+          subst (λ (x : HostFault). Answers refusal answer left (part_of f) (Err x) (record (part_of f) { held = now.held })) (sym same)
+          (ap (λ (l : Accounts). record (part_of f) { held = l.held }) m)
+      refused e h same m =
+          subst (λ (x : HostFault). Answers refusal answer left (part_of f) (Err x) (record (part_of f) { held = now.held })) (sym same)
+          (refuses refusal told ∙ ap (option_map error_of) m.0, ap (λ (l : Accounts). record (part_of f) { held = l.held }) m.1)
+
+    pub checked_gives : (left : ChainPart) → IsLeft left → (r : Result (Prim.Unit {0}) AllocError) (now : Accounts) → OnOk r (now ≡ after) → OnErr r (now ≡ f.ledger)
+        → Gives tt left (part_of f) r (record (part_of f) { held = now.held })
+    checked_gives left is (Ok done) now made same = (refl, ap (λ (l : Accounts). record (part_of f) { held = l.held }) made ∙ leaves left is)
+    checked_gives left is (Err e) now made same = ap (λ (l : Accounts). record (part_of f) { held = l.held }) same

@@ -25,10 +25,8 @@ error_of Refused = error.FailedToTransactAsset
 error_of Memory = error.FailedToTransactAsset
 
 abbrev pub fault_of : MoveFault → HostFault
-fault_of NotHandled = host.Xcm error.AssetNotFound
-fault_of NoAccount = host.Xcm error.FailedToTransactAsset
-fault_of Refused = host.Xcm error.FailedToTransactAsset
 fault_of Memory = host.Memory
+fault_of fault = host.Xcm (error_of fault)
 
 abbrev pub handled_rows : ChainPart → List AssetRow
 handled_rows p = rows_of_kind Kind.Fungible p.rows ++ rows_of_kind Kind.Class p.rows

@@ -14,14 +14,14 @@ use Rattle.trust_tables.specs.declared.rows.AssetRow.{AssetRow}
 use Rattle.trust_tables.specs.Accounts.{account_of}
 use Rattle.trust_tables.specs.Trust.{row_of, listed_row}
 use Rattle.trust_tables.specs.TrustLaws.{row_found}
-use Rattle.ledgers.specs.Ledgers.{Held, shortage, barred, is_barred}
+use Rattle.ledgers.specs.Ledgers.{Held, Accounts, Withdrawn, shortage, barred, is_barred}
 use Rattle.ledgers.specs.LedgerFaults.{IsBarred, IsFirstBarred}
 use Rattle.ledgers.specs.declared.faults.DepositFault.{DepositFault}
 use Rattle.transactors.specs.Floors.{UnitFloors}
 use Rattle.transactors.specs.declared.faults.MoveFault.{MoveFault}
 use Rattle.transactors.specs.declared.faults.MoveFault.TheVariants.{NotHandled, NoAccount, Refused}
 use Rattle.transactors.specs.Checks.{accepted, is_unhandled, lacks, account_fault, move_fault, check_in, check_out}
-use Rattle.transactors.specs.Moves.{or_fault, first_fault, are_listed}
+use Rattle.transactors.specs.Moves.{or_fault, first_fault, withdraw_fault, transfer_fault, at_account, withdrawn, are_listed}
 
 -- ---- answers
 fault_told : Result (Unit {0}) MoveFault → Option MoveFault
@@ -42,7 +42,7 @@ pub both_none : (x rest : Option MoveFault) → or_fault x rest ≡ None → (x 
 both_none None rest h = (refl, h)
 both_none (Some fault) rest h = absurd (cc)
 
-pub passed_first : (x rest : Option MoveFault) → x ≡ None → or_fault x rest ≡ rest
+passed_first : (x rest : Option MoveFault) → x ≡ None → or_fault x rest ≡ rest
 passed_first x rest h = ap (λ r. or_fault r rest) h
 
 pub refused_first : (x rest : Option MoveFault) (fault : MoveFault) → x ≡ Some fault → or_fault x rest ≡ Some fault
@@ -67,7 +67,7 @@ nobody_takes rows site held who (a ∷ rest) none h =
     absurd (nobody (account_of who site) (λ account. is_barred held account a) none (handled_and (is_some (row_of rows a)) (account_of who site) (λ account. is_barred held account a) (both_none _ _ h).0).1)
 
 -- without an account no asset that is handled is taken
-pub nobody_takes_any : (rows : List AssetRow) (site : Site) (held : Held) (who : Location) (list : List Asset) → account_of who site ≡ None → list_all (λ a. is_some (row_of rows a)) list ≡ true → (list ≡ [] → ⊥)
+nobody_takes_any : (rows : List AssetRow) (site : Site) (held : Held) (who : Location) (list : List Asset) → account_of who site ≡ None → list_all (λ a. is_some (row_of rows a)) list ≡ true → (list ≡ [] → ⊥)
     → first_fault (check_in rows site held who) list ≡ Some NoAccount
 nobody_takes_any rows site held who [] none handled some = absurd (some refl)
 nobody_takes_any rows site held who (a ∷ rest) none handled some =
@@ -102,7 +102,7 @@ enough_given rows site floors held from who (a ∷ rest) is h =
     let enough = less_too (amount held (who, unit_of a)) (amount_of a) (floors who (unit_of a)) has in
     ap (λ b. if b then Some (amount held (who, unit_of a)) else shortage held who rest) enough ∙ enough_given rows site floors held from who rest is parts.1
 
-pub rows_given : (rows : List AssetRow) (site : Site) (floors : UnitFloors) (held : Held) (who : Location) (list : List Asset) → first_fault (check_out rows site floors held who) list ≡ None → list_all (λ a. is_some (row_of rows a)) list ≡ true
+rows_given : (rows : List AssetRow) (site : Site) (floors : UnitFloors) (held : Held) (who : Location) (list : List Asset) → first_fault (check_out rows site floors held who) list ≡ None → list_all (λ a. is_some (row_of rows a)) list ≡ true
 rows_given rows site floors held who [] h = refl
 rows_given rows site floors held who (a ∷ rest) h =
     let parts = both_none _ _ h in
@@ -157,7 +157,7 @@ refused_as_barred rows site held who to (a ∷ rest) is h =
     ap (λ o. or_fault (if is_some (row_of rows a) then account_fault o (λ account. is_barred held account a) else Some NotHandled) (first_fault (check_in rows site held who) rest)) is
     ∙ take_here (is_some (row_of rows a)) (is_barred held to a) a (first_fault (check_in rows site held who) rest) (barred held to rest) parts.0 (refused_as_barred rows site held who to rest is parts.1)
 
-pub taker_free : (rows : List AssetRow) (site : Site) (held : Held) (who : Location) (to : List ℕ) (list : List Asset) → account_of who site ≡ Some to → list_all (λ a. is_some (row_of rows a)) list ≡ true → barred held to list ≡ None
+taker_free : (rows : List AssetRow) (site : Site) (held : Held) (who : Location) (to : List ℕ) (list : List Asset) → account_of who site ≡ Some to → list_all (λ a. is_some (row_of rows a)) list ≡ true → barred held to list ≡ None
     → first_fault (check_in rows site held who) list ≡ None
 unfolding refused_if
 taker_free rows site held who to list is all free = refused_as_barred rows site held who to list is all ∙ ap refused_if free
@@ -167,7 +167,7 @@ unfolding refused_if
 some_refused P None h = absurd h
 some_refused P (Some a) h = refl
 
-pub taker_barred : (rows : List AssetRow) (site : Site) (held : Held) (who : Location) (to : List ℕ) (list : List Asset) (fault : DepositFault) → account_of who site ≡ Some to → list_all (λ a. is_some (row_of rows a)) list ≡ true
+taker_barred : (rows : List AssetRow) (site : Site) (held : Held) (who : Location) (to : List ℕ) (list : List Asset) (fault : DepositFault) → account_of who site ≡ Some to → list_all (λ a. is_some (row_of rows a)) list ≡ true
     → IsFirstBarred held to list fault → first_fault (check_in rows site held who) list ≡ Some Refused
 taker_barred rows site held who to list fault is all bar =
     refused_as_barred rows site held who to list is all ∙ some_refused (λ a. IsBarred held to a fault) (barred held to list) bar
@@ -220,3 +220,36 @@ no_items (a ∷ rest) h = (let none = none_counted (length (a ∷ rest)) h in ab
 
 pub some_items : (list : List Asset) → (length list == 0) ≡ false → list ≡ [] → ⊥
 some_items list h none = true≢false (sym (ap (λ xs. length xs == 0) none) ∙ h)
+
+-- ---- a list that the giver can give
+module _ (rows : List AssetRow) (site : Site) (floors : UnitFloors) (ledger : Accounts) (list : List Asset) (from to : Location)
+    (told : Option MoveFault) (told_is : told ≡ withdraw_fault rows site floors ledger list from) (none : (fault : MoveFault) → told ≡ Some fault → ⊥) where
+  gives : withdraw_fault rows site floors ledger list from ≡ None
+  gives = sym told_is ∙ none_if told none
+
+  -- somebody gives what isn't nothing
+  pub giver_there : (list ≡ [] → ⊥) → account_of from site ≡ None → ⊥
+  giver_there some nobody = some (nobody_gives rows site floors ledger.held from list nobody gives)
+
+  pub giver_has : (giver : List ℕ) → account_of from site ≡ Some giver → shortage ledger.held giver list ≡ None
+  giver_has giver is = enough_given rows site floors ledger.held from giver list is gives
+
+  -- the receiver decides
+  taker_decides : (o : Option MoveFault) → first_fault (check_in rows site (withdrawn site list from ledger).held to) list ≡ o → o ≡ transfer_fault rows site floors ledger list from to
+  taker_decides o takes = sym (passed_first _ _ gives ∙ takes)
+
+  pub no_taker : (list ≡ [] → ⊥) → account_of to site ≡ None → Some NoAccount ≡ transfer_fault rows site floors ledger list from to
+  no_taker some nobody =
+      taker_decides (Some NoAccount) (nobody_takes_any rows site (withdrawn site list from ledger).held to list nobody (rows_given rows site floors ledger.held from list gives) some)
+
+  module _ (giver taker : List ℕ) (giver_is : account_of from site ≡ Some giver) (taker_is : account_of to site ≡ Some taker) where
+    decides_after : (o : Option MoveFault) → first_fault (check_in rows site (Withdrawn giver list ledger).held to) list ≡ o → o ≡ transfer_fault rows site floors ledger list from to
+    decides_after o takes = taker_decides o (ap (λ (a : Option (List ℕ)). first_fault (check_in rows site (at_account a (λ account. Withdrawn account list ledger) ledger).held to) list) giver_is ∙ takes)
+
+    pub both_free : barred (Withdrawn giver list ledger).held taker list ≡ None → None ≡ transfer_fault rows site floors ledger list from to
+    both_free free =
+        decides_after None (taker_free rows site (Withdrawn giver list ledger).held to taker list taker_is (rows_given rows site floors ledger.held from list gives) free)
+
+    pub taker_refuses : (fault : DepositFault) → IsFirstBarred (Withdrawn giver list ledger).held taker list fault → Some Refused ≡ transfer_fault rows site floors ledger list from to
+    taker_refuses fault bar =
+        decides_after (Some Refused) (taker_barred rows site (Withdrawn giver list ledger).held to taker list fault taker_is (rows_given rows site floors ledger.held from list gives) bar)

@@ -1,46 +1,22 @@
-use Rattle.std.proofs.Common.{◌≡◌, ◌++◌, ◌∙◌}
-use Rattle.asset_lists.specs.declared.units.Kind.{Kind}
-use Rattle.trust_tables.specs.Trust.{listing}
-use Rattle.ledgers.specs.Ledgers.{Accounts}
-use Rattle.transactors.specs.Floors.{no_floors, locked_floors, higher_floors}
-use Rattle.transactors.specs.Checks.{rows_of_kind}
-use Rattle.transactors.specs.Moves as moves
-use Rattle.chain_state.specs.Facts.{KeepsFloors}
-use Rattle.chain_state.specs.Known.{floors_there, pools_free}
-use Rattle.chain_state.proofs.Floored.{after_either}
-use Rattle.chain_state.proofs.Transacted.{deposited_lists, as_floors, as_locks, handled_listed}
+use Rattle.exec_base.specs.Host.{deposit_refusal}
+use Rattle.chain_state.specs.PartOf.{part_of}
+use Rattle.chain_state.proofs.Transacted.{deposit, rows_listed, is_free, floors_checked, listing_checked}
 use Rattle.chain_state.proofs.state.ChainState.put_in_checked.Goals as goal
 
 pub deposit_checked-requires-clause-listed : goal.deposit_checked-requires-clause-listed
-deposit_checked-requires-clause-listed c =
-    let f = c.args.self.now in
-    let movers = c.transactors_of-movers.result in
-    let is = c.transactors_of-movers.ensures in
-    handled_listed f.ledger.listed f.settings.rows movers.inner.first.rows.now movers.inner.second.rows.now f.ledger_lists is.first_rows is.second_rows
+deposit_checked-requires-clause-listed c = rows_listed c.args.self.now c.transactors_of-movers.ensures
 
 pub invariant_of-self-clause-floors : goal.invariant_of-self-clause-floors
 invariant_of-self-clause-floors c =
     let f = c.args.self.now in
+    let p = part_of f in
     let goods = c.args.goods in
     let who = c.args.who.now in
-    let movers = c.transactors_of-movers.result in
-    let is = c.transactors_of-movers.ensures in
-    let rows = rows_of_kind Kind.Fungible movers.inner.first.rows.now ++ rows_of_kind Kind.Class movers.inner.second.rows.now in
-    let site = movers.inner.first.site.now in
-    let floors = higher_floors no_floors (locked_floors movers.locks.now) in
-    after_either (λ (l : Accounts). KeepsFloors f.settings.pools f.locked l.held) f.ledger (moves.deposited site goods who f.ledger) c.deposit_checked.new.ledger c.deposit_checked.result c.deposit_checked.ensures.deposited c.deposit_checked.ensures.kept
-    f.floors (as_locks f.settings.pools movers.locks.now f.locked (moves.deposited site goods who f.ledger).held is.locks (pools_free f)
-    (c.law_of_floors_of_moves.ensures.deposited site floors f.ledger goods who (as_floors movers.locks.now f.locked f.ledger.held is.locks (floors_there f))))
+    let free = is_free f c.transactors_of-movers.ensures (deposit goods who) (deposit_refusal p goods who) (c.law_of_transactors.ensures.deposit p goods who) c.requires.free in
+    floors_checked f c.transactors_of-movers.ensures (deposit goods who) c.deposit_checked.result c.deposit_checked.new.ledger c.deposit_checked.ensures.deposited c.deposit_checked.ensures.kept
+    (λ rows site floors none. c.law_of_floors_of_moves.ensures.deposited site floors f.ledger goods who) free
 
 pub invariant_of-self-clause-ledger_lists : goal.invariant_of-self-clause-ledger_lists
 invariant_of-self-clause-ledger_lists c =
-    let f = c.args.self.now in
-    let goods = c.args.goods in
-    let who = c.args.who.now in
-    let movers = c.transactors_of-movers.result in
-    let is = c.transactors_of-movers.ensures in
-    let rows = rows_of_kind Kind.Fungible movers.inner.first.rows.now ++ rows_of_kind Kind.Class movers.inner.second.rows.now in
-    let site = movers.inner.first.site.now in
-    let floors = higher_floors no_floors (locked_floors movers.locks.now) in
-    after_either (λ (l : Accounts). l.listed ≡ listing f.settings.rows) f.ledger (moves.deposited site goods who f.ledger) c.deposit_checked.new.ledger c.deposit_checked.result c.deposit_checked.ensures.deposited c.deposit_checked.ensures.kept
-    f.ledger_lists (deposited_lists site goods who f.ledger ∙ f.ledger_lists)
+    listing_checked c.args.self.now c.transactors_of-movers.ensures (deposit c.args.goods c.args.who.now)
+    c.deposit_checked.result c.deposit_checked.new.ledger c.deposit_checked.ensures.deposited c.deposit_checked.ensures.kept
