@@ -4,6 +4,8 @@
 #[cfg(test)]
 mod chains;
 #[cfg(test)]
+mod courses;
+#[cfg(test)]
 mod host_rows;
 #[cfg(test)]
 mod sending_rows;
