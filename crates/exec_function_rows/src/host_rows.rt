@@ -1,12 +1,12 @@
 //! Calls of a host: a withdrawal, a deposit to a location without account, a trap and its claim.
-use crate::chain::{A1, A2, at, five, holdings, of, opened};
+use crate::chain::{A1, A2, at, five, holdings, of};
 use asset_bundles::{AssetBundle, Total};
 use asset_lists::{Assets, Kind};
 use exec_base::{Event, Host, HostFault};
 use fake_host::FakeHost;
 use locations::{Junction, Location};
 use message_parts::XcmError;
-use std::alloc::AllocError;
+use std::alloc::{AllocError, Global};
 use std::test::Fail;
 
 /// Whether just this account holds something: 5 of each asset, in holding order.
@@ -73,9 +73,9 @@ fn claimed(host: &mut FakeHost, list: &Assets) -> Result<(), HostFault> {
     }
 }
 
-/// The list is offered to a location without account and trapped, then claimed, and once more: whether
-/// each of these is so in its turn.
-fn played(host: &mut FakeHost, list: &Assets, nobody: &Location) -> Result<[bool; 13], AllocError> {
+/// The list is offered to a location without account and trapped, then claimed, and once more: whether each of these is so in its turn.
+fn played(host: &mut FakeHost, list: &Assets) -> Result<[bool; 13], AllocError> {
+    let nobody = at(Junction::PalletInstance(9));
     let none = Total { high: 0, low: 0 };
     let all = Total { high: 0, low: 5 };
     let refused = Ok(Some(HostFault::Xcm(XcmError::FailedToTransactAsset)));
@@ -84,7 +84,7 @@ fn played(host: &mut FakeHost, list: &Assets, nobody: &Location) -> Result<[bool
         holdings(host, &A1) == [5, 5, 5],
         are_all_of(host, &A1)?,
         trapped(host) == [none, none, none],
-        offered(host, list, nobody) == refused,
+        offered(host, list, &nobody) == refused,
         holdings(host, &A1) == [0, 0, 0],
         host.accounts()?.is_empty(),
         trapped(host) == [all, all, all],
@@ -97,13 +97,8 @@ fn played(host: &mut FakeHost, list: &Assets, nobody: &Location) -> Result<[bool
     ])
 }
 
-#[test]
-fn what_no_account_takes_is_trapped_and_claimed(rt: HostRuntime) -> Result<(), Fail> {
-    let alloc = rt.alloc();
+/// Whether what no account takes is trapped and claimed.
+pub(crate) fn are_trapped(alloc: Global, host: &mut FakeHost) -> Result<bool, Fail> {
     let list = Assets::from_sorted(vec![in alloc; five(0), five(1), five(2)]?)?;
-    let nobody = at(Junction::PalletInstance(9));
-    let mut host = opened(alloc)?;
-    let so = played(&mut host, &list, &nobody)?;
-    assert!(rt; so == [true; 13]);
-    Ok(())
+    Ok(played(host, &list)? == [true; 13])
 }

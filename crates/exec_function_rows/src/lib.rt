@@ -4,6 +4,8 @@
 #[cfg(test)]
 mod chain;
 #[cfg(test)]
+mod courses;
+#[cfg(test)]
 mod host_rows;
 #[cfg(test)]
 mod program_rows;

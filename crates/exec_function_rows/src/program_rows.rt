@@ -1,9 +1,11 @@
 //! Messages in hexadecimal digits, and what their execution tells.
+//!
+//! Each function is lent a chain that has just opened.
 ghost use Rattle.std.specs.Prelude.{OnOk};
 ghost use Rattle.exec_rules.specs.Readiness.{IsAtRest};
 ghost use Rattle.fake_host.specs.PartOf.{part_of};
 
-use crate::chain::{A1, A2, executed, five, holdings, opened, rules};
+use crate::chain::{A1, A2, executed, five, holdings};
 use crate::texts::report;
 use asset_bundles::{Cause, Total};
 use asset_lists::Kind;
@@ -14,7 +16,7 @@ use xcm_executor::ChainRules;
 
 /// A message that is executed on a new chain, and its trace and outcome: each instruction at least once, and runs with handlers and
 /// appendices.
-const MESSAGES: [(&str, &str); 63] = [
+pub(crate) const MESSAGES: &[(&str, &str)] = &[
     (
         "04080004000000040d0100000101000202020202020202020202020202020202020202020202020202020202020202",
         "p0 0; p1 13; end +- 0 0 0 0; complete 2000 200",
@@ -273,80 +275,66 @@ fn told(
     Ok(report(alloc, host.events(), before, outcome)?)
 }
 
-/// The flags of three messages: the first instruction is done, it is refused, and there is none.
-fn flags(alloc: Global, host: &mut FakeHost, rules: &ChainRules) -> Result<[bool; 3], Fail>
+/// Whether the message tells just this.
+pub(crate) fn is_told(
+    alloc: Global,
+    host: &mut FakeHost,
+    rules: &ChainRules,
+    message: &str,
+    text: &str,
+) -> Result<bool, Fail>
+    requires rest { IsAtRest (part_of host.old) }
+    ensures rests { OnOk result (IsAtRest (part_of host.new)) }
+{
+    let told = told(alloc, host, rules, message)?;
+    Ok(told.as_str() == text)
+}
+
+/// Whether the flags of three messages are right: the first instruction is done, it is refused, and there is none.
+pub(crate) fn are_flagged(
+    alloc: Global,
+    host: &mut FakeHost,
+    rules: &ChainRules,
+) -> Result<bool, Fail>
     requires rest { IsAtRest (part_of host.old) }
 {
     let first = executed(alloc, host, rules, "04080a1914")?.1;
     let refused = executed(alloc, host, rules, "040819140a")?.1;
     let none = executed(alloc, host, rules, "0400")?.1;
-    Ok([first, refused, none])
+    Ok([first, refused, none] == [true, false, false])
 }
 
-/// Whether a message that is executed on a new chain tells just this.
-fn is_told(alloc: Global, rules: &ChainRules, message: &str, text: &str) -> Result<bool, Fail> {
-    let mut host = opened(alloc)?;
-    let told = told(alloc, &mut host, rules, message)?;
-    Ok(told.as_str() == text)
-}
-
-#[test]
-fn each_instruction_answers_as_its_rule_says(rt: HostRuntime) -> Result<(), Fail> {
-    let alloc = rt.alloc();
-    let rules = rules(alloc)?;
-    for (message, text) in &MESSAGES {
-        assert!(rt; is_told(alloc, &rules, message, text)?);
-    }
-    Ok(())
-}
-
-#[test]
-fn the_flag_is_of_the_first_instruction(rt: HostRuntime) -> Result<(), Fail> {
-    let alloc = rt.alloc();
-    let rules = rules(alloc)?;
-    let mut host = opened(alloc)?;
-    let flags = flags(alloc, &mut host, &rules)?;
-    assert!(rt; flags == [true, false, false]);
-    Ok(())
-}
-
-/// The three messages about claims in turn: whether each tells what it should.
-fn claims_told(alloc: Global, host: &mut FakeHost, rules: &ChainRules) -> Result<[bool; 3], Fail>
+/// Whether what no account takes is claimed once: what the three messages about claims tell in turn, and what accounts hold then.
+pub(crate) fn are_claimed(
+    alloc: Global,
+    host: &mut FakeHost,
+    rules: &ChainRules,
+) -> Result<bool, Fail>
     requires rest { IsAtRest (part_of host.old) }
 {
-    let first = told(alloc, host, rules, CLAIMS[0].0)?;
-    let second = told(alloc, host, rules, CLAIMS[1].0)?;
-    let third = told(alloc, host, rules, CLAIMS[2].0)?;
-    Ok([
-        first.as_str() == CLAIMS[0].1,
-        second.as_str() == CLAIMS[1].1,
-        third.as_str() == CLAIMS[2].1,
-    ])
+    let first = is_told(alloc, host, rules, CLAIMS[0].0, CLAIMS[0].1)?;
+    let second = is_told(alloc, host, rules, CLAIMS[1].0, CLAIMS[1].1)?;
+    let third = is_told(alloc, host, rules, CLAIMS[2].0, CLAIMS[2].1)?;
+    let held = holdings(host, &A1) == [0, 0, 0] && holdings(host, &A2) == [5, 5, 5];
+    Ok([first, second, third, held] == [true; 4])
 }
 
-#[test]
-fn what_no_account_takes_is_claimed_once(rt: HostRuntime) -> Result<(), Fail> {
-    let alloc = rt.alloc();
-    let rules = rules(alloc)?;
-    let mut host = opened(alloc)?;
-    let so = claims_told(alloc, &mut host, &rules)?;
-    assert!(rt; so == [true, true, true]);
-    assert!(rt; holdings(&host, &A1) == [0, 0, 0]);
-    assert!(rt; holdings(&host, &A2) == [5, 5, 5]);
-    Ok(())
-}
-
-#[test]
-fn what_a_program_burns_is_booked(rt: HostRuntime) -> Result<(), Fail> {
-    let alloc = rt.alloc();
-    let rules = rules(alloc)?;
+/// Whether what a program burns is booked.
+pub(crate) fn are_booked(
+    alloc: Global,
+    host: &mut FakeHost,
+    rules: &ChainRules,
+) -> Result<bool, Fail>
+    requires rest { IsAtRest (part_of host.old) }
+{
     let id = five(0).id;
     let none = Total { high: 0, low: 0 };
     let one = Total { high: 0, low: 1 };
-    let mut host = opened(alloc)?;
-    executed(alloc, &mut host, &rules, "04080004000000041c0400000004")?;
-    assert!(rt; host.burns().total(&id, Kind::Fungible, Cause::BurnAsset) == one);
-    assert!(rt; host.burns().total(&id, Kind::Fungible, Cause::Saturated) == none);
-    assert!(rt; holdings(&host, &A1) == [4, 5, 5]);
-    Ok(())
+    executed(alloc, host, rules, "04080004000000041c0400000004")?;
+    let so = [
+        host.burns().total(&id, Kind::Fungible, Cause::BurnAsset) == one,
+        host.burns().total(&id, Kind::Fungible, Cause::Saturated) == none,
+        holdings(host, &A1) == [4, 5, 5],
+    ];
+    Ok(so == [true; 3])
 }
