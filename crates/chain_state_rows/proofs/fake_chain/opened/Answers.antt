@@ -4,9 +4,9 @@ use Rattle.std.specs.List.{IsDistinct, list_all}
 use Rattle.asset_lists.specs.Listed.{listed_cmp}
 use Rattle.network_spec.specs.Networks.{same_holding}
 use Rattle.network_genesis.specs.Tests.{is_placeable}
-use Rattle.exec_function_rows.proofs.Listings.{each_once, each_held_once}
-use Rattle.exec_function_rows.proofs.Resting.{if_opened}
-use Rattle.exec_function_rows.proofs.chain.opened.Goals as goal
+use Rattle.chain_state_rows.proofs.Listings.{each_once, each_held_once}
+use Rattle.chain_state_rows.proofs.Resting.{if_opened}
+use Rattle.chain_state_rows.proofs.fake_chain.opened.Goals as goal
 
 pub new-requires-clause-distinct : goal.new-requires-clause-distinct
 new-requires-clause-distinct c = subst (λ l. IsDistinct (eq_by_cmp listed_cmp) l) (sym c.in_ok-rows.ensures.listed) each_once

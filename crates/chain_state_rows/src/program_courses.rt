@@ -2,8 +2,8 @@
 ghost use Rattle.exec_rules.specs.Readiness.{IsAtRest};
 ghost use Rattle.fake_host.specs.PartOf.{part_of};
 
-use crate::chain::{opened, rules};
-use crate::host_rows::are_trapped;
+use crate::fake_chain::{opened, rules};
+use crate::fake_host_rows::are_trapped;
 use crate::program_rows::{MESSAGES, are_booked, are_claimed, are_flagged, is_told};
 use fake_host::FakeHost;
 use std::alloc::Global;

@@ -9,7 +9,7 @@ ghost use Rattle.fake_host.specs.Opening.{have_no_checkings, balance_of};
 ghost use Rattle.fake_host.specs.PartOf.{part_of};
 ghost use Rattle.exec_base.specs.Sending.{IsForwardable};
 ghost use Rattle.exec_rules.specs.Readiness.{IsAtRest};
-ghost use Rattle.exec_function_rows.specs.Rows.{place_of, listed, five_of, balances};
+ghost use Rattle.chain_state_rows.specs.Natives.{place_of, listed, five_of, balances};
 
 use asset_lists::{Asset, AssetId, Fun, Kind};
 use barriers::Barrier;

@@ -5,7 +5,7 @@ ghost use Rattle.std.specs.Prelude.{OnOk};
 ghost use Rattle.exec_rules.specs.Readiness.{IsAtRest};
 ghost use Rattle.fake_host.specs.PartOf.{part_of};
 
-use crate::chain::{A1, A2, executed, five, holdings};
+use crate::fake_chain::{A1, A2, executed, five, holdings};
 use crate::texts::report;
 use asset_bundles::{Cause, Total};
 use asset_lists::Kind;

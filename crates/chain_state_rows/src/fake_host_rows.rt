@@ -1,5 +1,5 @@
 //! Calls of a host: a withdrawal, a deposit to a location without account, a trap and its claim.
-use crate::chain::{A1, A2, at, five, holdings, of};
+use crate::fake_chain::{A1, A2, at, five, holdings, of};
 use asset_bundles::{AssetBundle, Total};
 use asset_lists::{Assets, Kind};
 use exec_base::{Event, Host, HostFault};

@@ -4,7 +4,7 @@ use Rattle.std.specs.Ordering.{eq_by_cmp}
 use Rattle.std.specs.List.{IsDistinct}
 use Rattle.asset_lists.specs.Listed.{listed_cmp}
 use Rattle.network_spec.specs.Networks.{same_holding}
-use Rattle.exec_function_rows.specs.Rows.{listed, balances}
+use Rattle.chain_state_rows.specs.Natives.{listed, balances}
 
 pub each_once : IsDistinct (eq_by_cmp listed_cmp) listed
 unfolding IsDistinct
