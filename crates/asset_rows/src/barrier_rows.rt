@@ -118,31 +118,17 @@ fn pays(
     Ok(answer == wanted && program == paying(alloc, first, clears, after)?)
 }
 
-#[test]
-fn programs_that_pay(rt: HostRuntime) -> Result<(), Fail> {
-    for (first, clears, most, wanted) in PAYING {
-        assert!(rt;
-            pays(rt.alloc(), *first, *clears, *most, *wanted)?,
-            "instruction {} with {} assets and {clears} ClearOrigins",
-            first.0,
-            first.1
-        );
-    }
-    Ok(())
-}
-
 /// The first two parachains.
 fn origins(alloc: Global) -> Result<Origins, AllocError> {
     Ok(Origins::from_vec(vec![in alloc; para(1), para(2)]?))
 }
 
-#[test]
-fn copies_of_barriers_are_the_same(rt: HostRuntime) -> Result<(), Fail> {
-    let paid = Barrier::Paid.copy(rt.alloc())?;
-    assert!(rt; paid == Barrier::Paid);
-    let explicit = Barrier::Explicit(origins(rt.alloc())?);
-    assert!(rt; explicit.copy(rt.alloc())? == explicit);
-    Ok(())
+/// Whether copies of barriers are the same.
+fn are_copied(alloc: Global) -> Result<bool, AllocError> {
+    let explicit = Barrier::Explicit(origins(alloc)?);
+    let same = explicit.copy(alloc)?;
+    let paid = Barrier::Paid.copy(alloc)?;
+    Ok(same == explicit && paid == Barrier::Paid)
 }
 
 /// The origin, the limit that the program names, the credit, and the answers where the first two parachains need not pay, where their
@@ -172,20 +158,21 @@ fn allows(
     Ok(allow(barriers, &para(number), &mut program, WEIGHT, credit, &[]))
 }
 
-#[test]
-fn origins_that_do_not_pay(rt: HostRuntime) -> Result<(), Fail> {
-    let alloc = rt.alloc();
+/// Whether a program that doesn't pay is answered so where it need not pay, where it says so and need not, and where credit is taken.
+fn are_allowed(
+    alloc: Global,
+    number: u32,
+    most: Most,
+    credit: (u64, u64),
+    wanted: [bool; 3],
+) -> Result<bool, AllocError> {
     let explicit = [Barrier::Explicit(origins(alloc)?)];
     let unpaid = [Barrier::Unpaid(origins(alloc)?)];
-    for (number, most, credit, wanted) in NOT_PAYING {
-        let found = [
-            allows(alloc, &explicit, *number, *most, *credit)?,
-            allows(alloc, &unpaid, *number, *most, *credit)?,
-            allows(alloc, &[Barrier::Credit], *number, *most, *credit)?,
-        ];
-        assert!(rt; found == *wanted, "from {number}");
-    }
-    Ok(())
+    Ok(
+        allows(alloc, &explicit, number, most, credit)? == wanted[0]
+            && allows(alloc, &unpaid, number, most, credit)? == wanted[1]
+            && allows(alloc, &[Barrier::Credit], number, most, credit)? == wanted[2],
+    )
 }
 
 /// The query, the origin, the responses, and the answer where parachain 1 may answer query 7.
@@ -224,13 +211,28 @@ fn responds(alloc: Global, query_id: u64, number: u32, count: u8) -> Result<bool
 }
 
 #[test]
-fn responses_to_open_queries(rt: HostRuntime) -> Result<(), Fail> {
+fn barriers_allow_and_refuse(rt: HostRuntime) -> Result<(), Fail> {
+    let alloc = rt.alloc();
+    for (first, clears, most, wanted) in PAYING {
+        let (index, count) = *first;
+        assert!(rt;
+            pays(alloc, *first, *clears, *most, *wanted)?,
+            "instruction {index} with {count} assets and {clears} ClearOrigins"
+        );
+    }
+    for (number, most, credit, wanted) in NOT_PAYING {
+        assert!(rt;
+            are_allowed(alloc, *number, *most, *credit, *wanted)?,
+            "from {number}"
+        );
+    }
     for (query_id, number, count, wanted) in RESPONSES {
         assert!(rt;
-            responds(rt.alloc(), *query_id, *number, *count)? == *wanted,
+            responds(alloc, *query_id, *number, *count)? == *wanted,
             "query {query_id} from {number}"
         );
     }
+    assert!(rt; are_copied(alloc)?);
     law_of_barriers();
     Ok(())
 }

@@ -146,17 +146,6 @@ fn takes(alloc: Global, number: u8, taken: [u128; 3], left: [u128; 3]) -> Result
     Ok(right? && whole)
 }
 
-#[test]
-fn filters_take_in_holding_order_and_all_is_put_back(rt: HostRuntime) -> Result<(), Fail> {
-    for (number, taken, left) in FILTERS {
-        assert!(rt;
-            takes(rt.alloc(), *number, *taken, *left)?,
-            "filter {number}"
-        );
-    }
-    Ok(())
-}
-
 /// Whether the listed assets are taken of 7 of the fungible asset and the instances 1 and 2, and how many kinds are left then.
 fn tried(alloc: Global, asked: &Assets) -> Result<(bool, usize), Fail> {
     let all = listed(alloc, 7, 1, 3)?;
@@ -176,13 +165,10 @@ fn tried(alloc: Global, asked: &Assets) -> Result<(bool, usize), Fail> {
 /// What is asked for, an amount and the instances from 1 to before another; whether it is taken, and how many kinds are left.
 const TRIES: &[(u128, u128, bool, usize)] = &[(7, 3, true, 0), (8, 3, false, 3), (7, 4, false, 3)];
 
-#[test]
-fn all_or_nothing_is_taken(rt: HostRuntime) -> Result<(), Fail> {
-    for (number, to, held, kinds) in TRIES {
-        let asked = listed(rt.alloc(), *number, 1, *to)?;
-        assert!(rt; tried(rt.alloc(), &asked)? == (*held, *kinds));
-    }
-    Ok(())
+/// Whether an amount and these instances are taken or not, and so many kinds are left.
+fn is_tried(alloc: Global, number: u128, to: u128, held: bool, kinds: usize) -> Result<bool, Fail> {
+    let asked = listed(alloc, number, 1, to)?;
+    Ok(tried(alloc, &asked)? == (held, kinds))
 }
 
 /// What a join of the two lists, as bundles, would give up.
@@ -222,14 +208,6 @@ fn exceeds(
     is_listed(alloc, excess(alloc, &first, &second)?, above)
 }
 
-#[test]
-fn joins_tell_what_they_would_give_up(rt: HostRuntime) -> Result<(), Fail> {
-    for (first, second, above) in JOINS {
-        assert!(rt; exceeds(rt.alloc(), *first, *second, *above)?);
-    }
-    Ok(())
-}
-
 /// Burns, loses and joins empty bundles: whether the join was out of memory.
 fn give_up_nothing(alloc: Global, book: &mut BurnBook) -> bool {
     AssetBundle::empty(alloc).burn(book, Cause::BurnAsset);
@@ -258,25 +236,29 @@ const GREATEST: Total = Total {
     low: u128::MAX,
 };
 
-#[test]
-fn totals_are_added_and_saturate(rt: HostRuntime) {
-    assert!(rt; NONE.plus(u128::MAX).plus(1) == ABOVE);
-    assert!(rt; ABOVE.sum(ABOVE) == Total { high: 2, low: 0 });
-    assert!(rt; GREATEST.sum(ABOVE) == GREATEST);
-    assert!(rt; GREATEST.sum(GREATEST) == GREATEST);
-    assert!(rt; GREATEST.plus(1) == GREATEST);
-    assert!(rt; NONE.plus(u128::MAX) < ABOVE);
-    assert!(rt; ABOVE < GREATEST);
+/// Whether totals are added and saturate.
+fn are_added() -> bool {
+    NONE.plus(u128::MAX).plus(1) == ABOVE
+        && ABOVE.sum(ABOVE) == Total { high: 2, low: 0 }
+        && GREATEST.sum(ABOVE) == GREATEST
+        && GREATEST.sum(GREATEST) == GREATEST
+        && GREATEST.plus(1) == GREATEST
+        && NONE.plus(u128::MAX) < ABOVE
+        && ABOVE < GREATEST
 }
 
-#[test]
-fn burns_are_added_up(rt: HostRuntime) -> Result<(), Fail> {
+/// Whether nothing is booked of what is given up of nothing.
+fn is_booked(alloc: Global, book: &mut BurnBook) -> bool {
+    !give_up_nothing(alloc, book)
+        && book.total(&coin(), Kind::Fungible, Cause::BurnAsset) == NONE
+        && book.total(&coin(), Kind::Class, Cause::LostTeleport) == NONE
+}
+
+/// Whether burns are added up in a new book.
+fn are_booked(alloc: Global) -> Result<bool, AllocError> {
     let assets = [(coin(), Kind::Fungible), (class(), Kind::Class)];
-    let mut book = BurnBook::new(rt.alloc(), &assets)?;
-    assert!(rt; !give_up_nothing(rt.alloc(), &mut book));
-    assert!(rt; book.total(&coin(), Kind::Fungible, Cause::BurnAsset) == NONE);
-    assert!(rt; book.total(&coin(), Kind::Class, Cause::LostTeleport) == NONE);
-    Ok(())
+    let mut book = BurnBook::new(alloc, &assets)?;
+    Ok(is_booked(alloc, &mut book))
 }
 
 /// Whether the units are those of the list, 7 of the fungible asset among them, in so many kinds.
@@ -295,14 +277,13 @@ fn is_under_way(shipment: &Shipment, kinds: usize) -> Result<bool, AllocError> {
     )
 }
 
-#[test]
-fn units_rest_and_are_shipped(rt: HostRuntime) -> Result<(), Fail> {
-    let list = listed(rt.alloc(), 7, 1, 3)?;
-    let units = minted(rt.alloc(), &list)?.set_down();
-    assert!(rt; rests(&units, &list, 3)?);
+/// Whether units rest, and are shipped.
+fn are_shipped(alloc: Global) -> Result<bool, Fail> {
+    let list = listed(alloc, 7, 1, 3)?;
+    let units = minted(alloc, &list)?.set_down();
+    let rest = rests(&units, &list, 3)?;
     let shipment = AssetBundle::take_up(units).ship(Way::Withdrawal);
-    assert!(rt; is_under_way(&shipment, 3)?);
-    Ok(())
+    Ok(rest && is_under_way(&shipment, 3)?)
 }
 
 #[test]
@@ -345,35 +326,63 @@ fn coins_of(number: u128, parents: u8, interior: Junctions) -> Asset {
     }
 }
 
-#[test]
-fn shipments_land_under_the_names_of_the_target(rt: HostRuntime) -> Result<(), Fail> {
-    let alloc = rt.alloc();
-    let polkadot = Junction::GlobalConsensus(NetworkId::Polkadot);
-    let para = Junction::Parachain(2000);
+/// What is sent from a parachain to the relay chain: an asset of the sender, one of the relay chain, and an instance.
+fn sent(alloc: Global) -> Result<Assets, Fail> {
     let pallet = Junction::PalletInstance(50);
-    let context = Junctions::from_few(&[polkadot, para]);
-    // from a parachain to the relay chain: an asset of the sender, one of the relay chain, and an instance
     let sent = vec![in alloc;
         coins_of(7, 0, Junctions::from_few(&[pallet])),
         coins_of(5, 1, Junctions::empty()),
         piece(3),
     ]?;
+    Ok(Assets::from_sorted(sent)?)
+}
+
+/// Whether this is what arrives, as the relay chain names it.
+fn is_arrived(arrived: &[Asset]) -> bool {
+    let para = Junction::Parachain(2000);
+    let pallet = Junction::PalletInstance(50);
+    let third = Asset {
+        id: AssetId::Concrete(Location {
+            parents: 0,
+            interior: Junctions::from_few(&[para, Junction::GeneralIndex(1)]),
+        }),
+        fun: Fun::NonFungible(Instance::Index(3)),
+    };
+    match arrived {
+        [first, second, last] => *first == coins_of(5, 0, Junctions::empty())
+            && *second == coins_of(7, 0, Junctions::from_few(&[para, pallet]))
+            && *last == third,
+        _ => false,
+    }
+}
+
+/// Whether shipments land under the names of the target.
+fn land(alloc: Global) -> Result<bool, Fail> {
+    let polkadot = Junction::GlobalConsensus(NetworkId::Polkadot);
+    let context = Junctions::from_few(&[polkadot, Junction::Parachain(2000)]);
     let relay = Location {
         parents: 1,
         interior: Junctions::empty(),
     };
-    let arrived = landed(alloc, &Assets::from_sorted(sent)?, &relay, &context)?;
-    let wanted = vec![in alloc;
-        coins_of(5, 0, Junctions::empty()),
-        coins_of(7, 0, Junctions::from_few(&[para, pallet])),
-        Asset {
-            id: AssetId::Concrete(Location {
-                parents: 0,
-                interior: Junctions::from_few(&[para, Junction::GeneralIndex(1)]),
-            }),
-            fun: Fun::NonFungible(Instance::Index(3)),
-        },
-    ]?;
-    assert!(rt; arrived.as_slice() == wanted.as_slice());
+    let sent = sent(alloc)?;
+    let arrived = landed(alloc, &sent, &relay, &context)?;
+    Ok(is_arrived(arrived.as_slice()))
+}
+
+#[test]
+fn bundles_are_taken_apart_and_joined(rt: HostRuntime) -> Result<(), Fail> {
+    let alloc = rt.alloc();
+    for (number, taken, left) in FILTERS {
+        assert!(rt; takes(alloc, *number, *taken, *left)?, "filter {number}");
+    }
+    for (number, to, held, kinds) in TRIES {
+        assert!(rt; is_tried(alloc, *number, *to, *held, *kinds)?);
+    }
+    for (first, second, above) in JOINS {
+        assert!(rt; exceeds(alloc, *first, *second, *above)?);
+    }
+    assert!(rt; are_added());
+    assert!(rt; are_booked(alloc)?);
+    assert!(rt; are_shipped(alloc)? && land(alloc)?);
     Ok(())
 }

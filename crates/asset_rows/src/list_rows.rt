@@ -65,34 +65,30 @@ fn five(alloc: Global) -> Result<Vec<Asset>, AllocError> {
     Ok(items)
 }
 
-#[test]
-fn a_sorted_list_is_taken(rt: HostRuntime) -> Result<(), Fail> {
-    let list = Assets::from_sorted(five(rt.alloc())?)?;
-    assert!(rt; list.items().len() == 5);
-    assert!(rt; list.copy()? == list);
-    assert!(rt; is_rising(list.items()));
-    assert!(rt; Assets::from_sorted(copied(rt.alloc(), list.items())?)? == list);
-    Ok(())
+/// Whether a sorted list is taken, and copies of it are the same.
+fn is_taken(alloc: Global) -> Result<bool, Fail> {
+    let list = Assets::from_sorted(five(alloc)?)?;
+    let same = list.copy()?;
+    let again = Assets::from_sorted(copied(alloc, list.items())?)?;
+    let full = Assets::from_sorted(many(alloc, 20)?)?;
+    Ok(
+        list.items().len() == 5
+            && is_rising(list.items())
+            && same == list
+            && again == list
+            && full.items().len() == 20,
+    )
 }
 
-#[test]
-fn a_list_may_have_twenty_items(rt: HostRuntime) -> Result<(), Fail> {
-    let full = Assets::from_sorted(many(rt.alloc(), 20)?)?;
-    assert!(rt; full.items().len() == 20);
-    Ok(())
-}
-
-#[test]
-fn lists_of_one_and_of_none(rt: HostRuntime) -> Result<(), Fail> {
-    let alloc = rt.alloc();
+/// Whether lists of one and of none are so.
+fn are_short(alloc: Global) -> Result<bool, Fail> {
     let asset = Asset {
         id: AssetId::Concrete(place(1, &[])),
         fun: Fun::Fungible(3),
     };
     let one = Assets::one(alloc, asset)?;
-    assert!(rt; one == Assets::from_sorted(vec![in alloc; above(3)]?)?);
-    assert!(rt; Assets::empty(alloc).items().is_empty());
-    Ok(())
+    let same = Assets::from_sorted(vec![in alloc; above(3)]?)?;
+    Ok(one == same && Assets::empty(alloc).items().is_empty())
 }
 
 /// Two items, in this order.
@@ -112,35 +108,44 @@ fn fault_of_two(
     Ok(Assets::from_sorted(pair(alloc, first, second)?).err())
 }
 
-#[test]
-fn other_items_are_no_list(rt: HostRuntime) -> Result<(), Fail> {
-    let alloc = rt.alloc();
-    assert!(rt; Assets::from_sorted(many(alloc, 21)?) == Err(ListFault::TooMany));
-    assert!(rt; Assets::from_sorted(vec![in alloc; own(0)]?) == Err(ListFault::Zero));
-    assert!(rt; fault_of_two(alloc, own(1), own(2))? == Some(ListFault::OutOfOrder));
-    let mixed = fault_of_two(alloc, piece(Instance::Undefined), own(2))?;
-    assert!(rt; mixed == Some(ListFault::OutOfOrder));
-    Ok(())
+/// Why these items are no list.
+fn fault_of(items: Vec<Asset>) -> Option<ListFault> {
+    Assets::from_sorted(items).err()
 }
 
-#[test]
-fn an_asset_goes_to_its_place(rt: HostRuntime) -> Result<(), Fail> {
-    let mut list = Assets::from_sorted(many(rt.alloc(), 2)?)?;
-    list.insert(piece(Instance::Index(1)))?;
-    list.insert(own(5))?;
-    assert!(rt; list.items().len() == 4);
-    assert!(rt; list.items()[0] == own(5));
-    assert!(rt; list.items()[3] == piece(Instance::Index(1)));
-    assert!(rt; list.insert(above(0)) == Err(ListFault::Zero));
-    assert!(rt; list.insert(own(9)) == Err(ListFault::OutOfOrder));
-    Ok(())
+/// Whether other items are no list.
+fn are_refused(alloc: Global) -> Result<bool, AllocError> {
+    let swapped = Some(ListFault::OutOfOrder);
+    Ok(
+        fault_of(many(alloc, 21)?) == Some(ListFault::TooMany)
+            && fault_of(vec![in alloc; own(0)]?) == Some(ListFault::Zero)
+            && fault_of_two(alloc, own(1), own(2))? == swapped
+            && fault_of_two(alloc, piece(Instance::Undefined), own(2))? == swapped,
+    )
 }
 
-#[test]
-fn no_asset_goes_into_a_full_list(rt: HostRuntime) -> Result<(), Fail> {
-    let mut full = Assets::from_sorted(many(rt.alloc(), 20)?)?;
-    assert!(rt; full.insert(above(1)) == Err(ListFault::TooMany));
-    Ok(())
+/// Puts assets into their places: whether each is answered as it should be.
+fn takes_in(list: &mut Assets) -> bool {
+    list.insert(piece(Instance::Index(1))) == Ok(())
+        && list.insert(own(5)) == Ok(())
+        && list.insert(above(0)) == Err(ListFault::Zero)
+        && list.insert(own(9)) == Err(ListFault::OutOfOrder)
+}
+
+/// Whether just these are in the list: 5 of the chain's own asset, two assets more, and an instance.
+fn are_in_place(items: &[Asset]) -> bool {
+    match items {
+        [first, _, _, last] => *first == own(5) && *last == piece(Instance::Index(1)),
+        _ => false,
+    }
+}
+
+/// Whether an asset goes to its place, and none into a full list.
+fn go_to_their_places(alloc: Global) -> Result<bool, Fail> {
+    let mut list = Assets::from_sorted(many(alloc, 2)?)?;
+    let mut full = Assets::from_sorted(many(alloc, 20)?)?;
+    let is_full = full.insert(above(1)) == Err(ListFault::TooMany);
+    Ok(takes_in(&mut list) && are_in_place(list.items()) && is_full)
 }
 
 /// Parachain 2000 of Polkadot.
@@ -154,32 +159,32 @@ fn two(alloc: Global, first: Asset, second: Asset) -> Result<Assets, Fail> {
     Ok(Assets::from_sorted(pair(alloc, first, second)?)?)
 }
 
-#[test]
-fn a_list_is_reanchored(rt: HostRuntime) -> Result<(), Fail> {
-    let alloc = rt.alloc();
-    let seen = two(alloc, own(3), above(4))?.reanchored(&place(1, &[]), &context())?;
+/// Whether the relay chain above names the list so.
+fn is_seen(alloc: Global) -> Result<bool, Fail> {
+    let list = two(alloc, own(3), above(4))?;
     let child = amount(3, place(0, &[Junction::Parachain(2000)]));
-    assert!(rt; seen == two(alloc, own(4), child)?);
-    Ok(())
+    let seen = list.reanchored(&place(1, &[]), &context())?;
+    Ok(seen == two(alloc, own(4), child)?)
 }
 
-#[test]
-fn other_lists_are_not_reanchored(rt: HostRuntime) -> Result<(), Fail> {
-    let alloc = rt.alloc();
-    let relay = place(1, &[]);
-    let alike = two(
-        alloc,
-        own(1),
-        amount(1, place(1, &[Junction::Parachain(2000)])),
-    )?;
-    assert!(rt; alike.reanchored(&relay, &context()) == Err(ReanchorFault::Same));
+/// Why the relay chain above doesn't name the list.
+fn unseen(list: &Assets) -> Option<ReanchorFault> {
+    list.reanchored(&place(1, &[]), &context()).err()
+}
+
+/// Whether a list of what is named alike isn't reanchored, and one of an id by bytes.
+fn are_unseen(alloc: Global) -> Result<bool, Fail> {
+    let sibling = amount(1, place(1, &[Junction::Parachain(2000)]));
     let bytes = Asset {
         id: AssetId::Abstract([1; 32]),
         fun: Fun::Fungible(1),
     };
+    let alike = two(alloc, own(1), sibling)?;
     let unnamed = Assets::from_sorted(vec![in alloc; bytes]?)?;
-    assert!(rt; unnamed.reanchored(&relay, &context()) == Err(ReanchorFault::NotReanchored));
-    Ok(())
+    Ok(
+        unseen(&alike) == Some(ReanchorFault::Same)
+            && unseen(&unnamed) == Some(ReanchorFault::NotReanchored),
+    )
 }
 
 /// The network of Kusama.
@@ -187,24 +192,24 @@ fn kusama() -> Junctions {
     Junctions::from_few(&[Junction::GlobalConsensus(NetworkId::Kusama)])
 }
 
-#[test]
-fn ids_are_compared(rt: HostRuntime) {
+/// Whether ids are compared, copied, and not reanchored where they are by bytes.
+fn are_ids() -> bool {
     let concrete = AssetId::Concrete(place(0, &[]));
     let bytes = AssetId::Abstract([0; 32]);
-    assert!(rt; concrete.cmp(&bytes) == Ordering::Less);
-    assert!(rt; concrete.copy() == concrete);
-    assert!(rt; bytes.reanchored(&place(0, &[]), &kusama()).is_none());
+    concrete.cmp(&bytes) == Ordering::Less
+        && concrete.copy() == concrete
+        && bytes.reanchored(&place(0, &[]), &kusama()).is_none()
 }
 
-#[test]
-fn units_are_compared(rt: HostRuntime) {
+/// Whether units are compared, copied and reanchored.
+fn are_units() -> bool {
     let few = own(1);
     let more = own(2);
-    assert!(rt; few.unit_cmp(&more) == Ordering::Equal);
-    assert!(rt; few.cmp(&more) == Ordering::Less);
-    assert!(rt; few.copy() == few);
-    assert!(rt; !few.is_zero());
-    assert!(rt; few.reanchored(&place(0, &[]), &kusama()) == Some(few));
+    few.unit_cmp(&more) == Ordering::Equal
+        && few.cmp(&more) == Ordering::Less
+        && few.copy() == few
+        && !few.is_zero()
+        && few.reanchored(&place(0, &[]), &kusama()) == Some(few)
 }
 
 /// Whether this is the kind of the asset, and its amount.
@@ -212,32 +217,46 @@ fn is_amount(asset: &Asset, kind: Kind, amount: u128) -> bool {
     asset.kind() == kind && asset.amount() == amount
 }
 
-#[test]
-fn assets_have_a_kind_and_an_amount(rt: HostRuntime) {
-    assert!(rt; is_amount(&own(1), Kind::Fungible, 1));
-    assert!(rt; is_amount(&own(2), Kind::Fungible, 2));
-    assert!(rt; is_amount(&piece(Instance::Index(1)), Kind::Class, 1));
-    assert!(rt; Kind::Fungible < Kind::Class);
+/// Whether assets have a kind and an amount.
+fn have_amounts() -> bool {
+    is_amount(&own(1), Kind::Fungible, 1)
+        && is_amount(&own(2), Kind::Fungible, 2)
+        && is_amount(&piece(Instance::Index(1)), Kind::Class, 1)
+        && Kind::Fungible < Kind::Class
 }
 
-#[test]
-fn filters_differ(rt: HostRuntime) -> Result<(), Fail> {
-    let list = Assets::from_sorted(Vec::new(rt.alloc()))?;
-    assert!(rt; Filter::Definite(list) != Filter::Wild(Wild::All));
+/// Whether filters differ.
+fn differ(alloc: Global) -> bool {
     let of = Wild::AllOf {
         id: AssetId::Concrete(place(0, &[])),
         fun: WildFun::Fungible,
     };
-    assert!(rt; of != Wild::AllCounted(1));
-    Ok(())
+    Filter::Definite(Assets::empty(alloc)) != Filter::Wild(Wild::All) && of != Wild::AllCounted(1)
+}
+
+/// Whether this is the text.
+fn is_text(text: Result<String, AllocError>, want: &str) -> Result<bool, AllocError> {
+    Ok(text?.as_str() == want)
+}
+
+/// Whether the refusals have their texts.
+fn say_why(alloc: Global) -> Result<bool, AllocError> {
+    let alike = "two assets that the target names alike";
+    Ok(
+        is_text(ListFault::Zero.to_string(alloc), "an amount of 0")?
+            && is_text(ReanchorFault::Same.to_string(alloc), alike)?,
+    )
 }
 
 #[test]
-fn refusals_have_texts(rt: HostRuntime) -> Result<(), Fail> {
-    let zero = ListFault::Zero.to_string(rt.alloc())?;
-    assert!(rt; zero.as_str() == "an amount of 0");
-    let same = ReanchorFault::Same.to_string(rt.alloc())?;
-    assert!(rt; same.as_str() == "two assets that the target names alike");
+fn lists_and_their_assets(rt: HostRuntime) -> Result<(), Fail> {
+    let alloc = rt.alloc();
+    assert!(rt; is_taken(alloc)? && are_short(alloc)?);
+    assert!(rt; are_refused(alloc)?);
+    assert!(rt; go_to_their_places(alloc)?);
+    assert!(rt; is_seen(alloc)? && are_unseen(alloc)?);
+    assert!(rt; are_ids() && are_units() && have_amounts());
+    assert!(rt; differ(alloc) && say_why(alloc)?);
     Ok(())
 }
 

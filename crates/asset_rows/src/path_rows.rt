@@ -3,6 +3,7 @@ use locations::{
     BodyId, BodyPart, Full, Junction, Junctions, Location, LocationFault, NetworkId, PathFault,
     invert_target, law_of_derived_order, law_of_order, law_of_paths,
 };
+use std::alloc::{AllocError, Global};
 use std::cmp::Ordering;
 use std::test::Fail;
 
@@ -15,6 +16,9 @@ const PARA_2000: Junction = Junction::Parachain(2000);
 const PALLET: Junction = Junction::PalletInstance(50);
 
 const INDEX: Junction = Junction::GeneralIndex(1984);
+
+/// Parents and junctions.
+type Place = (u8, &'static [Junction]);
 
 fn chain(items: &[Junction]) -> Result<Junctions, Full> {
     let mut chain = Junctions::empty();
@@ -29,38 +33,40 @@ fn place(parents: u8, items: &[Junction]) -> Result<Location, Full> {
     Ok(Location { parents, interior })
 }
 
-#[test]
-fn junctions_are_at_most_eight(rt: HostRuntime) -> Result<(), Fail> {
+/// Whether there are at most eight junctions.
+fn has_few() -> Result<bool, Full> {
     let four = chain(&[PALLET; 4])?;
     let mut many = four.copy();
-    assert!(rt; many == four);
+    let is_same = many == four;
     many.append(&four)?;
-    assert!(rt; many.items().len() == 8);
-    assert!(rt; many.push(POLKADOT) == Err(Full));
-    assert!(rt; many.append(&four) == Err(Full));
-    assert!(rt; many.append(&Junctions::empty()) == Ok(()));
-    assert!(rt; many == Junctions::from_few(&[PALLET; 8]));
-    Ok(())
+    Ok(
+        is_same
+            && many.items().len() == 8
+            && many.push(POLKADOT) == Err(Full)
+            && many.append(&four) == Err(Full)
+            && many.append(&Junctions::empty()) == Ok(())
+            && many == Junctions::from_few(&[PALLET; 8]),
+    )
 }
 
-#[test]
-fn no_place_behind_the_list_is_lent_for_writing(rt: HostRuntime) -> Result<(), Fail> {
+/// Whether each place of the list is lent for writing, and none behind it.
+fn lends_its_places() -> Result<bool, Full> {
     let mut two = chain(&[POLKADOT, PALLET])?;
     let places = two.places();
-    assert!(rt; places.len() == 2);
+    if places.len() != 2 {
+        return Ok(false);
+    }
     places[1] = INDEX;
-    assert!(rt; two == chain(&[POLKADOT, INDEX])?);
-    Ok(())
+    Ok(two.items() == [POLKADOT, INDEX].as_slice())
 }
 
-#[test]
-fn the_way_back_is_of_the_junctions_above(rt: HostRuntime) -> Result<(), Fail> {
-    // the target, seen from a chain right under the root, and the way back
+/// Whether the way back from a target, seen from a chain right under the root, is of the junctions above.
+fn leads_back() -> Result<bool, Full> {
     let context = chain(&[POLKADOT])?;
     let back = place(0, &[Junction::OnlyChild, Junction::OnlyChild, POLKADOT])?;
-    assert!(rt; invert_target(&context, &place(3, &[])?) == Ok(back));
-    assert!(rt; invert_target(&context, &place(9, &[])?) == Err(Full));
-    Ok(())
+    let near = invert_target(&context, &place(3, &[])?);
+    let far = invert_target(&context, &place(9, &[])?);
+    Ok(near == Ok(back) && far == Err(Full))
 }
 
 /// What a prefix in front of the location makes of it.
@@ -70,34 +76,59 @@ fn prefixed(location: Location, prefix: &Location) -> Result<Location, LocationF
     Ok(found)
 }
 
-#[test]
-fn a_prefix_is_cancelled_or_added(rt: HostRuntime) -> Result<(), Fail> {
-    let inside = prefixed(place(1, &[INDEX])?, &place(2, &[POLKADOT, PARA_2])?);
-    assert!(rt; inside == Ok(place(2, &[POLKADOT, INDEX])?));
-    let high = prefixed(place(255, &[])?, &place(1, &[])?);
-    assert!(rt; high == Err(LocationFault::TooHigh));
-    let full = prefixed(
-        place(0, &[Junction::OnlyChild; 8])?,
-        &place(0, &[POLKADOT])?,
-    );
-    assert!(rt; full == Err(LocationFault::Full));
-    Ok(())
+/// Locations, prefixes, and what they make of them: they are cancelled or added.
+const PREFIXED: &[(Place, Place, Result<Place, LocationFault>)] = &[
+    (
+        (1, &[INDEX]),
+        (2, &[POLKADOT, PARA_2]),
+        Ok((2, &[POLKADOT, INDEX])),
+    ),
+    ((255, &[]), (1, &[]), Err(LocationFault::TooHigh)),
+    (
+        (0, &[Junction::OnlyChild; 8]),
+        (0, &[POLKADOT]),
+        Err(LocationFault::Full),
+    ),
+];
+
+/// Whether the location stands there.
+fn is_at(location: &Location, place: Place) -> bool {
+    location.parents == place.0 && location.interior.items() == place.1
 }
 
-#[test]
-fn what_leads_back_along_the_context_is_dropped(rt: HostRuntime) -> Result<(), Fail> {
+/// Whether the prefix makes this of the location.
+fn is_prefixed(
+    location: Place,
+    prefix: Place,
+    want: Result<Place, LocationFault>,
+) -> Result<bool, Full> {
+    let location = place(location.0, location.1)?;
+    let prefix = place(prefix.0, prefix.1)?;
+    Ok(match prefixed(location, &prefix) {
+        Ok(found) => match want {
+            Ok(place) => is_at(&found, place),
+            Err(_) => false,
+        },
+        Err(fault) => want == Err(fault),
+    })
+}
+
+/// Whether this is left of the location where what leads back along the context of parachain 2 is dropped.
+fn is_left(location: Place, left: Place) -> Result<bool, Full> {
     let context = chain(&[POLKADOT, PARA_2])?;
-    let mut led = place(2, &[POLKADOT, Junction::Parachain(3)])?;
-    led.simplify(&context);
-    assert!(rt; led == place(1, &[Junction::Parachain(3)])?);
-    let mut above = place(3, &[POLKADOT])?;
-    above.simplify(&context);
-    assert!(rt; above == place(3, &[POLKADOT])?);
-    Ok(())
+    let mut found = place(location.0, location.1)?;
+    found.simplify(&context);
+    Ok(is_at(&found, left))
 }
 
-/// Parents and junctions.
-type Place = (u8, &'static [Junction]);
+/// A way along the context, and one past its root.
+const LEFT: &[(Place, Place)] = &[
+    (
+        (2, &[POLKADOT, Junction::Parachain(3)]),
+        (1, &[Junction::Parachain(3)]),
+    ),
+    ((3, &[POLKADOT]), (3, &[POLKADOT])),
+];
 
 /// The location, the target, and what the target calls the location.
 const REANCHORED: &[(Place, Place, Place)] = &[
@@ -118,18 +149,14 @@ fn is_called(location: Place, target: Place, seen: Place) -> Result<bool, Full> 
     let context = chain(&[POLKADOT, PARA_2000])?;
     let target = place(target.0, target.1)?;
     let found = place(location.0, location.1)?.reanchored(&target, &context);
-    Ok(found == Ok(place(seen.0, seen.1)?))
+    Ok(matches!(found, Ok(place) if is_at(&place, seen)))
 }
 
-#[test]
-fn reanchored_locations(rt: HostRuntime) -> Result<(), Fail> {
-    for (location, target, seen) in REANCHORED {
-        assert!(rt; is_called(*location, *target, *seen)?);
-    }
+/// Whether what is too far away isn't named.
+fn is_too_far() -> Result<bool, Full> {
     let context = chain(&[POLKADOT, PARA_2000])?;
     let far = place(0, &[])?.reanchored(&place(9, &[])?, &context);
-    assert!(rt; far == Err(LocationFault::Full));
-    Ok(())
+    Ok(far == Err(LocationFault::Full))
 }
 
 /// Parents, junctions, the path, and whether the name is the shortest.
@@ -145,27 +172,23 @@ const PATHS: &[(u8, &[Junction], Result<&[Junction], PathFault>, bool)] = &[
     ),
     (2, &[POLKADOT], Ok(&[POLKADOT]), false),
     (3, &[], Err(PathFault::PastRoot), false),
+    (0, &[PALLET; 7], Err(PathFault::Full), true),
 ];
 
-/// Whether the location has this path from parachain 2000, or none for this cause.
-fn leads(location: &Location, want: Result<&[Junction], PathFault>) -> Result<bool, Full> {
+/// Whether the place has this path from parachain 2000, or none for this cause, and whether its name is the shortest there.
+fn leads(
+    parents: u8,
+    junctions: &[Junction],
+    want: Result<&[Junction], PathFault>,
+    normal: bool,
+) -> Result<bool, Full> {
     let context = chain(&[POLKADOT, PARA_2000])?;
-    Ok(match location.path(&context) {
+    let location = place(parents, junctions)?;
+    let is_path = match location.path(&context) {
         Ok(path) => Ok(path.items()) == want,
         Err(fault) => Err(fault) == want,
-    })
-}
-
-#[test]
-fn paths_and_normal_names(rt: HostRuntime) -> Result<(), Fail> {
-    let context = chain(&[POLKADOT, PARA_2000])?;
-    for (parents, junctions, path, normal) in PATHS {
-        let location = place(*parents, junctions)?;
-        assert!(rt; leads(&location, *path)?);
-        assert!(rt; location.is_normal(&context) == *normal);
-    }
-    assert!(rt; leads(&place(0, &[PALLET; 7])?, Err(PathFault::Full))?);
-    Ok(())
+    };
+    Ok(is_path && location.is_normal(&context) == normal)
 }
 
 /// Places in their order.
@@ -185,31 +208,63 @@ fn is_before(first: Place, second: Place) -> Result<bool, Full> {
     Ok(first.cmp(&second) == Ordering::Less && first < second)
 }
 
-#[test]
-fn order_is_by_parents_number_and_junctions(rt: HostRuntime) -> Result<(), Fail> {
+/// Whether each place comes before the next.
+fn are_rising() -> Result<bool, Full> {
     for (first, second) in RISING.iter().zip(&RISING[1..]) {
-        assert!(rt; is_before(*first, *second)?);
+        if !is_before(*first, *second)? {
+            return Ok(false);
+        }
     }
-    let id = BodyId::Unit;
-    let voice = Junction::Plurality {
-        id,
-        part: BodyPart::Voice,
-    };
-    let members = Junction::Plurality {
-        id,
-        part: BodyPart::Members { count: 3 },
-    };
-    assert!(rt; voice < members);
-    Ok(())
+    Ok(true)
+}
+
+/// A part of a body.
+const VOICE: Junction = Junction::Plurality {
+    id: BodyId::Unit,
+    part: BodyPart::Voice,
+};
+
+const MEMBERS: Junction = Junction::Plurality {
+    id: BodyId::Unit,
+    part: BodyPart::Members { count: 3 },
+};
+
+/// Whether this is the text.
+fn is_text(text: Result<String, AllocError>, want: &str) -> Result<bool, AllocError> {
+    Ok(text?.as_str() == want)
+}
+
+/// Whether the refusals say why.
+fn say_why(alloc: Global) -> Result<bool, AllocError> {
+    let past = "more parents than the context has junctions";
+    Ok(
+        is_text(Full.to_string(alloc), "more than eight junctions")?
+            && is_text(
+                LocationFault::TooHigh.to_string(alloc),
+                "more than 255 parents",
+            )?
+            && is_text(PathFault::PastRoot.to_string(alloc), past)?,
+    )
 }
 
 #[test]
-fn refusals_of_locations_say_why(rt: HostRuntime) -> Result<(), Fail> {
-    let alloc = rt.alloc();
-    assert!(rt; Full.to_string(alloc)?.as_str() == "more than eight junctions");
-    assert!(rt; LocationFault::TooHigh.to_string(alloc)?.as_str() == "more than 255 parents");
-    let past = PathFault::PastRoot.to_string(alloc)?;
-    assert!(rt; past.as_str() == "more parents than the context has junctions");
+fn locations_and_their_paths(rt: HostRuntime) -> Result<(), Fail> {
+    for (location, prefix, want) in PREFIXED {
+        assert!(rt; is_prefixed(*location, *prefix, *want)?);
+    }
+    for (location, left) in LEFT {
+        assert!(rt; is_left(*location, *left)?);
+    }
+    for (location, target, seen) in REANCHORED {
+        assert!(rt; is_called(*location, *target, *seen)?);
+    }
+    for (parents, junctions, path, normal) in PATHS {
+        assert!(rt; leads(*parents, junctions, *path, *normal)?);
+    }
+    assert!(rt; has_few()? && lends_its_places()? && leads_back()?);
+    assert!(rt; is_too_far()? && are_rising()?);
+    assert!(rt; VOICE < MEMBERS);
+    assert!(rt; say_why(rt.alloc())?);
     Ok(())
 }
 

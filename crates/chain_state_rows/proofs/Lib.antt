@@ -1,3 +1,5 @@
 pub mod Handled
 pub mod Listed
+pub mod Listings
 pub mod Reports
+pub mod Resting

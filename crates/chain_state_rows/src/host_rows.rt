@@ -1,12 +1,12 @@
 //! What stays at the chain: moves between accounts, traps, arrivals, burns, queries, weight and fees.
+//!
+//! Each function is lent a chain that has just opened and says whether all calls answer as they should.
 ghost use Rattle.std.specs.Prelude.{◌≡◌, ◌<◌, []};
 ghost use Rattle.amounts.specs.Amounts.{empty};
 ghost use Rattle.channel_parts.specs.declared.cargo.Cargo.{Cargo};
 ghost use Rattle.chain_state.specs.PartOf.{part_of};
 
-use crate::chains::{
-    A1, A2, A9, PARA, all_chains, at, coins, held, here, list, of, para, put, relay, taken,
-};
+use crate::chains::{A1, A2, A9, PARA, at, held, here, list, of, para, put, taken};
 use asset_bundles::{AssetBundle, Cause, Way, law_of_listed_assets};
 use asset_lists::{AssetId, Assets, Filter, Kind};
 use chain_queues::Cargo;
@@ -15,8 +15,6 @@ use exec_base::{Event, Host, HostFault};
 use locations::{Junction, Location};
 use message_parts::{Weight, XcmError};
 use std::alloc::Global;
-use std::test::Fail;
-use trust_tables::ChainId;
 
 /// Traps goods, unless there are none.
 fn trap(chain: &mut ChainState, goods: AssetBundle) {
@@ -52,30 +50,28 @@ fn claimed(chain: &mut ChainState, assets: &Assets) -> Result<Option<HostFault>,
     Ok(put(chain, goods, &of(A2)))
 }
 
-#[test]
-fn what_no_account_takes_is_trapped_and_claimed(rt: HostRuntime) -> Result<(), Fail> {
-    let alloc = rt.alloc();
+/// What no account takes is trapped, and claimed once.
+pub(crate) fn traps(chain: &mut ChainState, alloc: Global) -> Result<bool, HostFault> {
     let ten = list(alloc, here(), 10)?;
-    let mut chain = relay(alloc)?;
     let nobody = at(Junction::OnlyChild);
     let failed = HostFault::Xcm(XcmError::FailedToTransactAsset);
-    assert!(rt; offered(&mut chain, &ten, &nobody) == Ok(Some(failed)));
-    assert!(rt; held(&chain, &A1) == 90);
-    assert!(rt;
+    let so = [
+        offered(chain, &ten, &nobody) == Ok(Some(failed)),
+        held(chain, &A1) == 90,
         chain
             .traps()
             .total(&AssetId::Concrete(here()), Kind::Fungible)
             .low
-            == 10
-    );
-    assert!(rt; matches!(chain.trace(), [Event::Trapped { number: 1 }]));
-    assert!(rt; claimed(&mut chain, &ten) == Ok(None));
-    assert!(rt; claimed(&mut chain, &ten) == Err(HostFault::Xcm(XcmError::UnknownClaim)));
-    assert!(rt; held(&chain, &A2) == 10);
-    assert!(rt; chain.transfer(&ten, &of(A2), &of(A1)) == Ok(()));
-    assert!(rt; chain.transfer(&ten, &of(A2), &of(A1)) == Err(failed));
-    assert!(rt; held(&chain, &A1) == 100);
-    Ok(())
+            == 10,
+        matches!(chain.trace(), [Event::Trapped { number: 1 }]),
+        claimed(chain, &ten) == Ok(None),
+        claimed(chain, &ten) == Err(HostFault::Xcm(XcmError::UnknownClaim)),
+        held(chain, &A2) == 10,
+        chain.transfer(&ten, &of(A2), &of(A1)) == Ok(()),
+        chain.transfer(&ten, &of(A2), &of(A1)) == Err(failed),
+        held(chain, &A1) == 100,
+    ];
+    Ok(so == [true; 10])
 }
 
 /// Receives so much of the asset that this place defines from the parachain: how many kinds that is.
@@ -95,58 +91,36 @@ fn received(
     Ok(kinds)
 }
 
-#[test]
-fn assets_arrive_from_chains_that_are_trusted(rt: HostRuntime) -> Result<(), Fail> {
-    let alloc = rt.alloc();
-    let mut chain = relay(alloc)?;
-    for (place, amount, teleport, answer) in [
-        (para(), 5, false, Ok(1)),
-        (here(), 3, true, Ok(1)),
-        (
-            here(),
-            8,
-            true,
-            Err(HostFault::Xcm(XcmError::NotWithdrawable)),
-        ),
-        (
-            here(),
-            3,
-            false,
-            Err(HostFault::Xcm(XcmError::UntrustedReserveLocation)),
-        ),
-        (
-            para(),
-            5,
-            true,
-            Err(HostFault::Xcm(XcmError::UntrustedTeleportLocation)),
-        ),
-    ] {
-        if amount > 0 {
-            assert!(rt; received(&mut chain, alloc, place, amount, teleport) == answer);
-        }
-    }
-    assert!(rt; chain.checking(0) == Some(7));
-    assert!(rt; chain.checking(1).is_none());
-    Ok(())
+/// Assets arrive from chains that are trusted for them.
+pub(crate) fn arrivals(chain: &mut ChainState, alloc: Global) -> bool {
+    let short = HostFault::Xcm(XcmError::NotWithdrawable);
+    let no_reserve = HostFault::Xcm(XcmError::UntrustedReserveLocation);
+    let no_partner = HostFault::Xcm(XcmError::UntrustedTeleportLocation);
+    let so = [
+        received(chain, alloc, para(), 5, false) == Ok(1),
+        received(chain, alloc, here(), 3, true) == Ok(1),
+        received(chain, alloc, here(), 8, true) == Err(short),
+        received(chain, alloc, here(), 3, false) == Err(no_reserve),
+        received(chain, alloc, para(), 5, true) == Err(no_partner),
+        chain.checking(0) == Some(7),
+        chain.checking(1).is_none(),
+    ];
+    so == [true; 7]
 }
 
 /// Receives so much in a delivery that carries 5: whether that ends what it carries.
-fn ends_cargo(alloc: Global, amount: u128) -> Result<bool, Fail>
-    requires { 0 < amount }
+pub(crate) fn ends_cargo(
+    chain: &mut ChainState,
+    alloc: Global,
+    amount: u128,
+) -> Result<bool, HostFault>
+    requires amount { 0 < amount }
+    requires cargo { (part_of chain.old).cargo.cargo ≡ Cargo.Nothing }
 {
     let carried = list(alloc, here(), 5)?;
-    let mut chain = relay(alloc)?;
     chain.begin(PARA, Cargo::Deposit(carried));
-    received(&mut chain, alloc, para(), amount, false)?;
+    received(chain, alloc, para(), amount, false)?;
     Ok(matches!(chain.finish(), Cargo::Nothing))
-}
-
-#[test]
-fn just_the_list_ends_a_cargo(rt: HostRuntime) -> Result<(), Fail> {
-    let alloc = rt.alloc();
-    assert!(rt; ends_cargo(alloc, 5)?);
-    assert!(rt; !ends_cargo(alloc, 4)?);
-    Ok(())
 }
 
 /// Burns assets of the first account.
@@ -184,23 +158,28 @@ fn joined(chain: &mut ChainState, assets: &Assets, some: &Filter) -> Result<u128
     Ok(amount)
 }
 
-#[test]
-fn burns_are_booked(rt: HostRuntime) -> Result<(), Fail> {
-    let alloc = rt.alloc();
+/// Burns are booked, and queries answered once.
+pub(crate) fn burns(chain: &mut ChainState, alloc: Global) -> Result<bool, HostFault> {
     let seven = list(alloc, here(), 7)?;
     let some = Filter::Definite(list(alloc, here(), 2)?);
-    let mut chain = relay(alloc)?;
-    assert!(rt; joined(&mut chain, &seven, &some) == Ok(7));
-    assert!(rt; burnt(&mut chain, &seven) == Ok(()));
-    assert!(rt; lost(&mut chain, &seven) == Ok(()));
     let id = AssetId::Concrete(here());
-    for cause in [Cause::BurnAsset, Cause::LostTeleport] {
-        assert!(rt; chain.burns().total(&id, Kind::Fungible, cause).low == 7);
-    }
-    assert!(rt; chain.answer(&para(), 7) == Ok(true));
-    assert!(rt; chain.answer(&para(), 7) == Ok(false));
-    assert!(rt; chain.event(Event::Ignored { query: 1 }).is_ok());
-    assert!(rt;
+    let so = [
+        joined(chain, &seven, &some) == Ok(7),
+        burnt(chain, &seven) == Ok(()),
+        lost(chain, &seven) == Ok(()),
+        chain
+            .burns()
+            .total(&id, Kind::Fungible, Cause::BurnAsset)
+            .low
+            == 7,
+        chain
+            .burns()
+            .total(&id, Kind::Fungible, Cause::LostTeleport)
+            .low
+            == 7,
+        chain.answer(&para(), 7) == Ok(true),
+        chain.answer(&para(), 7) == Ok(false),
+        chain.event(Event::Ignored { query: 1 }).is_ok(),
         matches!(
             chain.trace(),
             [
@@ -209,9 +188,9 @@ fn burns_are_booked(rt: HostRuntime) -> Result<(), Fail> {
                 Event::Answered { query: 7 },
                 Event::Ignored { query: 7 },
             ]
-        )
-    );
-    Ok(())
+        ),
+    ];
+    Ok(so == [true; 9])
 }
 
 /// So much weight.
@@ -250,27 +229,33 @@ fn charge(chain: &mut ChainState) -> Result<bool, HostFault>
     Ok(true)
 }
 
-#[test]
-fn weight_and_fees_are_paid_and_settled(rt: HostRuntime) -> Result<(), Fail> {
-    let alloc = rt.alloc();
+/// Weight is bought and given back, and fees are held, kept, taken back and settled.
+pub(crate) fn fees(chain: &mut ChainState, alloc: Global) -> Result<bool, HostFault>
+    requires { (part_of chain.old).fee_slot ≡ empty }
+{
     let five = list(alloc, here(), 5)?;
-    let mut chain = relay(alloc)?;
     let id = AssetId::Concrete(here());
-    assert!(rt; charge(&mut chain) == Ok(true));
+    let first = charge(chain) == Ok(true);
     chain.keep_fee();
-    assert!(rt; charge(&mut chain) == Ok(true));
+    let second = charge(chain) == Ok(true);
     let back = chain.take_fee();
-    assert!(rt; put(&mut chain, back, &of(A1)).is_none());
-    assert!(rt; unspent(&mut chain, time(3), &five) == Ok(2));
-    assert!(rt; unspent(&mut chain, time(6), &five) == Err(HostFault::Xcm(XcmError::TooExpensive)));
-    assert!(rt; chain.refund_of(time(1)) == Some((here(), 1)));
+    let paid = [
+        first,
+        second,
+        put(chain, back, &of(A1)).is_none(),
+        unspent(chain, time(3), &five) == Ok(2),
+        unspent(chain, time(6), &five) == Err(HostFault::Xcm(XcmError::TooExpensive)),
+        chain.refund_of(time(1)) == Some((here(), 1)),
+    ];
     let refund = chain.refund(time(1))?;
-    assert!(rt; put(&mut chain, refund, &of(A1)).is_none());
-    assert!(rt; chain.aside(&id, Kind::Fungible).low == 4);
-    assert!(rt; chain.settle().is_ok());
-    assert!(rt; chain.aside(&id, Kind::Fungible).low == 0);
-    assert!(rt; held(&chain, &A9) == 4);
-    Ok(())
+    let settled = [
+        put(chain, refund, &of(A1)).is_none(),
+        chain.aside(&id, Kind::Fungible).low == 4,
+        chain.settle().is_ok(),
+        chain.aside(&id, Kind::Fungible).low == 0,
+        held(chain, &A9) == 4,
+    ];
+    Ok(paid == [true; 6] && settled == [true; 5])
 }
 
 /// Parks assets of the first account.
@@ -282,34 +267,17 @@ fn park(chain: &mut ChainState, assets: &Assets) -> Result<(), HostFault>
     Ok(())
 }
 
-#[test]
-fn what_is_parked_stands_aside(rt: HostRuntime) -> Result<(), Fail> {
-    let alloc = rt.alloc();
+/// What is parked stands aside.
+pub(crate) fn parking(chain: &mut ChainState, alloc: Global) -> Result<bool, HostFault>
+    requires { (part_of chain.old).parked ≡ [] }
+{
     let five = list(alloc, here(), 5)?;
-    let mut chain = relay(alloc)?;
-    assert!(rt; park(&mut chain, &five) == Ok(()));
-    assert!(rt; chain.parked().len() == 1);
-    assert!(rt; chain.aside(&AssetId::Concrete(here()), Kind::Fungible).low == 5);
-    assert!(rt; chain.open_queries().len() == 1);
-    assert!(rt; chain.queues().channels().len() == 1);
-    Ok(())
-}
-
-#[test]
-fn a_chain_opens_as_its_document_says(rt: HostRuntime) -> Result<(), Fail> {
-    let alloc = rt.alloc();
-    let chains = all_chains(alloc)?;
-    for (chain, (name, rows, coins, checking)) in chains
-        .iter()
-        .zip([(ChainId::Relay, 3, 100, Some(10)), (PARA, 1, 0, None)])
-    {
-        assert!(rt; chain.site().chain == name);
-        assert!(rt; chain.rows().len() == rows);
-        assert!(rt; held(chain, &A1) == coins);
-        assert!(rt; chain.checking(0) == checking);
-        assert!(rt; chain.parked().is_empty());
-        assert!(rt; chain.pallets().is_empty());
-    }
-    assert!(rt; chains.len() == 2);
-    Ok(())
+    let so = [
+        park(chain, &five) == Ok(()),
+        chain.parked().len() == 1,
+        chain.aside(&AssetId::Concrete(here()), Kind::Fungible).low == 5,
+        chain.open_queries().len() == 1,
+        chain.queues().channels().len() == 1,
+    ];
+    Ok(so == [true; 5])
 }

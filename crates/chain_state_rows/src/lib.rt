@@ -1,12 +1,25 @@
-//! Calls of transactors and of the state of a chain, with expected values worked out by hand.
+//! Calls of transactors, of the state of a chain, and of a chain without channels where programs are executed, with expected values worked out
+//! by hand.
 #![tactic(auto)]
 
 #[cfg(test)]
 mod chains;
 #[cfg(test)]
+mod courses;
+#[cfg(test)]
+mod fake_chain;
+#[cfg(test)]
+mod fake_host_rows;
+#[cfg(test)]
 mod host_rows;
 #[cfg(test)]
+mod program_courses;
+#[cfg(test)]
+mod program_rows;
+#[cfg(test)]
 mod sending_rows;
+#[cfg(test)]
+mod texts;
 #[cfg(test)]
 mod transactor_rows;
 

@@ -1,8 +1,9 @@
 //! What leaves the chain: transfers, deposits and shipments to another chain, reports, and programs.
-ghost use Rattle.std.specs.Prelude.{◌≡◌, IfOk};
+//!
+//! Each function is lent a chain that has just opened and says whether all calls answer as they should.
 ghost use Rattle.exec_base.specs.Sending.{IsForwardable};
 
-use crate::chains::{A1, PARA, at, held, here, list, of, para, relay};
+use crate::chains::{A1, PARA, at, held, here, list, of, para};
 use asset_bundles::{AssetBundle, Way};
 use asset_lists::Assets;
 use chain_queues::Cargo;
@@ -12,7 +13,6 @@ use locations::{Junction, Location};
 use message_parts::{QueryInfo, Response, Weight, XcmError};
 use plain_lists::Listed;
 use std::alloc::Global;
-use std::test::Fail;
 use xcm_program::Program;
 
 /// A program of no instruction.
@@ -69,65 +69,52 @@ fn sent(
     put_back(chain, answer)
 }
 
-#[test]
-fn assets_leave_for_chains_that_are_trusted(rt: HostRuntime) -> Result<(), Fail> {
-    let alloc = rt.alloc();
+/// Assets of the chain leave for chains that are trusted for them.
+pub(crate) fn leaving(chain: &mut ChainState, alloc: Global) -> Result<bool, HostFault> {
     let own = list(alloc, here(), 3)?;
-    let mut chain = relay(alloc)?;
     let near = para();
-    let distrust = XcmError::UntrustedReserveLocation;
-    for (leave, answer) in [
-        (Leave::Transfer, Ok(1)),
-        (Leave::Deposit, Ok(2)),
-        (Leave::Ship(Way::Teleport), Ok(3)),
-        (Leave::Ship(Way::Withdrawal), Err(HostFault::Xcm(distrust))),
-    ] {
-        assert!(rt; sent(&mut chain, alloc, leave, &own, &near) == answer);
-    }
-    assert!(rt; chain.checking(0) == Some(13));
-    assert!(rt; held(&chain, &A1) == 91);
-    Ok(())
+    let distrust = HostFault::Xcm(XcmError::UntrustedReserveLocation);
+    let so = [
+        sent(chain, alloc, Leave::Transfer, &own, &near) == Ok(1),
+        sent(chain, alloc, Leave::Deposit, &own, &near) == Ok(2),
+        sent(chain, alloc, Leave::Ship(Way::Teleport), &own, &near) == Ok(3),
+        sent(chain, alloc, Leave::Ship(Way::Withdrawal), &own, &near) == Err(distrust),
+        chain.checking(0) == Some(13),
+        held(chain, &A1) == 91,
+    ];
+    Ok(so == [true; 6])
 }
 
-#[test]
-fn a_derivative_leaves_for_its_reserve(rt: HostRuntime) -> Result<(), Fail> {
-    let alloc = rt.alloc();
+/// A derivative leaves for its reserve alone.
+pub(crate) fn derivatives(chain: &mut ChainState, alloc: Global) -> Result<bool, HostFault> {
     let foreign = list(alloc, para(), 1)?;
-    let mut chain = relay(alloc)?;
     let near = para();
-    let distrust = XcmError::UntrustedTeleportLocation;
-    for (leave, answer) in [
-        (Leave::Ship(Way::Teleport), Err(HostFault::Xcm(distrust))),
-        (Leave::Ship(Way::Withdrawal), Ok(1)),
-    ] {
-        assert!(rt; sent(&mut chain, alloc, leave, &foreign, &near) == answer);
-    }
-    assert!(rt; chain.event(Event::Ignored { query: 1 }).is_ok());
-    assert!(rt;
+    let distrust = HostFault::Xcm(XcmError::UntrustedTeleportLocation);
+    let so = [
+        sent(chain, alloc, Leave::Ship(Way::Teleport), &foreign, &near) == Err(distrust),
+        sent(chain, alloc, Leave::Ship(Way::Withdrawal), &foreign, &near) == Ok(1),
+        chain.event(Event::Ignored { query: 1 }).is_ok(),
         matches!(
             chain.trace(),
             [Event::Ignored { query: 1 }, Event::Sent { number: 1, .. },]
-        )
-    );
-    Ok(())
+        ),
+    ];
+    Ok(so == [true; 4])
 }
 
-#[test]
-fn what_has_no_route_keeps_its_goods(rt: HostRuntime) -> Result<(), Fail> {
-    let alloc = rt.alloc();
+/// What has no route keeps its goods.
+pub(crate) fn routes(chain: &mut ChainState, alloc: Global) -> Result<bool, HostFault> {
     let own = list(alloc, here(), 3)?;
-    let mut chain = relay(alloc)?;
     let elsewhere = at(Junction::Parachain(7));
-    for leave in [Leave::Transfer, Leave::Deposit] {
-        assert!(rt;
-            sent(&mut chain, alloc, leave, &own, &elsewhere)
-                == Err(HostFault::Xcm(XcmError::Unroutable))
-        );
-    }
-    assert!(rt; held(&chain, &A1) == 100);
-    assert!(rt; chain.routes(&para()));
-    assert!(rt; !chain.routes(&elsewhere));
-    Ok(())
+    let unroutable = HostFault::Xcm(XcmError::Unroutable);
+    let so = [
+        sent(chain, alloc, Leave::Transfer, &own, &elsewhere) == Err(unroutable),
+        sent(chain, alloc, Leave::Deposit, &own, &elsewhere) == Err(unroutable),
+        held(chain, &A1) == 100,
+        chain.routes(&para()),
+        !chain.routes(&elsewhere),
+    ];
+    Ok(so == [true; 5])
 }
 
 /// What a message carries.
@@ -152,28 +139,27 @@ fn report(chain: &mut ChainState) -> Result<u64, HostFault> {
     chain.respond(&info, Response::Null, None)
 }
 
-#[test]
-fn messages_wait_with_what_they_carry(rt: HostRuntime) -> Result<(), Fail> {
-    let alloc = rt.alloc();
-    let own = list(alloc, here(), 3)?;
-    let mut chain = relay(alloc)?;
-    assert!(rt; chain.send(PARA, &nothing(alloc)) == Ok(1));
-    assert!(rt; report(&mut chain) == Ok(2));
-    assert!(rt; sent(&mut chain, alloc, Leave::Deposit, &own, &para()) == Ok(3));
-    assert!(rt; sent(&mut chain, alloc, Leave::Ship(Way::Teleport), &own, &para()) == Ok(4));
-    for (number, cargo) in [
-        (1, "nothing"),
-        (2, "nothing"),
-        (3, "deposit"),
-        (4, "shipment"),
-    ] {
-        let Some(message) = chain.take(PARA) else {
-            assert!(rt; false);
-            return Ok(());
-        };
-        assert!(rt; message.number == number);
-        assert!(rt; carries(&message.cargo) == cargo);
+/// Whether the next message to the parachain has this number and carries this.
+fn is_next(chain: &mut ChainState, number: u64, cargo: &str) -> bool {
+    match chain.take(PARA) {
+        Some(message) => message.number == number && carries(&message.cargo) == cargo,
+        None => false,
     }
-    assert!(rt; chain.take(PARA).is_none());
-    Ok(())
+}
+
+/// Messages wait with what they carry.
+pub(crate) fn waiting(chain: &mut ChainState, alloc: Global) -> Result<bool, HostFault> {
+    let own = list(alloc, here(), 3)?;
+    let so = [
+        chain.send(PARA, &nothing(alloc)) == Ok(1),
+        report(chain) == Ok(2),
+        sent(chain, alloc, Leave::Deposit, &own, &para()) == Ok(3),
+        sent(chain, alloc, Leave::Ship(Way::Teleport), &own, &para()) == Ok(4),
+        is_next(chain, 1, "nothing"),
+        is_next(chain, 2, "nothing"),
+        is_next(chain, 3, "deposit"),
+        is_next(chain, 4, "shipment"),
+        chain.take(PARA).is_none(),
+    ];
+    Ok(so == [true; 9])
 }

@@ -155,51 +155,66 @@ fn withdrawn(
     }
 }
 
-#[test]
-fn deposits_are_refused_in_order(rt: HostRuntime) -> Result<(), Fail> {
-    let alloc = rt.alloc();
-    let rows = rows(alloc)?;
-    let rows = rows.as_slice();
-    let mut ledger = opened(alloc)?;
+/// Deposits are refused in order.
+fn deposits(alloc: Global, rows: &[AssetRow], ledger: &mut Ledger) -> bool
+    requires handled { AreHandled rows.now }
+    requires listed { ledger.old.listed ≡ listed }
+{
     let elsewhere = at(Junction::GeneralIndex(7));
     let nobody = at(Junction::OnlyChild);
-    assert!(rt;
-        deposited(alloc, rows, &mut ledger, instance(elsewhere, 1), &of(A1))
-            == Ok(Some(MoveFault::NotHandled))
-    );
-    assert!(rt;
-        deposited(alloc, rows, &mut ledger, instance(here(), 1), &nobody)
-            == Ok(Some(MoveFault::NoAccount))
-    );
-    assert!(rt; deposited(alloc, rows, &mut ledger, instance(here(), 1), &of(A1)) == Ok(None));
-    assert!(rt;
-        deposited(alloc, rows, &mut ledger, instance(here(), 1), &of(A2))
-            == Ok(Some(MoveFault::Refused))
-    );
-    assert!(rt; ledger.owner(&AssetId::Concrete(here()), &Instance::Index(1)) == Some(A1));
-    Ok(())
+    let not_handled = Ok(Some(MoveFault::NotHandled));
+    let no_account = Ok(Some(MoveFault::NoAccount));
+    let refused = Ok(Some(MoveFault::Refused));
+    let so = [
+        deposited(alloc, rows, ledger, instance(elsewhere, 1), &of(A1)) == not_handled,
+        deposited(alloc, rows, ledger, instance(here(), 1), &nobody) == no_account,
+        deposited(alloc, rows, ledger, instance(here(), 1), &of(A1)) == Ok(None),
+        deposited(alloc, rows, ledger, instance(here(), 1), &of(A2)) == refused,
+        ledger.owner(&AssetId::Concrete(here()), &Instance::Index(1)) == Some(A1),
+    ];
+    so == [true; 5]
 }
 
-#[test]
-fn assets_move_by_location(rt: HostRuntime) -> Result<(), Fail> {
-    let alloc = rt.alloc();
-    let rows = rows(alloc)?;
-    let rows = rows.as_slice();
-    let three = Assets::one(alloc, coins(3))?;
-    let mut ledger = opened(alloc)?;
-    assert!(rt; deposited(alloc, rows, &mut ledger, coins(5), &of(A1)) == Ok(None));
+/// Assets move by location.
+fn moves(alloc: Global, rows: &[AssetRow], ledger: &mut Ledger, three: &Assets) -> bool
+    requires handled { AreHandled rows.now }
+    requires listed { ledger.old.listed ≡ listed }
+{
     let t = FirstThat {
         first: Fungibles { rows, site: &RELAY },
         second: Instances { rows, site: &RELAY },
     };
-    assert!(rt; t.account(&of(A1)) == Some(A1));
-    assert!(rt; t.check_out(&ledger, &coins(5), &of(A1)) == Ok(()));
-    assert!(rt; t.check_out(&ledger, &coins(6), &of(A1)) == Err(MoveFault::Refused));
-    assert!(rt; t.check_in(&ledger, &coins(6), &of(A2)) == Ok(()));
-    assert!(rt; transfer_all(&t, &mut ledger, &three, &of(A1), &of(A2)) == Ok(()));
-    assert!(rt; transfer_all(&t, &mut ledger, &three, &of(A1), &of(A2)) == Err(MoveFault::Refused));
-    assert!(rt; withdrawn(alloc, rows, &mut ledger, &three, &of(A2)).is_none());
-    assert!(rt; ledger.amount(&A1, &AssetId::Concrete(here())) == 2);
-    assert!(rt; ledger.amount(&A2, &AssetId::Concrete(here())) == 0);
+    let id = AssetId::Concrete(here());
+    let so = [
+        deposited(alloc, rows, ledger, coins(5), &of(A1)) == Ok(None),
+        t.account(&of(A1)) == Some(A1),
+        t.check_out(ledger, &coins(5), &of(A1)) == Ok(()),
+        t.check_out(ledger, &coins(6), &of(A1)) == Err(MoveFault::Refused),
+        t.check_in(ledger, &coins(6), &of(A2)) == Ok(()),
+        transfer_all(&t, ledger, three, &of(A1), &of(A2)) == Ok(()),
+        transfer_all(&t, ledger, three, &of(A1), &of(A2)) == Err(MoveFault::Refused),
+        withdrawn(alloc, rows, ledger, three, &of(A2)).is_none(),
+        ledger.amount(&A1, &id) == 2,
+        ledger.amount(&A2, &id) == 0,
+    ];
+    so == [true; 10]
+}
+
+/// Whether the moves, or else the deposits, go as they should on a new ledger, which ends here.
+fn is_right(alloc: Global, moving: bool) -> Result<bool, AllocError> {
+    let rows = rows(alloc)?;
+    let three = Assets::one(alloc, coins(3))?;
+    let mut ledger = opened(alloc)?;
+    Ok(if moving {
+        moves(alloc, rows.as_slice(), &mut ledger, &three)
+    } else {
+        deposits(alloc, rows.as_slice(), &mut ledger)
+    })
+}
+
+#[test]
+fn transactors_answer_as_worked_out(rt: HostRuntime) -> Result<(), Fail> {
+    assert!(rt; is_right(rt.alloc(), false)?);
+    assert!(rt; is_right(rt.alloc(), true)?);
     Ok(())
 }

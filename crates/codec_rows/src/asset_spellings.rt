@@ -3,270 +3,365 @@ ghost use Rattle.std.specs.Prelude.{◌≤◌};
 ghost use Rattle.asset_wire.specs.Spelling.{IsNamed};
 
 use crate::values::{place, unhex};
-use asset_lists::{Asset, AssetId, Assets, Filter, Fun, Instance, Wild, WildFun};
+use asset_lists::{Asset, AssetId, Filter, Fun, Instance, Wild, WildFun};
 use asset_wire::{
     Version, WireFault, law_of_no_prefix, law_of_one_spelling, law_of_readers, law_of_versions,
     law_of_writable, read_asset, read_asset_id, read_assets, read_filter, read_instance,
     write_asset, write_asset_id, write_assets, write_filter, write_instance,
 };
-use locations::{Junction, Location};
-use scale_codec::{Cursor, NoSpelling, Out};
+use locations::Junction;
+use scale_codec::{Cursor, Out};
 use std::alloc::{AllocError, Global};
 use std::test::Fail;
 
-fn amount(amount: u128, id: Location) -> Asset {
-    Asset {
-        id: AssetId::Concrete(id),
-        fun: Fun::Fungible(amount),
-    }
+/// What an asset is of.
+enum Id {
+    /// Parents and junctions.
+    Place(u8, &'static [Junction]),
+    Bytes([u8; 32]),
 }
 
-fn instance(instance: Instance, id: Location) -> Asset {
-    Asset {
-        id: AssetId::Concrete(id),
-        fun: Fun::NonFungible(instance),
-    }
+/// An asset.
+struct Unit {
+    id: Id,
+    fun: Fun,
 }
 
-/// Each form of instance, and the hex of its spelling.
-const INSTANCES: &[(Instance, &str)] = &[
-    (Instance::Undefined, "00"),
-    (Instance::Index(0), "0100"),
-    (Instance::Index(64), "010101"),
-    (Instance::Array4([1, 2, 3, 4]), "0201020304"),
-    (Instance::Array8([8; 8]), "030808080808080808"),
+/// What a filter asks for.
+enum Asked {
+    List(&'static [Unit]),
+    All,
+    Counted(u32),
+    Of(Id, WildFun),
+    OfCounted(Id, WildFun, u32),
+}
+
+/// A value that has a spelling.
+enum Value {
+    Instance(Instance),
+    Asset(Version, Unit),
+    List(Version, &'static [Unit]),
+    Filter(Version, Asked),
+}
+
+/// The chain above.
+const ABOVE: Id = Id::Place(1, &[]);
+
+/// 10^12 of the asset of the chain above.
+const COINS: Unit = Unit {
+    id: ABOVE,
+    fun: Fun::Fungible(1_000_000_000_000),
+};
+
+/// An instance of the class of a pallet.
+const PIECE: Unit = Unit {
+    id: Id::Place(0, &[Junction::PalletInstance(50)]),
+    fun: Fun::NonFungible(Instance::Index(7)),
+};
+
+/// An amount of the chain's own asset, one of another chain's, and an instance.
+const THREE: &[Unit] = &[
+    Unit {
+        id: Id::Place(0, &[]),
+        fun: Fun::Fungible(1),
+    },
+    Unit {
+        id: ABOVE,
+        fun: Fun::Fungible(64),
+    },
+    Unit {
+        id: Id::Place(0, &[]),
+        fun: Fun::NonFungible(Instance::Undefined),
+    },
+];
+
+/// 1 of the asset of the chain above.
+const ONE: &[Unit] = &[Unit {
+    id: ABOVE,
+    fun: Fun::Fungible(1),
+}];
+
+/// 1 of the asset of 32 zero bytes.
+const ZEROS: &[Unit] = &[Unit {
+    id: Id::Bytes([0; 32]),
+    fun: Fun::Fungible(1),
+}];
+
+/// One asset of 32 zero bytes in version 3. The same bytes say an amount of 0 in version 4.
+const ABSTRACT: &str = "040100000000000000000000000000000000000000000000000000000000000000000004";
+
+/// Values, and the hex of their spellings.
+const SPELLED: &[(Value, &str)] = &[
+    (Value::Instance(Instance::Undefined), "00"),
+    (Value::Instance(Instance::Index(0)), "0100"),
+    (Value::Instance(Instance::Index(64)), "010101"),
     (
-        Instance::Array16([16; 16]),
+        Value::Instance(Instance::Array4([1, 2, 3, 4])),
+        "0201020304",
+    ),
+    (
+        Value::Instance(Instance::Array8([8; 8])),
+        "030808080808080808",
+    ),
+    (
+        Value::Instance(Instance::Array16([16; 16])),
         "0410101010101010101010101010101010",
     ),
     (
-        Instance::Array32([32; 32]),
+        Value::Instance(Instance::Array32([32; 32])),
         "052020202020202020202020202020202020202020202020202020202020202020",
+    ),
+    // an asset is its id and its amount, or its class and its instance
+    (Value::Asset(Version::V3, COINS), "00010000070010a5d4e8"),
+    (Value::Asset(Version::V4, COINS), "010000070010a5d4e8"),
+    (Value::Asset(Version::V3, PIECE), "000001043201011c"),
+    (Value::Asset(Version::V4, PIECE), "0001043201011c"),
+    // a list is its number and its items
+    (
+        Value::List(Version::V3, THREE),
+        "0c00000000040001000001010000000100",
+    ),
+    (
+        Value::List(Version::V4, THREE),
+        "0c00000004010000010100000100",
+    ),
+    (Value::List(Version::V3, &[]), "00"),
+    (Value::List(Version::V4, &[]), "00"),
+    (Value::List(Version::V3, ZEROS), ABSTRACT),
+    (
+        Value::Filter(Version::V3, Asked::List(ONE)),
+        "00040001000004",
+    ),
+    (Value::Filter(Version::V4, Asked::List(ONE)), "000401000004"),
+    (Value::Filter(Version::V3, Asked::All), "0100"),
+    (Value::Filter(Version::V4, Asked::All), "0100"),
+    (Value::Filter(Version::V3, Asked::Counted(5)), "010214"),
+    (Value::Filter(Version::V4, Asked::Counted(5)), "010214"),
+    (
+        Value::Filter(Version::V3, Asked::Of(ABOVE, WildFun::Fungible)),
+        "010100010000",
+    ),
+    (
+        Value::Filter(Version::V4, Asked::Of(ABOVE, WildFun::Fungible)),
+        "0101010000",
+    ),
+    (
+        Value::Filter(
+            Version::V3,
+            Asked::OfCounted(ABOVE, WildFun::NonFungible, 64),
+        ),
+        "0103000100010101",
+    ),
+    (
+        Value::Filter(
+            Version::V4,
+            Asked::OfCounted(ABOVE, WildFun::NonFungible, 64),
+        ),
+        "01030100010101",
     ),
 ];
 
-/// Whether the bytes of the hex are what is written for the instance, and are read as it.
-fn spells_instance(alloc: Global, instance: &Instance, hex: &str) -> Result<bool, Fail> {
+/// Whether the id is that one.
+fn is_id(id: &AssetId, want: &Id) -> bool {
+    match (id, want) {
+        (AssetId::Concrete(location), Id::Place(parents, junctions)) => location.parents == *parents
+            && location.interior.items() == *junctions,
+        (AssetId::Abstract(bytes), Id::Bytes(want)) => *bytes == *want,
+        _ => false,
+    }
+}
+
+/// Whether the asset is that one.
+fn is_unit(asset: &Asset, want: &Unit) -> bool {
+    asset.fun == want.fun && is_id(&asset.id, &want.id)
+}
+
+/// Whether the assets are those.
+fn are_units(assets: &[Asset], want: &[Unit]) -> bool {
+    for (asset, unit) in assets.iter().zip(want) {
+        if !is_unit(asset, unit) {
+            return false;
+        }
+    }
+    assets.len() == want.len()
+}
+
+/// Whether the filter asks for that.
+fn asks(filter: &Filter, want: &Asked) -> bool {
+    match (filter, want) {
+        (Filter::Definite(list), Asked::List(units)) => are_units(list.items(), units),
+        (Filter::Wild(Wild::All), Asked::All) => true,
+        (Filter::Wild(Wild::AllCounted(count)), Asked::Counted(want)) => *count == *want,
+        (Filter::Wild(Wild::AllOf { id, fun }), Asked::Of(of, want)) => *fun == *want
+            && is_id(id, of),
+        (Filter::Wild(Wild::AllOfCounted { id, fun, count }), Asked::OfCounted(of, kind, want)) =>
+            *count == *want && *fun == *kind && is_id(id, of),
+        _ => false,
+    }
+}
+
+/// Whether the instance is read, and is written as it was spelled.
+fn instance_goes(out: &mut Out, cursor: &mut Cursor<'_>, want: &Instance) -> Result<bool, Fail> {
+    write_instance(out, want)?;
+    Ok(read_instance(cursor)? == *want)
+}
+
+/// Whether the asset is read, and is written as it was spelled.
+#[tactic(auto, using(asset_wire::specs::Laws::Written::asset_writable))]
+fn asset_goes(
+    out: &mut Out,
+    cursor: &mut Cursor<'_>,
+    v: Version,
+    want: &Unit,
+) -> Result<bool, Fail> {
+    let read = read_asset(cursor, v)?;
+    write_asset(out, &read, v)?;
+    Ok(is_unit(&read, want))
+}
+
+/// Whether the list is read, and is written as it was spelled.
+#[tactic(auto, using(asset_wire::specs::Laws::Written::assets_named))]
+fn list_goes(
+    alloc: Global,
+    out: &mut Out,
+    cursor: &mut Cursor<'_>,
+    v: Version,
+    want: &[Unit],
+) -> Result<bool, Fail> {
+    let read = read_assets(alloc, cursor, v)?;
+    write_assets(out, &read, v)?;
+    Ok(are_units(read.items(), want))
+}
+
+/// Whether the filter is read, and is written as it was spelled.
+#[tactic(auto, using(asset_wire::specs::Laws::Written::filter_named))]
+fn filter_goes(
+    alloc: Global,
+    out: &mut Out,
+    cursor: &mut Cursor<'_>,
+    v: Version,
+    want: &Asked,
+) -> Result<bool, Fail> {
+    let read = read_filter(alloc, cursor, v)?;
+    write_filter(out, &read, v)?;
+    Ok(asks(&read, want))
+}
+
+/// Whether the value is read, and is written as it was spelled.
+fn goes(
+    alloc: Global,
+    out: &mut Out,
+    cursor: &mut Cursor<'_>,
+    value: &Value,
+) -> Result<bool, Fail> {
+    match value {
+        Value::Instance(want) => instance_goes(out, cursor, want),
+        Value::Asset(v, want) => asset_goes(out, cursor, *v, want),
+        Value::List(v, want) => list_goes(alloc, out, cursor, *v, want),
+        Value::Filter(v, want) => filter_goes(alloc, out, cursor, *v, want),
+    }
+}
+
+/// Whether the bytes of the hex are what is written for the value, and are read as it.
+fn spells(alloc: Global, value: &Value, hex: &str) -> Result<bool, Fail> {
     let bytes = unhex(alloc, hex)?;
     let mut out = Out::new(alloc);
-    write_instance(&mut out, instance)?;
     let mut cursor = Cursor::new(bytes.as_slice());
-    let read = read_instance(&mut cursor)?;
-    Ok(out.bytes() == bytes.as_slice() && read == *instance && cursor.rest().is_empty())
-}
-
-#[test]
-fn instances_are_spelled_by_their_index(rt: HostRuntime) -> Result<(), Fail> {
-    for (instance, hex) in INSTANCES {
-        assert!(rt; spells_instance(rt.alloc(), instance, hex)?, "{hex}");
-    }
-    Ok(())
-}
-
-/// Bytes that begin with no instance.
-const NO_INSTANCES: &[&[u8]] = &[&[6, 0], &[2, 1, 2, 3], &[]];
-
-/// Whether no front of the bytes is an instance, and the cursor stays.
-fn is_no_instance(bytes: &[u8]) -> bool {
-    let mut cursor = Cursor::new(bytes);
-    let read = read_instance(&mut cursor);
-    read == Err(NoSpelling) && cursor.rest() == bytes
-}
-
-#[test]
-fn other_bytes_are_no_instance(rt: HostRuntime) {
-    for bytes in NO_INSTANCES {
-        assert!(rt; is_no_instance(bytes));
-    }
+    let goes = goes(alloc, &mut out, &mut cursor, value)?;
+    Ok(goes && out.bytes() == bytes.as_slice() && cursor.rest().is_empty())
 }
 
 /// Whether the hex is what is written for the id, and is read as the id again.
 fn spells_id(alloc: Global, id: &AssetId, v: Version, hex: &str) -> Result<bool, Fail>
     requires { IsNamed v id.now }
 {
+    let bytes = unhex(alloc, hex)?;
     let mut out = Out::new(alloc);
     write_asset_id(&mut out, id, v)?;
-    let bytes = unhex(alloc, hex)?;
     let mut cursor = Cursor::new(bytes.as_slice());
     let read = read_asset_id(&mut cursor, v)?;
     Ok(out.bytes() == bytes.as_slice() && read == *id && cursor.rest().is_empty())
 }
 
-#[test]
-fn version_3_has_an_index_before_an_id(rt: HostRuntime) -> Result<(), Fail> {
-    let alloc = rt.alloc();
-    let sibling = AssetId::Concrete(place(1, &[Junction::Parachain(2000)]));
-    assert!(rt; spells_id(alloc, &sibling, Version::V3, "00010100411f")?);
-    assert!(rt; spells_id(alloc, &sibling, Version::V4, "010100411f")?);
-    Ok(())
-}
-
 /// The id of 32 bytes of 5 in version 3.
 const FIVES: &str = "010505050505050505050505050505050505050505050505050505050505050505";
 
-/// Whether version 3 has no id at the front of the bytes, and the cursor stays.
-fn is_no_id(bytes: &[u8]) -> bool {
-    let mut cursor = Cursor::new(bytes);
-    let read = read_asset_id(&mut cursor, Version::V3);
-    read == Err(NoSpelling) && cursor.rest() == bytes
-}
-
-#[test]
-fn version_3_has_ids_of_bytes(rt: HostRuntime) -> Result<(), Fail> {
+/// Whether an id has an index before it in version 3, where it may be of bytes.
+fn spells_ids(alloc: Global) -> Result<bool, Fail> {
+    let sibling = AssetId::Concrete(place(1, &[Junction::Parachain(2000)]));
     let fives = AssetId::Abstract([5; 32]);
-    assert!(rt; spells_id(rt.alloc(), &fives, Version::V3, FIVES)?);
-    assert!(rt; is_no_id(&[2, 0, 0]));
-    Ok(())
-}
-
-/// Whether the hex is read as the asset, and is what is written for it.
-#[tactic(auto, using(asset_wire::specs::Laws::Written::asset_writable))]
-fn spells_asset(alloc: Global, asset: &Asset, v: Version, hex: &str) -> Result<bool, Fail> {
-    let bytes = unhex(alloc, hex)?;
-    let mut cursor = Cursor::new(bytes.as_slice());
-    let read = read_asset(&mut cursor, v)?;
-    let mut out = Out::new(alloc);
-    write_asset(&mut out, &read, v)?;
-    Ok(out.bytes() == bytes.as_slice() && read == *asset && cursor.rest().is_empty())
-}
-
-/// Whether the first hex is what version 3 says for the asset, and the second what version 4 does.
-fn spells_in_both(alloc: Global, asset: &Asset, third: &str, fourth: &str) -> Result<bool, Fail> {
     Ok(
-        spells_asset(alloc, asset, Version::V3, third)?
-            && spells_asset(alloc, asset, Version::V4, fourth)?,
+        spells_id(alloc, &sibling, Version::V3, "00010100411f")?
+            && spells_id(alloc, &sibling, Version::V4, "010100411f")?
+            && spells_id(alloc, &fives, Version::V3, FIVES)?,
     )
 }
 
-#[test]
-fn an_asset_is_its_id_and_its_amount(rt: HostRuntime) -> Result<(), Fail> {
-    let relay = amount(1_000_000_000_000, place(1, &[]));
-    assert!(rt;
-        spells_in_both(
-            rt.alloc(),
-            &relay,
-            "00010000070010a5d4e8",
-            "010000070010a5d4e8"
-        )?
-    );
-    Ok(())
+/// What has a spelling.
+enum Form {
+    Instance,
+    /// An id of version 3.
+    Id,
+    /// An asset of version 4.
+    Asset,
+    List(Version),
+    /// A filter of version 4.
+    Filter,
 }
 
-#[test]
-fn an_asset_is_its_class_and_its_instance(rt: HostRuntime) -> Result<(), Fail> {
-    let class = place(0, &[Junction::PalletInstance(50)]);
-    let one = instance(Instance::Index(7), class);
-    assert!(rt; spells_in_both(rt.alloc(), &one, "000001043201011c", "0001043201011c")?);
-    Ok(())
-}
-
-/// Bytes that begin with no asset of version 4.
-const NO_ASSETS: &[&[u8]] = &[&[1, 0, 0, 0], &[1, 0, 2, 4], &[1, 0, 0]];
-
-/// Whether version 4 has no asset at the front of the bytes, and the cursor stays.
-fn is_no_asset(bytes: &[u8]) -> bool {
-    let mut cursor = Cursor::new(bytes);
-    let read = read_asset(&mut cursor, Version::V4);
-    read == Err(NoSpelling) && cursor.rest() == bytes
-}
-
-#[test]
-fn other_bytes_are_no_asset(rt: HostRuntime) {
-    for bytes in NO_ASSETS {
-        assert!(rt; is_no_asset(bytes));
-    }
-}
-
-/// Whether the hex is read as the list, and is what is written for it.
-#[tactic(auto, using(asset_wire::specs::Laws::Written::assets_named))]
-fn spells_list(alloc: Global, list: &Assets, v: Version, hex: &str) -> Result<bool, Fail> {
-    let bytes = unhex(alloc, hex)?;
-    let mut cursor = Cursor::new(bytes.as_slice());
-    let read = read_assets(alloc, &mut cursor, v)?;
-    let mut out = Out::new(alloc);
-    write_assets(&mut out, &read, v)?;
-    Ok(out.bytes() == bytes.as_slice() && read == *list && cursor.rest().is_empty())
-}
-
-/// An amount of the chain's own asset, one of another chain's, and an instance.
-fn three_assets(alloc: Global) -> Result<Assets, Fail> {
-    let items = vec![in alloc;
-        amount(1, place(0, &[])),
-        amount(64, place(1, &[])),
-        instance(Instance::Undefined, place(0, &[])),
-    ]?;
-    Ok(Assets::from_sorted(items)?)
-}
-
-#[test]
-fn a_list_is_its_number_and_its_items(rt: HostRuntime) -> Result<(), Fail> {
-    let alloc = rt.alloc();
-    let list = three_assets(alloc)?;
-    let third = "0c00000000040001000001010000000100";
-    assert!(rt; spells_list(alloc, &list, Version::V3, third)?);
-    assert!(rt; spells_list(alloc, &list, Version::V4, "0c00000004010000010100000100")?);
-    Ok(())
-}
-
-#[test]
-fn a_list_may_be_empty(rt: HostRuntime) -> Result<(), Fail> {
-    let alloc = rt.alloc();
-    let empty = Assets::from_sorted(Vec::new(alloc))?;
-    assert!(rt; spells_list(alloc, &empty, Version::V3, "00")?);
-    assert!(rt; spells_list(alloc, &empty, Version::V4, "00")?);
-    Ok(())
-}
-
-/// One asset of 32 zero bytes in version 3. The same bytes say an amount of 0 in version 4.
-const ABSTRACT: &str = "040100000000000000000000000000000000000000000000000000000000000000000004";
-
-#[test]
-fn bytes_as_an_id_are_of_version_3(rt: HostRuntime) -> Result<(), Fail> {
-    let alloc = rt.alloc();
-    let asset = Asset {
-        id: AssetId::Abstract([0; 32]),
-        fun: Fun::Fungible(1),
-    };
-    let list = Assets::from_sorted(vec![in alloc; asset]?)?;
-    assert!(rt; spells_list(alloc, &list, Version::V3, ABSTRACT)?);
-    assert!(rt; is_no_list(alloc, Version::V4, ABSTRACT)?);
-    Ok(())
-}
-
-/// Whether no front of what the hex says is a list, and the cursor stays.
-fn is_no_list(alloc: Global, v: Version, hex: &str) -> Result<bool, Fail> {
-    let bytes = unhex(alloc, hex)?;
-    let mut cursor = Cursor::new(bytes.as_slice());
-    let read = read_assets(alloc, &mut cursor, v);
-    Ok(read == Err(WireFault::NoSpelling) && cursor.rest() == bytes.as_slice())
-}
-
-/// Hex at the front of which stands no list in the version.
-const NO_LISTS: &[(Version, &str)] = &[
+/// What isn't at the front of the bytes, and their hex.
+const NOT_SPELLED: &[(Form, &str)] = &[
+    (Form::Instance, "0600"),
+    (Form::Instance, "02010203"),
+    (Form::Instance, ""),
+    (Form::Id, "020000"),
+    (Form::Asset, "01000000"),
+    (Form::Asset, "01000204"),
+    (Form::Asset, "010000"),
     // an amount of 0
-    (Version::V4, "0400000000"),
-    (Version::V3, "040000000000"),
+    (Form::List(Version::V4), "0400000000"),
+    (Form::List(Version::V3), "040000000000"),
+    (Form::List(Version::V4), ABSTRACT),
     // places out of order, and one place twice
-    (Version::V4, "080100000400000004"),
-    (Version::V4, "080000000400000008"),
+    (Form::List(Version::V4), "080100000400000004"),
+    (Form::List(Version::V4), "080000000400000008"),
     // an instance before an amount
-    (Version::V4, "080000010001000004"),
+    (Form::List(Version::V4), "080000010001000004"),
     // a location without an index in front, in version 3
-    (Version::V3, "0401000004"),
+    (Form::List(Version::V3), "0401000004"),
     // the number in a longer form
-    (Version::V4, "050001000004"),
+    (Form::List(Version::V4), "050001000004"),
     // fewer than the number says
-    (Version::V4, "0801000004"),
-    (Version::V4, "03ffffffff"),
-    (Version::V4, ""),
+    (Form::List(Version::V4), "0801000004"),
+    (Form::List(Version::V4), "03ffffffff"),
+    (Form::List(Version::V4), ""),
+    (Form::Filter, "02"),
+    (Form::Filter, "0104"),
+    (Form::Filter, "0101010002"),
+    (Form::Filter, "000400000000"),
+    (Form::Filter, "01"),
 ];
 
-#[test]
-fn other_bytes_are_no_list(rt: HostRuntime) -> Result<(), Fail> {
-    for (v, hex) in NO_LISTS {
-        assert!(rt; is_no_list(rt.alloc(), *v, hex)?, "{hex}");
+/// Whether no front of the bytes is spelled so.
+fn refuses(alloc: Global, cursor: &mut Cursor<'_>, form: &Form) -> bool {
+    match form {
+        Form::Instance => read_instance(cursor).is_err(),
+        Form::Id => read_asset_id(cursor, Version::V3).is_err(),
+        Form::Asset => read_asset(cursor, Version::V4).is_err(),
+        Form::List(v) => matches!(read_assets(alloc, cursor, *v), Err(WireFault::NoSpelling)),
+        Form::Filter => matches!(
+            read_filter(alloc, cursor, Version::V4),
+            Err(WireFault::NoSpelling)
+        ),
     }
-    Ok(())
+}
+
+/// Whether no front of what the hex says is spelled so, and the cursor stays.
+fn is_none(alloc: Global, form: &Form, hex: &str) -> Result<bool, Fail> {
+    let bytes = unhex(alloc, hex)?;
+    let mut cursor = Cursor::new(bytes.as_slice());
+    let refuses = refuses(alloc, &mut cursor, form);
+    Ok(refuses && cursor.rest() == bytes.as_slice())
 }
 
 /// The spelling of amounts of 1 of this many pallets, in version 4.
@@ -291,96 +386,26 @@ fn items_of(alloc: Global, bytes: &[u8]) -> (Result<usize, WireFault>, usize) {
     (count, cursor.rest().len())
 }
 
-#[test]
-fn a_list_has_at_most_twenty_items(rt: HostRuntime) -> Result<(), Fail> {
-    let alloc = rt.alloc();
+/// Whether a list has at most twenty items.
+fn has_few_items(alloc: Global) -> Result<bool, AllocError> {
     let most = pallets(alloc, 20)?;
-    assert!(rt; items_of(alloc, most.as_slice()) == (Ok(20), 0));
     let past = pallets(alloc, 21)?;
-    assert!(rt; items_of(alloc, past.as_slice()) == (Err(WireFault::NoSpelling), past.len()));
-    Ok(())
-}
-
-/// Whether the hex is read as the filter, and is what is written for it.
-#[tactic(auto, using(asset_wire::specs::Laws::Written::filter_named))]
-fn spells_filter(alloc: Global, filter: &Filter, v: Version, hex: &str) -> Result<bool, Fail> {
-    let bytes = unhex(alloc, hex)?;
-    let mut cursor = Cursor::new(bytes.as_slice());
-    let read = read_filter(alloc, &mut cursor, v)?;
-    let mut out = Out::new(alloc);
-    write_filter(&mut out, &read, v)?;
-    Ok(out.bytes() == bytes.as_slice() && read == *filter && cursor.rest().is_empty())
-}
-
-/// Whether the first hex is what version 3 says for the filter, and the second what version 4 does.
-fn filters_in_both(
-    alloc: Global,
-    filter: &Filter,
-    third: &str,
-    fourth: &str,
-) -> Result<bool, Fail> {
-    Ok(
-        spells_filter(alloc, filter, Version::V3, third)?
-            && spells_filter(alloc, filter, Version::V4, fourth)?,
-    )
+    let full = items_of(alloc, most.as_slice());
+    let none = items_of(alloc, past.as_slice());
+    Ok(full == (Ok(20), 0) && none == (Err(WireFault::NoSpelling), past.len()))
 }
 
 #[test]
-fn a_filter_may_be_a_list(rt: HostRuntime) -> Result<(), Fail> {
+fn assets_are_read_and_written(rt: HostRuntime) -> Result<(), Fail> {
     let alloc = rt.alloc();
-    let items = vec![in alloc; amount(1, place(1, &[]))]?;
-    let definite = Filter::Definite(Assets::from_sorted(items)?);
-    assert!(rt; filters_in_both(alloc, &definite, "00040001000004", "000401000004")?);
-    Ok(())
-}
-
-#[test]
-fn a_filter_may_be_of_all(rt: HostRuntime) -> Result<(), Fail> {
-    let all = Filter::Wild(Wild::All);
-    assert!(rt; filters_in_both(rt.alloc(), &all, "0100", "0100")?);
-    let counted = Filter::Wild(Wild::AllCounted(5));
-    assert!(rt; filters_in_both(rt.alloc(), &counted, "010214", "010214")?);
-    Ok(())
-}
-
-#[test]
-fn a_filter_may_be_of_one_id(rt: HostRuntime) -> Result<(), Fail> {
-    let of = Filter::Wild(Wild::AllOf {
-        id: AssetId::Concrete(place(1, &[])),
-        fun: WildFun::Fungible,
-    });
-    assert!(rt; filters_in_both(rt.alloc(), &of, "010100010000", "0101010000")?);
-    Ok(())
-}
-
-#[test]
-fn a_filter_may_count_what_is_of_one_id(rt: HostRuntime) -> Result<(), Fail> {
-    let counted = Filter::Wild(Wild::AllOfCounted {
-        id: AssetId::Concrete(place(1, &[])),
-        fun: WildFun::NonFungible,
-        count: 64,
-    });
-    let third = "0103000100010101";
-    assert!(rt; filters_in_both(rt.alloc(), &counted, third, "01030100010101")?);
-    Ok(())
-}
-
-/// Hex at the front of which stands no filter in version 4.
-const NO_FILTERS: &[&str] = &["02", "0104", "0101010002", "000400000000", "01"];
-
-/// Whether no front of what the hex says is a filter of version 4, and the cursor stays.
-fn is_no_filter(alloc: Global, hex: &str) -> Result<bool, Fail> {
-    let bytes = unhex(alloc, hex)?;
-    let mut cursor = Cursor::new(bytes.as_slice());
-    let read = read_filter(alloc, &mut cursor, Version::V4);
-    Ok(read == Err(WireFault::NoSpelling) && cursor.rest() == bytes.as_slice())
-}
-
-#[test]
-fn other_bytes_are_no_filter(rt: HostRuntime) -> Result<(), Fail> {
-    for hex in NO_FILTERS {
-        assert!(rt; is_no_filter(rt.alloc(), hex)?, "{hex}");
+    for (value, hex) in SPELLED {
+        assert!(rt; spells(alloc, value, hex)?, "{hex}");
     }
+    for (form, hex) in NOT_SPELLED {
+        assert!(rt; is_none(alloc, form, hex)?, "{hex}");
+    }
+    assert!(rt; spells_ids(alloc)?);
+    assert!(rt; has_few_items(alloc)?);
     Ok(())
 }
 

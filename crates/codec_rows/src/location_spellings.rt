@@ -1,198 +1,176 @@
 //! Networks, junctions and locations, as bytes and as texts.
 
-use crate::values::{place, unhex};
+use crate::values::unhex;
 use location_wire::{
     TextFault, law_of_no_prefix, law_of_one_location, law_of_one_spelling, law_of_readers,
     location_text, path_text, read_junction, read_junctions, read_location, read_location_text,
     read_network_id, write_junction, write_junctions, write_location, write_network_id,
 };
-use locations::{BodyId, BodyPart, Junction, Junctions, Location, NetworkId};
-use scale_codec::{Cursor, NoSpelling, Out};
-use std::alloc::Global;
+use locations::{BodyId, BodyPart, Junction, Junctions, NetworkId};
+use scale_codec::{Cursor, Out};
+use std::alloc::{AllocError, Global};
 use std::test::Fail;
 
-/// Each junction, and the hex of its spelling.
-const JUNCTIONS: &[(Junction, &str)] = &[
-    (Junction::Parachain(2000), "00411f"),
-    (
-        Junction::AccountId32 {
-            network: Some(NetworkId::Kusama),
-            id: [2; 32],
-        },
-        "0101030202020202020202020202020202020202020202020202020202020202020202",
-    ),
-    (
-        Junction::AccountIndex64 {
-            network: None,
-            index: 1,
-        },
-        "020004",
-    ),
-    (
-        Junction::AccountKey20 {
-            network: Some(NetworkId::Ethereum { chain_id: 1 }),
-            key: [7; 20],
-        },
-        "030107040707070707070707070707070707070707070707",
-    ),
-    (Junction::PalletInstance(50), "0432"),
-    (Junction::GeneralIndex(64), "050101"),
-    (
-        Junction::GeneralKey {
-            length: 255,
-            key: [1; 32],
-        },
-        "06ff0101010101010101010101010101010101010101010101010101010101010101",
-    ),
-    (Junction::OnlyChild, "07"),
-    (
-        Junction::Plurality {
-            id: BodyId::Moniker([1, 2, 3, 4]),
-            part: BodyPart::Fraction { nom: 1, denom: 64 },
-        },
-        "08010102030402040101",
-    ),
-    (
-        Junction::Plurality {
-            id: BodyId::Index(1),
-            part: BodyPart::Members { count: 5 },
-        },
-        "0802040114",
-    ),
-    (
-        Junction::GlobalConsensus(NetworkId::ByFork {
-            block_number: 258,
-            block_hash: [9; 32],
-        }),
-        "090102010000000000000909090909090909090909090909090909090909090909090909090909090909",
-    ),
-    (Junction::GlobalConsensus(NetworkId::Wococo), "0906"),
-];
-
-/// Whether the bytes of the hex are what is written for the junction, and are read as it.
-fn spells(alloc: Global, junction: &Junction, hex: &str) -> Result<bool, Fail> {
-    let bytes = unhex(alloc, hex)?;
-    let mut out = Out::new(alloc);
-    write_junction(&mut out, junction)?;
-    let mut cursor = Cursor::new(bytes.as_slice());
-    let read = read_junction(&mut cursor)?;
-    Ok(out.bytes() == bytes.as_slice() && read == *junction && cursor.rest().is_empty())
-}
-
-#[test]
-fn junctions_are_spelled_by_their_index(rt: HostRuntime) -> Result<(), Fail> {
-    for (junction, hex) in JUNCTIONS {
-        assert!(rt; spells(rt.alloc(), junction, hex)?, "{hex}");
-    }
-    Ok(())
-}
-
-/// Networks, and the bytes of their spellings.
-const NETWORKS: &[(NetworkId, &[u8])] = &[
-    (NetworkId::Polkadot, &[2]),
-    (NetworkId::Kusama, &[3]),
-    (NetworkId::Westend, &[4]),
-    (NetworkId::Rococo, &[5]),
-    (NetworkId::Wococo, &[6]),
-    (NetworkId::Ethereum { chain_id: 64 }, &[7, 1, 1]),
-    (NetworkId::BitcoinCore, &[8]),
-    (NetworkId::BitcoinCash, &[9]),
-];
-
-/// Whether the bytes are what is written for the network, and are read as it.
-fn spells_network(alloc: Global, network: &NetworkId, bytes: &[u8]) -> Result<bool, Fail> {
-    let mut out = Out::new(alloc);
-    write_network_id(&mut out, network)?;
-    let mut cursor = Cursor::new(bytes);
-    let read = read_network_id(&mut cursor)?;
-    Ok(out.bytes() == bytes && read == *network)
-}
-
-#[test]
-fn networks_are_spelled_by_their_index(rt: HostRuntime) -> Result<(), Fail> {
-    for (network, bytes) in NETWORKS {
-        assert!(rt; spells_network(rt.alloc(), network, bytes)?);
-    }
-    Ok(())
-}
-
-#[test]
-fn other_bytes_are_no_network(rt: HostRuntime) {
-    let mut cursor = Cursor::new(&[10, 10]);
-    assert!(rt; read_network_id(&mut cursor) == Err(NoSpelling));
-    assert!(rt; cursor.rest() == [10, 10].as_slice());
-}
-
-/// `(1, [Parachain(2000), AccountId32 { network: Kusama, id: 32 bytes of 2 }])`.
-fn sibling_account() -> Location {
-    place(
-        1,
-        &[
-            Junction::Parachain(2000),
-            Junction::AccountId32 {
-                network: Some(NetworkId::Kusama),
-                id: [2; 32],
-            },
-        ],
-    )
+/// A value that has a spelling.
+enum Value {
+    Junction(Junction),
+    Network(NetworkId),
+    /// Parents and junctions.
+    Location(u8, &'static [Junction]),
+    Path(&'static [Junction]),
 }
 
 /// The account of the sibling, as bytes.
 const SIBLING_HEX: &str =
     "010200411f0101030202020202020202020202020202020202020202020202020202020202020202";
 
+/// Each junction, networks, a location and a path, and the hex of their spellings.
+const SPELLED: &[(Value, &str)] = &[
+    (Value::Junction(Junction::Parachain(2000)), "00411f"),
+    (
+        Value::Junction(Junction::AccountId32 {
+            network: Some(NetworkId::Kusama),
+            id: [2; 32],
+        }),
+        "0101030202020202020202020202020202020202020202020202020202020202020202",
+    ),
+    (
+        Value::Junction(Junction::AccountIndex64 {
+            network: None,
+            index: 1,
+        }),
+        "020004",
+    ),
+    (
+        Value::Junction(Junction::AccountKey20 {
+            network: Some(NetworkId::Ethereum { chain_id: 1 }),
+            key: [7; 20],
+        }),
+        "030107040707070707070707070707070707070707070707",
+    ),
+    (Value::Junction(Junction::PalletInstance(50)), "0432"),
+    (Value::Junction(Junction::GeneralIndex(64)), "050101"),
+    (
+        Value::Junction(Junction::GeneralKey {
+            length: 255,
+            key: [1; 32],
+        }),
+        "06ff0101010101010101010101010101010101010101010101010101010101010101",
+    ),
+    (Value::Junction(Junction::OnlyChild), "07"),
+    (
+        Value::Junction(Junction::Plurality {
+            id: BodyId::Moniker([1, 2, 3, 4]),
+            part: BodyPart::Fraction { nom: 1, denom: 64 },
+        }),
+        "08010102030402040101",
+    ),
+    (
+        Value::Junction(Junction::Plurality {
+            id: BodyId::Index(1),
+            part: BodyPart::Members { count: 5 },
+        }),
+        "0802040114",
+    ),
+    (
+        Value::Junction(Junction::GlobalConsensus(NetworkId::ByFork {
+            block_number: 258,
+            block_hash: [9; 32],
+        })),
+        "090102010000000000000909090909090909090909090909090909090909090909090909090909090909",
+    ),
+    (
+        Value::Junction(Junction::GlobalConsensus(NetworkId::Wococo)),
+        "0906",
+    ),
+    (Value::Network(NetworkId::Polkadot), "02"),
+    (Value::Network(NetworkId::Kusama), "03"),
+    (Value::Network(NetworkId::Westend), "04"),
+    (Value::Network(NetworkId::Rococo), "05"),
+    (Value::Network(NetworkId::Wococo), "06"),
+    (
+        Value::Network(NetworkId::Ethereum { chain_id: 64 }),
+        "070101",
+    ),
+    (Value::Network(NetworkId::BitcoinCore), "08"),
+    (Value::Network(NetworkId::BitcoinCash), "09"),
+    (Value::Location(1, SIBLING), SIBLING_HEX),
+    (Value::Path(&[Junction::OnlyChild; 8]), "080707070707070707"),
+];
+
+/// `[Parachain(2000), AccountId32 { network: Kusama, id: 32 bytes of 2 }]`.
+const SIBLING: &[Junction] = &[
+    Junction::Parachain(2000),
+    Junction::AccountId32 {
+        network: Some(NetworkId::Kusama),
+        id: [2; 32],
+    },
+];
+
+/// Whether the value is read, and is written as it was spelled.
+fn goes(out: &mut Out, cursor: &mut Cursor<'_>, value: &Value) -> Result<bool, Fail> {
+    match value {
+        Value::Junction(junction) => {
+            write_junction(out, junction)?;
+            Ok(read_junction(cursor)? == *junction)
+        }
+        Value::Network(network) => {
+            write_network_id(out, network)?;
+            Ok(read_network_id(cursor)? == *network)
+        }
+        Value::Location(parents, junctions) => {
+            let read = read_location(cursor)?;
+            write_location(out, &read)?;
+            Ok(read.parents == *parents && read.interior.items() == *junctions)
+        }
+        Value::Path(junctions) => {
+            let read = read_junctions(cursor)?;
+            write_junctions(out, &read)?;
+            Ok(read.items() == *junctions)
+        }
+    }
+}
+
+/// Whether the bytes of the hex are what is written for the value, and are read as it.
+fn spells(alloc: Global, value: &Value, hex: &str) -> Result<bool, Fail> {
+    let bytes = unhex(alloc, hex)?;
+    let mut out = Out::new(alloc);
+    let mut cursor = Cursor::new(bytes.as_slice());
+    let goes = goes(&mut out, &mut cursor, value)?;
+    Ok(goes && out.bytes() == bytes.as_slice() && cursor.rest().is_empty())
+}
+
+/// Bytes of no network, of no path and of no location.
+const NO_NETWORK: &[u8] = &[10, 10];
+
+const NINE_JUNCTIONS: &[u8] = &[9, 7, 7, 7, 7, 7, 7, 7, 7, 7];
+
+const NO_LOCATION: &[u8] = &[0, 9, 7, 7, 7, 7, 7, 7, 7, 7, 7];
+
+/// Whether these bytes are refused, and the cursor stays.
+fn are_refused() -> bool {
+    let mut network = Cursor::new(NO_NETWORK);
+    let mut path = Cursor::new(NINE_JUNCTIONS);
+    let mut location = Cursor::new(NO_LOCATION);
+    read_network_id(&mut network).is_err()
+        && read_junctions(&mut path).is_err()
+        && read_location(&mut location).is_err()
+        && network.rest() == NO_NETWORK
+        && location.rest() == NO_LOCATION
+}
+
+#[test]
+fn networks_junctions_and_locations_as_bytes(rt: HostRuntime) -> Result<(), Fail> {
+    for (value, hex) in SPELLED {
+        assert!(rt; spells(rt.alloc(), value, hex)?, "{hex}");
+    }
+    assert!(rt; are_refused());
+    Ok(())
+}
+
 /// The account of the sibling, as text.
 const SIBLING_TEXT: &str =
     "1/Parachain(2000)/0x0101030202020202020202020202020202020202020202020202020202020202020202";
-
-/// Whether the bytes of the hex are what is written for the location, and are read as it.
-fn spells_location(alloc: Global, location: &Location, hex: &str) -> Result<bool, Fail> {
-    let bytes = unhex(alloc, hex)?;
-    let mut out = Out::new(alloc);
-    write_location(&mut out, location)?;
-    let mut cursor = Cursor::new(bytes.as_slice());
-    let read = read_location(&mut cursor)?;
-    Ok(out.bytes() == bytes.as_slice() && read == *location)
-}
-
-/// Whether the text is that of the location, and is read as it.
-fn says_location(alloc: Global, location: &Location, want: &str) -> Result<bool, Fail> {
-    let text = location_text(alloc, location)?;
-    let read = read_location_text(alloc, want)?;
-    Ok(text.as_str() == want && read == *location)
-}
-
-#[test]
-fn a_location_as_bytes_and_as_text(rt: HostRuntime) -> Result<(), Fail> {
-    assert!(rt; spells_location(rt.alloc(), &sibling_account(), SIBLING_HEX)?);
-    assert!(rt; says_location(rt.alloc(), &sibling_account(), SIBLING_TEXT)?);
-    Ok(())
-}
-
-/// Whether the bytes are no location, and the cursor stays.
-fn is_no_location(bytes: &[u8]) -> bool {
-    let mut cursor = Cursor::new(bytes);
-    let is_refused = read_location(&mut cursor).is_err();
-    is_refused && cursor.rest() == bytes
-}
-
-/// Whether the bytes are read as a path of so many junctions, and are what is written for it.
-fn spells_path(alloc: Global, bytes: &[u8], count: usize) -> Result<bool, Fail> {
-    let mut cursor = Cursor::new(bytes);
-    let path = read_junctions(&mut cursor)?;
-    let mut out = Out::new(alloc);
-    write_junctions(&mut out, &path)?;
-    Ok(path.items().len() == count && out.bytes() == bytes)
-}
-
-#[test]
-fn more_than_eight_junctions_are_no_location(rt: HostRuntime) -> Result<(), Fail> {
-    let bytes = [0, 9, 7, 7, 7, 7, 7, 7, 7, 7, 7];
-    assert!(rt; is_no_location(&bytes));
-    assert!(rt; read_junctions(&mut Cursor::new(&bytes[1..])).is_err());
-    assert!(rt; spells_path(rt.alloc(), &[8, 7, 7, 7, 7, 7, 7, 7, 7], 8)?);
-    Ok(())
-}
 
 /// Paths and their texts.
 const PATHS: &[(&[Junction], &str)] = &[
@@ -222,7 +200,7 @@ const PATHS: &[(&[Junction], &str)] = &[
 ];
 
 /// Whether this is the text of the path of these junctions.
-fn says_path(alloc: Global, items: &[Junction], want: &str) -> Result<bool, Fail> {
+fn says_path(alloc: Global, items: &[Junction], want: &str) -> Result<bool, AllocError> {
     let mut path = Junctions::empty();
     for junction in items {
         if path.push(*junction).is_err() {
@@ -231,14 +209,6 @@ fn says_path(alloc: Global, items: &[Junction], want: &str) -> Result<bool, Fail
     }
     let text = path_text(alloc, &path)?;
     Ok(text.as_str() == want)
-}
-
-#[test]
-fn paths_have_texts(rt: HostRuntime) -> Result<(), Fail> {
-    for (items, want) in PATHS {
-        assert!(rt; says_path(rt.alloc(), items, want)?, "{want}");
-    }
-    Ok(())
 }
 
 /// Texts of locations, one for each form of junction.
@@ -262,12 +232,10 @@ fn is_written_back(alloc: Global, text: &str) -> Result<bool, Fail> {
     Ok(again.as_str() == text)
 }
 
-#[test]
-fn texts_are_read_and_written_back(rt: HostRuntime) -> Result<(), Fail> {
-    for text in TEXTS {
-        assert!(rt; is_written_back(rt.alloc(), text)?, "{text}");
-    }
-    Ok(())
+/// Whether the text of the sibling's account is read as it.
+fn is_sibling(alloc: Global) -> Result<bool, Fail> {
+    let read = read_location_text(alloc, SIBLING_TEXT)?;
+    Ok(read.parents == 1 && read.interior.items() == SIBLING)
 }
 
 /// Texts of no location: other numbers, other hex, other names, spelled where there is a name, too many junctions.
@@ -308,19 +276,27 @@ fn is_refused(alloc: Global, text: &str) -> bool {
     read_location_text(alloc, text).err() == Some(TextFault::BadText)
 }
 
-#[test]
-fn other_texts_are_refused(rt: HostRuntime) {
-    for text in BAD_TEXTS {
-        assert!(rt; is_refused(rt.alloc(), text), "{text}");
-    }
+/// Whether the refusals have their texts.
+fn says_why(alloc: Global) -> Result<bool, AllocError> {
+    let (bad, memory) = (TextFault::BadText, TextFault::Memory);
+    let text = format!(in alloc; "{bad}; {memory}")?;
+    Ok(text.as_str() == "not the text of a location; out of memory")
 }
 
 #[test]
-fn refusals_of_texts_have_texts(rt: HostRuntime) -> Result<(), Fail> {
-    let bad = TextFault::BadText.to_string(rt.alloc())?;
-    assert!(rt; bad.as_str() == "not the text of a location");
-    let memory = TextFault::Memory.to_string(rt.alloc())?;
-    assert!(rt; memory.as_str() == "out of memory");
+fn paths_and_locations_as_texts(rt: HostRuntime) -> Result<(), Fail> {
+    let alloc = rt.alloc();
+    for (items, want) in PATHS {
+        assert!(rt; says_path(alloc, items, want)?, "{want}");
+    }
+    for text in TEXTS {
+        assert!(rt; is_written_back(alloc, text)?, "{text}");
+    }
+    for text in BAD_TEXTS {
+        assert!(rt; is_refused(alloc, text), "{text}");
+    }
+    assert!(rt; is_sibling(alloc)?);
+    assert!(rt; says_why(alloc)?);
     Ok(())
 }
 

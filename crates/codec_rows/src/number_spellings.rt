@@ -49,7 +49,7 @@ const NOT_COMPACT: &[&[u8]] = &[
 ];
 
 /// Whether the bytes are what is written for the number, and are read as it.
-fn spells(alloc: Global, number: u128, bytes: &[u8]) -> Result<bool, Fail> {
+fn spells(alloc: Global, number: u128, bytes: &[u8]) -> Result<bool, AllocError> {
     let mut out = Out::new(alloc);
     out.put_compact(number)?;
     let mut cursor = Cursor::new(bytes);
@@ -64,44 +64,45 @@ fn is_no_number(bytes: &[u8]) -> bool {
     read == Err(NoSpelling) && cursor.rest() == bytes
 }
 
+/// Whether compact numbers keep their range.
+fn keeps_its_range() -> bool {
+    let mut most = Cursor::new(&[0x03, 0xff, 0xff, 0xff, 0xff]);
+    let mut past = Cursor::new(&[0x07, 0x00, 0x00, 0x00, 0x00, 0x01]);
+    most.compact_u32() == Ok(0xffff_ffff)
+        && past.compact_u32() == Err(NoSpelling)
+        && past.compact_u64() == Ok(0x1_0000_0000)
+}
+
 #[test]
 fn compact_numbers_both_ways(rt: HostRuntime) -> Result<(), Fail> {
     for (number, bytes) in COMPACTS {
         assert!(rt; spells(rt.alloc(), *number, bytes)?, "{number}");
     }
-    Ok(())
-}
-
-#[test]
-fn other_bytes_are_no_numbers(rt: HostRuntime) {
     for bytes in NOT_COMPACT {
         assert!(rt; is_no_number(bytes));
     }
-}
-
-#[test]
-fn compact_numbers_keep_their_range(rt: HostRuntime) {
-    let mut most = Cursor::new(&[0x03, 0xff, 0xff, 0xff, 0xff]);
-    assert!(rt; most.compact_u32() == Ok(0xffff_ffff));
-    let mut past = Cursor::new(&[0x07, 0x00, 0x00, 0x00, 0x00, 0x01]);
-    assert!(rt; past.compact_u32() == Err(NoSpelling));
-    assert!(rt; past.compact_u64() == Ok(0x1_0000_0000));
+    assert!(rt; keeps_its_range());
+    Ok(())
 }
 
 /// A number of each width, two flags and two bytes more.
 const MIXED: &[u8] = &[7, 1, 2, 3, 4, 1, 2, 3, 4, 5, 6, 7, 8, 1, 0, 9, 9];
 
-#[test]
-fn numbers_flags_and_bytes_are_written(rt: HostRuntime) -> Result<(), Fail> {
-    let mut out = Out::new(rt.alloc());
+/// Puts the numbers, and the flags and the bytes as bytes.
+fn put_mixed(out: &mut Out) -> Result<(), AllocError> {
     out.put_u8(7)?;
     out.put_u32(0x0403_0201)?;
     out.put_u64(0x0807_0605_0403_0201)?;
-    out.put_bytes(&[1, 0, 9, 9])?;
-    assert!(rt; out.bytes() == MIXED);
+    out.put_bytes(&[1, 0, 9, 9])
+}
+
+/// Whether they are written, and handed out as they were.
+fn writes_mixed(alloc: Global) -> Result<bool, AllocError> {
+    let mut out = Out::new(alloc);
+    put_mixed(&mut out)?;
+    let is_written = out.bytes() == MIXED;
     let bytes = out.into_vec();
-    assert!(rt; bytes.as_slice() == MIXED);
-    Ok(())
+    Ok(is_written && bytes.as_slice() == MIXED)
 }
 
 /// Whether the numbers and the flags are read one after the other.
@@ -140,13 +141,13 @@ fn reads_the_rest(cursor: &mut Cursor<'_>) -> bool {
     array == Ok([9]) && last == Ok([9].as_slice()) && none == Err(NoSpelling)
 }
 
-#[test]
-fn numbers_flags_and_bytes_are_read(rt: HostRuntime) {
+/// Whether all of them are read in turn.
+fn reads_mixed() -> bool {
     let mut cursor = Cursor::new(MIXED);
-    assert!(rt; reads_numbers(&mut cursor));
-    assert!(rt; reads_flags(&mut cursor));
-    assert!(rt; is_too_short(&mut cursor));
-    assert!(rt; reads_the_rest(&mut cursor));
+    reads_numbers(&mut cursor)
+        && reads_flags(&mut cursor)
+        && is_too_short(&mut cursor)
+        && reads_the_rest(&mut cursor)
 }
 
 /// Puts one number of each width into a draft, and fails then where that is asked for.
@@ -160,21 +161,13 @@ fn put_numbers(draft: &mut Draft, fails: bool) -> Result<(), AllocError> {
 }
 
 /// Whether a draft that is settled so leaves these bytes.
-fn leaves(alloc: Global, fails: bool, want: &[u8]) -> Result<bool, Fail> {
+fn leaves(alloc: Global, fails: bool, want: &[u8]) -> Result<bool, AllocError> {
     let mut out = Out::new(alloc);
     out.put_u8(5)?;
     let mut draft = out.draft();
     let written = put_numbers(&mut draft, fails);
     let is_cut = out.settle(draft, written).is_err();
     Ok(is_cut == fails && out.bytes() == want)
-}
-
-#[test]
-fn a_draft_is_kept_or_cut_back(rt: HostRuntime) -> Result<(), Fail> {
-    let kept = [5, 7, 1, 0, 0, 0, 2, 0, 0, 0, 0, 0, 0, 0, 1, 1, 9];
-    assert!(rt; leaves(rt.alloc(), false, &kept)?);
-    assert!(rt; leaves(rt.alloc(), true, &[5])?);
-    Ok(())
 }
 
 /// Whether a cursor from which a byte was read has so many bytes left when that is settled so.
@@ -186,19 +179,31 @@ fn goes_back(read: Result<u8, NoSpelling>, left: usize) -> bool {
     first == Ok(1) && settled == read && cursor.rest().len() == left
 }
 
-#[test]
-fn a_refused_read_goes_back(rt: HostRuntime) {
-    assert!(rt; goes_back(Ok(1), 2));
-    assert!(rt; goes_back(Err(NoSpelling), 3));
+/// What a draft leaves that is kept.
+const KEPT: &[u8] = &[5, 7, 1, 0, 0, 0, 2, 0, 0, 0, 0, 0, 0, 0, 1, 1, 9];
+
+/// The texts of the refusals.
+const TEXTS: &str =
+    "no prefix of the bytes spells such a value; no prefix of the bytes spells such a value; out of memory";
+
+/// Whether the refusals have these texts.
+fn says_why(alloc: Global) -> Result<bool, AllocError> {
+    let alloc = Out::new(alloc).allocator();
+    let (spelling, memory) = (WireFault::NoSpelling, WireFault::Memory);
+    let text = format!(in alloc; "{NoSpelling}; {spelling}; {memory}")?;
+    Ok(text.as_str() == TEXTS)
 }
 
 #[test]
-fn refusals_have_texts(rt: HostRuntime) -> Result<(), Fail> {
-    let alloc = Out::new(rt.alloc()).allocator();
-    let none = "no prefix of the bytes spells such a value";
-    assert!(rt; NoSpelling.to_string(alloc)?.as_str() == none);
-    assert!(rt; WireFault::NoSpelling.to_string(alloc)?.as_str() == none);
-    assert!(rt; WireFault::Memory.to_string(alloc)?.as_str() == "out of memory");
+fn numbers_flags_and_bytes(rt: HostRuntime) -> Result<(), Fail> {
+    let alloc = rt.alloc();
+    assert!(rt; writes_mixed(alloc)?);
+    assert!(rt; reads_mixed());
+    // a draft is kept or cut back, and a refused read goes back
+    assert!(rt; leaves(alloc, false, KEPT)?);
+    assert!(rt; leaves(alloc, true, &[5])?);
+    assert!(rt; goes_back(Ok(1), 2) && goes_back(Err(NoSpelling), 3));
+    assert!(rt; says_why(alloc)?);
     Ok(())
 }
 

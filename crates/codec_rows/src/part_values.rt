@@ -60,24 +60,15 @@ fn has_text(alloc: Global, error: &XcmError, want: &str) -> Result<bool, Fail> {
     Ok(text.as_str() == want)
 }
 
-#[test]
-fn errors_have_their_texts(rt: HostRuntime) -> Result<(), Fail> {
-    for (error, want) in ERRORS {
-        assert!(rt; has_text(rt.alloc(), error, want)?, "{want}");
-    }
-    Ok(())
-}
-
-#[test]
-fn weights_show_both_dimensions(rt: HostRuntime) -> Result<(), Fail> {
+/// Whether a weight shows both dimensions.
+fn shows_both(alloc: Global) -> Result<bool, Fail> {
     let weight = Weight {
         ref_time: 1_000_000_000_000,
         proof_size: 5_242_880,
     };
-    let text = format!(in rt.alloc(); "{weight}")?;
-    assert!(rt; text.as_str() == "1000000000000 5242880");
-    assert!(rt; WeightLimit::Limited(weight) != WeightLimit::Unlimited);
-    Ok(())
+    let text = format!(in alloc; "{weight}")?;
+    let is_limit = WeightLimit::Limited(weight) != WeightLimit::Unlimited;
+    Ok(is_limit && text.as_str() == "1000000000000 5242880")
 }
 
 /// These bytes as a list of at most 48.
@@ -95,25 +86,22 @@ fn is_name(alloc: Global, bytes: &[u8], other: &PalletName) -> Result<bool, Fail
     Ok(made == *other && made.items() == bytes)
 }
 
-#[test]
-fn lists_are_equal_element_by_element(rt: HostRuntime) -> Result<(), Fail> {
-    let alloc = rt.alloc();
-    let one = name(alloc, &[1, 2, 3])?;
-    assert!(rt; is_name(alloc, &[1, 2, 3], &one)?);
-    assert!(rt; !is_name(alloc, &[1, 2], &one)?);
-    assert!(rt; !is_name(alloc, &[1, 2, 4], &one)?);
-    Ok(())
-}
-
-#[test]
-fn a_copy_of_a_list_has_its_items(rt: HostRuntime) -> Result<(), Fail> {
-    let alloc = rt.alloc();
+/// Whether lists are equal element by element, and a copy has the items.
+fn are_lists(alloc: Global) -> Result<bool, Fail> {
     let one = name(alloc, &[1, 2, 3])?;
     let same = one.copy()?;
-    assert!(rt; same.items() == [1, 2, 3].as_slice());
+    Ok(
+        is_name(alloc, &[1, 2, 3], &one)?
+            && !is_name(alloc, &[1, 2], &one)?
+            && !is_name(alloc, &[1, 2, 4], &one)?
+            && same.items() == [1, 2, 3].as_slice(),
+    )
+}
+
+/// Whether a list of bytes may be long.
+fn is_long(alloc: Global) -> Result<bool, AllocError> {
     let long: LongBytes = BoundedVec::from_vec(vec![in alloc; 7; 100]?);
-    assert!(rt; long.items().len() == 100);
-    Ok(())
+    Ok(long.items().len() == 100)
 }
 
 fn balances(alloc: Global) -> Result<PalletInfo, AllocError> {
@@ -127,13 +115,11 @@ fn balances(alloc: Global) -> Result<PalletInfo, AllocError> {
     })
 }
 
-#[test]
-fn copies_of_pallets_are_the_same(rt: HostRuntime) -> Result<(), Fail> {
-    let pallet = balances(rt.alloc())?;
+/// Whether a copy of a pallet is the same.
+fn is_copied(alloc: Global) -> Result<bool, AllocError> {
+    let pallet = balances(alloc)?;
     let same = pallet.copy()?;
-    assert!(rt; same == pallet);
-    assert!(rt; same.name.items() == b"Balances".as_slice());
-    Ok(())
+    Ok(same == pallet && same.name.items() == b"Balances".as_slice())
 }
 
 /// The end of a call with the bytes 1 and 2, some of them cut off.
@@ -142,26 +128,20 @@ fn cut_off(alloc: Global) -> Result<MaybeError, AllocError> {
     Ok(MaybeError::TruncatedError(BoundedVec::from_vec(items)))
 }
 
-#[test]
-fn copies_of_ends_are_the_same(rt: HostRuntime) -> Result<(), Fail> {
-    let alloc = rt.alloc();
+/// Whether copies of ends are the same, and another end isn't.
+fn are_ends(alloc: Global) -> Result<bool, AllocError> {
     let error = cut_off(alloc)?;
     let same = error.copy()?;
-    assert!(rt; same == error);
     let whole = MaybeError::Error(BoundedVec::from_vec(vec![in alloc; 1, 2]?));
-    assert!(rt; error != whole);
     let success = MaybeError::Success.copy()?;
-    assert!(rt; success == MaybeError::Success);
-    Ok(())
+    Ok(same == error && error != whole && success == MaybeError::Success)
 }
 
-#[test]
-fn responses_of_two_kinds_differ(rt: HostRuntime) -> Result<(), Fail> {
-    let alloc = rt.alloc();
+/// Whether responses of two kinds differ.
+fn differ(alloc: Global) -> Result<bool, AllocError> {
     let pallets: PalletInfos = BoundedVec::from_vec(vec![in alloc; balances(alloc)?]?);
     let ended = Response::DispatchResult(cut_off(alloc)?);
-    assert!(rt; Response::PalletsInfo(pallets) != ended);
-    Ok(())
+    Ok(Response::PalletsInfo(pallets) != ended)
 }
 
 /// The query of this number that the relay chain may answer.
@@ -171,7 +151,15 @@ fn query(id: u64) -> OpenQuery {
 }
 
 #[test]
-fn queries_are_equal_field_by_field(rt: HostRuntime) {
-    assert!(rt; query(7) == query(7));
-    assert!(rt; query(7) != query(8));
+fn parts_have_texts_and_copies(rt: HostRuntime) -> Result<(), Fail> {
+    let alloc = rt.alloc();
+    for (error, want) in ERRORS {
+        assert!(rt; has_text(alloc, error, want)?, "{want}");
+    }
+    assert!(rt; shows_both(alloc)?);
+    assert!(rt; are_lists(alloc)? && is_long(alloc)?);
+    assert!(rt; is_copied(alloc)?);
+    assert!(rt; are_ends(alloc)? && differ(alloc)?);
+    assert!(rt; query(7) == query(7) && query(7) != query(8));
+    Ok(())
 }

@@ -3,7 +3,7 @@
 use crate::values::unhex;
 use asset_wire::{Version, WireFault};
 use head_wire::{law_of_heads, law_of_no_prefix, law_of_writable, read_head, write_head};
-use message_parts::{BoundedVec, Response, Weight};
+use message_parts::Response;
 use scale_codec::{Cursor, Out};
 use std::alloc::Global;
 use std::test::Fail;
@@ -116,100 +116,104 @@ const BY_VERSION: &[(&str, &str, &str)] = &[
     ),
 ];
 
-/// Whether the hex is read to its end as an instruction of this name, and is what is written for that.
+/// Whether an instruction of this name is read, and is written as it was spelled.
 #[tactic(auto, using(head_wire::specs::Laws::Written::head_named, head_wire::specs::Laws::Written::head_amount))]
-fn spells(alloc: Global, name: &str, v: Version, hex: &str) -> Result<bool, Fail> {
-    let bytes = unhex(alloc, hex)?;
-    let mut cursor = Cursor::new(bytes.as_slice());
-    let read = read_head(alloc, &mut cursor, v)?;
-    let mut out = Out::new(alloc);
-    let written = write_head(&mut out, &read, v);
+fn goes(
+    alloc: Global,
+    out: &mut Out,
+    cursor: &mut Cursor<'_>,
+    name: &str,
+    v: Version,
+) -> Result<bool, Fail> {
+    let read = read_head(alloc, cursor, v)?;
+    let written = write_head(out, &read, v);
     let is_named = read.name() == name;
     drop(read);
     written?;
-    Ok(is_named && out.bytes() == bytes.as_slice() && cursor.rest().is_empty())
+    Ok(is_named)
 }
 
-#[test]
-fn each_instruction_has_a_head(rt: HostRuntime) -> Result<(), Fail> {
-    for (name, hex) in ALIKE {
-        assert!(rt; spells(rt.alloc(), name, Version::V3, hex)?, "{name}");
-        assert!(rt; spells(rt.alloc(), name, Version::V4, hex)?, "{name}");
-    }
-    for (name, third, fourth) in BY_VERSION {
-        assert!(rt; spells(rt.alloc(), name, Version::V3, third)?, "{name}");
-        assert!(rt; spells(rt.alloc(), name, Version::V4, fourth)?, "{name}");
-    }
-    Ok(())
+/// Whether the hex is read to its end as an instruction of this name, and is what is written for that.
+fn spells(alloc: Global, name: &str, v: Version, hex: &str) -> Result<bool, Fail> {
+    let bytes = unhex(alloc, hex)?;
+    let mut out = Out::new(alloc);
+    let mut cursor = Cursor::new(bytes.as_slice());
+    let goes = goes(alloc, &mut out, &mut cursor, name, v)?;
+    Ok(goes && out.bytes() == bytes.as_slice() && cursor.rest().is_empty())
 }
 
-/// The instruction that version 4 reads from the hex.
-fn read(alloc: Global, hex: &str) -> Result<Instruction, Fail> {
+/// Whether the hex of both versions is read and written as an instruction of this name.
+fn spells_both(alloc: Global, name: &str, third: &str, fourth: &str) -> Result<bool, Fail> {
+    Ok(spells(alloc, name, Version::V3, third)? && spells(alloc, name, Version::V4, fourth)?)
+}
+
+/// Instructions whose fields are known.
+enum Known {
+    Request,
+    Closing,
+    Pallet,
+    Answer,
+}
+
+/// The instructions, and the hex of their heads.
+const KNOWN: &[(Known, &str)] = &[
+    (Known::Request, "07411f011020"),
+    (Known::Closing, "09411f451f491f"),
+    (Known::Pallet, "22140861620463180c"),
+    (Known::Answer, "031c0309000000a10f910100"),
+];
+
+/// Whether the fields stand in order.
+fn are_in_order(read: &Instruction, known: &Known) -> bool {
+    match (read, known) {
+        (
+            Instruction::HrmpNewChannelOpenRequest {
+                sender,
+                max_message_size,
+                max_capacity,
+            },
+            Known::Request,
+        ) => (*sender, *max_message_size, *max_capacity) == (2000, 1024, 8),
+        (
+            Instruction::HrmpChannelClosing {
+                initiator,
+                sender,
+                recipient,
+            },
+            Known::Closing,
+        ) => (*initiator, *sender, *recipient) == (2000, 2001, 2002),
+        (
+            Instruction::ExpectPallet {
+                index,
+                name,
+                module_name,
+                crate_major,
+                min_crate_minor,
+            },
+            Known::Pallet,
+        ) => (*index, *crate_major, *min_crate_minor) == (5, 6, 3)
+            && name.items() == b"ab".as_slice()
+            && module_name.items() == b"c".as_slice(),
+        (
+            Instruction::QueryResponse {
+                query_id,
+                response: Response::Version(version),
+                max_weight,
+                querier: None,
+            },
+            Known::Answer,
+        ) => (*query_id, *version) == (7, 9)
+            && (max_weight.ref_time, max_weight.proof_size) == (1000, 100),
+        _ => false,
+    }
+}
+
+/// Whether version 4 reads the fields of the instruction in order.
+fn is_known(alloc: Global, known: &Known, hex: &str) -> Result<bool, Fail> {
     let bytes = unhex(alloc, hex)?;
     let mut cursor = Cursor::new(bytes.as_slice());
-    Ok(read_head(alloc, &mut cursor, Version::V4)?)
-}
-
-/// Whether both are the same. Both end here, so that each test need not drop them.
-fn are_same(one: Instruction, other: Instruction) -> bool {
-    one == other
-}
-
-#[test]
-fn fields_of_a_channel_request_stand_in_order(rt: HostRuntime) -> Result<(), Fail> {
-    let read = read(rt.alloc(), "07411f011020")?;
-    let opened = Instruction::HrmpNewChannelOpenRequest {
-        sender: 2000,
-        max_message_size: 1024,
-        max_capacity: 8,
-    };
-    assert!(rt; are_same(read, opened));
-    Ok(())
-}
-
-#[test]
-fn fields_of_a_closing_channel_stand_in_order(rt: HostRuntime) -> Result<(), Fail> {
-    let read = read(rt.alloc(), "09411f451f491f")?;
-    let closed = Instruction::HrmpChannelClosing {
-        initiator: 2000,
-        sender: 2001,
-        recipient: 2002,
-    };
-    assert!(rt; are_same(read, closed));
-    Ok(())
-}
-
-#[test]
-fn fields_of_a_pallet_stand_in_order(rt: HostRuntime) -> Result<(), Fail> {
-    let alloc = rt.alloc();
-    let name = vec![in alloc; b'a', b'b']?;
-    let module_name = vec![in alloc; b'c']?;
-    let read = read(alloc, "22140861620463180c")?;
-    let pallet = Instruction::ExpectPallet {
-        index: 5,
-        name: BoundedVec::from_vec(name),
-        module_name: BoundedVec::from_vec(module_name),
-        crate_major: 6,
-        min_crate_minor: 3,
-    };
-    assert!(rt; are_same(read, pallet));
-    Ok(())
-}
-
-#[test]
-fn fields_of_an_answer_stand_in_order(rt: HostRuntime) -> Result<(), Fail> {
-    let read = read(rt.alloc(), "031c0309000000a10f910100")?;
-    let answer = Instruction::QueryResponse {
-        query_id: 7,
-        response: Response::Version(9),
-        max_weight: Weight {
-            ref_time: 1000,
-            proof_size: 100,
-        },
-        querier: None,
-    };
-    assert!(rt; are_same(read, answer));
-    Ok(())
+    let read = read_head(alloc, &mut cursor, Version::V4)?;
+    Ok(are_in_order(&read, known))
 }
 
 /// Whether version 4 reads the hex as an instruction with an empty program inside, and leaves what stands behind.
@@ -235,14 +239,6 @@ const WITH_PROGRAMS: &[&str] = &[
     "16",
     "260200",
 ];
-
-#[test]
-fn the_program_inside_stands_behind(rt: HostRuntime) -> Result<(), Fail> {
-    for hex in WITH_PROGRAMS {
-        assert!(rt; leaves_the_program(rt.alloc(), hex)?, "{hex}");
-    }
-    Ok(())
-}
 
 /// Whether no front of what the hex says is a head, and the cursor stays.
 fn is_no_head(alloc: Global, v: Version, hex: &str) -> Result<bool, Fail> {
@@ -282,20 +278,29 @@ const NO_HEADS: &[(Version, &str)] = &[
         "2c11111111111111111111111111111111111111111111111111111111111111",
     ),
     (Version::V4, "210c0102"),
+    // an id of bytes
+    (Version::V4, ABSTRACT),
 ];
 
 #[test]
-fn other_bytes_are_no_head(rt: HostRuntime) -> Result<(), Fail> {
+fn heads_are_read_and_written(rt: HostRuntime) -> Result<(), Fail> {
+    for (name, hex) in ALIKE {
+        assert!(rt; spells_both(rt.alloc(), name, hex, hex)?, "{name}");
+    }
+    for (name, third, fourth) in BY_VERSION {
+        assert!(rt; spells_both(rt.alloc(), name, third, fourth)?, "{name}");
+    }
+    for (known, hex) in KNOWN {
+        assert!(rt; is_known(rt.alloc(), known, hex)?, "{hex}");
+    }
+    for hex in WITH_PROGRAMS {
+        assert!(rt; leaves_the_program(rt.alloc(), hex)?, "{hex}");
+    }
     for (v, hex) in NO_HEADS {
         assert!(rt; is_no_head(rt.alloc(), *v, hex)?, "{hex}");
     }
-    Ok(())
-}
-
-#[test]
-fn ids_of_bytes_are_of_version_3(rt: HostRuntime) -> Result<(), Fail> {
+    // ids of bytes are of version 3
     assert!(rt; spells(rt.alloc(), "BurnAsset", Version::V3, ABSTRACT)?);
-    assert!(rt; is_no_head(rt.alloc(), Version::V4, ABSTRACT)?);
     Ok(())
 }
 

@@ -22,14 +22,6 @@ fn has_text(alloc: Global, error: &OutcomeError, want: &str) -> Result<bool, Fai
     Ok(text.as_str() == want)
 }
 
-#[test]
-fn outcome_errors_have_the_texts_of_their_errors(rt: HostRuntime) -> Result<(), Fail> {
-    for (error, want) in ERRORS {
-        assert!(rt; has_text(rt.alloc(), error, want)?, "{want}");
-    }
-    Ok(())
-}
-
 /// A program of one trap.
 fn trap(alloc: Global, code: u64) -> Result<Program, AllocError> {
     let items = vec![in alloc; Instruction::Trap { code }]?;
@@ -41,19 +33,13 @@ fn is_named(instruction: Instruction, index: u8, name: &str) -> bool {
     instruction.index() == index && instruction.name() == name
 }
 
-#[test]
-fn instructions_have_their_indices_and_names(rt: HostRuntime) {
-    assert!(rt; is_named(Instruction::ClearOrigin, 10, "ClearOrigin"));
-    assert!(rt; is_named(Instruction::RefundSurplus, 20, "RefundSurplus"));
-    assert!(rt; is_named(Instruction::UnsubscribeVersion, 27, "UnsubscribeVersion"));
-}
-
-#[test]
-fn instructions_with_fields_have_their_indices_and_names(rt: HostRuntime) {
-    let trap = Instruction::Trap { code: 5 };
-    assert!(rt; is_named(trap, 25, "Trap"));
-    let topic = Instruction::SetTopic { topic: [7; 32] };
-    assert!(rt; is_named(topic, 44, "SetTopic"));
+/// Whether instructions have their indices and names.
+fn are_named() -> bool {
+    is_named(Instruction::ClearOrigin, 10, "ClearOrigin")
+        && is_named(Instruction::RefundSurplus, 20, "RefundSurplus")
+        && is_named(Instruction::UnsubscribeVersion, 27, "UnsubscribeVersion")
+        && is_named(Instruction::Trap { code: 5 }, 25, "Trap")
+        && is_named(Instruction::SetTopic { topic: [7; 32] }, 44, "SetTopic")
 }
 
 /// The instruction that sets a handler.
@@ -77,23 +63,20 @@ fn becomes(mut instruction: Instruction, xcm: Program, other: Instruction) -> bo
     instruction == other
 }
 
-#[test]
-fn the_program_inside_is_replaced(rt: HostRuntime) -> Result<(), Fail> {
-    let alloc = rt.alloc();
+/// Whether the program inside is replaced.
+fn is_replaced(alloc: Global) -> Result<bool, AllocError> {
     let (one, two) = (trap(alloc, 1)?, trap(alloc, 2)?);
     let xcm = trap(alloc, 2)?;
     let first = handler(one);
-    assert!(rt; has_program(&first));
-    assert!(rt; becomes(first, xcm, handler(two)));
-    Ok(())
+    let has = has_program(&first);
+    Ok(becomes(first, xcm, handler(two)) && has)
 }
 
-#[test]
-fn an_instruction_without_a_program_stays(rt: HostRuntime) -> Result<(), Fail> {
-    let xcm = trap(rt.alloc(), 1)?;
-    assert!(rt; has_none(&Instruction::ClearTopic));
-    assert!(rt; becomes(Instruction::ClearTopic, xcm, Instruction::ClearTopic));
-    Ok(())
+/// Whether an instruction without a program stays.
+fn stays(alloc: Global) -> Result<bool, AllocError> {
+    let xcm = trap(alloc, 1)?;
+    let has = has_none(&Instruction::ClearTopic);
+    Ok(becomes(Instruction::ClearTopic, xcm, Instruction::ClearTopic) && has)
 }
 
 /// A call that takes this much.
@@ -105,20 +88,29 @@ fn call(alloc: Global, require_weight_at_most: Weight) -> Instruction {
     }
 }
 
-#[test]
-fn a_call_may_take_what_it_says(rt: HostRuntime) {
-    let weight = Weight {
-        ref_time: 5,
-        proof_size: 7,
-    };
-    assert!(rt; required(&call(rt.alloc(), weight)) == weight);
+/// What a call may take at most here.
+const MOST: Weight = Weight {
+    ref_time: 5,
+    proof_size: 7,
+};
+
+const NOTHING: Weight = Weight {
+    ref_time: 0,
+    proof_size: 0,
+};
+
+/// Whether a call may take what it says, and no other instruction takes weight of its own.
+fn takes(alloc: Global) -> bool {
+    required(&call(alloc, MOST)) == MOST && required(&Instruction::ClearOrigin) == NOTHING
 }
 
 #[test]
-fn no_other_instruction_takes_weight_of_its_own(rt: HostRuntime) {
-    let nothing = Weight {
-        ref_time: 0,
-        proof_size: 0,
-    };
-    assert!(rt; required(&Instruction::ClearOrigin) == nothing);
+fn instructions_say_what_they_are(rt: HostRuntime) -> Result<(), Fail> {
+    for (error, want) in ERRORS {
+        assert!(rt; has_text(rt.alloc(), error, want)?, "{want}");
+    }
+    assert!(rt; are_named());
+    assert!(rt; is_replaced(rt.alloc())? && stays(rt.alloc())?);
+    assert!(rt; takes(rt.alloc()));
+    Ok(())
 }

@@ -169,17 +169,6 @@ fn goes_both_ways(alloc: Global, name: &str, three: &str, four: &str) -> Result<
     )
 }
 
-#[test]
-fn each_instruction_goes_both_ways(rt: HostRuntime) -> Result<(), Fail> {
-    for (name, hex) in ALIKE {
-        assert!(rt; goes_both_ways(rt.alloc(), name, hex, hex)?, "{name}");
-    }
-    for (name, three, four) in BY_VERSION {
-        assert!(rt; goes_both_ways(rt.alloc(), name, three, four)?, "{name}");
-    }
-    Ok(())
-}
-
 /// Messages that are refused, and why.
 const REFUSED: &[(&str, MessageFault)] = &[
     // a code in a longer form, a byte left over, a code past its range
@@ -230,31 +219,30 @@ fn is_refused(alloc: Global, bytes: &[u8], want: MessageFault) -> bool {
     decode_message(alloc, bytes).err() == Some(want)
 }
 
-#[test]
-fn refusals_have_their_cause(rt: HostRuntime) -> Result<(), Fail> {
-    for (hex, want) in REFUSED {
-        let bytes = unhex(rt.alloc(), hex)?;
-        assert!(rt; is_refused(rt.alloc(), bytes.as_slice(), *want), "{hex}");
-    }
-    Ok(())
+/// Whether the message of the hex is refused for this cause.
+fn is_refused_hex(alloc: Global, hex: &str, want: MessageFault) -> Result<bool, Fail> {
+    let bytes = unhex(alloc, hex)?;
+    Ok(is_refused(alloc, bytes.as_slice(), want))
 }
 
 /// A transfer to a parachain that pays there: one instruction with a program inside.
 const TRANSFER: &str =
     "04040504000000a10f000100411f08130100009101000d010204000101000202020202020202020202020202020202020202020202020202020202020202";
 
-#[test]
-fn no_proper_prefix_of_a_message_is_one(rt: HostRuntime) -> Result<(), Fail> {
-    let bytes = unhex(rt.alloc(), TRANSFER)?;
-    let bytes = bytes.as_slice();
+/// Whether the bytes are a message, and no proper prefix of them that tells its version and more is one.
+fn is_alone(alloc: Global, bytes: &[u8]) -> bool {
     for len in 2..bytes.len() {
-        assert!(rt;
-            is_refused(rt.alloc(), &bytes[..len], MessageFault::NotAMessage),
-            "{len}"
-        );
+        if !is_refused(alloc, &bytes[..len], MessageFault::NotAMessage) {
+            return false;
+        }
     }
-    assert!(rt; decode_message(rt.alloc(), bytes).is_ok());
-    Ok(())
+    decode_message(alloc, bytes).is_ok()
+}
+
+/// Whether no proper prefix of the transfer is a message.
+fn has_no_prefix(alloc: Global) -> Result<bool, Fail> {
+    let bytes = unhex(alloc, TRANSFER)?;
+    Ok(is_alone(alloc, bytes.as_slice()))
 }
 
 /// Messages that are read and written back as they are: each a worked example.
@@ -291,14 +279,6 @@ fn is_written_back(alloc: Global, hex: &str) -> Result<bool, Fail> {
     Ok(back.as_slice() == bytes.as_slice())
 }
 
-#[test]
-fn whole_messages_are_written_back(rt: HostRuntime) -> Result<(), Fail> {
-    for hex in WHOLE {
-        assert!(rt; is_written_back(rt.alloc(), hex)?, "{hex}");
-    }
-    Ok(())
-}
-
 /// A program of one trap.
 fn trap(alloc: Global, code: u64) -> Result<Program, AllocError>
     ensures { IfOk result (λ program. program ≡ Trap code ∷ []) }
@@ -315,13 +295,6 @@ fn is_trap(alloc: Global, v: Version, want: &[u8]) -> Result<bool, Fail> {
     Ok(bytes.as_slice() == want && read == program)
 }
 
-#[test]
-fn one_trap_is_four_bytes(rt: HostRuntime) -> Result<(), Fail> {
-    assert!(rt; is_trap(rt.alloc(), Version::V3, &[3, 4, 0x19, 0x14])?);
-    assert!(rt; is_trap(rt.alloc(), Version::V4, &[4, 4, 0x19, 0x14])?);
-    Ok(())
-}
-
 /// Whether the front, so many instructions that clear the origin, and the back are a message.
 fn is_message(alloc: Global, front: &[u8], count: usize, back: &[u8]) -> Result<bool, Fail> {
     let mut bytes = filled(alloc, front, count, 10)?;
@@ -333,21 +306,22 @@ fn is_message(alloc: Global, front: &[u8], count: usize, back: &[u8]) -> Result<
     }
 }
 
-#[test]
-fn a_message_has_at_most_a_hundred_instructions(rt: HostRuntime) -> Result<(), Fail> {
-    let alloc = rt.alloc();
-    let appendix = [0x16, 4, 10];
-    assert!(rt; is_message(alloc, &[4, 0x91, 1], 100, &[])?);
-    assert!(rt; is_message(alloc, &[3, 0x91, 1], 100, &[])?);
-    assert!(rt; !is_message(alloc, &[4, 0x95, 1], 101, &[])?);
+/// An appendix of one instruction.
+const APPENDIX: &[u8] = &[0x16, 4, 10];
+
+/// Fronts, how many instructions that clear the origin stand behind them, what ends them, and whether that is a message: it is where there
+/// are at most a hundred instructions.
+const COUNTED: &[(&[u8], usize, &[u8], bool)] = &[
+    (&[4, 0x91, 1], 100, &[], true),
+    (&[3, 0x91, 1], 100, &[], true),
+    (&[4, 0x95, 1], 101, &[], false),
     // the last with an appendix of one
-    assert!(rt; is_message(alloc, &[4, 0x8d, 1], 98, &appendix)?);
-    assert!(rt; !is_message(alloc, &[4, 0x91, 1], 99, &appendix)?);
-    Ok(())
-}
+    (&[4, 0x8d, 1], 98, APPENDIX, true),
+    (&[4, 0x91, 1], 99, APPENDIX, false),
+];
 
 /// The front of a message of 65,536 bytes: one call of 65,526 bytes.
-const LONG_FRONT: [u8; 10] = [4, 4, 6, 0, 0, 0, 0xda, 0xff, 3, 0];
+const LONG_FRONT: &[u8] = &[4, 4, 6, 0, 0, 0, 0xda, 0xff, 3, 0];
 
 /// Whether the front and so many bytes of this value are refused for this cause.
 fn is_refused_filled(
@@ -361,23 +335,19 @@ fn is_refused_filled(
     Ok(is_refused(alloc, bytes.as_slice(), want))
 }
 
-#[test]
-fn a_message_may_have_65536_bytes(rt: HostRuntime) -> Result<(), Fail> {
-    let alloc = rt.alloc();
-    let whole = filled(alloc, &LONG_FRONT, 65_526, 0)?;
-    assert!(rt; decode_message(alloc, whole.as_slice()).is_ok());
-    Ok(())
+/// Whether a message may have 65,536 bytes.
+fn may_be_long(alloc: Global) -> Result<bool, AllocError> {
+    let whole = filled(alloc, LONG_FRONT, 65_526, 0)?;
+    Ok(decode_message(alloc, whole.as_slice()).is_ok())
 }
 
-#[test]
-fn length_is_looked_at_first(rt: HostRuntime) -> Result<(), Fail> {
-    let alloc = rt.alloc();
-    assert!(rt; is_refused_filled(alloc, &LONG_FRONT, 65_527, 0, MessageFault::TooLong)?);
-    assert!(rt; is_refused_filled(alloc, &[7], 65_536, 7, MessageFault::TooLong)?);
-    assert!(rt; is_refused_filled(alloc, &[7], 65_535, 7, MessageFault::UnknownVersion)?);
-    assert!(rt; is_refused_filled(alloc, &[4], 65_535, 0, MessageFault::NotAMessage)?);
-    Ok(())
-}
+/// Fronts, how many bytes of a value stand behind them, and why that is refused: length is looked at first.
+const FILLED: &[(&[u8], usize, u8, MessageFault)] = &[
+    (LONG_FRONT, 65_527, 0, MessageFault::TooLong),
+    (&[7], 65_536, 7, MessageFault::TooLong),
+    (&[7], 65_535, 7, MessageFault::UnknownVersion),
+    (&[4], 65_535, 0, MessageFault::NotAMessage),
+];
 
 /// So many instructions that clear the origin.
 fn clears(alloc: Global, count: u32) -> Result<Program, AllocError>
@@ -403,13 +373,11 @@ fn message_of_clears(
     }
 }
 
-#[test]
-fn a_hundred_and_one_instructions_have_no_message(rt: HostRuntime) -> Result<(), Fail> {
-    let past = message_of_clears(rt.alloc(), 101, Version::V4)?;
-    assert!(rt; past == Err(EncodeFault::ExceedsLimits));
-    let most = message_of_clears(rt.alloc(), 100, Version::V3)?;
-    assert!(rt; most == Ok(103));
-    Ok(())
+/// Whether a hundred and one instructions have no message, and a hundred have one.
+fn have_messages(alloc: Global) -> Result<bool, AllocError> {
+    let past = message_of_clears(alloc, 101, Version::V4)?;
+    let most = message_of_clears(alloc, 100, Version::V3)?;
+    Ok(past == Err(EncodeFault::ExceedsLimits) && most == Ok(103))
 }
 
 /// A notice of a deposit of 1000.
@@ -438,14 +406,12 @@ const REST: &str =
 const SENT: &str =
     "04100104010000a10f0a130100009101000d010204000101000202020202020202020202020202020202020202020202020202020202020202";
 
-#[test]
-fn a_notice_stands_in_front_of_what_is_sent_on(rt: HostRuntime) -> Result<(), Fail> {
-    let alloc = rt.alloc();
+/// Whether the notice stands in front of what is sent on.
+fn is_in_front(alloc: Global) -> Result<bool, Fail> {
     let rest = unhex(alloc, REST)?;
     let sent = forwarded(alloc, rest.as_slice(), Version::V4)??;
     let text = hex::encode(alloc, sent.as_slice())?;
-    assert!(rt; text.as_str() == SENT);
-    Ok(())
+    Ok(text.as_str() == SENT)
 }
 
 /// Why what follows the notice in version 3 isn't sent on: the front, and so many bytes of this value.
@@ -460,27 +426,18 @@ fn not_sent(
 }
 
 /// A message of eight levels.
-const DEEP: [u8; 17] = [
+const DEEP: &[u8] = &[
     4, 4, 0x16, 4, 0x16, 4, 0x16, 4, 0x16, 4, 0x16, 4, 0x16, 4, 0x16, 4, 10,
 ];
 
-#[test]
-fn what_is_sent_on_may_have_98_instructions_or_eight_levels(rt: HostRuntime) -> Result<(), Fail> {
-    let alloc = rt.alloc();
-    assert!(rt; not_sent(alloc, &[4, 0x89, 1], 98, 10)? == None);
-    assert!(rt; not_sent(alloc, &DEEP, 0, 0)? == None);
-    Ok(())
-}
-
-#[test]
-fn what_is_sent_on_is_within_the_limits(rt: HostRuntime) -> Result<(), Fail> {
-    let alloc = rt.alloc();
-    let past = Some(EncodeFault::ExceedsLimits);
-    // 99 instructions, and 65,536 bytes
-    assert!(rt; not_sent(alloc, &[4, 0x8d, 1], 99, 10)? == past);
-    assert!(rt; not_sent(alloc, &LONG_FRONT, 65_526, 0)? == past);
-    Ok(())
-}
+/// Fronts, how many instructions or bytes of a value stand behind them, and why that isn't sent on, if it isn't: 98 instructions are and eight
+/// levels, and 99 instructions aren't, and 65,536 bytes.
+const SENT_ON: &[(&[u8], usize, u8, Option<EncodeFault>)] = &[
+    (&[4, 0x89, 1], 98, 10, None),
+    (DEEP, 0, 0, None),
+    (&[4, 0x8d, 1], 99, 10, Some(EncodeFault::ExceedsLimits)),
+    (LONG_FRONT, 65_526, 0, Some(EncodeFault::ExceedsLimits)),
+];
 
 /// Refusals, and their texts.
 const TEXTS: &[(MessageFault, &str)] = &[
@@ -491,14 +448,65 @@ const TEXTS: &[(MessageFault, &str)] = &[
     (MessageFault::Memory, "out of memory"),
 ];
 
+/// Whether this is the text of the refusal.
+fn says_why(alloc: Global, fault: &MessageFault, want: &str) -> Result<bool, AllocError> {
+    let text = fault.to_string(alloc)?;
+    Ok(text.as_str() == want)
+}
+
+/// Whether the refusal to encode for want of memory has its text.
+fn says_memory(alloc: Global) -> Result<bool, AllocError> {
+    let text = EncodeFault::Memory.to_string(alloc)?;
+    Ok(text.as_str() == "out of memory")
+}
+
 #[test]
-fn refusals_of_messages_have_texts(rt: HostRuntime) -> Result<(), Fail> {
-    for (fault, want) in TEXTS {
-        let text = fault.to_string(rt.alloc())?;
-        assert!(rt; text.as_str() == *want, "{want}");
+fn messages_are_decoded_and_encoded(rt: HostRuntime) -> Result<(), Fail> {
+    for (name, hex) in ALIKE {
+        assert!(rt; goes_both_ways(rt.alloc(), name, hex, hex)?, "{name}");
     }
-    let memory = EncodeFault::Memory.to_string(rt.alloc())?;
-    assert!(rt; memory.as_str() == "out of memory");
+    for (name, three, four) in BY_VERSION {
+        assert!(rt; goes_both_ways(rt.alloc(), name, three, four)?, "{name}");
+    }
+    for hex in WHOLE {
+        assert!(rt; is_written_back(rt.alloc(), hex)?, "{hex}");
+    }
+    assert!(rt; is_trap(rt.alloc(), Version::V3, &[3, 4, 0x19, 0x14])?);
+    assert!(rt; is_trap(rt.alloc(), Version::V4, &[4, 4, 0x19, 0x14])?);
+    assert!(rt; have_messages(rt.alloc())?);
+    assert!(rt; may_be_long(rt.alloc())?);
+    assert!(rt; is_in_front(rt.alloc())?);
+    for (front, count, byte, want) in SENT_ON {
+        assert!(rt;
+            not_sent(rt.alloc(), front, *count, *byte)? == *want,
+            "{count}"
+        );
+    }
+    Ok(())
+}
+
+#[test]
+fn messages_are_refused(rt: HostRuntime) -> Result<(), Fail> {
+    for (hex, want) in REFUSED {
+        assert!(rt; is_refused_hex(rt.alloc(), hex, *want)?, "{hex}");
+    }
+    for (front, count, byte, want) in FILLED {
+        assert!(rt;
+            is_refused_filled(rt.alloc(), front, *count, *byte, *want)?,
+            "{count}"
+        );
+    }
+    for (front, count, back, want) in COUNTED {
+        assert!(rt;
+            is_message(rt.alloc(), front, *count, back)? == *want,
+            "{count}"
+        );
+    }
+    assert!(rt; has_no_prefix(rt.alloc())?);
+    for (fault, want) in TEXTS {
+        assert!(rt; says_why(rt.alloc(), fault, want)?, "{want}");
+    }
+    assert!(rt; says_memory(rt.alloc())?);
     Ok(())
 }
 

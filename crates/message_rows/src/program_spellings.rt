@@ -57,21 +57,15 @@ fn measured(alloc: Global, hex: &str) -> Result<Option<(u32, u32, u32, bool)>, F
     Ok(Some((count, levels, sending, is_convertible(&program))))
 }
 
-#[test]
-fn programs_are_measured_and_written_back(rt: HostRuntime) -> Result<(), Fail> {
-    for (hex, count, levels, sending, convertible) in PROGRAMS {
-        let found = measured(rt.alloc(), hex)?;
-        assert!(rt;
-            found == Some((*count, *levels, *sending, *convertible)),
-            "{hex}"
-        );
-    }
-    Ok(())
-}
-
-#[test]
-fn the_limits_are_a_hundred_instructions_and_eight_levels(rt: HostRuntime) {
-    assert!(rt; (MAX_INSTRUCTIONS, MAX_DEPTH) == (100, 8));
+/// Whether the hex is a program with these counts.
+fn is_measured(
+    alloc: Global,
+    hex: &str,
+    counts: (u32, u32, u32),
+    convertible: bool,
+) -> Result<bool, Fail> {
+    let (count, levels, sending) = counts;
+    Ok(measured(alloc, hex)? == Some((count, levels, sending, convertible)))
 }
 
 /// Hex at the front of which no program stands within the limits.
@@ -93,21 +87,11 @@ fn is_no_program(alloc: Global, hex: &str) -> Result<bool, Fail> {
     Ok(fault == Some(WireFault::NoSpelling) && cursor.rest() == bytes.as_slice())
 }
 
-#[test]
-fn refused_programs_leave_the_cursor(rt: HostRuntime) -> Result<(), Fail> {
-    for hex in REFUSED {
-        assert!(rt; is_no_program(rt.alloc(), hex)?, "{hex}");
-    }
-    Ok(())
-}
-
-#[test]
-fn what_follows_a_program_is_left(rt: HostRuntime) -> Result<(), Fail> {
+/// Whether what follows a program is left.
+fn leaves_the_rest(alloc: Global) -> Result<bool, WireFault> {
     let mut cursor = Cursor::new(&[4, 10, 10, 11]);
-    let program = read_program(rt.alloc(), &mut cursor, Version::V4)?;
-    assert!(rt; program.items().len() == 1);
-    assert!(rt; cursor.rest() == [10, 11].as_slice());
-    Ok(())
+    let program = read_program(alloc, &mut cursor, Version::V4)?;
+    Ok(program.items().len() == 1 && cursor.rest() == [10, 11].as_slice())
 }
 
 /// The first instruction of the program that the bytes spell in version 4: what is written for it, its instructions through the program
@@ -132,22 +116,31 @@ fn is_first(alloc: Global, bytes: &[u8], want: &[u8], counts: (u32, u32)) -> Res
     Ok(written.as_slice() == want && (count, levels) == counts)
 }
 
-#[test]
-fn one_instruction_is_written_with_its_program(rt: HostRuntime) -> Result<(), Fail> {
-    let alloc = rt.alloc();
-    assert!(rt; is_first(alloc, &[4, 0x15, 8, 10, 0x17], &[0x15, 8, 10, 0x17], (3, 1))?);
-    assert!(rt; is_first(alloc, &[8, 0x19, 20, 10], &[0x19, 20], (1, 0))?);
-    Ok(())
+/// Whether an instance goes both ways.
+fn instance_goes(alloc: Global) -> Result<bool, Fail> {
+    let mut cursor = Cursor::new(&[1, 28]);
+    let mut out = Out::new(alloc);
+    write_instance(&mut out, &Instance::Index(7))?;
+    let read = read_instance(&mut cursor);
+    Ok(read == Ok(Instance::Index(7)) && out.bytes() == [1, 28].as_slice())
 }
 
 #[test]
-fn instances_go_both_ways(rt: HostRuntime) -> Result<(), Fail> {
-    let mut cursor = Cursor::new(&[1, 28]);
-    let seven = Instance::Index(7);
-    assert!(rt; read_instance(&mut cursor) == Ok(seven));
-    let mut out = Out::new(rt.alloc());
-    write_instance(&mut out, &seven)?;
-    assert!(rt; out.bytes() == [1, 28].as_slice());
+fn programs_are_read_measured_and_written(rt: HostRuntime) -> Result<(), Fail> {
+    let alloc = rt.alloc();
+    for (hex, count, levels, sending, convertible) in PROGRAMS {
+        let counts = (*count, *levels, *sending);
+        assert!(rt; is_measured(alloc, hex, counts, *convertible)?, "{hex}");
+    }
+    for hex in REFUSED {
+        assert!(rt; is_no_program(alloc, hex)?, "{hex}");
+    }
+    assert!(rt; (MAX_INSTRUCTIONS, MAX_DEPTH) == (100, 8));
+    assert!(rt; leaves_the_rest(alloc)?);
+    // one instruction is written with its program
+    assert!(rt; is_first(alloc, &[4, 0x15, 8, 10, 0x17], &[0x15, 8, 10, 0x17], (3, 1))?);
+    assert!(rt; is_first(alloc, &[8, 0x19, 20, 10], &[0x19, 20], (1, 0))?);
+    assert!(rt; instance_goes(alloc)?);
     Ok(())
 }
 

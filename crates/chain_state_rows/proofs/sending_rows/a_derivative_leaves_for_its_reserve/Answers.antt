@@ -1,5 +1,0 @@
-use Rattle.chain_state.specs.Known.{all_there}
-use Rattle.chain_state_rows.proofs.sending_rows.a_derivative_leaves_for_its_reserve.Goals as goal
-
-pub invariant_of-chain : goal.invariant_of-chain
-invariant_of-chain g c = all_there c.event.new.self
