@@ -216,6 +216,15 @@ barred_more held who (x ∷ xs) more fits free =
       | false ↦ λ h. barred_more held who xs more fits h
     ] free
 
+-- nothing was paid
+pub none_within : (p : ChainPart) (payments : List Asset) → length payments < 1 → bundle_of payments ≡ paid_goods p.lines → p.fees ≡ empty → [] ≡ rows (fees_within p)
+none_within p [] none paid clear = sym (payments_within p [] (omega arith) paid clear)
+none_within p (x ∷ xs) none paid clear = absurd (omega (arith, none))
+
+pub none_above : (p : ChainPart) (payments : List Asset) → length payments < 1 → bundle_of payments ≡ paid_goods p.lines → p.fees ≡ empty → [] ≡ rows (fees_above p)
+none_above p [] none paid clear = sym (payments_above p [] (omega arith) paid clear)
+none_above p (x ∷ xs) none paid clear = absurd (omega (arith, none))
+
 -- one asset was paid in
 module _ (p : ChainPart) (id : AssetId) (n : ℕ) (paid : bundle_of (record { id = id; fun = Fun.Fungible n } ∷ []) ≡ paid_goods p.lines) (clear : p.fees ≡ empty) where
   pub lone_paid : n ≡ amount (paid_goods p.lines) (id, None)
