@@ -7,7 +7,7 @@ use Rattle.call_dispatch.specs.declared.end.CallEnd.{CallEnd}
 use Rattle.call_dispatch.specs.Spelling.{AnyCall}
 use Rattle.call_dispatch.specs.Shifts.{RowAmounts}
 use Rattle.call_dispatch.specs.Dispatches.{Done, dispatch_items, items_of, IsInterrupted}
-use Rattle.row_accounts.specs.RowAccounts.{fungible_rows, row_amounts, held_aside, with_row_amounts, no_floors}
+use Rattle.row_accounts.specs.RowAccounts.{fungible_rows, row_amounts, held_aside, with_row_amounts}
 use Rattle.row_accounts.specs.Laws.{held_again, known_by_rows}
 use Rattle.row_accounts.specs.Calls.{called, held_called}
 use Rattle.exec_base.specs.declared.event.Event.{Event}

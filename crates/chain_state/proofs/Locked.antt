@@ -1,7 +1,7 @@
 -- A lock that may be set, or a note that may be asked for, isn't refused for itself; what is sent of it stands in its channel.
 use Rattle.std.proofs.Common.{◌≡◌, ◌++◌, ◌+◌, ◌<◌, ℕ, Bool, true, false, ◌&&◌, List, [], ◌∷◌, refl, sym, ap, ◌∙◌, subst, arith}
-use Rattle.std.specs.Prelude.{Option, None, Some, Err, nat_le, nat_eq, is_some, IsFalse}
-use Rattle.std.specs.Option.{option_map, option_map_or, option_and_then}
+use Rattle.std.specs.Prelude.{Option, None, Some, Err, nat_le, nat_eq, IsFalse}
+use Rattle.std.specs.Option.{option_map, option_map_or}
 use Rattle.std.proofs.lemmas.Bool.Decides.{nat_tests}
 use Rattle.locations.specs.declared.relative.Location.{Location}
 use Rattle.chain_ids.specs.declared.chain.ChainId.{ChainId}
@@ -14,7 +14,7 @@ use Rattle.asset_lists.specs.Units.{amount_of, amount_in, is_zero}
 use Rattle.asset_lists.specs.Moves.{moved_id, moved}
 use Rattle.locations.specs.declared.grammar.Junction.{Junction}
 use Rattle.asset_locks.specs.LockMaps.{LockKey, NoteKey, LocksAndNotes, noted, Locked, Reduced}
-use Rattle.xcm_program.specs.declared.instruction.Instruction.{Instruction, roll-Instruction, out-Instruction, out-roll-Instruction}
+use Rattle.xcm_program.specs.declared.instruction.Instruction.{Instruction, roll-Instruction, out-roll-Instruction}
 use Rattle.xcm_program.specs.declared.instruction.Instruction.TheOpen.{Instruction-F}
 use Rattle.xcm_program.specs.Everywhere.{AllInside}
 use Rattle.xcm_program.specs.Measure.{inner, deep_count_one}
@@ -28,14 +28,14 @@ use Rattle.chain_queues.specs.Queues as queues
 use Rattle.chain_queues.specs.Queues.{pushed}
 use Rattle.exec_base.specs.declared.event.Event.{Event}
 use Rattle.exec_base.specs.Part.{ChainPart}
-use Rattle.exec_base.specs.Sending.{unless, named_refusal, named_sent, send_refusal, sent, number_to, IsForwardable}
-use Rattle.exec_base.specs.Host.{where_locks, lock_key, is_lockable, note_program, with_lock, lock_refusal, asset_locked, request_key, unlock_program, with_less_noted, request_refusal, asset_requested}
+use Rattle.exec_base.specs.Sending.{unless, named_refusal, named_sent, IsForwardable}
+use Rattle.exec_base.specs.Host.{lock_key, is_lockable, note_program, with_lock, lock_refusal, asset_locked, request_key, unlock_program, with_less_noted, request_refusal, asset_requested}
 use Rattle.exec_base.specs.declared.faults.HostFault.{HostFault}
 use Rattle.exec_base.specs.declared.faults.HostFault.TheVariants.{Xcm, Memory}
 use Rattle.exec_base.specs.Answers.{Answers}
 use Rattle.chain_state.specs.Sends.{IsTaken, IsSendFault}
 use Rattle.chain_state.specs.Locks.{MayLock, MayRequest, IsTold}
-use Rattle.chain_state.proofs.Led.{number_is, sent_is}
+use Rattle.chain_state.proofs.Led.{sent_is}
 use Rattle.chain_state.proofs.Sendable.{unrefused_by}
 use Rattle.chain_state.proofs.Forwarding.{moved_place}
 

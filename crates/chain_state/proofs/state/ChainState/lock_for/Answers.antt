@@ -1,6 +1,5 @@
 use Rattle.std.proofs.Common.{◌<◌, ℕ, refl, sym, ap, ◌∙◌, subst}
 use Rattle.xcm_program.specs.declared.instruction.Instruction.TheOpen.{Instruction-F}
-use Rattle.chain_queues.specs.Queues as queues
 use Rattle.asset_locks.specs.LockMaps.{LocksAndNotes, Locked, LockKey}
 use Rattle.exec_base.specs.Sending.{number_to, named_refusal}
 use Rattle.exec_base.specs.Host.{asset_locked, note_program, lock_refusal}

@@ -1,6 +1,5 @@
 use Rattle.std.proofs.Common.{refl, ap, ◌∙◌}
 use Rattle.std.specs.Prelude.{Some}
-use Rattle.chain_queues.specs.Queues as queues
 use Rattle.asset_locks.specs.LockMaps.{LocksAndNotes, Reduced, NoteKey}
 use Rattle.exec_base.specs.Sending.{number_to, named_refusal}
 use Rattle.exec_base.specs.Host.{asset_requested, request_key, unlock_program, request_refusal}

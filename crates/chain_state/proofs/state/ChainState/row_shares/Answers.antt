@@ -4,7 +4,7 @@ use Rattle.std.specs.List.Sorted.{IsStrictlySortedBy}
 use Rattle.std.specs.Map.{keys_of}
 use Rattle.amounts.specs.Amounts.{amount}
 use Rattle.asset_lists.specs.declared.units.Asset.{Asset}
-use Rattle.asset_lists.specs.Units.{Unit, unit_cmp}
+use Rattle.asset_lists.specs.Units.{unit_cmp}
 use Rattle.asset_bundles.specs.Bundles.{rows_of}
 use Rattle.ledgers.specs.Ledgers.{barred}
 use Rattle.fee_rows.specs.Fees.{Fee, kept_goods, some_row, some_rows}
