@@ -42,21 +42,21 @@ fn rate(parents: u8, per_second: u64, per_mb: u64) -> Rate
     }
 }
 
-/// A second of computation.
-const SECOND: u64 = 1_000_000_000_000;
-
-/// The rate of a second and of a mebibyte, the time and the size, and the price.
-const PRICES: &[((u64, u64), (u64, u64), u128)] = &[
-    ((1, 0), (1_500_000_000_000, 0), 1),
-    ((1, 1), (999_999_999_999, 1_048_575), 0),
-    ((3, 5), (2_000_000_000_000, 3_145_729), 21),
-    ((1, 0), (u64::MAX, u64::MAX), 18_446_744),
-];
-
-/// Whether this is the price of the weight at the rate.
-fn costs(rates: (u64, u64), (ref_time, proof_size): (u64, u64), want: u128) -> bool {
-    let rate = rate(0, rates.0, rates.1).copy();
-    price(&rate, weight(ref_time, proof_size)) == want
+#[test]
+fn prices_are_rounded_down_in_each_dimension(rt: HostRuntime) -> Result<(), Fail> {
+    let second = 1_000_000_000_000;
+    // the rate, the weight, and the price
+    let cases = [
+        (1, 0, second + second / 2, 0, 1),
+        (1, 1, second - 1, 1_048_575, 0),
+        (3, 5, 2 * second, 3 * 1_048_576 + 1, 21),
+        (1, 0, u64::MAX, u64::MAX, 18_446_744),
+    ];
+    for (per_second, per_mb, ref_time, proof_size, wanted) in cases {
+        let rate = rate(0, per_second, per_mb).copy();
+        assert!(rt; price(&rate, weight(ref_time, proof_size)) == wanted);
+    }
+    Ok(())
 }
 
 fn two_clear_origins(alloc: Global) -> Result<Program, AllocError>
@@ -91,59 +91,50 @@ fn with_call(alloc: Global) -> Result<Program, AllocError>
     Ok(Program::from_vec(items))
 }
 
-/// So much time and so much of proofs, or nothing where that isn't computable.
-type Weighed = Option<(u64, u64)>;
-
-/// What an instruction weighs, the most instructions, and what two instructions, an appendix of two and a call weigh, if that is computable.
-const WEIGHED: &[((u64, u64), u32, [Weighed; 3])] = &[
-    (
-        (1000, 100),
-        3,
-        [Some((2000, 200)), Some((3000, 300)), Some((1005, 107))],
-    ),
-    ((1, 1), 2, [Some((2, 2)), None, Some((6, 8))]),
-    ((1, 1), 1, [None, None, Some((6, 8))]),
-    (
-        (1 << 63, 0),
-        9,
-        [None, None, Some((9_223_372_036_854_775_813, 7))],
-    ),
-    (
-        (18_446_744_073_709_551_610, 18_446_744_073_709_551_608),
-        9,
-        [None, None, Some((u64::MAX, u64::MAX))],
-    ),
-    ((0, 18_446_744_073_709_551_609), 9, [None, None, None]),
-];
-
-/// Whether the program weighs so much by the rule, or that isn't computable.
-fn weighs(program: &Program, rule: &WeightRule, want: Weighed) -> bool {
-    match (weigh(program, rule), want) {
-        (Ok(found), Some((ref_time, proof_size))) => found == weight(ref_time, proof_size),
-        (Err(NotComputable), None) => true,
-        _ => false,
-    }
-}
-
-/// Whether the three programs weigh so much.
-fn are_weighed(
-    alloc: Global,
-    (ref_time, proof_size): (u64, u64),
-    max_instructions: u32,
-    want: [Weighed; 3],
-) -> Result<bool, AllocError> {
-    let rule = WeightRule {
-        unit: weight(ref_time, proof_size),
-        max_instructions,
-    };
+#[test]
+fn programs_are_weighed(rt: HostRuntime) -> Result<(), Fail> {
+    let alloc = rt.alloc();
     let clears = two_clear_origins(alloc)?;
     let appendix = with_appendix(alloc)?;
     let call = with_call(alloc)?;
-    Ok(
-        weighs(&clears, &rule, want[0])
-            && weighs(&appendix, &rule, want[1])
-            && weighs(&call, &rule, want[2]),
-    )
+    // what an instruction weighs, the most instructions, and the three weights, if they are computable
+    let most = u64::MAX;
+    let cases = [
+        (
+            weight(1000, 100),
+            3,
+            Some((2000, 200)),
+            Some((3000, 300)),
+            Some((1005, 107)),
+        ),
+        (weight(1, 1), 2, Some((2, 2)), None, Some((6, 8))),
+        (weight(1, 1), 1, None, None, Some((6, 8))),
+        (weight(1 << 63, 0), 9, None, None, Some(((1 << 63) + 5, 7))),
+        (
+            weight(most - 5, most - 7),
+            9,
+            None,
+            None,
+            Some((most, most)),
+        ),
+        (weight(0, most - 6), 9, None, None, None),
+    ];
+    for (unit, max_instructions, of_clears, of_appendix, of_call) in cases {
+        let rule = WeightRule {
+            unit,
+            max_instructions,
+        };
+        let weights = [
+            (weigh(&clears, &rule), of_clears),
+            (weigh(&appendix, &rule), of_appendix),
+            (weigh(&call, &rule), of_call),
+        ];
+        for (found, wanted) in weights {
+            let wanted = wanted.map(|w| weight(w.0, w.1)).ok_or(NotComputable);
+            assert!(rt; found == wanted);
+        }
+    }
+    Ok(())
 }
 
 /// What the instructions weigh at (1000, 100) for each.
@@ -158,11 +149,15 @@ fn weighed(program: &Program) -> Weight
     weigh_rest(program.items(), &rule)
 }
 
-/// Whether what is left is weighed. The most instructions of the rule are counted on admission alone.
-fn is_rest_weighed(alloc: Global) -> Result<bool, AllocError> {
+#[test]
+fn what_is_left_is_weighed(rt: HostRuntime) -> Result<(), Fail> {
+    let alloc = rt.alloc();
+    // the most instructions of the rule are counted on admission alone
     let appendix = with_appendix(alloc)?;
+    assert!(rt; weighed(&appendix) == weight(3000, 300));
     let call = with_call(alloc)?;
-    Ok(weighed(&appendix) == weight(3000, 300) && weighed(&call) == weight(1005, 107))
+    assert!(rt; weighed(&call) == weight(1005, 107));
+    Ok(())
 }
 
 /// A trader, and a book that lists the asset of each rate.
@@ -207,7 +202,7 @@ fn buy(shop: &mut Shop, weight: Weight, payment: AssetBundle) -> (bool, AssetBun
 }
 
 /// What a purchase leaves, and what is given back for a second and handed out at the end.
-#[derive(Clone, Copy, PartialEq, Eq)]
+#[derive(PartialEq, Eq, Drop)]
 struct Trade {
     too_expensive: bool,
     left: u128,
@@ -238,123 +233,55 @@ fn traded(alloc: Global, parents: u8, amount: u128, ref_time: u64) -> Result<Tra
     })
 }
 
-/// The asset and the amount of the payment, the time, and what comes of it: whether it is too expensive, what is left, what is paid in both
-/// assets, and what is given back and handed out.
-const TRADES: &[(u8, u128, u64, Trade)] = &[
-    (
-        1,
-        7,
-        SECOND,
-        Trade {
-            too_expensive: false,
-            left: 5,
-            paid: (0, 2),
-            given: 2,
-            closed: 0,
-        },
-    ),
-    (
-        0,
-        8,
-        SECOND,
-        Trade {
-            too_expensive: false,
-            left: 0,
-            paid: (8, 0),
-            given: 8,
-            closed: 0,
-        },
-    ),
-    (
-        0,
-        7,
-        SECOND,
-        Trade {
-            too_expensive: true,
-            left: 7,
-            paid: (0, 0),
-            given: 0,
-            closed: 0,
-        },
-    ),
-    (
-        1,
-        1,
-        SECOND,
-        Trade {
-            too_expensive: true,
-            left: 1,
-            paid: (0, 0),
-            given: 0,
-            closed: 0,
-        },
-    ),
-    (
-        1,
-        7,
-        1,
-        Trade {
-            too_expensive: false,
-            left: 7,
-            paid: (0, 0),
-            given: 0,
-            closed: 0,
-        },
-    ),
-    (
-        0,
-        50,
-        2_500_000_000_000,
-        Trade {
-            too_expensive: false,
-            left: 30,
-            paid: (20, 0),
-            given: 8,
-            closed: 12,
-        },
-    ),
-];
+/// A second of computation.
+const SECOND: u64 = 1_000_000_000_000;
 
-/// Whether this comes of a purchase.
-fn is_traded(
-    alloc: Global,
-    parents: u8,
-    amount: u128,
-    ref_time: u64,
-    want: &Trade,
-) -> Result<bool, AllocError> {
-    // for the prover: each row has some amount
-    if amount == 0 {
-        return Ok(false);
+#[test]
+fn weight_is_bought_and_given_back(rt: HostRuntime) -> Result<(), Fail> {
+    // the asset and the amount of the payment, the time, whether it is too expensive, what is left, what is paid in both assets, and what
+    // is given back and handed out
+    for (parents, amount, ref_time, too_expensive, left, paid, given, closed) in [
+        (1, 7, SECOND, false, 5, (0, 2), 2, 0),
+        (0, 8, SECOND, false, 0, (8, 0), 8, 0),
+        (0, 7, SECOND, true, 7, (0, 0), 0, 0),
+        (1, 1, SECOND, true, 1, (0, 0), 0, 0),
+        (1, 7, 1, false, 7, (0, 0), 0, 0),
+        (0, 50, 2 * SECOND + SECOND / 2, false, 30, (20, 0), 8, 12),
+    ] {
+        let found = traded(rt.alloc(), parents, amount, ref_time)?;
+        let want = Trade {
+            too_expensive,
+            left,
+            paid,
+            given,
+            closed,
+        };
+        assert!(rt; found == want);
     }
-    Ok(traded(alloc, parents, amount, ref_time)? == *want)
+    law_of_trading();
+    Ok(())
 }
 
-/// Whether a shop tells of a purchase and of a refund what comes of them, and nothing is booked.
-fn is_told(shop: &mut Shop, payment: AssetBundle) -> bool
-    requires { AreRatesListed shop.old.book.listed shop.old.trader }
-{
-    let excess = shop.trader.excess_of(weight(SECOND, 0), &payment);
-    let (too_expensive, rest) = buy(shop, weight(SECOND, 0), payment);
-    let left = held(rest, 1);
-    let id = AssetId::Concrete(place(1));
-    !too_expensive
-        && excess.is_none()
-        && left == 5
-        && shop.trader.refund_of(weight(SECOND, 0)) == Some((place(1), 2))
-        && shop.trader.refund_of(weight(0, 0)).is_none()
-        && shop.book.total(&id, Kind::Fungible, Cause::Saturated) == Total { high: 0, low: 0 }
-}
-
-/// Whether what is told is given back, in a new shop.
-fn is_given_back(alloc: Global) -> Result<bool, AllocError> {
+#[test]
+fn what_is_told_is_given_back(rt: HostRuntime) -> Result<(), Fail> {
+    let alloc = rt.alloc();
     let mut shop = opened(alloc, rate(0, 8, 0), rate(1, 2, 0))?;
     let payment = Asset {
         id: AssetId::Concrete(place(1)),
         fun: Fun::Fungible(7),
     };
     let payment = AssetBundle::mint(alloc, &[payment])?;
-    Ok(is_told(&mut shop, payment))
+    let excess = shop.trader.excess_of(weight(SECOND, 0), &payment);
+    let (too_expensive, rest) = buy(&mut shop, weight(SECOND, 0), payment);
+    let left = held(rest, 1);
+    assert!(rt; !too_expensive);
+    assert!(rt; (excess, left) == (None, 5));
+    assert!(rt; shop.trader.refund_of(weight(SECOND, 0)) == Some((place(1), 2)));
+    assert!(rt; shop.trader.refund_of(weight(0, 0)) == None);
+    let id = AssetId::Concrete(place(1));
+    let saturated = shop.book.total(&id, Kind::Fungible, Cause::Saturated);
+    assert!(rt; saturated == Total { high: 0, low: 0 });
+    Ok(())
 }
 
 /// Buys once and pays from what is left of a payment: what is left then.
@@ -372,100 +299,47 @@ fn buy_more(shop: &mut Shop, weight: Weight, payment: AssetBundle) -> AssetBundl
 /// and 324518553658426726747971648487424 for the proof. 2^128-1 pays it 1,048,574 times.
 const DEAR: u128 = 324_518_893_940_793_647_686_435_074_968_543;
 
-/// So much of the asset, as a payment.
-fn coins(alloc: Global, amount: u128) -> Result<AssetBundle, AllocError>
-    requires { 0 < amount }
-{
-    let asset = Asset {
-        id: AssetId::Concrete(place(0)),
-        fun: Fun::Fungible(amount),
-    };
-    AssetBundle::mint(alloc, &[asset])
-}
-
-/// The most weight.
-fn most() -> Weight {
-    weight(u64::MAX, u64::MAX)
-}
-
-/// What a purchase passes 2^128-1 by that brings what is paid above it.
-const PASSED: u128 = 32_293_029_235_659_429_051_303_371_764_770;
-
-/// What is left of 2^128-1 where the price is paid 1,048,574 times.
-const LEFT: u128 = 292_225_864_705_134_218_635_131_703_203_773;
-
-/// Buys the most weight so many times, and gives up what is left: how much that is.
-fn left_after(shop: &mut Shop, payment: AssetBundle, times: u32) -> u128
-    requires { AreRatesListed shop.old.book.listed shop.old.trader }
-    ensures { AreRatesListed shop.new.book.listed shop.new.trader }
-{
-    let mut payment = payment;
-    for _ in 0..times {
-        payment = buy_more(shop, most(), payment);
-    }
-    held(payment, 0)
-}
-
-/// Pays nearly all of 2^128-1, and then the price once more: whether what is paid saturates, which is told and booked.
-fn saturates(shop: &mut Shop, whole: AssetBundle, more: AssetBundle) -> bool
-    requires { AreRatesListed shop.old.book.listed shop.old.trader }
-{
-    let left = left_after(shop, whole, 1_048_574);
-    let paid = shop.trader.paid(&place(0));
-    let told = shop.trader.excess_of(most(), &more);
-    let rest = left_after(shop, more, 1);
-    let id = AssetId::Concrete(place(0));
-    let booked = shop.book.total(&id, Kind::Fungible, Cause::Saturated);
-    let total = Total {
-        high: 0,
-        low: PASSED,
-    };
-    (left, paid, rest) == (LEFT, u128::MAX - LEFT, 0)
-        && told == Some((place(0), PASSED))
-        && shop.trader.paid(&place(0)) == u128::MAX
-        && booked == total
-}
-
-/// Whether what is paid saturates in a new shop.
-fn is_saturated(alloc: Global) -> Result<bool, AllocError> {
-    let dear = rate(0, u64::MAX, u64::MAX);
-    let is_dear = price(&dear, most()) == DEAR;
-    let mut shop = opened(alloc, dear, rate(1, 2, 0))?;
-    let whole = coins(alloc, u128::MAX)?;
-    let more = match coins(alloc, DEAR) {
-        Ok(more) => more,
-        Err(fault) => {
-            whole.melt();
-            return Err(fault);
-        }
-    };
-    Ok(saturates(&mut shop, whole, more) && is_dear)
-}
-
-#[test]
-fn weight_is_priced_and_weighed(rt: HostRuntime) -> Result<(), Fail> {
-    for (rates, bought, want) in PRICES {
-        assert!(rt; costs(*rates, *bought, *want));
-    }
-    for (unit, max_instructions, want) in WEIGHED {
-        assert!(rt; are_weighed(rt.alloc(), *unit, *max_instructions, *want)?);
-    }
-    assert!(rt; is_rest_weighed(rt.alloc())?);
-    Ok(())
-}
-
-#[test]
-fn weight_is_bought_and_given_back(rt: HostRuntime) -> Result<(), Fail> {
-    for (parents, amount, ref_time, want) in TRADES {
-        assert!(rt; is_traded(rt.alloc(), *parents, *amount, *ref_time, want)?);
-    }
-    assert!(rt; is_given_back(rt.alloc())?);
-    law_of_trading();
-    Ok(())
-}
-
 #[test]
 fn what_is_paid_saturates(rt: HostRuntime) -> Result<(), Fail> {
-    assert!(rt; is_saturated(rt.alloc())?);
+    let alloc = rt.alloc();
+    let most = weight(u64::MAX, u64::MAX);
+    let dear = rate(0, u64::MAX, u64::MAX);
+    assert!(rt; price(&dear, most) == DEAR);
+    let mut shop = opened(alloc, dear, rate(1, 2, 0))?;
+    let whole = Asset {
+        id: AssetId::Concrete(place(0)),
+        fun: Fun::Fungible(u128::MAX),
+    };
+    let mut payment = AssetBundle::mint(alloc, &[whole])?;
+    for _ in 0..1_048_574 {
+        payment = buy_more(&mut shop, most, payment);
+    }
+    let left = held(payment, 0);
+    assert!(rt; left == 292_225_864_705_134_218_635_131_703_203_773);
+    assert!(rt; shop.trader.paid(&place(0)) == u128::MAX - left);
+    // once more: so much passes 2^128-1
+    let above = 32_293_029_235_659_429_051_303_371_764_770;
+    let price = Asset {
+        id: AssetId::Concrete(place(0)),
+        fun: Fun::Fungible(DEAR),
+    };
+    let payment = AssetBundle::mint(alloc, &[price])?;
+    let told = shop.trader.excess_of(most, &payment);
+    let left = held(buy_more(&mut shop, most, payment), 0);
+    assert!(rt; told == Some((place(0), above)));
+    assert!(rt; left == 0);
+    assert!(rt; shop.trader.paid(&place(0)) == u128::MAX);
+    let saturated = shop.book.total(
+        &AssetId::Concrete(place(0)),
+        Kind::Fungible,
+        Cause::Saturated,
+    );
+    assert!(rt;
+        saturated
+            == Total {
+                high: 0,
+                low: above
+            }
+    );
     Ok(())
 }

@@ -3,7 +3,7 @@ use asset_lists::{Asset, AssetId, Fun, Instance, Kind};
 use chain_ids::law_of_one_chain;
 use locations::{Full, Junction, Junctions, Location, NetworkId};
 use plain_lists::Listed;
-use std::alloc::{AllocError, Global};
+use std::alloc::Global;
 use std::test::Fail;
 use trust_tables::{
     AssetRole, AssetRow, ChainId, Site, account_of, find_row, is_partner, is_reserve, is_sovereign,
@@ -66,18 +66,22 @@ const NAMES: &[(ChainId, &str)] = &[
     (ChainId::Para(4_294_967_295), "4294967295"),
 ];
 
-/// Whether this is the name of the chain.
-fn is_named(alloc: Global, chain: ChainId, want: &str) -> Result<bool, AllocError> {
-    let text = format!(in alloc; "{chain}")?;
-    Ok(text.as_str() == want)
+#[test]
+fn names_of_chains(rt: HostRuntime) -> Result<(), Fail> {
+    for (chain, wanted) in NAMES {
+        let text = format!(in rt.alloc(); "{chain}")?;
+        assert!(rt; text.as_str() == *wanted);
+    }
+    law_of_one_chain();
+    Ok(())
 }
 
 const POLKADOT: Junction = Junction::GlobalConsensus(NetworkId::Polkadot);
 
-/// Whether the chains have these paths.
-fn have_paths() -> bool {
-    RELAY.path().items() == [POLKADOT].as_slice()
-        && PARA.path().items() == [POLKADOT, Junction::Parachain(1000)].as_slice()
+#[test]
+fn paths_of_chains(rt: HostRuntime) {
+    assert!(rt; RELAY.path().items() == [POLKADOT].as_slice());
+    assert!(rt; PARA.path().items() == [POLKADOT, Junction::Parachain(1000)].as_slice());
 }
 
 /// A chain, another chain, and where that stands, as the first names it.
@@ -95,15 +99,15 @@ const LOCATIONS: &[(ChainId, ChainId, Place)] = &[
     ),
 ];
 
-/// Whether the second chain lies there, as the first names it, and no other.
-fn lies_there(from: ChainId, to: ChainId, place: Place) -> Result<bool, Full> {
-    let place = location(place)?;
-    Ok(
-        location_of(from, to) == place
-            && lies_at(to, from, &place)
-            && !lies_at(from, from, &place)
-            && !lies_at(ChainId::Para(9), from, &place),
-    )
+#[test]
+fn chains_and_their_locations(rt: HostRuntime) -> Result<(), Fail> {
+    for (from, to, wanted) in LOCATIONS {
+        assert!(rt; location_of(*from, *to) == location(*wanted)?);
+        assert!(rt; lies_at(*to, *from, &location(*wanted)?));
+        assert!(rt; !lies_at(*from, *from, &location(*wanted)?));
+        assert!(rt; !lies_at(ChainId::Para(9), *from, &location(*wanted)?));
+    }
+    Ok(())
 }
 
 /// Parachain 2000, as a junction.
@@ -128,9 +132,13 @@ const ACCOUNTS: &[(Site, Place, Option<[u8; 32]>)] = &[
     (PARA, (2, &[]), None),
 ];
 
-/// Whether the location has this account at the site.
-fn has_account(site: &Site, place: Place, want: Option<[u8; 32]>) -> Result<bool, Full> {
-    Ok(account_of(&location(place)?, site) == want)
+#[test]
+fn accounts_of_locations(rt: HostRuntime) -> Result<(), Fail> {
+    for (site, place, wanted) in ACCOUNTS {
+        let found = account_of(&location(*place)?, site);
+        assert!(rt; found == *wanted, "at {} parents", place.0);
+    }
+    Ok(())
 }
 
 /// Accounts, and whether a chain has them.
@@ -153,6 +161,13 @@ const SOVEREIGNS: &[([u8; 32], bool)] = &[
     ),
     (ALICE, false),
 ];
+
+#[test]
+fn accounts_of_chains(rt: HostRuntime) {
+    for (account, wanted) in SOVEREIGNS {
+        assert!(rt; is_sovereign(account) == *wanted);
+    }
+}
 
 fn asset(id: Location, fun: Fun) -> Asset {
     Asset {
@@ -261,36 +276,20 @@ fn is_trusted(
     Ok([relay.0, child.0, own.0] == reserves && [relay.1, child.1, own.1] == partners)
 }
 
-/// Whether the asset has this row, and is trusted as it should be.
-fn is_in_table(
-    rows: &[AssetRow],
-    asset: &Asset,
-    row: Option<usize>,
-    reserves: [bool; 3],
-    partners: [bool; 3],
-) -> Result<bool, Full> {
-    Ok(find_row(rows, asset) == row && is_trusted(rows, asset, reserves, partners)?)
-}
-
-/// Whether each asset is so in the table, and one that is named by bytes isn't there.
-fn are_in_table(rows: &[AssetRow]) -> Result<bool, Full> {
+#[test]
+fn a_table_of_assets(rt: HostRuntime) -> Result<(), Fail> {
+    let rows = table(rt.alloc())?;
     for (place, fun, row, reserves, partners) in TRUSTED {
         let asset = asset(location(*place)?, *fun);
-        if !is_in_table(rows, &asset, *row, *reserves, *partners)? {
-            return Ok(false);
-        }
+        assert!(rt; find_row(rows.as_slice(), &asset) == *row);
+        assert!(rt; is_trusted(rows.as_slice(), &asset, *reserves, *partners)?);
     }
     let named = Asset {
         id: AssetId::Abstract(ALICE),
         fun: COINS,
     };
-    Ok(find_row(rows, &named).is_none())
-}
-
-/// Whether the table is as it should be.
-fn is_right(alloc: Global) -> Result<bool, Fail> {
-    let rows = table(alloc)?;
-    Ok(are_in_table(rows.as_slice())?)
+    assert!(rt; find_row(rows.as_slice(), &named).is_none());
+    Ok(())
 }
 
 #[test]
@@ -310,38 +309,13 @@ fn is_native(role: &AssetRole, wanted: &[ChainId], amount: Option<u128>) -> bool
     }
 }
 
-/// Whether a copy of a row is the same.
-fn is_copied(alloc: Global) -> Result<bool, Fail> {
+#[test]
+fn copies_of_rows(rt: HostRuntime) -> Result<(), Fail> {
+    let alloc = rt.alloc();
     let partners = [ChainId::Relay, ChainId::Para(2000)];
     let row = native(alloc, (1, &[]), &partners, Some(1_000_000))?;
     let copied = row.copy(alloc)?;
-    Ok(
-        copied.id == row.id
-            && copied.kind == row.kind
-            && is_native(&copied.role, &partners, Some(1_000_000)),
-    )
-}
-
-#[test]
-fn chains_accounts_and_tables(rt: HostRuntime) -> Result<(), Fail> {
-    for (chain, wanted) in NAMES {
-        assert!(rt; is_named(rt.alloc(), *chain, wanted)?);
-    }
-    for (from, to, wanted) in LOCATIONS {
-        assert!(rt; lies_there(*from, *to, *wanted)?);
-    }
-    for (site, place, wanted) in ACCOUNTS {
-        assert!(rt;
-            has_account(site, *place, *wanted)?,
-            "at {} parents",
-            place.0
-        );
-    }
-    for (account, wanted) in SOVEREIGNS {
-        assert!(rt; is_sovereign(account) == *wanted);
-    }
-    assert!(rt; have_paths());
-    assert!(rt; is_right(rt.alloc())? && is_copied(rt.alloc())?);
-    law_of_one_chain();
+    assert!(rt; copied.id == row.id && copied.kind == row.kind);
+    assert!(rt; is_native(&copied.role, &partners, Some(1_000_000)));
     Ok(())
 }
