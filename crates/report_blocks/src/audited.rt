@@ -32,7 +32,7 @@ impl Model for AuditedNet {
 
 impl AuditedNet {
     /// The network, with the plan of its supply block. An `Err` is out of memory.
-    pub fn new(alloc: Global, net: Net) -> Result<AuditedNet, AllocError>
+    pub(crate) fn new(alloc: Global, net: Net) -> Result<AuditedNet, AllocError>
         ensures same { IfOk result (λ audited. audited ≡ net) }
     {
         let plan = SupplyPlan::of(alloc, net.chains())?;
