@@ -81,7 +81,7 @@ pub fn open_queries(
 ) -> Result<Vec<OpenQuery>, AllocError>
     ensures { IfOk result (λ list. list.items ≡ map (query_of here) queries.now) }
 {
-    let mut list = Vec::new(alloc);
+    let mut list = Vec::with_capacity(alloc, queries.len())?;
     for (id, chain) in queries {
         list.push(OpenQuery {
             id: *id,

@@ -14,7 +14,7 @@ pub fn places(alloc: Global, rows: &[AssetRow]) -> Result<Vec<(Location, Kind)>,
     ensures listed { IfOk result (λ list. map listed_pair list.items ≡ listing rows.now) }
     ensures as_many { IfOk result (λ list. length list.items ≡ length rows.now) }
 {
-    let mut list = Vec::new(alloc);
+    let mut list = Vec::with_capacity(alloc, rows.len())?;
     for row in rows {
         list.push((row.id.copy(), row.kind))?;
     }
@@ -25,7 +25,7 @@ pub fn places(alloc: Global, rows: &[AssetRow]) -> Result<Vec<(Location, Kind)>,
 pub fn ids(alloc: Global, rows: &[AssetRow]) -> Result<Vec<(AssetId, Kind)>, AllocError>
     ensures { IfOk result (λ list. list.items ≡ listing rows.now) }
 {
-    let mut list = Vec::new(alloc);
+    let mut list = Vec::with_capacity(alloc, rows.len())?;
     for row in rows {
         list.push((AssetId::Concrete(row.id.copy()), row.kind))?;
     }
@@ -46,7 +46,7 @@ fn row_checking(row: &AssetRow) -> Option<u128>
 pub fn checking_accounts(alloc: Global, rows: &[AssetRow]) -> Result<Vec<Option<u128>>, AllocError>
     ensures { IfOk result (λ list. list.items ≡ map row_checking rows.now) }
 {
-    let mut list = Vec::new(alloc);
+    let mut list = Vec::with_capacity(alloc, rows.len())?;
     for row in rows {
         list.push(row_checking(row))?;
     }

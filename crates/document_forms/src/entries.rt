@@ -34,7 +34,7 @@ pub fn read_entries<T: Drop, E: Entry<T>>(
 ) -> Result<Listed<T>, Stop>
     ensures { Answers result (entries (E.form entry.now) 0 (items_view items.now)) }
 {
-    let mut list = Vec::new(alloc);
+    let mut list = Vec::with_capacity(alloc, items.len()).map_err(|_| Stop::Memory)?;
     let mut index: u32 = 0;
     for value in items {
         match entry.read(alloc, index, value) {

@@ -12,7 +12,7 @@ pub(crate) fn fungible_ids(
 ) -> Result<Vec<AssetId>, AllocError>
     ensures { IfOk result (λ ids. ids.items ≡ fungible_ids listed.now) }
 {
-    let mut ids = Vec::new(alloc);
+    let mut ids = Vec::with_capacity(alloc, listed.len())?;
     for asset in listed {
         if asset.1 == Kind::Fungible {
             ids.push(asset.0.copy())?;

@@ -44,7 +44,7 @@ impl Model for FeeRows {
 fn new_rows(alloc: Global, ids: &[AssetId]) -> Result<Vec<FeeRow>, AllocError>
     ensures { IfOk result (λ rows. rows.items ≡ map no_fee ids.now) }
 {
-    let mut rows = Vec::new(alloc);
+    let mut rows = Vec::with_capacity(alloc, ids.len())?;
     for id in ids {
         rows.push(FeeRow::none_of(id))?;
     }
