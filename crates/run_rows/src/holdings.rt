@@ -1,12 +1,11 @@
 //! What stays at one chain: fees, traps, claims and burns.
 
 use crate::documents::ONE_ACCOUNT;
-use crate::running::{RUN, Row, check_rows};
-use std::test::Fail;
+use crate::running::Row;
 use xcm_cli::Status;
 
 /// Fees, traps, claims and burns at the relay chain.
-const HOLDINGS: &[Row] = &[
+pub(crate) const HOLDINGS: &[Row] = &[
     Row {
         name: "two purchases and their refund",
         network: r#"{"chains":[{"unit_weight":[1500000000000,0],"max_weight":[10000000000000,0],
@@ -104,8 +103,3 @@ supply
 ",
     },
 ];
-
-#[test]
-fn what_is_held_has_its_reports(rt: HostRuntime) -> Result<(), Fail> {
-    check_rows(&rt, rt.alloc(), RUN, HOLDINGS)
-}

@@ -1,7 +1,6 @@
 //! Locks.
 
-use crate::running::{RUN, Row, check_rows};
-use std::test::Fail;
+use crate::running::Row;
 use xcm_cli::Status;
 
 /// Three chains, of which the relay and parachain 2000 serve locks and let each other's messages in.
@@ -18,7 +17,7 @@ const LOCKING: &str = r#"{"format":2,"chains":[
 "channels":[{"from":"relay","to":2000},{"from":2000,"to":"relay"},
 {"from":"relay","to":2001},{"from":2001,"to":"relay"}]}"#;
 
-const LOCKS: &[Row] = &[
+pub(crate) const LOCKS: &[Row] = &[
     Row {
         name: "a lock, and the message that tells of it",
         network: LOCKING,
@@ -227,8 +226,3 @@ exec relay 0x0101010101010101010101010101010101010101010101010101010101010101 04
 ",
     },
 ];
-
-#[test]
-fn locks_have_their_reports(rt: HostRuntime) -> Result<(), Fail> {
-    check_rows(&rt, rt.alloc(), RUN, LOCKS)
-}

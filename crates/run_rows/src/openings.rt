@@ -1,12 +1,11 @@
 //! Networks that open, and documents that are refused.
 
 use crate::documents::THREE_CHAINS;
-use crate::running::{RUN, Row, check_rows};
-use std::test::Fail;
+use crate::running::Row;
 use xcm_cli::Status;
 
 /// Networks that open.
-const OPENINGS: &[Row] = &[
+pub(crate) const OPENINGS: &[Row] = &[
     Row {
         name: "a network of three chains opens",
         network: THREE_CHAINS,
@@ -60,13 +59,8 @@ const OPENINGS: &[Row] = &[
     },
 ];
 
-#[test]
-fn openings_have_their_reports(rt: HostRuntime) -> Result<(), Fail> {
-    check_rows(&rt, rt.alloc(), RUN, OPENINGS)
-}
-
 /// Documents that are refused.
-const REFUSED: &[Row] = &[
+pub(crate) const REFUSED: &[Row] = &[
     Row {
         name: "a holding that is too small",
         network: r#"{"chains":[{"max_holding":19}]}"#,
@@ -117,8 +111,3 @@ const REFUSED: &[Row] = &[
 ",
     },
 ];
-
-#[test]
-fn documents_are_refused_by_their_first_fault(rt: HostRuntime) -> Result<(), Fail> {
-    check_rows(&rt, rt.alloc(), RUN, REFUSED)
-}

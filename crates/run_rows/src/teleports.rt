@@ -1,11 +1,10 @@
 //! Teleports, and checking accounts.
 
-use crate::running::{RUN, Row, check_rows};
-use std::test::Fail;
+use crate::running::Row;
 use xcm_cli::Status;
 
 /// Teleports that aren't received.
-const LOST: &[Row] = &[
+pub(crate) const LOST: &[Row] = &[
     Row {
         name: "a teleport that isn't let in is lost",
         network: r#"{"chains":[{"assets":[{"id":"0","native":[1000]}],
@@ -80,13 +79,8 @@ supply
     },
 ];
 
-#[test]
-fn teleports_that_are_not_received_are_burned(rt: HostRuntime) -> Result<(), Fail> {
-    check_rows(&rt, rt.alloc(), RUN, LOST)
-}
-
 /// Teleports that a checking account counts.
-const CHECKED: &[Row] = &[
+pub(crate) const CHECKED: &[Row] = &[
     Row {
         name: "a teleport and back, with a checking account",
         network: r#"{"chains":[{"barriers":["credit",{"unpaid":["0/Parachain(1000)"]}],
@@ -169,8 +163,3 @@ deliver 1000 relay
 ",
     },
 ];
-
-#[test]
-fn checking_accounts_count_teleports(rt: HostRuntime) -> Result<(), Fail> {
-    check_rows(&rt, rt.alloc(), RUN, CHECKED)
-}

@@ -1,12 +1,11 @@
 //! Payments and transfers between a chain and the reserve of its asset.
 
 use crate::documents::THREE_CHAINS;
-use crate::running::{AUDIT, RUN, Row, check_rows};
-use std::test::Fail;
+use crate::running::Row;
 use xcm_cli::Status;
 
 /// Payments at the relay chain.
-const PAYMENTS: &[Row] = &[
+pub(crate) const PAYMENTS: &[Row] = &[
     Row {
         name: "a payment",
         network: THREE_CHAINS,
@@ -51,13 +50,8 @@ balances
     },
 ];
 
-#[test]
-fn payments_have_their_reports(rt: HostRuntime) -> Result<(), Fail> {
-    check_rows(&rt, rt.alloc(), RUN, PAYMENTS)
-}
-
 /// Transfers to a parachain and back.
-const TRANSFERS: &[Row] = &[
+pub(crate) const TRANSFERS: &[Row] = &[
     Row {
         name: "what waits in a channel",
         network: THREE_CHAINS,
@@ -145,13 +139,8 @@ balances
     },
 ];
 
-#[test]
-fn transfers_have_their_reports(rt: HostRuntime) -> Result<(), Fail> {
-    check_rows(&rt, rt.alloc(), RUN, TRANSFERS)
-}
-
 /// A transfer with the sums behind each step.
-const AUDITED: &[Row] = &[Row {
+pub(crate) const AUDITED: &[Row] = &[Row {
     name: "a reserve transfer, audited",
     network: THREE_CHAINS,
     steps: "exec relay 0x0101010101010101010101010101010101010101010101010101010101010101 04040504000000a10f000100411f08130100009101000d010204000101000202020202020202020202020202020202020202020202020202020202020202
@@ -200,13 +189,8 @@ balances
 ",
 }];
 
-#[test]
-fn an_audit_stands_behind_each_step(rt: HostRuntime) -> Result<(), Fail> {
-    check_rows(&rt, rt.alloc(), AUDIT, AUDITED)
-}
-
 /// Transfers that a channel refuses.
-const UNSENT: &[Row] = &[
+pub(crate) const UNSENT: &[Row] = &[
     Row {
         name: "a channel that is full",
         network: r#"{"chains":[
@@ -329,8 +313,3 @@ traps
 ",
     },
 ];
-
-#[test]
-fn what_a_channel_refuses_is_not_sent(rt: HostRuntime) -> Result<(), Fail> {
-    check_rows(&rt, rt.alloc(), RUN, UNSENT)
-}
