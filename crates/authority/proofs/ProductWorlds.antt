@@ -1,9 +1,8 @@
 -- No pool's product falls over any steps: their settings stay, so each pool stays where it is.
-use Rattle.std.proofs.Common.{◌≡◌, ℕ, zero, suc, ◌≤◌, ◌^◌, List, [], ◌∷◌, length, Option, Some, None, refl, sym, ap, ◌∙◌, subst, arith}
+use Rattle.std.proofs.Common.{◌≡◌, ℕ, zero, suc, ◌≤◌, ◌^◌, List, [], ◌∷◌, length, Some, refl, sym, ap, ◌∙◌, subst, arith}
 use Rattle.std.specs.Prelude.{⊤, slice_get, map}
 use Rattle.std.specs.List.{AllByRecursion}
 use Rattle.chain_ids.specs.declared.chain.ChainId.{ChainId}
-use Rattle.chain_pools.specs.declared.pool.Pool.{Pool}
 use Rattle.chain_pools.specs.Exchanges.{reserve_product}
 use Rattle.exec_base.specs.declared.settings.Settings.{Settings}
 use Rattle.exec_admission.specs.declared.rules.ChainRules.{ChainRules}

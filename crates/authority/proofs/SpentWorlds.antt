@@ -1,10 +1,9 @@
 -- Who may have less over many steps: those for whom messages are executed, other chains, and pools; and no burn is undone.
-use Rattle.std.proofs.Common.{◌≡◌, ◌⊎◌, ⊎_elim, inl, inr, ℕ, ◌<◌, ◌≤◌, true, false, List, [], ◌∷◌, Some, refl, sym, ap, ◌∙◌, subst, arith, ltb-true, ltb-false}
+use Rattle.std.proofs.Common.{◌≡◌, ◌⊎◌, ⊎_elim, inl, inr, ℕ, List, [], ◌∷◌, Some, refl, sym, ap, ◌∙◌, subst, arith, ltb-true, ltb-false}
 use Rattle.std.specs.Prelude.{⊤, nat_lt, slice_get}
 use Rattle.std.specs.List.{AllByRecursion, AllPairs}
 use Rattle.std.proofs.lemmas.Bool.{cases_Bool}
 use Rattle.amounts.specs.Amounts.{amount}
-use Rattle.asset_lists.specs.Units.{Unit}
 use Rattle.chain_ids.specs.declared.chain.ChainId.{ChainId}
 use Rattle.trust_tables.specs.Accounts.{sovereign_account}
 use Rattle.chain_pools.specs.Spending.{IsPoolAccount}
@@ -22,7 +21,7 @@ use Rattle.authority.specs.SpendingLaws.{then_spends, spends_more, OnlySpends, n
 use Rattle.authority.proofs.Steps.{exec_authority, claim_authority}
 use Rattle.authority.proofs.Sovereigns.{Named, deliver_speaks}
 use Rattle.authority.proofs.ProductWorlds.{member_before}
-use Rattle.authority.proofs.Passing.{PassesOn, AreFor, worlds_pass, pairs_pass}
+use Rattle.authority.proofs.Passing.{PassesOn, worlds_pass, pairs_pass}
 
 -- ---- one world after another
 module _ (May : ChainId → List ℕ → Type 0) where

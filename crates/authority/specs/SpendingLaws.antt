@@ -1,6 +1,6 @@
 -- Lemmas that proofs cite, in this crate and above it: changes of a chain one after another, and worlds of which one member or two were
 -- written. A reader of the contracts may skip this file.
-use Rattle.std.proofs.Common.{◌≡◌, ◌+◌, ◌≤◌, ◌⊎◌, ⊎_elim, inl, inr, ℕ, List, Option, Some, None, refl, sym, ap, ◌∙◌, subst, arith}
+use Rattle.std.proofs.Common.{◌≡◌, ◌⊎◌, ⊎_elim, inl, inr, ℕ, List, Option, Some, None, refl, sym, ap, ◌∙◌, subst, arith}
 use Rattle.std.specs.Prelude.{slice_get, slice_set}
 use Rattle.amounts.specs.Laws.{amount-merge}
 use Rattle.chain_ids.specs.declared.chain.ChainId.{ChainId}
