@@ -1,16 +1,23 @@
 -- What a call of an instruction does to accounts: none falls but the speaker's, and a pool's.
+use Rattle.std.specs.Option.{option_map_or}
 use Rattle.std.proofs.Common.{◌≡◌, ◌⊎◌, ℕ, Bool, false, List, [], ◌∷◌, Option, Some, None, Result, Ok, Err, ⊎_elim, refl, sym, ap, ◌∙◌, subst}
 use Rattle.message_parts.specs.declared.error.XcmError.{XcmError}
 use Rattle.locations.specs.declared.relative.Location.{Location}
+use Rattle.message_parts.specs.declared.weight.Weight.{Weight}
+use Rattle.asset_lists.specs.Listed.{listed_of}
+use Rattle.asset_bundles.specs.Bundles.{Bundle}
+use Rattle.asset_bundles.specs.Books.{burned_for, given_up}
+use Rattle.asset_bundles.specs.declared.book.Cause.{Cause}
+use Rattle.weight_trader.specs.Purchases.{Line, coin_of, paying, excess, Bought}
 use Rattle.trust_tables.specs.Accounts.{account_of}
 use Rattle.ledgers.specs.Ledgers.{Held}
 use Rattle.xcm_program.specs.declared.instruction.Instruction.{Instruction, out-Instruction, roll-Instruction, out-roll-Instruction}
 use Rattle.xcm_program.specs.declared.instruction.Instruction.TheOpen.{Instruction-F}
 use Rattle.exec_base.specs.declared.settings.Settings.{Settings}
 use Rattle.chain_pools.specs.Spending.{IsSpeaker}
-use Rattle.exec_base.specs.Part.{ChainPart}
+use Rattle.exec_base.specs.Part.{ChainPart, book_of}
 use Rattle.exec_base.specs.Sending.{sent}
-use Rattle.exec_base.specs.Host.{withdrawn, deposited, transferred, transferred_out, deposited_out, fee_drawn}
+use Rattle.exec_base.specs.Host.{above, booked, burned_lines, joined, burnt, bought, settled, settled_burns, withdrawn, deposited, transferred, transferred_out, deposited_out, fee_drawn}
 use Rattle.exec_rules.specs.Machine.{Machine, Performed}
 use Rattle.exec_rules.specs.Run.{Halted}
 use Rattle.exec_rules.specs.Stopping.{Stops, Spilled, spills}
@@ -20,9 +27,9 @@ use Rattle.exec_calls.specs.Footprints.{settings_after}
 use Rattle.exec_calls.specs.Reasons.{IsFrom, IsFirst, SpeaksBy, Moment, HasReason}
 use Rattle.exec_calls.specs.ReasonLaws.{each_keeps}
 use Rattle.exec_admission.specs.KeptLaws.{halted_keeps}
-use Rattle.authority.specs.Origins.{speaker_at, speaker_of, SpendsOnly}
+use Rattle.authority.specs.Origins.{speaker_at, speaker_of, SpendsOnly, KeepsBurns}
 use Rattle.authority.proofs.Lowering.{LowersOnly, same_lowers, given_lowers, got_lowers, moved_lowers, dispatched_lowers, settled_lowers}
-use Rattle.authority.specs.SpendingLaws.{same_spends, then_spends}
+use Rattle.authority.specs.SpendingLaws.{same_burns, booked_burns, same_spends, then_spends}
 use Rattle.authority.proofs.Spending.{spends_by, exchanged_spends}
 
 -- the account that speaks is the origin's
@@ -35,18 +42,35 @@ by_account m t account new first speaks h =
     let there : account_of speaks.0 t.part.site ≡ Some account = ap (λ (u : MachineWithGoods). account_of speaks.0 u.part.site) first ∙ speaks.2 in
     spoken m t speaks.0 new speaks.1 (subst (λ (o : Option (List ℕ)). LowersOnly o t.part.held new) (sym there) h)
 
+-- what a purchase burns
+bought_burns : (p : ChainPart) (w : Weight) (payment : Bundle) (o : Option Line) → KeepsBurns p.burns (option_map_or (λ (line : Line).
+    let goods = above (listed_of (coin_of line.rate)) (excess w line) in
+    booked (record p { lines = Bought w payment p.lines }) (burned_for Cause.Saturated goods) (burned_lines p (λ unit. Cause.Saturated) goods)) o p).burns
+unfolding booked
+bought_burns p w payment None = same_burns p.burns
+bought_burns p w payment (Some line) = booked_burns (book_of p) (burned_for Cause.Saturated (above (listed_of (coin_of line.rate)) (excess w line)))
+
+-- what was burned stays burned by any call
+pub call_burns : (c : MachineCall) (t : MachineWithGoods) → KeepsBurns t.part.burns (after c t).part.burns
+unfolding joined burnt bought settled booked
+call_burns MachineCall.Join t = booked_burns (book_of t.part) (given_up t.regs.holding t.goods)
+call_burns MachineCall.Burn t = booked_burns (book_of t.part) (burned_for Cause.BurnAsset t.goods)
+call_burns (MachineCall.Buy w) t = bought_burns t.part w t.goods (paying w t.goods t.part.lines)
+call_burns MachineCall.Settle t = booked_burns (book_of t.part) (settled_burns t.part)
+call_burns c t = same_burns t.part.burns
+
 pub call_spends : (moment : Moment) (l : Instruction-F Instruction) (m : Machine) (c : MachineCall) (t : MachineWithGoods) → HasReason moment l m t c → SpendsOnly (speaker_at t.part.site m.regs.origin) t.part (after c t).part
 unfolding withdrawn deposited transferred transferred_out deposited_out fee_drawn sent
-call_spends moment l m (MachineCall.Withdraw list who) t asks = spends_by _ t.part _ refl (spoken m t who _ asks.1 (given_lowers t.part list who))
-call_spends moment l m (MachineCall.Draw fee who) t asks = spends_by _ t.part _ refl (spoken m t who _ asks.1 (given_lowers t.part (fee ∷ []) who))
-call_spends moment l m (MachineCall.Transfer list from to) t asks = spends_by _ t.part _ refl (spoken m t from _ asks.1 (moved_lowers t.part list from to))
-call_spends moment l m (MachineCall.TransferOut list from dest xcm) t asks = spends_by _ t.part _ refl (spoken m t from _ asks.1 (moved_lowers t.part list from dest))
-call_spends moment l m (MachineCall.Dispatch account c) t asks = spends_by _ t.part _ refl (by_account m t account _ asks.0 asks.1 (dispatched_lowers t.part account c))
+call_spends moment l m (MachineCall.Withdraw list who) t asks = spends_by _ t.part _ refl (spoken m t who _ asks.1 (given_lowers t.part list who)) (call_burns (MachineCall.Withdraw list who) t)
+call_spends moment l m (MachineCall.Draw fee who) t asks = spends_by _ t.part _ refl (spoken m t who _ asks.1 (given_lowers t.part (fee ∷ []) who)) (call_burns (MachineCall.Draw fee who) t)
+call_spends moment l m (MachineCall.Transfer list from to) t asks = spends_by _ t.part _ refl (spoken m t from _ asks.1 (moved_lowers t.part list from to)) (call_burns (MachineCall.Transfer list from to) t)
+call_spends moment l m (MachineCall.TransferOut list from dest xcm) t asks = spends_by _ t.part _ refl (spoken m t from _ asks.1 (moved_lowers t.part list from dest)) (call_burns (MachineCall.TransferOut list from dest xcm) t)
+call_spends moment l m (MachineCall.Dispatch account c) t asks = spends_by _ t.part _ refl (by_account m t account _ asks.0 asks.1 (dispatched_lowers t.part account c)) (call_burns (MachineCall.Dispatch account c) t)
 call_spends moment l m (MachineCall.Exchange want maximal) t asks = exchanged_spends _ t.part t.goods want maximal
-call_spends moment l m (MachineCall.Deposit who) t asks = spends_by _ t.part _ refl (got_lowers _ t.part t.goods who)
-call_spends moment l m (MachineCall.DepositOut dest xcm) t asks = spends_by _ t.part _ refl (got_lowers _ t.part t.goods dest)
-call_spends moment l m MachineCall.Settle t asks = spends_by _ t.part _ refl (settled_lowers _ t.part)
-call_spends moment l m c t asks = spends_by _ t.part (after c t).part (settings_after c t) (same_lowers _ t.part.held)
+call_spends moment l m (MachineCall.Deposit who) t asks = spends_by _ t.part _ refl (got_lowers _ t.part t.goods who) (call_burns (MachineCall.Deposit who) t)
+call_spends moment l m (MachineCall.DepositOut dest xcm) t asks = spends_by _ t.part _ refl (got_lowers _ t.part t.goods dest) (call_burns (MachineCall.DepositOut dest xcm) t)
+call_spends moment l m MachineCall.Settle t asks = spends_by _ t.part _ refl (settled_lowers _ t.part) (call_burns MachineCall.Settle t)
+call_spends moment l m c t asks = spends_by _ t.part (after c t).part (settings_after c t) (same_lowers _ t.part.held) (call_burns c t)
 
 -- ---- an instruction, accepted or not, and where memory is refused in it
 module _ (x : Instruction) (m : Machine) where

@@ -6,4 +6,6 @@ pub mod Messages
 pub mod Steps
 pub mod Sovereigns
 pub mod Products
+pub mod Passing
 pub mod ProductWorlds
+pub mod SpentWorlds

@@ -74,7 +74,7 @@ module _ (rules : ChainRules) (origin : Location) (p : ChainPart) where
 
   told_first : (x : Instruction) → SpendsOnly may p (traced Program 0 x None (xcm.done x start)).part
   unfolding told
-  told_first x = let first = first_lowers x in record { settings = first.settings; spends = first.spends }
+  told_first x = let first = first_lowers x in record { settings = first.settings; spends = first.spends; burns = first.burns }
 
   -- behind ClearOrigin
   cleared_no_speaker : (m : Machine) → SpendsOnly may p m.part → HasNoSpeaker may p (between (xcm.done (roll-Instruction Instruction-F.ClearOrigin) m))
@@ -82,7 +82,7 @@ module _ (rules : ChainRules) (origin : Location) (p : ChainPart) where
 
   told_no_speaker : (m : Machine) (e : Event) → HasNoSpeaker may p (between m) → HasNoSpeaker may p (between (machine m.regs (told m.part e)))
   unfolding told
-  told_no_speaker m e h = record { silent = h.silent; lowers = record { settings = h.lowers.settings; spends = h.lowers.spends } }
+  told_no_speaker m e h = record { silent = h.silent; lowers = record { settings = h.lowers.settings; spends = h.lowers.spends; burns = h.lowers.burns } }
 
   after_clear : (n place : ℕ) (behind : List Instruction) (m : Machine) → SpendsOnly may p m.part
       → HasNoSpeaker may p (between (machine_of (steps xcm n (by_answer xcm Program place (roll-Instruction Instruction-F.ClearOrigin) behind m None))))
@@ -102,7 +102,7 @@ module _ (rules : ChainRules) (origin : Location) (p : ChainPart) where
   -- the first instruction, refused: no handler and no appendix is there
   refused_first : (n : ℕ) (x : Instruction) (behind : List Instruction) (e : XcmError) → Safe (steps xcm n (by_answer xcm Program 0 x behind start (Some e)))
   unfolding told
-  refused_first n x behind e = let same = same_spends (IsSpeaker may) p in at_end n _ (record { settings = same.settings; spends = same.spends })
+  refused_first n x behind e = let same = same_spends (IsSpeaker may) p in at_end n _ (record { settings = same.settings; spends = same.spends; burns = same.burns })
 
   led_by_answer : (n : ℕ) (x : Instruction) (behind : List Instruction) (o : Option XcmError) → Safe (steps xcm n (by_answer xcm Program 0 x (roll-Instruction Instruction-F.ClearOrigin ∷ behind) start o))
   unfolding told

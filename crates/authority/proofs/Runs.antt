@@ -27,9 +27,9 @@ use Rattle.exec_admission.specs.KeptLaws.{any_kind, abandoned_kept, finished_kep
 use Rattle.network_steps.specs.Acting.{caller}
 use Rattle.authority.specs.Origins.{speaker_at, SpendsOnly, IsAtOrBelow}
 use Rattle.authority.proofs.Lowering.{settled_lowers}
-use Rattle.authority.specs.SpendingLaws.{same_spends, then_spends, none_spends}
+use Rattle.authority.specs.SpendingLaws.{then_burns, same_spends, then_spends, none_spends}
 use Rattle.authority.proofs.Spending.{spends_by}
-use Rattle.authority.proofs.Acts.{call_spends}
+use Rattle.authority.proofs.Acts.{call_burns, call_spends}
 
 -- ---- the origin register of a run
 longer : (first who : Location) (path : List Junction) → IsAtOrBelow first (Some who) → IsAtOrBelow first (Some (descended who path))
@@ -73,8 +73,8 @@ module _ (s : Option (List ℕ)) (start : ChainPart) where
   end_lowers (MachineCall.Exchange want maximal) t comes h = absurd comes
   end_lowers (MachineCall.Deposit who) t comes h = absurd comes
   end_lowers (MachineCall.DepositOut dest xcm) t comes h = absurd comes
-  end_lowers MachineCall.Settle t comes h = then_spends (IsSpeaker s) start t.part (after MachineCall.Settle t).part h (spends_by s t.part (after MachineCall.Settle t).part refl (settled_lowers s t.part))
-  end_lowers _ t comes h = record { settings = h.settings; spends = h.spends }
+  end_lowers MachineCall.Settle t comes h = then_spends (IsSpeaker s) start t.part (after MachineCall.Settle t).part h (spends_by s t.part (after MachineCall.Settle t).part refl (settled_lowers s t.part) (call_burns MachineCall.Settle t))
+  end_lowers c t comes h = record { settings = h.settings; spends = h.spends; burns = then_burns start.burns t.part.burns (after c t).part.burns h.burns (call_burns c t) }
 
   pub lowered_at_end : IsKeptAtEnd Lowered
   lowered_at_end = record { closing = λ m t c k asks comes from ok h. end_lowers c t comes h; closed = λ t r holding origin h. h }

@@ -10,13 +10,13 @@ use Rattle.chain_pools.specs.Keeping.{exchange_says}
 use Rattle.chain_pools.specs.SpendingLaws.{spends_others, spends_exchange}
 use Rattle.exec_base.specs.Part.{ChainPart}
 use Rattle.exec_base.specs.Pools.{exchange_at, exchanged}
-use Rattle.authority.specs.Origins.{SpendsOf, SpendsOnly}
-use Rattle.authority.specs.SpendingLaws.{same_spends}
+use Rattle.authority.specs.Origins.{SpendsOf, SpendsOnly, KeepsBurns}
+use Rattle.authority.specs.SpendingLaws.{same_burns, same_spends}
 use Rattle.authority.proofs.Lowering.{LowersOnly}
 
 -- what lowers only that account spends only that account's
-pub spends_by : (s : Option (List ℕ)) (p q : ChainPart) → q.settings ≡ p.settings → LowersOnly s p.held q.held → SpendsOnly s p q
-spends_by s p q same h = record { settings = same; spends = spends_others (IsSpeaker s) p.pools p.held q.held h }
+pub spends_by : (s : Option (List ℕ)) (p q : ChainPart) → q.settings ≡ p.settings → LowersOnly s p.held q.held → KeepsBurns p.burns q.burns → SpendsOnly s p q
+spends_by s p q same h kept = record { settings = same; spends = spends_others (IsSpeaker s) p.pools p.held q.held h; burns = kept }
 
 -- ---- exchanges
 exchange_spends : (may : List ℕ → Type 0) (p : ChainPart) (give : Bundle) (want : List Asset) (maximal : Bool) (o : Option Exchange) → exchange_at p give want maximal ≡ o
@@ -26,4 +26,4 @@ exchange_spends may p give want maximal (Some e) is = spends_exchange may p.pool
 
 pub exchanged_spends : (may : List ℕ → Type 0) (p : ChainPart) (give : Bundle) (want : List Asset) (maximal : Bool) → SpendsOf may p (record p { held = (exchanged p give want maximal).held })
 unfolding exchanged
-exchanged_spends may p give want maximal = record { settings = refl; spends = exchange_spends may p give want maximal (exchange_at p give want maximal) refl }
+exchanged_spends may p give want maximal = record { settings = refl; spends = exchange_spends may p give want maximal (exchange_at p give want maximal) refl; burns = same_burns p.burns }

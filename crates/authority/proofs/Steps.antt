@@ -26,7 +26,7 @@ use Rattle.exec_admission.specs.declared.admission.Admitted.{Admitted}
 use Rattle.exec_admission.specs.Admission.{admitted}
 use Rattle.network_steps.specs.declared.step_result.StepResult.{StepResult}
 use Rattle.network_steps.specs.Worlds.{Member, chain_of, World, place_of, with_part, unchanged, Stepped}
-use Rattle.network_steps.specs.Acting.{begun}
+use Rattle.network_steps.specs.Acting.{begun, lost_of}
 use Rattle.network_steps.specs.Sends.{deliveries_left}
 use Rattle.network_steps.specs.Steps.{is_sovereign, exec_read, exec_by, exec_at, exec, name_at, run_for, sender_after, receiver_after, delivered, delivery_of, deliver, is_claim, posted, posting, claim_by, claim_on, claim, Link, waiting, next_channel, deliveries, Step, Exec, Deliver, Claim, Drain, Balances, Traps, Queues, Supply, after}
 use Rattle.network_steps.specs.CallerLaws.{by_caller}
@@ -36,7 +36,7 @@ use Rattle.message_shapes.specs.StepLaws.{between_says, between_at, place_says}
 use Rattle.chain_pools.specs.Spending.{IsSpeaker}
 use Rattle.authority.specs.Origins.{SpendsOf, SpendsOnly}
 use Rattle.authority.specs.Speakers.{HasAuthority, HaveAuthority, IsAuthorized, AreAuthorized}
-use Rattle.authority.specs.SpendingLaws.{same_spends, spends_more, OnlySpends, none_spent, one_spent, two_spent}
+use Rattle.authority.specs.SpendingLaws.{same_spends, lost_spends, spends_more, OnlySpends, none_spent, one_spent, two_spent}
 use Rattle.authority.proofs.Runs.{local_lowers}
 use Rattle.authority.proofs.Messages.{message_lowers}
 
@@ -53,7 +53,7 @@ exec_read_falls w chain place m account (Err fault) at is = none_spent w (Caller
 exec_read_falls w chain place m account (Ok program) at is =
     one_spent w place m _ (CallerSpeaks w chain account) is
     (let spent = spends_more (IsSpeaker (Some account)) (CallerSpeaks w chain account place m) _ _ (λ who e. (at, same_account account who e)) (local_lowers m.rules account m.rules.limit program (begun (chain_of m) Nothing m.part)) in
-    record { settings = spent.settings; spends = spent.spends })
+    record { settings = spent.settings; spends = spent.spends; burns = spent.burns })
 
 exec_by_falls : (w : World) (chain : ChainId) (place : ℕ) (m : Member) (account : List ℕ) (read : Result (List Instruction) MessageFault) → place_of w chain ≡ Some place → slice_get w place ≡ Some m
     → OnlySpends w (exec_by w place m account read).world (CallerSpeaks w chain account)
@@ -83,7 +83,7 @@ abbrev NoneSpeaks : ℕ → Member → List ℕ → Type 0
 NoneSpeaks place m who = ⊥
 
 posting_falls : (w : World) (i : ℕ) (s : Member) (to : ChainId) (c : Outgoing) (program : List Instruction) (o : Option XcmError) → slice_get w i ≡ Some s → OnlySpends w (posting w i s to c program o).world NoneSpeaks
-posting_falls w i s to c program None is = one_spent w i s (with_part (posted to program s.part) s) NoneSpeaks is (let same = same_spends (NoneSpeaks i s) s.part in record { settings = same.settings; spends = same.spends })
+posting_falls w i s to c program None is = one_spent w i s (with_part (posted to program s.part) s) NoneSpeaks is (let same = same_spends (NoneSpeaks i s) s.part in record { settings = same.settings; spends = same.spends; burns = same.burns })
 posting_falls w i s to c program (Some e) is = none_spent w NoneSpeaks
 
 claiming_falls : (w : World) (i : ℕ) (s : Member) (to : ChainId) (c : Outgoing) (program : List Instruction) (b : Bool) → slice_get w i ≡ Some s
@@ -122,7 +122,7 @@ told_site sender cargo p e = refl
 
 told_spends : (may : List ℕ → Type 0) (sender : ChainId) (cargo : Cargo) (p : ChainPart) (e : Event) (q : ChainPart) → SpendsOf may (told (begun sender cargo p) e) q → SpendsOf may p q
 unfolding told
-told_spends may sender cargo p e q h = record { settings = h.settings; spends = h.spends }
+told_spends may sender cargo p e q h = record { settings = h.settings; spends = h.spends; burns = h.burns }
 
 module _ (taken : Taken) (let_in : LetIn) where
   -- at the receiver
@@ -134,7 +134,7 @@ module _ (taken : Taken) (let_in : LetIn) where
       let lowers = message_lowers r.rules origin p s.part.site (chain_of r) x.cargo (admitted r.rules origin no_weight p.queries x.program)
       (λ a e. let_in s.part.site (chain_of r) x.program x.cargo r.rules origin no_weight p.queries a shape e) in
       subst (λ (site : Site). SpendsOnly (account_of origin site) r.part (receiver_after s.part (run_for s r x))) (told_site (chain_of s) x.cargo r.part event)
-      (told_spends (IsSpeaker (account_of origin p.site)) (chain_of s) x.cargo r.part event (receiver_after s.part (run_for s r x)) (record { settings = lowers.settings; spends = lowers.spends }))
+      (told_spends (IsSpeaker (account_of origin p.site)) (chain_of s) x.cargo r.part event (receiver_after s.part (run_for s r x)) (record { settings = lowers.settings; spends = lowers.spends; burns = lowers.burns }))
 
   module _ (w : World) (from to : ChainId) (all : AllShaped w) (i j : ℕ) (s r : Member) (at_i : place_of w from ≡ Some i) (at_j : place_of w to ≡ Some j) (is_s : slice_get w i ≡ Some s) (is_r : slice_get w j ≡ Some r) where
     is_waiting : (x : Waiting) → option_and_then oldest (channel_to (chain_of r) s.part.channels) ≡ Some x → waiting w from to ≡ Some x
@@ -146,7 +146,7 @@ module _ (taken : Taken) (let_in : LetIn) where
         let here : chain_of s ≡ from = place_says w from i s at_i is_s in
         let shape : IsShaped s.part.site (chain_of r) x = subst (λ (c : ChainId). IsShaped s.part.site c x) (sym there) (taken w from to i s x all at_i is_s (is_waiting x e)) in
         two_spent w i j s (with_part (sender_after (chain_of r) (run_for s r x) s.part) s) r (with_part (receiver_after s.part (run_for s r x)) r) (SenderSpeaks w from to) is_s is_r
-        (let same = same_spends (SenderSpeaks w from to i s) s.part in record { settings = same.settings; spends = same.spends })
+        (lost_spends (SenderSpeaks w from to i s) (chain_of r) (lost_of (run_for s r x).left) s.part)
         (spends_more (IsSpeaker (account_of (name_at (chain_of r) (chain_of s)) r.part.site)) (SenderSpeaks w from to j r) r.part (receiver_after s.part (run_for s r x))
         (λ who e. (
           at_j,

@@ -1,5 +1,7 @@
 -- For whom an instruction speaks: the account of the origin register, if it has one. Source: xcm-executor's documentation of origins.
-use Rattle.std.specs.Prelude.{◌≡◌, ⊤, ℕ, List, Option, Some, None, option_and_then}
+use Rattle.std.specs.Prelude.{◌≡◌, ◌≤◌, ⊤, ℕ, List, Option, Some, None, option_and_then}
+use Rattle.amounts.specs.Amounts.{amount}
+use Rattle.asset_bundles.specs.Books.{Burn, Burns}
 use Rattle.locations.specs.declared.grammar.Junction.{Junction}
 use Rattle.locations.specs.declared.relative.Location.{Location}
 use Rattle.trust_tables.specs.declared.chains.Site.{Site}
@@ -16,11 +18,17 @@ speaker_at site origin = option_and_then (λ (who : Location). account_of who si
 abbrev pub speaker_of : Machine → Option (List ℕ)
 speaker_of m = speaker_at m.part.site m.regs.origin
 
--- what changes a chain: its settings stay, no account has less of any unit but those that may and those of its
--- pools, and no pool's product falls but that of a pool whose account may
+-- no total of a book of burns is less than before, of whatever asset and cause
+abbrev pub KeepsBurns : Burns → Burns → Type 0
+KeepsBurns old new = (burn : Burn) → amount old burn ≤ amount new burn
+
+-- what changes a chain: its settings stay, no account has less of any unit but those that may and
+-- those of its pools, no pool's product falls but that of a pool whose account may, and what was
+-- burned stays burned
 pub record SpendsOf (may : List ℕ → Type 0) (old new : ChainPart) : Type 0 where
   pub settings : new.settings ≡ old.settings
   pub spends : Spends may old.pools old.held new.held
+  pub burns : KeepsBurns old.burns new.burns
 
 -- besides pools this account alone may have less, or none at all
 abbrev pub SpendsOnly : Option (List ℕ) → ChainPart → ChainPart → Type 0

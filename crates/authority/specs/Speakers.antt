@@ -12,8 +12,9 @@ SpeaksFor w (Exec chain account bytes) place member who = (place_of w chain ≡ 
 SpeaksFor w (Deliver from to) place member who = (place_of w to ≡ Some place) × (account_of (name_at to from) member.part.site ≡ Some who)
 SpeaksFor w step place member who = ⊥
 
--- at each chain an account that has less of some unit after the step is one for which the step speaks, or that of
--- a pool; and no pool's product falls but that of a pool for whose account the step speaks
+-- at each chain an account that has less of some unit after the step is one for which the step
+-- speaks, or that of a pool; no pool's product falls but that of a pool for whose account the step
+-- speaks; and what was burned stays burned
 abbrev pub HasAuthority : World → Step → World → Type 0
 HasAuthority old step new =
     (place : ℕ) (before now : Member) → slice_get old place ≡ Some before → slice_get new place ≡ Some now

@@ -2,23 +2,47 @@
 -- written. A reader of the contracts may skip this file.
 use Rattle.std.proofs.Common.{◌≡◌, ◌⊎◌, ⊎_elim, inl, inr, ℕ, List, Option, Some, None, refl, sym, ap, ◌∙◌, subst, arith}
 use Rattle.std.specs.Prelude.{slice_get, slice_set}
+use Rattle.amounts.specs.Laws.{amount-merge}
+use Rattle.chain_ids.specs.declared.chain.ChainId.{ChainId}
+use Rattle.asset_bundles.specs.Bundles.{Bundle}
+use Rattle.asset_bundles.specs.Books.{Burns, Book, Booked, WithRoom, burned_for}
+use Rattle.asset_bundles.specs.declared.book.Cause.{Cause}
+use Rattle.asset_bundles.specs.Laws.{burn_keys}
 use Rattle.chain_pools.specs.Spending.{IsPoolAccount, IsSpeaker, Spends}
 use Rattle.chain_pools.specs.SpendingLaws.{spends_then, spends_others}
 use Rattle.exec_base.specs.declared.settings.Settings.{Settings}
-use Rattle.exec_base.specs.Part.{ChainPart}
+use Rattle.exec_base.specs.Part.{ChainPart, book_of}
+use Rattle.network_steps.specs.Acting.{booking_lost}
+use Rattle.network_steps.specs.Steps.{without_message}
 use Rattle.network_steps.specs.Worlds.{Member, World}
 use Rattle.message_shapes.specs.StepLaws.{same_one, set_read}
-use Rattle.authority.specs.Origins.{SpendsOf, SpendsOnly}
+use Rattle.authority.specs.Origins.{SpendsOf, SpendsOnly, KeepsBurns}
+
+-- ---- one book of burns
+pub same_burns : (b : Burns) → KeepsBurns b b
+same_burns b burn = omega arith
+
+pub then_burns : (a b c : Burns) → KeepsBurns a b → KeepsBurns b c → KeepsBurns a c
+then_burns a b c one two burn = let x = one burn in let y = two burn in omega (arith, x, y)
+
+pub booked_burns : (book : Book) (more : Burns) → KeepsBurns book.burns (Booked book more).burns
+unfolding Booked
+booked_burns book more burn = let both = amount-merge burn_keys book.burns (WithRoom book.burns more) burn in omega (arith, both)
 
 -- ---- one chain
 pub same_spends : (may : List ℕ → Type 0) (p : ChainPart) → SpendsOf may p p
-same_spends may p = record { settings = refl; spends = spends_others may p.pools p.held p.held (λ who unit less. absurd (omega (arith, less))) }
+same_spends may p = record { settings = refl; spends = spends_others may p.pools p.held p.held (λ who unit less. absurd (omega (arith, less))); burns = same_burns p.burns }
 
 pub then_spends : (may : List ℕ → Type 0) (p q r : ChainPart) → SpendsOf may p q → SpendsOf may q r → SpendsOf may p r
 then_spends may p q r h k = record {
   settings = k.settings ∙ h.settings;
   spends = spends_then may p.pools p.held q.held r.held h.spends (subst (λ (x : Settings). Spends may x.pools q.held r.held) h.settings k.spends);
+  burns = then_burns p.burns q.burns r.burns h.burns k.burns;
 }
+
+-- a sender whose message is taken out, and who books what is lost of it
+pub lost_spends : (may : List ℕ → Type 0) (to : ChainId) (goods : Bundle) (p : ChainPart) → SpendsOf may p (booking_lost goods (without_message to p))
+lost_spends may to goods p = let same = same_spends may p in record { settings = same.settings; spends = same.spends; burns = booked_burns (book_of p) (burned_for Cause.LostTeleport goods) }
 
 -- where others may have less too
 pub spends_more : (may more : List ℕ → Type 0) (p q : ChainPart) → ((who : List ℕ) → may who → more who) → SpendsOf may p q → SpendsOf more p q
@@ -28,6 +52,7 @@ spends_more may more p q also h = record {
     lowers = λ who unit less. ⊎_elim (λ (m : may who). inl (also who m)) (λ (pool : IsPoolAccount p.pools who). inr pool) (h.spends.lowers who unit less);
     products = λ few place pool at other. h.spends.products few place pool at (λ m. other (also _ m));
   };
+  burns = h.burns;
 }
 
 no_speaker : (s : Option (List ℕ)) (who : List ℕ) → IsSpeaker None who → IsSpeaker s who

@@ -1,6 +1,6 @@
 //! Whose amounts fall: laws, as the contracts of functions that do nothing.
 ghost use Rattle.std.specs.Prelude.{◌≡◌, ◌≤◌, ℕ, suc, true, List, Some, None, slice_get};
-ghost use Rattle.std.specs.List.{AllByRecursion};
+ghost use Rattle.std.specs.List.{AllByRecursion, AllPairs};
 ghost use Rattle.amounts.specs.Amounts.{amount};
 ghost use Rattle.asset_lists.specs.Units.{Unit};
 ghost use Rattle.chain_ids.specs.declared.chain.ChainId.{ChainId};
@@ -23,6 +23,8 @@ ghost use Rattle.network_steps.specs.Worlds.{Member, World};
 ghost use Rattle.network_steps.specs.Steps.{is_sovereign, exec, deliver, claim, Link, Step, Exec, Deliver, Claim, worlds};
 ghost use Rattle.message_shapes.specs.Shapes.{IsShape, AllShaped};
 ghost use Rattle.authority.specs.Origins.{speaker_of, SpendsOnly, IsAtOrBelow};
+ghost use Rattle.authority.specs.Alone.{NoneAloneLoses};
+ghost use Rattle.authority.specs.Burns.{NoBurnFalls};
 ghost use Rattle.authority.specs.Products.{NoProductFalls, HaveFewPools};
 ghost use Rattle.authority.specs.Speakers.{SpeaksFor, HasAuthority, IsAuthorized, AreAuthorized};
 
@@ -59,8 +61,8 @@ pub fn law_of_executions()
 }
 
 /// An account that has less of some unit after a step is the caller's, on the chain of an execution, or that of the sending chain at the
-/// receiver of a delivery, or a pool's, whose product doesn't fall; so it is in each delivery of a drain. It holds in every network in which the messages that wait have their shapes,
-/// as they have from the first world on.
+/// receiver of a delivery, or a pool's, whose product doesn't fall; and what was burned stays in the books. So it is in each delivery of a drain.
+/// It holds in every network in which the messages that wait have their shapes, as they have from the first world on.
 pub fn law_of_authority()
     ensures exec { (w : World) (chain : ChainId) (account bytes : List ℕ) → HasAuthority w (Exec chain account bytes) (exec w chain account bytes).world }
     ensures deliver { (w : World) (from to : ChainId) → AllShaped w → HasAuthority w (Deliver from to) (deliver w from to).world }
@@ -93,6 +95,29 @@ pub fn law_of_pool_products()
         → NoProductFalls w (claim w from to bytes).world }
     ensures worlds { (order : List Link) (w : World) (steps : List Step) → AllShaped w
         → HaveFewPools w → AllByRecursion (NoProductFalls w) (worlds order w steps) }
+{
+    law_of_settings();
+    law_of_shapes();
+    law_of_delivered_messages();
+    law_of_admitted_messages();
+    law_of_sovereign_accounts();
+}
+
+/// What is burned stays burned: of any two worlds the later one's books have of each asset, for each cause, at least what the earlier one's have.
+pub fn law_of_burns()
+    ensures { (order : List Link) (w : World) (steps : List Step) → AllShaped w → AllPairs NoBurnFalls (worlds order w steps) }
+{
+    law_of_settings();
+    law_of_shapes();
+    law_of_delivered_messages();
+    law_of_admitted_messages();
+    law_of_sovereign_accounts();
+}
+
+/// An account of a wallet that is left alone loses nothing: where no step executes a message for it on its chain, and it is no other chain's account
+/// there nor a pool's, it has of each asset in every world at least what it had at first.
+pub fn law_of_accounts_left_alone()
+    ensures { (order : List Link) (w : World) (steps : List Step) → AllShaped w → AllByRecursion (NoneAloneLoses steps w) (worlds order w steps) }
 {
     law_of_settings();
     law_of_shapes();

@@ -4,6 +4,7 @@
 mod laws;
 
 pub use laws::{
-    law_of_authority, law_of_executions, law_of_origin_registers, law_of_pool_products,
-    law_of_speakers, law_of_spent_sovereign_accounts,
+    law_of_accounts_left_alone, law_of_authority, law_of_burns, law_of_executions,
+    law_of_origin_registers, law_of_pool_products, law_of_speakers,
+    law_of_spent_sovereign_accounts,
 };

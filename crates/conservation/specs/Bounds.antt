@@ -1,5 +1,5 @@
 -- In a network that agrees, what a chain has of a listed asset is no more than there is at the asset's homes.
-use Rattle.std.specs.Prelude.{◌≡◌, ℕ, zero, suc, ◌+◌, ◌≤◌, true, if◌then◌else◌, ◌&&◌, List, [], ◌∷◌, map, Option, Some, slice_get, sum_by, refl}
+use Rattle.std.specs.Prelude.{◌≡◌, ℕ, zero, suc, ◌+◌, ◌≤◌, true, if◌then◌else◌, ◌&&◌, List, [], ◌∷◌, Option, Some, slice_get, sum_by, refl}
 use Rattle.std.proofs.Common.{sym, ap, ◌∙◌, arith}
 use Rattle.std.proofs.lemmas.Bool.{and_parts}
 use Rattle.std.proofs.lemmas.List.Sums.{sum_by-cons}
@@ -13,7 +13,7 @@ use Rattle.coherence.specs.UniversalAssets.{UniversalAsset, Choice, every, just,
 use Rattle.asset_lists.specs.declared.units.Instance.{Instance}
 use Rattle.coherence.specs.Networks.{Table, context_of, IsIn, asset_of_row, HasReserve, Agrees, is_home}
 use Rattle.conservation.specs.Parts.{Part, World, chain_of, Whole, Only, stock, account_amount, burned, flight, own, home, supply, alive, population, Backed}
-use Rattle.conservation.specs.Steps.{tables_of, table_at}
+use Rattle.conservation.specs.Steps.{tables_of, table_at, part_at}
 use Rattle.conservation.specs.Cargoes.{IsRowAsset, home_of_row}
 
 abbrev sovereign_account_at : Part → Part → List ℕ
@@ -23,11 +23,6 @@ pub sum_at : (f : Part → ℕ) (w : World) (k : ℕ) (p : Part) → slice_get w
 sum_at f [] k p at = absurd (cc)
 sum_at f (x ∷ xs) zero p at = let same : x ≡ p = cc in let here : f x ≡ f p = ap f same in let all = sum_by-cons f x xs in omega (arith, here, all)
 sum_at f (x ∷ xs) (suc k) p at = let rest = sum_at f xs k p at in let all = sum_by-cons f x xs in omega (arith, rest, all)
-
-pub part_at : (w : World) (k : ℕ) (t : Table) → slice_get (map (λ (p : Part). p.table) w) k ≡ Some t → (p : Part) × (slice_get w k ≡ Some p) × (p.table ≡ t)
-part_at [] k t at = absurd (cc)
-part_at (x ∷ xs) zero t at = (x, refl, cc)
-part_at (x ∷ xs) (suc k) t at = part_at xs k t at
 
 -- no account has more than the chain
 pub account_at_most : (who : List ℕ) (a : UniversalAsset) (choice : Choice) (p : Part) → account_amount who a choice p ≤ stock a choice p

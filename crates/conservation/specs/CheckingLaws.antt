@@ -6,9 +6,9 @@ use Rattle.coherence.specs.UniversalAssets.{UniversalAsset, every}
 use Rattle.coherence.specs.Networks.{Table, Agrees, is_home}
 use Rattle.conservation.specs.Parts.{Cargo, Part, World, chain_of, stock, teleported, alive, population, supply}
 use Rattle.conservation.specs.Channels.{front, in_channels-popped}
-use Rattle.conservation.specs.Bounds.{sum_at, part_at, home_at_most}
+use Rattle.conservation.specs.Bounds.{sum_at, home_at_most}
 use Rattle.conservation.specs.Checking.{checking_at, AllChecked, AllWithin, AllLow, AllBounded, IsWithinStart, NeverKept, KeptWithin, home_of_account, some_number}
-use Rattle.conservation.specs.Steps.{tables_of, table_at, alive_here}
+use Rattle.conservation.specs.Steps.{tables_of, table_at, part_at, alive_here}
 
 -- two chains have no more than all
 two_at_most : (f : Part → ℕ) (w : World) (i j : ℕ) (p q : Part) → slice_get w i ≡ Some p → slice_get w j ≡ Some q → (i ≡ j → ⊥) → f p + f q ≤ sum_by f w
@@ -50,3 +50,16 @@ all_bounded first w agrees tables small low within k q a amount at is =
     let all = home_at_most first agrees a k p was.1 home in
     let few = small a in
     account_bounded (checking_at a p) (checking_at a q) (stock a every p) (stock a every q) amount (within k p q a was.1 at) is (λ m stands. low k p a m was.1 stands) (omega (arith, all, few))
+
+-- and what doesn't come to its end with what its chain has at first, doesn't later
+bounded_within : (start now : Option ℕ) (here_first here amount : ℕ) → IsWithinStart start now here_first here → now ≡ Some amount → ((first : ℕ) → start ≡ Some first → first + here_first < 2 ^ 128 - 1) → amount + here < 2 ^ 128 - 1
+bounded_within start now here_first here amount (NeverKept x y) is below = absurd (let e : None ≡ Some amount = sym y ∙ is in cc)
+bounded_within start now here_first here amount (KeptWithin m n x y le) is below =
+    let same = some_number n amount (sym y ∙ is) in
+    let first = below m x in
+    omega (arith, same, le, first)
+
+pub still_bounded : (first w : World) → tables_of w ≡ tables_of first → AllBounded first → AllWithin first w → AllBounded w
+still_bounded first w tables bounded within k q a amount at is =
+    let was = part_at first k q.table (ap (λ (ts : List Table). slice_get ts k) (sym tables) ∙ table_at w k q at) in
+    bounded_within (checking_at a was.0) (checking_at a q) (stock a every was.0) (stock a every q) amount (within k was.0 q a was.1 at) is (λ m stands. bounded k was.0 a m was.1 stands)

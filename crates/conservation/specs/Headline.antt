@@ -8,7 +8,7 @@ use Rattle.coherence.specs.UniversalAssets.{UniversalAsset, Choice, every, just}
 use Rattle.coherence.specs.Networks.{IsIn, asset_of_row, IsNetwork, Agrees}
 use Rattle.coherence.specs.Causes.{ChainEntry, first_cause}
 use Rattle.coherence.specs.Causes as causes
-use Rattle.conservation.specs.Parts.{Part, World, stock, burned, supply, population, Conserved, Backed}
+use Rattle.conservation.specs.Parts.{Part, World, stock, burned, supply, population, Conserved, Backed, NoCoverShrinks}
 use Rattle.conservation.specs.Checking.{AllChecked, AllWithin, AllBounded, first_within}
 use Rattle.conservation.specs.CheckingLaws.{all_bounded}
 use Rattle.conservation.specs.Steps.{tables_of}
@@ -23,6 +23,8 @@ pub record IsKept (genesis w : World) : Type 0 where
   -- there is less than 2^127 of each asset, so that its sum is printed in decimal
   pub below : (a : UniversalAsset) → supply a w < 2 ^ 127
   pub backed : Backed w
+  -- and what covers a derivative beyond that, or what is missing there, doesn't get worse
+  pub cover : NoCoverShrinks genesis w
   pub small : (k : ℕ) (p : Part) (row : AssetRow) → slice_get w k ≡ Some p → IsIn p.table.rows row → stock (asset_of_row p.table row) every p + burned (asset_of_row p.table row) p < 2 ^ 127
   pub once : (k : ℕ) (p : Part) (row : AssetRow) (instance : Instance) → slice_get w k ≡ Some p → IsIn p.table.rows row → stock (asset_of_row p.table row) (just (Some instance)) p ≤ 1
   -- over all homes and teleports under way, no unit stands more often than at first, and an instance at most once
@@ -47,6 +49,7 @@ headline links n network once small low none w history =
       conserved = safe.supplied;
       below = λ a. let same = safe.supplied a in let few = small a in omega (arith, same, few);
       backed = safe.backed first.backed;
+      cover = safe.cover;
       small = never_passes (first_world links n) w first.agrees first.backed small history;
       once = λ k p row instance at inside.
           let le = instances_at_most w agrees (safe.backed first.backed) k p row instance at inside in

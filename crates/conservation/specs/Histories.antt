@@ -5,7 +5,7 @@ use Rattle.trust_tables.specs.declared.rows.AssetRow.{AssetRow}
 use Rattle.coherence.specs.UniversalAssets.{UniversalAsset, every}
 use Rattle.coherence.specs.Networks.{IsIn, asset_of_row, Agrees}
 use Rattle.conservation.specs.Parts.{Part, World, stock, burned, supply, Backed}
-use Rattle.conservation.specs.Steps.{tables_of, IsSafe, IsExchange, SafeStep, safe_step, safe_exchange}
+use Rattle.conservation.specs.Steps.{tables_of, IsSafe, IsExchange, SafeStep, same_cover, cover_then, safe_step, safe_exchange}
 use Rattle.conservation.specs.Bounds.{row_at_most}
 
 pub data History (w : World) : World → Type 0 where
@@ -14,13 +14,14 @@ pub data History (w : World) : World → Type 0 where
   Two : (v : World) (i j : ℕ) (p p' q q' : Part) → History w v → slice_get v i ≡ Some p → slice_get v j ≡ Some q → (i ≡ j → ⊥) → IsExchange p p' q q' → History w (slice_set (slice_set v i p') j q')
 
 pub safe_same : (w : World) → SafeStep w w
-safe_same w = record { tables = refl; supplied = λ a. refl; rare = λ a choice. omega arith; backed = λ b. b; checked = λ c. c; within = λ first c. c }
+safe_same w = record { tables = refl; supplied = λ a. refl; rare = λ a choice. omega arith; cover = same_cover w; backed = λ b. b; checked = λ c. c; within = λ first c. c }
 
 pub safe_then : (w v u : World) → SafeStep w v → SafeStep v u → SafeStep w u
 safe_then w v u x y = record {
   tables = y.tables ∙ x.tables;
   supplied = λ a. y.supplied a ∙ x.supplied a;
   rare = λ a choice. let one = x.rare a choice in let two = y.rare a choice in omega (arith, one, two);
+  cover = cover_then w v u x.tables x.cover y.cover;
   backed = λ b. y.backed (x.backed b);
   checked = λ c. y.checked (x.checked c);
   within = λ first c. y.within first (x.within first c);

@@ -145,3 +145,15 @@ abbrev pub Backed : World → Type 0
 Backed w = (i j : ℕ) (c r : Part) (row : AssetRow) (count : Count) → slice_get w i ≡ Some c → slice_get w j ≡ Some r
     → IsIn c.table.rows row → row.role ≡ Derivative (chain_of r)
     → owed (asset_of_row c.table row) count c r ≤ held_for (chain_of c) (asset_of_row c.table row) count r
+
+-- of each derivative of the first chain, what the second keeps for it, less what is owed and what the first chain burned of it, is no less than
+-- before: the cover doesn't shrink
+abbrev pub KeepsCover : (c c' r r' : Part) → Type 0
+KeepsCover c c' r r' = (row : AssetRow) (count : Count) → IsIn c.table.rows row → row.role ≡ Derivative (chain_of r)
+    → owed (asset_of_row c.table row) count c' r' + held_for (chain_of c) (asset_of_row c.table row) count r
+    ≤ owed (asset_of_row c.table row) count c r + held_for (chain_of c) (asset_of_row c.table row) count r'
+
+-- nor does any cover, from one world of a network to another
+abbrev pub NoCoverShrinks : World → World → Type 0
+NoCoverShrinks old new = (i j : ℕ) (c c' r r' : Part) → slice_get old i ≡ Some c → slice_get new i ≡ Some c' → slice_get old j ≡ Some r → slice_get new j ≡ Some r'
+    → KeepsCover c c' r r'

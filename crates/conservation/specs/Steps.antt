@@ -10,7 +10,7 @@ use Rattle.trust_tables.specs.declared.rows.AssetRole.TheVariants.{Native, Deriv
 use Rattle.trust_tables.specs.Accounts.{IsChain}
 use Rattle.coherence.specs.UniversalAssets.{UniversalAsset, Choice, every}
 use Rattle.coherence.specs.Networks.{Table, IsIn, asset_of_row, AreTwins, HasReserve, Agrees, is_home}
-use Rattle.conservation.specs.Parts.{Part, World, chain_of, Count, debt, stock, held_for, flight, deposits, withdrawals, home, supply, alive, population, owed, Backed}
+use Rattle.conservation.specs.Parts.{Part, World, chain_of, Count, debt, stock, held_for, flight, deposits, withdrawals, home, supply, alive, population, owed, Backed, KeepsCover, NoCoverShrinks}
 use Rattle.conservation.specs.Checking.{checking_at, IsChecked, AllChecked, AllWithin, IsWithinStart, IsAccounted, NoAccount, Accounted, home_of_account, some_number, accounted_alone, within_then}
 
 -- the tables, which no step changes
@@ -41,11 +41,6 @@ pub record IsSafe (p q : Part) : Type 0 where
   -- a checking account rises with what is teleported away, and it and the stock are together no more than before
   pub accounted : (a : UniversalAsset) → IsAccounted (checking_at a p) (checking_at a q) (flight a every p) (flight a every q) (stock a every p) (stock a every q)
 
--- the first chain's debt to the second rises by no more than what the second keeps for it
-abbrev pub Pays : (p p' q q' : Part) → Type 0
-Pays p p' q q' = (row : AssetRow) (count : Count) → IsIn p.table.rows row → row.role ≡ Derivative (chain_of q)
-    → owed (asset_of_row p.table row) count p' q' + held_for (chain_of p) (asset_of_row p.table row) count q ≤ owed (asset_of_row p.table row) count p q + held_for (chain_of p) (asset_of_row p.table row) count q'
-
 -- the second chain's checking accounts fall by no more than what leaves the first and the channels
 abbrev pub Accounts : (p p' q q' : Part) → Type 0
 Accounts p p' q q' = (a : UniversalAsset) → IsAccounted (checking_at a q) (checking_at a q') (flight a every q + alive a every p) (flight a every q' + alive a every p') (stock a every q) (stock a every q')
@@ -54,8 +49,9 @@ Accounts p p' q q' = (a : UniversalAsset) → IsAccounted (checking_at a q) (che
 pub record IsExchange (p p' q q' : Part) : Type 0 where
   pub first : KeepsBut (λ chain. chain ≡ chain_of q) p p'
   pub second : KeepsBut (λ chain. chain ≡ chain_of p) q q'
-  pub there : Pays p p' q q'
-  pub back : Pays q q' p p'
+  -- what each owes the other rises by no more than what the other keeps for it
+  pub there : KeepsCover p p' q q'
+  pub back : KeepsCover q q' p p'
   pub owned : (a : UniversalAsset) → home a p' + home a q' ≡ home a p + home a q
   pub rare : (a : UniversalAsset) (choice : Choice) → alive a choice p' + alive a choice q' ≤ alive a choice p + alive a choice q
   pub accounted : Accounts p p' q q'
@@ -88,6 +84,12 @@ tables_set (x ∷ xs) (suc c) p q h same = ap (λ ts. x.table ∷ ts) (tables_se
 pub table_at : (w : World) (c : ℕ) (p : Part) → slice_get w c ≡ Some p → slice_get (tables_of w) c ≡ Some p.table
 table_at w c p h = slice_get-map (λ (p : Part). p.table) w c ∙ ap (option_map (λ (p : Part). p.table)) h
 
+-- the part of a listed table
+pub part_at : (w : World) (k : ℕ) (t : Table) → slice_get (map (λ (p : Part). p.table) w) k ≡ Some t → (p : Part) × (slice_get w k ≡ Some p) × (p.table ≡ t)
+part_at [] k t at = absurd (cc)
+part_at (x ∷ xs) zero t at = (x, refl, cc)
+part_at (x ∷ xs) (suc k) t at = part_at xs k t at
+
 pub supply-set : (a : UniversalAsset) (w : World) (c : ℕ) (p q : Part) → slice_get w c ≡ Some p → supply a (slice_set w c q) + home a p ≡ supply a w + home a q
 unfolding supply
 supply-set a w c p q h =
@@ -105,6 +107,7 @@ pub record SafeStep (w v : World) : Type 0 where
   pub tables : tables_of v ≡ tables_of w
   pub supplied : (a : UniversalAsset) → supply a v ≡ supply a w
   pub rare : (a : UniversalAsset) (choice : Choice) → population a choice v ≤ population a choice w
+  pub cover : NoCoverShrinks w v
   pub backed : Backed w → Backed v
   pub checked : AllChecked w → AllChecked v
   pub within : (first : World) → AllWithin first w → AllWithin first v
@@ -114,9 +117,39 @@ abbrev pub Covered : Table → ChainId → AssetRow → Count → Part → Part 
 Covered t chain row count c r =
     debt (asset_of_row t row) count c + withdrawals chain (asset_of_row t row) count c + deposits t.site.chain (asset_of_row t row) count r ≤ held_for t.site.chain (asset_of_row t row) count r
 
-to_new : (x y z u : Part) (row : AssetRow) (count : Count) → x.table ≡ y.table → z.table ≡ u.table → Covered y.table (chain_of u) row count x z → Covered x.table (chain_of z) row count x z
-to_new x y z u row count xt zt h =
-    subst (λ (t : Table). Covered t (chain_of z) row count x z) (sym xt) (subst (λ (t : Table). Covered y.table t.site.chain row count x z) (sym zt) h)
+-- ---- covers that don't shrink
+-- the part that a chain had, where the tables are the same
+part_there : (w v : World) → tables_of v ≡ tables_of w → (k : ℕ) (x : Part) → slice_get v k ≡ Some x → (c : Part) × (slice_get w k ≡ Some c) × (c.table ≡ x.table)
+part_there w v tables k x at =
+    part_at w k x.table (ap (λ (ts : List Table). slice_get ts k) (sym tables) ∙ table_at v k x at)
+
+pub same_cover : (w : World) → NoCoverShrinks w w
+same_cover w i j c c' r r' at_c at_c' at_r at_r' row count inside role =
+    let chain : c ≡ c' = some_same c c' (sym at_c ∙ at_c') in
+    let reserve : r ≡ r' = some_same r r' (sym at_r ∙ at_r') in
+    let a = asset_of_row c.table row in
+    subst (λ (x : Part). owed a count x r' + held_for (chain_of c) a count r ≤ owed a count c r + held_for (chain_of c) a count r') chain
+    (subst (λ (z : Part). owed a count c z + held_for (chain_of c) a count r ≤ owed a count c r + held_for (chain_of c) a count z) reserve (omega arith))
+
+pub cover_then : (w v u : World) → tables_of v ≡ tables_of w → NoCoverShrinks w v → NoCoverShrinks v u → NoCoverShrinks w u
+cover_then w v u tables one two i j c c' r r' at_c at_c' at_r at_r' row count inside role =
+    let m = part_there v w (sym tables) i c at_c in
+    let n = part_there v w (sym tables) j r at_r in
+    let first = one i j c m.0 r n.0 at_c m.1 at_r n.1 row count inside role in
+    let last = two i j m.0 c' n.0 r' m.1 at_c' n.1 at_r' row count (subst (λ (t : Table). IsIn t.rows row) (sym m.2) inside) (role ∙ ap (λ (t : Table). Derivative t.site.chain) (sym n.2)) in
+    let second = subst (λ (t : Table). owed (asset_of_row t row) count c' r' + held_for t.site.chain (asset_of_row t row) count n.0 ≤ owed (asset_of_row t row) count m.0 n.0 + held_for t.site.chain (asset_of_row t row) count r') m.2 last in
+    omega (arith, first, second)
+
+-- what was covered is covered still
+pub backed_then : (w v : World) → tables_of v ≡ tables_of w → NoCoverShrinks w v → Backed w → Backed v
+backed_then w v tables cover b i j x z row count at_x at_z inside role =
+    let c = part_there w v tables i x at_x in
+    let r = part_there w v tables j z at_z in
+    let inside_c = subst (λ (t : Table). IsIn t.rows row) (sym c.2) inside in
+    let role_r = role ∙ ap (λ (t : Table). Derivative t.site.chain) (sym r.2) in
+    let before = b i j c.0 r.0 row count c.1 r.1 inside_c role_r in
+    let kept = cover i j c.0 x r.0 z c.1 at_x r.1 at_z row count inside_c role_r in
+    subst (λ (t : Table). owed (asset_of_row t row) count x z ≤ held_for t.site.chain (asset_of_row t row) count z) c.2 (omega (arith, before, kept))
 
 -- a chain of the new world, and what it was
 pub record Was (w : World) (k : ℕ) (x : Part) (but : ChainId → Type 0) : Type 0 where
@@ -193,35 +226,25 @@ module _ (w : World) (agrees : Agrees (tables_of w)) where
       native_or_derivative row r.partners r.checking chain (sym (ap (λ (x : AssetRow). x.role) rows) ∙ r.native) role
 
   -- a pair of chains, neither of which deals with the other
-  pair_covered : Backed w → (k l : ℕ) (x z : Part) (but_k but_l : ChainId → Type 0) (was : Was w k x but_k) (had : Was w l z but_l) (row : AssetRow) (count : Count)
-      → IsIn x.table.rows row → row.role ≡ Derivative (chain_of z) → (but_k (chain_of had.old) → ⊥) → (but_l (chain_of was.old) → ⊥) → Covered x.table (chain_of z) row count x z
-  pair_covered b k l x z but_k but_l was had row count inside role fine_k fine_l =
+  pair_covers : (k l : ℕ) (x z : Part) (but_k but_l : ChainId → Type 0) (was : Was w k x but_k) (had : Was w l z but_l) → (but_k (chain_of had.old) → ⊥) → (but_l (chain_of was.old) → ⊥) → KeepsCover was.old x had.old z
+  pair_covers k l x z but_k but_l was had fine_k fine_l row count inside role =
       let y = was.old in
       let u = had.old in
-      let inside_y : IsIn y.table.rows row = subst (λ (t : Table). IsIn t.rows row) was.keeps.table inside in
-      let role_u : row.role ≡ Derivative (chain_of u) = role ∙ ap (λ (t : Table). Derivative t.site.chain) had.keeps.table in
-      let before : Covered y.table (chain_of u) row count y u = b k l y u row count was.at had.at inside_y role_u in
-      let less = was.keeps.owing row (chain_of u) count inside_y role_u fine_k in
-      let more = had.keeps.covering (chain_of y) (asset_of_row y.table row) count (number_of k y was.at) (λ same. reserve_is_other k y row (chain_of u) was.at inside_y role_u (sym same)) fine_l in
-      to_new x y z u row count was.keeps.table had.keeps.table (omega (arith, before, less, more))
+      let a = asset_of_row y.table row in
+      let less = was.keeps.owing row (chain_of u) count inside role fine_k in
+      let more = had.keeps.covering (chain_of y) a count (number_of k y was.at) (λ same. reserve_is_other k y row (chain_of u) was.at inside role (sym same)) fine_l in
+      let reserves : withdrawals (chain_of z) a count x ≡ withdrawals (chain_of u) a count x = ap (λ (t : Table). withdrawals t.site.chain a count x) had.keeps.table in
+      let chains : deposits (chain_of x) a count z ≡ deposits (chain_of y) a count z = ap (λ (t : Table). deposits t.site.chain a count z) was.keeps.table in
+      omega (arith, less, more, reserves, chains)
 
-  -- a pair of chains that deal with each other
-  paid_covered : Backed w → (k l : ℕ) (x y z u : Part) (row : AssetRow) (count : Count) → slice_get w k ≡ Some y → slice_get w l ≡ Some u → x.table ≡ y.table → z.table ≡ u.table → Pays y x u z
-      → IsIn x.table.rows row → row.role ≡ Derivative (chain_of z) → Covered x.table (chain_of z) row count x z
-  paid_covered b k l x y z u row count at_k at_l xt zt pays inside role =
-      let inside_y : IsIn y.table.rows row = subst (λ (t : Table). IsIn t.rows row) xt inside in
-      let role_u : row.role ≡ Derivative (chain_of u) = role ∙ ap (λ (t : Table). Derivative t.site.chain) zt in
-      let before : Covered y.table (chain_of u) row count y u = b k l y u row count at_k at_l inside_y role_u in
-      let paid = pays row count inside_y role_u in
-      let chains : chain_of x ≡ chain_of y = ap (λ (t : Table). t.site.chain) xt in
-      let others : chain_of z ≡ chain_of u = ap (λ (t : Table). t.site.chain) zt in
-      let now : debt (asset_of_row y.table row) count x + withdrawals (chain_of u) (asset_of_row y.table row) count x + deposits (chain_of y) (asset_of_row y.table row) count z + held_for (chain_of y) (asset_of_row y.table row) count u
-      ≤ debt (asset_of_row y.table row) count y + withdrawals (chain_of u) (asset_of_row y.table row) count y + deposits (chain_of y) (asset_of_row y.table row) count u + held_for (chain_of y) (asset_of_row y.table row) count z =
-      subst (λ (c : ChainId). debt (asset_of_row y.table row) count x + withdrawals (chain_of u) (asset_of_row y.table row) count x + deposits c (asset_of_row y.table row) count z + held_for (chain_of y) (asset_of_row y.table row) count u
-      ≤ debt (asset_of_row y.table row) count y + withdrawals (chain_of u) (asset_of_row y.table row) count y + deposits (chain_of y) (asset_of_row y.table row) count u + held_for (chain_of y) (asset_of_row y.table row) count z) chains
-      (subst (λ (c : ChainId). debt (asset_of_row y.table row) count x + withdrawals c (asset_of_row y.table row) count x + deposits (chain_of x) (asset_of_row y.table row) count z + held_for (chain_of y) (asset_of_row y.table row) count u
-      ≤ debt (asset_of_row y.table row) count y + withdrawals (chain_of u) (asset_of_row y.table row) count y + deposits (chain_of y) (asset_of_row y.table row) count u + held_for (chain_of y) (asset_of_row y.table row) count z) others paid) in
-      to_new x y z u row count xt zt (omega (arith, before, now))
+  -- so for the parts that these chains had
+  pair_covers_at : (k l : ℕ) (c x r z : Part) (but_k but_l : ChainId → Type 0) (was : Was w k x but_k) (had : Was w l z but_l) → slice_get w k ≡ Some c → slice_get w l ≡ Some r
+      → (but_k (chain_of r) → ⊥) → (but_l (chain_of c) → ⊥) → KeepsCover c x r z
+  pair_covers_at k l c x r z but_k but_l was had at_k at_l fine_k fine_l =
+      let chain : was.old ≡ c = some_same was.old c (sym was.at ∙ at_k) in
+      let reserve : had.old ≡ r = some_same had.old r (sym had.at ∙ at_l) in
+      subst (λ (y : Part). KeepsCover y x r z) chain (subst (λ (u : Part). KeepsCover was.old x u z) reserve
+      (pair_covers k l x z but_k but_l was had (subst (λ (u : Part). but_k (chain_of u) → ⊥) (sym reserve) fine_k) (subst (λ (y : Part). but_l (chain_of y) → ⊥) (sym chain) fine_l)))
 
   -- ONE CHAIN
   was_here : (i k : ℕ) (p q x : Part) → slice_get w i ≡ Some p → Keeps p q → slice_get (slice_set w i q) k ≡ Some x → Was w k x none_but
@@ -232,13 +255,17 @@ module _ (w : World) (agrees : Agrees (tables_of w)) where
       (λ n. let r : Was w k x none_but = record { old = x; at = sym (get_set_other w i k q n) ∙ now; keeps = keeps_itself none_but x } in r)
       (cases_eq k i)
 
+  one_covers : (i : ℕ) (p q : Part) → slice_get w i ≡ Some p → Keeps p q → NoCoverShrinks w (slice_set w i q)
+  one_covers i p q at kept k l c x r z at_c at_x at_r at_z =
+      pair_covers_at k l c x r z none_but none_but (was_here i k p q x at kept at_x) (was_here i l p q z at kept at_z) at_c at_r (λ e. e) (λ e. e)
+
   pub safe_step : (i : ℕ) (p q : Part) → slice_get w i ≡ Some p → IsSafe p q → SafeStep w (slice_set w i q)
   safe_step i p q at safe = record {
     tables = tables_set w i p q at safe.keeps.table;
     supplied = λ a. let s = supply-set a w i p q at in let h = safe.owned a in omega (arith, s, h);
     rare = λ a choice. let s = population-set a choice w i p q at in let h = safe.rare a choice in omega (arith, s, h);
-    backed = λ b k l x z row count at_k at_l inside role.
-        pair_covered b k l x z none_but none_but (was_here i k p q x at safe.keeps at_k) (was_here i l p q z at safe.keeps at_l) row count inside role (λ e. e) (λ e. e);
+    cover = one_covers i p q at safe.keeps;
+    backed = backed_then w (slice_set w i q) (tables_set w i p q at safe.keeps.table) (one_covers i p q at safe.keeps);
     checked = all_checked w i p q at safe;
     within = all_within w i p q at safe;
   }
@@ -261,7 +288,7 @@ spot_of w i j p p' q q' at_i at_j apart k x now =
     (cases_eq k i))
     (cases_eq k j)
 
-module _ (w : World) (agrees : Agrees (tables_of w)) (i j : ℕ) (p p' q q' : Part) (at_i : slice_get w i ≡ Some p) (at_j : slice_get w j ≡ Some q) (apart : i ≡ j → ⊥) (e : IsExchange p p' q q') (b : Backed w) where
+module _ (w : World) (agrees : Agrees (tables_of w)) (i j : ℕ) (p p' q q' : Part) (at_i : slice_get w i ≡ Some p) (at_j : slice_get w j ≡ Some q) (apart : i ≡ j → ⊥) (e : IsExchange p p' q q') where
   self_reserve : (k : ℕ) (y x z : Part) (row : AssetRow) → slice_get w k ≡ Some y → x.table ≡ y.table → z.table ≡ y.table → IsIn x.table.rows row → row.role ≡ Derivative (chain_of z) → ⊥
   self_reserve k y x z row at xt zt inside role =
       reserve_is_other w agrees k y row (chain_of z) at (subst (λ (t : Table). IsIn t.rows row) xt inside) role (ap (λ (t : Table). t.site.chain) zt)
@@ -275,34 +302,46 @@ module _ (w : World) (agrees : Agrees (tables_of w)) (i j : ℕ) (p p' q q' : Pa
   other_was : (k : ℕ) (x : Part) → slice_get w k ≡ Some x → Was w k x none_but
   other_was k x at = record { old = x; at = at; keeps = keeps_itself none_but x }
 
-  first_table : (x : Part) → p' ≡ x → x.table ≡ p.table
-  first_table x px = ap (λ (y : Part). y.table) (sym px) ∙ e.first.table
+  -- the part that stood where the first was written, and the second
+  first_old : (k : ℕ) (c : Part) → slice_get w k ≡ Some c → k ≡ i → p ≡ c
+  first_old k c at ki = some_same p c (sym at_i ∙ ap (slice_get w) (sym ki) ∙ at)
 
-  second_table : (x : Part) → q' ≡ x → x.table ≡ q.table
-  second_table x qx = ap (λ (y : Part). y.table) (sym qx) ∙ e.second.table
+  second_old : (k : ℕ) (c : Part) → slice_get w k ≡ Some c → k ≡ j → q ≡ c
+  second_old k c at kj = some_same q c (sym at_j ∙ ap (slice_get w) (sym kj) ∙ at)
 
-  spots_covered : (k l : ℕ) (x z : Part) → Spot w i j p' q' k x → Spot w i j p' q' l z → (row : AssetRow) (count : Count) → IsIn x.table.rows row → row.role ≡ Derivative (chain_of z) → Covered x.table (chain_of z) row count x z
+  table_same : (x y : Part) → x ≡ y → y.table ≡ x.table
+  table_same x y e = ap (λ (z : Part). z.table) (sym e)
+
+  spots_cover : (k l : ℕ) (c x r z : Part) → slice_get w k ≡ Some c → slice_get w l ≡ Some r → Spot w i j p' q' k x → Spot w i j p' q' l z → KeepsCover c x r z
   unfolding other_was
-  spots_covered k l x z (AtFirst ki px) (AtFirst li pz) row count inside role = absurd (self_reserve i p x z row at_i (first_table x px) (first_table z pz) inside role)
-  spots_covered k l x z (AtFirst ki px) (AtSecond lj qz) row count inside role =
-      paid_covered w agrees b i j x p z q row count at_i at_j (first_table x px) (second_table z qz) (subst (λ y. Pays p y q z) px (subst (Pays p p' q) qz e.there)) inside role
-  spots_covered k l x z (AtFirst ki px) (Elsewhere ni nj at) row count inside role =
-      pair_covered w agrees b k l x z (λ chain. chain ≡ chain_of q) none_but (first_was k x ki px) (other_was l z at) row count inside role
-      (λ same. nj (place_of_one w agrees l j z q at at_j same)) (λ h. h)
-  spots_covered k l x z (AtSecond kj qx) (AtFirst li pz) row count inside role =
-      paid_covered w agrees b j i x q z p row count at_j at_i (second_table x qx) (first_table z pz) (subst (λ y. Pays q y p z) qx (subst (Pays q q' p) pz e.back)) inside role
-  spots_covered k l x z (AtSecond kj qx) (AtSecond lj qz) row count inside role = absurd (self_reserve j q x z row at_j (second_table x qx) (second_table z qz) inside role)
-  spots_covered k l x z (AtSecond kj qx) (Elsewhere ni nj at) row count inside role =
-      pair_covered w agrees b k l x z (λ chain. chain ≡ chain_of p) none_but (second_was k x kj qx) (other_was l z at) row count inside role
-      (λ same. ni (place_of_one w agrees l i z p at at_i same)) (λ h. h)
-  spots_covered k l x z (Elsewhere ni nj at) (AtFirst li pz) row count inside role =
-      pair_covered w agrees b k l x z none_but (λ chain. chain ≡ chain_of q) (other_was k x at) (first_was l z li pz) row count inside role
-      (λ h. h) (λ same. nj (place_of_one w agrees k j x q at at_j same))
-  spots_covered k l x z (Elsewhere ni nj at) (AtSecond lj qz) row count inside role =
-      pair_covered w agrees b k l x z none_but (λ chain. chain ≡ chain_of p) (other_was k x at) (second_was l z lj qz) row count inside role
-      (λ h. h) (λ same. ni (place_of_one w agrees k i x p at at_i same))
-  spots_covered k l x z (Elsewhere ni nj at) (Elsewhere mi mj has) row count inside role =
-      pair_covered w agrees b k l x z none_but none_but (other_was k x at) (other_was l z has) row count inside role (λ h. h) (λ h. h)
+  spots_cover k l c x r z at_c at_r (AtFirst ki px) (AtFirst li pz) =
+      λ row count inside role. absurd (self_reserve i p c r row at_i (table_same p c (first_old k c at_c ki)) (table_same p r (first_old l r at_r li)) inside role)
+  spots_cover k l c x r z at_c at_r (AtFirst ki px) (AtSecond lj qz) =
+      subst (λ (y : Part). KeepsCover y x r z) (first_old k c at_c ki) (subst (λ (u : Part). KeepsCover p x u z) (second_old l r at_r lj)
+      (subst (λ (y : Part). KeepsCover p y q z) px (subst (KeepsCover p p' q) qz e.there)))
+  spots_cover k l c x r z at_c at_r (AtFirst ki px) (Elsewhere ni nj at) =
+      pair_covers_at w agrees k l c x r z (λ chain. chain ≡ chain_of q) none_but (first_was k x ki px) (other_was l z at) at_c at_r
+      (λ same. nj (place_of_one w agrees l j r q at_r at_j same)) (λ h. h)
+  spots_cover k l c x r z at_c at_r (AtSecond kj qx) (AtFirst li pz) =
+      subst (λ (y : Part). KeepsCover y x r z) (second_old k c at_c kj) (subst (λ (u : Part). KeepsCover q x u z) (first_old l r at_r li)
+      (subst (λ (y : Part). KeepsCover q y p z) qx (subst (KeepsCover q q' p) pz e.back)))
+  spots_cover k l c x r z at_c at_r (AtSecond kj qx) (AtSecond lj qz) =
+      λ row count inside role. absurd (self_reserve j q c r row at_j (table_same q c (second_old k c at_c kj)) (table_same q r (second_old l r at_r lj)) inside role)
+  spots_cover k l c x r z at_c at_r (AtSecond kj qx) (Elsewhere ni nj at) =
+      pair_covers_at w agrees k l c x r z (λ chain. chain ≡ chain_of p) none_but (second_was k x kj qx) (other_was l z at) at_c at_r
+      (λ same. ni (place_of_one w agrees l i r p at_r at_i same)) (λ h. h)
+  spots_cover k l c x r z at_c at_r (Elsewhere ni nj at) (AtFirst li pz) =
+      pair_covers_at w agrees k l c x r z none_but (λ chain. chain ≡ chain_of q) (other_was k x at) (first_was l z li pz) at_c at_r
+      (λ h. h) (λ same. nj (place_of_one w agrees k j c q at_c at_j same))
+  spots_cover k l c x r z at_c at_r (Elsewhere ni nj at) (AtSecond lj qz) =
+      pair_covers_at w agrees k l c x r z none_but (λ chain. chain ≡ chain_of p) (other_was k x at) (second_was l z lj qz) at_c at_r
+      (λ h. h) (λ same. ni (place_of_one w agrees k i c p at_c at_i same))
+  spots_cover k l c x r z at_c at_r (Elsewhere ni nj at) (Elsewhere mi mj has) =
+      pair_covers_at w agrees k l c x r z none_but none_but (other_was k x at) (other_was l z has) at_c at_r (λ h. h) (λ h. h)
+
+  two_cover : NoCoverShrinks w (slice_set (slice_set w i p') j q')
+  two_cover k l c x r z at_c at_x at_r at_z =
+      spots_cover k l c x r z at_c at_r (spot_of w i j p p' q q' at_i at_j apart k x at_x) (spot_of w i j p p' q q' at_i at_j apart l z at_z)
 
 module _ (w : World) (i j : ℕ) (p p' q q' : Part) (at_i : slice_get w i ≡ Some p) (at_j : slice_get w j ≡ Some q) (apart : i ≡ j → ⊥) (e : IsExchange p p' q q') where
   population-both : (a : UniversalAsset) → population a every (slice_set (slice_set w i p') j q') + (alive a every p + alive a every q) ≡ population a every w + (alive a every p' + alive a every q')
@@ -342,8 +381,10 @@ pub safe_exchange : (w : World) → Agrees (tables_of w) → (i j : ℕ) (p p' q
     → SafeStep w (slice_set (slice_set w i p') j q')
 safe_exchange w agrees i j p p' q q' at_i at_j apart e =
     let mid : slice_get (slice_set w i p') j ≡ Some q = get_set_other w i j p' (λ h. apart (sym h)) ∙ at_j in
+    let tables : tables_of (slice_set (slice_set w i p') j q') ≡ tables_of w = tables_set (slice_set w i p') j q q' mid e.second.table ∙ tables_set w i p p' at_i e.first.table in
+    let cover = two_cover w agrees i j p p' q q' at_i at_j apart e in
     record {
-      tables = tables_set (slice_set w i p') j q q' mid e.second.table ∙ tables_set w i p p' at_i e.first.table;
+      tables = tables;
       supplied = λ a.
           let one = supply-set a w i p p' at_i in
           let two = supply-set a (slice_set w i p') j q q' mid in
@@ -354,8 +395,8 @@ safe_exchange w agrees i j p p' q q' at_i at_j apart e =
           let two = population-set a choice (slice_set w i p') j q q' mid in
           let both = e.rare a choice in
           omega (arith, one, two, both);
-      backed = λ b k l x z row count at_k at_l inside role.
-          spots_covered w agrees i j p p' q q' at_i at_j apart e b k l x z (spot_of w i j p p' q q' at_i at_j apart k x at_k) (spot_of w i j p p' q q' at_i at_j apart l z at_l) row count inside role;
+      cover = cover;
+      backed = backed_then w (slice_set (slice_set w i p') j q') tables cover;
       checked = λ checked k x a amount at_k is. both_checked w i j p p' q q' at_i at_j apart e checked k x a amount (spot_of w i j p p' q q' at_i at_j apart k x at_k) is;
       within = λ first within k g x a at_g at_k. both_within w i j p p' q q' at_i at_j apart e first within k g x a at_g (spot_of w i j p p' q q' at_i at_j apart k x at_k);
     }

@@ -27,7 +27,8 @@ use Rattle.coherence.specs.Causes as causes
 use Rattle.coherence.specs.CauseLaws.{or_none, agrees_of_no_cause}
 use Rattle.conservation.specs.Parts as sums
 use Rattle.conservation.specs.Parts.{World, stock, burned, own, home, supply, population, Backed, in_channels, teleported}
-use Rattle.conservation.specs.Checking.{AllChecked, AllLow}
+use Rattle.conservation.specs.Checking.{AllChecked, AllBounded, first_within}
+use Rattle.conservation.specs.CheckingLaws.{all_bounded}
 use Rattle.conservation.specs.Steps.{tables_of}
 use Rattle.conservation.specs.Genesis as genesis
 use Rattle.conservation.specs.Genesis.{HasInstancesOnce, HasLowAccounts, sound_first, first_low}
@@ -244,14 +245,16 @@ is_first shaped spec c =
     let none = or_none (table_cause (causes.tables_of (entries_of spec))) _ c.coherent in
     let agrees = agrees_of_no_cause (causes.tables_of (entries_of spec)) network none.0 in
     let sound = sound_first (links_in spec) (entries_of spec) network (instances_are_once spec c.openable agrees) c.coherent in
+    let first = genesis.first_world (links_in spec) (entries_of spec) in
+    let small : (a : UniversalAsset) → supply a first < 2 ^ 127 = λ a. let le = supply_first (links_in spec) a (entries_of spec) in let few = c.openable.small a in omega (arith, le, few) in
     let same = sym (world_seen spec) in
     record {
       genesis = record {
         agrees = subst (λ (w : World). Agrees (tables_of w)) same sound.agrees;
         backed = subst Backed same sound.backed;
         checked = subst AllChecked same sound.checked;
-        low = subst AllLow same (first_low (links_in spec) (entries_of spec) (accounts_are_low spec c.openable));
-        small = λ a. subst (λ (w : World). supply a w < 2 ^ 127) same (let le = supply_first (links_in spec) a (entries_of spec) in let few = c.openable.small a in omega (arith, le, few));
+        bounded = subst AllBounded same (all_bounded first first sound.agrees refl small (first_low (links_in spec) (entries_of spec) (accounts_are_low spec c.openable)) (first_within first));
+        small = λ a. subst (λ (w : World). supply a w < 2 ^ 127) same (small a);
       };
       once = λ a instance. subst (λ (w : World). population a (just (Some instance)) w ≤ 1) same (sound.once a instance);
       shaped = shaped (first_world spec) (nothing_waits spec spec.chains);

@@ -7,7 +7,7 @@ use Rattle.network_spec.specs.declared.network.NetworkSpec.{NetworkSpec}
 use Rattle.network_genesis.specs.Genesis.{first_world, order_of, entries_of}
 use Rattle.network_genesis.specs.Openable.{IsOpenable}
 use Rattle.coherence.specs.Causes.{first_cause}
-use Rattle.conserved_steps.specs.Worlds.{AllKept, AllSound, RunsKept, AccountsAlwaysRise}
+use Rattle.conserved_steps.specs.Worlds.{AllKept, KeptBetween, AllSound, RunsKept, AccountsAlwaysRise}
 
 -- a network that can be opened, with none of the seven causes for which it isn't coherent
 pub record IsCoherent (spec : NetworkSpec) : Type 0 where
@@ -17,6 +17,10 @@ pub record IsCoherent (spec : NetworkSpec) : Type 0 where
 -- whatever the steps, every world from the first on
 abbrev pub NetworkKept : NetworkSpec → List Step → Type 0
 NetworkKept spec steps = AllKept (order_of spec) (first_world spec) steps
+
+-- and any two of them, the earlier in the place of the first
+abbrev pub NetworkKeptBetween : NetworkSpec → List Step → Type 0
+NetworkKeptBetween spec steps = KeptBetween (order_of spec) (first_world spec) steps
 
 -- and in each of them every unit of every place and every burn belongs to a listed row
 abbrev pub NetworkSound : NetworkSpec → List Step → Type 0

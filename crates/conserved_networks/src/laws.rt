@@ -8,18 +8,20 @@ ghost use Rattle.network_steps.specs.Steps.{Link, Step, last_world};
 ghost use Rattle.message_shapes.specs.Shapes.{NothingWaits};
 ghost use Rattle.conserved_steps.specs.Worlds.{IsFirst};
 ghost use Rattle.conserved_networks.specs.Drained.{by_deliveries};
-ghost use Rattle.conserved_networks.specs.Kept.{IsCoherent, NetworkKept, NetworkSound, NetworkRunsKept, NetworkAccountsRise, NetworkShaped};
+ghost use Rattle.conserved_networks.specs.Kept.{IsCoherent, NetworkKept, NetworkKeptBetween, NetworkSound, NetworkRunsKept, NetworkAccountsRise, NetworkShaped};
 
 use conserved_steps::{law_of_conserved_worlds, law_of_kept_runs};
 use message_shapes::law_of_shapes;
 
 /// A network that can be opened and in which no cause is found begins as the laws of conserved worlds ask; so every world is conserved and backed,
 /// whatever the steps; no chain has 2^127 or more of a listed asset, nor an instance twice; each checking account is at least what there is at
-/// other homes and under way, and with what its chain has of the asset is no more than at first, and stays below 2^128-1. Each unit of every place
-/// and each burn belongs to a listed row.
+/// other homes and under way, and with what its chain has of the asset is no more than at first, and stays below 2^128-1. So it is of any two
+/// worlds, the earlier in the place of the first: no derivative's cover shrinks in between. Each unit of every place and each burn belongs to a
+/// listed row.
 pub fn law_of_conserved_networks()
     ensures first { (spec : NetworkSpec) → IsCoherent spec → IsFirst (first_world spec) }
     ensures kept { (spec : NetworkSpec) (steps : List Step) → IsCoherent spec → NetworkKept spec steps }
+    ensures between { (spec : NetworkSpec) (steps : List Step) → IsCoherent spec → NetworkKeptBetween spec steps }
     ensures sound { (spec : NetworkSpec) (steps : List Step) → IsCoherent spec → NetworkSound spec steps }
 {
     law_of_shapes();

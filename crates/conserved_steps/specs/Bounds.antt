@@ -22,7 +22,8 @@ use Rattle.conservation.specs.Channels.{in_channels-popped}
 use Rattle.conservation.specs.Steps.{tables_of}
 use Rattle.conservation.specs.Cargoes.{home_of_row}
 use Rattle.conservation.specs.Bounds.{home_at_most}
-use Rattle.conservation.specs.Checking.{AllChecked, AllLow}
+use Rattle.conservation.specs.Checking.{AllChecked, AllBounded, first_within}
+use Rattle.conservation.specs.CheckingLaws.{still_bounded}
 use Rattle.conservation.specs.Histories.{History, safe_history, never_passes}
 use Rattle.conserved_runs.specs.Views.{table_of, channel_of, seen}
 use Rattle.conserved_runs.specs.Sums.{in_kept, in_places, sum_of, none, with, most}
@@ -36,7 +37,7 @@ pub record IsSoundGenesis (first : World) : Type 0 where
   pub backed : Backed first
   pub small : (a : UniversalAsset) → supply a first < 2 ^ 127
   pub checked : AllChecked first
-  pub low : AllLow first
+  pub bounded : AllBounded first
 
 places_same : (t : Unit → Bool) (p : ChainPart) (goods : Bundle) (checking : List (Option ℕ)) → in_places t (record p { burns = merge p.burns (given_up empty goods); checking = checking }) ≡ in_places t p
 unfolding in_kept
@@ -48,6 +49,18 @@ module _ (first : World) (genesis : IsSoundGenesis first) (v : World) (history :
 
   pub checked_now : AllChecked v
   checked_now = (safe_history first v genesis.agrees history).checked genesis.checked
+
+  -- so from any such world others are made
+  pub genesis_now : IsSoundGenesis v
+  genesis_now =
+      let safe = safe_history first v genesis.agrees history in
+      record {
+        agrees = agrees_now;
+        backed = safe.backed genesis.backed;
+        small = λ a. let same = safe.supplied a in let few = genesis.small a in omega (arith, same, few);
+        checked = checked_now;
+        bounded = still_bounded first v safe.tables genesis.bounded (safe.within first (first_within first));
+      }
 
   -- a chain of the world, with what it holds
   pub small_with : (k : ℕ) (h : Bundle) (p : ChainPart) → slice_get v k ≡ Some (seen h p) → IsSmall (sum_of h) p

@@ -4,6 +4,8 @@ use Rattle.std.specs.Prelude.{◌||◌, if◌then◌else◌, find, slice_get, sl
 use Rattle.std.specs.Option.{option_map_or}
 use Rattle.std.specs.List.{AllByRecursion}
 use Rattle.std.proofs.lemmas.List.{map-append}
+use Rattle.std.proofs.lemmas.List.Elements.{All-from_recursion}
+use Rattle.std.proofs.lemmas.List.Kept.{AllPairs-cons}
 use Rattle.amounts.specs.Amounts.{empty}
 use Rattle.locations.specs.declared.relative.Location.{Location}
 use Rattle.message_parts.specs.declared.error.XcmError.{XcmError}
@@ -51,7 +53,7 @@ use Rattle.conservation.specs.Moves.{IsSent, sent_safe}
 use Rattle.conservation.specs.Bounds.{instances_at_most}
 use Rattle.conservation.specs.Histories.{History, Start, One, safe_history, never_passes}
 use Rattle.conservation.specs.Checking.{checking_at, risen_by_none, first_within}
-use Rattle.conservation.specs.CheckingLaws.{all_bounded}
+use Rattle.conservation.specs.CheckingLaws.{still_bounded}
 use Rattle.conservation.specs.Headline.{IsKept}
 use Rattle.conserved_runs.specs.Views.{cargo_of, channel_of, seen}
 use Rattle.conserved_runs.specs.Sums.{in_kept, none, HasRoom}
@@ -61,12 +63,12 @@ use Rattle.conserved_steps.specs.Rooms.{small_room, none_rises}
 use Rattle.conserved_steps.specs.Soundness.{IsLink, IsSoundPart, LawsBelow}
 use Rattle.conserved_steps.specs.Locals.{begun_sound, ended_sound, ActsSafely, admitted_safely}
 use Rattle.conserved_steps.specs.Senders.{front_map}
-use Rattle.conserved_steps.specs.Bounds.{IsSoundGenesis, agrees_now, small_now}
+use Rattle.conserved_steps.specs.Bounds.{IsSoundGenesis, agrees_now, small_now, genesis_now}
 use Rattle.conserved_steps.specs.Receptions.{Passed, StillCarried, same_safe}
 use Rattle.conserved_steps.specs.Fates.{KeepsShapes, fate_of, comes_by, abandoned_fate, executed_fate}
 use Rattle.conserved_steps.specs.Deliveries.{trusted_front, views_set, has_name, stands, stands_inside, stands_stopped}
 use Rattle.conserved_steps.specs.Reading.{Decodes, decoded_runs, not_sovereign}
-use Rattle.conserved_steps.specs.Worlds.{AreSoundParts, IsFirst, IsReached, AllKept, arrives, while_delivered, StopsAt, where_delivery_stopped, AllSound}
+use Rattle.conserved_steps.specs.Worlds.{AreSoundParts, IsFirst, IsReached, AllKept, KeepsOn, KeptBetween, arrives, while_delivered, StopsAt, where_delivery_stopped, AllSound}
 
 -- ---- places of a world
 some_member : (x y : Member) → Some x ≡ Some y → x ≡ y
@@ -436,6 +438,7 @@ kept_by first genesis once v history =
       conserved = safe.supplied;
       below = λ a. let same = safe.supplied a in let few = genesis.small a in omega (arith, same, few);
       backed = safe.backed genesis.backed;
+      cover = safe.cover;
       small = never_passes first v genesis.agrees genesis.backed genesis.small history;
       once = λ k p row instance at inside.
           let le = instances_at_most v agrees (safe.backed genesis.backed) k p row instance at inside in
@@ -446,7 +449,7 @@ kept_by first genesis once v history =
       single = λ a instance. let less = safe.rare a (just (Some instance)) in let few = once a instance in omega (arith, less, few);
       checked = safe.checked genesis.checked;
       within = safe.within first (first_within first);
-      bounded = all_bounded first v genesis.agrees safe.tables genesis.small genesis.low (safe.within first (first_within first));
+      bounded = still_bounded first v safe.tables genesis.bounded (safe.within first (first_within first));
     }
 
 all_kept : (first : World) (genesis : IsSoundGenesis first) → ((a : UniversalAsset) (instance : Instance) → sums.population a (just (Some instance)) first ≤ 1) → (ws : List networks.World)
@@ -466,3 +469,23 @@ all_sound first (w ∷ ws) all = (all.0.parts, all_sound first ws all.1)
 
 pub worlds_sound : LawsBelow → ShapeLaws → Decodes → (order : List Link) (w : networks.World) (steps : List Step) → IsFirst w → AllSound order w steps
 worlds_sound laws shapes decodes order w steps f = all_sound (views w) (worlds order w steps) (worlds_reached laws shapes decodes (views w) f.genesis order w steps (first_reached w f))
+
+-- ---- each world that was reached is a first one for those behind it
+reached_first : (first : World) (genesis : IsSoundGenesis first) → ((a : UniversalAsset) (instance : Instance) → sums.population a (just (Some instance)) first ≤ 1) → (w : networks.World) → IsReached first w → IsFirst w
+reached_first first genesis once w reached =
+    let safe = safe_history first (views w) genesis.agrees reached.history in
+    record {
+      genesis = genesis_now first genesis (views w) reached.history;
+      once = λ a instance. let less = safe.rare a (just (Some instance)) in let few = once a instance in omega (arith, less, few);
+      shaped = reached.shaped;
+      parts = reached.parts;
+    }
+
+module _ (laws : LawsBelow) (shapes : ShapeLaws) (decodes : Decodes) (order : List Link) where
+  pub kept_between : (w : networks.World) (steps : List Step) → IsFirst w → KeptBetween order w steps
+  kept_between w [] f = AllPairs-cons KeepsOn w [] (λ k d lt. absurd (omega (arith, lt))) (λ i j d less lt. absurd (omega (arith, lt)))
+  kept_between w (step ∷ steps) f =
+      AllPairs-cons KeepsOn w (worlds order (after order w step) steps)
+      (All-from_recursion (KeepsOn w) (worlds order (after order w step) steps) (worlds_kept laws shapes decodes order w (step ∷ steps) f).1)
+      (kept_between (after order w step) steps
+      (reached_first (views w) f.genesis f.once (after order w step) (step_reaches laws shapes decodes (views w) f.genesis order w step (first_reached w f))))

@@ -21,7 +21,7 @@ use Rattle.exec_admission.specs.declared.admission.Admitted.{Admitted}
 use Rattle.exec_admission.specs.Admission.{admitted}
 use Rattle.exec_admission.specs.Execution.{executed, first_stage, IsAbandoned}
 use Rattle.weight_trader.specs.Purchases.{no_weight}
-use Rattle.std.specs.List.{AllByRecursion}
+use Rattle.std.specs.List.{AllByRecursion, AllPairs}
 use Rattle.asset_lists.specs.declared.units.Instance.{Instance}
 use Rattle.network_steps.specs.Worlds as networks
 use Rattle.network_steps.specs.Worlds.{Member, chain_of}
@@ -42,7 +42,7 @@ abbrev pub AreSoundParts : networks.World → Type 0
 AreSoundParts w = (k : ℕ) (m : Member) → slice_get w k ≡ Some m → IsSoundPart m.part
 
 -- a first world: its chains agree and it is backed, of no asset there is 2^127 or more, its checking accounts cover what there is elsewhere and
--- are below 2^127, no instance stands at two homes, each message that waits has a shape, and each chain is sound
+-- with what their chains have are below 2^128-1, no instance stands at two homes, each message that waits has a shape, and each chain is sound
 pub record IsFirst (w : networks.World) : Type 0 where
   pub genesis : IsSoundGenesis (views w)
   pub once : (a : UniversalAsset) (instance : Instance) → population a (just (Some instance)) (views w) ≤ 1
@@ -58,6 +58,13 @@ pub record IsReached (first : World) (w : networks.World) : Type 0 where
 -- conserved, backed, below 2^127, with each instance once and with right checking accounts: so is every world, whatever the steps
 abbrev pub AllKept : List Link → networks.World → List Step → Type 0
 AllKept order w steps = AllByRecursion (λ (v : networks.World). IsKept (views w) (views v)) (worlds order w steps)
+
+-- and so it is of any two worlds, the earlier in the place of the first: what is kept from the first on is kept from each on
+abbrev pub KeepsOn : networks.World → networks.World → Type 0
+KeepsOn u v = IsKept (views u) (views v)
+
+abbrev pub KeptBetween : List Link → networks.World → List Step → Type 0
+KeptBetween order w steps = AllPairs KeepsOn (worlds order w steps)
 
 -- and in every world each unit of every place and each burn belongs to a listed row
 abbrev pub AllSound : List Link → networks.World → List Step → Type 0

@@ -16,7 +16,7 @@ ghost use Rattle.conserved_steps.specs.Soundness.{LawsBelow};
 ghost use Rattle.conserved_steps.specs.Stepping.{ShapeLaws};
 ghost use Rattle.conserved_steps.specs.Reading.{Decodes};
 ghost use Rattle.conserved_steps.specs.Views.{views};
-ghost use Rattle.conserved_steps.specs.Worlds.{IsFirst, AllKept, IsExecution, begins, while_running, where_stopped, IsDelivery, arrives, while_delivered, StopsAt, where_delivery_stopped, AccountsMayRise, AllSound, RunsKept, AccountsAlwaysRise};
+ghost use Rattle.conserved_steps.specs.Worlds.{IsFirst, AllKept, KeptBetween, IsExecution, begins, while_running, where_stopped, IsDelivery, arrives, while_delivered, StopsAt, where_delivery_stopped, AccountsMayRise, AllSound, RunsKept, AccountsAlwaysRise};
 
 use exec_admission::law_of_admission;
 use exec_calls::{law_of_readiness, law_of_rules};
@@ -47,9 +47,11 @@ pub fn law_of_foundations()
 /// From a first world, whatever the steps, every world has each asset as before, at its homes, under way between them and burned there; every
 /// derivative is covered by what its reserve keeps; no chain has 2^127 or more of a listed asset, nor an instance twice; each checking account
 /// is at least what there is at other homes and under way, and with what its chain has of the asset is no more than at first, and stays below
-/// 2^128-1. And each unit of every place and each burn belongs to a listed row.
+/// 2^128-1. So it is of any two worlds, the earlier in the place of the first: no derivative's cover shrinks in between. And each unit of every
+/// place and each burn belongs to a listed row.
 pub fn law_of_conserved_worlds()
     ensures kept { (order : List Link) (w : World) (steps : List Step) → IsFirst w → AllKept order w steps }
+    ensures between { (order : List Link) (w : World) (steps : List Step) → IsFirst w → KeptBetween order w steps }
     ensures sound { (order : List Link) (w : World) (steps : List Step) → IsFirst w → AllSound order w steps }
 {
     law_of_foundations();

@@ -12,5 +12,5 @@ returns c =
       exec = exec_products;
       deliver = delivered;
       claim = claim_products;
-      worlds = λ order w steps shaped few. worlds_products says.exec says.deliver says.claim delivered shapes.deliver shapes.after order w steps shaped few;
+      worlds = λ order w steps shaped few. worlds_products says.exec says.deliver says.claim delivered shapes.exec shapes.deliver shapes.claim order w steps shaped few;
     }

@@ -6,5 +6,6 @@ pub returns : goal.returns
 returns c = record {
   first = λ spec coherent. is_first c.law_of_shapes.ensures.first spec coherent;
   kept = λ spec steps coherent. c.law_of_conserved_worlds.ensures.kept (order_of spec) (first_world spec) steps (is_first c.law_of_shapes.ensures.first spec coherent);
+  between = λ spec steps coherent. c.law_of_conserved_worlds.ensures.between (order_of spec) (first_world spec) steps (is_first c.law_of_shapes.ensures.first spec coherent);
   sound = λ spec steps coherent. c.law_of_conserved_worlds.ensures.sound (order_of spec) (first_world spec) steps (is_first c.law_of_shapes.ensures.first spec coherent);
 }

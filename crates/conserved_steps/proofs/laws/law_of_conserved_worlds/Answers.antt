@@ -1,4 +1,4 @@
-use Rattle.conserved_steps.specs.Stepping.{worlds_kept, worlds_sound}
+use Rattle.conserved_steps.specs.Stepping.{worlds_kept, kept_between, worlds_sound}
 use Rattle.conserved_steps.proofs.laws.law_of_conserved_worlds.Goals as goal
 
 pub returns : goal.returns
@@ -6,5 +6,6 @@ returns c =
     let below = c.law_of_foundations.ensures in
     record {
       kept = worlds_kept below.below below.shapes below.decodes;
+      between = λ order w steps f. kept_between below.below below.shapes below.decodes order w steps f;
       sound = worlds_sound below.below below.shapes below.decodes;
     }
