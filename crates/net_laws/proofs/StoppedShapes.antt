@@ -28,7 +28,7 @@ use Rattle.message_shapes.specs.StepLaws.{between_at, place_says}
 use Rattle.chain_pools.specs.Spending.{IsSpeaker}
 use Rattle.authority.specs.Origins.{SpendsOf, SpendsOnly}
 use Rattle.authority.specs.Speakers.{SpeaksFor, HasAuthority}
-use Rattle.authority.specs.SpendingLaws.{same_spends, spends_more, none_spent, one_spent, two_spent}
+use Rattle.authority.specs.SpendingLaws.{same_spends, lost_spends, spends_more, none_spent, one_spent, two_spent}
 use Rattle.chain_net.specs.Stops.{ExecStopsAt, ExecStops, arrived, StandsAt, DeliverStops}
 
 -- ---- shapes in a world
@@ -61,7 +61,7 @@ told_shaped p e all = all
 -- ---- accounts
 told_spends : (may : List ℕ → Type 0) (p : ChainPart) (e : Event) (q : ChainPart) → SpendsOf may (told p e) q → SpendsOf may p q
 unfolding told
-told_spends may p e q h = record { settings = h.settings; spends = h.spends }
+told_spends may p e q h = record { settings = h.settings; spends = h.spends; burns = h.burns }
 
 told_site : (p : ChainPart) (e : Event) → (told p e).site ≡ p.site
 unfolding told
@@ -97,7 +97,7 @@ module _ (laws : StopLaws) (w : World) where
       (laws.caller_lowers s.member.rules account s.member.rules.limit s.program begins s.stopped.0 s.stopped.1) in
       subst (HasAuthority w (Exec chain account bytes)) (sym s.rest)
       (one_spent w s.place s.member (with_part s.part s.member) (SpeaksFor w (Exec chain account bytes)) s.is
-      (subst (SpendsOf may s.member.part) (sym s.stopped.2) (record { settings = spent.settings; spends = spent.spends })))) h
+      (subst (SpendsOf may s.member.part) (sym s.stopped.2) (record { settings = spent.settings; spends = spent.spends; burns = spent.burns })))) h
     where
       same_account : (who : List ℕ) → Some account ≡ Some who → who ≡ account
       same_account who e = cc
@@ -140,10 +140,10 @@ module _ (laws : StopLaws) (w : World) where
         let shape : IsShaped s.sender.part.site to s.message = laws.waits_shaped w from to s.sender_place s.sender s.message all s.sender_found s.is_sender waits_there in
         let speaker = account_of origin s.receiver.part.site in
         let from_begun : (x : ChainPart) → SpendsOf (IsSpeaker (account_of origin begins.site)) (begun from s.message.cargo s.receiver.part) x → SpendsOnly speaker s.receiver.part x =
-        λ x l. subst (λ (site : Site). SpendsOnly (account_of origin site) s.receiver.part x) begins_site (record { settings = l.settings; spends = l.spends }) in
+        λ x l. subst (λ (site : Site). SpendsOnly (account_of origin site) s.receiver.part x) begins_site (record { settings = l.settings; spends = l.spends; burns = l.burns }) in
         let from_begins : (x : ChainPart) → SpendsOnly (account_of origin begins.site) begins x → SpendsOnly speaker s.receiver.part x =
         λ x l. from_begun x (told_spends (IsSpeaker (account_of origin begins.site)) (begun from s.message.cargo s.receiver.part) _ x l) in
-        ⊎_elim (λ (e : q ≡ begun from s.message.cargo s.receiver.part). subst (SpendsOnly speaker s.receiver.part) (sym e) (let same = same_spends (IsSpeaker speaker) s.receiver.part in record { settings = same.settings; spends = same.spends }))
+        ⊎_elim (λ (e : q ≡ begun from s.message.cargo s.receiver.part). subst (SpendsOnly speaker s.receiver.part) (sym e) (let same = same_spends (IsSpeaker speaker) s.receiver.part in record { settings = same.settings; spends = same.spends; burns = same.burns }))
         (λ (rest : IsAbandoned s.receiver.rules origin no_weight s.message.program begins q ⊎ (q ≡ (executed s.receiver.rules origin no_weight s.message.program begins).1)). ⊎_elim
         (λ (a : IsAbandoned s.receiver.rules origin no_weight s.message.program begins q).
         from_begins q (laws.message_stopped s.sender.part.site to s.message.cargo s.receiver.rules origin no_weight s.message.program begins q shape a))
@@ -158,7 +158,6 @@ module _ (laws : StopLaws) (w : World) where
         let back : to ≡ chain_of s.receiver = sym there in
         let spent = spends_more (IsSpeaker (account_of origin s.receiver.part.site)) may s.receiver.part s.stopped.0
         (λ who e. (s.receiver_found, (λ i. account_of (name_at (back i) from) s.receiver.part.site) ∙ e)) (stands_spend all s.stopped.0 s.stopped.1) in
-        let same = same_spends (SpeaksFor w (Deliver from to) s.sender_place s.sender) s.sender.part in
         subst (HasAuthority w (Deliver from to)) (sym s.rest)
-        (two_spent w s.sender_place s.receiver_place s.sender sender s.receiver (with_part s.part s.receiver) (SpeaksFor w (Deliver from to)) s.is_sender s.is_receiver (record { settings = same.settings; spends = same.spends })
-        (subst (SpendsOf may s.receiver.part) (sym s.stopped.2) (record { settings = spent.settings; spends = spent.spends })))
+        (two_spent w s.sender_place s.receiver_place s.sender sender s.receiver (with_part s.part s.receiver) (SpeaksFor w (Deliver from to)) s.is_sender s.is_receiver (lost_spends (SpeaksFor w (Deliver from to) s.sender_place s.sender) to (lost_of s.left) s.sender.part)
+        (subst (SpendsOf may s.receiver.part) (sym s.stopped.2) (record { settings = spent.settings; spends = spent.spends; burns = spent.burns })))

@@ -1,15 +1,17 @@
 -- What is promised of every run of a network, whatever its steps. This project's own rule.
 use Rattle.std.specs.Prelude.{List}
-use Rattle.std.specs.List.{AllByRecursion}
+use Rattle.std.specs.List.{AllByRecursion, AllPairs}
 use Rattle.network_spec.specs.declared.network.NetworkSpec.{NetworkSpec}
 use Rattle.network_genesis.specs.Genesis.{first_world, order_of}
 use Rattle.network_steps.specs.Steps.{Step, worlds}
 use Rattle.audit_laws.specs.Printed.{IsPrinted}
+use Rattle.authority.specs.Alone.{NoneAloneLoses}
+use Rattle.authority.specs.Burns.{NoBurnFalls}
 use Rattle.authority.specs.Products.{NoProductFalls}
 use Rattle.authority.specs.Speakers.{AreAuthorized}
 use Rattle.lock_laws.specs.Floors.{AllHoldFloors}
 use Rattle.conserved_networks.specs.Drained.{by_deliveries}
-use Rattle.conserved_networks.specs.Kept.{NetworkKept, NetworkSound, NetworkRunsKept, NetworkAccountsRise, NetworkShaped}
+use Rattle.conserved_networks.specs.Kept.{NetworkKept, NetworkKeptBetween, NetworkSound, NetworkRunsKept, NetworkAccountsRise, NetworkShaped}
 use Rattle.paid_messages.specs.Covered.{AllCovered}
 use Rattle.paid_messages.specs.Paid.{WithdrawalsPaid, TeleportsReceived, NoneLost}
 use Rattle.overflow_laws.specs.Barring.{NeverBarred}
@@ -26,6 +28,13 @@ pub record IsLawful (spec : NetworkSpec) (steps : List Step) : Type 0 where
   -- and no pool's product of reserves ever falls
   pub products : AllByRecursion (NoProductFalls (first_world spec))
       (worlds (order_of spec) (first_world spec) steps)
+  -- an account for which no step executes a message on its chain, and which is no other chain's
+  -- there nor a pool's, never has less than at first
+  pub left_alone : AllByRecursion (NoneAloneLoses steps (first_world spec))
+      (worlds (order_of spec) (first_world spec) steps)
+  -- what is burned stays burned: of any two worlds the later one's books have at least what the
+  -- earlier one's have
+  pub burns : AllPairs NoBurnFalls (worlds (order_of spec) (first_world spec) steps)
   -- each account keeps what is locked there
   pub floors : AllByRecursion AllHoldFloors (worlds (order_of spec) (first_world spec) steps)
   -- each message that waits has one of the seven shapes
@@ -36,6 +45,9 @@ pub record IsSecure (spec : NetworkSpec) (steps : List Step) : Type 0 where
   -- every world keeps each asset, backs each derivative, has each instance at most once, and covers with each checking account what stands
   -- elsewhere
   pub kept : NetworkKept spec steps
+  -- and so it is of any two worlds, the earlier in the place of the first: what is held for a
+  -- derivative, less what is owed and what its chain burned of it, never gets less
+  pub between : NetworkKeptBetween spec steps
   -- in every world each unit of every place and each burn belongs to a listed row
   pub sound : NetworkSound spec steps
   -- and so it is inside each run, wherever it comes, and where memory is refused to it

@@ -10,7 +10,7 @@ ghost use Rattle.xcm_cli.specs.Told.{TellsOf, told_of};
 ghost use Rattle.xcm_cli.specs.Report.{network_bytes, steps_of, bytes_reply, max_network};
 
 use audit_laws::law_of_printed_networks;
-use authority::{law_of_authority, law_of_pool_products};
+use authority::{law_of_accounts_left_alone, law_of_authority, law_of_burns, law_of_pool_products};
 use conserved_networks::{
     law_of_conserved_networks, law_of_kept_network_runs, law_of_opened_networks,
     law_of_shaped_networks,
@@ -38,6 +38,8 @@ pub(crate) fn law_of_inputs()
     law_of_shaped_networks();
     law_of_authority();
     law_of_pool_products();
+    law_of_accounts_left_alone();
+    law_of_burns();
     law_of_kept_worlds();
     law_of_conserved_networks();
     law_of_kept_network_runs();

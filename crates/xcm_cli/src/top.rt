@@ -66,14 +66,16 @@ pub fn run<I: Source, O: Sink>(
     ensures other { result ≡ Ok Status.Usage → task_of words.now ≡ Usage }
 
     // Whatever document is read as a network and whatever the steps, as those of an input (`steps_of`), those with each drain as its deliveries
-    // (`singly`) or those that are drawn: an account falls only by its own executions, by a message of its chain or as a pool's, no pool's
-    // product falls, each account keeps what is locked there, and each message that waits has its shape.
+    // (`singly`) or those that are drawn: an account falls only by its own executions, by a message of its chain or as a pool's, so one that is
+    // left alone never has less; no pool's product falls, no burn is undone, each account keeps what is locked there, and each message that
+    // waits has its shape.
     ensures lawful { (part : List ℕ) (spec : NetworkSpec) (steps : List Step)
         → network_of part ≡ Ok spec → IsLawful spec steps }
 
     // Where moreover none of the seven causes is found in it, every world keeps each asset, backs each derivative and has right checking
-    // accounts, inside runs too; what is admitted is paid and received; no joining of bundles burns what would pass an amount's end or is
-    // there already; and in every world the sums which the supply block prints are conserved and covered.
+    // accounts, inside runs too, and from world to world no derivative's cover shrinks; what is admitted is paid and received; no joining of
+    // bundles burns what would pass an amount's end or is there already; and in every world the sums which the supply block prints are
+    // conserved and covered.
     ensures kept { (part : List ℕ) (spec : NetworkSpec) (steps : List Step)
         → network_of part ≡ Ok spec
         → first_cause (entries_of spec) ≡ None → IsSecure spec steps }

@@ -20,12 +20,15 @@ returns c =
       authorized = c.law_of_authority.ensures.worlds (order_of spec) (first_world spec) steps shaped;
       products = c.law_of_pool_products.ensures.worlds (order_of spec) (first_world spec) steps shaped
           (λ place m at. let few = c.law_of_opened_networks.ensures.pools spec place m openable at in omega (arith, few));
+      left_alone = c.law_of_accounts_left_alone.ensures (order_of spec) (first_world spec) steps shaped;
+      burns = c.law_of_burns.ensures (order_of spec) (first_world spec) steps shaped;
       floors = c.law_of_kept_worlds.ensures.worlds (order_of spec) (first_world spec) steps locks.1 locks.0;
       shaped = c.law_of_shaped_networks.ensures spec steps;
     } in
     let secure : (spec : NetworkSpec) (steps : List Step) → IsCoherent spec → IsSecure spec steps =
     λ spec steps coherent. record {
       kept = c.law_of_conserved_networks.ensures.kept spec steps coherent;
+      between = c.law_of_conserved_networks.ensures.between spec steps coherent;
       sound = c.law_of_conserved_networks.ensures.sound spec steps coherent;
       inside = c.law_of_kept_network_runs.ensures.kept spec steps coherent;
       paid = c.law_of_paid_messages.ensures.withdrawal spec steps coherent;
