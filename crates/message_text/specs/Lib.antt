@@ -1,0 +1,5 @@
+pub mod Lines
+pub mod Words
+pub mod Fields
+pub mod Messages
+pub mod Laws
