@@ -49,7 +49,7 @@ info_field level info =
     ++ field (level + 1) (codes "max_weight") (weight_text info.max_weight)))
 
 -- a pallet: its index, the hex of its name and of its module's, and the version of its crate
-abbrev pub pallet_text : PalletInfo → List ℕ
+unfoldable pub pallet_text : PalletInfo → List ℕ
 pallet_text p =
     decimal p.index ++ (codes " " ++ (hex_text p.name ++ (codes " " ++ (hex_text p.module_name
     ++ (codes " " ++ (decimal p.major ++ (codes "." ++ (decimal p.minor ++ (codes "."

@@ -26,6 +26,7 @@ pub(crate) fn push_info(
 }
 
 /// A pallet.
+#[tactic(auto, unfolding(crate::specs::Fields::pallet_text))]
 fn pallet_text(alloc: Global, pallet: &PalletInfo) -> Result<String, AllocError>
     ensures { IfOk result (λ text. string_bytes text ≡ pallet_text pallet.now) }
 {

@@ -157,8 +157,8 @@ pub fn asset_text(alloc: Global, asset: &Asset) -> Result<String, AllocError>
     ensures { IfOk result (λ text. string_bytes text ≡ asset_text asset.now) }
 {
     let id = id_text(alloc, &asset.id)?;
-    let fun = fun_text(alloc, &asset.fun)?;
+    let amount = fun_text(alloc, &asset.fun)?;
     let mut text = String::with_capacity(alloc, ROOM)?;
-    write!(text, "{id} {fun}")?;
+    write!(text, "{id} {amount}")?;
     Ok(text)
 }
