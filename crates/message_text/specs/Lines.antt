@@ -1,5 +1,7 @@
 -- The lines of a tree: two spaces a level, then the words of the line. This project's own rule.
 use Rattle.std.specs.Prelude.{ℕ, zero, suc, List, [], ◌++◌, codes}
+use Rattle.message_text.specs.declared.names.FieldName.{FieldName}
+use Rattle.message_text.specs.Names.{name_text}
 
 -- two spaces for each level
 abbrev pub indent : ℕ → List ℕ
@@ -11,5 +13,5 @@ abbrev pub line : ℕ → List ℕ → List ℕ
 line level words = indent level ++ (words ++ codes "\n")
 
 -- a field with its value on one line
-abbrev pub field : ℕ → List ℕ → List ℕ → List ℕ
-field level name value = line level (name ++ (codes " " ++ value))
+abbrev pub field : ℕ → FieldName → List ℕ → List ℕ
+field level name value = line level (name_text name ++ (codes " " ++ value))

@@ -23,33 +23,33 @@ use Rattle.message_parts.specs.declared.status.MaybeError.TheVariants as statuse
 use Rattle.message_parts.specs.declared.weight.WeightLimit.{WeightLimit}
 use Rattle.message_parts.specs.declared.weight.WeightLimit.TheVariants.{Unlimited, Limited}
 
-abbrev pub flag_text : Bool → List ℕ
+unfoldable pub flag_text : Bool → List ℕ
 flag_text true = codes "true"
 flag_text false = codes "false"
 
-abbrev pub origin_kind_text : OriginKind → List ℕ
+unfoldable pub origin_kind_text : OriginKind → List ℕ
 origin_kind_text Native = codes "Native"
 origin_kind_text SovereignAccount = codes "SovereignAccount"
 origin_kind_text Superuser = codes "Superuser"
 origin_kind_text Xcm = codes "Xcm"
 
 -- with the weight in both dimensions: ref_time in picoseconds, proof_size in bytes
-abbrev pub limit_text : WeightLimit → List ℕ
+unfoldable pub limit_text : WeightLimit → List ℕ
 limit_text Unlimited = codes "Unlimited"
 limit_text (Limited w) = codes "Limited " ++ weight_text w
 
 -- how a dispatched call ended, with the bytes of its error
-abbrev pub status_text : MaybeError → List ℕ
+unfoldable pub status_text : MaybeError → List ℕ
 status_text statuses.Success = codes "Success"
 status_text (statuses.Error bytes) = codes "Error " ++ hex_text bytes
 status_text (statuses.TruncatedError bytes) = codes "TruncatedError " ++ hex_text bytes
 
-abbrev pub place_text : Option Location → List ℕ
+unfoldable pub place_text : Option Location → List ℕ
 place_text None = codes "none"
 place_text (Some l) = location_text l
 
 -- an instruction's index and its error
-abbrev pub failure_text : Option (ℕ × XcmError) → List ℕ
+unfoldable pub failure_text : Option (ℕ × XcmError) → List ℕ
 failure_text None = codes "none"
 failure_text (Some failed) = decimal failed.0 ++ (codes " " ++ error_text failed.1)
 
@@ -62,18 +62,18 @@ network_text net = junction_text (GlobalConsensus net)
 
 -- ---- assets
 
-abbrev pub id_text : AssetId → List ℕ
+unfoldable pub id_text : AssetId → List ℕ
 id_text (Concrete l) = location_text l
 id_text (Abstract bytes) = hex_text bytes
 
 -- the amount in the asset's smallest unit, or the hex of the instance's spelling
-abbrev pub fun_text : Fun → List ℕ
+unfoldable pub fun_text : Fun → List ℕ
 fun_text (funs.Fungible amount) = decimal amount
 fun_text (funs.NonFungible which) = codes "instance " ++ hex_text (instance which)
 
 abbrev pub asset_text : Asset → List ℕ
 asset_text a = id_text a.id ++ codes " " ++ fun_text a.fun
 
-abbrev pub wild_fun_text : WildFun → List ℕ
+unfoldable pub wild_fun_text : WildFun → List ℕ
 wild_fun_text kinds.Fungible = codes "Fungible"
 wild_fun_text kinds.NonFungible = codes "NonFungible"

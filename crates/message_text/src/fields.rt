@@ -7,6 +7,7 @@ ghost use Rattle.message_text.specs.Words.{asset_text, place_text};
 ghost use Rattle.message_parts.specs.Texts.{weight_text};
 
 use crate::lines::{push_field, push_line};
+use crate::names::{FieldName, name_text};
 use crate::words::{asset_text, hex_text, id_text, place_text, wild_fun_text};
 use asset_lists::{Asset, Filter, Wild};
 use location_wire::location_text;
@@ -19,11 +20,11 @@ pub(crate) fn push_location(
     alloc: Global,
     text: &mut String,
     level: u32,
-    name: &str,
+    name: FieldName,
     place: &Location,
 ) -> Result<(), AllocError>
     ensures { OnOk result (string_bytes text.new
-        ≡ string_bytes text.old ++ location_field level name.now place.now) }
+        ≡ string_bytes text.old ++ location_field level name place.now) }
 {
     let place = location_text(alloc, place)?;
     push_field(text, level, name, &place)
@@ -34,11 +35,11 @@ pub(crate) fn push_place(
     alloc: Global,
     text: &mut String,
     level: u32,
-    name: &str,
+    name: FieldName,
     place: &Option<Location>,
 ) -> Result<(), AllocError>
     ensures { OnOk result (string_bytes text.new
-        ≡ string_bytes text.old ++ field level name.now (place_text place.now)) }
+        ≡ string_bytes text.old ++ field level name (place_text place.now)) }
 {
     let place = place_text(alloc, place)?;
     push_field(text, level, name, &place)
@@ -49,11 +50,11 @@ pub(crate) fn push_number(
     alloc: Global,
     text: &mut String,
     level: u32,
-    name: &str,
+    name: FieldName,
     number: u64,
 ) -> Result<(), AllocError>
     ensures { OnOk result (string_bytes text.new
-        ≡ string_bytes text.old ++ number_field level name.now number) }
+        ≡ string_bytes text.old ++ number_field level name number) }
 {
     let number = format!(in alloc; "{number}")?;
     push_field(text, level, name, &number)
@@ -64,11 +65,11 @@ pub(crate) fn push_weight(
     alloc: Global,
     text: &mut String,
     level: u32,
-    name: &str,
+    name: FieldName,
     weight: Weight,
 ) -> Result<(), AllocError>
     ensures { OnOk result (string_bytes text.new
-        ≡ string_bytes text.old ++ field level name.now (weight_text weight)) }
+        ≡ string_bytes text.old ++ field level name (weight_text weight)) }
 {
     let weight = format!(in alloc; "{weight}")?;
     push_field(text, level, name, &weight)
@@ -79,11 +80,11 @@ pub(crate) fn push_bytes(
     alloc: Global,
     text: &mut String,
     level: u32,
-    name: &str,
+    name: FieldName,
     bytes: &[u8],
 ) -> Result<(), AllocError>
     ensures { OnOk result (string_bytes text.new
-        ≡ string_bytes text.old ++ bytes_field level name.now bytes.now) }
+        ≡ string_bytes text.old ++ bytes_field level name bytes.now) }
 {
     let digits = hex_text(alloc, bytes)?;
     push_field(text, level, name, &digits)
@@ -94,11 +95,11 @@ pub(crate) fn push_asset(
     alloc: Global,
     text: &mut String,
     level: u32,
-    name: &str,
+    name: FieldName,
     asset: &Asset,
 ) -> Result<(), AllocError>
     ensures { OnOk result (string_bytes text.new
-        ≡ string_bytes text.old ++ field level name.now (asset_text asset.now)) }
+        ≡ string_bytes text.old ++ field level name (asset_text asset.now)) }
 {
     let asset = asset_text(alloc, asset)?;
     push_field(text, level, name, &asset)
@@ -135,22 +136,24 @@ pub(crate) fn push_list(
 }
 
 /// Appends a field that is a list of assets.
+#[tactic(auto, unfolding(crate::specs::Fields::assets_field))]
 pub(crate) fn push_assets(
     alloc: Global,
     text: &mut String,
     level: u32,
-    name: &str,
+    name: FieldName,
     assets: &[Asset],
 ) -> Result<(), AllocError>
     requires { level + 1 < 2 ^ 32 }
     ensures { OnOk result (string_bytes text.new
-        ≡ string_bytes text.old ++ assets_field level name.now assets.now) }
+        ≡ string_bytes text.old ++ assets_field level name assets.now) }
 {
-    push_line(text, level, name)?;
+    push_line(text, level, name_text(name))?;
     push_list(alloc, text, level + 1, assets)
 }
 
 /// What a wildcard says.
+#[tactic(auto, unfolding(crate::specs::Fields::wild_text))]
 fn wild_text(alloc: Global, wild: &Wild) -> Result<String, AllocError>
     ensures { IfOk result (λ text. string_bytes text ≡ wild_text wild.now) }
 {
@@ -169,16 +172,17 @@ fn wild_text(alloc: Global, wild: &Wild) -> Result<String, AllocError>
 }
 
 /// Appends a field that says which assets are taken.
+#[tactic(auto, unfolding(crate::specs::Fields::filter_field))]
 pub(crate) fn push_filter(
     alloc: Global,
     text: &mut String,
     level: u32,
-    name: &str,
+    name: FieldName,
     filter: &Filter,
 ) -> Result<(), AllocError>
     requires { level + 1 < 2 ^ 32 }
     ensures { OnOk result (string_bytes text.new
-        ≡ string_bytes text.old ++ filter_field level name.now filter.now) }
+        ≡ string_bytes text.old ++ filter_field level name filter.now) }
 {
     match filter {
         Filter::Definite(assets) => push_assets(alloc, text, level, name, assets.items()),

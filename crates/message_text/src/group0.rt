@@ -6,6 +6,7 @@ ghost use Rattle.message_text.specs.Messages.{own_fields};
 
 use crate::fields::{push_assets, push_bytes, push_number, push_place, push_weight};
 use crate::lines::push_field;
+use crate::names::FieldName;
 use crate::queries::push_response;
 use crate::several::push_assets_for;
 use crate::words::origin_kind_text;
@@ -29,7 +30,7 @@ pub(crate) fn push_group0(
         Instruction::WithdrawAsset { assets }
         | Instruction::ReserveAssetDeposited { assets }
         | Instruction::ReceiveTeleportedAsset { assets } => {
-            push_assets(alloc, text, level, "assets", assets.items())
+            push_assets(alloc, text, level, FieldName::Assets, assets.items())
         }
         Instruction::QueryResponse {
             query_id,
@@ -37,17 +38,24 @@ pub(crate) fn push_group0(
             max_weight,
             querier,
         } => {
-            push_number(alloc, text, level, "query_id", *query_id)?;
+            push_number(alloc, text, level, FieldName::QueryId, *query_id)?;
             push_response(alloc, text, level, response)?;
-            push_weight(alloc, text, level, "max_weight", *max_weight)?;
-            push_place(alloc, text, level, "querier", querier)
+            push_weight(alloc, text, level, FieldName::MaxWeight, *max_weight)?;
+            push_place(alloc, text, level, FieldName::Querier, querier)
         }
         Instruction::TransferAsset {
             assets,
             beneficiary,
-        } => push_assets_for(alloc, text, level, assets, "beneficiary", beneficiary),
+        } => push_assets_for(
+            alloc,
+            text,
+            level,
+            assets,
+            FieldName::Beneficiary,
+            beneficiary,
+        ),
         Instruction::TransferReserveAsset { assets, dest, .. } => {
-            push_assets_for(alloc, text, level, assets, "dest", dest)
+            push_assets_for(alloc, text, level, assets, FieldName::Dest, dest)
         }
         Instruction::Transact {
             origin_kind,
@@ -55,30 +63,36 @@ pub(crate) fn push_group0(
             call,
         } => {
             let kind = origin_kind_text(*origin_kind);
-            push_field(text, level, "origin_kind", kind)?;
+            push_field(text, level, FieldName::OriginKind, kind)?;
             push_weight(
                 alloc,
                 text,
                 level,
-                "require_weight_at_most",
+                FieldName::RequireWeightAtMost,
                 *require_weight_at_most,
             )?;
-            push_bytes(alloc, text, level, "call", call.items())
+            push_bytes(alloc, text, level, FieldName::Call, call.items())
         }
         Instruction::HrmpNewChannelOpenRequest {
             sender,
             max_message_size,
             max_capacity,
         } => {
-            push_number(alloc, text, level, "sender", u64::from(*sender))?;
+            push_number(alloc, text, level, FieldName::Sender, u64::from(*sender))?;
             push_number(
                 alloc,
                 text,
                 level,
-                "max_message_size",
+                FieldName::MaxMessageSize,
                 u64::from(*max_message_size),
             )?;
-            push_number(alloc, text, level, "max_capacity", u64::from(*max_capacity))
+            push_number(
+                alloc,
+                text,
+                level,
+                FieldName::MaxCapacity,
+                u64::from(*max_capacity),
+            )
         }
         _ => unreachable!(),
     }

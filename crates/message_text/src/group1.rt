@@ -6,6 +6,7 @@ ghost use Rattle.message_text.specs.Messages.{own_fields};
 
 use crate::fields::{push_assets, push_filter, push_number};
 use crate::lines::push_field;
+use crate::names::FieldName;
 use crate::queries::push_info;
 use crate::several::push_taken_for;
 use crate::words::flag_text;
@@ -29,38 +30,63 @@ pub(crate) fn push_group1(
 {
     match instruction {
         Instruction::HrmpChannelAccepted { recipient } => {
-            push_number(alloc, text, level, "recipient", u64::from(*recipient))
+            push_number(
+                alloc,
+                text,
+                level,
+                FieldName::Recipient,
+                u64::from(*recipient),
+            )
         }
         Instruction::HrmpChannelClosing {
             initiator,
             sender,
             recipient,
         } => {
-            push_number(alloc, text, level, "initiator", u64::from(*initiator))?;
-            push_number(alloc, text, level, "sender", u64::from(*sender))?;
-            push_number(alloc, text, level, "recipient", u64::from(*recipient))
+            push_number(
+                alloc,
+                text,
+                level,
+                FieldName::Initiator,
+                u64::from(*initiator),
+            )?;
+            push_number(alloc, text, level, FieldName::Sender, u64::from(*sender))?;
+            push_number(
+                alloc,
+                text,
+                level,
+                FieldName::Recipient,
+                u64::from(*recipient),
+            )
         }
         Instruction::ClearOrigin => Ok(()),
         Instruction::DescendOrigin { interior } => {
             let interior = path_text(alloc, interior)?;
-            push_field(text, level, "interior", &interior)
+            push_field(text, level, FieldName::Interior, &interior)
         }
         Instruction::ReportError { info } => push_info(alloc, text, level, info),
         Instruction::DepositAsset {
             assets,
             beneficiary,
-        } => push_taken_for(alloc, text, level, assets, "beneficiary", beneficiary),
+        } => push_taken_for(
+            alloc,
+            text,
+            level,
+            assets,
+            FieldName::Beneficiary,
+            beneficiary,
+        ),
         Instruction::DepositReserveAsset { assets, dest, .. } => {
-            push_taken_for(alloc, text, level, assets, "dest", dest)
+            push_taken_for(alloc, text, level, assets, FieldName::Dest, dest)
         }
         Instruction::ExchangeAsset {
             give,
             want,
             maximal,
         } => {
-            push_filter(alloc, text, level, "give", give)?;
-            push_assets(alloc, text, level, "want", want.items())?;
-            push_field(text, level, "maximal", flag_text(*maximal))
+            push_filter(alloc, text, level, FieldName::Give, give)?;
+            push_assets(alloc, text, level, FieldName::Want, want.items())?;
+            push_field(text, level, FieldName::Maximal, flag_text(*maximal))
         }
         _ => unreachable!(),
     }

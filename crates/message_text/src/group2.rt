@@ -5,6 +5,7 @@ ghost use Rattle.xcm_program.specs.Indices.{index};
 ghost use Rattle.message_text.specs.Messages.{own_fields};
 
 use crate::fields::{push_asset, push_filter};
+use crate::names::FieldName;
 use crate::queries::push_info;
 use crate::several::{push_limit, push_taken_for};
 use std::alloc::{AllocError, Global};
@@ -29,16 +30,16 @@ pub(crate) fn push_group2(
             assets,
             reserve,
             ..
-        } => push_taken_for(alloc, text, level, assets, "reserve", reserve),
+        } => push_taken_for(alloc, text, level, assets, FieldName::Reserve, reserve),
         Instruction::InitiateTeleport { assets, dest, .. } => {
-            push_taken_for(alloc, text, level, assets, "dest", dest)
+            push_taken_for(alloc, text, level, assets, FieldName::Dest, dest)
         }
         Instruction::ReportHolding { info, assets } => {
             push_info(alloc, text, level, info)?;
-            push_filter(alloc, text, level, "assets", assets)
+            push_filter(alloc, text, level, FieldName::Assets, assets)
         }
         Instruction::BuyExecution { fees, limit } => {
-            push_asset(alloc, text, level, "fees", fees)?;
+            push_asset(alloc, text, level, FieldName::Fees, fees)?;
             push_limit(alloc, text, level, *limit)
         }
         Instruction::RefundSurplus

@@ -6,6 +6,7 @@ ghost use Rattle.message_text.specs.Messages.{own_fields};
 
 use crate::fields::{push_assets, push_number, push_place, push_weight};
 use crate::lines::push_field;
+use crate::names::FieldName;
 use crate::several::push_assets_for;
 use crate::words::failure_text;
 use std::alloc::{AllocError, Global};
@@ -27,30 +28,36 @@ pub(crate) fn push_group3(
 {
     match instruction {
         Instruction::ClaimAsset { assets, ticket } => {
-            push_assets_for(alloc, text, level, assets, "ticket", ticket)
+            push_assets_for(alloc, text, level, assets, FieldName::Ticket, ticket)
         }
-        Instruction::Trap { code } => push_number(alloc, text, level, "code", *code),
+        Instruction::Trap { code } => push_number(alloc, text, level, FieldName::Code, *code),
         Instruction::SubscribeVersion {
             query_id,
             max_response_weight,
         } => {
-            push_number(alloc, text, level, "query_id", *query_id)?;
+            push_number(alloc, text, level, FieldName::QueryId, *query_id)?;
             push_weight(
                 alloc,
                 text,
                 level,
-                "max_response_weight",
+                FieldName::MaxResponseWeight,
                 *max_response_weight,
             )
         }
         Instruction::UnsubscribeVersion => Ok(()),
         Instruction::BurnAsset { assets } | Instruction::ExpectAsset { assets } => {
-            push_assets(alloc, text, level, "assets", assets.items())
+            push_assets(alloc, text, level, FieldName::Assets, assets.items())
         }
-        Instruction::ExpectOrigin { origin } => push_place(alloc, text, level, "origin", origin),
+        Instruction::ExpectOrigin { origin } => push_place(
+            alloc,
+            text,
+            level,
+            FieldName::Origin,
+            origin,
+        ),
         Instruction::ExpectError { error } => {
             let error = failure_text(alloc, error)?;
-            push_field(text, level, "error", &error)
+            push_field(text, level, FieldName::Error, &error)
         }
         _ => unreachable!(),
     }

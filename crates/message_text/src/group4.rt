@@ -6,6 +6,7 @@ ghost use Rattle.message_text.specs.Messages.{own_fields};
 
 use crate::fields::{push_bytes, push_number};
 use crate::lines::push_field;
+use crate::names::FieldName;
 use crate::queries::push_info;
 use crate::several::push_asset_for;
 use crate::words::{junction_text, network_text, status_text};
@@ -30,10 +31,16 @@ pub(crate) fn push_group4(
     match instruction {
         Instruction::ExpectTransactStatus { status } => {
             let status = status_text(alloc, status)?;
-            push_field(text, level, "status", &status)
+            push_field(text, level, FieldName::Status, &status)
         }
         Instruction::QueryPallet { module_name, info } => {
-            push_bytes(alloc, text, level, "module_name", module_name.items())?;
+            push_bytes(
+                alloc,
+                text,
+                level,
+                FieldName::ModuleName,
+                module_name.items(),
+            )?;
             push_info(alloc, text, level, info)
         }
         Instruction::ExpectPallet {
@@ -43,15 +50,27 @@ pub(crate) fn push_group4(
             crate_major,
             min_crate_minor,
         } => {
-            push_number(alloc, text, level, "index", u64::from(*index))?;
-            push_bytes(alloc, text, level, "name", name.items())?;
-            push_bytes(alloc, text, level, "module_name", module_name.items())?;
-            push_number(alloc, text, level, "crate_major", u64::from(*crate_major))?;
+            push_number(alloc, text, level, FieldName::Index, u64::from(*index))?;
+            push_bytes(alloc, text, level, FieldName::Name, name.items())?;
+            push_bytes(
+                alloc,
+                text,
+                level,
+                FieldName::ModuleName,
+                module_name.items(),
+            )?;
             push_number(
                 alloc,
                 text,
                 level,
-                "min_crate_minor",
+                FieldName::CrateMajor,
+                u64::from(*crate_major),
+            )?;
+            push_number(
+                alloc,
+                text,
+                level,
+                FieldName::MinCrateMinor,
                 u64::from(*min_crate_minor),
             )
         }
@@ -59,7 +78,7 @@ pub(crate) fn push_group4(
         Instruction::ClearTransactStatus => Ok(()),
         Instruction::UniversalOrigin { junction } => {
             let junction = junction_text(alloc, junction)?;
-            push_field(text, level, "junction", &junction)
+            push_field(text, level, FieldName::Junction, &junction)
         }
         Instruction::ExportMessage {
             network,
@@ -67,12 +86,12 @@ pub(crate) fn push_group4(
             ..
         } => {
             let network = network_text(alloc, *network)?;
-            push_field(text, level, "network", &network)?;
+            push_field(text, level, FieldName::Network, &network)?;
             let destination = path_text(alloc, destination)?;
-            push_field(text, level, "destination", &destination)
+            push_field(text, level, FieldName::Destination, &destination)
         }
         Instruction::LockAsset { asset, unlocker } => {
-            push_asset_for(alloc, text, level, asset, "unlocker", unlocker)
+            push_asset_for(alloc, text, level, asset, FieldName::Unlocker, unlocker)
         }
         _ => unreachable!(),
     }

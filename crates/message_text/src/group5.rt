@@ -6,6 +6,7 @@ ghost use Rattle.message_text.specs.Messages.{own_fields};
 
 use crate::fields::{push_bytes, push_location, push_place};
 use crate::lines::push_field;
+use crate::names::FieldName;
 use crate::several::{push_asset_for, push_limit};
 use crate::words::flag_text;
 use std::alloc::{AllocError, Global};
@@ -26,30 +27,35 @@ pub(crate) fn push_group5(
 {
     match instruction {
         Instruction::UnlockAsset { asset, target } => {
-            push_asset_for(alloc, text, level, asset, "target", target)
+            push_asset_for(alloc, text, level, asset, FieldName::Target, target)
         }
         Instruction::NoteUnlockable { asset, owner } => {
-            push_asset_for(alloc, text, level, asset, "owner", owner)
+            push_asset_for(alloc, text, level, asset, FieldName::Owner, owner)
         }
         Instruction::RequestUnlock { asset, locker } => {
-            push_asset_for(alloc, text, level, asset, "locker", locker)
+            push_asset_for(alloc, text, level, asset, FieldName::Locker, locker)
         }
         Instruction::SetFeesMode { jit_withdraw } => {
-            push_field(text, level, "jit_withdraw", flag_text(*jit_withdraw))
+            push_field(
+                text,
+                level,
+                FieldName::JitWithdraw,
+                flag_text(*jit_withdraw),
+            )
         }
         Instruction::SetTopic { topic } => {
-            push_bytes(alloc, text, level, "topic", topic.as_slice())
+            push_bytes(alloc, text, level, FieldName::Topic, topic.as_slice())
         }
         Instruction::ClearTopic => Ok(()),
         Instruction::AliasOrigin { target } => {
-            push_location(alloc, text, level, "target", target)
+            push_location(alloc, text, level, FieldName::Target, target)
         }
         Instruction::UnpaidExecution {
             limit,
             check_origin,
         } => {
             push_limit(alloc, text, level, *limit)?;
-            push_place(alloc, text, level, "check_origin", check_origin)
+            push_place(alloc, text, level, FieldName::CheckOrigin, check_origin)
         }
         _ => unreachable!(),
     }

@@ -10,6 +10,7 @@ mod group4;
 mod group5;
 mod lines;
 mod messages;
+mod names;
 mod own;
 mod queries;
 mod several;

@@ -2,6 +2,7 @@
 ghost use Rattle.std.specs.Prelude.{◌≡◌, ◌++◌, OnOk, string_bytes};
 ghost use Rattle.message_text.specs.Lines.{indent, line, field};
 
+use crate::names::{FieldName, name_text};
 use std::alloc::AllocError;
 
 /// Appends two spaces for each level.
@@ -27,14 +28,14 @@ pub(crate) fn push_line(text: &mut String, level: u32, words: &str) -> Result<()
 pub(crate) fn push_field(
     text: &mut String,
     level: u32,
-    name: &str,
+    name: FieldName,
     value: &str,
 ) -> Result<(), AllocError>
     ensures { OnOk result (string_bytes text.new
-        ≡ string_bytes text.old ++ field level name.now value.now) }
+        ≡ string_bytes text.old ++ field level name value.now) }
 {
     push_indent(text, level)?;
-    text.push_str(name)?;
+    text.push_str(name_text(name))?;
     text.push_str(" ")?;
     text.push_str(value)?;
     text.push_str("\n")

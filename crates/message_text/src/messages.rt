@@ -4,12 +4,14 @@ ghost use Rattle.xcm_program.specs.Measure.{deep_count_one, deep_count};
 ghost use Rattle.message_text.specs.Messages.{instruction_text, program_text};
 
 use crate::lines::push_line;
+use crate::names::{FieldName, name_text};
 use crate::own::push_own;
 use std::alloc::{AllocError, Global};
 use xcm_program::{Instruction, Program, inner};
 
 /// Appends an instruction: its name, its fields, and the program inside.
 #[cycle(program)]
+#[tactic(auto, using(crate::specs::Laws::none_text, crate::specs::Laws::some_text, crate::specs::Laws::counted_by))]
 fn push_instruction(
     alloc: Global,
     text: &mut String,
@@ -24,7 +26,7 @@ fn push_instruction(
     push_own(alloc, text, level + 1, instruction)?;
     match inner(instruction) {
         Some(xcm) => {
-            push_line(text, level + 1, "xcm")?;
+            push_line(text, level + 1, name_text(FieldName::Xcm))?;
             push_program(alloc, text, level + 2, xcm)
         }
         None => Ok(()),

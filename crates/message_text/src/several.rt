@@ -1,12 +1,14 @@
 //! Fields that several instructions have together.
-ghost use Rattle.std.specs.Prelude.{◌≡◌, ◌++◌, ◌+◌, ◌<◌, ◌^◌, codes, OnOk, string_bytes};
+ghost use Rattle.std.specs.Prelude.{◌≡◌, ◌++◌, ◌+◌, ◌<◌, ◌^◌, OnOk, string_bytes};
 ghost use Rattle.message_text.specs.Lines.{field};
+ghost use Rattle.message_text.specs.declared.names.FieldName.TheVariants as names;
 ghost use Rattle.message_text.specs.Fields.{assets_field, filter_field};
 ghost use Rattle.message_text.specs.Messages.{location_field};
 ghost use Rattle.message_text.specs.Words.{asset_text, limit_text};
 
 use crate::fields::{push_asset, push_assets, push_filter, push_location};
 use crate::lines::push_field;
+use crate::names::FieldName;
 use crate::words::limit_text;
 use asset_lists::{Asset, Assets, Filter};
 use locations::Location;
@@ -19,15 +21,15 @@ pub(crate) fn push_assets_for(
     text: &mut String,
     level: u32,
     assets: &Assets,
-    name: &str,
+    name: FieldName,
     place: &Location,
 ) -> Result<(), AllocError>
     requires { level + 1 < 2 ^ 32 }
     ensures { OnOk result (string_bytes text.new ≡ string_bytes text.old
-        ++ (assets_field level (codes "assets") assets.now
-        ++ location_field level name.now place.now)) }
+        ++ (assets_field level names.Assets assets.now
+        ++ location_field level name place.now)) }
 {
-    push_assets(alloc, text, level, "assets", assets.items())?;
+    push_assets(alloc, text, level, FieldName::Assets, assets.items())?;
     push_location(alloc, text, level, name, place)
 }
 
@@ -37,15 +39,15 @@ pub(crate) fn push_taken_for(
     text: &mut String,
     level: u32,
     assets: &Filter,
-    name: &str,
+    name: FieldName,
     place: &Location,
 ) -> Result<(), AllocError>
     requires { level + 1 < 2 ^ 32 }
     ensures { OnOk result (string_bytes text.new ≡ string_bytes text.old
-        ++ (filter_field level (codes "assets") assets.now
-        ++ location_field level name.now place.now)) }
+        ++ (filter_field level names.Assets assets.now
+        ++ location_field level name place.now)) }
 {
-    push_filter(alloc, text, level, "assets", assets)?;
+    push_filter(alloc, text, level, FieldName::Assets, assets)?;
     push_location(alloc, text, level, name, place)
 }
 
@@ -55,14 +57,14 @@ pub(crate) fn push_asset_for(
     text: &mut String,
     level: u32,
     asset: &Asset,
-    name: &str,
+    name: FieldName,
     place: &Location,
 ) -> Result<(), AllocError>
     ensures { OnOk result (string_bytes text.new ≡ string_bytes text.old
-        ++ (field level (codes "asset") (asset_text asset.now)
-        ++ location_field level name.now place.now)) }
+        ++ (field level names.Asset (asset_text asset.now)
+        ++ location_field level name place.now)) }
 {
-    push_asset(alloc, text, level, "asset", asset)?;
+    push_asset(alloc, text, level, FieldName::Asset, asset)?;
     push_location(alloc, text, level, name, place)
 }
 
@@ -74,8 +76,8 @@ pub(crate) fn push_limit(
     limit: WeightLimit,
 ) -> Result<(), AllocError>
     ensures { OnOk result (string_bytes text.new ≡ string_bytes text.old
-        ++ field level (codes "limit") (limit_text limit)) }
+        ++ field level names.Limit (limit_text limit)) }
 {
     let limit = limit_text(alloc, limit)?;
-    push_field(text, level, "limit", &limit)
+    push_field(text, level, FieldName::Limit, &limit)
 }

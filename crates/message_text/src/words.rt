@@ -17,6 +17,7 @@ use std::fmt::Write;
 const ROOM: usize = 96;
 
 /// `true` or `false`.
+#[tactic(auto, unfolding(crate::specs::Words::flag_text))]
 pub(crate) fn flag_text(flag: bool) -> &'static str
     ensures { result.now ≡ flag_text flag }
 {
@@ -24,6 +25,7 @@ pub(crate) fn flag_text(flag: bool) -> &'static str
 }
 
 /// The name of a right with which calls are dispatched.
+#[tactic(auto, unfolding(crate::specs::Words::origin_kind_text))]
 pub(crate) fn origin_kind_text(kind: OriginKind) -> &'static str
     ensures { result.now ≡ origin_kind_text kind }
 {
@@ -36,6 +38,7 @@ pub(crate) fn origin_kind_text(kind: OriginKind) -> &'static str
 }
 
 /// The name of what a wildcard means of an id.
+#[tactic(auto, unfolding(crate::specs::Words::wild_fun_text))]
 pub(crate) fn wild_fun_text(fun: WildFun) -> &'static str
     ensures { result.now ≡ wild_fun_text fun }
 {
@@ -56,6 +59,7 @@ pub fn hex_text(alloc: Global, bytes: &[u8]) -> Result<String, AllocError>
 }
 
 /// A limit of weights.
+#[tactic(auto, unfolding(crate::specs::Words::limit_text))]
 pub(crate) fn limit_text(alloc: Global, limit: WeightLimit) -> Result<String, AllocError>
     ensures { IfOk result (λ text. string_bytes text ≡ limit_text limit) }
 {
@@ -66,6 +70,7 @@ pub(crate) fn limit_text(alloc: Global, limit: WeightLimit) -> Result<String, Al
 }
 
 /// How a dispatched call ended.
+#[tactic(auto, unfolding(crate::specs::Words::status_text))]
 pub(crate) fn status_text(alloc: Global, status: &MaybeError) -> Result<String, AllocError>
     ensures { IfOk result (λ text. string_bytes text ≡ status_text status.now) }
 {
@@ -83,6 +88,7 @@ pub(crate) fn status_text(alloc: Global, status: &MaybeError) -> Result<String, 
 }
 
 /// A location, or none.
+#[tactic(auto, unfolding(crate::specs::Words::place_text))]
 pub(crate) fn place_text(alloc: Global, place: &Option<Location>) -> Result<String, AllocError>
     ensures { IfOk result (λ text. string_bytes text ≡ place_text place.now) }
 {
@@ -93,6 +99,7 @@ pub(crate) fn place_text(alloc: Global, place: &Option<Location>) -> Result<Stri
 }
 
 /// An instruction's index and its error, or none.
+#[tactic(auto, unfolding(crate::specs::Words::failure_text))]
 pub(crate) fn failure_text(
     alloc: Global,
     failed: &Option<(u32, XcmError)>,
@@ -121,6 +128,7 @@ pub(crate) fn network_text(alloc: Global, network: NetworkId) -> Result<String, 
 }
 
 /// An asset id: its location, or the hex of its bytes.
+#[tactic(auto, unfolding(crate::specs::Words::id_text))]
 pub(crate) fn id_text(alloc: Global, id: &AssetId) -> Result<String, AllocError>
     ensures { IfOk result (λ text. string_bytes text ≡ id_text id.now) }
 {
@@ -140,6 +148,7 @@ fn instance_text(alloc: Global, which: &Instance) -> Result<String, AllocError>
 }
 
 /// The amount in the asset's smallest unit, or the instance.
+#[tactic(auto, unfolding(crate::specs::Words::fun_text))]
 fn fun_text(alloc: Global, fun: &Fun) -> Result<String, AllocError>
     ensures { IfOk result (λ text. string_bytes text ≡ fun_text fun.now) }
 {

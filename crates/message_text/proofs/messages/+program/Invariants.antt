@@ -1,4 +1,4 @@
-use Rattle.std.proofs.Common.{◌≡◌, ◌++◌, ◌+◌, ◌*◌, ◌<◌, ◌^◌, drop, string_bytes}
+use Rattle.std.proofs.Common.{◌≡◌, ◌++◌, ◌+◌, ◌*◌, ◌≤◌, drop, string_bytes}
 use Rattle.xcm_program.specs.Measure.{deep_count_one, deep_count}
 use Rattle.message_text.specs.Messages.{program_text}
 use Rattle.message_text.proofs.messages.+program.Given as goal
@@ -13,5 +13,5 @@ abbrev pub invariant-push_program-loop-instruction : goal.invariant-push_program
 invariant-push_program-loop-instruction l = record {
   text : string_bytes l.text ++ program_text l.level (drop l.instruction-index l.instruction-items)
       ≡ string_bytes l.initial.text ++ program_text l.level l.program;
-  few : l.level + 2 * deep_count (drop l.instruction-index l.instruction-items) < 2 ^ 32;
+  few : deep_count (drop l.instruction-index l.instruction-items) ≤ deep_count l.program;
 }
