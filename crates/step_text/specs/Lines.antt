@@ -14,7 +14,8 @@ use Rattle.network_coherence.specs.declared.faults.Incoherent.{Incoherent}
 use Rattle.network_coherence.specs.Texts.{incoherent_text}
 use Rattle.ledgers.specs.declared.supplies.Supply.{Supply}
 use Rattle.ledgers.specs.declared.supplies.Backing.{Backing}
-use Rattle.step_text.specs.Texts.{kind_name, total_text, asset_text, assets_text}
+use Rattle.message_text.specs.Words.{asset_text}
+use Rattle.step_text.specs.Texts.{kind_name, total_text, assets_text}
 
 -- ---- blocks
 

@@ -2,14 +2,10 @@
 use Rattle.std.specs.Prelude.{ℕ, ◌==◌, Bool, true, false, List, [], ◌∷◌, ◌++◌, Option, Some, None, codes, decimal, flat_map, if◌then◌else◌}
 use Rattle.locations.specs.declared.relative.Location.{Location}
 use Rattle.location_wire.specs.Texts.{hex_text, location_text}
-use Rattle.asset_lists.specs.declared.units.AssetId.{AssetId}
-use Rattle.asset_lists.specs.declared.units.AssetId.TheVariants.{Concrete, Abstract}
 use Rattle.asset_lists.specs.declared.units.Asset.{Asset}
-use Rattle.asset_lists.specs.declared.units.Fun.{Fun}
-use Rattle.asset_lists.specs.declared.units.Fun.TheVariants as funs
 use Rattle.asset_lists.specs.declared.units.Kind.{Kind}
 use Rattle.asset_lists.specs.declared.units.Kind.TheVariants as kinds
-use Rattle.asset_wire.specs.Spelling.{instance}
+use Rattle.message_text.specs.Words.{asset_text}
 use Rattle.asset_bundles.specs.declared.book.Cause.{Cause}
 use Rattle.asset_bundles.specs.declared.book.Cause.TheVariants.{BurnAsset, LostTeleport, Merged, Saturated}
 use Rattle.asset_bundles.specs.declared.totals.Total.{Total}
@@ -70,18 +66,6 @@ topic_text None = codes "-"
 topic_text (Some topic) = hex_text topic
 
 -- ---- assets
-
-abbrev pub id_text : AssetId → List ℕ
-id_text (Concrete l) = location_text l
-id_text (Abstract bytes) = hex_text bytes
-
--- the amount, or the hex of the instance's spelling
-abbrev pub fun_text : Fun → List ℕ
-fun_text (funs.Fungible amount) = decimal amount
-fun_text (funs.NonFungible which) = codes "instance " ++ hex_text (instance which)
-
-abbrev pub asset_text : Asset → List ℕ
-asset_text a = id_text a.id ++ codes " " ++ fun_text a.fun
 
 -- behind another asset
 abbrev pub next_text : Asset → List ℕ

@@ -3,7 +3,7 @@
 ghost use Rattle.std.specs.Prelude.{◌≡◌, IfOk, string_bytes};
 ghost use Rattle.step_text.specs.Lines.{balance_line, checking_line, locked_line, trap_line, queue_line, supply_line, backing_line};
 
-use crate::assets::{asset_text, assets_text, hex_text};
+use crate::assets::assets_text;
 use crate::words::{Shown, kind_name};
 use crate::{Backing, Supply};
 use asset_lists::{Asset, Kind};
@@ -11,6 +11,7 @@ use asset_locks::Lock;
 use chain_ids::ChainId;
 use location_wire::{location_text, path_text};
 use locations::{Junctions, Location};
+use message_text::{asset_text, hex_text};
 use std::alloc::{AllocError, Global};
 use std::fmt::Write;
 

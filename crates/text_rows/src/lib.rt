@@ -6,4 +6,6 @@ mod blocks;
 #[cfg(test)]
 mod steps;
 #[cfg(test)]
+mod trees;
+#[cfg(test)]
 mod values;
