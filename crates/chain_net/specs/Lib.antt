@@ -3,5 +3,6 @@ pub mod Chains
 pub mod Nets
 pub mod Sound
 pub mod Laws
-pub mod Stops
+pub mod Answers
 pub mod Passing
+pub mod Calls

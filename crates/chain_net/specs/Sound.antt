@@ -4,6 +4,7 @@ use Rattle.std.specs.Coded.{Coded, Coded-set, coded_ℕ, coded_bool, coded_list,
 use Rattle.std.specs.FinMap as map
 use Rattle.amounts.specs.Amounts.{amount, empty}
 use Rattle.std.specs.List.{AllByRecursion, AllByRecursion-prop}
+use Rattle.std.proofs.Math.Logic.{∥∥₁_prop}
 use Rattle.asset_lists.specs.contracts.units.AssetId.{the_row as asset_id}
 use Rattle.asset_lists.specs.contracts.units.Instance.{the_row as instance}
 use Rattle.asset_lists.specs.declared.units.AssetId.TheVariants.{Concrete}
@@ -26,6 +27,8 @@ use Rattle.exec_base.specs.Part.{ChainPart}
 use Rattle.exec_rules.specs.Readiness.{IsInOrder, IsAtRest}
 use Rattle.network_steps.specs.Worlds.{World}
 use Rattle.message_shapes.specs.Shapes.{AllShaped}
+use Rattle.network_spec.specs.declared.network.NetworkSpec.{NetworkSpec}
+use Rattle.net_laws.specs.Runs.{HasPast}
 use Rattle.chain_state.specs.declared.state.ChainState.{ChainState}
 use Rattle.chain_state.specs.PartOf.{part_of}
 
@@ -55,6 +58,10 @@ AreBetweenSteps states = (place : ℕ) (state : ChainState) → slice_get states
 -- no message that waits has another shape than the seven; said in this way the fact has one proof at most
 abbrev pub NoneMisshaped : World → Type 0
 NoneMisshaped w = (AllShaped w → ⊥) → ⊥
+
+-- steps led to this world, from the first world of the document on
+abbrev pub IsReached : NetworkSpec → World → Type 0
+IsReached spec w = ∥ HasPast spec w ∥₁
 
 -- ---- each of these facts has one proof at most, so that a network can keep them: a reader may skip the rest
 abbrev coded_bundle : Coded Bundle
@@ -107,3 +114,6 @@ never_prop a b = absurd a
 
 pub NoneMisshaped-prop : (stopped : Bool) (w : World) → IsProp (stopped ≡ false → NoneMisshaped w)
 NoneMisshaped-prop stopped w = Π_prop (λ (going : stopped ≡ false). Π_prop (λ (other : AllShaped w → ⊥). never_prop))
+
+pub IsReached-prop : (stopped : Bool) (spec : NetworkSpec) (w : World) → IsProp (stopped ≡ false → IsReached spec w)
+IsReached-prop stopped spec w = Π_prop (λ (going : stopped ≡ false). ∥∥₁_prop)

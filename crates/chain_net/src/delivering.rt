@@ -4,12 +4,17 @@ ghost use Rattle.chain_ids.specs.declared.chain.ChainId.{ChainId};
 ghost use Rattle.std.specs.Option.{option_map};
 ghost use Rattle.channel_parts.specs.Channels.{Outgoing};
 ghost use Rattle.chain_queues.specs.Queues.{waiting_of, oldest, channel_to};
-ghost use Rattle.network_steps.specs.Steps.{deliver};
+ghost use Rattle.network_steps.specs.Steps.{deliver, Deliver};
 ghost use Rattle.chain_state.specs.PartOf.{part_of};
 ghost use Rattle.chain_net.specs.Chains.{name_of};
 ghost use Rattle.chain_net.specs.Nets.{world_of, spec_of, is_stopped, trace_of, stepped};
 ghost use Rattle.chain_net.specs.Sound.{AreBetweenSteps};
-ghost use Rattle.chain_net.specs.Stops.{DeliverStops, IsReadable};
+ghost use Rattle.message_shapes.specs.Shapes.{AllShaped};
+ghost use Rattle.conserved_networks.specs.Kept.{IsCoherent};
+ghost use Rattle.net_laws.specs.Promises.{KeepsAssets, PaysInFull};
+ghost use Rattle.authority.specs.Speakers.{HasAuthority};
+ghost use Rattle.net_laws.specs.Stops.{DeliverStops};
+ghost use Rattle.chain_net.specs.Answers.{IsReadable};
 ghost use Rattle.chain_net.specs.Passing.{IsOther, IsCarried, IsPassed, IsPassStopped};
 
 use crate::Net;
@@ -20,6 +25,7 @@ use chain_queues::Queued;
 use chain_state::ChainState;
 use exec_admission::ChainRules;
 use message_shapes::law_of_shapes;
+use net_laws::{law_of_nets, law_of_pasts, law_of_stopped_messages, law_of_stopped_nets};
 use network_steps::StepResult;
 use std::alloc::{AllocError, Global};
 use xcm_program::Outcome;
@@ -73,8 +79,21 @@ impl Net {
         ensures stopped { OnErr result (is_stopped self.new ≡ true) }
         ensures stops { OnErr result (DeliverStops (world_of self.old) from to (world_of self.new)) }
         ensures spec { spec_of self.new ≡ spec_of self.old }
+        // A coherent network keeps each asset and backs each derivative, and in every network each message that waits has one of the seven shapes,
+        // whether the call answers or is out of memory.
+        ensures kept { IsCoherent (spec_of self.old) → KeepsAssets (spec_of self.old) (world_of self.new) }
+        ensures shaped { AllShaped (world_of self.new) }
+        // No account has less but the sending chain's at the receiver, or a pool's, whose product doesn't fall.
+        ensures authorized { HasAuthority (world_of self.old) (Deliver from to) (world_of self.new) }
+        // In a coherent network what a delivery would take is paid, now and in the next drain, and nothing was burned in excess.
+        ensures paid { OnOk result (IsCoherent (spec_of self.old) → PaysInFull (spec_of self.old) (world_of self.new)) }
     {
-        law_of_shapes(); // For the prover alone.
+        // For the prover alone.
+        law_of_shapes();
+        law_of_pasts();
+        law_of_nets();
+        law_of_stopped_nets();
+        law_of_stopped_messages();
         self.stopped = true;
         self.acted = None;
         let answer = self.try_deliver(from, to)?;

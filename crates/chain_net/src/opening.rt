@@ -6,6 +6,9 @@ ghost use Rattle.network_genesis.specs.Genesis.{part_at, first_world};
 ghost use Rattle.network_genesis.specs.Openable.{IsOpenable};
 ghost use Rattle.chain_state.specs.PartOf.{part_of};
 ghost use Rattle.chain_net.specs.Nets.{world_of, spec_of, is_stopped, trace_of};
+ghost use Rattle.message_shapes.specs.Shapes.{AllShaped};
+ghost use Rattle.conserved_networks.specs.Kept.{IsCoherent};
+ghost use Rattle.net_laws.specs.Promises.{KeepsAssets, PaysInFull};
 
 use crate::Net;
 use barriers::Barrier;
@@ -13,6 +16,7 @@ use chain_ids::ChainId;
 use chain_state::ChainState;
 use exec_admission::ChainRules;
 use message_shapes::law_of_shapes;
+use net_laws::{law_of_nets, law_of_pasts};
 use network_spec::{ChainSpec, NetworkSpec};
 use plain_lists::Listed;
 use std::alloc::{AllocError, Global};
@@ -84,8 +88,15 @@ impl Net {
         ensures spec { IfOk result (λ net. spec_of net ≡ spec) }
         ensures running { IfOk result (λ net. is_stopped net ≡ false) }
         ensures quiet { IfOk result (λ net. trace_of net ≡ []) }
+        // Nothing waits; and a coherent network keeps each asset, backs each derivative, and pays what is to be taken from now on.
+        ensures kept { IfOk result (λ net. IsCoherent spec → KeepsAssets spec (world_of net)) }
+        ensures shaped { IfOk result (λ net. AllShaped (world_of net)) }
+        ensures paid { IfOk result (λ net. IsCoherent spec → PaysInFull spec (world_of net)) }
     {
-        law_of_shapes(); // For the prover alone.
+        // For the prover alone.
+        law_of_shapes();
+        law_of_pasts();
+        law_of_nets();
         let names = names(alloc, spec.chains.items())?;
         let rules = all_rules(alloc, spec.chains.items())?;
         let chains = all_states(alloc, &spec)?;

@@ -16,7 +16,8 @@ ghost use Rattle.network_steps.specs.Acting.{begun, acted};
 ghost use Rattle.network_steps.specs.Steps.{name_at};
 ghost use Rattle.chain_state.specs.PartOf.{part_of};
 ghost use Rattle.chain_net.specs.Sound.{IsBetweenSteps, IsListedCargo};
-ghost use Rattle.chain_net.specs.Stops.{IsActed, IsStoppedHere, arrived, IsUnread, IsStoppedThere};
+ghost use Rattle.net_laws.specs.Stops.{IsStoppedHere, arrived, IsStoppedThere};
+ghost use Rattle.chain_net.specs.Answers.{IsActed, IsUnread};
 
 use chain_ids::ChainId;
 use chain_queues::{Cargo, Queued};

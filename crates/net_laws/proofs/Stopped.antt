@@ -18,7 +18,7 @@ use Rattle.conserved_runs.specs.Views.{seen}
 use Rattle.conserved_steps.specs.Views.{views}
 use Rattle.conserved_steps.specs.Deliveries.{views_set}
 use Rattle.conserved_steps.specs.Worlds.{IsFirst, AllKept, IsExecution, begins, where_stopped, IsDelivery, StopsAt, where_delivery_stopped}
-use Rattle.chain_net.specs.Stops.{ExecStopsAt, ExecStops, StandsAt, DeliverStops, DrainStops}
+use Rattle.net_laws.specs.Stops.{ExecStopsAt, ExecStops, StandsAt, DeliverStops, DrainStops}
 use Rattle.conserved_networks.specs.Drained.{delivery_steps}
 use Rattle.conserved_networks.specs.DrainedLaws.{last_behind, same_deliveries}
 use Rattle.net_laws.proofs.Lasts.{all_last}

@@ -3,7 +3,11 @@ use Rattle.std.specs.Prelude.{List}
 use Rattle.std.specs.List.{AllByRecursion}
 use Rattle.network_spec.specs.declared.network.NetworkSpec.{NetworkSpec}
 use Rattle.network_genesis.specs.Genesis.{first_world, order_of}
-use Rattle.network_steps.specs.Steps.{Step, worlds}
+use Rattle.network_steps.specs.Worlds.{World}
+use Rattle.network_steps.specs.Steps.{Step, worlds, last_world}
+use Rattle.message_shapes.specs.Shapes.{AllShaped}
+use Rattle.net_laws.specs.Stops.{DrainStops}
+use Rattle.net_laws.specs.Promises.{KeepsAssets, StopsWithAuthority}
 use Rattle.audit_laws.specs.Printed.{IsPrinted}
 use Rattle.authority.specs.Products.{NoProductFalls}
 use Rattle.authority.specs.Speakers.{AreAuthorized}
@@ -19,6 +23,10 @@ use Rattle.overflow_laws.specs.Excess.{NoExcessEver}
 abbrev pub singly : NetworkSpec → List Step → List Step
 singly spec steps = by_deliveries (order_of spec) (first_world spec) steps
 
+-- the world behind the steps
+abbrev pub world_behind_steps : NetworkSpec → List Step → World
+world_behind_steps spec steps = last_world (order_of spec) (first_world spec) steps
+
 -- of every network that is read, coherent or not
 pub record IsLawful (spec : NetworkSpec) (steps : List Step) : Type 0 where
   -- an account falls only by its own executions on its chain, by a message of its chain, or as a pool's
@@ -30,6 +38,10 @@ pub record IsLawful (spec : NetworkSpec) (steps : List Step) : Type 0 where
   pub floors : AllByRecursion AllHoldFloors (worlds (order_of spec) (first_world spec) steps)
   -- each message that waits has one of the seven shapes
   pub shaped : NetworkShaped spec steps
+  -- and so it is where memory is refused to a drain behind the steps: its whole deliveries and the one at which it stopped lower no account but the
+  -- sending chain's, or a pool's, and each message that waits keeps its shape
+  pub drains : (now : World) → DrainStops (order_of spec) (world_behind_steps spec steps) now
+      → StopsWithAuthority (order_of spec) (world_behind_steps spec steps) now × AllShaped now
 
 -- of every network in which none of the seven causes is found
 pub record IsSecure (spec : NetworkSpec) (steps : List Step) : Type 0 where
@@ -40,6 +52,9 @@ pub record IsSecure (spec : NetworkSpec) (steps : List Step) : Type 0 where
   pub sound : NetworkSound spec steps
   -- and so it is inside each run, wherever it comes, and where memory is refused to it
   pub inside : NetworkRunsKept spec steps
+  -- and where memory is refused to a drain behind the steps, however many deliveries it has made
+  pub drains : (now : World) → DrainStops (order_of spec) (world_behind_steps spec steps) now
+      → KeepsAssets spec now
   -- each withdrawal that is admitted is paid, and each teleport that is admitted is received, so that nothing of it is lost
   pub paid : WithdrawalsPaid (order_of spec) (first_world spec) steps
   pub received : TeleportsReceived (order_of spec) (first_world spec) steps

@@ -16,6 +16,7 @@ use conserved_networks::{
     law_of_shaped_networks,
 };
 use lock_laws::law_of_kept_worlds;
+use net_laws::{law_of_stopped_messages, law_of_stopped_nets};
 use network_laws::law_of_read_networks;
 use overflow_laws::{law_of_unbarred_deposits, law_of_unsaturated_worlds};
 use paid_messages::{law_of_lowered_accounts, law_of_paid_messages};
@@ -46,4 +47,6 @@ pub(crate) fn law_of_inputs()
     law_of_unsaturated_worlds();
     law_of_unbarred_deposits();
     law_of_printed_networks();
+    law_of_stopped_nets();
+    law_of_stopped_messages();
 }

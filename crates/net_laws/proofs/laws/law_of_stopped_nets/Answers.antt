@@ -11,8 +11,7 @@ use Rattle.conservation.specs.Headline.{IsKept}
 use Rattle.conserved_steps.specs.Views.{views}
 use Rattle.conserved_steps.specs.Worlds.{IsFirst, AllKept, IsExecution, begins, where_stopped, IsDelivery, StopsAt, where_delivery_stopped}
 use Rattle.conserved_networks.specs.Kept.{IsCoherent}
-use Rattle.chain_net.specs.Nets.{world_of, spec_of}
-use Rattle.chain_net.specs.Stops.{ExecStops, DeliverStops, DrainStops}
+use Rattle.net_laws.specs.Stops.{ExecStops, DeliverStops, DrainStops}
 use Rattle.net_laws.proofs.Stopped.{exec_kept, deliver_kept, drain_kept}
 use Rattle.net_laws.proofs.laws.law_of_stopped_nets.Goals as goal
 
@@ -27,13 +26,13 @@ returns c =
     → IsKept (views (first_world spec)) (where_delivery_stopped d.world d.from d.sender d.to d.receiver now) =
     λ spec coherent steps d now. c.law_of_conserved_deliveries.ensures.stopped (order_of spec) (first_world spec) steps d now (first spec coherent) in
     record {
-      exec = λ old new steps chain account bytes coherent run stops.
-          exec_kept (order_of (spec_of old)) (first_world (spec_of old)) (first (spec_of old) coherent) (kept (spec_of old) coherent) (here (spec_of old) coherent) (there (spec_of old) coherent) steps chain account bytes (world_of new)
-          (subst (λ (w : World). ExecStops w chain account bytes (world_of new)) run stops);
-      deliver = λ old new steps from to coherent run stops.
-          deliver_kept (order_of (spec_of old)) (first_world (spec_of old)) (first (spec_of old) coherent) (kept (spec_of old) coherent) (here (spec_of old) coherent) (there (spec_of old) coherent) steps from to (world_of new)
-          (subst (λ (w : World). DeliverStops w from to (world_of new)) run stops);
-      drain = λ old new steps coherent run stops.
-          drain_kept (order_of (spec_of old)) (first_world (spec_of old)) (first (spec_of old) coherent) (kept (spec_of old) coherent) (here (spec_of old) coherent) (there (spec_of old) coherent) steps (world_of new)
-          (subst (λ (w : World). DrainStops (order_of (spec_of old)) w (world_of new)) run stops);
+      exec = λ spec w now chain account bytes coherent past stops.
+          exec_kept (order_of spec) (first_world spec) (first spec coherent) (kept spec coherent) (here spec coherent) (there spec coherent) past.steps chain account bytes now
+          (subst (λ (v : World). ExecStops v chain account bytes now) past.run stops);
+      deliver = λ spec w now from to coherent past stops.
+          deliver_kept (order_of spec) (first_world spec) (first spec coherent) (kept spec coherent) (here spec coherent) (there spec coherent) past.steps from to now
+          (subst (λ (v : World). DeliverStops v from to now) past.run stops);
+      drain = λ spec w now coherent past stops.
+          drain_kept (order_of spec) (first_world spec) (first spec coherent) (kept spec coherent) (here spec coherent) (there spec coherent) past.steps now
+          (subst (λ (v : World). DrainStops (order_of spec) v now) past.run stops);
     }
