@@ -109,14 +109,13 @@ abbrev pub usage_reply : Reply
 usage_reply = ends usage_text Usage
 
 -- the report of generated steps
-abbrev pub generated_reply : Result (List ℕ) NetworkFault → Reply
-generated_reply (Ok text) = ends text Done
-generated_reply (Err fault) = ends (network_refused_line fault) NetworkRefused
+abbrev pub generated_reply : ℕ → ℕ → Reply
+generated_reply number steps = ends (generated number steps) Done
 
 -- what is written for an input where this is asked for, and the answer
 abbrev pub task_reply : Task → List ℕ → Reply
 task_reply (Run audit) bytes = bytes_reply audit bytes
-task_reply (Generate number steps) bytes = generated_reply (generated number steps)
+task_reply (Generate number steps) bytes = generated_reply number steps
 task_reply tasks.Usage bytes = usage_reply
 
 -- what is written for these words and this input, and the answer

@@ -4,6 +4,7 @@ use Rattle.network_steps.specs.Steps.{Step}
 use Rattle.network_genesis.specs.Genesis.{first_world, order_of}
 use Rattle.network_genesis.specs.Openable.{IsOpenable}
 use Rattle.conserved_networks.specs.Kept.{IsCoherent}
+use Rattle.generator_network.specs.Network.{document, network}
 use Rattle.xcm_cli.specs.Promise.{IsLawful, IsSecure}
 use Rattle.xcm_cli.proofs.FirstWorlds.{nothing_locked}
 use Rattle.xcm_cli.proofs.Telling.{input_tells}
@@ -40,5 +41,7 @@ returns c =
     record {
       lawful = λ part spec steps read. lawful spec steps (opens part spec read);
       kept = λ part spec steps read none. secure spec steps (record { openable = opens part spec read; coherent = none });
+      drawn_lawful = λ steps. lawful network steps (opens document network c.law_of_document.ensures.accepted);
+      drawn_kept = λ steps. secure network steps (record { openable = opens document network c.law_of_document.ensures.accepted; coherent = c.law_of_document.ensures.coherent });
       told = input_tells;
     }
