@@ -1,5 +1,5 @@
 -- What is written for an input, and how the run ends. Source: this project's own rule.
-use Rattle.std.specs.Prelude.{ℕ, ◌+◌, ◌&&◌, ◌||◌, nat_le, List, [], ◌∷◌, ◌++◌, length, Bool, true, false, filter, Result, Ok, Err, codes, String, if◌then◌else◌}
+use Rattle.std.specs.Prelude.{ℕ, ◌+◌, ◌≤◌, ◌&&◌, ◌||◌, nat_le, List, [], ◌∷◌, ◌++◌, length, Bool, true, false, filter, Result, Ok, Err, codes, String, if◌then◌else◌}
 use Rattle.std.specs.declared.alloc.Global.{Global}
 use Rattle.input_lines.specs.Lines.{lines_of, text_of, has_mark, network_part, later_lines, lines_through, bytes_through, without_feed, ends_with}
 use Rattle.input_lines.specs.Step.{read_line}
@@ -55,6 +55,12 @@ max_line = 262144
 abbrev pub fits_limits : ℕ → List ℕ → Bool
 fits_limits taken line =
     nat_le (length (without_feed line)) max_line && nat_le (taken + length line) max_input
+
+-- So many bytes of an input, the last of which begin a line, are within the limits so far. While the network part is read, that
+-- line may be the one that ends it, of which at most four bytes can have come: `---` and a carriage return.
+abbrev pub IsWithin : Bool → ℕ → ℕ → Type 0
+IsWithin false size begun = size ≤ max_network + 4
+IsWithin true size begun = (begun ≤ max_line) × (size ≤ max_input)
 
 -- ---- the run
 
