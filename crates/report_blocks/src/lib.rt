@@ -2,6 +2,8 @@
 #![tactic(auto)]
 
 mod audited;
+mod kept_block;
+mod marking;
 mod opening;
 mod reads;
 mod served;
@@ -11,6 +13,7 @@ mod title;
 mod titles;
 
 pub use audited::AuditedNet;
+pub(crate) use kept_block::KeptBlock;
 pub use opening::{open_audited, open_network, opening_text};
 pub use served::Served;
 pub use serving::serve;

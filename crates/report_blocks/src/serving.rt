@@ -38,13 +38,13 @@ pub fn serve(
         Title::Step(words) => words,
     };
     let mut text = heading(alloc, number, words)?;
-    let plan = net.plan.take();
-    let lines = step_lines(alloc, &mut net.net, &plan, line)?;
-    net.plan = plan;
+    let mut kept = net.kept.take();
+    let lines = step_lines(alloc, &mut net.net, &mut kept, line)?;
     text.push_str(&lines)?;
     if audit {
-        let sums = supply_block(alloc, &net.net, &net.plan)?;
+        let sums = supply_block(alloc, &net.net, &mut kept)?;
         text.push_str(&sums)?;
     }
+    net.kept = kept;
     Ok(Served::Block(text))
 }

@@ -3,18 +3,20 @@ ghost use Rattle.std.specs.Prelude.{◌≡◌, IfOk, OnOk, false, string_bytes};
 ghost use Rattle.chain_net.specs.Nets.{world_of, spec_of, is_stopped};
 ghost use Rattle.report_blocks.specs.Asked.{asked_of};
 ghost use Rattle.report_blocks.specs.Blocks.{drain_lines, lines_of_step};
-ghost use Rattle.report_blocks.specs.Tables.{IsPlanOf};
+ghost use Rattle.report_blocks.specs.Tables.{IsKeptOf};
 ghost use Rattle.report_blocks.specs.Serving.{IsRun, IsStep};
 ghost use Rattle.network_steps.specs.Steps.{drain, after, exec, deliver, claim};
 ghost use Rattle.network_steps.specs.Steps as steps;
 ghost use Rattle.network_genesis.specs.Genesis.{order_of};
 
+use crate::KeptBlock;
+use crate::marking::{mark, mark_all};
 use crate::reads::{balances_block, queues_block, supply_block, traps_block};
 use chain_ids::ChainId;
 use chain_net::Net;
 use input_lines::Line;
 use message_shapes::law_of_drains;
-use report_text::SupplyPlan;
+use network_steps::{law_of_settings, law_of_steps};
 use std::alloc::{AllocError, Global};
 use step_text::{drained_line, step_text};
 
@@ -23,40 +25,50 @@ use step_text::{drained_line, step_text};
 pub(crate) fn step_lines(
     alloc: Global,
     net: &mut Net,
-    plan: &Option<SupplyPlan>,
+    kept: &mut Option<KeptBlock>,
     line: &Line,
 ) -> Result<String, AllocError>
     requires running { is_stopped net.old ≡ false }
     requires step { IsStep (asked_of line.now) }
-    requires plan { IsPlanOf plan.now (world_of net.old) }
+    requires kept { IsKeptOf kept.old (world_of net.old) }
     ensures run { IfOk result
         (λ text. IsRun (spec_of net.old) (world_of net.old) (asked_of line.now) (string_bytes text)
         (world_of net.new)) }
+    ensures kept { OnOk result (IsKeptOf kept.new (world_of net.new)) }
     ensures running { OnOk result (is_stopped net.new ≡ false) }
     ensures spec { spec_of net.new ≡ spec_of net.old }
 {
+    law_of_steps(); // For the prover alone.
+    law_of_settings(); // For the prover alone.
     match line {
         Line::Exec {
             chain,
             account,
             message,
         } => {
+            mark(kept, net, *chain);
             let answer = net.exec(*chain, account, message.items())?;
             step_text(alloc, net.trace(), &answer)
         }
         Line::Deliver { from, to } => {
+            mark(kept, net, *from);
+            mark(kept, net, *to);
             let answer = net.deliver(*from, *to)?;
             step_text(alloc, net.trace(), &answer)
         }
         Line::Claim { from, to, message } => {
+            mark(kept, net, *from);
             let answer = net.claim(*from, *to, message.items())?;
             step_text(alloc, net.trace(), &answer)
         }
-        Line::Drain => drained(alloc, net),
+        Line::Drain => {
+            mark_all(kept);
+            drained(alloc, net)
+        }
         Line::Balances => balances_block(alloc, net),
         Line::Traps => traps_block(alloc, net),
         Line::Queues => queues_block(alloc, net),
-        Line::Supply => supply_block(alloc, net, plan),
+        Line::Supply => supply_block(alloc, net, kept),
         Line::NoStep | Line::Refused => unreachable!(),
     }
 }

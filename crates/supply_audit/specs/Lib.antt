@@ -9,3 +9,6 @@ pub mod RowPlaces
 pub mod Covers
 pub mod PlaceLaws
 pub mod ListLaws
+pub mod Stale
+pub mod StaleLaws
+pub mod Renewed
