@@ -1,5 +1,5 @@
 //! What messages that wait carry of an asset.
-ghost use Rattle.std.specs.Prelude.{◌≡◌, ◌+◌, min, map, sum_by};
+ghost use Rattle.std.specs.Prelude.{◌≡◌, min, map, sum_by};
 ghost use Rattle.std.specs.List.{list_all};
 ghost use Rattle.asset_lists.specs.Units.{unit_of};
 ghost use Rattle.asset_bundles.specs.Bundles.{bundle_of, is_asset};
@@ -63,20 +63,19 @@ fn by_way(way: Way, shipment: &Shipment, id: &AssetId, kind: Kind) -> u128
     }
 }
 
-/// A total with what a message carries of an asset. It saturates at 2^160-1.
-fn with_carried(total: Total, what: Carried, id: &AssetId, kind: Kind, cargo: &Cargo) -> Total
-    ensures { total_value result
-        ≡ min (total_value total + carried what id.now kind cargo.now) most_burned }
+/// What a message carries of an asset.
+fn carried(what: Carried, id: &AssetId, kind: Kind, cargo: &Cargo) -> Total
+    ensures { total_value result ≡ min (carried what id.now kind cargo.now) most_burned }
 {
     match (what, cargo) {
         (Carried::Teleports, Cargo::Away(shipment)) => {
-            total.plus(by_way(Way::Teleport, shipment, id, kind))
+            none().plus(by_way(Way::Teleport, shipment, id, kind))
         }
         (Carried::Withdrawals, Cargo::Away(shipment)) => {
-            total.plus(by_way(Way::Withdrawal, shipment, id, kind))
+            none().plus(by_way(Way::Withdrawal, shipment, id, kind))
         }
-        (Carried::Deposits, Cargo::Deposit(list)) => total.sum(deposited(list, id, kind)),
-        _ => total,
+        (Carried::Deposits, Cargo::Deposit(list)) => deposited(list, id, kind),
+        _ => none(),
     }
 }
 
@@ -87,7 +86,7 @@ fn in_channel(what: Carried, id: &AssetId, kind: Kind, queue: &Queue) -> Total
 {
     let mut total = none();
     for i in 0..queue.waiting.len() {
-        total = with_carried(total, what, id, kind, &queue.waiting[i].cargo);
+        total = total.sum(carried(what, id, kind, &queue.waiting[i].cargo));
     }
     total
 }
