@@ -4,14 +4,12 @@ use Rattle.std.specs.Prelude.{codes, decimal, if◌then◌else◌}
 use Rattle.std.proofs.lemmas.List.Folds.{flat_map-map}
 use Rattle.asset_bundles.specs.Books.{most_burned}
 use Rattle.exec_base.specs.Part.{ChainPart}
-use Rattle.supply_audit.specs.declared.figures.Carried.TheVariants.{Teleports}
-use Rattle.supply_audit.specs.declared.figures.Figure.TheVariants.{Placed, Burned, Sent}
 use Rattle.supply_audit.specs.Places.{table_of}
 use Rattle.supply_audit.specs.RowPlaces.{placed_over, flight_over, burned_over}
 use Rattle.supply_audit.specs.Covered.{Covered}
 use Rattle.supply_audit.specs.Covers.{of_cover, held_at, owed_at, coming_at, standing_at, own_touched, kept_touched}
 use Rattle.supply_audit.specs.Stale.{are_touched, Agree}
-use Rattle.supply_audit.specs.StaleLaws.{same_over, same_held, same_coming, same_standing}
+use Rattle.supply_audit.specs.StaleLaws.{same_placed, same_flight, same_burned, same_held, same_coming, same_standing}
 use Rattle.report_text.specs.Sums.{sum_text}
 use Rattle.report_text.specs.Block.{supply_block}
 use Rattle.report_text.specs.Planned.{PlannedSupply, PlannedBacking, Plan}
@@ -67,9 +65,9 @@ module _ (stale : List Bool) (before parts : List ChainPart) (agree : Agree stal
       elim (are_touched stale e.places) as (λ b. are_touched stale e.places ≡ b → (if b then kept_supply parts e else kept_supply before e) ≡ kept_supply parts e) [
         | true ↦ λ q. refl
         | false ↦ λ q.
-            let home = sym (same_over stale before parts agree Placed e.places q) in
-            let flight = sym (same_over stale before parts agree (Sent Teleports None) e.places q) in
-            let burned = sym (same_over stale before parts agree Burned e.places q) in
+            let home = sym (same_placed stale before parts agree e.places q) in
+            let flight = sym (same_flight stale before parts agree e.places q) in
+            let burned = sym (same_burned stale before parts agree e.places q) in
             λ i. record { entry = e; home = min (home i) most_burned; flight = min (flight i) most_burned; burned = min (burned i) most_burned }
       ] refl
 

@@ -44,3 +44,7 @@ text_saturates n =
           let high = ltb-false n (2 ^ 128) large in
           rw (is_more (min n (2 ^ 160 - 1)) (2 ^ 128) (omega (arith, high))) refl
     ] refl
+
+-- a total is one that fits
+pub total_fits : (t : Total) → t.high < 2 ^ 32 → t.low < 2 ^ 128 → total_value t ≡ min (total_value t) most_burned
+total_fits t high low = omega (arith, high, low)

@@ -5,11 +5,11 @@ use Rattle.std.proofs.lemmas.Bool.{or_parts}
 use Rattle.std.proofs.lemmas.List.Sums.{sum_by-cons}
 use Rattle.trust_tables.specs.Accounts.{sovereign_account}
 use Rattle.exec_base.specs.Part.{ChainPart}
-use Rattle.supply_audit.specs.declared.figures.Carried.TheVariants.{Deposits, Withdrawals}
+use Rattle.supply_audit.specs.declared.figures.Carried.TheVariants.{Teleports, Deposits, Withdrawals}
 use Rattle.supply_audit.specs.declared.figures.Figure.{Figure}
-use Rattle.supply_audit.specs.declared.figures.Figure.TheVariants.{Placed, Account, Sent}
+use Rattle.supply_audit.specs.declared.figures.Figure.TheVariants.{Placed, Burned, Account, Sent}
 use Rattle.supply_audit.specs.declared.place.Place.{Place}
-use Rattle.supply_audit.specs.RowPlaces.{place_share, share_in, over_places}
+use Rattle.supply_audit.specs.RowPlaces.{place_share, share_in, over_places, placed_over, flight_over, burned_over}
 use Rattle.supply_audit.specs.Covered.{Covered}
 use Rattle.supply_audit.specs.Covers.{of_cover, held_at, coming_at, standing_at, own_touched, kept_touched}
 use Rattle.supply_audit.specs.Stale.{is_stale, are_touched, Agree}
@@ -22,6 +22,15 @@ module _ (stale : List Bool) (before parts : List ChainPart) (agree : Agree stal
       let here : place_share f parts place ≡ place_share f before place = ap (share_in f place.row) (agree place.chain both.0) in
       let rest = same_over f places both.1 in
       sum_by-cons (place_share f parts) place places ∙ (λ i. here i + rest i) ∙ sym (sum_by-cons (place_share f before) place places)
+
+  pub same_placed : (places : List Place) → are_touched stale places ≡ false → placed_over parts places ≡ placed_over before places
+  same_placed places none = same_over Placed places none
+
+  pub same_flight : (places : List Place) → are_touched stale places ≡ false → flight_over parts places ≡ flight_over before places
+  same_flight places none = same_over (Sent Teleports None) places none
+
+  pub same_burned : (places : List Place) → are_touched stale places ≡ false → burned_over parts places ≡ burned_over before places
+  same_burned places none = same_over Burned places none
 
   pub same_held : (cover : Option Covered) → kept_touched stale cover ≡ false → of_cover (held_at parts) cover ≡ of_cover (held_at before) cover
   same_held None none = refl

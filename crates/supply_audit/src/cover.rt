@@ -1,5 +1,5 @@
 //! Where a derivative and what covers it stand.
-ghost use Rattle.std.specs.Prelude.{◌≡◌, ◌++◌, min, map, IfOk, OnOk, Some, None, option_map, position, slice_get, true};
+ghost use Rattle.std.specs.Prelude.{◌≡◌, ◌+◌, ◌++◌, min, map, IfOk, OnOk, Some, None, option_map, position, slice_get, true};
 ghost use Rattle.std.specs.Option.{option_copied};
 ghost use Rattle.asset_bundles.specs.Books.{most_burned};
 ghost use Rattle.asset_bundles.specs.Totals.{total_value};
@@ -8,6 +8,9 @@ ghost use Rattle.trust_tables.specs.Chains.{path_of_site};
 ghost use Rattle.chain_ids.specs.Chains.{same_chain};
 ghost use Rattle.chain_state.specs.PartOf.{part_of};
 ghost use Rattle.supply_audit.specs.Places.{table_of};
+ghost use Rattle.supply_audit.specs.declared.figures.Carried.TheVariants.{Withdrawals};
+ghost use Rattle.supply_audit.specs.declared.figures.Figure.TheVariants.{Placed, Sent};
+ghost use Rattle.supply_audit.specs.RowPlaces as places;
 ghost use Rattle.supply_audit.specs.RowPlaces.{chain_places, place_if};
 ghost use Rattle.supply_audit.specs.Covers.{cover_at, cover_between, cover_by, cover_of_row, cover_of_chain, number_of, of_cover, held_at, owed_at, coming_at, standing_at, own_touched, kept_touched};
 ghost use Rattle.supply_audit.specs.Renewed.{HasFigures, IsRenewed};
@@ -132,7 +135,7 @@ impl Cover {
         row: usize,
     ) -> Result<Option<Cover>, AllocError>
         ensures { IfOk result (λ cover. cover
-            ≡ cover_at (map table_of (map part_of chains.now)) chain row) }
+            ≡ cplaces.over_places (map table_of (map part_of chains.now)) chain row) }
     {
         let number = number_of(chains, chain);
         match listed_chain(chains, number) {
@@ -162,10 +165,7 @@ impl Cover {
         ensures { total_value result
             ≡ min (standing_at (map part_of chains.now) self.now) most_burned }
     {
-        let to_there = Figure::Sent(Carried::Withdrawals, Some(self.there));
-        let placed = over_places(Figure::Placed, chains, self.own.as_slice());
-        let leaving = over_places(to_there, chains, self.own.as_slice());
-        placed.sum(leaving)
+        standing_over(chains, self.there, self.own.as_slice())
     }
 
     /// What the chain has, with what is on its way to it and back.
@@ -196,6 +196,17 @@ fn owed_over(
     let coming = over_places(to_here, chains, kept);
     let leaving = over_places(to_there, chains, own);
     placed.sum(coming).sum(leaving)
+}
+
+/// What stands at a chain's own places, with what is on its way back to the reserve as withdrawals.
+fn standing_over(chains: &[ChainState], there: ChainId, own: &[Place]) -> Total
+    ensures { total_value result ≡ min (places.over_places Placed (map part_of chains.now) own.now
+        + places.over_places (Sent Withdrawals (Some there)) (map part_of chains.now) own.now) most_burned }
+{
+    let to_there = Figure::Sent(Carried::Withdrawals, Some(there));
+    let placed = over_places(Figure::Placed, chains, own);
+    let leaving = over_places(to_there, chains, own);
+    placed.sum(leaving)
 }
 
 /// How a derivative is covered, by where it stands: what the chain's account at the reserve has, and what is owed: what the chain has, what
