@@ -1,8 +1,9 @@
 //! Calls of a chain by Transact.
 
-use crate::parts::{Grown, ONCE, Part, Piece};
-use crate::running::Row;
+use crate::running::{RUN, Row, check_rows, exec_report, run_of};
+use std::alloc::Global;
 use std::process::Abort;
+use std::test::Fail;
 use xcm_cli::Status;
 
 /// Three chains, of which the relay serves calls.
@@ -17,7 +18,7 @@ const CALLING: &str = r#"{"format":2,"chains":[
 "channels":[{"from":"relay","to":2000},{"from":2000,"to":"relay"},
 {"from":"relay","to":2001},{"from":2001,"to":"relay"}]}"#;
 
-pub(crate) const CALLS: &[Row] = &[
+const CALLS: &[Row] = &[
     Row {
         name: "a call that moves an amount",
         network: CALLING,
@@ -112,13 +113,30 @@ exec 2000 0x0101010101010101010101010101010101010101010101010101010101010101 040
     },
 ];
 
-/// What stands before a call on a relay chain that serves calls.
-const CALLED: Part = Part::Text(
-    "{\"format\":2,\"chains\":[{\"calls\":true}]}\n---\nexec relay 0x0101010101010101010101010101010101010101010101010101010101010101 04040601",
-);
+#[test]
+fn calls_have_their_reports(rt: HostRuntime) -> Result<(), Fail> {
+    check_rows(&rt, rt.alloc(), RUN, CALLS)
+}
 
-/// What is written before what the call does.
-const OPENED: Part = Part::Text("coherent\n#1 exec relay\n");
+/// So many remarks of so many zeros, with the spelling of their length. The text is of hex digits.
+fn remarks(alloc: Global, count: u32, length: &str, zeros: u32) -> Result<String, Fail> {
+    let mut text = String::new(alloc);
+    for _ in 0..count {
+        text.push_str("00")?;
+        text.push_str(length)?;
+        for _ in 0..zeros {
+            text.push_str("00")?;
+        }
+    }
+    Ok(text)
+}
+
+/// An input of one Transact on a relay chain that serves calls: what the call may weigh, how long it is, and what stands before its remarks.
+fn transact_input(alloc: Global, head: &str, remarks: &str) -> Result<String, Fail> {
+    Ok(format!(in alloc;
+        "{{\"format\":2,\"chains\":[{{\"calls\":true}}]}}\n---\nexec relay 0x0101010101010101010101010101010101010101010101010101010101010101 04040601{head}{remarks}\n"
+    )?)
+}
 
 const BATCH_RAN: &str = "  p0 Transact ok
   call batch ok
@@ -136,66 +154,26 @@ const NO_CALL: &str = "  p0 Transact FailedToDecode
   = incomplete 10000 1000 FailedToDecode
 ";
 
-/// Calls at their limits and past them: what the call may weigh, how long it is, and its remarks of zeros.
-pub(crate) const REMARKS: &[Grown] = &[
-    Grown {
-        name: "a batch of 8 remarks of 1,024 bytes",
-        input: &[
-            CALLED,
-            Part::Text("a18c110e69800320"),
-            Part::Each(8, &[Piece::Text("000110"), Piece::Times("00", 1024)]),
-            Part::Text("\n"),
-        ],
-        status: Status::Done,
-        report: &[OPENED, Part::Text(BATCH_RAN)],
-        pieces: ONCE,
-    },
-    Grown {
-        name: "a batch of one weight too little",
-        input: &[
-            CALLED,
-            Part::Text("017d810c69800320"),
-            Part::Each(8, &[Piece::Text("000110"), Piece::Times("00", 1024)]),
-            Part::Text("\n"),
-        ],
-        status: Status::Done,
-        report: &[OPENED, Part::Text(NOT_ENOUGH_WEIGHT)],
-        pieces: ONCE,
-    },
-    Grown {
-        name: "a remark of 1,025 bytes",
-        input: &[
-            CALLED,
-            Part::Text("a18c110e1110"),
-            Part::Each(1, &[Piece::Text("000510"), Piece::Times("00", 1025)]),
-            Part::Text("\n"),
-        ],
-        status: Status::Done,
-        report: &[OPENED, Part::Text(NO_CALL)],
-        pieces: ONCE,
-    },
-    Grown {
-        name: "a batch of 9 remarks",
-        input: &[
-            CALLED,
-            Part::Text("a18c110e500324"),
-            Part::Each(9, &[Piece::Text("0000"), Piece::Times("00", 0)]),
-            Part::Text("\n"),
-        ],
-        status: Status::Done,
-        report: &[OPENED, Part::Text(NO_CALL)],
-        pieces: ONCE,
-    },
-    Grown {
-        name: "a remark of 65,000 bytes",
-        input: &[
-            CALLED,
-            Part::Text("a18c110ea2f70300"),
-            Part::Each(1, &[Piece::Text("00"), Piece::Times("00", 64_999)]),
-            Part::Text("\n"),
-        ],
-        status: Status::Done,
-        report: &[OPENED, Part::Text(NO_CALL)],
-        pieces: ONCE,
-    },
+/// Calls of remarks: what stands before them, how many there are, how long each is said to be and is, and what is written.
+const REMARKS: &[(&str, u32, &str, u32, &str)] = &[
+    // a batch of 8 remarks of 1,024 bytes, and of one weight too little
+    ("a18c110e69800320", 8, "0110", 1024, BATCH_RAN),
+    ("017d810c69800320", 8, "0110", 1024, NOT_ENOUGH_WEIGHT),
+    // a remark of 1,025 bytes, a batch of 9, and 65,000 bytes
+    ("a18c110e1110", 1, "0510", 1025, NO_CALL),
+    ("a18c110e500324", 9, "00", 0, NO_CALL),
+    ("a18c110ea2f70300", 1, "", 64_999, NO_CALL),
 ];
+
+#[test]
+fn calls_at_their_limits_and_past_them(rt: HostRuntime) -> Result<(), Fail> {
+    let alloc = rt.alloc();
+    for (head, count, length, zeros, lines) in REMARKS {
+        let text = remarks(alloc, *count, length, *zeros)?;
+        let input = transact_input(alloc, head, &text)?;
+        let report = exec_report(alloc, lines)?;
+        let ran = run_of(alloc, RUN, input.as_bytes(), 65_536, &[], &[])?;
+        assert!(&rt; ran.has(Status::Done, report.as_bytes()));
+    }
+    Ok(())
+}

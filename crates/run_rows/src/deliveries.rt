@@ -1,11 +1,12 @@
 //! Deliveries, queries and claims of a network, and its delivery fees.
 
 use crate::documents::THREE_CHAINS;
-use crate::running::Row;
+use crate::running::{RUN, Row, check_rows};
+use std::test::Fail;
 use xcm_cli::Status;
 
 /// Deliveries without a message, and messages of claims.
-pub(crate) const DELIVERIES: &[Row] = &[
+const DELIVERIES: &[Row] = &[
     Row {
         name: "a delivery without a message",
         network: THREE_CHAINS,
@@ -63,8 +64,13 @@ deliver 2000 relay
     },
 ];
 
+#[test]
+fn deliveries_have_their_reports(rt: HostRuntime) -> Result<(), Fail> {
+    check_rows(&rt, rt.alloc(), RUN, DELIVERIES)
+}
+
 /// Answers to a query.
-pub(crate) const QUERIES: &[Row] = &[
+const QUERIES: &[Row] = &[
     Row {
         name: "a query is answered once",
         network: r#"{"chains":[
@@ -160,8 +166,13 @@ drain
     },
 ];
 
+#[test]
+fn queries_have_their_reports(rt: HostRuntime) -> Result<(), Fail> {
+    check_rows(&rt, rt.alloc(), RUN, QUERIES)
+}
+
 /// Sending through a channel that has a fee.
-pub(crate) const DELIVERY_FEES: &[Row] = &[
+const DELIVERY_FEES: &[Row] = &[
     Row {
         name: "a delivery fee that is drawn from the account",
         network: r#"{"format":2,"chains":[
@@ -235,3 +246,8 @@ balances
 ",
     },
 ];
+
+#[test]
+fn delivery_fees_have_their_reports(rt: HostRuntime) -> Result<(), Fail> {
+    check_rows(&rt, rt.alloc(), RUN, DELIVERY_FEES)
+}

@@ -127,20 +127,28 @@ fn calls_for(bytes: usize, piece: usize) -> usize
     bytes.div_ceil(piece)
 }
 
-/// Whether a source that fails at this read leaves the reports of the lines before.
-fn source_fails(alloc: Global, input: &str, failing: usize, piece: usize) -> Result<bool, Fail>
-    requires { 0 < piece }
-{
-    // one more, which finds the end of the input
-    let calls = calls_for(input.len(), piece).saturating_add(1);
-    let status = if failing <= calls {
-        Status::ReadFault
-    } else {
-        Status::Done
-    };
-    let report = report_of(alloc, failing.saturating_sub(1).saturating_mul(piece))?;
-    let ran = run_of(alloc, RUN, input.as_bytes(), piece, &[failing as u64], &[])?;
-    Ok(ran.has(status, report.as_bytes()))
+#[test]
+fn a_source_that_fails_leaves_the_reports_of_the_lines_before(rt: HostRuntime) -> Result<(), Fail> {
+    let alloc = rt.alloc();
+    let input = whole_input(alloc)?;
+    for piece in [64usize, 65_536] {
+        // one more, which finds the end of the input
+        let calls = calls_for(input.len(), piece).saturating_add(1);
+        for failing in 1usize..21 {
+            let ran = run_of(alloc, RUN, input.as_bytes(), piece, &[failing as u64], &[])?;
+            let status = if failing <= calls {
+                Status::ReadFault
+            } else {
+                Status::Done
+            };
+            let report = report_of(alloc, (failing - 1).saturating_mul(piece))?;
+            assert!(&rt;
+                ran.has(status, report.as_bytes()),
+                "at read {failing} by {piece} bytes"
+            );
+        }
+    }
+    Ok(())
 }
 
 /// The answer and what stands written where a write fails and each takes at most so many bytes: each line's report is written by calls of
@@ -164,36 +172,19 @@ fn front_of(alloc: Global, failing: usize, piece: usize) -> Result<(Status, Vec<
     Ok((Status::Done, front))
 }
 
-/// Whether a sink that fails at this write leaves what was written before.
-fn sink_fails(alloc: Global, input: &str, failing: usize, piece: usize) -> Result<bool, Fail>
-    requires { 0 < piece }
-{
-    let (status, front) = front_of(alloc, failing, piece)?;
-    let ran = run_of(alloc, RUN, input.as_bytes(), piece, &[], &[failing as u64])?;
-    Ok(ran.has(status, front.as_slice()))
-}
-
 #[test]
-fn what_fails_leaves_what_was_told_before(rt: HostRuntime) -> Result<(), Fail> {
+fn a_sink_that_fails_leaves_what_was_written_before(rt: HostRuntime) -> Result<(), Fail> {
     let alloc = rt.alloc();
     let input = whole_input(alloc)?;
-    for failing in 1usize..21 {
-        assert!(&rt;
-            source_fails(alloc, &input, failing, 64)?,
-            "at read {failing}"
-        );
-        assert!(&rt;
-            source_fails(alloc, &input, failing, 65_536)?,
-            "at read {failing}"
-        );
-        assert!(&rt;
-            sink_fails(alloc, &input, failing, 64)?,
-            "at write {failing}"
-        );
-        assert!(&rt;
-            sink_fails(alloc, &input, failing, 65_536)?,
-            "at write {failing}"
-        );
+    for piece in [64usize, 65_536] {
+        for failing in 1usize..21 {
+            let ran = run_of(alloc, RUN, input.as_bytes(), piece, &[], &[failing as u64])?;
+            let (status, front) = front_of(alloc, failing, piece)?;
+            assert!(&rt;
+                ran.has(status, front.as_slice()),
+                "at write {failing} by {piece} bytes"
+            );
+        }
     }
     Ok(())
 }

@@ -1,11 +1,12 @@
 //! What stays at one chain: fees, traps, claims and burns.
 
 use crate::documents::ONE_ACCOUNT;
-use crate::running::Row;
+use crate::running::{RUN, Row, check_rows};
+use std::test::Fail;
 use xcm_cli::Status;
 
 /// Fees, traps, claims and burns at the relay chain.
-pub(crate) const HOLDINGS: &[Row] = &[
+const HOLDINGS: &[Row] = &[
     Row {
         name: "two purchases and their refund",
         network: r#"{"chains":[{"unit_weight":[1500000000000,0],"max_weight":[10000000000000,0],
@@ -103,3 +104,8 @@ supply
 ",
     },
 ];
+
+#[test]
+fn what_is_held_has_its_reports(rt: HostRuntime) -> Result<(), Fail> {
+    check_rows(&rt, rt.alloc(), RUN, HOLDINGS)
+}

@@ -1,7 +1,6 @@
 //! Lines, words, and how a run ends.
 
-use crate::running::{AUDIT, PIECES, RUN, answers};
-use std::alloc::Global;
+use crate::running::{AUDIT, RUN, check, run_of};
 use std::test::Fail;
 use xcm_cli::Status;
 
@@ -96,28 +95,47 @@ const LINES: &[(&str, Status, &str)] = &[
     ),
 ];
 
-/// Whether lines behind a relay chain without assets have this answer and this report, with the sums behind each step and without.
-fn are_answered(alloc: Global, lines: &str, status: Status, report: &str) -> Result<bool, Fail> {
-    let input = format!(in alloc; "{{}}\n---\n{lines}")?;
-    let (input, report) = (input.as_bytes(), report.as_bytes());
-    Ok(
-        answers(alloc, RUN, PIECES, input, status, report)?
-            && answers(alloc, AUDIT, PIECES, input, status, report)?,
-    )
+#[test]
+fn inputs_have_their_reports(rt: HostRuntime) -> Result<(), Fail> {
+    for (input, status, report) in INPUTS {
+        check(&rt, rt.alloc(), RUN, input, *status, report)?;
+    }
+    Ok(())
 }
 
 #[test]
-fn inputs_have_their_reports(rt: HostRuntime) -> Result<(), Fail> {
+fn lines_have_their_reports(rt: HostRuntime) -> Result<(), Fail> {
     let alloc = rt.alloc();
-    for (input, status, report) in INPUTS {
-        let (bytes, lines) = (input.as_bytes(), report.as_bytes());
-        assert!(&rt;
-            answers(alloc, RUN, PIECES, bytes, *status, lines)?,
-            "{input}"
-        );
-    }
     for (lines, status, report) in LINES {
-        assert!(&rt; are_answered(alloc, lines, *status, report)?, "{lines}");
+        let input = format!(in alloc; "{{}}\n---\n{lines}")?;
+        check(&rt, alloc, RUN, &input, *status, report)?;
+        check(&rt, alloc, AUDIT, &input, *status, report)?;
+    }
+    Ok(())
+}
+
+/// Words that the program doesn't have.
+const OTHER_WORDS: &[&[&str]] = &[
+    &["run", "now"],
+    &["run", "--audit", "now"],
+    &["--audit", "run"],
+    &["Run"],
+    &[""],
+    &[],
+    &["--help"],
+    &["--version"],
+    &["gen"],
+    &["gen", "1"],
+    &["gen", "1", "1", "1"],
+    &["Gen", "1", "1"],
+];
+
+#[test]
+fn other_words_are_answered_by_the_usage(rt: HostRuntime) -> Result<(), Fail> {
+    let usage = "usage: run | run --audit | gen NUMBER STEPS\n";
+    for words in OTHER_WORDS {
+        let ran = run_of(rt.alloc(), words, b"{}", 4096, &[1], &[])?;
+        assert!(&rt; ran.has(Status::Usage, usage.as_bytes()));
     }
     Ok(())
 }

@@ -28,13 +28,9 @@ mod messages;
 #[cfg(test)]
 mod openings;
 #[cfg(test)]
-mod parts;
-#[cfg(test)]
 mod pools;
 #[cfg(test)]
 mod running;
-#[cfg(test)]
-mod tables;
 #[cfg(test)]
 mod teleports;
 #[cfg(test)]

@@ -1,6 +1,7 @@
 //! Locks.
 
-use crate::running::Row;
+use crate::running::{RUN, Row, check_rows};
+use std::test::Fail;
 use xcm_cli::Status;
 
 /// Three chains, of which the relay and parachain 2000 serve locks and let each other's messages in.
@@ -17,7 +18,7 @@ const LOCKING: &str = r#"{"format":2,"chains":[
 "channels":[{"from":"relay","to":2000},{"from":2000,"to":"relay"},
 {"from":"relay","to":2001},{"from":2001,"to":"relay"}]}"#;
 
-pub(crate) const LOCKS: &[Row] = &[
+const LOCKS: &[Row] = &[
     Row {
         name: "a lock, and the message that tells of it",
         network: LOCKING,
@@ -226,3 +227,8 @@ exec relay 0x0101010101010101010101010101010101010101010101010101010101010101 04
 ",
     },
 ];
+
+#[test]
+fn locks_have_their_reports(rt: HostRuntime) -> Result<(), Fail> {
+    check_rows(&rt, rt.alloc(), RUN, LOCKS)
+}

@@ -1,8 +1,10 @@
 //! Messages on a relay chain without assets.
 
-use crate::parts::{Grown, ONCE, Part, Piece};
-use crate::running::PIECES;
-use crate::tables::{EXECUTE, NOT_A_MESSAGE, STEP, Table};
+use crate::running::{RUN, check, exec_input, exec_report, run_of};
+use std::alloc::Global;
+use std::fmt::Write;
+use std::process::Abort;
+use std::test::Fail;
 use xcm_cli::Status;
 
 /// Messages of traps, in both versions, and what is written below their heading.
@@ -110,90 +112,137 @@ const PROGRAMS: &[(&str, &str)] = &[
     ),
 ];
 
-/// What is no message.
+/// What is no message, and why.
 const NO_MESSAGES: &[(&str, &str)] = &[
-    // 5 in two bytes
-    ("0404191500", NOT_A_MESSAGE),
-    // a byte left over
-    ("04041901010a", NOT_A_MESSAGE),
-    // 2^30-1 in the longer form
-    ("04041903ffffff3f", NOT_A_MESSAGE),
-    // a code past the range
-    ("04041917ffffffffffffffff01", NOT_A_MESSAGE),
-    // fewer bytes than instructions
-    ("0408", NOT_A_MESSAGE),
-    // a trap without its code
-    ("040419", NOT_A_MESSAGE),
-    // a version alone
-    ("04", NOT_A_MESSAGE),
-    // the older version alone
-    ("03", NOT_A_MESSAGE),
-    // no byte
-    ("0x", NOT_A_MESSAGE),
-    // an instruction that is cut off
-    ("04080a00", NOT_A_MESSAGE),
-    // an index past the last instruction
-    ("040430", NOT_A_MESSAGE),
-    // an amount of 0
+    ("5 in two bytes", "0404191500"),
+    ("a byte left over", "04041901010a"),
+    ("2^30-1 in the longer form", "04041903ffffff3f"),
+    ("a code past the range", "04041917ffffffffffffffff01"),
+    ("fewer bytes than instructions", "0408"),
+    ("a trap without its code", "040419"),
+    ("a version alone", "04"),
+    ("the older version alone", "03"),
+    ("no byte", "0x"),
+    ("an instruction that is cut off", "04080a00"),
+    ("an index past the last instruction", "040430"),
     (
+        "an amount of 0",
         "040400040100000000000000000000000000000000000000000000000000000000000000000004",
-        NOT_A_MESSAGE,
     ),
-    // depth 9
-    ("0404160416041604160416041604160416040a", NOT_A_MESSAGE),
-    // depth 10 round nothing
-    ("0404160416041604160416041604160416041600", NOT_A_MESSAGE),
-    // a count of 2^32-1
-    ("0403ffffffff", NOT_A_MESSAGE),
-    // a call of 2^32-1 bytes
-    ("04040600000003ffffffff", NOT_A_MESSAGE),
-    // 101 instructions, of which one comes
-    ("0495010a00", NOT_A_MESSAGE),
-    // 101 instructions, of which some come
-    ("0495010a16040a", NOT_A_MESSAGE),
+    ("depth 9", "0404160416041604160416041604160416040a"),
+    (
+        "depth 10 round nothing",
+        "0404160416041604160416041604160416041600",
+    ),
+    ("a count of 2^32-1", "0403ffffffff"),
+    ("a call of 2^32-1 bytes", "04040600000003ffffffff"),
+    ("101 instructions, of which one comes", "0495010a00"),
+    ("101 instructions, of which some come", "0495010a16040a"),
 ];
 
 /// Messages that are refused for another cause.
 const OTHER_CAUSES: &[(&str, &str)] = &[
-    ("05", "  = message refused: unknown version\n"),
-    ("00", "  = message refused: unknown version\n"),
+    ("unknown version", "05"),
+    ("unknown version", "00"),
     (
+        "not convertible",
         "030400040100000000000000000000000000000000000000000000000000000000000000000004",
-        "  = message refused: not convertible\n",
     ),
 ];
 
-/// Messages on a relay chain without assets.
-pub(crate) const MESSAGES: &[Table] = &[
-    Table {
-        network: "{}",
-        before: EXECUTE,
-        status: Status::Done,
-        opening: STEP,
-        rows: TRAPS,
-    },
-    Table {
-        network: "{}",
-        before: EXECUTE,
-        status: Status::Done,
-        opening: STEP,
-        rows: PROGRAMS,
-    },
-    Table {
-        network: "{}",
-        before: EXECUTE,
-        status: Status::Done,
-        opening: STEP,
-        rows: NO_MESSAGES,
-    },
-    Table {
-        network: "{}",
-        before: EXECUTE,
-        status: Status::Done,
-        opening: STEP,
-        rows: OTHER_CAUSES,
-    },
-];
+/// The message has this report below its heading, however the input is cut.
+fn check_message(rt: &impl Abort, alloc: Global, message: &str, lines: &str) -> Result<(), Fail> {
+    let input = exec_input(alloc, message)?;
+    let report = exec_report(alloc, lines)?;
+    check(rt, alloc, RUN, &input, Status::Done, &report)
+}
+
+/// The message is refused for this cause.
+fn check_refused(rt: &impl Abort, alloc: Global, message: &str, cause: &str) -> Result<(), Fail> {
+    let lines = format!(in alloc; "  = message refused: {cause}\n")?;
+    check_message(rt, alloc, message, &lines)
+}
+
+#[test]
+fn traps_have_their_reports(rt: HostRuntime) -> Result<(), Fail> {
+    for (message, lines) in TRAPS {
+        check_message(&rt, rt.alloc(), message, lines)?;
+    }
+    Ok(())
+}
+
+#[test]
+fn programs_have_their_reports(rt: HostRuntime) -> Result<(), Fail> {
+    for (message, lines) in PROGRAMS {
+        check_message(&rt, rt.alloc(), message, lines)?;
+    }
+    Ok(())
+}
+
+#[test]
+fn what_is_no_message_is_refused(rt: HostRuntime) -> Result<(), Fail> {
+    for (_, message) in NO_MESSAGES {
+        check_refused(&rt, rt.alloc(), message, "not a message")?;
+    }
+    Ok(())
+}
+
+#[test]
+fn messages_are_refused_for_other_causes(rt: HostRuntime) -> Result<(), Fail> {
+    for (cause, message) in OTHER_CAUSES {
+        check_refused(&rt, rt.alloc(), message, cause)?;
+    }
+    Ok(())
+}
+
+/// A text so many times.
+fn repeated(alloc: Global, text: &str, times: u32) -> Result<String, Fail> {
+    let mut all = String::new(alloc);
+    for _ in 0..times {
+        write!(all, "{text}")?;
+    }
+    Ok(all)
+}
+
+/// The lines of 100 instructions ClearOrigin.
+fn hundred_lines(alloc: Global) -> Result<String, Fail> {
+    let mut lines = String::new(alloc);
+    for index in 0u32..100 {
+        write!(lines, "  p{index} ClearOrigin ok\n")?;
+    }
+    lines.push_str("  end origin - topic - surplus 0 0 refunded 0 0\n  = complete 100000 10000\n")?;
+    Ok(lines)
+}
+
+#[test]
+fn a_message_has_at_most_100_instructions(rt: HostRuntime) -> Result<(), Fail> {
+    let alloc = rt.alloc();
+    let hundred = repeated(alloc, "0a", 100)?;
+    let most = format!(in alloc; "049101{hundred}")?;
+    let lines = hundred_lines(alloc)?;
+    check_message(&rt, alloc, &most, &lines)?;
+    let more = format!(in alloc; "0495010a{hundred}")?;
+    check_refused(&rt, alloc, &more, "not a message")
+}
+
+/// Whether a message of a version and so many bytes of 0 is refused for this cause.
+fn zeros_are_refused(alloc: Global, zeros: u32, cause: &str) -> Result<bool, Fail> {
+    let rest = repeated(alloc, "00", zeros)?;
+    let message = format!(in alloc; "04{rest}")?;
+    let input = exec_input(alloc, &message)?;
+    let ran = run_of(alloc, RUN, input.as_bytes(), 65_536, &[], &[])?;
+    let lines = format!(in alloc; "  = message refused: {cause}\n")?;
+    let report = exec_report(alloc, &lines)?;
+    Ok(ran.has(Status::Done, report.as_bytes()))
+}
+
+#[test]
+fn a_message_has_at_most_65536_bytes(rt: HostRuntime) -> Result<(), Fail> {
+    let alloc = rt.alloc();
+    assert!(&rt; zeros_are_refused(alloc, 65_535, "not a message")?);
+    assert!(&rt; zeros_are_refused(alloc, 65_536, "too long")?);
+    Ok(())
+}
 
 /// A message that sends 1,000 to a parachain, for a payment there.
 const TRANSFER: [u8; 62] = [
@@ -202,104 +251,23 @@ const TRANSFER: [u8; 62] = [
     2,
 ];
 
-/// What stands before a message that is executed on a relay chain without assets.
-const EXECUTED: Part = Part::Text(
-    "{}\n---\nexec relay 0x0101010101010101010101010101010101010101010101010101010101010101 ",
-);
-
-/// What is written before what the message does.
-const OPENED: Part = Part::Text("coherent\n#1 exec relay\n");
-
-/// Messages at their limits and past them, and the proper fronts of a message.
-pub(crate) const LONG: &[Grown] = &[
-    Grown {
-        name: "100 instructions",
-        input: &[
-            EXECUTED,
-            Part::Text("049101"),
-            Part::Each(100, &[Piece::Text("0a")]),
-            Part::Text("\n"),
-        ],
-        status: Status::Done,
-        report: &[
-            OPENED,
-            Part::Each(
-                100,
-                &[
-                    Piece::Text("  p"),
-                    Piece::Count(1, 0),
-                    Piece::Text(" ClearOrigin ok\n"),
-                ],
-            ),
-            Part::Text(
-                "  end origin - topic - surplus 0 0 refunded 0 0\n  = complete 100000 10000\n",
-            ),
-        ],
-        pieces: PIECES,
-    },
-    Grown {
-        name: "101 instructions",
-        input: &[
-            EXECUTED,
-            Part::Text("0495010a"),
-            Part::Each(100, &[Piece::Text("0a")]),
-            Part::Text("\n"),
-        ],
-        status: Status::Done,
-        report: &[OPENED, Part::Text(NOT_A_MESSAGE)],
-        pieces: PIECES,
-    },
-    Grown {
-        name: "65,536 bytes",
-        input: &[
-            EXECUTED,
-            Part::Text("04"),
-            Part::Each(65_535, &[Piece::Text("00")]),
-            Part::Text("\n"),
-        ],
-        status: Status::Done,
-        report: &[OPENED, Part::Text(NOT_A_MESSAGE)],
-        pieces: ONCE,
-    },
-    Grown {
-        name: "65,537 bytes",
-        input: &[
-            EXECUTED,
-            Part::Text("04"),
-            Part::Each(65_536, &[Piece::Text("00")]),
-            Part::Text("\n"),
-        ],
-        status: Status::Done,
-        report: &[OPENED, Part::Text("  = message refused: too long\n")],
-        pieces: ONCE,
-    },
-    Grown {
-        name: "fronts of 2 to 61 bytes",
-        input: &[
-            Part::Text("{}\n---\n"),
-            Part::Each(
-                60,
-                &[
-                    Piece::Text(
-                        "exec relay 0x0101010101010101010101010101010101010101010101010101010101010101 ",
-                    ),
-                    Piece::Front(&TRANSFER),
-                    Piece::Text("\n"),
-                ],
-            ),
-        ],
-        status: Status::Done,
-        report: &[
-            Part::Text("coherent\n"),
-            Part::Each(
-                60,
-                &[
-                    Piece::Text("#"),
-                    Piece::Count(1, 1),
-                    Piece::Text(" exec relay\n  = message refused: not a message\n"),
-                ],
-            ),
-        ],
-        pieces: PIECES,
-    },
-];
+#[test]
+fn no_front_of_a_message_is_one(rt: HostRuntime) -> Result<(), Fail> {
+    let alloc = rt.alloc();
+    let mut front = String::from_str(alloc, "04")?;
+    let mut input = String::from_str(alloc, "{}\n---\n")?;
+    let mut report = String::from_str(alloc, "coherent\n")?;
+    for number in 1usize..61 {
+        let byte = TRANSFER[number];
+        write!(front, "{byte:02x}")?;
+        write!(
+            input,
+            "exec relay 0x0101010101010101010101010101010101010101010101010101010101010101 {front}\n"
+        )?;
+        write!(
+            report,
+            "#{number} exec relay\n  = message refused: not a message\n"
+        )?;
+    }
+    check(&rt, alloc, RUN, &input, Status::Done, &report)
+}

@@ -1,11 +1,12 @@
 //! Networks that open, and documents that are refused.
 
 use crate::documents::THREE_CHAINS;
-use crate::running::Row;
+use crate::running::{RUN, Row, check_rows};
+use std::test::Fail;
 use xcm_cli::Status;
 
 /// Networks that open.
-pub(crate) const OPENINGS: &[Row] = &[
+const OPENINGS: &[Row] = &[
     Row {
         name: "a network of three chains opens",
         network: THREE_CHAINS,
@@ -59,8 +60,13 @@ pub(crate) const OPENINGS: &[Row] = &[
     },
 ];
 
+#[test]
+fn openings_have_their_reports(rt: HostRuntime) -> Result<(), Fail> {
+    check_rows(&rt, rt.alloc(), RUN, OPENINGS)
+}
+
 /// Documents that are refused.
-pub(crate) const REFUSED: &[Row] = &[
+const REFUSED: &[Row] = &[
     Row {
         name: "a holding that is too small",
         network: r#"{"chains":[{"max_holding":19}]}"#,
@@ -111,3 +117,8 @@ pub(crate) const REFUSED: &[Row] = &[
 ",
     },
 ];
+
+#[test]
+fn documents_are_refused_by_their_first_fault(rt: HostRuntime) -> Result<(), Fail> {
+    check_rows(&rt, rt.alloc(), RUN, REFUSED)
+}

@@ -1,8 +1,10 @@
 //! Exchanges with a chain's pools.
 
-use crate::parts::{Grown, ONCE, Part, Piece};
-use crate::running::Row;
+use crate::running::{RUN, Row, check_rows, run_of};
+use std::alloc::Global;
+use std::fmt::Write;
 use std::process::Abort;
+use std::test::Fail;
 use xcm_cli::Status;
 
 /// A relay chain with a pool of its two assets, a million of each in the pool's account, and an account that has ten thousand of the first.
@@ -13,7 +15,7 @@ const EXCHANGING: &str = r#"{"format":2,"chains":[
  {"who":"0x0101010101010101010101010101010101010101010101010101010101010101","asset":"0","amount":"10000"}],
  "pools":[{"first":"0","second":"0/GeneralIndex(1)","fee":3}]}]}"#;
 
-pub(crate) const EXCHANGES: &[Row] = &[
+const EXCHANGES: &[Row] = &[
     Row {
         name: "all that is given goes to the pool, and the most that it gives comes out",
         network: EXCHANGING,
@@ -147,108 +149,149 @@ balances
     },
 ];
 
-/// The account of a pool, by its place.
-const POOL: Piece = Piece::Hex(1);
+#[test]
+fn exchanges_have_their_reports(rt: HostRuntime) -> Result<(), Fail> {
+    check_rows(&rt, rt.alloc(), RUN, EXCHANGES)
+}
 
-/// Sixteen pools, whose accounts have 2^58-11 of the one asset and 2^57 of the other. Each is offered 10, which brings its reserve to the
-/// last below 2^58, and then 1: the first offer is taken, and the second isn't.
-pub(crate) const ENDS: &[Grown] = &[Grown {
-    name: "sixteen pools at their ends",
-    input: &[
-        Part::Text("{\"format\":2,\"chains\":[{\"assets\":[{\"id\":\"0\",\"native\":[]}"),
-        Part::Each(
-            16,
-            &[
-                Piece::Text(",{\"id\":\"0/GeneralIndex("),
-                Piece::Count(1, 0),
-                Piece::Text(")\",\"native\":[]}"),
-            ],
-        ),
-        Part::Text("],\n\"accounts\":["),
-        Part::Each(
-            16,
-            &[
-                Piece::Text("{\"who\":\"0x706f6f6c"),
-                POOL,
-                Piece::Text(
-                    "000000000000000000000000000000000000000000000000000000\",\"asset\":\"0\",\"amount\":\"288230376151711733\"},\n{\"who\":\"0x706f6f6c",
-                ),
-                POOL,
-                Piece::Text(
-                    "000000000000000000000000000000000000000000000000000000\",\"asset\":\"0/GeneralIndex(",
-                ),
-                Piece::Count(1, 0),
-                Piece::Text(")\",\"amount\":\"144115188075855872\"},\n"),
-            ],
-        ),
-        Part::Text(
-            "{\"who\":\"0x0101010101010101010101010101010101010101010101010101010101010101\",\"asset\":\"0\",\"amount\":\"176\"}],\n\"pools\":[",
-        ),
-        Part::Each(
-            16,
-            &[
-                Piece::Comma,
-                Piece::Text("{\"first\":\"0\",\"second\":\"0/GeneralIndex("),
-                Piece::Count(1, 0),
-                Piece::Text(")\",\"fee\":0}\n"),
-            ],
-        ),
-        Part::Text("]}]}\n---\n"),
-        Part::Each(
-            16,
-            &[
-                Piece::Text(
-                    "exec relay 0x0101010101010101010101010101010101010101010101010101010101010101 040c0004000000280f010004000105",
-                ),
-                Piece::Hex(4),
-                Piece::Text(
-                    "0014010d010208000101000202020202020202020202020202020202020202020202020202020202020202
-exec relay 0x0101010101010101010101010101010101010101010101010101010101010101 04080004000000040f010004000105",
-                ),
-                Piece::Hex(4),
-                Piece::Text("000401\n"),
-            ],
-        ),
-    ],
-    status: Status::Done,
-    report: &[
-        Part::Text(
-            "coherent\n  supply fungible /GlobalConsensus(Polkadot) home 4611686018427387904 flight 0 burned 0\n",
-        ),
-        Part::Each(
-            16,
-            &[
-                Piece::Text("  supply fungible /GlobalConsensus(Polkadot)/GeneralIndex("),
-                Piece::Count(1, 0),
-                Piece::Text(") home 144115188075855872 flight 0 burned 0\n"),
-            ],
-        ),
-        Part::Each(
-            16,
-            &[
-                Piece::Text("#"),
-                Piece::Count(2, 1),
-                Piece::Text(
-                    " exec relay
+/// The places of sixteen pools: of each the byte of its place, and the compact spelling of its asset's number.
+const PLACES: &[(&str, &str)] = &[
+    ("00", "00"),
+    ("01", "04"),
+    ("02", "08"),
+    ("03", "0c"),
+    ("04", "10"),
+    ("05", "14"),
+    ("06", "18"),
+    ("07", "1c"),
+    ("08", "20"),
+    ("09", "24"),
+    ("0a", "28"),
+    ("0b", "2c"),
+    ("0c", "30"),
+    ("0d", "34"),
+    ("0e", "38"),
+    ("0f", "3c"),
+];
+
+/// What is put before each element of a list but the first.
+fn comma(place: usize) -> &'static str {
+    if place == 0 { "" } else { "," }
+}
+
+/// The account of a pool.
+fn pool_account(alloc: Global, byte: &str) -> Result<String, Fail> {
+    Ok(format!(in alloc; "0x706f6f6c{byte}000000000000000000000000000000000000000000000000000000")?)
+}
+
+/// The assets of the chain: one, and sixteen more.
+fn write_assets(text: &mut String) -> Result<(), Fail> {
+    text.push_str("{\"format\":2,\"chains\":[{\"assets\":[{\"id\":\"0\",\"native\":[]}")?;
+    for (place, _) in PLACES.iter().enumerate() {
+        write!(
+            text,
+            ",{{\"id\":\"0/GeneralIndex({place})\",\"native\":[]}}"
+        )?;
+    }
+    Ok(())
+}
+
+/// The pools' accounts have 2^58-11 of the one asset, and 2^57 of the other.
+fn write_accounts(alloc: Global, text: &mut String) -> Result<(), Fail> {
+    text.push_str("],\n\"accounts\":[")?;
+    for (place, (byte, _)) in PLACES.iter().enumerate() {
+        let who = pool_account(alloc, byte)?;
+        write!(
+            text,
+            "{{\"who\":\"{who}\",\"asset\":\"0\",\"amount\":\"288230376151711733\"}},
+{{\"who\":\"{who}\",\"asset\":\"0/GeneralIndex({place})\",\"amount\":\"144115188075855872\"}},\n"
+        )?;
+    }
+    text.push_str(
+        "{\"who\":\"0x0101010101010101010101010101010101010101010101010101010101010101\",\"asset\":\"0\",\"amount\":\"176\"}",
+    )?;
+    Ok(())
+}
+
+/// Each pool exchanges the one asset and another.
+fn write_pools(text: &mut String) -> Result<(), Fail> {
+    text.push_str("],\n\"pools\":[")?;
+    for (place, _) in PLACES.iter().enumerate() {
+        let comma = comma(place);
+        write!(
+            text,
+            "{comma}{{\"first\":\"0\",\"second\":\"0/GeneralIndex({place})\",\"fee\":0}}\n"
+        )?;
+    }
+    text.push_str("]}]}\n---\n")?;
+    Ok(())
+}
+
+/// Each pool is offered 10, which brings its reserve to the last below 2^58, and then 1.
+fn write_offers(text: &mut String) -> Result<(), Fail> {
+    for (_, number) in PLACES {
+        write!(
+            text,
+            "exec relay 0x0101010101010101010101010101010101010101010101010101010101010101 040c0004000000280f010004000105{number}0014010d010208000101000202020202020202020202020202020202020202020202020202020202020202
+exec relay 0x0101010101010101010101010101010101010101010101010101010101010101 04080004000000040f010004000105{number}000401\n"
+        )?;
+    }
+    Ok(())
+}
+
+/// What the chain has of each asset as it opens.
+fn write_opening(text: &mut String) -> Result<(), Fail> {
+    text.push_str(
+        "coherent\n  supply fungible /GlobalConsensus(Polkadot) home 4611686018427387904 flight 0 burned 0\n",
+    )?;
+    for (place, _) in PLACES.iter().enumerate() {
+        write!(
+            text,
+            "  supply fungible /GlobalConsensus(Polkadot)/GeneralIndex({place}) home 144115188075855872 flight 0 burned 0\n"
+        )?;
+    }
+    Ok(())
+}
+
+/// The first offer is taken, and the second isn't.
+fn write_answers(text: &mut String) -> Result<(), Fail> {
+    let mut step = 0u32;
+    let mut traps = 0u32;
+    for _ in PLACES {
+        step = step.saturating_add(2);
+        let before = step.saturating_sub(1);
+        traps = traps.saturating_add(1);
+        write!(
+            text,
+            "#{before} exec relay
   p0 WithdrawAsset ok
   p1 ExchangeAsset ok
   p2 DepositAsset ok
   end origin 0/AccountId32(0x0101010101010101010101010101010101010101010101010101010101010101) topic - surplus 0 0 refunded 0 0
   = complete 3000 300
-#",
-                ),
-                Piece::Count(2, 2),
-                Piece::Text(
-                    " exec relay
+#{step} exec relay
   p0 WithdrawAsset ok
   p1 ExchangeAsset NoDeal
   end origin 0/AccountId32(0x0101010101010101010101010101010101010101010101010101010101010101) topic - surplus 0 0 refunded 0 0
-  trapped ",
-                ),
-                Piece::Count(1, 1),
-                Piece::Text("\n  = incomplete 2000 200 NoDeal\n"),
-            ],
-        ),
-    ],
-    pieces: ONCE,
-}];
+  trapped {traps}
+  = incomplete 2000 200 NoDeal\n"
+        )?;
+    }
+    Ok(())
+}
+
+#[test]
+fn sixteen_pools_come_to_their_ends(rt: HostRuntime) -> Result<(), Fail> {
+    let alloc = rt.alloc();
+    let mut input = String::new(alloc);
+    write_assets(&mut input)?;
+    write_accounts(alloc, &mut input)?;
+    write_pools(&mut input)?;
+    write_offers(&mut input)?;
+    let mut report = String::new(alloc);
+    write_opening(&mut report)?;
+    write_answers(&mut report)?;
+    let ran = run_of(alloc, RUN, input.as_bytes(), 65_536, &[], &[])?;
+    assert!(&rt; ran.has(Status::Done, report.as_bytes()));
+    Ok(())
+}

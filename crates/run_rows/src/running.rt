@@ -74,7 +74,7 @@ pub(crate) fn run_of(
 }
 
 /// How many bytes are read and written at once.
-pub(crate) const PIECES: &[usize] = &[1, 2, 3, 7, 64, 65_535, 65_536];
+const PIECES: &[usize] = &[1, 2, 3, 7, 64, 65_535, 65_536];
 
 /// Whether the input has this answer and this report where so many bytes are read and written at once.
 fn answers_by(
@@ -93,16 +93,15 @@ fn answers_by(
     Ok(ran.has(status, report))
 }
 
-/// Whether the input has this answer and this report, in whichever of these pieces its bytes are read and written.
-pub(crate) fn answers(
+/// Whether the input has this answer and this report, however its bytes are cut.
+fn answers(
     alloc: Global,
     words: &[&str],
-    pieces: &[usize],
     input: &[u8],
     status: Status,
     report: &[u8],
 ) -> Result<bool, Fail> {
-    for piece in pieces {
+    for piece in PIECES {
         if !answers_by(alloc, words, input, *piece, status, report)? {
             return Ok(false);
         }
@@ -110,11 +109,20 @@ pub(crate) fn answers(
     Ok(true)
 }
 
-/// Whether the row has its answer and its report, however the bytes are cut.
-fn is_right(alloc: Global, words: &[&str], row: &Row) -> Result<bool, Fail> {
-    let input = format!(in alloc; "{}\n---\n{}", row.network, row.steps)?;
-    let (input, report) = (input.as_bytes(), row.report.as_bytes());
-    answers(alloc, words, PIECES, input, row.status, report)
+/// The input has this answer and this report, however its bytes are cut.
+pub(crate) fn check(
+    rt: &impl Abort,
+    alloc: Global,
+    words: &[&str],
+    input: &str,
+    status: Status,
+    report: &str,
+) -> Result<(), Fail> {
+    assert!(rt;
+        answers(alloc, words, input.as_bytes(), status, report.as_bytes())?,
+        "{input}"
+    );
+    Ok(())
 }
 
 /// Each row has its answer and its report.
@@ -125,7 +133,27 @@ pub(crate) fn check_rows(
     rows: &[Row],
 ) -> Result<(), Fail> {
     for row in rows {
-        assert!(rt; is_right(alloc, words, row)?, "{}", row.name);
+        let input = input_of(alloc, row.network, row.steps)?;
+        let report = row.report.as_bytes();
+        let right = answers(alloc, words, input.as_bytes(), row.status, report)?;
+        assert!(rt; right, "{}", row.name);
     }
     Ok(())
+}
+
+/// The input of a network and the lines behind it.
+pub(crate) fn input_of(alloc: Global, network: &str, steps: &str) -> Result<String, Fail> {
+    Ok(format!(in alloc; "{network}\n---\n{steps}")?)
+}
+
+/// The input of one step that executes a message on a relay chain without assets.
+pub(crate) fn exec_input(alloc: Global, message: &str) -> Result<String, Fail> {
+    Ok(format!(in alloc;
+        "{{}}\n---\nexec relay 0x0101010101010101010101010101010101010101010101010101010101010101 {message}\n"
+    )?)
+}
+
+/// The report of one step on the relay chain with these lines.
+pub(crate) fn exec_report(alloc: Global, lines: &str) -> Result<String, Fail> {
+    Ok(format!(in alloc; "coherent\n#1 exec relay\n{lines}")?)
 }

@@ -1,10 +1,11 @@
 //! Teleports, and checking accounts.
 
-use crate::running::Row;
+use crate::running::{RUN, Row, check_rows};
+use std::test::Fail;
 use xcm_cli::Status;
 
 /// Teleports that aren't received.
-pub(crate) const LOST: &[Row] = &[
+const LOST: &[Row] = &[
     Row {
         name: "a teleport that isn't let in is lost",
         network: r#"{"chains":[{"assets":[{"id":"0","native":[1000]}],
@@ -79,8 +80,13 @@ supply
     },
 ];
 
+#[test]
+fn teleports_that_are_not_received_are_burned(rt: HostRuntime) -> Result<(), Fail> {
+    check_rows(&rt, rt.alloc(), RUN, LOST)
+}
+
 /// Teleports that a checking account counts.
-pub(crate) const CHECKED: &[Row] = &[
+const CHECKED: &[Row] = &[
     Row {
         name: "a teleport and back, with a checking account",
         network: r#"{"chains":[{"barriers":["credit",{"unpaid":["0/Parachain(1000)"]}],
@@ -163,3 +169,8 @@ deliver 1000 relay
 ",
     },
 ];
+
+#[test]
+fn checking_accounts_count_teleports(rt: HostRuntime) -> Result<(), Fail> {
+    check_rows(&rt, rt.alloc(), RUN, CHECKED)
+}

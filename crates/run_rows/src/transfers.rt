@@ -1,11 +1,12 @@
 //! Payments and transfers between a chain and the reserve of its asset.
 
 use crate::documents::THREE_CHAINS;
-use crate::running::Row;
+use crate::running::{AUDIT, RUN, Row, check_rows};
+use std::test::Fail;
 use xcm_cli::Status;
 
 /// Payments at the relay chain.
-pub(crate) const PAYMENTS: &[Row] = &[
+const PAYMENTS: &[Row] = &[
     Row {
         name: "a payment",
         network: THREE_CHAINS,
@@ -50,8 +51,13 @@ balances
     },
 ];
 
+#[test]
+fn payments_have_their_reports(rt: HostRuntime) -> Result<(), Fail> {
+    check_rows(&rt, rt.alloc(), RUN, PAYMENTS)
+}
+
 /// Transfers to a parachain and back.
-pub(crate) const TRANSFERS: &[Row] = &[
+const TRANSFERS: &[Row] = &[
     Row {
         name: "what waits in a channel",
         network: THREE_CHAINS,
@@ -139,8 +145,13 @@ balances
     },
 ];
 
+#[test]
+fn transfers_have_their_reports(rt: HostRuntime) -> Result<(), Fail> {
+    check_rows(&rt, rt.alloc(), RUN, TRANSFERS)
+}
+
 /// A transfer with the sums behind each step.
-pub(crate) const AUDITED: &[Row] = &[Row {
+const AUDITED: &[Row] = &[Row {
     name: "a reserve transfer, audited",
     network: THREE_CHAINS,
     steps: "exec relay 0x0101010101010101010101010101010101010101010101010101010101010101 04040504000000a10f000100411f08130100009101000d010204000101000202020202020202020202020202020202020202020202020202020202020202
@@ -189,8 +200,13 @@ balances
 ",
 }];
 
+#[test]
+fn an_audit_stands_behind_each_step(rt: HostRuntime) -> Result<(), Fail> {
+    check_rows(&rt, rt.alloc(), AUDIT, AUDITED)
+}
+
 /// Transfers that a channel refuses.
-pub(crate) const UNSENT: &[Row] = &[
+const UNSENT: &[Row] = &[
     Row {
         name: "a channel that is full",
         network: r#"{"chains":[
@@ -313,3 +329,8 @@ traps
 ",
     },
 ];
+
+#[test]
+fn what_a_channel_refuses_is_not_sent(rt: HostRuntime) -> Result<(), Fail> {
+    check_rows(&rt, rt.alloc(), RUN, UNSENT)
+}
