@@ -121,8 +121,10 @@ impl AssetBundle {
 
     /// What `take` would take, in holding order.
     pub fn min(&self, filter: &Filter) -> Result<Vec<Asset>, AllocError>
-        ensures listed { IfOk result (λ assets. assets.items ≡ held_assets (Taken filter.now self.now)) }
-        ensures bundle { IfOk result (λ assets. bundle_of assets.items ≡ Taken filter.now self.now) }
+        ensures listed { IfOk result (λ assets. assets.items
+            ≡ held_assets (Taken filter.now self.now)) }
+        ensures bundle { IfOk result (λ assets. bundle_of assets.items
+            ≡ Taken filter.now self.now) }
     {
         let taken = chosen(*self.items.allocator(), self.items.as_slice(), filter)?;
         Ok(taken)

@@ -14,7 +14,8 @@ use asset_lists::{Asset, Fun};
 /// Books all these assets for one cause.
 fn book_all(book: &mut BurnBook, items: &[Asset], cause: Cause)
     requires { IsTrue (list_all (λ a. lists book.old.listed (listed_of (unit_of a))) items.now) }
-    ensures { book.new ≡ Booked book.old (from_rows (rows_at (λ unit. (listed_of unit, cause)) (rows_of items.now))) }
+    ensures { book.new ≡ Booked book.old
+        (from_rows (rows_at (λ unit. (listed_of unit, cause)) (rows_of items.now))) }
 {
     let _ = &book.rows;
     for item in items {
@@ -35,7 +36,8 @@ fn excess_cause(item: &Asset) -> Cause
 /// Books all these assets as what a join gives up.
 pub(crate) fn book_excess(book: &mut BurnBook, items: &[Asset])
     requires { IsTrue (list_all (λ a. lists book.old.listed (listed_of (unit_of a))) items.now) }
-    ensures { book.new ≡ Booked book.old (from_rows (rows_at (λ unit. (listed_of unit, excess_cause unit.1)) (rows_of items.now))) }
+    ensures { book.new ≡ Booked book.old
+        (from_rows (rows_at (λ unit. (listed_of unit, excess_cause unit.1)) (rows_of items.now))) }
 {
     let _ = &book.rows;
     for item in items {

@@ -74,7 +74,8 @@ fn together(alloc: Global, items: &[Asset], more: &[Asset]) -> Result<Vec<Asset>
     requires items { IsHolding items.now }
     requires more { IsHolding more.now }
     requires within { AreWithinMost more.now }
-    ensures { IfOk result (λ all. IsListOf (Joined (bundle_of items.now) (bundle_of more.now)) all.items) }
+    ensures { IfOk result (λ all. IsListOf (Joined (bundle_of items.now) (bundle_of more.now))
+        all.items) }
 {
     let mut all = grown(alloc, items, more)?;
     push_new(&mut all, items, more)?;
@@ -87,7 +88,8 @@ fn above(alloc: Global, items: &[Asset], more: &[Asset]) -> Result<Vec<Asset>, A
     requires items { IsHolding items.now }
     requires more { IsHolding more.now }
     requires within { AreWithinMost more.now }
-    ensures { IfOk result (λ above. IsListOf (Excess (bundle_of items.now) (bundle_of more.now)) above.items) }
+    ensures { IfOk result (λ above. IsListOf (Excess (bundle_of items.now) (bundle_of more.now))
+        above.items) }
 {
     let mut above = Vec::new(alloc);
     for item in items {
@@ -105,8 +107,10 @@ fn joined(
     requires items { IsHolding items.now }
     requires more { IsHolding more.now }
     requires within { AreWithinMost more.now }
-    ensures kept { IfOk result (λ parts. IsListOf (Joined (bundle_of items.now) (bundle_of more.now)) parts.0.items) }
-    ensures above { IfOk result (λ parts. IsListOf (Excess (bundle_of items.now) (bundle_of more.now)) parts.1.items) }
+    ensures kept { IfOk result
+        (λ parts. IsListOf (Joined (bundle_of items.now) (bundle_of more.now)) parts.0.items) }
+    ensures above { IfOk result
+        (λ parts. IsListOf (Excess (bundle_of items.now) (bundle_of more.now)) parts.1.items) }
 {
     let kept = together(alloc, items, more)?;
     let above = above(alloc, items, more)?;
@@ -116,8 +120,10 @@ fn joined(
 impl AssetBundle {
     /// What a join with the other bundle would give up, in holding order.
     pub fn excess(&self, other: &AssetBundle) -> Result<Vec<Asset>, AllocError>
-        ensures listed { IfOk result (λ assets. assets.items ≡ held_assets (Excess self.now other.now)) }
-        ensures bundle { IfOk result (λ assets. bundle_of assets.items ≡ Excess self.now other.now) }
+        ensures listed { IfOk result (λ assets. assets.items
+            ≡ held_assets (Excess self.now other.now)) }
+        ensures bundle { IfOk result (λ assets. bundle_of assets.items
+            ≡ Excess self.now other.now) }
     {
         amounts_fit(other.items.as_slice());
         let alloc = *self.items.allocator();

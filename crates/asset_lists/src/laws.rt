@@ -29,13 +29,16 @@ pub fn law_of_lists()
 /// A list rises exactly where each asset stands before the later ones, and then no unit is in it twice.
 pub fn law_of_rising()
     ensures places { (xs : List Asset) → IsTrue (is_rising xs) ↔ AreInOrder xs }
-    ensures once { (xs : List Asset) (unit : Unit) → IsTrue (is_rising xs) → occurrences unit xs ≤ 1 }
+    ensures once { (xs : List Asset) (unit : Unit)
+        → IsTrue (is_rising xs) → occurrences unit xs ≤ 1 }
 {}
 
 /// A list into which an asset is put is a list again, and has just that asset more.
 pub fn law_of_insertion()
-    ensures list { (old new : List Asset) (a : Asset) → IsAssetList old → TakesIn old new a → IsAssetList new }
-    ensures more { (old new : List Asset) (a : Asset) → TakesIn old new a → IsPermutation (a ∷ old) new }
+    ensures list { (old new : List Asset) (a : Asset)
+        → IsAssetList old → TakesIn old new a → IsAssetList new }
+    ensures more { (old new : List Asset) (a : Asset)
+        → TakesIn old new a → IsPermutation (a ∷ old) new }
 {}
 
 /// A list that is reanchored has the ids that the target gives each asset. The relation of the call tells one list, the
@@ -43,10 +46,12 @@ pub fn law_of_insertion()
 /// none is computed.
 pub fn law_of_reanchored_lists()
     ensures list { (all new : List Asset) → IsMoved all new → IsAssetList new }
-    ensures named { (target : Location) (context : List Junction) (xs all : List Asset) → all_moved target context xs ≡ Some all
+    ensures named { (target : Location) (context : List Junction) (xs all : List Asset)
+        → all_moved target context xs ≡ Some all
         → (i : ℕ) (a : Asset) → slice_get xs i ≡ Some a → IsNamed target context a.id }
     ensures computed { (target : Location) (context : List Junction) (xs new : List Asset)
-        → IsSomeAnd (all_moved target context xs) (λ all. IsMoved all new) → reanchored_list target context xs ≡ Some new }
+        → IsSomeAnd (all_moved target context xs) (λ all. IsMoved all new)
+        → reanchored_list target context xs ≡ Some new }
     ensures moved { (target : Location) (context : List Junction) (xs new : List Asset)
         → IsAssetList new → reanchored_list target context xs ≡ Some new
         → IsSomeAnd (all_moved target context xs) (λ all. IsMoved all new) }

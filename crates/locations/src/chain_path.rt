@@ -10,7 +10,8 @@ impl Location {
     /// the context without its last `parents` junctions, and then the interior.
     pub fn path(&self, context: &Junctions) -> Result<Junctions, PathFault>
         ensures { MatchResult result
-            (λ path. HasPath context.now self.now × (path ≡ path_of context.now self.now) × (length path ≤ 8))
+            (λ path. HasPath context.now self.now × (path ≡ path_of context.now self.now)
+            × (length path ≤ 8))
             (IsPathFault context.now self.now) }
     {
         let chain = context.items();

@@ -1,5 +1,5 @@
 //! A location: how many levels up, and then the junctions down.
-ghost use Rattle.std.specs.Prelude.{◌≡◌, ◌≤◌, length};
+ghost use Rattle.std.specs.Prelude.{◌≡◌, ◌≤◌, [], length};
 
 use crate::Junctions;
 use std::cmp::Ordering;
@@ -24,6 +24,24 @@ impl Location {
             parents: self.parents,
             interior: self.interior.copy(),
         }
+    }
+
+    /// The place that looks: no level up, and no junction down.
+    pub fn here() -> Location
+        ensures { result ≡ record { parents = 0; interior = [] } }
+    {
+        Location {
+            parents: 0,
+            interior: Junctions::empty(),
+        }
+    }
+
+    /// Becomes the same location, in its place.
+    pub fn assign(&mut self, other: &Location)
+        ensures { self.new ≡ other.now }
+    {
+        self.parents = other.parents;
+        self.interior.assign(&other.interior);
     }
 }
 

@@ -1,6 +1,8 @@
 //! The end of a run.
 ghost use Rattle.std.specs.Prelude.{◌≡◌, ◌<◌, length, OnOk, OnErr, IfOk};
+ghost use Rattle.amounts.specs.Amounts.{rows};
 ghost use Rattle.message_parts.specs.Weights.{IsWithin};
+ghost use Rattle.exec_base.specs.Host.{trapped};
 ghost use Rattle.exec_rules.specs.Machine.{machine};
 ghost use Rattle.exec_rules.specs.Outcome.{refund_surplus, outcome_of, owner_of, refunded_last, rest_trapped, finished, abandoned, HaltedAtEnd};
 ghost use Rattle.exec_rules.specs.Instructions.{xcm};
@@ -14,7 +16,8 @@ use exec_base::{Event, Host, Registers};
 use exec_calls::law_of_readiness;
 use locations::Location;
 use message_parts::Weight;
-use std::alloc::AllocError;
+use std::alloc::{AllocError, Global};
+use std::mem;
 use xcm_program::{Outcome, OutcomeError};
 
 /// How a run of a program of this weight ended.
@@ -35,10 +38,15 @@ fn outcome(weight: Weight, r: &Registers) -> Outcome
     }
 }
 
-/// What is held, as the registers are let go.
-fn let_go(r: Registers) -> AssetBundle
-    ensures { result ≡ r.holding }
+/// Takes out what is held.
+fn take_held(alloc: Global, r: &mut Registers) -> AssetBundle
+    ensures { result ≡ r.old.holding }
 {
+    mem::replace(&mut r.holding, AssetBundle::empty(alloc))
+}
+
+/// Lets the registers go, of which what was held was taken out.
+pub(crate) fn let_go(r: Registers) {
     let Registers {
         holding,
         origin: _,
@@ -56,7 +64,7 @@ fn let_go(r: Registers) -> AssetBundle
         rule: _,
         max_holding: _,
     } = r;
-    holding
+    holding.melt();
 }
 
 /// For whom what is left is trapped.
@@ -70,25 +78,36 @@ fn owner(r: &Registers) -> &Location
 }
 
 /// Parks the holding: out of memory.
-pub(crate) fn abandon<H: Host>(r: Registers, h: &mut H)
+pub(crate) fn abandon<H: Host>(alloc: Global, r: &mut Registers, h: &mut H)
     requires few { length (H.part h.old).parked < 4 }
-    ensures { H.part h.new ≡ abandoned r (H.part h.old) }
+    ensures { H.part h.new ≡ abandoned r.old (H.part h.old) }
 {
-    h.park(let_go(r));
+    h.park(take_held(alloc, r));
 }
 
 /// Traps the holding, where it isn't empty.
-fn trap_rest<H: Host>(r: Registers, h: &mut H) -> Result<(), AllocError>
+fn trap_rest<H: Host>(alloc: Global, r: &mut Registers, h: &mut H) -> Result<(), AllocError>
     requires few { length (H.part h.old).parked < 4 }
-    ensures ok { OnOk result (H.part h.new ≡ rest_trapped r (H.part h.old)) }
-    ensures err { OnErr result (H.part h.new ≡ abandoned r (H.part h.old)) }
+    ensures ok { OnOk result (H.part h.new ≡ rest_trapped r.old (H.part h.old)) }
+    ensures err { OnErr result (H.part h.new ≡ abandoned r.old (H.part h.old)) }
 {
     if r.holding.kinds() == 0 {
-        let_go(r).melt();
         return Ok(());
     }
-    let owner = owner(&r).copy();
-    match h.trap(let_go(r), &owner) {
+    trap_held(alloc, r, h)
+}
+
+/// Traps the holding, which isn't empty: apart, since it is rare.
+#[inline(never)]
+fn trap_held<H: Host>(alloc: Global, r: &mut Registers, h: &mut H) -> Result<(), AllocError>
+    requires some { 0 < length (rows r.old.holding) }
+    requires few { length (H.part h.old).parked < 4 }
+    ensures ok { OnOk result (H.part h.new
+        ≡ trapped (H.part h.old) r.old.holding (owner_of r.old)) }
+    ensures err { OnErr result (H.part h.new ≡ abandoned r.old (H.part h.old)) }
+{
+    let owner = owner(r).copy();
+    match h.trap(take_held(alloc, r), &owner) {
         Ok(()) => Ok(()),
         Err(goods) => {
             h.park(goods);
@@ -100,8 +119,10 @@ fn trap_rest<H: Host>(r: Registers, h: &mut H) -> Result<(), AllocError>
 /// Tries to refund the surplus, and ignores a refusal.
 fn refund<H: Host>(r: &mut Registers, h: &mut H) -> Result<(), AllocError>
     requires ready { IsReady refund_surplus (machine r.old (H.part h.old)) }
-    ensures ok { OnOk result (machine r.new (H.part h.new) ≡ refunded_last xcm (machine r.old (H.part h.old))) }
-    ensures err { OnErr result (spills refund_surplus (machine r.old (H.part h.old)) (machine r.new (H.part h.new))) }
+    ensures ok { OnOk result (machine r.new (H.part h.new)
+        ≡ refunded_last xcm (machine r.old (H.part h.old))) }
+    ensures err { OnErr result (spills refund_surplus (machine r.old (H.part h.old))
+        (machine r.new (H.part h.new))) }
 {
     match refund_surplus(r, h)? {
         Ok(()) | Err(_) => Ok(()),
@@ -121,8 +142,10 @@ fn same(origin: &Option<Location>) -> Option<Location>
 /// Refunds what is left of the surplus, tells of the end, and settles the fees.
 fn wind_up<H: Host>(r: &mut Registers, h: &mut H) -> Result<(), AllocError>
     requires ready { IsReady refund_surplus (machine r.old (H.part h.old)) }
-    ensures ok { OnOk result (machine r.new (H.part h.new) ≡ wound_up (machine r.old (H.part h.old))) }
-    ensures err { OnErr result (HaltedBefore (machine r.old (H.part h.old)) (machine r.new (H.part h.new))) }
+    ensures ok { OnOk result (machine r.new (H.part h.new)
+        ≡ wound_up (machine r.old (H.part h.old))) }
+    ensures err { OnErr result (HaltedBefore (machine r.old (H.part h.old))
+        (machine r.new (H.part h.new))) }
 {
     refund(r, h)?;
     h.event(Event::End {
@@ -137,25 +160,28 @@ fn wind_up<H: Host>(r: &mut Registers, h: &mut H) -> Result<(), AllocError>
 
 /// Ends a run of a program of this weight, and tells its outcome.
 pub(crate) fn close<H: Host>(
+    alloc: Global,
     weight: Weight,
-    mut r: Registers,
+    r: &mut Registers,
     h: &mut H,
 ) -> Result<Outcome, AllocError>
-    requires ready { IsReady refund_surplus (machine r (H.part h.old)) }
-    requires within { IsWithin r.surplus weight }
-    ensures ok { OnOk result (H.part h.new ≡ finished xcm (machine r (H.part h.old))) }
-    ensures outcome { IfOk result (λ outcome. outcome ≡ outcome_of weight (refunded_last xcm (machine r (H.part h.old))).regs) }
-    ensures err { OnErr result (HaltedAtEnd xcm spills (machine r (H.part h.old)) (H.part h.new)) }
+    requires ready { IsReady refund_surplus (machine r.old (H.part h.old)) }
+    requires within { IsWithin r.old.surplus weight }
+    ensures ok { OnOk result (H.part h.new ≡ finished xcm (machine r.old (H.part h.old))) }
+    ensures outcome { IfOk result (λ outcome. outcome
+        ≡ outcome_of weight (refunded_last xcm (machine r.old (H.part h.old))).regs) }
+    ensures err { OnErr result (HaltedAtEnd xcm spills (machine r.old (H.part h.old))
+        (H.part h.new)) }
 {
     law_of_readiness(); // For the prover alone.
-    match wind_up(&mut r, h) {
+    match wind_up(r, h) {
         Ok(()) => {
-            let ended = outcome(weight, &r);
-            trap_rest(r, h)?;
+            let ended = outcome(weight, r);
+            trap_rest(alloc, r, h)?;
             Ok(ended)
         }
         Err(fault) => {
-            abandon(r, h);
+            abandon(alloc, r, h);
             Err(fault)
         }
     }

@@ -1,11 +1,11 @@
 //! The execution of a program: admission, the run, and its end.
-ghost use Rattle.std.specs.Prelude.{◌≡◌, Ok, IfOk, OnOk, OnErr};
+ghost use Rattle.std.specs.Prelude.{◌≡◌, [], Ok, IfOk, OnOk, OnErr};
 ghost use Rattle.exec_base.specs.Sending.{IsForwardable};
 ghost use Rattle.exec_rules.specs.Readiness.{IsAtRest};
 ghost use Rattle.exec_admission.specs.Admission.{IsWeighed};
 ghost use Rattle.exec_admission.specs.Execution.{started, executed_by, AbandonedIn, executed, IsAbandoned};
 
-use crate::ending::{abandon, close};
+use crate::ending::{abandon, close, let_go};
 use crate::running::run_all;
 use crate::taking::no_program;
 use crate::weights::NOTHING;
@@ -18,14 +18,15 @@ use message_parts::{MaybeError, Weight};
 use std::alloc::{AllocError, Global};
 use xcm_program::{Outcome, Program};
 
-/// The registers as a run begins.
-fn start(alloc: Global, rules: &ChainRules, origin: &Location) -> Registers
-    ensures { result ≡ started rules.now origin.now }
+/// The registers as a run begins, but for whom it runs.
+#[inline(always)]
+fn blank_registers(alloc: Global, rules: &ChainRules) -> Registers
+    ensures { result ≡ started rules.now (record { parents = 0; interior = [] }) }
 {
     Registers {
         holding: AssetBundle::empty(alloc),
-        origin: Some(origin.copy()),
-        original: origin.copy(),
+        origin: Some(Location::here()),
+        original: Location::here(),
         error: None,
         handler: no_program(alloc),
         handler_weight: NOTHING,
@@ -41,6 +42,17 @@ fn start(alloc: Global, rules: &ChainRules, origin: &Location) -> Registers
     }
 }
 
+/// Writes into the registers for whom the run begins.
+fn set_origin(r: &mut Registers, rules: &ChainRules, origin: &Location)
+    requires { r.old ≡ started rules.now (record { parents = 0; interior = [] }) }
+    ensures { r.new ≡ started rules.now origin.now }
+{
+    r.original.assign(origin);
+    if let Some(place) = &mut r.origin {
+        place.assign(origin);
+    }
+}
+
 /// Runs an admitted program to its end.
 fn run_admitted<H: Host>(
     alloc: Global,
@@ -52,22 +64,28 @@ fn run_admitted<H: Host>(
     requires weighed { IsWeighed rules.now.weight admitted }
     requires forwardable { IsForwardable admitted.program }
     requires rest { IsAtRest (H.part h.old) }
-    ensures ok { IfOk result (λ answer. (answer, H.part h.new) ≡ executed_by rules.now origin.now (Ok admitted) (H.part h.old)) }
+    ensures ok { IfOk result (λ answer. (answer, H.part h.new)
+        ≡ executed_by rules.now origin.now (Ok admitted) (H.part h.old)) }
     ensures rests { OnOk result (IsAtRest (H.part h.new)) }
-    ensures err { OnErr result (AbandonedIn rules.now origin.now admitted (H.part h.old) (H.part h.new)) }
+    ensures err { OnErr result (AbandonedIn rules.now origin.now admitted (H.part h.old)
+        (H.part h.new)) }
 {
     law_of_admission(); // For the prover alone, as the next two lines.
     law_of_readiness();
     law_of_rules();
     let Admitted { program, weight } = admitted;
-    let mut registers = start(alloc, rules, origin);
+    let mut registers = blank_registers(alloc, rules);
+    set_origin(&mut registers, rules, origin);
     match run_all(alloc, program, &mut registers, h) {
         Ok(began) => {
-            let outcome = close(weight, registers, h)?;
+            let closed = close(alloc, weight, &mut registers, h);
+            let_go(registers);
+            let outcome = closed?;
             Ok((outcome, began))
         }
         Err(fault) => {
-            abandon(registers, h);
+            abandon(alloc, &mut registers, h);
+            let_go(registers);
             Err(fault)
         }
     }
@@ -86,9 +104,11 @@ pub fn execute<H: Host>(
 ) -> Result<(Outcome, bool), AllocError>
     requires forwardable { IsForwardable program }
     requires rest { IsAtRest (H.part h.old) }
-    ensures ok { IfOk result (λ answer. (answer, H.part h.new) ≡ executed rules.now origin.now credit program (H.part h.old)) }
+    ensures ok { IfOk result (λ answer. (answer, H.part h.new)
+        ≡ executed rules.now origin.now credit program (H.part h.old)) }
     ensures rests { OnOk result (IsAtRest (H.part h.new)) }
-    ensures err { OnErr result (IsAbandoned rules.now origin.now credit program (H.part h.old) (H.part h.new)) }
+    ensures err { OnErr result (IsAbandoned rules.now origin.now credit program (H.part h.old)
+        (H.part h.new)) }
 {
     law_of_admission(); // For the prover alone.
     match admit(rules, origin, program, credit, h.open()) {

@@ -36,8 +36,10 @@ pub(crate) fn perform<H: Host>(
     h: &mut H,
 ) -> Result<Result<(), XcmError>, AllocError>
     requires ready { IsReady instruction.old (machine r.old (H.part h.old)) }
-    ensures ok { IfOk result (λ answer. Performed xcm instruction.old (machine r.old (H.part h.old)) answer (machine r.new (H.part h.new))) }
-    ensures err { OnErr result (spills instruction.old (machine r.old (H.part h.old)) (machine r.new (H.part h.new))) }
+    ensures ok { IfOk result (λ answer. Performed xcm instruction.old (machine r.old (H.part h.old))
+        answer (machine r.new (H.part h.new))) }
+    ensures err { OnErr result (spills instruction.old (machine r.old (H.part h.old))
+        (machine r.new (H.part h.new))) }
 {
     match instruction {
         Instruction::WithdrawAsset { assets } => withdraw_asset(r, h, assets),

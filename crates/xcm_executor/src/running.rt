@@ -20,9 +20,13 @@ pub(crate) fn run_all<H: Host>(
     h: &mut H,
 ) -> Result<bool, AllocError>
     requires runnable { IsRunnable Part.Program program (machine r.old (H.part h.old)) }
-    ensures ok { OnOk result (run xcm (begin Part.Program program (machine r.old (H.part h.old))) ≡ Ended (machine r.new (H.part h.new))) }
-    ensures began { IfOk result (λ began. began ≡ begins_well xcm program (machine r.old (H.part h.old))) }
-    ensures err { OnErr result (StoppedIn xcm spills (begin Part.Program program (machine r.old (H.part h.old))) (machine r.new (H.part h.new))) }
+    ensures ok { OnOk result (run xcm (begin Part.Program program (machine r.old (H.part h.old)))
+        ≡ Ended (machine r.new (H.part h.new))) }
+    ensures began { IfOk result (λ began. began
+        ≡ begins_well xcm program (machine r.old (H.part h.old))) }
+    ensures err { OnErr result (StoppedIn xcm spills
+        (begin Part.Program program (machine r.old (H.part h.old)))
+        (machine r.new (H.part h.new))) }
 {
     law_of_rules(); // For the prover alone.
     if program.items().is_empty() {

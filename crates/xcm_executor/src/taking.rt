@@ -64,7 +64,8 @@ fn fail(
 ) -> (Part, Program)
     requires short { r.old.surplus.ref_time + unused.ref_time < 2 ^ 64 }
     requires small { r.old.surplus.proof_size + unused.proof_size < 2 ^ 64 }
-    ensures { (result.0, result.1, r.new) ≡ next_program r.old.handler (failed_with place error unused r.old) }
+    ensures { (result.0, result.1, r.new)
+        ≡ next_program r.old.handler (failed_with place error unused r.old) }
 {
     r.error = Some((place, error));
     r.surplus = added(r.surplus, unused);
@@ -85,8 +86,10 @@ fn take<H: Host>(
     h: &mut H,
 ) -> Result<Option<XcmError>, AllocError>
     requires ready { IsReady instruction.old (machine r.old (H.part h.old)) }
-    ensures ok { IfOk result (λ error. IsTaken xcm part place instruction.old (machine r.old (H.part h.old)) error (machine r.new (H.part h.new))) }
-    ensures err { OnErr result (Halted xcm spills instruction.old (machine r.old (H.part h.old)) (machine r.new (H.part h.new))) }
+    ensures ok { IfOk result (λ error. IsTaken xcm part place instruction.old
+        (machine r.old (H.part h.old)) error (machine r.new (H.part h.new))) }
+    ensures err { OnErr result (Halted xcm spills instruction.old (machine r.old (H.part h.old))
+        (machine r.new (H.part h.new))) }
 {
     let number = instruction.index();
     let error = match perform(alloc, instruction, r, h)? {
@@ -113,9 +116,13 @@ pub(crate) fn take_program<H: Host>(
 ) -> Result<(Part, Program, bool), AllocError>
     requires some { 0 < length program }
     requires runnable { IsRunnable part program (machine r.old (H.part h.old)) }
-    ensures ok { IfOk result (λ next. GoesOnTo xcm (begin part program (machine r.old (H.part h.old))) (begin next.0 next.1 (machine r.new (H.part h.new)))) }
-    ensures began { IfOk result (λ next. next.2 ≡ begins_well xcm program (machine r.old (H.part h.old))) }
-    ensures err { OnErr result (StoppedIn xcm spills (begin part program (machine r.old (H.part h.old))) (machine r.new (H.part h.new))) }
+    ensures ok { IfOk result
+        (λ next. GoesOnTo xcm (begin part program (machine r.old (H.part h.old)))
+        (begin next.0 next.1 (machine r.new (H.part h.new)))) }
+    ensures began { IfOk result (λ next. next.2
+        ≡ begins_well xcm program (machine r.old (H.part h.old))) }
+    ensures err { OnErr result (StoppedIn xcm spills
+        (begin part program (machine r.old (H.part h.old))) (machine r.new (H.part h.new))) }
 {
     law_of_rules(); // For the prover alone.
     let mut instructions = program.into_vec();
