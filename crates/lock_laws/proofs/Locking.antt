@@ -5,7 +5,6 @@ use Rattle.std.specs.Ordering.{eq_by_cmp}
 use Rattle.std.proofs.lemmas.Bool.{cases_Bool, cases_lt}
 use Rattle.amounts.specs.Laws.{same_key, key_same}
 use Rattle.locations.specs.declared.relative.Location.{Location}
-use Rattle.message_parts.specs.declared.error.XcmError.TheVariants as error
 use Rattle.asset_lists.specs.declared.units.Asset.{Asset}
 use Rattle.asset_lists.specs.declared.units.AssetId.{AssetId}
 use Rattle.asset_lists.specs.declared.units.Instance.{Instance}

@@ -38,8 +38,8 @@ use Rattle.message_shapes.specs.Calm.{MuteAt}
 use Rattle.lock_laws.specs.Floors.{KeepsFloors, FallsOnly, RisesOnly, WaitInOrder}
 use Rattle.lock_laws.proofs.Locking.{same_falls, same_rises, then_falls, then_rises}
 use Rattle.lock_laws.proofs.Acts.{Holding, call_keeps, call_falls, call_rises, done_none, halted_none}
-use Rattle.lock_laws.proofs.Waiting.{call_lists}
-use Rattle.lock_laws.proofs.Lists.{open_list, inside_lists, refund_lists, program_ahead, lists_ahead}
+use Rattle.lock_laws.specs.WaitingLaws.{call_lists}
+use Rattle.lock_laws.specs.ListLaws.{open_list, inside_lists, refund_lists, program_ahead, lists_ahead}
 use Rattle.conserved_runs.specs.Safety.{AreLists}
 use Rattle.conserved_steps.specs.Admitting.{admitted_lists}
 

@@ -1,12 +1,11 @@
 -- What steps of a network do to floors, and to the locks of whole chains' accounts.
-use Rattle.std.proofs.Common.{◌≡◌, ℕ, zero, suc, ◌≤◌, Bool, true, false, List, [], ◌∷◌, Option, Some, None, Result, Ok, Err, inl, inr, refl, sym, ap, ◌∙◌, subst, arith}
-use Rattle.std.specs.Prelude.{if◌then◌else◌, find, slice_get, slice_set}
+use Rattle.std.proofs.Common.{◌≡◌, ℕ, zero, suc, ◌≤◌, true, false, List, [], ◌∷◌, Some, None, Ok, inl, inr, refl, sym, ap, ◌∙◌, subst, arith}
+use Rattle.std.specs.Prelude.{slice_get}
 use Rattle.std.specs.List.{AllByRecursion}
-use Rattle.std.specs.Option.{option_map_or, option_and_then}
+use Rattle.std.specs.Option.{option_map_or}
 use Rattle.std.proofs.lemmas.Bool.{cases_lt}
 use Rattle.chain_ids.specs.declared.chain.ChainId.{ChainId}
 use Rattle.locations.specs.declared.relative.Location.{Location}
-use Rattle.message_parts.specs.declared.error.XcmError.{XcmError}
 use Rattle.message_parts.specs.declared.query.OpenQuery.{OpenQuery}
 use Rattle.message_parts.specs.declared.weight.Weight.{Weight}
 use Rattle.amounts.specs.Amounts.{amount}
@@ -14,15 +13,12 @@ use Rattle.weight_trader.specs.Purchases.{no_weight}
 use Rattle.asset_locks.specs.LockMaps.{LockKey, LocksAndNotes, lock_at}
 use Rattle.trust_tables.specs.declared.chains.Site.{Site}
 use Rattle.xcm_program.specs.declared.instruction.Instruction.{Instruction}
-use Rattle.versioned_xcm.specs.declared.faults.MessageFault.{MessageFault}
-use Rattle.versioned_xcm.specs.Reading.{message_of}
 use Rattle.channel_parts.specs.declared.cargo.Cargo.{Cargo}
 use Rattle.channel_parts.specs.declared.cargo.Cargo.TheVariants.{Nothing}
-use Rattle.channel_parts.specs.Channels.{Waiting, Outgoing}
-use Rattle.chain_queues.specs.Queues.{leads_to, channel_to, first_of, oldest}
+use Rattle.channel_parts.specs.Channels.{Waiting}
+use Rattle.chain_queues.specs.Queues.{leads_to}
 use Rattle.exec_base.specs.declared.event.Event.{Event}
 use Rattle.exec_base.specs.Part.{ChainPart}
-use Rattle.exec_base.specs.Sending.{channel_refusal}
 use Rattle.asset_locks.specs.UnitFloors.{floor_at}
 use Rattle.exec_base.specs.Host.{told}
 use Rattle.exec_rules.specs.Machine.{IsOrderly}
@@ -32,121 +28,22 @@ use Rattle.exec_admission.specs.declared.rules.ChainRules.{ChainRules}
 use Rattle.exec_admission.specs.declared.admission.Admitted.{Admitted}
 use Rattle.exec_admission.specs.Admission.{admitted}
 use Rattle.exec_admission.specs.Execution.{first_stage}
-use Rattle.network_steps.specs.declared.step_result.StepResult.{StepResult}
-use Rattle.network_steps.specs.Worlds.{Member, chain_of, World, place_of, with_part, unchanged, Stepped}
+use Rattle.network_steps.specs.Worlds.{Member, chain_of, World, place_of}
 use Rattle.network_steps.specs.Acting.{begun, caller, acted}
-use Rattle.network_steps.specs.Steps.{is_sovereign, exec_read, exec_by, exec_at, exec, name_at, run_for, sender_after, receiver_after, delivered, delivery_of, deliver, is_claim, posted, posting, claim_by, claim_on, claim, Link, waiting, next_channel, deliveries, world_behind, Step, Exec, Deliver, Claim, Drain, Balances, Traps, Queues, Supply, after, worlds}
-use Rattle.network_steps.specs.CallerLaws.{by_caller}
-use Rattle.chain_pools.specs.Exchanges.{is_pool_account}
+use Rattle.network_steps.specs.Steps.{is_sovereign, exec, name_at, run_for, receiver_after, deliver, claim, Link, waiting, next_channel, deliveries, world_behind, Step, Exec, Deliver, Claim, Drain, Balances, Traps, Queues, Supply, after, worlds}
 use Rattle.network_steps.specs.Sends.{deliveries_left}
-use Rattle.message_shapes.specs.Shapes.{IsShape, IsShaped, AllShaped, NothingWaits}
-use Rattle.message_shapes.specs.StepLaws.{same_one, between_says, between_at, place_says}
+use Rattle.message_shapes.specs.Shapes.{IsShape, IsShaped, AllShaped}
 use Rattle.message_shapes.specs.Calm.{MuteAt}
 use Rattle.account_floors.specs.Floors.{NoPoolLocks}
 use Rattle.account_floors.specs.Laws.{none_kept, none_frees}
-use Rattle.lock_laws.specs.Floors.{KeepsFloors, RisesOnly, NoSovereignLocks, AllHoldFloors, NoneSovereign, HasLists, WaitInOrder, AllInOrder, NothingLocked}
+use Rattle.lock_laws.specs.Floors.{KeepsFloors, RisesOnly, NoSovereignLocks, AllHoldFloors, NoneSovereign, WaitInOrder, AllInOrder, NothingLocked}
 use Rattle.lock_laws.proofs.Acts.{Holding}
 use Rattle.conserved_runs.specs.Safety.{AreLists}
 use Rattle.conserved_steps.specs.Reading.{Decodes}
-use Rattle.lock_laws.proofs.Lists.{decoded_lists}
-use Rattle.lock_laws.proofs.Waiting.{popped_lists, queued_lists}
+use Rattle.lock_laws.specs.ListLaws.{decoded_lists}
+use Rattle.lock_laws.specs.WaitingLaws.{popped_lists, queued_lists, oldest_lists}
 use Rattle.lock_laws.proofs.Runs.{executed_floors, executed_both, local_rises, NoKey, message_rises}
-
--- ---- a fact of each chain's part
-module _ (P : ChainPart → Type 0) where
-  abbrev AllAt : World → Type 0
-  AllAt w = AllByRecursion (λ (m : Member). P m.part) w
-
-  there_at : (w : World) (i : ℕ) (m : Member) → slice_get w i ≡ Some m → AllAt w → P m.part
-  there_at [] i m e all = absurd (cc e)
-  there_at (x ∷ xs) zero m e all = subst (λ (y : Member). P y.part) (same_one (Some x) x m refl e) all.0
-  there_at (x ∷ xs) (suc i) m e all = there_at xs i m e all.1
-
-  set_at : (w : World) (i : ℕ) (y : Member) → P y.part → AllAt w → AllAt (slice_set w i y)
-  set_at [] i y new all = tt
-  set_at (x ∷ xs) zero y new all = (new, all.1)
-  set_at (x ∷ xs) (suc i) y new all = (all.0, set_at xs i y new all.1)
-
-  -- ---- local executions
-  module _ (w : World) (chain : ChainId) (account bytes : List ℕ) (all : AllAt w)
-      (runs : (m : Member) (program : List Instruction) → is_sovereign account ≡ false → message_of bytes ≡ Ok program → P m.part → P (acted m.rules (caller account) m.rules.limit program (begun (chain_of m) Nothing m.part)).part) where
-    exec_read_keeps : (place : ℕ) (m : Member) (read : Result (List Instruction) MessageFault) → is_sovereign account ≡ false → message_of bytes ≡ read → slice_get w place ≡ Some m → AllAt (exec_read w place m account read).world
-    exec_read_keeps place m (Err fault) free e at = all
-    exec_read_keeps place m (Ok program) free e at = set_at w place _ (runs m program free e (there_at w place m at all)) all
-
-    exec_by_keeps : (place : ℕ) (m : Member) (read : Result (List Instruction) MessageFault) → is_sovereign account ≡ false → message_of bytes ≡ read → slice_get w place ≡ Some m → AllAt (exec_by w place m account read).world
-    exec_by_keeps place m read free e at = by_caller (λ (s : Stepped). AllAt s.world) w (is_pool_account m.part.pools account) (exec_read w place m account read) all (exec_read_keeps place m read free e at)
-
-    allowed_keeps : (place : ℕ) (sovereign : Bool) → is_sovereign account ≡ sovereign
-        → AllAt (if sovereign then unchanged StepResult.SovereignCaller w else option_map_or (λ (m : Member). exec_by w place m account (message_of bytes)) (slice_get w place) (unchanged StepResult.NoSuchChain w)).world
-    allowed_keeps place true e = all
-    allowed_keeps place false e =
-        elim (slice_get w place) as (λ o. slice_get w place ≡ o → AllAt (option_map_or (λ (m : Member). exec_by w place m account (message_of bytes)) o (unchanged StepResult.NoSuchChain w)).world) [
-          | None ↦ λ at. all
-          | Some m ↦ λ at. exec_by_keeps place m (message_of bytes) e refl at
-        ] refl
-
-    exec_at_keeps : (o : Option ℕ) → AllAt (exec_at w o account bytes).world
-    exec_at_keeps None = all
-    exec_at_keeps (Some place) = allowed_keeps place (is_sovereign account) refl
-
-    pub exec_keeps : AllAt (exec w chain account bytes).world
-    unfolding exec
-    exec_keeps = exec_at_keeps (place_of w chain)
-
-  -- ---- deliveries
-  module _ (w : World) (from to : ChainId) (all : AllAt w)
-      (sends : (s r : Member) (x : Waiting) → P s.part → P (sender_after (chain_of r) (run_for s r x) s.part))
-      (runs : (i j : ℕ) (s r : Member) (x : Waiting) → place_of w from ≡ Some i → slice_get w i ≡ Some s → chain_of r ≡ to → waiting w from to ≡ Some x → option_and_then oldest (channel_to (chain_of r) s.part.channels) ≡ Some x → P r.part → P (receiver_after s.part (run_for s r x))) where
-    module _ (i j : ℕ) (s r : Member) (at_i : place_of w from ≡ Some i) (at_j : place_of w to ≡ Some j) (is_s : slice_get w i ≡ Some s) (is_r : slice_get w j ≡ Some r) where
-      is_waiting : (x : Waiting) → option_and_then oldest (channel_to (chain_of r) s.part.channels) ≡ Some x → waiting w from to ≡ Some x
-      is_waiting x e = between_at w from to None (λ i j s r. option_and_then oldest (channel_to (chain_of r) s.part.channels)) i j s r at_i at_j is_s is_r ∙ e
-
-      delivered_keeps : (x : Waiting) → option_and_then oldest (channel_to (chain_of r) s.part.channels) ≡ Some x → AllAt (delivered w i j s r x).world
-      delivered_keeps x e =
-          let s' = with_part (sender_after (chain_of r) (run_for s r x) s.part) s in
-          set_at (slice_set w i s') j (with_part (receiver_after s.part (run_for s r x)) r)
-          (runs i j s r x at_i is_s (place_says w to j r at_j is_r) (is_waiting x e) e (there_at w j r is_r all))
-          (set_at w i s' (sends s r x (there_at w i s is_s all)) all)
-
-      oldest_keeps : (o : Option Waiting) → option_and_then oldest (channel_to (chain_of r) s.part.channels) ≡ o → AllAt (option_map_or (λ (message : Waiting). delivered w i j s r message) o (unchanged StepResult.Empty w)).world
-      oldest_keeps None e = all
-      oldest_keeps (Some x) e = delivered_keeps x e
-
-      delivery_keeps : (o : Option Outgoing) → channel_to (chain_of r) s.part.channels ≡ o → AllAt (delivery_of w i j s r o).world
-      delivery_keeps None e = all
-      delivery_keeps (Some c) e = oldest_keeps (oldest c) (ap (option_and_then oldest) e)
-
-    pub deliver_keeps : AllAt (deliver w from to).world
-    unfolding deliver
-    deliver_keeps =
-        between_says w from to (unchanged StepResult.NoSuchChain w) (λ i j s r. delivery_of w i j s r (channel_to (chain_of r) s.part.channels)) (λ x. AllAt x.world) all
-        (λ i j s r at_i at_j is_s is_r. delivery_keeps i j s r at_i at_j is_s is_r (channel_to (chain_of r) s.part.channels) refl)
-
-  -- ---- claims
-  module _ (w : World) (from to : ChainId) (bytes : List ℕ) (all : AllAt w) (sends : (to : ChainId) (program : List Instruction) (p : ChainPart) → message_of bytes ≡ Ok program → P p → P (posted to program p)) where
-    posting_keeps : (i : ℕ) (s : Member) (to : ChainId) (c : Outgoing) (program : List Instruction) (o : Option XcmError) → message_of bytes ≡ Ok program → slice_get w i ≡ Some s → AllAt (posting w i s to c program o).world
-    posting_keeps i s to c program None read is = set_at w i (with_part (posted to program s.part) s) (sends to program s.part read (there_at w i s is all)) all
-    posting_keeps i s to c program (Some e) read is = all
-
-    claiming_keeps : (i : ℕ) (s : Member) (to : ChainId) (c : Outgoing) (program : List Instruction) (b : Bool) → message_of bytes ≡ Ok program → slice_get w i ≡ Some s
-        → AllAt (if b then posting w i s to c program (channel_refusal (Some c) true program) else unchanged StepResult.NotAClaim w).world
-    claiming_keeps i s to c program true read is = posting_keeps i s to c program (channel_refusal (Some c) true program) read is
-    claiming_keeps i s to c program false read is = all
-
-    claim_by_keeps : (i : ℕ) (s : Member) (to : ChainId) (c : Outgoing) (read : Result (List Instruction) MessageFault) → message_of bytes ≡ read → slice_get w i ≡ Some s → AllAt (claim_by w i s to c read).world
-    claim_by_keeps i s to c (Err fault) e is = all
-    claim_by_keeps i s to c (Ok program) e is = claiming_keeps i s to c program (is_claim program) e is
-
-    claim_on_keeps : (i : ℕ) (s : Member) (to : ChainId) (o : Option Outgoing) → slice_get w i ≡ Some s → AllAt (claim_on w i s to o bytes).world
-    claim_on_keeps i s to None is = all
-    claim_on_keeps i s to (Some c) is = claim_by_keeps i s to c (message_of bytes) refl is
-
-    pub claim_keeps : AllAt (claim w from to bytes).world
-    unfolding claim
-    claim_keeps =
-        between_says w from to (unchanged StepResult.NoSuchChain w) (λ i j s r. claim_on w i s (chain_of r) (channel_to (chain_of r) s.part.channels) bytes) (λ x. AllAt x.world) all
-        (λ i j s r at_i at_j is_s is_r. claim_on_keeps i s (chain_of r) (channel_to (chain_of r) s.part.channels) is_s)
+use Rattle.lock_laws.specs.StepLaws.{there_at, exec_keeps, deliver_keeps, claim_keeps, worlds_keep}
 
 -- ---- floors
 told_floors : (sender : ChainId) (cargo : Cargo) (p : ChainPart) (e : Event) → KeepsFloors p → KeepsFloors (told (begun sender cargo p) e)
@@ -184,17 +81,9 @@ floors_all : (w : World) → AllSound w → AllHoldFloors w
 floors_all [] all = tt
 floors_all (m ∷ w) all = (all.0.0, floors_all w all.1)
 
-first_lists : (q : List Waiting) (x : Waiting) → first_of q ≡ Some x → AllByRecursion HasLists q → HasLists x
-first_lists [] x e all = absurd (cc e)
-first_lists (y ∷ q) x e all = let same : y ≡ x = cc in subst HasLists same all.0
-
-oldest_lists : (test : Outgoing → Bool) (cs : List Outgoing) (x : Waiting) → option_and_then oldest (find test cs) ≡ Some x → AllByRecursion (λ (c : Outgoing). AllByRecursion HasLists c.queue) cs → HasLists x
-oldest_lists test [] x e all = absurd (cc e)
-oldest_lists test (c ∷ cs) x e all = by_test (test c) (λ h. oldest_lists test cs x h all.1) e
-  where
-    by_test : (b : Bool) → (option_and_then oldest (find test cs) ≡ Some x → HasLists x) → option_and_then oldest (if b then Some c else find test cs) ≡ Some x → HasLists x
-    by_test true later h = first_lists c.queue x h all.0
-    by_test false later h = later h
+each_floors : (ws : List World) → AllByRecursion AllSound ws → AllByRecursion AllHoldFloors ws
+each_floors [] all = tt
+each_floors (w ∷ ws) all = (floors_all w all.0, each_floors ws all.1)
 
 told_sound : (sender : ChainId) (cargo : Cargo) (p : ChainPart) (e : Event) → Sound p → Sound (told (begun sender cargo p) e)
 unfolding told
@@ -217,31 +106,9 @@ module _ (holding : Holding) (orderly : IsOrderly xcm) (decodes : Decodes) where
   claim_sound : (w : World) (from to : ChainId) (bytes : List ℕ) → AllSound w → AllSound (claim w from to bytes).world
   claim_sound w from to bytes all = claim_keeps Sound w from to bytes all (λ to program p read h. (h.0, queued_lists (leads_to to) program Nothing p (decoded_lists decodes bytes program read) h.1))
 
-  deliveries_sound : (n : ℕ) (order : List Link) (w : World) → AllSound w → AllSound (world_behind w (deliveries n order w))
-  unfolding deliveries
-  deliveries_sound zero order w all = all
-  deliveries_sound (suc n) order w all =
-      elim (next_channel order w) as (λ o. AllSound (world_behind w (option_map_or (λ (link : Link). (link, deliver w link.0 link.1) ∷ deliveries n order (deliver w link.0 link.1).world) o []))) [
-        | None ↦ all
-        | Some link ↦ deliveries_sound n order (deliver w link.0 link.1).world (deliver_sound w link.0 link.1 all)
-      ]
-
-  after_sound : (order : List Link) (w : World) (step : Step) → AllSound w → AllSound (after order w step)
-  after_sound order w (Exec chain account bytes) all = exec_sound w chain account bytes all
-  after_sound order w (Deliver from to) all = deliver_sound w from to all
-  after_sound order w (Claim from to bytes) all = claim_sound w from to bytes all
-  after_sound order w Drain all = deliveries_sound (deliveries_left w) order w all
-  after_sound order w Balances all = all
-  after_sound order w Traps all = all
-  after_sound order w Queues all = all
-  after_sound order w Supply all = all
-
-  worlds_sound : (order : List Link) (w : World) (steps : List Step) → AllSound w → AllByRecursion AllHoldFloors (worlds order w steps)
-  worlds_sound order w [] all = (floors_all w all, tt)
-  worlds_sound order w (step ∷ steps) all = (floors_all w all, worlds_sound order (after order w step) steps (after_sound order w step all))
-
   pub worlds_floors : (order : List Link) (w : World) (steps : List Step) → AllInOrder w → AllHoldFloors w → AllByRecursion AllHoldFloors (worlds order w steps)
-  worlds_floors order w steps waits floors = worlds_sound order w steps (both_all w floors waits)
+  worlds_floors order w steps waits floors =
+      each_floors (worlds order w steps) (worlds_keep AllSound order exec_sound deliver_sound claim_sound w steps (both_all w floors waits))
 
 pub nothing_holds : (w : World) → NothingLocked w → AllHoldFloors w
 nothing_holds [] none = tt
@@ -252,14 +119,6 @@ nothing_holds (m ∷ w) none = (
   ),
   nothing_holds w none.1,
 )
-
-empty_lists : (cs : List Outgoing) → AllByRecursion (λ (c : Outgoing). c.queue ≡ []) cs → AllByRecursion (λ (c : Outgoing). AllByRecursion HasLists c.queue) cs
-empty_lists [] none = tt
-empty_lists (c ∷ cs) none = (subst (λ (q : List Waiting). AllByRecursion HasLists q) (sym none.0) tt, empty_lists cs none.1)
-
-pub nothing_waits : (w : World) → NothingWaits w → AllInOrder w
-nothing_waits [] none = tt
-nothing_waits (m ∷ w) none = (empty_lists m.part.channels none.0, nothing_waits w none.1)
 
 -- ---- whole chains' accounts
 abbrev Free : ChainPart → Type 0

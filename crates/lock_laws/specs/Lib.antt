@@ -1,1 +1,4 @@
 pub mod Floors
+pub mod ListLaws
+pub mod WaitingLaws
+pub mod StepLaws

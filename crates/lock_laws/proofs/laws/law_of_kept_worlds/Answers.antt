@@ -1,4 +1,5 @@
-use Rattle.lock_laws.proofs.Worlds.{exec_floors, deliver_floors, claim_floors, worlds_floors, nothing_holds, nothing_waits}
+use Rattle.lock_laws.specs.WaitingLaws.{nothing_waits}
+use Rattle.lock_laws.proofs.Worlds.{exec_floors, deliver_floors, claim_floors, worlds_floors, nothing_holds}
 use Rattle.lock_laws.proofs.laws.law_of_kept_worlds.Goals as goal
 
 pub returns-clause-exec : goal.returns-clause-exec

@@ -1,4 +1,5 @@
--- The lists of a program, and of what it keeps for later, are in order.
+-- Lemmas that proofs cite, in this crate and above it: the lists of a program, and of what it keeps for later, are in order. A reader of the
+-- contracts may skip this file.
 use Rattle.std.proofs.Common.{◌≡◌, ℕ, List, [], Ok, subst}
 use Rattle.std.specs.List.{AllByRecursion}
 use Rattle.xcm_program.specs.declared.instruction.Instruction.{Instruction, out-Instruction}

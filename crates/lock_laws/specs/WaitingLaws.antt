@@ -1,6 +1,7 @@
--- What waits at a chain has its lists in order: all that is sent has, where the lists of the program that sends are in order.
+-- Lemmas that proofs cite, in this crate and above it: what waits at a chain has its lists in order; all that is sent has, where the lists of
+-- the program that sends are in order. A reader of the contracts may skip this file.
 use Rattle.std.proofs.Common.{◌≡◌, ◌≤◌, ℕ, Bool, true, false, List, [], ◌∷◌, ◌++◌, drop, Option, Some, None, refl, sym, ap, ◌∙◌, subst, arith}
-use Rattle.std.specs.Prelude.{if◌then◌else◌, ◌&&◌, nat_le, length}
+use Rattle.std.specs.Prelude.{if◌then◌else◌, ◌&&◌, find, nat_le, length}
 use Rattle.std.specs.List.{AllByRecursion}
 use Rattle.std.specs.Option.{option_map, option_map_or, option_and_then}
 use Rattle.std.proofs.lemmas.Bool.{and_parts}
@@ -25,7 +26,7 @@ use Rattle.asset_locks.specs.LockMaps.{NoteKey}
 use Rattle.channel_parts.specs.declared.cargo.Cargo.{Cargo}
 use Rattle.channel_parts.specs.declared.cargo.Cargo.TheVariants.{Nothing, Deposit}
 use Rattle.channel_parts.specs.Channels.{Waiting, Outgoing, with_waiting, away}
-use Rattle.chain_queues.specs.Queues.{without_oldest}
+use Rattle.chain_queues.specs.Queues.{first_of, oldest, without_oldest}
 use Rattle.exec_base.specs.Part.{ChainPart}
 use Rattle.exec_base.specs.Sending.{leads_to, is_sendable, channel_to, channel_refusal, send_refusal, sent, led_by, deposit_program, away_program, listed_refusal, listed_program, named_sent}
 use Rattle.exec_base.specs.Host.{transferred, transferred_out, deposited, deposited_out, raised_for, ship_refusal, shipped, seen_from, querier_seen, report_program, responded, lock_key, place_seen, asset_seen, note_program, with_lock, asset_locked, account_place, request_key, unlock_program, with_less_noted, asset_requested}
@@ -36,7 +37,9 @@ use Rattle.exec_calls.specs.Footprints.{part_is}
 use Rattle.exec_calls.specs.Reasons.{shipping, Moment, HasReason}
 use Rattle.conserved_runs.specs.Safety.{HasList, AreLists}
 use Rattle.conserved_runs.specs.Shipping.{HasList-IsOfLayer, named_in_order}
-use Rattle.lock_laws.specs.Floors.{HasLists, WaitInOrder}
+use Rattle.network_steps.specs.Worlds.{World}
+use Rattle.message_shapes.specs.Shapes.{NothingWaits}
+use Rattle.lock_laws.specs.Floors.{HasLists, WaitInOrder, AllInOrder}
 
 -- ---- one channel changes
 push_lists : (xs : List Waiting) (x : Waiting) → AllByRecursion HasLists xs → HasLists x → AllByRecursion HasLists (xs ++ x ∷ [])
@@ -63,6 +66,28 @@ popped_lists test p all = changed_lists test without_oldest (λ c h. drop_lists 
 
 pub queued_lists : (test : Outgoing → Bool) (program : List Instruction) (cargo : Cargo) (p : ChainPart) → AllByRecursion AreLists program → WaitInOrder p → AllByRecursion In (change_first test (with_waiting program cargo) p.channels)
 queued_lists test program cargo p fits all = changed_lists test (with_waiting program cargo) (λ c h. push_lists c.queue _ h fits) p.channels all
+
+-- the oldest message of a channel
+first_lists : (q : List Waiting) (x : Waiting) → first_of q ≡ Some x → AllByRecursion HasLists q → HasLists x
+first_lists [] x e all = absurd (cc e)
+first_lists (y ∷ q) x e all = let same : y ≡ x = cc in subst HasLists same all.0
+
+pub oldest_lists : (test : Outgoing → Bool) (cs : List Outgoing) (x : Waiting) → option_and_then oldest (find test cs) ≡ Some x → AllByRecursion (λ (c : Outgoing). AllByRecursion HasLists c.queue) cs → HasLists x
+oldest_lists test [] x e all = absurd (cc e)
+oldest_lists test (c ∷ cs) x e all = by_test (test c) (λ h. oldest_lists test cs x h all.1) e
+  where
+    by_test : (b : Bool) → (option_and_then oldest (find test cs) ≡ Some x → HasLists x) → option_and_then oldest (if b then Some c else find test cs) ≡ Some x → HasLists x
+    by_test true later h = first_lists c.queue x h all.0
+    by_test false later h = later h
+
+-- where nothing waits
+empty_lists : (cs : List Outgoing) → AllByRecursion (λ (c : Outgoing). c.queue ≡ []) cs → AllByRecursion (λ (c : Outgoing). AllByRecursion HasLists c.queue) cs
+empty_lists [] none = tt
+empty_lists (c ∷ cs) none = (subst (λ (q : List Waiting). AllByRecursion HasLists q) (sym none.0) tt, empty_lists cs none.1)
+
+pub nothing_waits : (w : World) → NothingWaits w → AllInOrder w
+nothing_waits [] none = tt
+nothing_waits (m ∷ w) none = (empty_lists m.part.channels none.0, nothing_waits w none.1)
 
 sent_lists : (p : ChainPart) (dest : Location) (program : List Instruction) (cargo : Cargo) → AllByRecursion AreLists program → WaitInOrder p → WaitInOrder (sent p dest program cargo)
 unfolding sent

@@ -1,0 +1,6 @@
+mod Rows
+mod Calls
+mod Refusals
+mod Runs
+mod Firsts
+mod Worlds
