@@ -27,7 +27,7 @@ use Rattle.chain_state.specs.PartOf.{part_of}
 use Rattle.chain_net.specs.Chains.{member_in, world_in, names_of}
 use Rattle.chain_net.specs.Nets.{told_at}
 use Rattle.chain_net.specs.Sound.{IsListedCargo, AreListedIn, IsBetweenSteps, AreBetweenSteps}
-use Rattle.chain_net.specs.Stops.{DeliverStops, IsStoppedThere}
+use Rattle.net_laws.specs.Stops.{DeliverStops, IsStoppedThere}
 use Rattle.chain_net.specs.Passing.{IsOther, IsCarried, AreChanged, run_at, IsPassed, IsPassStopped}
 use Rattle.chain_net.proofs.Shipments.{changed_listed}
 use Rattle.chain_net.proofs.Runs.{same_leads}

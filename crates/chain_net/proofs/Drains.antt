@@ -14,8 +14,7 @@ use Rattle.chain_state.specs.declared.state.ChainState.{ChainState}
 use Rattle.chain_state.specs.PartOf.{part_of}
 use Rattle.chain_net.specs.Chains.{member_in, world_in}
 use Rattle.message_shapes.specs.Shapes.{AllShaped}
-use Rattle.chain_net.specs.Sound.{AreBetweenSteps, NoneMisshaped}
-use Rattle.chain_net.specs.Laws.{bound_by_shapes}
+use Rattle.chain_net.specs.Sound.{AreBetweenSteps}
 use Rattle.chain_net.proofs.Members.{member_at, something, members_within}
 use Rattle.chain_net.proofs.Pairs.{between_nowhere, between_to_nowhere, between_at, place_says}
 
@@ -142,10 +141,10 @@ module _ (rs : List ChainRules) (xs : List ChainState) (ruled : length rs ≡ le
   abbrev Lowers : Type 0
   Lowers = (w : World) (from to : ChainId) (x : Waiting) → AllShaped w → (from ≡ to → ⊥) → waiting w from to ≡ Some x → 1 + deliveries_left (deliver w from to).world ≤ deliveries_left w
 
-  pub one_less : Lowers → NoneMisshaped (world_in rs xs) → (order : List Link) (link : Link) → next_channel order (world_in rs xs) ≡ Some link → 1 + deliveries_left (deliver (world_in rs xs) link.0 link.1).world ≤ deliveries_left (world_in rs xs)
+  pub one_less : Lowers → AllShaped (world_in rs xs) → (order : List Link) (link : Link) → next_channel order (world_in rs xs) ≡ Some link → 1 + deliveries_left (deliver (world_in rs xs) link.0 link.1).world ≤ deliveries_left (world_in rs xs)
   one_less law shaped order link e =
       let x = some_waiting (waiting (world_in rs xs) link.0 link.1) (found_waits (world_in rs xs) order link e) in
-      bound_by_shapes (world_in rs xs) _ _ shaped (λ all_shaped. law (world_in rs xs) link.0 link.1 x.0 all_shaped (apart_link order link e) x.1)
+      law (world_in rs xs) link.0 link.1 x.0 shaped (apart_link order link e) x.1
 
 -- ---- the whole drain
 pub all_made : (order : List Link) (k : ℕ) (w now : World) → Made order k w now → next_channel order now ≡ None → k ≤ deliveries_left w → deliveries (deliveries_left w) order w ≡ deliveries k order w

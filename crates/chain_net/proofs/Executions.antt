@@ -20,7 +20,7 @@ use Rattle.chain_state.specs.declared.state.ChainState.{ChainState}
 use Rattle.chain_state.specs.PartOf.{part_of}
 use Rattle.chain_net.specs.Chains.{member_in, world_in}
 use Rattle.chain_net.specs.Nets.{told_at}
-use Rattle.chain_net.specs.Stops.{IsStoppedHere, ExecStops}
+use Rattle.net_laws.specs.Stops.{IsStoppedHere, ExecStops}
 use Rattle.chain_net.proofs.Members.{member_at, set_member, got_set}
 use Rattle.chain_pools.specs.Exchanges.{is_pool_account}
 use Rattle.network_steps.specs.Steps.{is_sovereign, exec_read, exec_by, exec_at, exec}

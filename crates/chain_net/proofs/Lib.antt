@@ -11,3 +11,5 @@ pub mod Deliveries
 pub mod Claims
 pub mod Drains
 pub mod Openings
+pub mod Pasts
+pub mod Swaps

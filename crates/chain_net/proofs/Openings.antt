@@ -11,7 +11,7 @@ use Rattle.trust_tables.specs.Trust.{listing}
 use Rattle.weight_trader.specs.declared.rate.Rate.{Rate}
 use Rattle.weight_trader.specs.Purchases.{Line, new_lines, AreRatesListed, AreWithinEnd}
 use Rattle.channel_parts.specs.declared.channel.Channel.{Channel}
-use Rattle.channel_parts.specs.Channels.{Outgoing, opened}
+use Rattle.channel_parts.specs.Channels.{opened}
 use Rattle.chain_queues.specs.Queues.{leads_to, channel_to}
 use Rattle.network_spec.specs.declared.chain.ChainSpec.{ChainSpec}
 use Rattle.network_spec.specs.declared.network.ChannelSpec.{ChannelSpec}
@@ -25,9 +25,7 @@ use Rattle.chain_state.specs.declared.state.ChainState.{ChainState}
 use Rattle.chain_state.specs.PartOf.{part_of}
 use Rattle.chain_net.specs.Order.{rise, are_in_order}
 use Rattle.chain_net.specs.Chains.{world_in, name_of, names_of}
-use Rattle.network_steps.specs.Worlds.{World}
-use Rattle.message_shapes.specs.Shapes.{AllShaped, NothingWaits}
-use Rattle.chain_net.specs.Sound.{AreListedIn, IsBetweenSteps, AreBetweenSteps, NoneMisshaped}
+use Rattle.chain_net.specs.Sound.{AreListedIn, IsBetweenSteps, AreBetweenSteps}
 use Rattle.chain_net.proofs.Searches.{number, above, both}
 use Rattle.chain_net.proofs.Members.{same_some}
 
@@ -175,20 +173,6 @@ all_between spec (c ∷ cs) (s ∷ ss) openable all h (suc place) state at = all
   where
     tail_is : (x y : ChainPart) (xs ys : List ChainPart) → x ∷ xs ≡ y ∷ ys → xs ≡ ys
     tail_is x y xs ys e = cc
-
--- ---- no message waits
-none_wait : (cs : List Channel) → AllByRecursion (λ (c : Outgoing). c.queue ≡ []) (map opened cs)
-none_wait [] = tt
-none_wait (c ∷ cs) = (refl, none_wait cs)
-
-nothing_waits : (spec : NetworkSpec) (cs : List ChainSpec) → NothingWaits (map (member_of spec) cs)
-nothing_waits spec [] = tt
-nothing_waits spec (c ∷ cs) = (none_wait (channels_from c.chain spec.channels), nothing_waits spec cs)
-
-pub none_misshaped : ((w : World) → NothingWaits w → AllShaped w) → (spec : NetworkSpec) (cs : List ChainSpec) (rs : List ChainRules) (ss : List ChainState) → rs ≡ map rules_of cs → map part_of ss ≡ map (part_at spec) cs
-    → NoneMisshaped (world_in rs ss)
-none_misshaped law spec cs rs ss rules parts =
-    subst NoneMisshaped (sym (first_is spec cs rs ss rules parts)) (λ other. other (law (map (member_of spec) cs) (nothing_waits spec cs)))
 
 pub openable_chains : (spec : NetworkSpec) → IsOpenable spec → AllByRecursion (IsOpenableChain spec.network) spec.chains
 openable_chains spec openable = all_apart (IsOpenableChain spec.network) spec.chains openable.chains

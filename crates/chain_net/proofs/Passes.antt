@@ -16,7 +16,8 @@ use Rattle.network_steps.specs.Steps.{name_at}
 use Rattle.chain_state.specs.declared.state.ChainState.{ChainState}
 use Rattle.chain_state.specs.PartOf.{part_of}
 use Rattle.chain_net.specs.Sound.{IsBetweenSteps}
-use Rattle.chain_net.specs.Stops.{IsActed, arrived, IsStoppedThere}
+use Rattle.net_laws.specs.Stops.{arrived, IsStoppedThere}
+use Rattle.chain_net.specs.Answers.{IsActed}
 use Rattle.chain_net.specs.Passing.{AreChanged, run_at, IsPassed, IsPassStopped}
 use Rattle.chain_net.proofs.Members.{same_some, at_place, got_set, got_other, set_many}
 

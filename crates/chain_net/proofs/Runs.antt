@@ -32,7 +32,8 @@ use Rattle.exec_admission.specs.Execution.{executed}
 use Rattle.network_steps.specs.Acting.{begun, ended, acted, caller}
 use Rattle.network_steps.specs.Steps.{nowhere, name_at}
 use Rattle.network_steps.specs.Fixed.{Fixed, fixed_of}
-use Rattle.chain_net.specs.Stops.{IsStoppedHere, IsActed, IsUnread, arrived, StandsAt, IsStoppedThere}
+use Rattle.net_laws.specs.Stops.{IsStoppedHere, arrived, StandsAt, IsStoppedThere}
+use Rattle.chain_net.specs.Answers.{IsActed, IsUnread}
 use Rattle.chain_net.specs.Sound.{IsListedCargo, IsBetweenSteps}
 use Rattle.chain_net.proofs.Shipments.{IsCarrying, executed_ships, executed_lands, executed_said, executed_quiet, abandoned_lands, abandoned_site}
 

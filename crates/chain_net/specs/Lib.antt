@@ -2,6 +2,6 @@ pub mod Order
 pub mod Chains
 pub mod Nets
 pub mod Sound
-pub mod Laws
-pub mod Stops
+pub mod Answers
 pub mod Passing
+pub mod Calls

@@ -14,7 +14,7 @@ use Rattle.chain_state.specs.declared.state.ChainState.{ChainState}
 use Rattle.chain_state.specs.PartOf.{part_of}
 use Rattle.chain_net.specs.Chains.{name_of}
 use Rattle.chain_net.specs.Sound.{IsListedCargo, IsBetweenSteps}
-use Rattle.chain_net.specs.Stops.{arrived, IsStoppedThere}
+use Rattle.net_laws.specs.Stops.{arrived, IsStoppedThere}
 
 -- the chain of a place is another one
 abbrev pub IsOther : List ChainState → ℕ → ChainId → Type 0

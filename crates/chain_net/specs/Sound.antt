@@ -4,6 +4,7 @@ use Rattle.std.specs.Coded.{Coded, Coded-set, coded_ℕ, coded_bool, coded_list,
 use Rattle.std.specs.FinMap as map
 use Rattle.amounts.specs.Amounts.{amount, empty}
 use Rattle.std.specs.List.{AllByRecursion, AllByRecursion-prop}
+use Rattle.std.proofs.Math.Logic.{∥∥₁_prop}
 use Rattle.asset_lists.specs.contracts.units.AssetId.{the_row as asset_id}
 use Rattle.asset_lists.specs.contracts.units.Instance.{the_row as instance}
 use Rattle.asset_lists.specs.declared.units.AssetId.TheVariants.{Concrete}
@@ -25,7 +26,8 @@ use Rattle.chain_pools.specs.Exchanges.{coin}
 use Rattle.exec_base.specs.Part.{ChainPart}
 use Rattle.exec_rules.specs.Readiness.{IsInOrder, IsAtRest}
 use Rattle.network_steps.specs.Worlds.{World}
-use Rattle.message_shapes.specs.Shapes.{AllShaped}
+use Rattle.network_spec.specs.declared.network.NetworkSpec.{NetworkSpec}
+use Rattle.net_laws.specs.Runs.{HasSomePast}
 use Rattle.chain_state.specs.declared.state.ChainState.{ChainState}
 use Rattle.chain_state.specs.PartOf.{part_of}
 
@@ -51,10 +53,6 @@ pub record IsBetweenSteps (p : ChainPart) : Type 0 where
 -- so are all of these chains
 abbrev pub AreBetweenSteps : List ChainState → Type 0
 AreBetweenSteps states = (place : ℕ) (state : ChainState) → slice_get states place ≡ Some state → IsBetweenSteps (part_of state)
-
--- no message that waits has another shape than the seven; said in this way the fact has one proof at most
-abbrev pub NoneMisshaped : World → Type 0
-NoneMisshaped w = (AllShaped w → ⊥) → ⊥
 
 -- ---- each of these facts has one proof at most, so that a network can keep them: a reader may skip the rest
 abbrev coded_bundle : Coded Bundle
@@ -102,8 +100,5 @@ IsBetweenSteps-prop p a b = λ i. record {
 pub AreBetweenSteps-prop : (stopped : Bool) (states : List ChainState) → IsProp (stopped ≡ false → AreBetweenSteps states)
 AreBetweenSteps-prop stopped states = Π_prop (λ (going : stopped ≡ false). Π_prop (λ (place : ℕ). Π_prop (λ (state : ChainState). Π_prop (λ (at : slice_get states place ≡ Some state). IsBetweenSteps-prop (part_of state)))))
 
-never_prop : IsProp ⊥
-never_prop a b = absurd a
-
-pub NoneMisshaped-prop : (stopped : Bool) (w : World) → IsProp (stopped ≡ false → NoneMisshaped w)
-NoneMisshaped-prop stopped w = Π_prop (λ (going : stopped ≡ false). Π_prop (λ (other : AllShaped w → ⊥). never_prop))
+pub HasSomePast-prop : (stopped : Bool) (spec : NetworkSpec) (w : World) → IsProp (stopped ≡ false → HasSomePast spec w)
+HasSomePast-prop stopped spec w = Π_prop (λ (going : stopped ≡ false). ∥∥₁_prop)

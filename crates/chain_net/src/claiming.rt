@@ -1,16 +1,21 @@
 //! Claims.
 ghost use Rattle.std.specs.Prelude.{◌≡◌, false, true, None, IfOk, OnOk, OnErr};
 ghost use Rattle.network_steps.specs.Steps as steps;
-ghost use Rattle.network_steps.specs.Steps.{claim};
+ghost use Rattle.network_steps.specs.Steps.{claim, Claim};
 ghost use Rattle.chain_net.specs.Nets.{world_of, spec_of, is_stopped, trace_of, stepped};
 ghost use Rattle.chain_net.specs.Sound.{AreBetweenSteps};
+ghost use Rattle.message_shapes.specs.Shapes.{AllShaped};
+ghost use Rattle.conserved_networks.specs.Kept.{IsCoherent};
+ghost use Rattle.net_laws.specs.Promises.{KeepsAssets, PaysInFull};
+ghost use Rattle.authority.specs.Speakers.{HasAuthority};
 
 use crate::Net;
 use crate::delivering::waits_for;
 use crate::executing::answer_to;
+use crate::laws::law_of_reached_nets;
 use chain_ids::ChainId;
 use exec_base::HostFault;
-use message_shapes::law_of_shapes;
+use net_laws::{law_of_nets, law_of_pasts, law_of_stopped_messages};
 use network_steps::{StepResult, law_of_decoded_programs};
 use std::alloc::AllocError;
 use versioned_xcm::decode_message;
@@ -37,15 +42,33 @@ impl Net {
         bytes: &[u8],
     ) -> Result<StepResult, AllocError>
         requires running { is_stopped self.old ≡ false }
-        ensures answer { IfOk result (λ answer. answer ≡ (claim (world_of self.old) from to bytes.now).answer) }
-        ensures world { OnOk result (world_of self.new ≡ (claim (world_of self.old) from to bytes.now).world) }
-        ensures trace { OnOk result (trace_of self.new ≡ (claim (world_of self.old) from to bytes.now).trace) }
+        ensures answer { IfOk result (λ answer. answer
+            ≡ (claim (world_of self.old) from to bytes.now).answer) }
+        ensures world { OnOk result (world_of self.new
+            ≡ (claim (world_of self.old) from to bytes.now).world) }
+        ensures trace { OnOk result (trace_of self.new
+            ≡ (claim (world_of self.old) from to bytes.now).trace) }
         ensures running { OnOk result (is_stopped self.new ≡ false) }
         ensures stopped { OnErr result (is_stopped self.new ≡ true) }
         ensures stops { OnErr result (world_of self.new ≡ world_of self.old) }
         ensures spec { spec_of self.new ≡ spec_of self.old }
+        // Whether the call answers or is out of memory: a coherent network keeps each asset, backs each derivative and
+        // burns nothing in excess, and in every network each message that waits has one of the seven shapes.
+        ensures kept { IsCoherent (spec_of self.old)
+            → KeepsAssets (spec_of self.old) (world_of self.new) }
+        ensures shaped { AllShaped (world_of self.new) }
+        // No account has less.
+        ensures authorized { HasAuthority (world_of self.old) (Claim from to bytes.now)
+            (world_of self.new) }
+        // In a coherent network what a delivery would take is paid, now and in the next drain.
+        ensures paid { OnOk result (IsCoherent (spec_of self.old)
+            → PaysInFull (spec_of self.old) (world_of self.new)) }
     {
-        law_of_shapes(); // For the prover alone.
+        // For the prover alone.
+        law_of_pasts();
+        law_of_reached_nets();
+        law_of_nets();
+        law_of_stopped_messages();
         self.stopped = true;
         self.acted = None;
         let answer = self.try_claim(from, to, bytes)?;
@@ -63,7 +86,8 @@ impl Net {
         requires stopped { self.old.stopped ≡ true }
         requires idle { self.old.acted ≡ None }
         requires between { AreBetweenSteps self.old.chains.items }
-        ensures step { IfOk result (λ answer. claim (world_of self.old) from to bytes.now ≡ stepped answer self.new) }
+        ensures step { IfOk result (λ answer. claim (world_of self.old) from to bytes.now
+            ≡ stepped answer self.new) }
         ensures between { OnOk result (AreBetweenSteps self.new.chains.items) }
         ensures stops { OnErr result (world_of self.new ≡ world_of self.old) }
         ensures stopped { self.new.stopped ≡ true }

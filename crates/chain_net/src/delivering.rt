@@ -4,22 +4,28 @@ ghost use Rattle.chain_ids.specs.declared.chain.ChainId.{ChainId};
 ghost use Rattle.std.specs.Option.{option_map};
 ghost use Rattle.channel_parts.specs.Channels.{Outgoing};
 ghost use Rattle.chain_queues.specs.Queues.{waiting_of, oldest, channel_to};
-ghost use Rattle.network_steps.specs.Steps.{deliver};
+ghost use Rattle.network_steps.specs.Steps.{deliver, Deliver};
 ghost use Rattle.chain_state.specs.PartOf.{part_of};
 ghost use Rattle.chain_net.specs.Chains.{name_of};
 ghost use Rattle.chain_net.specs.Nets.{world_of, spec_of, is_stopped, trace_of, stepped};
 ghost use Rattle.chain_net.specs.Sound.{AreBetweenSteps};
-ghost use Rattle.chain_net.specs.Stops.{DeliverStops, IsReadable};
+ghost use Rattle.message_shapes.specs.Shapes.{AllShaped};
+ghost use Rattle.conserved_networks.specs.Kept.{IsCoherent};
+ghost use Rattle.net_laws.specs.Promises.{KeepsAssets, PaysInFull};
+ghost use Rattle.authority.specs.Speakers.{HasAuthority};
+ghost use Rattle.net_laws.specs.Stops.{DeliverStops};
+ghost use Rattle.chain_net.specs.Answers.{IsReadable};
 ghost use Rattle.chain_net.specs.Passing.{IsOther, IsCarried, IsPassed, IsPassStopped};
 
 use crate::Net;
+use crate::laws::law_of_reached_nets;
 use crate::losing::{lines_of_loss, lose};
 use crate::running::run_message;
 use chain_ids::ChainId;
 use chain_queues::Queued;
 use chain_state::ChainState;
 use exec_admission::ChainRules;
-use message_shapes::law_of_shapes;
+use net_laws::{law_of_nets, law_of_pasts, law_of_stopped_messages, law_of_stopped_nets};
 use network_steps::StepResult;
 use std::alloc::{AllocError, Global};
 use xcm_program::Outcome;
@@ -40,8 +46,10 @@ fn pass(
     requires between { AreBetweenSteps chains.old.items }
     requires other { IsOther chains.old.items receiver from }
     requires carried { IsCarried chains.old.items sender queued.cargo }
-    ensures passed { IfOk result (λ outcome. IsPassed rules.now from (waiting_of queued) sender receiver outcome chains.old.items chains.new.items) }
-    ensures stopped { OnErr result (IsPassStopped rules.now from (waiting_of queued) sender receiver chains.old.items chains.new.items) }
+    ensures passed { IfOk result (λ outcome. IsPassed rules.now from (waiting_of queued) sender
+        receiver outcome chains.old.items chains.new.items) }
+    ensures stopped { OnErr result (IsPassStopped rules.now from (waiting_of queued) sender receiver
+        chains.old.items chains.new.items) }
 {
     let (ran, left) = run_message(alloc, rules, from, queued, &mut chains[receiver]);
     let lines = lines_of_loss(alloc, &chains[sender], &left);
@@ -53,7 +61,8 @@ fn pass(
 
 /// Whether a message waits at the chain for that one; `None` where no channel leads there.
 pub(crate) fn waits_for(chain: &ChainState, to: ChainId) -> Option<bool>
-    ensures { result ≡ option_map (λ (c : Outgoing). is_some (oldest c)) (channel_to to (part_of chain.now).channels) }
+    ensures { result ≡ option_map (λ (c : Outgoing). is_some (oldest c))
+        (channel_to to (part_of chain.now).channels) }
 {
     let messages = chain.queues().messages(to)?;
     Some(!messages.is_empty())
@@ -65,16 +74,36 @@ impl Net {
     /// network is stopped.
     pub fn deliver(&mut self, from: ChainId, to: ChainId) -> Result<StepResult, AllocError>
         requires running { is_stopped self.old ≡ false }
-        ensures answer { IfOk result (λ answer. answer ≡ (deliver (world_of self.old) from to).answer) }
-        ensures world { OnOk result (world_of self.new ≡ (deliver (world_of self.old) from to).world) }
-        ensures trace { OnOk result (trace_of self.new ≡ (deliver (world_of self.old) from to).trace) }
+        ensures answer { IfOk result (λ answer. answer
+            ≡ (deliver (world_of self.old) from to).answer) }
+        ensures world { OnOk result (world_of self.new
+            ≡ (deliver (world_of self.old) from to).world) }
+        ensures trace { OnOk result (trace_of self.new
+            ≡ (deliver (world_of self.old) from to).trace) }
         ensures read { IfOk result (λ answer. IsReadable answer) }
         ensures running { OnOk result (is_stopped self.new ≡ false) }
         ensures stopped { OnErr result (is_stopped self.new ≡ true) }
-        ensures stops { OnErr result (DeliverStops (world_of self.old) from to (world_of self.new)) }
+        ensures stops { OnErr result (DeliverStops (world_of self.old) from to
+            (world_of self.new)) }
         ensures spec { spec_of self.new ≡ spec_of self.old }
+        // Whether the call answers or is out of memory: a coherent network keeps each asset, backs each derivative and
+        // burns nothing in excess, and in every network each message that waits has one of the seven shapes.
+        ensures kept { IsCoherent (spec_of self.old)
+            → KeepsAssets (spec_of self.old) (world_of self.new) }
+        ensures shaped { AllShaped (world_of self.new) }
+        // No account has less but the sending chain's at the receiver, or a pool's, whose product doesn't fall.
+        ensures authorized { HasAuthority (world_of self.old) (Deliver from to)
+            (world_of self.new) }
+        // In a coherent network what a delivery would take is paid, now and in the next drain.
+        ensures paid { OnOk result (IsCoherent (spec_of self.old)
+            → PaysInFull (spec_of self.old) (world_of self.new)) }
     {
-        law_of_shapes(); // For the prover alone.
+        // For the prover alone.
+        law_of_pasts();
+        law_of_reached_nets();
+        law_of_nets();
+        law_of_stopped_nets();
+        law_of_stopped_messages();
         self.stopped = true;
         self.acted = None;
         let answer = self.try_deliver(from, to)?;
@@ -87,10 +116,12 @@ impl Net {
         requires stopped { self.old.stopped ≡ true }
         requires idle { self.old.acted ≡ None }
         requires between { AreBetweenSteps self.old.chains.items }
-        ensures step { IfOk result (λ answer. deliver (world_of self.old) from to ≡ stepped answer self.new) }
+        ensures step { IfOk result (λ answer. deliver (world_of self.old) from to
+            ≡ stepped answer self.new) }
         ensures read { IfOk result (λ answer. IsReadable answer) }
         ensures between { OnOk result (AreBetweenSteps self.new.chains.items) }
-        ensures stops { OnErr result (DeliverStops (world_of self.old) from to (world_of self.new)) }
+        ensures stops { OnErr result (DeliverStops (world_of self.old) from to
+            (world_of self.new)) }
         ensures stopped { self.new.stopped ≡ true }
         ensures spec { self.new.spec ≡ self.old.spec }
     {

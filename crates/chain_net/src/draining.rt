@@ -7,12 +7,18 @@ ghost use Rattle.network_steps.specs.Steps as steps;
 ghost use Rattle.network_steps.specs.Steps.{next_channel, drain, world_behind};
 ghost use Rattle.network_genesis.specs.Genesis.{order_of};
 ghost use Rattle.chain_net.specs.Nets.{world_of, spec_of, is_stopped};
-ghost use Rattle.chain_net.specs.Stops.{DrainStops};
+ghost use Rattle.message_shapes.specs.Shapes.{AllShaped};
+ghost use Rattle.conserved_networks.specs.Kept.{IsCoherent};
+ghost use Rattle.net_laws.specs.Promises.{KeepsAssets, PaysInFull, StopsWithAuthority};
+ghost use Rattle.authority.specs.Speakers.{HaveAuthority};
+ghost use Rattle.net_laws.specs.Stops.{DrainStops};
 
 use crate::Net;
 use crate::delivering::waits_for;
+use crate::laws::law_of_reached_nets;
 use chain_ids::ChainId;
 use message_shapes::law_of_drains;
+use net_laws::{law_of_nets, law_of_stopped_messages};
 use network_spec::ChannelSpec;
 use std::alloc::AllocError;
 
@@ -35,7 +41,9 @@ impl Net {
 
     /// The first channel of the document on which a message waits.
     fn first_waiting(&self) -> Option<&ChannelSpec>
-        ensures { option_copied result ≡ find (λ (c : ChannelSpec). steps.waits (world_of self.now) (c.from, c.channel.to)) self.now.spec.channels }
+        ensures { option_copied result ≡ find
+            (λ (c : ChannelSpec). steps.waits (world_of self.now) (c.from, c.channel.to))
+            self.now.spec.channels }
     {
         self.spec
             .channels
@@ -56,16 +64,39 @@ impl Net {
     /// most as many as messages wait and may still be sent. `Err` is out of memory: then the network is stopped.
     pub fn drain(&mut self) -> Result<u64, AllocError>
         requires running { is_stopped self.old ≡ false }
-        ensures count { IfOk result (λ count. count ≡ min (length (drain (order_of (spec_of self.old)) (world_of self.old))) (2 ^ 64 - 1)) }
+        ensures count { IfOk result (λ count. count
+            ≡ min (length (drain (order_of (spec_of self.old)) (world_of self.old)))
+            (2 ^ 64 - 1)) }
         ensures few { IfOk result (λ count. count ≤ deliveries_left (world_of self.old)) }
-        ensures world { OnOk result (world_of self.new ≡ world_behind (world_of self.old) (drain (order_of (spec_of self.old)) (world_of self.old))) }
-        ensures drained { OnOk result (next_channel (order_of (spec_of self.new)) (world_of self.new) ≡ None) }
+        ensures world { OnOk result (world_of self.new
+            ≡ world_behind (world_of self.old)
+            (drain (order_of (spec_of self.old)) (world_of self.old))) }
+        ensures drained { OnOk result (next_channel (order_of (spec_of self.new))
+            (world_of self.new) ≡ None) }
         ensures running { OnOk result (is_stopped self.new ≡ false) }
         ensures stopped { OnErr result (is_stopped self.new ≡ true) }
-        ensures stops { OnErr result (DrainStops (order_of (spec_of self.old)) (world_of self.old) (world_of self.new)) }
+        ensures stops { OnErr result (DrainStops (order_of (spec_of self.old)) (world_of self.old)
+            (world_of self.new)) }
         ensures spec { spec_of self.new ≡ spec_of self.old }
+        // Whether the call answers or is out of memory: a coherent network keeps each asset, backs each derivative and
+        // burns nothing in excess, and in every network each message that waits has one of the seven shapes.
+        ensures kept { IsCoherent (spec_of self.old)
+            → KeepsAssets (spec_of self.old) (world_of self.new) }
+        ensures shaped { AllShaped (world_of self.new) }
+        // Each delivery lowers no account but the sending chain's at the receiver, or a pool's, whose product doesn't fall.
+        ensures authorized { OnOk result (HaveAuthority (world_of self.old)
+            (drain (order_of (spec_of self.old)) (world_of self.old))) }
+        ensures stops_authorized { OnErr result (StopsWithAuthority
+            (order_of (spec_of self.old)) (world_of self.old) (world_of self.new)) }
+        // In a coherent network what a delivery would take is paid, now and in the next drain.
+        ensures paid { OnOk result (IsCoherent (spec_of self.old)
+            → PaysInFull (spec_of self.old) (world_of self.new)) }
     {
-        law_of_drains(); // For the prover alone.
+        // For the prover alone.
+        law_of_drains();
+        law_of_reached_nets();
+        law_of_nets();
+        law_of_stopped_messages();
         let mut count: u64 = 0;
         'deliveries: while let Some((from, to)) = self.next_channel() {
             self.deliver(from, to)?;

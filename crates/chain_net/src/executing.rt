@@ -3,15 +3,20 @@ ghost use Rattle.std.specs.Prelude.{◌≡◌, ◌≢◌, false, true, IfOk, OnO
 ghost use Rattle.versioned_xcm.specs.declared.faults.MessageFault.TheVariants.{Memory};
 ghost use Rattle.network_steps.specs.declared.step_result.StepResult.{StepResult};
 ghost use Rattle.network_steps.specs.Steps as steps;
-ghost use Rattle.network_steps.specs.Steps.{exec};
+ghost use Rattle.network_steps.specs.Steps.{exec, Exec};
 ghost use Rattle.chain_net.specs.Nets.{world_of, spec_of, is_stopped, trace_of, stepped};
 ghost use Rattle.chain_net.specs.Sound.{AreBetweenSteps};
-ghost use Rattle.chain_net.specs.Stops.{ExecStops};
+ghost use Rattle.message_shapes.specs.Shapes.{AllShaped};
+ghost use Rattle.conserved_networks.specs.Kept.{IsCoherent};
+ghost use Rattle.net_laws.specs.Promises.{KeepsAssets, PaysInFull};
+ghost use Rattle.authority.specs.Speakers.{HasAuthority};
+ghost use Rattle.net_laws.specs.Stops.{ExecStops};
 
 use crate::Net;
+use crate::laws::law_of_reached_nets;
 use crate::running::run_here;
 use chain_ids::ChainId;
-use message_shapes::law_of_shapes;
+use net_laws::{law_of_nets, law_of_pasts, law_of_stopped_messages, law_of_stopped_nets};
 use network_steps::{StepResult, law_of_decoded_programs};
 use std::alloc::AllocError;
 use trust_tables::is_sovereign;
@@ -49,15 +54,35 @@ impl Net {
         bytes: &[u8],
     ) -> Result<StepResult, AllocError>
         requires running { is_stopped self.old ≡ false }
-        ensures answer { IfOk result (λ answer. answer ≡ (exec (world_of self.old) chain account.now bytes.now).answer) }
-        ensures world { OnOk result (world_of self.new ≡ (exec (world_of self.old) chain account.now bytes.now).world) }
-        ensures trace { OnOk result (trace_of self.new ≡ (exec (world_of self.old) chain account.now bytes.now).trace) }
+        ensures answer { IfOk result (λ answer. answer
+            ≡ (exec (world_of self.old) chain account.now bytes.now).answer) }
+        ensures world { OnOk result (world_of self.new
+            ≡ (exec (world_of self.old) chain account.now bytes.now).world) }
+        ensures trace { OnOk result (trace_of self.new
+            ≡ (exec (world_of self.old) chain account.now bytes.now).trace) }
         ensures running { OnOk result (is_stopped self.new ≡ false) }
         ensures stopped { OnErr result (is_stopped self.new ≡ true) }
-        ensures stops { OnErr result (ExecStops (world_of self.old) chain account.now bytes.now (world_of self.new)) }
+        ensures stops { OnErr result (ExecStops (world_of self.old) chain account.now bytes.now
+            (world_of self.new)) }
         ensures spec { spec_of self.new ≡ spec_of self.old }
+        // Whether the call answers or is out of memory: a coherent network keeps each asset, backs each derivative and
+        // burns nothing in excess, and in every network each message that waits has one of the seven shapes.
+        ensures kept { IsCoherent (spec_of self.old)
+            → KeepsAssets (spec_of self.old) (world_of self.new) }
+        ensures shaped { AllShaped (world_of self.new) }
+        // No account has less but the caller's on this chain, or a pool's, whose product doesn't fall.
+        ensures authorized { HasAuthority (world_of self.old)
+            (Exec chain account.now bytes.now) (world_of self.new) }
+        // In a coherent network what a delivery would take is paid, now and in the next drain.
+        ensures paid { OnOk result (IsCoherent (spec_of self.old)
+            → PaysInFull (spec_of self.old) (world_of self.new)) }
     {
-        law_of_shapes(); // For the prover alone.
+        // For the prover alone.
+        law_of_pasts();
+        law_of_reached_nets();
+        law_of_nets();
+        law_of_stopped_nets();
+        law_of_stopped_messages();
         self.stopped = true;
         self.acted = None;
         let answer = self.try_exec(chain, account, bytes)?;
@@ -75,9 +100,11 @@ impl Net {
         requires stopped { self.old.stopped ≡ true }
         requires idle { self.old.acted ≡ None }
         requires between { AreBetweenSteps self.old.chains.items }
-        ensures step { IfOk result (λ answer. exec (world_of self.old) chain account.now bytes.now ≡ stepped answer self.new) }
+        ensures step { IfOk result (λ answer. exec (world_of self.old) chain account.now bytes.now
+            ≡ stepped answer self.new) }
         ensures between { OnOk result (AreBetweenSteps self.new.chains.items) }
-        ensures stops { OnErr result (ExecStops (world_of self.old) chain account.now bytes.now (world_of self.new)) }
+        ensures stops { OnErr result (ExecStops (world_of self.old) chain account.now bytes.now
+            (world_of self.new)) }
         ensures stopped { self.new.stopped ≡ true }
         ensures spec { self.new.spec ≡ self.old.spec }
     {

@@ -18,7 +18,8 @@ pub(crate) fn lines_of_loss(
     left: &Cargo,
 ) -> Result<Vec<Event>, AllocError>
     requires listed { IsListedCargo (listing (part_of sender.now).rows) left.now }
-    ensures { IfOk result (λ lines. lines.items ≡ lost_lines (lost_of left.now) (part_of sender.now)) }
+    ensures { IfOk result (λ lines. lines.items
+        ≡ lost_lines (lost_of left.now) (part_of sender.now)) }
 {
     match left {
         Cargo::Away(shipment) => match shipment.way() {

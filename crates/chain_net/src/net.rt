@@ -2,7 +2,8 @@
 ghost use Rattle.std.specs.Prelude.{◌≡◌, IsTrue, length, false};
 ghost use Rattle.chain_net.specs.Order.{are_in_order};
 ghost use Rattle.chain_net.specs.Chains.{names_of, world_in};
-ghost use Rattle.chain_net.specs.Sound.{AreBetweenSteps, AreBetweenSteps-prop, NoneMisshaped, NoneMisshaped-prop};
+ghost use Rattle.chain_net.specs.Sound.{AreBetweenSteps, AreBetweenSteps-prop, HasSomePast-prop};
+ghost use Rattle.net_laws.specs.Runs.{HasSomePast};
 
 use chain_ids::ChainId;
 use chain_state::ChainState;
@@ -10,7 +11,8 @@ use exec_admission::ChainRules;
 use network_spec::NetworkSpec;
 
 /// A network of chains: what its document says, and each chain's state, in the order of the document, with how it runs programs. The
-/// chains rise: the relay chain, then parachains by their numbers.
+/// chains rise: the relay chain, then parachains by their numbers. Unless it is stopped, steps led from the first world of the
+/// document to where it stands, so what holds behind any steps holds of it.
 #[derive(Drop)]
 pub struct Net {
     pub(crate) spec: NetworkSpec,
@@ -22,6 +24,7 @@ pub struct Net {
     ghost order: { IsTrue (are_in_order names.items) },
     ghost ruled: { length rules.items ≡ length chains.items },
     ghost named: { names_of chains.items ≡ names.items },
-    ghost between: { stopped ≡ false → AreBetweenSteps chains.items } by { AreBetweenSteps-prop stopped chains.items },
-    ghost shaped: { stopped ≡ false → NoneMisshaped (world_in rules.items chains.items) } by { NoneMisshaped-prop stopped (world_in rules.items chains.items) },
+    ghost between: { stopped ≡ false
+        → AreBetweenSteps chains.items } by { AreBetweenSteps-prop stopped chains.items },
+    ghost reached: { stopped ≡ false → HasSomePast spec (world_in rules.items chains.items) } by { HasSomePast-prop stopped spec (world_in rules.items chains.items) },
 }

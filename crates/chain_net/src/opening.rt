@@ -6,13 +6,16 @@ ghost use Rattle.network_genesis.specs.Genesis.{part_at, first_world};
 ghost use Rattle.network_genesis.specs.Openable.{IsOpenable};
 ghost use Rattle.chain_state.specs.PartOf.{part_of};
 ghost use Rattle.chain_net.specs.Nets.{world_of, spec_of, is_stopped, trace_of};
+ghost use Rattle.message_shapes.specs.Shapes.{AllShaped};
+ghost use Rattle.conserved_networks.specs.Kept.{IsCoherent};
+ghost use Rattle.net_laws.specs.Promises.{KeepsAssets, PaysInFull};
 
 use crate::Net;
 use barriers::Barrier;
 use chain_ids::ChainId;
 use chain_state::ChainState;
 use exec_admission::ChainRules;
-use message_shapes::law_of_shapes;
+use net_laws::{law_of_nets, law_of_pasts};
 use network_spec::{ChainSpec, NetworkSpec};
 use plain_lists::Listed;
 use std::alloc::{AllocError, Global};
@@ -66,7 +69,8 @@ fn names(alloc: Global, chains: &[ChainSpec]) -> Result<Vec<ChainId>, AllocError
 /// The states of all chains.
 fn all_states(alloc: Global, spec: &NetworkSpec) -> Result<Vec<ChainState>, AllocError>
     requires openable { IsOpenable spec.now }
-    ensures { IfOk result (λ states. map part_of states.items ≡ map (part_at spec.now) spec.now.chains) }
+    ensures { IfOk result (λ states. map part_of states.items
+        ≡ map (part_at spec.now) spec.now.chains) }
 {
     let chains = spec.chains.items();
     let mut states = Vec::with_capacity(alloc, chains.len())?;
@@ -84,8 +88,14 @@ impl Net {
         ensures spec { IfOk result (λ net. spec_of net ≡ spec) }
         ensures running { IfOk result (λ net. is_stopped net ≡ false) }
         ensures quiet { IfOk result (λ net. trace_of net ≡ []) }
+        // A coherent network keeps each asset and backs each derivative, and pays what is to be taken; nothing waits yet.
+        ensures kept { IfOk result (λ net. IsCoherent spec → KeepsAssets spec (world_of net)) }
+        ensures shaped { IfOk result (λ net. AllShaped (world_of net)) }
+        ensures paid { IfOk result (λ net. IsCoherent spec → PaysInFull spec (world_of net)) }
     {
-        law_of_shapes(); // For the prover alone.
+        // For the prover alone.
+        law_of_pasts();
+        law_of_nets();
         let names = names(alloc, spec.chains.items())?;
         let rules = all_rules(alloc, spec.chains.items())?;
         let chains = all_states(alloc, &spec)?;

@@ -16,7 +16,8 @@ ghost use Rattle.network_steps.specs.Acting.{begun, acted};
 ghost use Rattle.network_steps.specs.Steps.{name_at};
 ghost use Rattle.chain_state.specs.PartOf.{part_of};
 ghost use Rattle.chain_net.specs.Sound.{IsBetweenSteps, IsListedCargo};
-ghost use Rattle.chain_net.specs.Stops.{IsActed, IsStoppedHere, arrived, IsUnread, IsStoppedThere};
+ghost use Rattle.net_laws.specs.Stops.{IsStoppedHere, arrived, IsStoppedThere};
+ghost use Rattle.chain_net.specs.Answers.{IsActed, IsUnread};
 
 use chain_ids::ChainId;
 use chain_queues::{Cargo, Queued};
@@ -66,10 +67,15 @@ pub(crate) fn run_here(
 ) -> Result<Outcome, AllocError>
     requires between { IsBetweenSteps (part_of here.old) }
     requires forwardable { IsForwardable program }
-    ensures outcome { IfOk result (λ outcome. outcome ≡ (acted rules.now (acting.caller account.now) rules.now.limit program (begun (part_of here.old).site.chain Nothing (part_of here.old))).outcome) }
-    ensures part { OnOk result (part_of here.new ≡ (acted rules.now (acting.caller account.now) rules.now.limit program (begun (part_of here.old).site.chain Nothing (part_of here.old))).part) }
+    ensures outcome { IfOk result (λ outcome. outcome
+        ≡ (acted rules.now (acting.caller account.now) rules.now.limit program
+        (begun (part_of here.old).site.chain Nothing (part_of here.old))).outcome) }
+    ensures part { OnOk result (part_of here.new
+        ≡ (acted rules.now (acting.caller account.now) rules.now.limit program
+        (begun (part_of here.old).site.chain Nothing (part_of here.old))).part) }
     ensures between { OnOk result (IsBetweenSteps (part_of here.new)) }
-    ensures stopped { OnErr result (IsStoppedHere rules.now account.now program (part_of here.old) (part_of here.new)) }
+    ensures stopped { OnErr result (IsStoppedHere rules.now account.now program (part_of here.old)
+        (part_of here.new)) }
     ensures place { (part_of here.new).site ≡ (part_of here.old).site }
 {
     let chain = here.site().chain;
@@ -92,10 +98,21 @@ fn run_bytes(
     requires message { IsTrue (decodes bytes.now) }
     requires other { (part_of there.old).site.chain ≢ from }
     requires rest { IsAtRest (part_of there.old) }
-    ensures outcome { IfOk result (λ outcome. outcome ≡ (executed rules.now (name_at (part_of there.old).site.chain from) no_weight (program_read (message_of bytes.now)) (told (part_of there.old) (events.Message from (part_of there.old).site.chain number))).0.0) }
-    ensures part { OnOk result (part_of there.new ≡ (executed rules.now (name_at (part_of there.old).site.chain from) no_weight (program_read (message_of bytes.now)) (told (part_of there.old) (events.Message from (part_of there.old).site.chain number))).1) }
+    ensures outcome { IfOk result (λ outcome. outcome
+        ≡ (executed rules.now (name_at (part_of there.old).site.chain from) no_weight
+        (program_read (message_of bytes.now))
+        (told (part_of there.old) (events.Message from (part_of there.old).site.chain
+        number))).0.0) }
+    ensures part { OnOk result (part_of there.new
+        ≡ (executed rules.now (name_at (part_of there.old).site.chain from) no_weight
+        (program_read (message_of bytes.now))
+        (told (part_of there.old) (events.Message from (part_of there.old).site.chain
+        number))).1) }
     ensures rests { OnOk result (IsAtRest (part_of there.new)) }
-    ensures stopped { OnErr result (IsUnread rules.now (name_at (part_of there.old).site.chain from) (program_read (message_of bytes.now)) (part_of there.old) (told (part_of there.old) (events.Message from (part_of there.old).site.chain number)) (part_of there.new)) }
+    ensures stopped { OnErr result (IsUnread rules.now (name_at (part_of there.old).site.chain from)
+        (program_read (message_of bytes.now)) (part_of there.old)
+        (told (part_of there.old) (events.Message from (part_of there.old).site.chain number))
+        (part_of there.new)) }
 {
     law_of_decoded_programs(); // For the prover alone.
     let program = match decode_message(alloc, bytes) {
@@ -131,11 +148,16 @@ pub(crate) fn run_message(
     requires between { IsBetweenSteps (part_of there.old) }
     requires other { (part_of there.old).site.chain ≢ from }
     requires carried { (listed : List Listed) × IsListedCargo listed queued.cargo }
-    ensures ran { IfOk result.0 (λ outcome. IsActed (acted rules.now (name_at (part_of there.old).site.chain from) no_weight (waiting_of queued).program (arrived from (part_of there.old) (waiting_of queued))) outcome result.1 (part_of there.new)) }
+    ensures ran { IfOk result.0
+        (λ outcome. IsActed (acted rules.now (name_at (part_of there.old).site.chain from) no_weight
+        (waiting_of queued).program (arrived from (part_of there.old) (waiting_of queued)))
+        outcome result.1 (part_of there.new)) }
     ensures between { OnOk result.0 (IsBetweenSteps (part_of there.new)) }
-    ensures listed { (listed : List Listed) → IsListedCargo listed queued.cargo → IsListedCargo listed result.1 }
+    ensures listed { (listed : List Listed)
+        → IsListedCargo listed queued.cargo → IsListedCargo listed result.1 }
     ensures place { (part_of there.new).site ≡ (part_of there.old).site }
-    ensures stopped { OnErr result.0 (IsStoppedThere rules.now from (waiting_of queued) (part_of there.old) (part_of there.new) result.1) }
+    ensures stopped { OnErr result.0 (IsStoppedThere rules.now from (waiting_of queued)
+        (part_of there.old) (part_of there.new) result.1) }
 {
     let Queued {
         number,

@@ -46,7 +46,7 @@ module _ (order : List Link) (first : World) (steps : List Step) where
   next_kept all d a admits = all (behind d) a admits
 
 -- behind so many deliveries of a drain, from the world behind some steps: what holds behind any steps holds there
-pub in_drain : (P : World → Type 0) (order : List Link) (first w : World) (steps : List Step) (made : ℕ) → w ≡ last_world order first steps → ((more : List Step) → P (last_world order first more)) → P (world_behind w (deliveries made order w))
-in_drain P order first w steps made run all =
+pub behind_deliveries : (P : World → Type 0) (order : List Link) (first w : World) (steps : List Step) (made : ℕ) → w ≡ last_world order first steps → ((more : List Step) → P (last_world order first more)) → P (world_behind w (deliveries made order w))
+behind_deliveries P order first w steps made run all =
     let more = delivery_steps (deliveries made order w) in
     subst P (last_behind order first steps more ∙ ap (λ (v : World). last_world order v more) (sym run) ∙ same_deliveries made order w) (all (steps ++ more))

@@ -1,7 +1,7 @@
 -- Where memory was refused to a call: each message that waits has its shape, and no account is lowered but those for which the step speaks.
-use Rattle.std.proofs.Common.{◌≡◌, ◌⊎◌, ⊎_elim, ℕ, zero, suc, true, false, List, [], ◌∷◌, Option, Some, None, refl, sym, ap, ◌∙◌, subst, arith}
+use Rattle.std.proofs.Common.{◌≡◌, ◌⊎◌, ⊎_elim, ℕ, zero, suc, true, false, List, [], ◌∷◌, Option, Some, None, refl, sym, ap, ◌∙◌, subst}
 use Rattle.std.specs.Prelude.{if◌then◌else◌, drop, slice_get, slice_set}
-use Rattle.std.specs.Option.{option_and_then}
+use Rattle.std.specs.Option.{option_and_then, option_map_or}
 use Rattle.std.specs.List.{AllByRecursion}
 use Rattle.locations.specs.declared.relative.Location.{Location}
 use Rattle.message_parts.specs.declared.weight.Weight.{Weight}
@@ -22,14 +22,14 @@ use Rattle.exec_admission.specs.declared.rules.ChainRules.{ChainRules}
 use Rattle.exec_admission.specs.Execution.{executed, IsAbandoned}
 use Rattle.network_steps.specs.Worlds.{Member, World, chain_of, place_of, with_part}
 use Rattle.network_steps.specs.Acting.{begun, caller, lost_of, booking_lost}
-use Rattle.network_steps.specs.Steps.{without_message, name_at, waiting, Exec, Deliver}
+use Rattle.network_steps.specs.Steps.{without_message, name_at, waiting, Link, Step, Exec, Deliver, deliver, next_channel, deliveries}
 use Rattle.message_shapes.specs.Shapes.{IsShape, IsShaped, AreShapedIn, AreShapedAt, AllShaped}
 use Rattle.message_shapes.specs.StepLaws.{between_at, place_says}
 use Rattle.chain_pools.specs.Spending.{IsSpeaker}
 use Rattle.authority.specs.Origins.{SpendsOf, SpendsOnly}
-use Rattle.authority.specs.Speakers.{SpeaksFor, HasAuthority}
+use Rattle.authority.specs.Speakers.{SpeaksFor, HasAuthority, HaveAuthority}
 use Rattle.authority.specs.SpendingLaws.{same_spends, lost_spends, spends_more, none_spent, one_spent, two_spent}
-use Rattle.chain_net.specs.Stops.{ExecStopsAt, ExecStops, arrived, StandsAt, DeliverStops}
+use Rattle.net_laws.specs.Stops.{ExecStopsAt, ExecStops, arrived, StandsAt, DeliverStops}
 
 -- ---- shapes in a world
 shaped_at : (w : World) (k : ℕ) (m : Member) → slice_get w k ≡ Some m → AllShaped w → AreShapedAt m.part
@@ -161,3 +161,22 @@ module _ (laws : StopLaws) (w : World) where
         subst (HasAuthority w (Deliver from to)) (sym s.rest)
         (two_spent w s.sender_place s.receiver_place s.sender sender s.receiver (with_part s.part s.receiver) (SpeaksFor w (Deliver from to)) s.is_sender s.is_receiver (lost_spends (SpeaksFor w (Deliver from to) s.sender_place s.sender) to (lost_of s.left) s.sender.part)
         (subst (SpendsOf may s.receiver.part) (sym s.stopped.2) (record { settings = spent.settings; spends = spent.spends; burns = spent.burns })))
+
+-- ---- the whole deliveries of a drain
+by_next : (deliver_lowers : (w : World) (from to : ChainId) → AllShaped w → HasAuthority w (Deliver from to) (deliver w from to).world)
+    → (deliver_shapes : (w : World) (from to : ChainId) → AllShaped w → AllShaped (deliver w from to).world)
+    → (n : ℕ) (order : List Link) (w : World) (o : Option Link) → ((v : World) → AllShaped v → HaveAuthority v (deliveries n order v)) → AllShaped w
+    → HaveAuthority w (option_map_or (λ (link : Link). (link, deliver w link.0 link.1) ∷ deliveries n order (deliver w link.0 link.1).world) o [])
+by_next lowers shapes n order w None rest all = tt
+by_next lowers shapes n order w (Some link) rest all = (lowers w link.0 link.1 all, rest (deliver w link.0 link.1).world (shapes w link.0 link.1 all))
+
+pub deliveries_authorized : (deliver_lowers : (w : World) (from to : ChainId) → AllShaped w → HasAuthority w (Deliver from to) (deliver w from to).world)
+    → (deliver_shapes : (w : World) (from to : ChainId) → AllShaped w → AllShaped (deliver w from to).world)
+    → (n : ℕ) (order : List Link) (w : World) → AllShaped w → HaveAuthority w (deliveries n order w)
+unfolding deliveries
+deliveries_authorized lowers shapes zero order w all = tt
+deliveries_authorized lowers shapes (suc n) order w all = by_next lowers shapes n order w (next_channel order w) (λ v. deliveries_authorized lowers shapes n order v) all
+
+-- ---- nothing has changed
+pub unchanged_authorized : (w : World) (step : Step) → HasAuthority w step w
+unchanged_authorized w step = none_spent w (SpeaksFor w step)

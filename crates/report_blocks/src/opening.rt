@@ -34,7 +34,8 @@ pub fn open_audited(
     alloc: Global,
     bytes: &[u8],
 ) -> Result<Result<AuditedNet, NetworkFault>, AllocError>
-    ensures opened { IfOk result (λ answer. MatchResult answer (IsOpened bytes.now) (IsRefused bytes.now)) }
+    ensures opened { IfOk result (λ answer. MatchResult answer (IsOpened bytes.now)
+        (IsRefused bytes.now)) }
 {
     match open_network(alloc, bytes) {
         Ok(Ok(net)) => match AuditedNet::new(alloc, net) {

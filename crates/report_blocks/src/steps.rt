@@ -11,7 +11,7 @@ ghost use Rattle.network_genesis.specs.Genesis.{order_of};
 
 use crate::reads::{balances_block, queues_block, supply_block, traps_block};
 use chain_ids::ChainId;
-use chain_net::Net;
+use chain_net::{Net, law_of_reached_nets};
 use input_lines::Line;
 use message_shapes::law_of_drains;
 use report_text::SupplyPlan;
@@ -71,7 +71,9 @@ fn drained(alloc: Global, net: &mut Net) -> Result<String, AllocError>
     ensures running { OnOk result (is_stopped net.new ≡ false) }
     ensures spec { spec_of net.new ≡ spec_of net.old }
 {
-    law_of_drains(); // For the prover alone.
+    // For the prover alone.
+    law_of_drains();
+    law_of_reached_nets();
     let mut text = String::new(alloc);
     let mut count: u64 = 0;
     'deliveries: while let Some((from, to)) = net.next_channel() {

@@ -1,4 +1,4 @@
-use Rattle.std.proofs.Common.{ℕ, List, subst}
+use Rattle.std.proofs.Common.{ℕ, List, [], subst}
 use Rattle.xcm_program.specs.declared.instruction.Instruction.{Instruction}
 use Rattle.exec_base.specs.Part.{ChainPart}
 use Rattle.exec_admission.specs.Execution.{IsAbandoned}
@@ -11,29 +11,52 @@ use Rattle.conservation.specs.Headline.{IsKept}
 use Rattle.conserved_steps.specs.Views.{views}
 use Rattle.conserved_steps.specs.Worlds.{IsFirst, AllKept, IsExecution, begins, where_stopped, IsDelivery, StopsAt, where_delivery_stopped}
 use Rattle.conserved_networks.specs.Kept.{IsCoherent}
-use Rattle.chain_net.specs.Nets.{world_of, spec_of}
-use Rattle.chain_net.specs.Stops.{ExecStops, DeliverStops, DrainStops}
+use Rattle.overflow_laws.specs.Excess.{NoExcess, NoExcessIn, NoExcessEver}
+use Rattle.net_laws.specs.Stops.{ExecStops, DeliverStops, DrainStops}
 use Rattle.net_laws.proofs.Stopped.{exec_kept, deliver_kept, drain_kept}
+use Rattle.net_laws.proofs.StoppedBurns.{exec_none, deliver_none, drain_none}
 use Rattle.net_laws.proofs.laws.law_of_stopped_nets.Goals as goal
 
 pub returns : goal.returns
 returns c =
     let first : (spec : NetworkSpec) → IsCoherent spec → IsFirst (first_world spec) = λ spec coherent. c.law_of_conserved_networks.ensures.first spec coherent in
     let kept : (spec : NetworkSpec) → IsCoherent spec → (steps : List Step) → AllKept (order_of spec) (first_world spec) steps = λ spec coherent steps. c.law_of_conserved_networks.ensures.kept spec steps coherent in
+    let none : (spec : NetworkSpec) → IsCoherent spec → (steps : List Step) → NoExcessEver (order_of spec) (first_world spec) steps = λ spec coherent steps. c.law_of_unsaturated_worlds.ensures.networks spec steps coherent in
+    let none_first : (spec : NetworkSpec) → IsCoherent spec → NoExcessIn (first_world spec) = λ spec coherent. (none spec coherent []).0 in
     let here : (spec : NetworkSpec) → IsCoherent spec → (steps : List Step) (account : List ℕ) (program : List Instruction) (x : IsExecution (order_of spec) (first_world spec) steps account program) (now : ChainPart)
     → IsAbandoned x.member.rules (caller account) x.member.rules.limit program (begins x.member) now → IsKept (views (first_world spec)) (where_stopped x.world x.place now) =
     λ spec coherent steps account program x now. c.law_of_conserved_executions.ensures.stopped (order_of spec) (first_world spec) steps account program x now (first spec coherent) in
     let there : (spec : NetworkSpec) → IsCoherent spec → (steps : List Step) (d : IsDelivery (order_of spec) (first_world spec) steps) (now : ChainPart) → StopsAt d.sender d.receiver d.message now
     → IsKept (views (first_world spec)) (where_delivery_stopped d.world d.from d.sender d.to d.receiver now) =
     λ spec coherent steps d now. c.law_of_conserved_deliveries.ensures.stopped (order_of spec) (first_world spec) steps d now (first spec coherent) in
+    let none_here : (spec : NetworkSpec) → IsCoherent spec → (steps : List Step) (account : List ℕ) (program : List Instruction) (x : IsExecution (order_of spec) (first_world spec) steps account program) (now : ChainPart)
+    → IsAbandoned x.member.rules (caller account) x.member.rules.limit program (begins x.member) now → NoExcess now.burns =
+    λ spec coherent steps account program x now. c.law_of_unsaturated_runs.ensures.stopped_executions (order_of spec) (first_world spec) steps account program x now (first spec coherent) (none_first spec coherent) in
+    let none_there : (spec : NetworkSpec) → IsCoherent spec → (steps : List Step) (d : IsDelivery (order_of spec) (first_world spec) steps) (now : ChainPart) → StopsAt d.sender d.receiver d.message now → NoExcess now.burns =
+    λ spec coherent steps d now. c.law_of_unsaturated_runs.ensures.stopped_deliveries (order_of spec) (first_world spec) steps d now (first spec coherent) (none_first spec coherent) in
     record {
-      exec = λ old new steps chain account bytes coherent run stops.
-          exec_kept (order_of (spec_of old)) (first_world (spec_of old)) (first (spec_of old) coherent) (kept (spec_of old) coherent) (here (spec_of old) coherent) (there (spec_of old) coherent) steps chain account bytes (world_of new)
-          (subst (λ (w : World). ExecStops w chain account bytes (world_of new)) run stops);
-      deliver = λ old new steps from to coherent run stops.
-          deliver_kept (order_of (spec_of old)) (first_world (spec_of old)) (first (spec_of old) coherent) (kept (spec_of old) coherent) (here (spec_of old) coherent) (there (spec_of old) coherent) steps from to (world_of new)
-          (subst (λ (w : World). DeliverStops w from to (world_of new)) run stops);
-      drain = λ old new steps coherent run stops.
-          drain_kept (order_of (spec_of old)) (first_world (spec_of old)) (first (spec_of old) coherent) (kept (spec_of old) coherent) (here (spec_of old) coherent) (there (spec_of old) coherent) steps (world_of new)
-          (subst (λ (w : World). DrainStops (order_of (spec_of old)) w (world_of new)) run stops);
+      exec = λ spec w now chain account bytes coherent past stops.
+          let order = order_of spec in
+          let old = first_world spec in
+          let s = subst (λ (v : World). ExecStops v chain account bytes now) past.run stops in
+          record {
+            kept = exec_kept order old (kept spec coherent) (here spec coherent) (there spec coherent) past.steps chain account bytes now s;
+            no_excess = exec_none order old (none spec coherent) (none_here spec coherent) (none_there spec coherent) past.steps chain account bytes now s;
+          };
+      deliver = λ spec w now from to coherent past stops.
+          let order = order_of spec in
+          let old = first_world spec in
+          let s = subst (λ (v : World). DeliverStops v from to now) past.run stops in
+          record {
+            kept = deliver_kept order old (kept spec coherent) (here spec coherent) (there spec coherent) past.steps from to now s;
+            no_excess = deliver_none order old (none spec coherent) (none_here spec coherent) (none_there spec coherent) past.steps from to now s;
+          };
+      drain = λ spec w now coherent past stops.
+          let order = order_of spec in
+          let old = first_world spec in
+          let s = subst (λ (v : World). DrainStops order v now) past.run stops in
+          record {
+            kept = drain_kept order old (kept spec coherent) (here spec coherent) (there spec coherent) past.steps now s;
+            no_excess = drain_none order old (none spec coherent) (none_here spec coherent) (none_there spec coherent) past.steps now s;
+          };
     }

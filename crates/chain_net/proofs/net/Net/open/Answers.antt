@@ -4,7 +4,8 @@ use Rattle.chain_ids.specs.declared.chain.ChainId.{ChainId}
 use Rattle.network_spec.specs.declared.chain.ChainSpec.{ChainSpec}
 use Rattle.network_genesis.specs.Genesis.{rules_of}
 use Rattle.chain_net.specs.Order.{are_in_order}
-use Rattle.chain_net.proofs.Openings.{in_order_by, first_is, names_are, as_many, all_between, none_misshaped, openable_chains}
+use Rattle.net_laws.specs.Runs.{HasPast}
+use Rattle.chain_net.proofs.Openings.{in_order_by, first_is, names_are, as_many, all_between, openable_chains}
 use Rattle.chain_net.proofs.net.Net.open.Goals as goal
 
 pub invariant_of-result : goal.invariant_of-result
@@ -18,8 +19,29 @@ invariant_of-result c =
       ruled = as_many spec spec.chains c.in_ok-rules.rules.items c.in_ok-chains.chains.items rules parts;
       named = names_are spec spec.chains c.in_ok-chains.chains.items parts ∙ sym names;
       between = λ going. all_between spec spec.chains c.in_ok-chains.chains.items c.requires.openable (openable_chains spec c.requires.openable) parts;
-      shaped = λ going. none_misshaped c.law_of_shapes.ensures.first spec spec.chains c.in_ok-rules.rules.items c.in_ok-chains.chains.items rules parts;
+      reached = λ going. ∣ subst (HasPast spec) (sym (first_is spec spec.chains c.in_ok-rules.rules.items c.in_ok-chains.chains.items rules parts)) (c.law_of_pasts.ensures.opened spec) ∣₁;
     }
 
 pub returns-clause-first : goal.returns-clause-first
 returns-clause-first c = first_is c.args.spec c.args.spec.chains c.in_ok-rules.rules.items c.in_ok-chains.chains.items (c.in_ok-rules.ensures ∙ ap (map rules_of) c.items-2.ensures) c.in_ok-chains.ensures
+
+pub returns-clause-kept : goal.returns-clause-kept
+returns-clause-kept c coherent =
+    let spec = c.args.spec in
+    let is = first_is spec spec.chains c.in_ok-rules.rules.items c.in_ok-chains.chains.items (c.in_ok-rules.ensures ∙ ap (map rules_of) c.items-2.ensures) c.in_ok-chains.ensures in
+    let past = subst (HasPast spec) (sym is) (c.law_of_pasts.ensures.opened spec) in
+    c.law_of_nets.ensures.kept spec _ coherent past
+
+pub returns-clause-shaped : goal.returns-clause-shaped
+returns-clause-shaped c =
+    let spec = c.args.spec in
+    let is = first_is spec spec.chains c.in_ok-rules.rules.items c.in_ok-chains.chains.items (c.in_ok-rules.ensures ∙ ap (map rules_of) c.items-2.ensures) c.in_ok-chains.ensures in
+    let past = subst (HasPast spec) (sym is) (c.law_of_pasts.ensures.opened spec) in
+    c.law_of_nets.ensures.shaped spec _ past
+
+pub returns-clause-paid : goal.returns-clause-paid
+returns-clause-paid c coherent =
+    let spec = c.args.spec in
+    let is = first_is spec spec.chains c.in_ok-rules.rules.items c.in_ok-chains.chains.items (c.in_ok-rules.ensures ∙ ap (map rules_of) c.items-2.ensures) c.in_ok-chains.ensures in
+    let past = subst (HasPast spec) (sym is) (c.law_of_pasts.ensures.opened spec) in
+    c.law_of_nets.ensures.paid spec _ coherent past

@@ -1,10 +1,8 @@
 -- What a step leaves where memory is refused. This project's own rule.
-use Rattle.std.specs.Prelude.{◌≡◌, ◌⊎◌, ℕ, false, List, Some, Ok, slice_get, slice_set, ⊤}
-use Rattle.locations.specs.declared.relative.Location.{Location}
+use Rattle.std.specs.Prelude.{◌≡◌, ◌⊎◌, ℕ, false, List, Some, Ok, slice_get, slice_set}
 use Rattle.chain_ids.specs.declared.chain.ChainId.{ChainId}
 use Rattle.weight_trader.specs.Purchases.{no_weight}
 use Rattle.xcm_program.specs.declared.instruction.Instruction.{Instruction}
-use Rattle.xcm_program.specs.declared.outcome.Outcome.{Outcome}
 use Rattle.versioned_xcm.specs.Reading.{message_of}
 use Rattle.channel_parts.specs.declared.cargo.Cargo.{Cargo}
 use Rattle.channel_parts.specs.declared.cargo.Cargo.TheVariants.{Nothing}
@@ -15,9 +13,8 @@ use Rattle.exec_base.specs.Part.{ChainPart}
 use Rattle.exec_base.specs.Host.{told}
 use Rattle.exec_admission.specs.declared.rules.ChainRules.{ChainRules}
 use Rattle.exec_admission.specs.Execution.{executed, IsAbandoned}
-use Rattle.network_steps.specs.declared.step_result.StepResult.{StepResult}
 use Rattle.network_steps.specs.Worlds.{Member, World, place_of, with_part}
-use Rattle.network_steps.specs.Acting.{begun, ended, Acted, caller, lost_of, booking_lost}
+use Rattle.network_steps.specs.Acting.{begun, ended, caller, lost_of, booking_lost}
 use Rattle.chain_pools.specs.Exchanges.{is_pool_account}
 use Rattle.network_steps.specs.Steps.{is_sovereign, name_at, without_message, Link, next_channel, deliveries, world_behind}
 
@@ -47,14 +44,6 @@ abbrev pub ExecStops : World → ChainId → List ℕ → List ℕ → World →
 ExecStops w chain account bytes now = (now ≡ w) ⊎ ExecStopsAt w chain account bytes now
 
 -- ---- deliveries
-
--- what a program left behind it: its outcome, what was left of the cargo, and the chain
-abbrev pub IsActed : Acted → Outcome → Cargo → ChainPart → Type 0
-IsActed a outcome left now = (outcome ≡ a.outcome) × (left ≡ a.left) × (now ≡ a.part)
-
--- a message was neither read nor told, or its execution was abandoned
-abbrev pub IsUnread : ChainRules → Location → List Instruction → ChainPart → ChainPart → ChainPart → Type 0
-IsUnread rules origin program before told_of now = (now ≡ before) ⊎ IsAbandoned rules origin no_weight program told_of now
 
 -- a chain as a message runs on it
 abbrev pub arrived : ChainId → ChainPart → Waiting → ChainPart
@@ -96,10 +85,3 @@ pub record DrainStops (order : List Link) (w now : World) : Type 0 where
   pub link : Link
   pub next : next_channel order (world_behind w (deliveries made order w)) ≡ Some link
   pub stopped : DeliverStops (world_behind w (deliveries made order w)) link.0 link.1 now
-
--- ---- messages that wait
-
--- an answer that doesn't say that bytes are no message: each message that waits is one
-abbrev pub IsReadable : StepResult → Type 0
-IsReadable (StepResult.Message fault) = ⊥
-IsReadable answer = ⊤
