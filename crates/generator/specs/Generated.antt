@@ -1,35 +1,19 @@
 -- The generator: a list of steps that is drawn from a number, run in a fixed network, and what came of it. This project's own rule.
 --
---   document     the text that describes the network
 --   answers      what the steps answer, one behind another, from a world on
 --   summary      the report of a run in a network
---   generated    the report of a run in the network of the document
-use Rattle.std.specs.Prelude.{ℕ, ◌+◌, List, [], ◌∷◌, ◌++◌, Result, Ok, Err, codes, decimal, count_by}
-use Rattle.document_forms.specs.declared.fault.NetworkFault.{NetworkFault}
+--   generated    the report of a run in the network of the generator's document
+use Rattle.std.specs.Prelude.{ℕ, ◌+◌, List, [], ◌∷◌, ◌++◌, codes, decimal, count_by}
 use Rattle.network_spec.specs.declared.network.NetworkSpec.{NetworkSpec}
-use Rattle.network_config.specs.Network.{network_of}
 use Rattle.network_genesis.specs.Genesis.{order_of, first_world}
 use Rattle.network_steps.specs.declared.step_result.StepResult.{StepResult}
 use Rattle.network_steps.specs.Worlds.{World}
 use Rattle.network_steps.specs.Steps.{Step, Exec, Deliver, Claim, Drain, Balances, Traps, Queues, Supply, Link, exec, deliver, claim, after, last_world}
 use Rattle.report_blocks.specs.Reads.{supply_block}
+use Rattle.generator_network.specs.Network.{network}
 use Rattle.generator.specs.declared.counts.Counts.{Counts}
 use Rattle.generator.specs.Turns.{steps_from}
 use Rattle.generator.specs.Results.{is_complete, is_incomplete, is_error, is_empty}
-
--- a relay chain with a native asset, two parachains with a derivative of it, and channels down and up
-abbrev pub document : List ℕ
-document =
-    codes "{\"chains\":[\n"
-    ++ codes "{\"assets\":[{\"id\":\"0\",\"native\":[]}],\n"
-    ++ codes " \"rates\":[{\"asset\":\"0\",\"per_second\":\"1000000000\",\"per_mb\":\"0\"}],\n"
-    ++ codes " \"accounts\":[{\"who\":\"0x0101010101010101010101010101010101010101010101010101010101010101\",\"asset\":\"0\",\"amount\":\"1000000\"}]},\n"
-    ++ codes "{\"para\":2000,\"assets\":[{\"id\":\"1\",\"reserve\":\"relay\"}],\n"
-    ++ codes " \"rates\":[{\"asset\":\"1\",\"per_second\":\"1000000000\",\"per_mb\":\"0\"}]},\n"
-    ++ codes "{\"para\":2001,\"assets\":[{\"id\":\"1\",\"reserve\":\"relay\"}],\n"
-    ++ codes " \"rates\":[{\"asset\":\"1\",\"per_second\":\"1000000000\",\"per_mb\":\"0\"}]}],\n"
-    ++ codes "\"channels\":[{\"from\":\"relay\",\"to\":2000},{\"from\":2000,\"to\":\"relay\"},\n"
-    ++ codes "{\"from\":\"relay\",\"to\":2001},{\"from\":2001,\"to\":\"relay\"}]}\n"
 
 -- what a step answers; a drain and the steps that only report have no answer of their own, and none of them is drawn
 abbrev pub answer_to_step : World → Step → StepResult
@@ -77,11 +61,6 @@ summary spec number steps =
     ++ (counts_line (counts_of (answers (order_of spec) (first_world spec) (steps_from steps number)))
     ++ supply_block (last_world (order_of spec) (first_world spec) (steps_from steps number)))
 
--- the summary where there is a network
-abbrev pub summary_of : Result NetworkSpec NetworkFault → ℕ → ℕ → Result (List ℕ) NetworkFault
-summary_of (Ok spec) number steps = Ok (summary spec number steps)
-summary_of (Err fault) number steps = Err fault
-
--- the report of the run in the network of the document, or, if there were one, the document's fault
-unfoldable pub generated : ℕ → ℕ → Result (List ℕ) NetworkFault
-generated number steps = summary_of (network_of document) number steps
+-- the report of the run in the generator's network
+unfoldable pub generated : ℕ → ℕ → List ℕ
+generated number steps = summary network number steps

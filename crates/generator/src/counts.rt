@@ -36,9 +36,12 @@ impl Counts {
 
     /// Counts a step that answered this.
     pub(crate) fn add(&mut self, answer: &StepResult)
-        requires room { self.old.complete + self.old.incomplete + self.old.error + self.old.empty + 1 < 2 ^ 64 }
-        ensures complete { self.new.complete ≡ self.old.complete + cond (is_complete answer.now) 1 0 }
-        ensures incomplete { self.new.incomplete ≡ self.old.incomplete + cond (is_incomplete answer.now) 1 0 }
+        requires room { self.old.complete + self.old.incomplete + self.old.error + self.old.empty
+            + 1 < 2 ^ 64 }
+        ensures complete { self.new.complete
+            ≡ self.old.complete + cond (is_complete answer.now) 1 0 }
+        ensures incomplete { self.new.incomplete
+            ≡ self.old.incomplete + cond (is_incomplete answer.now) 1 0 }
         ensures error { self.new.error ≡ self.old.error + cond (is_error answer.now) 1 0 }
         ensures empty { self.new.empty ≡ self.old.empty + cond (is_empty answer.now) 1 0 }
     {

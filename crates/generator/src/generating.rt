@@ -1,5 +1,5 @@
 //! The whole run, and its report.
-ghost use Rattle.std.specs.Prelude.{◌≡◌, ◌++◌, false, Ok, Err, IfOk, MatchResult, string_bytes};
+ghost use Rattle.std.specs.Prelude.{◌≡◌, ◌++◌, false, IfOk, string_bytes};
 ghost use Rattle.network_genesis.specs.Genesis.{first_world};
 ghost use Rattle.chain_net.specs.Nets.{world_of, spec_of, is_stopped};
 ghost use Rattle.report_blocks.specs.Reads as reads;
@@ -7,10 +7,9 @@ ghost use Rattle.generator.specs.Generated as generated;
 ghost use Rattle.generator.specs.Generated.{asked_line, counts_line, generated};
 
 use crate::counts::Counts;
-use crate::document::document_bytes;
 use crate::running::run_steps;
 use chain_net::Net;
-use document_forms::NetworkFault;
+use generator_network::{document_bytes, law_of_document};
 use report_blocks::open_network;
 use std::alloc::{AllocError, Global};
 
@@ -44,7 +43,8 @@ fn supply_block(alloc: Global, net: &Net) -> Result<String, AllocError>
 fn summary(alloc: Global, net: &mut Net, number: u64, steps: u64) -> Result<String, AllocError>
     requires running { is_stopped net.old ≡ false }
     requires first { world_of net.old ≡ first_world (spec_of net.old) }
-    ensures { IfOk result (λ text. string_bytes text ≡ generated.summary (spec_of net.old) number steps) }
+    ensures { IfOk result (λ text. string_bytes text
+        ≡ generated.summary (spec_of net.old) number steps) }
 {
     let counts = run_steps(alloc, net, number, steps)?;
     let mut text = asked_line(alloc, number, steps)?;
@@ -56,18 +56,14 @@ fn summary(alloc: Global, net: &mut Net, number: u64, steps: u64) -> Result<Stri
 }
 
 /// Draws so many steps behind the number, runs them in the generator's network, and reports how many of them ended in which way, and what the
-/// network then has of each asset. It reads nothing else. A fault would be that of the generator's own document. `Err` is out of memory
-/// alone.
+/// network then has of each asset. It reads nothing else. `Err` is out of memory alone.
 #[tactic(auto, unfolding(crate::specs::Generated::generated))]
-pub fn generate(
-    alloc: Global,
-    number: u64,
-    steps: u64,
-) -> Result<Result<String, NetworkFault>, AllocError>
-    ensures report { IfOk result (λ answer. MatchResult answer (λ text. generated number steps ≡ Ok (string_bytes text)) (λ fault. generated number steps ≡ Err fault)) }
+pub fn generate(alloc: Global, number: u64, steps: u64) -> Result<String, AllocError>
+    ensures report { IfOk result (λ text. string_bytes text ≡ generated number steps) }
 {
+    law_of_document(); // For the prover alone: the document is accepted.
     match open_network(alloc, document_bytes())? {
-        Ok(mut net) => Ok(Ok(summary(alloc, &mut net, number, steps)?)),
-        Err(fault) => Ok(Err(fault)),
+        Ok(mut net) => summary(alloc, &mut net, number, steps),
+        Err(_) => unreachable!(),
     }
 }

@@ -7,5 +7,6 @@ ghost use Rattle.generator.specs.Generated.{answers, counts_of, all_steps};
 
 /// Each step is counted once: the four counts sum to the number of steps.
 pub fn law_of_counts()
-    ensures { (order : List Link) (w : World) (number steps : ℕ) → all_steps (counts_of (answers order w (steps_from steps number))) ≡ steps }
+    ensures { (order : List Link) (w : World) (number steps : ℕ)
+        → all_steps (counts_of (answers order w (steps_from steps number))) ≡ steps }
 {}

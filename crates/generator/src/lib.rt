@@ -2,7 +2,6 @@
 #![tactic(auto)]
 
 mod counts;
-mod document;
 mod draws;
 mod generating;
 mod laws;
@@ -10,6 +9,5 @@ mod messages;
 mod running;
 mod turns;
 
-pub use document_forms::NetworkFault;
 pub use generating::generate;
 pub use laws::law_of_counts;

@@ -24,8 +24,10 @@ const RETURNER: [u8; 32] = [2; 32];
 /// Runs a turn's step in the network.
 fn perform(alloc: Global, net: &mut Net, turn: Turn) -> Result<StepResult, AllocError>
     requires running { is_stopped net.old ≡ false }
-    ensures answer { IfOk result (λ answer. answer ≡ answer_to_step (world_of net.old) (step_of_turn turn)) }
-    ensures world { OnOk result (world_of net.new ≡ after (order_of (spec_of net.old)) (world_of net.old) (step_of_turn turn)) }
+    ensures answer { IfOk result (λ answer. answer
+        ≡ answer_to_step (world_of net.old) (step_of_turn turn)) }
+    ensures world { OnOk result (world_of net.new
+        ≡ after (order_of (spec_of net.old)) (world_of net.old) (step_of_turn turn)) }
     ensures running { OnOk result (is_stopped net.new ≡ false) }
     ensures spec { spec_of net.new ≡ spec_of net.old }
 {
@@ -51,8 +53,12 @@ pub(crate) fn run_steps(
     steps: u64,
 ) -> Result<Counts, AllocError>
     requires running { is_stopped net.old ≡ false }
-    ensures counts { IfOk result (λ counts. counts ≡ counts_of (answers (order_of (spec_of net.old)) (world_of net.old) (steps_from steps number))) }
-    ensures world { OnOk result (world_of net.new ≡ last_world (order_of (spec_of net.old)) (world_of net.old) (steps_from steps number)) }
+    ensures counts { IfOk result (λ counts. counts
+        ≡ counts_of (answers (order_of (spec_of net.old)) (world_of net.old)
+        (steps_from steps number))) }
+    ensures world { OnOk result (world_of net.new
+        ≡ last_world (order_of (spec_of net.old)) (world_of net.old)
+        (steps_from steps number)) }
     ensures spec { spec_of net.new ≡ spec_of net.old }
 {
     let mut draws = Draws { state: number };

@@ -4,18 +4,10 @@ use std::alloc::Global;
 use std::process::Abort;
 use std::test::Fail;
 
-/// The report of a run.
-fn report(alloc: Global, number: u64, steps: u64) -> Result<String, Fail> {
-    match generate(alloc, number, steps)? {
-        Ok(text) => Ok(text),
-        Err(fault) => Ok(format!(in alloc; "{fault}")?),
-    }
-}
-
 /// Asserts what is reported of each run.
 fn all_are(rt: &impl Abort, alloc: Global, rows: &[(u64, u64, &str)]) -> Result<(), Fail> {
     for (number, steps, expected) in rows {
-        let text = report(alloc, *number, *steps)?;
+        let text = generate(alloc, *number, *steps)?;
         assert_eq!(rt; text.as_str(), *expected);
     }
     Ok(())

@@ -28,8 +28,8 @@ use Rattle.xcm_cli.specs.declared.phase.Opened.{Opened}
 use Rattle.xcm_cli.specs.declared.phase.Opened.TheVariants.{Runs, Over}
 use Rattle.xcm_cli.specs.declared.status.Status.{Status}
 use Rattle.xcm_cli.specs.declared.status.Status.TheVariants.{Done, ReadFault, WriteFault, NetworkRefused, LineRefused, TooLong}
-use Rattle.xcm_cli.specs.Report.{Reply, ends, then_on, steps_reply, network_reply, part_reply, lines_reply, fits_limits, max_network, max_input}
-use Rattle.xcm_cli.specs.Session.{Writes, Advances, Finishes, Opens, Begins, head_of, reply_at, phase_reply, HoldsPart, IsReady}
+use Rattle.xcm_cli.specs.Report.{Reply, ends, then_on, steps_reply, network_reply, part_reply, lines_reply, fits_limits, max_network, max_line, max_input}
+use Rattle.xcm_cli.specs.Session.{Writes, Advances, Finishes, Opens, Begins, head_of, reply_at, phase_reply, HoldsPart, HasRoom, IsReady}
 
 -- ---- fronts
 
@@ -460,6 +460,13 @@ part_within s part e r = let h : (length part.items ≡ s.taken) × (s.taken ≤
 
 pub steps_size : (s : Session) (net : Net) (done : ℕ) → s.phase ≡ Steps net done → IsReady s → (s.taken ≤ max_input) × (is_stopped net ≡ false)
 steps_size s net done e r = let P : Phase → Type 0 = λ p. HoldsPart p s.taken in subst P e r.part
+
+-- a line that is begun is within the limits so far
+pub room_steps : (s : Session) (net : Net) (done begun : ℕ) → s.phase ≡ Steps net done → begun ≤ max_line → s.taken + begun ≤ max_input → HasRoom s.phase s.taken begun
+room_steps s net done begun e line total = let P : Phase → Type 0 = λ p. HasRoom p s.taken begun in subst P (sym e) (line, total)
+
+pub room_network : (s : Session) (part : Vec ℕ Global) (begun : ℕ) → s.phase ≡ Network part → s.taken + begun ≤ max_network + 4 → HasRoom s.phase s.taken begun
+room_network s part begun e size = let P : Phase → Type 0 = λ p. HasRoom p s.taken begun in subst P (sym e) size
 
 pub ready_steps : (s : Session) (part : Vec ℕ Global) (net : Net) (line : List ℕ) → s.phase ≡ Network part → IsReady s → is_stopped net ≡ false → 0 < length line → length line ≤ 5
     → IsReady (record { audit = s.audit; phase = Steps net 0; lines = s.lines + 1; taken = s.taken + length line })

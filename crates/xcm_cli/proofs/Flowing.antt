@@ -1,6 +1,7 @@
 -- Lines that are taken whole, whatever comes behind them.
-use Rattle.std.proofs.Common.{◌≡◌, ◌≢◌, ◌∙◌, ◌⊎◌, inl, inr, ◌<◌, ◌≤◌, ◌+◌, ◌-◌, ℕ, zero, suc, Bool, true, false, cond, eqb, ◌&&◌, Global, List, [], ◌∷◌, ◌++◌, length, take, drop, get_or, refl, sym, ap, Option, Some, None, Result, Ok, Err, append_assoc, append-nil, arith, length-take, length-drop, length-append}
+use Rattle.std.proofs.Common.{◌≡◌, ◌≢◌, ◌∙◌, ◌⊎◌, inl, inr, ◌<◌, ◌≤◌, ◌+◌, ◌-◌, ℕ, zero, suc, Bool, true, false, cond, eqb, ◌&&◌, ◌||◌, Global, List, [], ◌∷◌, ◌++◌, length, take, drop, get_or, refl, sym, ap, Option, Some, None, Result, Ok, Err, append_assoc, append-nil, arith, length-take, length-drop, length-append}
 use Rattle.std.proofs.lemmas.List.{drop-drop}
+use Rattle.std.proofs.Math.Bool.{or-false}
 use Rattle.std.proofs.lemmas.Bool.{ne_eqb, eqb-true}
 use Rattle.std.proofs.lemmas.Bool.Decides.{nat_tests}
 use Rattle.std.specs.Prelude.{nat_le, nat_lt, nat_eq, Vec, codes}
@@ -8,7 +9,7 @@ use Rattle.std.specs.List.{starts_with}
 use Rattle.std.proofs.lemmas.Slice.Eq.{bytes_eq-Decides}
 use Rattle.std.proofs.KnownBytes.{Appends-nil, Appends-trans}
 use Rattle.xcm_io.specs.Bytes.{IsFront, IsProperFront}
-use Rattle.input_lines.specs.Lines.{lines_of, HasNoFeed, onto, ends_network, text_of, without_feed, without_last, ends_with}
+use Rattle.input_lines.specs.Lines.{lines_of, HasNoFeed, onto, ends_network, has_mark, text_of, without_feed, without_last, ends_with}
 use Rattle.input_lines.specs.Laws.{past_other, no_lines}
 use Rattle.xcm_cli.specs.declared.phase.Session.{Session}
 use Rattle.xcm_cli.specs.declared.phase.Phase.TheVariants.{Network, Steps}
@@ -18,7 +19,7 @@ use Rattle.xcm_cli.specs.declared.feeder.Feeder.{Feeder}
 use Rattle.xcm_cli.specs.declared.status.Status.{Status}
 use Rattle.xcm_cli.specs.declared.status.Status.TheVariants.{Done, WriteFault, ReadFault, TooLong}
 use Rattle.xcm_cli.specs.Report.{Reply, ends, then_on, max_input, max_line, max_network, fits_limits}
-use Rattle.xcm_cli.specs.Session.{Advances, Finishes, Flows, Stops, TakesLines, AllWhole, IsReady, reply_at}
+use Rattle.xcm_cli.specs.Session.{Advances, Finishes, Flows, Stops, TakesLines, AllWhole, IsReady, reply_at, runs_steps}
 use Rattle.xcm_cli.specs.Feeding.{Ends}
 use Rattle.xcm_cli.proofs.Advance.{line_over, long_step, at_steps, nothing_yet}
 
@@ -50,8 +51,20 @@ pub all_whole : (one two : List (List ℕ)) → AllWhole one → AllWhole two �
 all_whole [] two a b = b
 all_whole (x ∷ xs) two a b = (a.0, all_whole xs two a.1 b)
 
+or_assoc : (a b c : Bool) → ((a || b) || c) ≡ (a || (b || c))
+or_assoc true b c = refl
+or_assoc false b c = refl
+
+pub mark_append : (one two : List (List ℕ)) → has_mark (one ++ two) ≡ (has_mark one || has_mark two)
+mark_append [] two = refl
+mark_append (line ∷ lines) two = ap (λ b. ends_network line || b) (mark_append lines two) ∙ sym (or_assoc (ends_network line) (has_mark lines) (has_mark two))
+
+-- lines that were taken, and then these
+pub marks_on : (start before now : Bool) (one two : List (List ℕ)) → before ≡ (start || has_mark one) → now ≡ (before || has_mark two) → now ≡ (start || has_mark (one ++ two))
+marks_on start before now one two e f = f ∙ ap (λ b. b || has_mark two) e ∙ or_assoc start (has_mark one) (has_mark two) ∙ ap (λ b. start || b) (sym (mark_append one two))
+
 pub flows_start : (session : Session) (bytes : List ℕ) (known : Option (List ℕ)) → Flows session session bytes bytes known known
-flows_start session bytes known = record { took = []; text = []; appends = Appends-nil known; cut = λ more. refl; whole = tt; goes = λ at_end lines. refl }
+flows_start session bytes known = record { took = []; text = []; appends = Appends-nil known; cut = λ more. refl; whole = tt; mark = sym (or-false (runs_steps session.phase)); goes = λ at_end lines. refl }
 
 module _ (session now : Session) (bytes rest : List ℕ) (old mid : Option (List ℕ)) (f : Flows session now bytes rest old mid) where
   -- what these lines report, and then the rest
@@ -65,13 +78,15 @@ module _ (session now : Session) (bytes rest : List ℕ) (old mid : Option (List
   -- a line is taken: `next` says how the bytes that come begin with it
   pub flows_line : {E : Type 0} (then : Session) (less line : List ℕ) (due : List ℕ) (new : Option (List ℕ)) (result : Result (Option Status) E)
       → Advances (λ (x : Bool × List (List ℕ)). reply_at now x.0 (line ∷ x.1)) (λ x. reply_at then x.0 x.1) due mid new result → result ≡ Ok None
-      → ((more : List ℕ) → lines_of (rest ++ more) ≡ line ∷ lines_of (less ++ more)) → ends_with 10 line ≡ true → Flows session then bytes less old new
-  flows_line then less line due new result a e next w = record {
+      → ((more : List ℕ) → lines_of (rest ++ more) ≡ line ∷ lines_of (less ++ more)) → ends_with 10 line ≡ true
+      → runs_steps then.phase ≡ (runs_steps now.phase || ends_network line) → Flows session then bytes less old new
+  flows_line then less line due new result a e next w m = record {
     took = f.took ++ line ∷ [];
     text = f.text ++ a.text;
     appends = Appends-trans old mid new f.text a.text f.appends a.appends;
     cut = λ more. f.cut more ∙ ap (λ l. f.took ++ l) (next more) ∙ sym (append_assoc f.took (line ∷ []) (lines_of (less ++ more)));
     whole = whole_more f.took line f.whole w;
+    mark = marks_on _ _ _ f.took (line ∷ []) f.mark (m ∙ ap (λ b. runs_steps now.phase || b) (sym (or-false (ends_network line))));
     goes = λ at_end lines. ap (reply_at session at_end) (append_assoc f.took (line ∷ []) lines)
         ∙ then_then _ _ f.text a.text (reply_at then at_end lines) (f.goes at_end (line ∷ lines)) (a.goes_on e (at_end, lines));
   }
@@ -98,7 +113,7 @@ module _ (session now : Session) (bytes rest : List ℕ) (old mid : Option (List
           lines = here;
           reported = (a.text, ap (λ t. t ++ a.text) (sym (ap (λ o. o.text) (flow_so_far r))));
           short = then_proper _ _ f.text a.text (f.goes false (line ∷ [])) (a.short (same WriteFault e));
-          near = inl w;
+          last = inl w;
         };
         long = λ e. record {
           before = f.took;
@@ -309,7 +324,7 @@ module _ (s now : Session) (bytes : List ℕ) (old mid : Option (List ℕ)) (lin
       lines = line;
       reported = rw (nothing_yet s ready) (a.text, refl);
       short = a.short (t ∙ ap (λ x. Ok (Some x)) cc);
-      near = inr refl;
+      last = inr (refl, refl);
     });
     long = λ e. record {
       before = [];

@@ -9,6 +9,7 @@ use Rattle.xcm_cli.specs.Words.{task_of, reads}
 use Rattle.xcm_cli.specs.Report.{Reply, ends, reply, task_reply, report, fate}
 use Rattle.xcm_cli.specs.Session.{Finishes, IsFault}
 use Rattle.xcm_cli.specs.Serving.{Serves, ServesWords}
+use Rattle.xcm_cli.proofs.Streams.{in_time_start}
 use Rattle.xcm_cli.specs.declared.status.Status.{Status}
 
 pub reply_of : (words : List (String Global)) (task : Task) (bytes : List ℕ) → task_of words ≡ task → reply words bytes ≡ task_reply task bytes
@@ -49,6 +50,7 @@ front_run words audit left rest old new result r s =
       read_failed = λ other w e. let same : other ≡ audit = cc in rw same (s.read_failed e);
       write_failed = λ other w e. let same : other ≡ audit = cc in rw same (s.write_failed e);
       past_limit = λ other w e. let same : other ≡ audit = cc in rw same (s.past_limit e);
+      in_time = λ other w. let same : other ≡ audit = cc in rw same s.in_time;
       no_read = λ w e. cc;
       no_limit = λ w e. cc;
       none_taken = λ w. absurd cc;
@@ -74,6 +76,7 @@ front_written words whole left old new result same n f = record {
   read_failed = λ audit w e. let read : reads (task_of words) ≡ true = ap reads w in absurd cc;
   write_failed = λ audit w e. let read : reads (task_of words) ≡ true = ap reads w in absurd cc;
   past_limit = λ audit w e. let read : reads (task_of words) ≡ true = ap reads w in absurd cc;
+  in_time = λ audit w. let read : reads (task_of words) ≡ true = ap reads w in absurd cc;
   no_read = λ w e. f.no_read e;
   no_limit = λ w e. f.long e;
   none_taken = λ w. refl;
@@ -92,6 +95,7 @@ front_none words left known (Err gone) e = record {
   read_failed = λ audit w r. absurd cc;
   write_failed = λ audit w r. absurd cc;
   past_limit = λ audit w r. absurd cc;
+  in_time = λ audit w. in_time_start audit;
   no_read = λ w r. cc;
   no_limit = λ w r. cc;
   none_taken = λ w. refl;

@@ -1,5 +1,5 @@
 -- A run over a source, read by pieces.
-use Rattle.std.proofs.Common.{◌≡◌, ◌≢◌, ◌∙◌, ◌⊎◌, inl, inr, ◌<◌, ◌≤◌, ◌+◌, ◌-◌, ℕ, Bool, true, false, List, [], ◌∷◌, ◌++◌, length, get_or, eqb, refl, sym, ap, Option, Some, None, Result, Ok, Err, IfSome, append_assoc, append-nil, arith, length-append}
+use Rattle.std.proofs.Common.{◌≡◌, ◌≢◌, ◌∙◌, ◌⊎◌, inl, inr, ◌<◌, ◌≤◌, ◌+◌, ◌-◌, ℕ, Bool, true, false, List, [], ◌∷◌, ◌++◌, length, get_or, eqb, refl, sym, ap, subst, Option, Some, None, Result, Ok, Err, IfSome, append_assoc, append-nil, arith, length-append}
 use Rattle.std.proofs.lemmas.Bool.{eqb-true}
 use Rattle.std.proofs.lemmas.Bool.Decides.{nat_tests}
 use Rattle.std.proofs.lemmas.List.{get_or-append-add, get_or_append_left}
@@ -8,18 +8,18 @@ use Rattle.std.specs.Io.KnownBytes.{Appends, Consumes, Keeps, IsAtEnd}
 use Rattle.std.proofs.KnownBytes.{Appends-nil, Appends-trans, Consumes-nil, Consumes-trans, Consumes-kept}
 use Rattle.xcm_io.specs.Bytes.{IsFront}
 use Rattle.std.specs.List.{concat}
-use Rattle.input_lines.specs.Lines.{lines_of, ends_with, HasNoFeed}
+use Rattle.input_lines.specs.Lines.{lines_of, has_mark, ends_with, HasNoFeed}
 use Rattle.std.proofs.lemmas.List.Folds.{concat-append}
 use Rattle.input_lines.specs.Laws.{no_lines, only_line, concat-lines_of}
 use Rattle.xcm_cli.specs.declared.phase.Session.{Session}
 use Rattle.xcm_cli.specs.declared.status.Status.{Status}
 use Rattle.xcm_cli.specs.declared.status.Status.TheVariants.{Done, ReadFault, TooLong}
-use Rattle.xcm_cli.specs.Report.{ends, then_on, lines_reply, bytes_reply, so_far}
-use Rattle.xcm_cli.specs.Session.{AllWhole, Flows, Stops, StopsInLine, StopsAtLimit, IsReady, reply_at}
+use Rattle.xcm_cli.specs.Report.{ends, then_on, lines_reply, bytes_reply, whole_lines, so_far, max_network, IsWithin}
+use Rattle.xcm_cli.specs.Session.{AllWhole, Flows, Stops, StopsInLine, StopsAtLimit, IsReady, HasRoom, reply_at, runs_steps}
 use Rattle.xcm_cli.specs.Feeding.{Ends, StopsAtEnd}
-use Rattle.xcm_cli.specs.Serving.{Serves, FailedInLine, FailedAtEnd, StoppedAtLimit}
+use Rattle.xcm_cli.specs.Serving.{Serves, FailedInLine, FailedAtEnd, StoppedAtLimit, ReadInTime}
 use Rattle.xcm_cli.proofs.Advance.{nothing_yet}
-use Rattle.xcm_cli.proofs.Flowing.{then_then, then_front, then_proper, then_ends, then_nothing, all_whole, no_feed_end}
+use Rattle.xcm_cli.proofs.Flowing.{then_then, then_front, then_proper, then_ends, then_nothing, all_whole, no_feed_end, marks_on}
 
 -- so far: these bytes were taken, and this text was written for the lines among them that are whole; whatever comes, the session
 -- has the rest of the report
@@ -32,10 +32,47 @@ pub record Streams (audit : Bool) (left rest old now : Option (List ℕ)) (sessi
   pub cut : (more : List ℕ) → lines_of (taken ++ more) ≡ reported ++ lines_of (pending ++ more)
   pub whole : AllWhole reported
   pub goes : (at_end : Bool) (lines : List (List ℕ)) → lines_reply audit at_end (reported ++ lines) ≡ then_on text (reply_at session at_end lines)
+  pub mark : runs_steps session.phase ≡ has_mark reported
+  pub size : length taken ≡ session.taken + length pending
+  pub in_time : ReadInTime audit taken text
+
+nothing_begun : 0 ≤ max_network + 4
+nothing_begun = omega arith
+
+-- nothing is read
+pub in_time_start : (audit : Bool) → ReadInTime audit [] []
+unfolding lines_of lines_reply
+in_time_start audit = record {
+  before = [];
+  piece = [];
+  parts = refl;
+  few = omega arith;
+  begun = [];
+  lines = refl;
+  within = nothing_begun;
+  told = [];
+  undecided = refl;
+  written = ([], refl);
+}
+
+-- more is written
+pub in_time_more : (audit : Bool) (taken text more : List ℕ) → ReadInTime audit taken text → ReadInTime audit taken (text ++ more)
+in_time_more audit taken text more t = record {
+  before = t.before;
+  piece = t.piece;
+  parts = t.parts;
+  few = t.few;
+  begun = t.begun;
+  lines = t.lines;
+  within = t.within;
+  told = t.told;
+  undecided = t.undecided;
+  written = (t.written.0 ++ more, ap (λ x. x ++ more) t.written.1 ∙ append_assoc t.told t.written.0 more);
+}
 
 pub streams_start : (audit : Bool) (left old : Option (List ℕ)) (session : Session) (pending : List ℕ) → pending ≡ []
-    → ((at_end : Bool) (lines : List (List ℕ)) → reply_at session at_end lines ≡ lines_reply audit at_end lines) → Streams audit left left old old session pending
-streams_start audit left old session pending none start = record {
+    → runs_steps session.phase ≡ false → session.taken + length pending ≡ 0 → ((at_end : Bool) (lines : List (List ℕ)) → reply_at session at_end lines ≡ lines_reply audit at_end lines) → Streams audit left left old old session pending
+streams_start audit left old session pending none network nothing start = record {
   taken = [];
   consumed = Consumes-nil left;
   reported = [];
@@ -44,6 +81,9 @@ streams_start audit left old session pending none start = record {
   cut = λ more. ap (λ p. lines_of (p ++ more)) (sym none);
   whole = tt;
   goes = λ at_end lines. sym (start at_end lines);
+  mark = network;
+  size = sym nothing;
+  in_time = in_time_start audit;
 }
 
 -- ---- whole lines
@@ -109,6 +149,33 @@ module _ (audit : Bool) (left rest old now : Option (List ℕ)) (session : Sessi
     cut = s.cut;
     whole = s.whole;
     goes = s.goes;
+    mark = s.mark;
+    size = s.size;
+    in_time = s.in_time;
+  }
+
+  -- the whole lines, and the line that is begun
+  stream_whole : HasNoFeed pending → whole_lines s.taken ≡ s.reported
+  stream_whole n = ap (filter (ends_with 10)) stream_lines ∙ whole_of s.reported pending s.whole n
+
+  stream_parts : s.taken ≡ concat s.reported ++ pending
+  stream_parts = sym (concat-lines_of s.taken) ∙ ap concat stream_lines ∙ concat-append s.reported (lines_of pending) ∙ ap (λ p. concat s.reported ++ p) (concat-lines_of pending)
+
+  -- the last read gives this piece
+  pub stream_in_time : (piece text : List ℕ) → IsReady session → HasNoFeed pending → HasRoom session.phase session.taken (length pending) → length piece ≤ 65536
+      → ReadInTime audit (s.taken ++ piece) (s.text ++ text)
+  stream_in_time piece text r n room few = record {
+    before = s.taken;
+    piece = piece;
+    parts = refl;
+    few = few;
+    begun = pending;
+    lines = stream_parts ∙ ap (λ l. concat l ++ pending) (sym (stream_whole n));
+    within = subst (λ (b : Bool). IsWithin b (length s.taken) (length pending)) (s.mark ∙ ap has_mark (sym (stream_whole n)))
+        (subst (λ (size : ℕ). IsWithin (runs_steps session.phase) size (length pending)) (sym s.size) room);
+    told = s.text;
+    undecided = stream_so_far r n;
+    written = (text, refl);
   }
 
   -- the source failed
@@ -124,6 +191,7 @@ module _ (audit : Bool) (left rest old now : Option (List ℕ)) (session : Sessi
     read_failed = λ e. stream_so_far r n;
     write_failed = λ e. absurd cc;
     past_limit = λ e. absurd cc;
+    in_time = s.in_time;
   }
 
   joined_more : (piece more : List ℕ) → lines_of ((s.taken ++ piece) ++ more) ≡ s.reported ++ lines_of ((pending ++ piece) ++ more)
@@ -133,8 +201,10 @@ module _ (audit : Bool) (left rest old now : Option (List ℕ)) (session : Sessi
   joined_here piece = s.cut piece
 
   -- a piece is taken
-  pub streams_more : (less new : Option (List ℕ)) (then : Session) (piece unended : List ℕ) → Consumes rest less piece → Flows session then (pending ++ piece) unended now new → Streams audit left less old new then unended
-  streams_more less new then piece unended c f = record {
+  pub streams_more : (less new : Option (List ℕ)) (then : Session) (piece unended : List ℕ) → Consumes rest less piece → Flows session then (pending ++ piece) unended now new
+      → IsReady session → HasNoFeed pending → HasRoom session.phase session.taken (length pending) → length piece ≤ 65536
+      → then.taken + length unended ≡ session.taken + length pending + length piece → Streams audit left less old new then unended
+  streams_more less new then piece unended c f r n room few size = record {
     taken = s.taken ++ piece;
     consumed = Consumes-trans left rest less s.taken piece s.consumed c;
     reported = s.reported ++ f.took;
@@ -144,6 +214,9 @@ module _ (audit : Bool) (left rest old now : Option (List ℕ)) (session : Sessi
     whole = all_whole s.reported f.took s.whole f.whole;
     goes = λ at_end lines. ap (lines_reply audit at_end) (append_assoc s.reported f.took lines)
         ∙ then_then _ _ s.text f.text (reply_at then at_end lines) (s.goes at_end (f.took ++ lines)) (f.goes at_end lines);
+    mark = marks_on false _ _ s.reported f.took s.mark f.mark;
+    size = length-append s.taken piece ∙ ap (λ k. k + length piece) s.size ∙ sym size;
+    in_time = stream_in_time piece f.text r n room few;
   }
 
 -- ---- what is behind a line that ends in the last piece
@@ -177,8 +250,8 @@ ends_behind pending piece before line behind e n w = by_test (nat_lt (length pen
         absurd (n (length before + (length line - 1)) (omega (arith, some)) here)
 
 near_of : (pending piece : List ℕ) (before : List (List ℕ)) (line : List ℕ) (behind : List (List ℕ)) → lines_of (pending ++ piece) ≡ before ++ line ∷ behind → HasNoFeed pending → length piece ≤ 65536
-    → (ends_with 10 line ≡ true) ⊎ (behind ≡ []) → length (concat behind) < 65536
-near_of pending piece before line behind e n few (inr none) = rw none (omega arith)
+    → {P : Type 0} → (ends_with 10 line ≡ true) ⊎ (P × (behind ≡ [])) → length (concat behind) < 65536
+near_of pending piece before line behind e n few (inr none) = rw none.1 (omega arith)
 near_of pending piece before line behind e n few (inl w) =
     let parts : pending ++ piece ≡ concat before ++ (line ++ concat behind) = sym (concat-lines_of (pending ++ piece)) ∙ ap concat e ∙ concat-append before (line ∷ behind) in
     let past : length pending < length (concat before) + length line = ends_behind pending piece (concat before) line (concat behind) parts n w in
@@ -194,15 +267,17 @@ module _ (audit : Bool) (left rest old now : Option (List ℕ)) (session : Sessi
       (f.0, ap (λ t. s.text ++ t) f.1 ∙ sym (append_assoc s.text (reply_at session false before).text f.0) ∙ ap (λ t. t ++ f.0) (sym e))
 
   -- a write failed in a line
-  failed_in : (less : Option (List ℕ)) (piece text : List ℕ) → length piece ≤ 65536 → HasNoFeed pending → StopsInLine session (pending ++ piece) text → FailedInLine audit (s.taken ++ piece) (s.text ++ text)
-  failed_in less piece text few n i = record {
+  failed_in : (less : Option (List ℕ)) (at_end : Bool) (piece text : List ℕ) → length piece ≤ 65536 → HasNoFeed pending → (at_end ≡ true → IsAtEnd less) → StopsInLine session at_end (pending ++ piece) text
+      → FailedInLine audit (s.taken ++ piece) (s.text ++ text) less
+  failed_in less at_end piece text few n a i = record {
     before = s.reported ++ i.before;
     line = i.line;
     behind = i.behind;
     lines = joined_here audit left rest old now session pending s piece ∙ ap (λ l. s.reported ++ l) i.lines ∙ sym (append_assoc s.reported i.before (i.line ∷ i.behind));
     reported = before_front i.before text i.reported;
     short = rw (append_assoc s.reported i.before (i.line ∷ [])) (then_proper _ _ s.text text (s.goes false (i.before ++ i.line ∷ [])) i.short);
-    near = near_of pending piece i.before i.line i.behind i.lines n few i.near;
+    last = elim i.last [ inl w ↦ inl w | inr none ↦ inr (a none.0, none.1) ];
+    near = near_of pending piece i.before i.line i.behind i.lines n few i.last;
   }
 
   stopped_at : (piece text : List ℕ) → StopsAtLimit session (pending ++ piece) text → StoppedAtLimit audit (s.taken ++ piece) (s.text ++ text)
@@ -225,8 +300,8 @@ module _ (audit : Bool) (left rest old now : Option (List ℕ)) (session : Sessi
 
   -- a call on a piece ended the run
   pub streams_over : {E F : Type 0} (less new : Option (List ℕ)) (piece : List ℕ) (result : Result (Option Status) F) (answer : Status) → Consumes rest less piece → length piece ≤ 65536 → HasNoFeed pending
-      → Stops session (pending ++ piece) now new result → result ≡ Ok (Some answer) → result ≢ Ok (Some ReadFault) → Serves {E = E} audit left less old new (Ok answer)
-  streams_over less new piece result answer c few n p e k = record {
+      → IsReady session → HasRoom session.phase session.taken (length pending) → Stops session (pending ++ piece) now new result → result ≡ Ok (Some answer) → result ≢ Ok (Some ReadFault) → Serves {E = E} audit left less old new (Ok answer)
+  streams_over less new piece result answer c few n r room p e k = record {
     taken = s.taken ++ piece;
     consumed = Consumes-trans left rest less s.taken piece s.consumed c;
     text = s.text ++ p.text;
@@ -234,16 +309,18 @@ module _ (audit : Bool) (left rest old now : Option (List ℕ)) (session : Sessi
     front = then_front _ _ s.text p.text (piece_taken piece) (front_here piece p.text p.front);
     whole = told left less (s.taken ++ piece) (λ bytes. IsFront (s.text ++ p.text) (bytes_reply audit bytes).text) (Consumes-trans left rest less s.taken piece s.consumed c)
         (λ more. then_front _ _ s.text p.text (piece_bytes piece more) (p.front true more));
-    ended = λ status r f. told left less (s.taken ++ piece) (λ bytes. bytes_reply audit bytes ≡ ends (s.text ++ p.text) status) (Consumes-trans left rest less s.taken piece s.consumed c)
+    ended = λ status a f. told left less (s.taken ++ piece) (λ bytes. bytes_reply audit bytes ≡ ends (s.text ++ p.text) status) (Consumes-trans left rest less s.taken piece s.consumed c)
         (λ more. then_ends _ _ s.text p.text status (piece_bytes piece more) (p.ended status (e ∙ ap (λ x. Ok (Some x)) cc) (λ w. f (inr w)) true more));
-    read_failed = λ r. absurd (k (e ∙ ap (λ x. Ok (Some x)) cc));
-    write_failed = λ r. inl (failed_in less piece p.text few n (p.short (e ∙ ap (λ x. Ok (Some x)) cc)));
-    past_limit = λ r. stopped_at piece p.text (p.long (e ∙ ap (λ x. Ok (Some x)) cc));
+    read_failed = λ a. absurd (k (e ∙ ap (λ x. Ok (Some x)) cc));
+    write_failed = λ w. inl (failed_in less false piece p.text few n (λ f. absurd cc) (p.short (e ∙ ap (λ x. Ok (Some x)) cc)));
+    past_limit = λ t. stopped_at piece p.text (p.long (e ∙ ap (λ x. Ok (Some x)) cc));
+    in_time = stream_in_time audit left rest old now session pending s piece p.text r n room few;
   }
 
   -- memory was refused in a piece
-  pub streams_err : {E F : Type 0} (less new : Option (List ℕ)) (piece : List ℕ) (result : Result (Option Status) F) (refused : E) → Consumes rest less piece → Stops session (pending ++ piece) now new result → Serves audit left less old new (Err refused)
-  streams_err less new piece result refused c p = record {
+  pub streams_err : {E F : Type 0} (less new : Option (List ℕ)) (piece : List ℕ) (result : Result (Option Status) F) (refused : E) → Consumes rest less piece → length piece ≤ 65536 → HasNoFeed pending
+      → IsReady session → HasRoom session.phase session.taken (length pending) → Stops session (pending ++ piece) now new result → Serves audit left less old new (Err refused)
+  streams_err less new piece result refused c few n r room p = record {
     taken = s.taken ++ piece;
     consumed = Consumes-trans left rest less s.taken piece s.consumed c;
     text = s.text ++ p.text;
@@ -251,10 +328,11 @@ module _ (audit : Bool) (left rest old now : Option (List ℕ)) (session : Sessi
     front = then_front _ _ s.text p.text (piece_taken piece) (front_here piece p.text p.front);
     whole = told left less (s.taken ++ piece) (λ bytes. IsFront (s.text ++ p.text) (bytes_reply audit bytes).text) (Consumes-trans left rest less s.taken piece s.consumed c)
         (λ more. then_front _ _ s.text p.text (piece_bytes piece more) (p.front true more));
-    ended = λ status r f. cc;
-    read_failed = λ r. absurd cc;
-    write_failed = λ r. absurd cc;
-    past_limit = λ r. absurd cc;
+    ended = λ status a f. cc;
+    read_failed = λ a. absurd cc;
+    write_failed = λ a. absurd cc;
+    past_limit = λ a. absurd cc;
+    in_time = stream_in_time audit left rest old now session pending s piece p.text r n room few;
   }
 
   failed_at_end : (less : Option (List ℕ)) (text : List ℕ) → IsAtEnd less → StopsAtEnd session pending text → FailedAtEnd audit s.taken (s.text ++ text) less
@@ -264,9 +342,9 @@ module _ (audit : Bool) (left rest old now : Option (List ℕ)) (session : Sessi
     ended = a;
   }
 
-  failed_last : (text : List ℕ) → HasNoFeed pending → StopsInLine session pending text → FailedInLine audit s.taken (s.text ++ text)
-  failed_last text n i =
-      let f : FailedInLine audit (s.taken ++ []) (s.text ++ text) = failed_in None [] text (omega arith) n (rw (append-nil pending) i) in
+  failed_last : (less : Option (List ℕ)) (text : List ℕ) → HasNoFeed pending → IsAtEnd less → StopsInLine session true pending text → FailedInLine audit s.taken (s.text ++ text) less
+  failed_last less text n a i =
+      let f : FailedInLine audit (s.taken ++ []) (s.text ++ text) less = failed_in less true [] text (omega arith) n (λ e. a) (rw (append-nil pending) i) in
       rw (append-nil s.taken) at f
 
   stopped_last : (text : List ℕ) → StopsAtLimit session pending text → StoppedAtLimit audit s.taken (s.text ++ text)
@@ -289,8 +367,9 @@ module _ (audit : Bool) (left rest old now : Option (List ℕ)) (session : Sessi
         ended = λ status r k. at_end_of left less s.taken (λ bytes. bytes_reply audit bytes ≡ ends (s.text ++ f.text) status) consumed a
             (then_ends _ _ s.text f.text status (stream_taken audit left rest old now session pending s) (f.ended status r (λ w. k (inr w))));
         read_failed = λ r. absurd (f.no_read r);
-        write_failed = λ r. elim (f.short r) [ inl i ↦ inl (failed_last f.text n i) | inr i ↦ inr (failed_at_end less f.text a i) ];
+        write_failed = λ r. elim (f.short r) [ inl i ↦ inl (failed_last less f.text n a i) | inr i ↦ inr (failed_at_end less f.text a i) ];
         past_limit = λ r. stopped_last f.text (f.long r);
+        in_time = in_time_more audit s.taken s.text f.text s.in_time;
       }
 
   limit_here : IsReady session → StoppedAtLimit audit s.taken s.text
@@ -310,4 +389,5 @@ module _ (audit : Bool) (left rest old now : Option (List ℕ)) (session : Sessi
     read_failed = λ e. absurd cc;
     write_failed = λ e. absurd cc;
     past_limit = λ e. limit_here r;
+    in_time = s.in_time;
   }

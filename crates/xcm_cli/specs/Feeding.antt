@@ -30,6 +30,6 @@ pub record Ends {E : Type 0} (session : Session) (bytes : List ℕ) (old new : O
   pub ended : (status : Status) → result ≡ Ok status → status ≢ WriteFault
       → reply_at session true (lines_of bytes) ≡ ends text status
   pub short : result ≡ Ok WriteFault
-      → StopsInLine session bytes text ⊎ StopsAtEnd session bytes text
+      → StopsInLine session true bytes text ⊎ StopsAtEnd session bytes text
   pub long : result ≡ Ok TooLong → StopsAtLimit session bytes text
   pub no_read : result ≢ Ok ReadFault

@@ -1,14 +1,22 @@
 -- What is promised of every run of a network, whatever its steps. This project's own rule.
-use Rattle.std.specs.Prelude.{List}
+use Rattle.std.specs.Prelude.{◌≡◌, ℕ, List, None, Ok}
 use Rattle.std.specs.List.{AllByRecursion, AllPairs}
+use Rattle.coherence.specs.Causes.{first_cause}
 use Rattle.network_spec.specs.declared.network.NetworkSpec.{NetworkSpec}
-use Rattle.network_genesis.specs.Genesis.{first_world, order_of}
-use Rattle.network_steps.specs.Steps.{Step, worlds}
+use Rattle.network_config.specs.Network.{network_of}
+use Rattle.network_genesis.specs.Genesis.{first_world, order_of, entries_of}
+use Rattle.generator_network.specs.Network.{network}
+use Rattle.network_steps.specs.Worlds.{World}
+use Rattle.network_steps.specs.Steps.{Step, worlds, last_world}
+use Rattle.message_shapes.specs.Shapes.{AllShaped}
+use Rattle.net_laws.specs.Stops.{DrainStops}
+use Rattle.net_laws.specs.Promises.{KeepsAssets, StopsWithAuthority}
 use Rattle.audit_laws.specs.Printed.{IsPrinted}
 use Rattle.authority.specs.Alone.{NoneAloneLoses}
 use Rattle.authority.specs.Burns.{NoBurnFalls}
 use Rattle.authority.specs.Products.{NoProductFalls}
 use Rattle.authority.specs.Speakers.{AreAuthorized}
+use Rattle.checking_laws.specs.Ends.{StayBelowEnd}
 use Rattle.lock_laws.specs.Floors.{AllHoldFloors}
 use Rattle.conserved_networks.specs.Drained.{by_deliveries}
 use Rattle.conserved_networks.specs.Kept.{NetworkKept, NetworkKeptBetween, NetworkSound, NetworkRunsKept, NetworkAccountsRise, NetworkShaped}
@@ -20,6 +28,10 @@ use Rattle.overflow_laws.specs.Excess.{NoExcessEver}
 -- the steps with each drain as the deliveries that it makes, one by one
 abbrev pub singly : NetworkSpec → List Step → List Step
 singly spec steps = by_deliveries (order_of spec) (first_world spec) steps
+
+-- the world behind the steps
+abbrev pub world_behind_steps : NetworkSpec → List Step → World
+world_behind_steps spec steps = last_world (order_of spec) (first_world spec) steps
 
 -- of every network that is read, coherent or not
 pub record IsLawful (spec : NetworkSpec) (steps : List Step) : Type 0 where
@@ -39,6 +51,13 @@ pub record IsLawful (spec : NetworkSpec) (steps : List Step) : Type 0 where
   pub floors : AllByRecursion AllHoldFloors (worlds (order_of spec) (first_world spec) steps)
   -- each message that waits has one of the seven shapes
   pub shaped : NetworkShaped spec steps
+  -- each checking account, with all that its chain has of the asset, stays below 2^128-1, and no
+  -- instruction is refused because one would pass it
+  pub below_end : StayBelowEnd (order_of spec) (first_world spec) steps
+  -- and so it is where memory is refused to a drain behind the steps: its whole deliveries and the one at which it stopped lower no account but the
+  -- sending chain's, or a pool's, and each message that waits keeps its shape
+  pub drains : (now : World) → DrainStops (order_of spec) (world_behind_steps spec steps) now
+      → StopsWithAuthority (order_of spec) (world_behind_steps spec steps) now × AllShaped now
 
 -- of every network in which none of the seven causes is found
 pub record IsSecure (spec : NetworkSpec) (steps : List Step) : Type 0 where
@@ -52,6 +71,9 @@ pub record IsSecure (spec : NetworkSpec) (steps : List Step) : Type 0 where
   pub sound : NetworkSound spec steps
   -- and so it is inside each run, wherever it comes, and where memory is refused to it
   pub inside : NetworkRunsKept spec steps
+  -- and where memory is refused to a drain behind the steps, however many deliveries it has made
+  pub drains : (now : World) → DrainStops (order_of spec) (world_behind_steps spec steps) now
+      → KeepsAssets spec now
   -- each withdrawal that is admitted is paid, and each teleport that is admitted is received, so that nothing of it is lost
   pub paid : WithdrawalsPaid (order_of spec) (first_world spec) steps
   pub received : TeleportsReceived (order_of spec) (first_world spec) steps
@@ -65,3 +87,22 @@ pub record IsSecure (spec : NetworkSpec) (steps : List Step) : Type 0 where
   -- in every world what the supply block prints of an asset is together what it was at first, and no more is owed than held
   pub printed : AllByRecursion (IsPrinted (first_world spec))
       (worlds (order_of spec) (first_world spec) steps)
+
+-- ---- of every document
+
+-- whatever document is read as a network, and whatever the steps
+abbrev pub ReadNetworksAreLawful : Type 0
+ReadNetworksAreLawful = (part : List ℕ) (spec : NetworkSpec) (steps : List Step)
+    → network_of part ≡ Ok spec → IsLawful spec steps
+
+-- and where none of the seven causes is found in it
+abbrev pub CoherentNetworksAreSecure : Type 0
+CoherentNetworksAreSecure = (part : List ℕ) (spec : NetworkSpec) (steps : List Step)
+    → network_of part ≡ Ok spec → first_cause (entries_of spec) ≡ None → IsSecure spec steps
+
+-- the network of drawn steps is both, without a premise
+abbrev pub DrawnStepsAreLawful : Type 0
+DrawnStepsAreLawful = (steps : List Step) → IsLawful network steps
+
+abbrev pub DrawnStepsAreSecure : Type 0
+DrawnStepsAreSecure = (steps : List Step) → IsSecure network steps

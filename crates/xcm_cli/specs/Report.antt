@@ -1,5 +1,5 @@
 -- What is written for an input, and how the run ends. Source: this project's own rule.
-use Rattle.std.specs.Prelude.{ℕ, ◌+◌, ◌&&◌, ◌||◌, nat_le, List, [], ◌∷◌, ◌++◌, length, Bool, true, false, filter, Result, Ok, Err, codes, String, if◌then◌else◌}
+use Rattle.std.specs.Prelude.{ℕ, ◌+◌, ◌≤◌, ◌&&◌, ◌||◌, nat_le, List, [], ◌∷◌, ◌++◌, length, Bool, true, false, filter, Result, Ok, Err, codes, String, if◌then◌else◌}
 use Rattle.std.specs.declared.alloc.Global.{Global}
 use Rattle.input_lines.specs.Lines.{lines_of, text_of, has_mark, network_part, later_lines, lines_through, bytes_through, without_feed, ends_with}
 use Rattle.input_lines.specs.Step.{read_line}
@@ -56,6 +56,12 @@ abbrev pub fits_limits : ℕ → List ℕ → Bool
 fits_limits taken line =
     nat_le (length (without_feed line)) max_line && nat_le (taken + length line) max_input
 
+-- So many bytes of an input, the last of which begin a line, are within the limits so far. While the network part is read, that
+-- line may be the one that ends it, of which at most four bytes can have come: `---` and a carriage return.
+abbrev pub IsWithin : Bool → ℕ → ℕ → Type 0
+IsWithin false size begun = size ≤ max_network + 4
+IsWithin true size begun = (begun ≤ max_line) × (size ≤ max_input)
+
 -- ---- the run
 
 -- the lines after the network, in a world, with this many steps, lines and bytes before them
@@ -109,14 +115,13 @@ abbrev pub usage_reply : Reply
 usage_reply = ends usage_text Usage
 
 -- the report of generated steps
-abbrev pub generated_reply : Result (List ℕ) NetworkFault → Reply
-generated_reply (Ok text) = ends text Done
-generated_reply (Err fault) = ends (network_refused_line fault) NetworkRefused
+abbrev pub generated_reply : ℕ → ℕ → Reply
+generated_reply number steps = ends (generated number steps) Done
 
 -- what is written for an input where this is asked for, and the answer
 abbrev pub task_reply : Task → List ℕ → Reply
 task_reply (Run audit) bytes = bytes_reply audit bytes
-task_reply (Generate number steps) bytes = generated_reply (generated number steps)
+task_reply (Generate number steps) bytes = generated_reply number steps
 task_reply tasks.Usage bytes = usage_reply
 
 -- what is written for these words and this input, and the answer

@@ -12,7 +12,7 @@ use Rattle.chain_net.specs.declared.net.Net.{Net}
 use Rattle.chain_net.specs.Nets.{world_of, spec_of, is_stopped}
 use Rattle.step_text.specs.Lines.{network_refused_line}
 use Rattle.report_blocks.specs.Blocks.{opening_text}
-use Rattle.xcm_cli.specs.Report.{Reply, ends, then_on, part_reply, steps_reply, max_network, max_input}
+use Rattle.xcm_cli.specs.Report.{Reply, ends, then_on, part_reply, steps_reply, max_network, max_input, IsWithin}
 use Rattle.xcm_cli.specs.declared.phase.Session.{Session}
 use Rattle.xcm_cli.specs.declared.phase.Phase.{Phase}
 use Rattle.xcm_cli.specs.declared.phase.Phase.TheVariants.{Network, Steps}
@@ -124,6 +124,15 @@ IsFault status = (status ≡ ReadFault) ⊎ (status ≡ WriteFault)
 
 -- ---- lines of bytes that are taken whole
 
+-- the network is read, and its steps are run
+abbrev pub runs_steps : Phase → Bool
+runs_steps (Network part) = false
+runs_steps (Steps net done) = true
+
+-- a line of which so many bytes have come, behind so many bytes of lines, may still be within the limits
+abbrev pub HasRoom : Phase → ℕ → ℕ → Type 0
+HasRoom phase taken pending = IsWithin (runs_steps phase) (taken + pending) pending
+
 -- each of them has its line feed
 abbrev pub AllWhole : List (List ℕ) → Type 0
 AllWhole [] = Unit {0}
@@ -138,18 +147,20 @@ pub record Flows (session now : Session) (bytes rest : List ℕ)
   pub appends : Appends old new text
   pub cut : (more : List ℕ) → lines_of (bytes ++ more) ≡ took ++ lines_of (rest ++ more)
   pub whole : AllWhole took
+  pub mark : runs_steps now.phase ≡ (runs_steps session.phase || has_mark took)
   pub goes : (at_end : Bool) (lines : List (List ℕ)) → reply_at session at_end (took ++ lines)
       ≡ then_on text (reply_at now at_end lines)
 
--- The text ends inside the report of one of the lines, the first whose report isn't written whole. That line is whole, or the last.
-pub record StopsInLine (session : Session) (bytes text : List ℕ) : Type 0 where
+-- The text ends inside the report of one of the lines, the first whose report isn't written whole. That line is whole, or, where the
+-- input ends with the bytes, the last.
+pub record StopsInLine (session : Session) (at_end : Bool) (bytes text : List ℕ) : Type 0 where
   pub before : List (List ℕ)
   pub line : List ℕ
   pub behind : List (List ℕ)
   pub lines : lines_of bytes ≡ before ++ line ∷ behind
   pub reported : IsFront (reply_at session false before).text text
   pub short : IsProperFront text (reply_at session false (before ++ line ∷ [])).text
-  pub near : (ends_with 10 line ≡ true) ⊎ (behind ≡ [])
+  pub last : (ends_with 10 line ≡ true) ⊎ ((at_end ≡ true) × (behind ≡ []))
 
 -- The text is the report of the first lines, so many, none of which is refused or past a limit.
 pub record StopsAtLimit (session : Session) (bytes text : List ℕ) : Type 0 where
@@ -168,7 +179,7 @@ pub record Stops {E : Type 0} (session : Session) (bytes : List ℕ) (old new : 
   pub ended : (status : Status) → result ≡ Ok (Some status) → status ≢ WriteFault
       → (at_end : Bool) (more : List ℕ) → reply_at session at_end (lines_of (bytes ++ more))
       ≡ ends text status
-  pub short : result ≡ Ok (Some WriteFault) → StopsInLine session bytes text
+  pub short : result ≡ Ok (Some WriteFault) → StopsInLine session false bytes text
   pub long : result ≡ Ok (Some TooLong) → StopsAtLimit session bytes text
 
 -- what a call did that takes the whole lines of some bytes

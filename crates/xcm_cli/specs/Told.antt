@@ -1,13 +1,14 @@
 -- The report of an input as the blocks of its steps, each in the world to which the steps before it lead. This project's own rule.
-use Rattle.std.specs.Prelude.{◌≡◌, ◌⊎◌, ℕ, ◌+◌, List, [], ◌∷◌, ◌++◌, Bool}
+use Rattle.std.specs.Prelude.{◌≡◌, ◌⊎◌, ◌≤◌, ℕ, ◌+◌, List, [], ◌∷◌, ◌++◌, length, Bool, Ok}
 use Rattle.network_spec.specs.declared.network.NetworkSpec.{NetworkSpec}
+use Rattle.network_config.specs.Network.{network_of}
 use Rattle.network_genesis.specs.Genesis.{order_of, first_world}
 use Rattle.network_steps.specs.Worlds.{World}
 use Rattle.network_steps.specs.Steps.{Step, after}
 use Rattle.step_text.specs.Lines.{line_refused_line}
 use Rattle.report_blocks.specs.Blocks.{opening_text, step_block}
 use Rattle.xcm_cli.specs.declared.status.Status.TheVariants.{LineRefused}
-use Rattle.xcm_cli.specs.Report.{Reply}
+use Rattle.xcm_cli.specs.Report.{Reply, network_bytes, steps_of, bytes_reply, max_network}
 
 -- the blocks of these steps, from a world on, with so many steps before them
 abbrev pub blocks_of : Bool → NetworkSpec → World → ℕ → List Step → List ℕ
@@ -26,3 +27,9 @@ pub record TellsOf (reply : Reply) (told : List ℕ) : Type 0 where
   pub text : reply.text ≡ told ++ behind
   pub last : (behind ≡ []) ⊎ ((number : ℕ)
       × ((reply.status ≡ LineRefused) × (behind ≡ line_refused_line number)))
+
+-- each input whose network is read and whose network part is within its limit is told so
+abbrev pub ReportsTellOfSteps : Type 0
+ReportsTellOfSteps = (audit : Bool) (bytes : List ℕ) (spec : NetworkSpec)
+    → network_of (network_bytes bytes) ≡ Ok spec → length (network_bytes bytes) ≤ max_network
+    → TellsOf (bytes_reply audit bytes) (told_of audit spec (steps_of bytes))

@@ -4,7 +4,7 @@ ghost use Rattle.std.specs.Prelude.{◌≡◌, ◌≢◌, ◌+◌, ◌<◌, ◌�
 ghost use Rattle.xcm_io.specs.Causes.{Rose};
 ghost use Rattle.input_lines.specs.Lines.{lines_of, HasNoFeed};
 ghost use Rattle.xcm_cli.specs.Report.{lines_reply, ends, max_input};
-ghost use Rattle.xcm_cli.specs.Session.{TakesLines, HasWriteCause, IsReady, reply_at};
+ghost use Rattle.xcm_cli.specs.Session.{TakesLines, HasWriteCause, IsReady, HasRoom, reply_at, runs_steps};
 ghost use Rattle.xcm_cli.specs.Feeding.{Ends, IsFed};
 
 use crate::limits::{MAX_INPUT, MAX_LINE, MAX_NETWORK};
@@ -30,6 +30,7 @@ impl Feeder {
             → reply_at result.session at_end lines ≡ lines_reply audit at_end lines }
         ensures fed { IsFed result }
         ensures none { result.pending.items ≡ [] }
+        ensures phase { runs_steps result.session.phase ≡ false }
         ensures size { result.session.taken + length result.pending.items ≡ 0 }
     {
         Feeder {
@@ -83,6 +84,8 @@ impl Feeder {
             → reply_at self.now.session at_end (lines_of (self.now.pending.items ++ more))
             ≡ ends [] Status.TooLong }
         ensures short { result ≡ false → length self.now.pending.items ≤ max_input }
+        ensures room { result ≡ false → HasRoom self.now.session.phase self.now.session.taken
+            (length self.now.pending.items) }
     {
         let pending = self.pending.len();
         match &self.session.phase {

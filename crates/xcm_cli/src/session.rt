@@ -1,11 +1,11 @@
 //! A run, a line at a time.
 
-ghost use Rattle.std.specs.Prelude.{◌≡◌, ◌≢◌, ◌⊎◌, ◌+◌, ◌^◌, ◌<◌, ◌≤◌, ℕ, List, [], ◌∷◌, length, drop, Bool, false, true, Some, None, Ok};
+ghost use Rattle.std.specs.Prelude.{◌≡◌, ◌≢◌, ◌⊎◌, ◌||◌, ◌+◌, ◌^◌, ◌<◌, ◌≤◌, ℕ, List, [], ◌∷◌, length, drop, Bool, false, true, Some, None, Ok};
 ghost use Rattle.xcm_io.specs.Causes.{Rose};
-ghost use Rattle.input_lines.specs.Lines.{HasNoFeed};
+ghost use Rattle.input_lines.specs.Lines.{HasNoFeed, ends_network};
 ghost use Rattle.chain_net.specs.Nets.{world_of, spec_of, is_stopped};
 ghost use Rattle.xcm_cli.specs.Report.{lines_reply, steps_reply, fits_limits, max_input};
-ghost use Rattle.xcm_cli.specs.Session.{Writes, Advances, Finishes, HasWriteCause, IsReady, Opens, TakesLines, reply_at};
+ghost use Rattle.xcm_cli.specs.Session.{Writes, Advances, Finishes, HasWriteCause, IsReady, Opens, TakesLines, reply_at, runs_steps};
 
 use crate::limits::{MAX_INPUT, MAX_LINE, MAX_NETWORK};
 use crate::phase::{Opened, Phase, Session};
@@ -23,6 +23,7 @@ impl Session {
             → reply_at result at_end lines ≡ lines_reply audit at_end lines }
         ensures ready { IsReady result }
         ensures taken { result.taken ≡ 0 }
+        ensures phase { runs_steps result.phase ≡ false }
     {
         Session {
             audit,
@@ -50,6 +51,8 @@ impl Session {
         ensures cause { HasWriteCause (O.faults out.old) (O.faults out.new) result }
         ensures taken { result ≡ Ok None → self.new.taken ≡ self.old.taken + length line.now }
         ensures ready { result ≡ Ok None → IsReady self.new }
+        ensures phase { result ≡ Ok None → runs_steps self.new.phase
+            ≡ (runs_steps self.old.phase || ends_network line.now) }
     {
         let before = self.lines;
         let taken = self.taken;

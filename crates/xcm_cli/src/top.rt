@@ -1,20 +1,14 @@
 //! The run of the program.
 
-ghost use Rattle.std.specs.Prelude.{◌≡◌, ◌≢◌, ◌⊎◌, ◌≤◌, ℕ, true, false, Bool, List, [], None, Ok, length, IfOk, IfSome};
+ghost use Rattle.std.specs.Prelude.{◌≡◌, ◌≢◌, ◌⊎◌, ℕ, true, false, [], Ok, IfOk, IfSome};
 ghost use Rattle.std.specs.Io.KnownBytes.{Appends, IsAtEnd};
 ghost use Rattle.std.specs.declared.alloc.AllocError.{AllocError};
 ghost use Rattle.xcm_io.specs.Causes.{Rose};
-ghost use Rattle.network_spec.specs.declared.network.NetworkSpec.{NetworkSpec};
-ghost use Rattle.network_config.specs.Network.{network_of};
-ghost use Rattle.network_genesis.specs.Genesis.{entries_of};
-ghost use Rattle.network_steps.specs.Steps.{Step};
-ghost use Rattle.coherence.specs.Causes.{first_cause};
-ghost use Rattle.xcm_cli.specs.Report.{report, fate, ends, usage_reply, generated_reply, network_bytes, steps_of, bytes_reply, max_network};
-ghost use Rattle.generator.specs.Generated.{generated};
-ghost use Rattle.xcm_cli.specs.Promise.{IsLawful, IsSecure};
-ghost use Rattle.xcm_cli.specs.Told.{TellsOf, told_of};
+ghost use Rattle.xcm_cli.specs.Report.{report, fate, ends, usage_reply, generated_reply};
+ghost use Rattle.xcm_cli.specs.Promise.{ReadNetworksAreLawful, CoherentNetworksAreSecure, DrawnStepsAreLawful, DrawnStepsAreSecure};
+ghost use Rattle.xcm_cli.specs.Told.{ReportsTellOfSteps};
 ghost use Rattle.xcm_cli.specs.Words.{task_of, reads};
-ghost use Rattle.xcm_cli.specs.declared.words.Task.TheVariants.{Usage};
+ghost use Rattle.xcm_cli.specs.declared.words.Task.TheVariants.{Generate, Usage};
 ghost use Rattle.xcm_cli.specs.Session.{IsFault, Finishes};
 ghost use Rattle.xcm_cli.specs.Serving.{ServesWords};
 
@@ -25,7 +19,6 @@ use crate::texts::USAGE;
 use crate::words::{Task, task_of};
 use generator::generate;
 use std::alloc::{AllocError, Global};
-use step_text::network_refused_line;
 use xcm_io::{Sink, Source, write_whole};
 
 /// Runs the program. With the words `run` or `run --audit` it reads the input by pieces, runs and reports each line before it reads on, and
@@ -65,26 +58,28 @@ pub fn run<I: Source, O: Sink>(
         → IfOk result (λ status. (status ≡ Status.Usage) ⊎ (status ≡ Status.WriteFault)) }
     ensures other { result ≡ Ok Status.Usage → task_of words.now ≡ Usage }
 
+    // A run of drawn steps is done, unless the sink failed: their network is accepted.
+    ensures drawn { (number steps : ℕ) → task_of words.now ≡ Generate number steps
+        → IfOk result (λ status. (status ≡ Status.Done) ⊎ (status ≡ Status.WriteFault)) }
+
     // Whatever document is read as a network and whatever the steps, as those of an input (`steps_of`), those with each drain as its deliveries
     // (`singly`) or those that are drawn: an account falls only by its own executions, by a message of its chain or as a pool's, so one that is
-    // left alone never has less; no pool's product falls, no burn is undone, each account keeps what is locked there, and each message that
-    // waits has its shape.
-    ensures lawful { (part : List ℕ) (spec : NetworkSpec) (steps : List Step)
-        → network_of part ≡ Ok spec → IsLawful spec steps }
+    // left alone never has less; no pool's product falls, no burn is undone, each account keeps what is locked there, each message that waits
+    // has its shape, and each checking account stays below its end.
+    ensures lawful { ReadNetworksAreLawful }
 
     // Where moreover none of the seven causes is found in it, every world keeps each asset, backs each derivative and has right checking
     // accounts, inside runs too, and from world to world no derivative's cover shrinks; what is admitted is paid and received; no joining of
     // bundles burns what would pass an amount's end or is there already; and in every world the sums which the supply block prints are
     // conserved and covered.
-    ensures kept { (part : List ℕ) (spec : NetworkSpec) (steps : List Step)
-        → network_of part ≡ Ok spec
-        → first_cause (entries_of spec) ≡ None → IsSecure spec steps }
+    ensures kept { CoherentNetworksAreSecure }
+
+    // In the network of drawn steps both hold without a premise.
+    ensures drawn_lawful { DrawnStepsAreLawful }
+    ensures drawn_kept { DrawnStepsAreSecure }
 
     // The report of an input is the opening, and then the blocks of its steps, each in the world to which those before it lead.
-    ensures told { (audit : Bool) (bytes : List ℕ) (spec : NetworkSpec)
-        → network_of (network_bytes bytes) ≡ Ok spec
-        → length (network_bytes bytes) ≤ max_network
-        → TellsOf (bytes_reply audit bytes) (told_of audit spec (steps_of bytes)) }
+    ensures told { ReportsTellOfSteps }
 {
     law_of_inputs(); // For the prover alone.
     match task_of(alloc, words)? {
@@ -111,18 +106,15 @@ fn write_generated<O: Sink>(
     steps: u64,
     out: &mut O,
 ) -> Result<Status, AllocError>
-    ensures run { Finishes (generated_reply (generated number steps)) (O.written out.old)
+    ensures run { Finishes (generated_reply number steps) (O.written out.old)
         (O.written out.new) result }
+    ensures answer { IfOk result (λ status. (status ≡ Status.Done) ⊎ (status ≡ Status.WriteFault)) }
     ensures cause { result ≡ Ok Status.WriteFault → Rose (O.faults out.old) (O.faults out.new) }
     ensures usage { result ≢ Ok Status.Usage }
 {
     match generate(alloc, number, steps) {
-        Ok(Ok(text)) => Ok(write_reply(out, &text, Status::Done)),
+        Ok(text) => Ok(write_reply(out, &text, Status::Done)),
         Err(refused) => Err(refused),
-        Ok(Err(fault)) => {
-            let text = network_refused_line(alloc, fault)?;
-            Ok(write_reply(out, &text, Status::NetworkRefused))
-        }
     }
 }
 

@@ -1,10 +1,12 @@
-use Rattle.std.proofs.Common.{List, [], arith}
+use Rattle.std.proofs.Common.{List, [], arith, refl}
 use Rattle.network_spec.specs.declared.network.NetworkSpec.{NetworkSpec}
 use Rattle.network_steps.specs.Steps.{Step}
 use Rattle.network_genesis.specs.Genesis.{first_world, order_of}
 use Rattle.network_genesis.specs.Openable.{IsOpenable}
 use Rattle.conserved_networks.specs.Kept.{IsCoherent}
-use Rattle.xcm_cli.specs.Promise.{IsLawful, IsSecure}
+use Rattle.generator_network.specs.Network.{document, network}
+use Rattle.xcm_cli.specs.Promise.{IsLawful, IsSecure, world_behind_steps}
+use Rattle.net_laws.specs.Runs.{HasPast}
 use Rattle.xcm_cli.proofs.FirstWorlds.{nothing_locked}
 use Rattle.xcm_cli.proofs.Telling.{input_tells}
 use Rattle.xcm_cli.proofs.laws.law_of_inputs.Goals as goal
@@ -12,6 +14,7 @@ use Rattle.xcm_cli.proofs.laws.law_of_inputs.Goals as goal
 pub returns : goal.returns
 returns c =
     let opens = c.law_of_read_networks.ensures.opens in
+    let behind : (spec : NetworkSpec) (steps : List Step) → HasPast spec (world_behind_steps spec steps) = λ spec steps. record { steps = steps; run = refl } in
     let lawful : (spec : NetworkSpec) (steps : List Step) → IsOpenable spec → IsLawful spec steps =
     λ spec steps openable.
     let shaped = (c.law_of_shaped_networks.ensures spec []).0 in
@@ -24,6 +27,11 @@ returns c =
       burns = c.law_of_burns.ensures (order_of spec) (first_world spec) steps shaped;
       floors = c.law_of_kept_worlds.ensures.worlds (order_of spec) (first_world spec) steps locks.1 locks.0;
       shaped = c.law_of_shaped_networks.ensures spec steps;
+      below_end = c.law_of_checking_accounts.ensures spec steps openable;
+      drains = λ now stops. (
+        c.law_of_stopped_messages.ensures.drained spec (world_behind_steps spec steps) now (behind spec steps) stops,
+        c.law_of_stopped_messages.ensures.drain spec (world_behind_steps spec steps) now (behind spec steps) stops,
+      );
     } in
     let secure : (spec : NetworkSpec) (steps : List Step) → IsCoherent spec → IsSecure spec steps =
     λ spec steps coherent. record {
@@ -31,6 +39,7 @@ returns c =
       between = c.law_of_conserved_networks.ensures.between spec steps coherent;
       sound = c.law_of_conserved_networks.ensures.sound spec steps coherent;
       inside = c.law_of_kept_network_runs.ensures.kept spec steps coherent;
+      drains = λ now stops. c.law_of_stopped_nets.ensures.drain spec (world_behind_steps spec steps) now coherent (behind spec steps) stops;
       paid = c.law_of_paid_messages.ensures.withdrawal spec steps coherent;
       received = c.law_of_paid_messages.ensures.teleport spec steps coherent;
       none_lost = c.law_of_paid_messages.ensures.lost spec steps coherent;
@@ -43,5 +52,7 @@ returns c =
     record {
       lawful = λ part spec steps read. lawful spec steps (opens part spec read);
       kept = λ part spec steps read none. secure spec steps (record { openable = opens part spec read; coherent = none });
+      drawn_lawful = λ steps. lawful network steps (opens document network c.law_of_document.ensures.accepted);
+      drawn_kept = λ steps. secure network steps (record { openable = opens document network c.law_of_document.ensures.accepted; coherent = c.law_of_document.ensures.coherent });
       told = input_tells;
     }

@@ -16,8 +16,10 @@ returns-then-count-eq0-clause-run g c =
 pub pieces-preserved : goal.pieces-preserved
 pieces-preserved g c =
     let is_none = c.in-Ok-None.is ∙ ap Ok c.in-Ok-None.field-0-is in
+    let few : length (take c.in-Ok.count c.read.new.buf) ≤ 65536 = search rules in
     record {
-      streams = streams_more _ _ _ _ _ _ _ c.pieces.invariant.streams _ _ _ _ _ c.in-Ok.ensures.bytes.0 (c.take_piece.ensures.run.going is_none);
+      streams = streams_more _ _ _ _ _ _ _ c.pieces.invariant.streams _ _ _ _ _ c.in-Ok.ensures.bytes.0 (c.take_piece.ensures.run.going is_none)
+          c.pieces.invariant.ready c.pieces.invariant.unended (c.is_over.ensures.room c.pieces-test.true) few (c.take_piece.ensures.size is_none);
       reads = omega (arith, c.pieces.invariant.reads, c.in-Ok.ensures.cause.later);
       writes = omega (arith, c.pieces.invariant.writes, c.take_piece.ensures.cause.later);
       ready = c.take_piece.ensures.ready is_none;
@@ -29,17 +31,20 @@ returns-in-Ok-Some-clause-run g c =
     let is_over = c.in-Ok-Some.is ∙ ap Ok c.in-Ok-Some.field-0-is in
     let few : length (take c.in-Ok.count c.read.new.buf) ≤ 65536 = search rules in
     streams_over _ _ _ _ _ _ _ c.pieces.invariant.streams _ _ _ c.take_piece.result _ c.in-Ok.ensures.bytes.0 few c.pieces.invariant.unended
-    (c.take_piece.ensures.run.over (λ e. cc)) is_over c.take_piece.ensures.cause.no_read
+    c.pieces.invariant.ready (c.is_over.ensures.room c.pieces-test.true) (c.take_piece.ensures.run.over (λ e. cc)) is_over c.take_piece.ensures.cause.no_read
 
 pub returns-in-Err-take_piece-clause-run : goal.returns-in-Err-take_piece-clause-run
-returns-in-Err-take_piece-clause-run g c = streams_err _ _ _ _ _ _ _ c.pieces.invariant.streams _ _ _ c.take_piece.result _ c.in-Ok.ensures.bytes.0 (c.take_piece.ensures.run.over (λ e. cc))
+returns-in-Err-take_piece-clause-run g c =
+    let few : length (take c.in-Ok.count c.read.new.buf) ≤ 65536 = search rules in
+    streams_err _ _ _ _ _ _ _ c.pieces.invariant.streams _ _ _ c.take_piece.result _ c.in-Ok.ensures.bytes.0 few c.pieces.invariant.unended c.pieces.invariant.ready
+    (c.is_over.ensures.room c.pieces-test.true) (c.take_piece.ensures.run.over (λ e. cc))
 
 pub returns-clause-run : goal.returns-clause-run
 returns-clause-run g c = streams_long _ _ _ _ _ _ _ c.pieces.invariant.streams c.pieces.invariant.ready (c.is_over.ensures.over c.pieces-test.false)
 
 pub pieces-init : goal.pieces-init
 pieces-init g c = record {
-  streams = streams_start _ _ _ _ _ c.new-feeder.ensures.none c.new-feeder.ensures.start;
+  streams = streams_start _ _ _ _ _ c.new-feeder.ensures.none c.new-feeder.ensures.phase c.new-feeder.ensures.size c.new-feeder.ensures.start;
   reads = omega arith;
   writes = omega arith;
   ready = c.new-feeder.ensures.fed.ready;

@@ -1,7 +1,8 @@
-use Rattle.std.proofs.Common.{◌≡◌, ◌∙◌, ◌+◌, ◌<◌, ◌≤◌, arith, ltb-true, ap, sym, false}
+use Rattle.std.proofs.Common.{◌≡◌, ◌∙◌, ◌+◌, ◌<◌, ◌≤◌, length, arith, ltb-true, ap, sym, false, true}
+use Rattle.std.proofs.lemmas.Bool.{ltb-false}
 use Rattle.std.specs.Prelude.{nat_eq, codes}
 use Rattle.std.specs.List.{starts_with}
-use Rattle.xcm_cli.proofs.Advance.{steps_size}
+use Rattle.xcm_cli.proofs.Advance.{steps_size, part_size, room_steps, room_network}
 use Rattle.xcm_cli.proofs.Flowing.{over_line, over_total, over_network}
 use Rattle.xcm_cli.proofs.feeder.Feeder.is_over.Goals as goal
 
@@ -22,3 +23,22 @@ returns-then-not-starts_with-clause-over c t at_end more =
     let unlike : starts_with nat_eq (codes "---\r") c.args.self.now.pending.items ≡ false =
     ap (starts_with nat_eq (codes "---\r")) (sym c.deref.ensures.value) ∙ sym c.starts_with.ensures.value ∙ c.if-not-starts_with.true in
     over_network c.args.self.now _ at_end more c.requires.open c.in-Network.is unlike (omega (arith, c.len.ensures, c.in-Network.part.ok, c.len-pending.ensures, c.args.self.now.pending.ok))
+
+pub returns-else-pending-gt-MAX_LINE-clause-room : goal.returns-else-pending-gt-MAX_LINE-clause-room
+returns-else-pending-gt-MAX_LINE-clause-room c e =
+    let total : c.args.self.now.session.taken + c.len-pending.result ≤ 67108864 = ltb-false 67108864 _ e in
+    room_steps c.args.self.now.session _ _ _ c.in-Steps.is (omega (arith, c.len-pending.ensures, c.args.self.now.pending.ok)) (omega (arith, c.len-pending.ensures, c.args.self.now.pending.ok))
+
+pub returns-then-not-starts_with-clause-room : goal.returns-then-not-starts_with-clause-room
+returns-then-not-starts_with-clause-room c e =
+    let total : c.len.result + c.len-pending.result ≤ 1048576 = ltb-false 1048576 _ e in
+    let size = (part_size c.args.self.now.session _ c.in-Network.is c.requires.ready).0 in
+    room_network c.args.self.now.session _ _ c.in-Network.is
+    (omega (arith, size, c.len.ensures, c.in-Network.part.ok, c.len-pending.ensures, c.args.self.now.pending.ok))
+
+pub returns-else-not-starts_with-clause-room : goal.returns-else-not-starts_with-clause-room
+returns-else-not-starts_with-clause-room c e =
+    let begins : c.starts_with.result ≡ true = c.if-not-starts_with.false in
+    let short : length c.args.self.now.pending.items ≤ 4 = omega (arith, c.starts_with.ensures.bound begins, ap length c.deref.ensures.value) in
+    let size = (part_size c.args.self.now.session _ c.in-Network.is c.requires.ready).1 in
+    room_network c.args.self.now.session _ _ c.in-Network.is (omega (arith, size, short))

@@ -9,7 +9,8 @@ loop-len-preserved g c =
     record {
       flows = flows_line _ _ _ _ _ _ c.loop-len.invariant.flows c.take_line.new.self (drop (c.loop-len.at + c.in-Some.len) c.args.bytes.now) _ _ _ c.take_line.result c.take_line.ensures.run is_none
           (cut_at c.args.bytes.now c.loop-len.at c.in-Some.len _ _ (take_rest c.args.bytes.now c.loop-len.at) (take_there c.args.bytes.now c.loop-len.at c.in-Some.len) c.in-Some.ensures.line)
-          (feed_at c.args.bytes.now c.loop-len.at c.in-Some.len _ _ (take_rest c.args.bytes.now c.loop-len.at) (take_there c.args.bytes.now c.loop-len.at c.in-Some.len) c.in-Some.ensures.feed);
+          (feed_at c.args.bytes.now c.loop-len.at c.in-Some.len _ _ (take_rest c.args.bytes.now c.loop-len.at) (take_there c.args.bytes.now c.loop-len.at c.in-Some.len) c.in-Some.ensures.feed)
+          (c.take_line.ensures.phase is_none);
       later = omega (arith, c.loop-len.invariant.later, c.take_line.ensures.cause.later);
       ready = c.take_line.ensures.ready is_none;
       taken = omega (arith, c.take_line.ensures.taken is_none, (line_size c.args.bytes.now c.loop-len.at c.in-Some.len c.loop-len.invariant.room c.in-Some.ensures.bound).0, c.loop-len.invariant.taken);

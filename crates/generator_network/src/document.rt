@@ -1,6 +1,6 @@
-//! The network in which the steps are run.
+//! The text of the document.
 ghost use Rattle.std.specs.Prelude.{◌≡◌};
-ghost use Rattle.generator.specs.Generated.{document};
+ghost use Rattle.generator_network.specs.Network.{document};
 
 /// The text of the document.
 const NETWORK: &str = r#"{"chains":[
@@ -15,8 +15,8 @@ const NETWORK: &str = r#"{"chains":[
 {"from":"relay","to":2001},{"from":2001,"to":"relay"}]}
 "#;
 
-/// The document of the network: a relay chain with a native asset, two parachains with a derivative of it, and channels down and up.
-pub(crate) fn document_bytes() -> &'static [u8]
+/// The document: a relay chain with a native asset, two parachains with a derivative of it, and channels down and up.
+pub fn document_bytes() -> &'static [u8]
     ensures { result.now ≡ document }
 {
     NETWORK.as_bytes()
