@@ -18,6 +18,8 @@ mod stepping;
 #[cfg(test)]
 mod teleports;
 #[cfg(test)]
+mod together;
+#[cfg(test)]
 mod transfers;
 #[cfg(test)]
 mod traps;

@@ -10,8 +10,8 @@ use std::process::Abort;
 use std::test::Fail;
 use step_text::{drained_line, opening_line};
 
-/// Short words of the tables, and what they stand for: accounts, their bytes within a message, and the account of parachain 2000 at the
-/// relay chain.
+/// Short words of the tables, and what they stand for: accounts, their bytes within a message, the account of a chain's first pool, and that
+/// of parachain 2000 at the relay chain.
 const WORDS: &[(&str, &str)] = &[
     (
         "A0",
@@ -30,12 +30,20 @@ const WORDS: &[(&str, &str)] = &[
         "0x0303030303030303030303030303030303030303030303030303030303030303",
     ),
     (
+        "B1",
+        "0101010101010101010101010101010101010101010101010101010101010101",
+    ),
+    (
         "B2",
         "0202020202020202020202020202020202020202020202020202020202020202",
     ),
     (
         "B3",
         "0303030303030303030303030303030303030303030303030303030303030303",
+    ),
+    (
+        "POOL",
+        "0x706f6f6c00000000000000000000000000000000000000000000000000000000",
     ),
     (
         "PARA",
