@@ -29,7 +29,8 @@ fn push_account(
     who: &[u8; 32],
     ledger: &Ledger,
 ) -> Result<(), AllocError>
-    ensures { OnOk result (list.new.items ≡ list.old.items ++ map (λ (a : Asset). (who.now, a)) (held_assets (account_goods who.now ledger.now.held))) }
+    ensures { OnOk result (list.new.items ≡ list.old.items ++ map
+        (λ (a : Asset). (who.now, a)) (held_assets (account_goods who.now ledger.now.held))) }
 {
     for asset in ledger.held(who)? {
         list.push((*who, asset))?;

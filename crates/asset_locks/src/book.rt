@@ -29,7 +29,11 @@ impl Model for LockBook {
 
     ghost coded = { book_code };
 
-    ghost view = { λ b. record { locks = locks_in b.locks.items; notes = notes_in b.notes.entries } };
+    ghost view = { λ b. record {
+      locks = locks_in b.locks.items;
+      notes = notes_in
+          b.notes.entries;
+    } };
 
     ghost invariant = { λ b. AreInOrder b.locks.items };
 }

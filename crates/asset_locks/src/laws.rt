@@ -22,7 +22,8 @@ pub fn law_of_locking()
         → lock_at q (Locked key a l) ≡ lock_at q l }
     ensures floor { (who : List ℕ) (id unlocker : Location) (a : ℕ) (l : LocksAndNotes)
         → floor who id (Locked (who, id, unlocker) a l) ≡ max (floor who id l) a }
-    ensures other_floors { (key : LockKey) (a : ℕ) (l : LocksAndNotes) (who : List ℕ) (id : Location)
+    ensures other_floors { (key : LockKey) (a : ℕ) (l : LocksAndNotes) (who : List ℕ)
+        (id : Location)
         → ◌≢◌ {A = LockedAsset} (who, id) (asset_of key)
         → floor who id (Locked key a l) ≡ floor who id l }
     ensures notes { (key : LockKey) (a : ℕ) (l : LocksAndNotes) (q : NoteKey)
@@ -40,7 +41,8 @@ pub fn law_of_unlocking()
     ensures no_lower { (who : List ℕ) (id unlocker other : Location) (a : ℕ) (l : LocksAndNotes)
         → other ≢ unlocker
         → lock_at (who, id, other) l ≤ floor who id (Unlocked (who, id, unlocker) a l) }
-    ensures other_floors { (key : LockKey) (a : ℕ) (l : LocksAndNotes) (who : List ℕ) (id : Location)
+    ensures other_floors { (key : LockKey) (a : ℕ) (l : LocksAndNotes) (who : List ℕ)
+        (id : Location)
         → ◌≢◌ {A = LockedAsset} (who, id) (asset_of key)
         → floor who id (Unlocked key a l) ≡ floor who id l }
     ensures notes { (key : LockKey) (a : ℕ) (l : LocksAndNotes) (q : NoteKey)
@@ -52,10 +54,12 @@ pub fn law_of_unlocking()
 pub fn law_of_unlockers()
     ensures undone { (key : LockKey) (a : ℕ) (l : LocksAndNotes) → lock_at key l ≡ 0
         → Unlocked key a (Locked key a l) ≡ l }
-    ensures two { (who : List ℕ) (id u v : Location) (a b : ℕ) (l : LocksAndNotes) → floor who id l ≡ 0
+    ensures two { (who : List ℕ) (id u v : Location) (a b : ℕ) (l : LocksAndNotes)
+        → floor who id l ≡ 0
         → u ≢ v
         → (floor who id (Locked (who, id, v) b (Locked (who, id, u) a l)) ≡ max a b)
-        × (floor who id (Unlocked (who, id, u) a (Locked (who, id, v) b (Locked (who, id, u) a l))) ≡ b) }
+        × (floor who id (Unlocked (who, id, u) a (Locked (who, id, v) b (Locked (who, id, u) a l)))
+        ≡ b) }
 {}
 
 /// What a note that is set, and one that falls, do: the same, and no lock and no floor changes.
@@ -76,6 +80,7 @@ pub fn law_of_notes()
         → lock_at q (Reduced key a l) ≡ lock_at q l }
     ensures floors_set { (key : NoteKey) (a : ℕ) (l : LocksAndNotes) (who : List ℕ) (id : Location)
         → floor who id (Noted key a l) ≡ floor who id l }
-    ensures floors_reduced { (key : NoteKey) (a : ℕ) (l : LocksAndNotes) (who : List ℕ) (id : Location)
+    ensures floors_reduced { (key : NoteKey) (a : ℕ) (l : LocksAndNotes) (who : List ℕ)
+        (id : Location)
         → floor who id (Reduced key a l) ≡ floor who id l }
 {}

@@ -22,7 +22,9 @@ const A3: [u8; 32] = [3; 32];
 
 /// Row 0 lists a fungible asset, row 1 a class.
 fn rows(alloc: Global) -> Result<Vec<AssetRow>, AllocError>
-    ensures { IfOk result (λ rows. listing rows.items ≡ (Concrete (record { parents = 0; interior = [] }), Kind.Fungible) ∷ (Concrete (record { parents = 0; interior = [] }), Kind.Class) ∷ []) }
+    ensures { IfOk result (λ rows. listing rows.items
+        ≡ (Concrete (record { parents = 0; interior = [] }), Kind.Fungible)
+        ∷ (Concrete (record { parents = 0; interior = [] }), Kind.Class) ∷ []) }
 {
     let coins = AssetRow {
         id: here(),

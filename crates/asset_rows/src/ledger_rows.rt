@@ -40,7 +40,10 @@ pub(crate) fn here() -> Location
 /// So much of the fungible asset, or, where that is 0, the instance of this number.
 fn asset(amount: u128, number: u128) -> Asset
     ensures some { IsFalse (is_zero result) }
-    ensures listed { list_all (λ a. lists ((Concrete (record { parents = 0; interior = [] }), Kind.Fungible) ∷ (Concrete (record { parents = 0; interior = [] }), Kind.Class) ∷ []) (listed_of (unit_of a))) (result ∷ []) ≡ true }
+    ensures listed { list_all
+        (λ a. lists ((Concrete (record { parents = 0; interior = [] }), Kind.Fungible)
+        ∷ (Concrete (record { parents = 0; interior = [] }), Kind.Class) ∷ [])
+        (listed_of (unit_of a))) (result ∷ []) ≡ true }
 {
     let id = AssetId::Concrete(here());
     if amount > 0 {
@@ -57,7 +60,9 @@ fn asset(amount: u128, number: u128) -> Asset
 
 /// A ledger of a fungible asset and a class.
 pub(crate) fn opened(alloc: Global) -> Result<Ledger, AllocError>
-    ensures { IfOk result (λ ledger. ledger.listed ≡ (Concrete (record { parents = 0; interior = [] }), Kind.Fungible) ∷ (Concrete (record { parents = 0; interior = [] }), Kind.Class) ∷ []) }
+    ensures { IfOk result (λ ledger. ledger.listed
+        ≡ (Concrete (record { parents = 0; interior = [] }), Kind.Fungible)
+        ∷ (Concrete (record { parents = 0; interior = [] }), Kind.Class) ∷ []) }
 {
     let list = Vec::from_array(alloc, [(here(), Kind::Fungible), (here(), Kind::Class)])?;
     Ledger::open(alloc, list)
@@ -71,7 +76,8 @@ pub(crate) fn put(
     amount: u128,
     number: u128,
 ) -> Result<Option<Refusal>, AllocError>
-    requires { ledger.old.listed ≡ (Concrete (record { parents = 0; interior = [] }), Kind.Fungible) ∷ (Concrete (record { parents = 0; interior = [] }), Kind.Class) ∷ [] }
+    requires { ledger.old.listed ≡ (Concrete (record { parents = 0; interior = [] }), Kind.Fungible)
+        ∷ (Concrete (record { parents = 0; interior = [] }), Kind.Class) ∷ [] }
     ensures { ledger.new.listed ≡ ledger.old.listed }
 {
     let goods = AssetBundle::mint(alloc, &[asset(amount, number)])?;
@@ -123,7 +129,8 @@ fn moved(
     amount: u128,
     number: u128,
 ) -> Result<Option<Refusal>, AllocError>
-    requires { ledger.old.listed ≡ (Concrete (record { parents = 0; interior = [] }), Kind.Fungible) ∷ (Concrete (record { parents = 0; interior = [] }), Kind.Class) ∷ [] }
+    requires { ledger.old.listed ≡ (Concrete (record { parents = 0; interior = [] }), Kind.Fungible)
+        ∷ (Concrete (record { parents = 0; interior = [] }), Kind.Class) ∷ [] }
     ensures { ledger.new.listed ≡ ledger.old.listed }
 {
     let list = Assets::one(alloc, asset(amount, number))?;
@@ -295,7 +302,8 @@ const ROWS: &[Row] = &[
 
 /// Whether the ledger has these sums.
 fn has_sums(ledger: &Ledger, row: &Row) -> bool
-    requires { ledger.now.listed ≡ (Concrete (record { parents = 0; interior = [] }), Kind.Fungible) ∷ (Concrete (record { parents = 0; interior = [] }), Kind.Class) ∷ [] }
+    requires { ledger.now.listed ≡ (Concrete (record { parents = 0; interior = [] }), Kind.Fungible)
+        ∷ (Concrete (record { parents = 0; interior = [] }), Kind.Class) ∷ [] }
 {
     let fungible = ledger.total(0);
     let instances = ledger.total(1);
@@ -307,7 +315,8 @@ fn has_sums(ledger: &Ledger, row: &Row) -> bool
 
 /// Whether a move is answered and leaves the sums as its row says.
 fn goes(ledger: &mut Ledger, alloc: Global, row: &Row) -> Result<bool, AllocError>
-    requires { ledger.old.listed ≡ (Concrete (record { parents = 0; interior = [] }), Kind.Fungible) ∷ (Concrete (record { parents = 0; interior = [] }), Kind.Class) ∷ [] }
+    requires { ledger.old.listed ≡ (Concrete (record { parents = 0; interior = [] }), Kind.Fungible)
+        ∷ (Concrete (record { parents = 0; interior = [] }), Kind.Class) ∷ [] }
     ensures { ledger.new.listed ≡ ledger.old.listed }
 {
     let refusal = moved(ledger, alloc, row.from, row.to, row.amount, row.number)?;
@@ -367,7 +376,8 @@ fn holds_right(ledger: &Ledger) -> Result<bool, AllocError> {
 
 /// Deposits in three accounts: whether all are taken.
 fn all_put(ledger: &mut Ledger, alloc: Global) -> Result<bool, AllocError>
-    requires { ledger.old.listed ≡ (Concrete (record { parents = 0; interior = [] }), Kind.Fungible) ∷ (Concrete (record { parents = 0; interior = [] }), Kind.Class) ∷ [] }
+    requires { ledger.old.listed ≡ (Concrete (record { parents = 0; interior = [] }), Kind.Fungible)
+        ∷ (Concrete (record { parents = 0; interior = [] }), Kind.Class) ∷ [] }
 {
     let of_third = put(ledger, alloc, &A3, 5, 0)?;
     let of_second = put(ledger, alloc, &A2, 0, 1)?;

@@ -43,7 +43,8 @@ pub fn law_of_readers()
 
 /// An id that is bytes has no spelling in version 4. An id that version 4 can say, version 3 can say too.
 pub fn law_of_versions()
-    ensures abstract_id { (bytes text : List ℕ) → Spells (asset_id V4) (FitsId V4) (Abstract bytes) text → ⊥ }
+    ensures abstract_id { (bytes text : List ℕ)
+        → Spells (asset_id V4) (FitsId V4) (Abstract bytes) text → ⊥ }
     ensures wider { (id : AssetId) → FitsId V4 id → FitsId V3 id }
 {}
 

@@ -35,27 +35,42 @@ use trust_tables::law_of_sovereign_accounts;
 /// An instruction lowers no account but that of the origin register, and those of pools: with a register that is empty, or whose location has
 /// no account, only pools'. No pool's product falls but that of a pool whose account the origin register has.
 pub fn law_of_speakers()
-    ensures done { (x : Instruction) (m : Machine) → SpendsOnly (speaker_of m) m.part (xcm.done x m).part }
+    ensures done { (x : Instruction) (m : Machine)
+        → SpendsOnly (speaker_of m) m.part (xcm.done x m).part }
 {}
 
 /// Wherever a run comes, its origin register is empty or holds a location that begins with the origin for which it began. In a run of one of
 /// the seven messages it is empty before each instruction from the third on.
 pub fn law_of_origin_registers()
-    ensures reached { (rules : ChainRules) (origin : Location) (a : Admitted) (p : ChainPart) (g : Stage) → Reaches xcm (first_stage rules origin a p) g → IsAtOrBelow origin (machine_of g).regs.origin }
-    ensures cleared { (here : Site) (there : ChainId) (cargo : Cargo) (rules : ChainRules) (origin : Location) (a : Admitted) (p : ChainPart) (n : ℕ) (part : Part) (place : ℕ) (x : Instruction) (behind : List Instruction) (m : Machine)
-        → IsShape here there a.program cargo → steps xcm (suc (suc n)) (first_stage rules origin a p) ≡ At part place x behind m → m.regs.origin ≡ None }
+    ensures reached { (rules : ChainRules) (origin : Location) (a : Admitted) (p : ChainPart)
+        (g : Stage) → Reaches xcm (first_stage rules origin a p) g
+        → IsAtOrBelow origin (machine_of g).regs.origin }
+    ensures cleared { (here : Site) (there : ChainId) (cargo : Cargo) (rules : ChainRules)
+        (origin : Location) (a : Admitted) (p : ChainPart) (n : ℕ) (part : Part) (place : ℕ)
+        (x : Instruction) (behind : List Instruction) (m : Machine)
+        → IsShape here there a.program cargo
+        → steps xcm (suc (suc n)) (first_stage rules origin a p) ≡ At part place x behind m
+        → m.regs.origin ≡ None }
 {}
 
 /// An execution for a local caller lowers the caller's account alone, and an execution of one of the seven messages the account of its origin
 /// alone, besides pools, of which no product falls; also where memory is refused and the run stops.
 pub fn law_of_executions()
-    ensures caller { (rules : ChainRules) (account : List ℕ) (credit : Weight) (program : List Instruction) (p : ChainPart) → SpendsOnly (Some account) p (executed rules (caller account) credit program p).1 }
-    ensures message { (here : Site) (there : ChainId) (cargo : Cargo) (rules : ChainRules) (origin : Location) (credit : Weight) (program : List Instruction) (p : ChainPart)
-        → IsShape here there program cargo → SpendsOnly (account_of origin p.site) p (executed rules origin credit program p).1 }
-    ensures caller_stopped { (rules : ChainRules) (account : List ℕ) (credit : Weight) (program : List Instruction) (p now : ChainPart)
-        → IsAbandoned rules (caller account) credit program p now → SpendsOnly (Some account) p now }
-    ensures message_stopped { (here : Site) (there : ChainId) (cargo : Cargo) (rules : ChainRules) (origin : Location) (credit : Weight) (program : List Instruction) (p now : ChainPart)
-        → IsShape here there program cargo → IsAbandoned rules origin credit program p now → SpendsOnly (account_of origin p.site) p now }
+    ensures caller { (rules : ChainRules) (account : List ℕ) (credit : Weight)
+        (program : List Instruction) (p : ChainPart)
+        → SpendsOnly (Some account) p (executed rules (caller account) credit program p).1 }
+    ensures message { (here : Site) (there : ChainId) (cargo : Cargo) (rules : ChainRules)
+        (origin : Location) (credit : Weight) (program : List Instruction) (p : ChainPart)
+        → IsShape here there program cargo
+        → SpendsOnly (account_of origin p.site) p (executed rules origin credit program p).1 }
+    ensures caller_stopped { (rules : ChainRules) (account : List ℕ) (credit : Weight)
+        (program : List Instruction) (p now : ChainPart)
+        → IsAbandoned rules (caller account) credit program p now
+        → SpendsOnly (Some account) p now }
+    ensures message_stopped { (here : Site) (there : ChainId) (cargo : Cargo) (rules : ChainRules)
+        (origin : Location) (credit : Weight) (program : List Instruction) (p now : ChainPart)
+        → IsShape here there program cargo → IsAbandoned rules origin credit program p now
+        → SpendsOnly (account_of origin p.site) p now }
 {
     law_of_admitted_messages();
 }
@@ -64,11 +79,16 @@ pub fn law_of_executions()
 /// receiver of a delivery, or a pool's, whose product doesn't fall; and what was burned stays in the books. So it is in each delivery of a drain.
 /// It holds in every network in which the messages that wait have their shapes, as they have from the first world on.
 pub fn law_of_authority()
-    ensures exec { (w : World) (chain : ChainId) (account bytes : List ℕ) → HasAuthority w (Exec chain account bytes) (exec w chain account bytes).world }
-    ensures deliver { (w : World) (from to : ChainId) → AllShaped w → HasAuthority w (Deliver from to) (deliver w from to).world }
-    ensures claim { (w : World) (from to : ChainId) (bytes : List ℕ) → HasAuthority w (Claim from to bytes) (claim w from to bytes).world }
-    ensures after { (order : List Link) (w : World) (step : Step) → AllShaped w → IsAuthorized order w step }
-    ensures worlds { (order : List Link) (w : World) (steps : List Step) → AllShaped w → AreAuthorized order w steps }
+    ensures exec { (w : World) (chain : ChainId) (account bytes : List ℕ)
+        → HasAuthority w (Exec chain account bytes) (exec w chain account bytes).world }
+    ensures deliver { (w : World) (from to : ChainId)
+        → AllShaped w → HasAuthority w (Deliver from to) (deliver w from to).world }
+    ensures claim { (w : World) (from to : ChainId) (bytes : List ℕ)
+        → HasAuthority w (Claim from to bytes) (claim w from to bytes).world }
+    ensures after { (order : List Link) (w : World) (step : Step)
+        → AllShaped w → IsAuthorized order w step }
+    ensures worlds { (order : List Link) (w : World) (steps : List Step)
+        → AllShaped w → AreAuthorized order w steps }
 {
     law_of_shapes();
     law_of_delivered_messages();
@@ -77,9 +97,14 @@ pub fn law_of_authority()
 
 /// The account of a whole chain falls by no execution; and at the receiver of a delivery it is the sending chain's own that may.
 pub fn law_of_spent_sovereign_accounts()
-    ensures exec { (w : World) (chain : ChainId) (account bytes : List ℕ) (place : ℕ) (before now : Member) (who : List ℕ) (unit : Unit) → is_sovereign who ≡ true → slice_get w place ≡ Some before
-        → slice_get (exec w chain account bytes).world place ≡ Some now → amount before.part.held (who, unit) ≤ amount now.part.held (who, unit) }
-    ensures deliver { (w : World) (from to : ChainId) (place : ℕ) (member : Member) (who : List ℕ) → slice_get w place ≡ Some member → SpeaksFor w (Deliver from to) place member who → who ≡ sovereign_account to from }
+    ensures exec { (w : World) (chain : ChainId) (account bytes : List ℕ) (place : ℕ)
+        (before now : Member) (who : List ℕ) (unit : Unit)
+        → is_sovereign who ≡ true → slice_get w place ≡ Some before
+        → slice_get (exec w chain account bytes).world place ≡ Some now
+        → amount before.part.held (who, unit) ≤ amount now.part.held (who, unit) }
+    ensures deliver { (w : World) (from to : ChainId) (place : ℕ) (member : Member) (who : List ℕ)
+        → slice_get w place ≡ Some member
+        → SpeaksFor w (Deliver from to) place member who → who ≡ sovereign_account to from }
 {
     law_of_sovereign_accounts();
 }
@@ -105,7 +130,8 @@ pub fn law_of_pool_products()
 
 /// What is burned stays burned: of any two worlds the later one's books have of each asset, for each cause, at least what the earlier one's have.
 pub fn law_of_burns()
-    ensures { (order : List Link) (w : World) (steps : List Step) → AllShaped w → AllPairs NoBurnFalls (worlds order w steps) }
+    ensures { (order : List Link) (w : World) (steps : List Step)
+        → AllShaped w → AllPairs NoBurnFalls (worlds order w steps) }
 {
     law_of_settings();
     law_of_shapes();
@@ -117,7 +143,8 @@ pub fn law_of_burns()
 /// An account of a wallet that is left alone loses nothing: where no step executes a message for it on its chain, and it is no other chain's account
 /// there nor a pool's, it has of each asset in every world at least what it had at first.
 pub fn law_of_accounts_left_alone()
-    ensures { (order : List Link) (w : World) (steps : List Step) → AllShaped w → AllByRecursion (NoneAloneLoses steps w) (worlds order w steps) }
+    ensures { (order : List Link) (w : World) (steps : List Step)
+        → AllShaped w → AllByRecursion (NoneAloneLoses steps w) (worlds order w steps) }
 {
     law_of_settings();
     law_of_shapes();

@@ -65,7 +65,8 @@ pub fn allow(
     credit: Weight,
     queries: &[OpenQuery],
 ) -> bool
-    ensures { (result, program.new) ≡ admission origin.now weight credit queries.now list.now program.old }
+    ensures { (result, program.new) ≡ admission origin.now weight credit queries.now list.now
+        program.old }
 {
     for barrier in list {
         if admits(barrier, origin, program, weight, credit, queries) {
@@ -85,7 +86,8 @@ fn admits(
     queries: &[OpenQuery],
 ) -> bool
     ensures answer { result ≡ allows origin.now weight credit queries.now program.old barrier.now }
-    ensures left { program.new ≡ (if result then left_by weight program.old barrier.now else program.old) }
+    ensures left { program.new ≡ (if result then left_by weight program.old barrier.now
+        else program.old) }
 {
     match barrier {
         Barrier::Credit => weight.is_within(credit),
@@ -101,7 +103,8 @@ fn admits(
 /// Whether the paid barrier allows; where it does, the limit is set.
 fn pays(program: &mut Program, weight: Weight) -> bool
     ensures answer { result ≡ barriers.is_paid weight program.old }
-    ensures left { program.new ≡ (if result then barriers.with_purchase weight program.old else program.old) }
+    ensures left { program.new ≡ (if result then barriers.with_purchase weight program.old
+        else program.old) }
 {
     match purchase(program.items(), weight) {
         None => false,

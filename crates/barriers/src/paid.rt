@@ -25,7 +25,8 @@ pub(crate) fn fits(weight: Weight, limit: WeightLimit) -> bool
 
 /// The index of the BuyExecution by which a program pays for its weight.
 pub(crate) fn purchase(program: &[Instruction], weight: Weight) -> Option<usize>
-    ensures place { result ≡ (if is_paid weight program.now then Some (purchase_index program.now) else None) }
+    ensures place { result ≡ (if is_paid weight program.now then Some (purchase_index program.now)
+        else None) }
     ensures within { IfSome result (λ index. index < length program.now) }
 {
     let index = purchase_index(program);

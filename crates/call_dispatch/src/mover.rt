@@ -30,7 +30,8 @@ pub trait Mover {
         amount: u128,
     ) -> Result<(), ShiftFault>
         ensures step { Shifts
-            (shift_fault (amounts self.old) (floors self.old) (rows self.old) row from.now to.now amount)
+            (shift_fault (amounts self.old) (floors self.old) (rows self.old) row from.now to.now
+            amount)
             (shifted (amounts self.old) row from.now to.now amount)
             (amounts self.old) result (amounts self.new) }
         ensures had { OnOk result (IsNumberAt (amounts self.old) (from.now, row)) }

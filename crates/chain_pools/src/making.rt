@@ -16,7 +16,8 @@ fn exchanged(
     exchange: &Exchange,
 ) -> Result<AssetBundle, AssetBundle>
     requires offer { IsOffer give exchange.now }
-    ensures { MatchResult result (λ got. got ≡ goods_after exchange.now give) (λ back. back ≡ give) }
+    ensures { MatchResult result (λ got. got ≡ goods_after exchange.now give)
+        (λ back. back ≡ give) }
 {
     let given = Asset {
         id: exchange.given.copy(),

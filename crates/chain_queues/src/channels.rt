@@ -54,7 +54,8 @@ impl Queues {
 
     /// The messages that wait for the chain, oldest first; `None` where no channel leads there.
     pub fn messages(&self, to: ChainId) -> Option<&VecDeque<Queued>>
-        ensures { option_map (λ messages. map waiting_of messages.now.items) result ≡ option_map (λ (c : Outgoing). c.queue) (channel_to to (channels_of self.now)) }
+        ensures { option_map (λ messages. map waiting_of messages.now.items) result
+            ≡ option_map (λ (c : Outgoing). c.queue) (channel_to to (channels_of self.now)) }
     {
         let place = self.place_to(to)?;
         Some(&self.list[place].waiting)
@@ -62,8 +63,10 @@ impl Queues {
 
     /// Whether a message of so many bytes would be taken. It takes no memory.
     pub fn check(&self, to: ChainId, size: usize) -> Result<(), PushFault>
-        ensures taken { OnOk result (push_refusal size (channel_to to (channels_of self.now)) ≡ None) }
-        ensures refused { IfErr result (λ fault. push_refusal size (channel_to to (channels_of self.now)) ≡ Some fault) }
+        ensures taken { OnOk result (push_refusal size (channel_to to (channels_of self.now))
+            ≡ None) }
+        ensures refused { IfErr result
+            (λ fault. push_refusal size (channel_to to (channels_of self.now)) ≡ Some fault) }
     {
         let Some(place) = self.place_to(to) else {
             return Err(PushFault::NoChannel);
@@ -97,11 +100,17 @@ impl Queues {
         cargo: Cargo,
     ) -> Result<u64, (Cargo, PushFault)>
         requires message { IsTrue (decodes bytes.items) }
-        requires spelled { IsTrue (is_spelled_for (channel_to to (channels_of self.old)) bytes.items) }
-        ensures taken { OnOk result (push_refusal (length bytes.items) (channel_to to (channels_of self.old)) ≡ None) }
-        ensures number { IfOk result (λ number. option_map (λ (c : Outgoing). c.next) (channel_to to (channels_of self.old)) ≡ Some number) }
-        ensures queued { OnOk result (channels_of self.new ≡ pushed to (program_read (message_of bytes.items)) cargo (channels_of self.old)) }
-        ensures refused { IfErr result (λ refusal. push_refusal (length bytes.items) (channel_to to (channels_of self.old)) ≡ Some refusal.1) }
+        requires spelled { IsTrue (is_spelled_for (channel_to to (channels_of self.old))
+            bytes.items) }
+        ensures taken { OnOk result (push_refusal (length bytes.items)
+            (channel_to to (channels_of self.old)) ≡ None) }
+        ensures number { IfOk result (λ number. option_map
+            (λ (c : Outgoing). c.next) (channel_to to (channels_of self.old)) ≡ Some number) }
+        ensures queued { OnOk result (channels_of self.new
+            ≡ pushed to (program_read (message_of bytes.items)) cargo (channels_of self.old)) }
+        ensures refused { IfErr result
+            (λ refusal. push_refusal (length bytes.items) (channel_to to (channels_of self.old))
+            ≡ Some refusal.1) }
         ensures handed_back { IfErr result (λ refusal. refusal.0 ≡ cargo) }
         ensures kept { OnErr result (channels_of self.new ≡ channels_of self.old) }
     {

@@ -36,7 +36,8 @@ impl Queue {
         requires spelled { IsTrue (is_spelled_in self.old.channel.version bytes.items) }
         requires room { length self.old.waiting.items < self.old.channel.capacity }
         ensures number { result ≡ self.old.next }
-        ensures queue { outgoing_of self.new ≡ with_waiting (program_read (message_of bytes.items)) cargo (outgoing_of self.old) }
+        ensures queue { outgoing_of self.new
+            ≡ with_waiting (program_read (message_of bytes.items)) cargo (outgoing_of self.old) }
     {
         let number = self.next;
         self.next = number.saturating_add(1);

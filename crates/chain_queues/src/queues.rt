@@ -29,7 +29,8 @@ pub struct Queue {
     pub waiting: VecDeque<Queued>,
     ghost room: { channel.capacity ≤ deque_capacity waiting },
     ghost within: { length waiting.items ≤ channel.capacity },
-    ghost spelled: { All (λ q. IsTrue (is_spelled_in channel.version q.bytes.items)) waiting.items },
+    ghost spelled: { All (λ q. IsTrue (is_spelled_in channel.version q.bytes.items))
+        waiting.items },
 }
 
 /// The channels that lead from a chain, in the order in which the network document lists them.

@@ -58,7 +58,8 @@ impl Above {
     /// Books it as saturated. No memory is taken.
     fn book(&self, book: &mut BurnBook)
         requires listed { IsTrue (lists book.old.listed (listed_of self.now.0)) }
-        ensures { book.new ≡ Booked book.old (single (listed_of self.now.0, Cause.Saturated) self.now.1) }
+        ensures { book.new ≡ Booked book.old (single (listed_of self.now.0, Cause.Saturated)
+            self.now.1) }
     {
         book_wide(book, &self.id, self.amount);
     }
@@ -67,7 +68,8 @@ impl Above {
 /// Books all of them as saturated. No memory is taken.
 pub(crate) fn book_all(book: &mut BurnBook, above: &[Above])
     requires listed { IsTrue (are_units_listed book.old.listed above.now) }
-    ensures { book.new ≡ Booked book.old (from_rows (rows_at (λ unit. (listed_of unit, Cause.Saturated)) above.now)) }
+    ensures { book.new ≡ Booked book.old
+        (from_rows (rows_at (λ unit. (listed_of unit, Cause.Saturated)) above.now)) }
 {
     for one in above {
         one.book(book);

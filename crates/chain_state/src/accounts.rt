@@ -191,7 +191,11 @@ impl ChainState {
 
     /// Lowers the checking accounts of the rows of teleported assets.
     fn lower_for(&mut self, teleport: bool, list: &[Asset])
-        ensures { part_of self.new ≡ record (part_of self.old) { checking = if teleport then changed_all (λ n a. n - a) list.now (part_of self.old).rows (part_of self.old).checking else (part_of self.old).checking } }
+        ensures { part_of self.new ≡ record (part_of self.old) {
+          checking = if teleport
+              then changed_all (λ n a. n - a) list.now (part_of self.old).rows
+              (part_of self.old).checking else (part_of self.old).checking;
+        } }
     {
         if teleport {
             self.change_checking(list, false);
@@ -205,7 +209,9 @@ impl ChainState {
         a: &Assets,
         who: &Location,
     ) -> Result<AssetBundle, HostFault>
-        ensures step { Answers (withdraw_refusal (part_of self.old) a.now who.now) (bundle_of a.now) (withdrawn (part_of self.old) a.now who.now) (part_of self.old) result (part_of self.new) }
+        ensures step { Answers (withdraw_refusal (part_of self.old) a.now who.now) (bundle_of a.now)
+            (withdrawn (part_of self.old) a.now who.now) (part_of self.old) result
+            (part_of self.new) }
     {
         let ends = self.is_cargo(ArrivalCall::Withdrawal, a)?;
         let goods = self.take_out(a, who)?;
@@ -235,7 +241,9 @@ impl ChainState {
         from: &Location,
         teleport: bool,
     ) -> Result<AssetBundle, HostFault>
-        ensures step { Answers (receive_refusal (part_of self.old) a.now from.now teleport) (bundle_of a.now) (received (part_of self.old) a.now teleport) (part_of self.old) result (part_of self.new) }
+        ensures step { Answers (receive_refusal (part_of self.old) a.now from.now teleport)
+            (bundle_of a.now) (received (part_of self.old) a.now teleport) (part_of self.old) result
+            (part_of self.new) }
     {
         if let Some(error) = self.receive_fault(a.items(), from, teleport) {
             return Err(HostFault::Xcm(error));

@@ -45,8 +45,10 @@ impl ChainState {
         requires some { has_zero seen.items ≡ false }
         requires rising { is_rising seen.items ≡ true }
         ensures ready { MatchResult result
-            (λ ready. IsTaken (part_of self.now) dest.now (program_by call xcm.now seen.items) ready.0 ready.1.items × (length seen.items ≤ 20))
-            (IsSendFault (send_refusal (part_of self.now) dest.now (nat_le (length seen.items) 20) (program_by call xcm.now seen.items))) }
+            (λ ready. IsTaken (part_of self.now) dest.now (program_by call xcm.now seen.items)
+            ready.0 ready.1.items × (length seen.items ≤ 20))
+            (IsSendFault (send_refusal (part_of self.now) dest.now (nat_le (length seen.items) 20)
+            (program_by call xcm.now seen.items))) }
     {
         let Some(queue) = self.queue_to(dest) else {
             return Err(HostFault::Xcm(XcmError::Unroutable));
@@ -74,9 +76,14 @@ impl ChainState {
         requires forwardable { IsForwardable xcm.now }
         requires some { has_zero list.now ≡ false }
         ensures ready { MatchResult result
-            (λ ready. IsTaken (part_of self.now) dest.now (listed_program (program_by call xcm.now) (seen_from (part_of self.now) dest.now list.now)) ready.0 ready.1.items
-            × (listed_refusal (part_of self.now) dest.now (program_by call xcm.now) (seen_from (part_of self.now) dest.now list.now) ≡ None) × (length list.now ≤ 20))
-            (IsSendFault (listed_refusal (part_of self.now) dest.now (program_by call xcm.now) (seen_from (part_of self.now) dest.now list.now))) }
+            (λ ready. IsTaken (part_of self.now) dest.now
+            (listed_program (program_by call xcm.now)
+            (seen_from (part_of self.now) dest.now list.now)) ready.0 ready.1.items
+            × (listed_refusal (part_of self.now) dest.now (program_by call xcm.now)
+            (seen_from (part_of self.now) dest.now list.now) ≡ None)
+            × (length list.now ≤ 20))
+            (IsSendFault (listed_refusal (part_of self.now) dest.now (program_by call xcm.now)
+            (seen_from (part_of self.now) dest.now list.now))) }
     {
         let alloc = *self.events.allocator();
         let Some(seen) = named(alloc, list, dest, &self.settings.site.path())? else {

@@ -46,7 +46,8 @@ impl ChainState {
     /// What stands aside of an asset: paid for weight, the fee in the slot, kept for deliveries, and parked; the amount of a fungible
     /// asset in its smallest unit, or the number of instances of a class. It saturates at 2^160-1, and takes no memory.
     pub fn aside(&self, id: &AssetId, kind: Kind) -> Total
-        ensures { total_value result ≡ min (aside.aside (part_of self.now) id.now kind) most_burned }
+        ensures { total_value result ≡ min (aside.aside (part_of self.now) id.now kind)
+            most_burned }
     {
         let parked = parked_total(self.parked.as_slice(), id, kind);
         let with_paid = parked.plus(self.paid(id, kind));

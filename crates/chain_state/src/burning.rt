@@ -18,7 +18,8 @@ impl ChainState {
         goods: AssetBundle,
     ) -> Result<(), AssetBundle>
         requires listed { AreListed (listing (part_of self.old).rows) (Excess into.old goods) }
-        ensures step { Keeps goods (joined (part_of self.old) into.old goods) (part_of self.old) result (part_of self.new) }
+        ensures step { Keeps goods (joined (part_of self.old) into.old goods) (part_of self.old)
+            result (part_of self.new) }
         ensures into { JoinedInto goods into.old result into.new }
     {
         let Ok(mut lines) = self.excess_lines(into, &goods) else {
@@ -37,7 +38,8 @@ impl ChainState {
     /// Burns goods.
     pub(crate) fn burn_goods(&mut self, goods: AssetBundle) -> Result<(), AssetBundle>
         requires listed { AreListed (listing (part_of self.old).rows) goods }
-        ensures step { Keeps goods (burnt (part_of self.old) goods) (part_of self.old) result (part_of self.new) }
+        ensures step { Keeps goods (burnt (part_of self.old) goods) (part_of self.old) result
+            (part_of self.new) }
     {
         let Ok(mut lines) = self.burnt_lines(&goods) else {
             return Err(goods);

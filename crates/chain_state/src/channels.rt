@@ -17,7 +17,8 @@ use trust_tables::lies_at;
 
 /// The first channel that leads to just that location.
 fn queue_at<'a>(queues: &'a [Queue], here: ChainId, dest: &Location) -> Option<&'a Queue>
-    ensures { option_copied result ≡ find (λ (q : Queue). is_location_of here q.channel.to dest.now) queues.now }
+    ensures { option_copied result ≡ find (λ (q : Queue). is_location_of here q.channel.to dest.now)
+        queues.now }
 {
     queues
         .iter()
@@ -27,7 +28,8 @@ fn queue_at<'a>(queues: &'a [Queue], here: ChainId, dest: &Location) -> Option<&
 impl ChainState {
     /// The channel that leads to just that location, with what waits in it.
     pub(crate) fn queue_to(&self, dest: &Location) -> Option<&Queue>
-        ensures { option_map outgoing_of (option_copied result) ≡ channel_to (part_of self.now) dest.now }
+        ensures { option_map outgoing_of (option_copied result)
+            ≡ channel_to (part_of self.now) dest.now }
     {
         queue_at(self.queues.channels(), self.settings.site.chain, dest)
     }

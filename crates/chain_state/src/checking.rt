@@ -70,7 +70,11 @@ impl ChainState {
     /// Changes the checking accounts of the rows of these assets.
     pub(crate) fn change_checking(&mut self, list: &[Asset], rises: bool)
         ensures room { self.new.kept_back ≡ self.old.kept_back }
-        ensures step { part_of self.new ≡ record (part_of self.old) { checking = changed_all (change_by rises) list.now (part_of self.old).rows (part_of self.old).checking } }
+        ensures step { part_of self.new
+            ≡ record (part_of self.old) {
+              checking = changed_all (change_by rises) list.now
+                  (part_of self.old).rows (part_of self.old).checking;
+            } }
     {
         change_all(
             self.settings.rows.items(),
@@ -82,7 +86,8 @@ impl ChainState {
 
     /// The amount of the checking account of the row of this place; none where the row has none, or there is no such row.
     pub fn checking(&self, row: usize) -> Option<u128>
-        ensures { result ≡ option_and_then (λ (c : Option ℕ). c) (slice_get (part_of self.now).checking row) }
+        ensures { result ≡ option_and_then
+            (λ (c : Option ℕ). c) (slice_get (part_of self.now).checking row) }
     {
         if row >= self.checking.len() {
             return None;

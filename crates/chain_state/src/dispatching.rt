@@ -105,7 +105,8 @@ impl ChainState {
         who: &[u8; 32],
         call: &Call,
     ) -> Result<CallEnd, AllocError>
-        ensures step { Dispatches (part_of self.old).calls (part_of self.old) who.now call.now result
+        ensures step { Dispatches (part_of self.old).calls (part_of self.old) who.now call.now
+            result
             (part_of self.new) }
     {
         if !self.settings.calls {

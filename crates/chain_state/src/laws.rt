@@ -17,7 +17,8 @@ use transactors::law_of_kinds;
 pub fn law_of_transactors()
     ensures withdraw { (p : ChainPart) (list : List Asset) (who : Location)
         → withdraw_refusal p list who
-        ≡ option_map error_of (withdraw_fault (handled_rows p) p.site (kept_floors p) (accounts_of p) list who) }
+        ≡ option_map error_of (withdraw_fault (handled_rows p) p.site (kept_floors p)
+        (accounts_of p) list who) }
     ensures deposit { (p : ChainPart) (goods : Bundle) (who : Location)
         → deposit_refusal p goods who
         ≡ option_map error_of (deposit_fault (handled_rows p) p.site (accounts_of p) goods who) }

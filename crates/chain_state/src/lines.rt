@@ -66,8 +66,10 @@ impl ChainState {
         list: &[Asset],
         cause: Option<Cause>,
     ) -> Result<Vec<Event>, AllocError>
-        requires { IsTrue (list_all (λ a. lists (listing self.now.settings.rows) (listed_of (unit_of a))) list.now) }
-        ensures { IfOk result (λ lines. lines.items ≡ map (burned_line (part_of self.now) (cause_by cause)) list.now) }
+        requires { IsTrue (list_all
+            (λ a. lists (listing self.now.settings.rows) (listed_of (unit_of a))) list.now) }
+        ensures { IfOk result (λ lines. lines.items
+            ≡ map (burned_line (part_of self.now) (cause_by cause)) list.now) }
     {
         let mut lines = Vec::new(*self.events.allocator());
         for asset in list {
@@ -83,7 +85,8 @@ impl ChainState {
         goods: &AssetBundle,
     ) -> Result<Vec<Event>, AllocError>
         requires { AreListed (listing self.now.settings.rows) (Excess into.now goods.now) }
-        ensures { IfOk result (λ lines. lines.items ≡ burned_lines (part_of self.now) (cause_by None) (Excess into.now goods.now)) }
+        ensures { IfOk result (λ lines. lines.items
+            ≡ burned_lines (part_of self.now) (cause_by None) (Excess into.now goods.now)) }
     {
         let assets = into.excess(goods)?;
         self.lines(assets.as_slice(), None)
@@ -92,7 +95,8 @@ impl ChainState {
     /// The lines of goods that are burned by the instruction.
     pub(crate) fn burnt_lines(&self, goods: &AssetBundle) -> Result<Vec<Event>, AllocError>
         requires { AreListed (listing self.now.settings.rows) goods.now }
-        ensures { IfOk result (λ lines. lines.items ≡ burned_lines (part_of self.now) (cause_by (Some Cause.BurnAsset)) goods.now) }
+        ensures { IfOk result (λ lines. lines.items
+            ≡ burned_lines (part_of self.now) (cause_by (Some Cause.BurnAsset)) goods.now) }
     {
         let assets = goods.list()?;
         self.lines(assets.as_slice(), Some(Cause::BurnAsset))

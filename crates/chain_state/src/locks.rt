@@ -40,7 +40,8 @@ fn lock_id(asset: &Asset) -> Option<&Location>
 
 /// A message that tells of a lock.
 fn note_of(alloc: Global, asset: Asset, owner: Location) -> Result<Program, AllocError>
-    ensures { IfOk result (λ program. program ≡ roll-Instruction (Instruction-F.NoteUnlockable asset owner) ∷ []) }
+    ensures { IfOk result (λ program. program
+        ≡ roll-Instruction (Instruction-F.NoteUnlockable asset owner) ∷ []) }
 {
     let mut items = Vec::with_capacity(alloc, 1)?;
     items.push(Instruction::NoteUnlockable { asset, owner })?;
@@ -49,7 +50,8 @@ fn note_of(alloc: Global, asset: Asset, owner: Location) -> Result<Program, Allo
 
 /// A message that asks to let a lock fall.
 fn unlock_of(alloc: Global, asset: Asset, target: Location) -> Result<Program, AllocError>
-    ensures { IfOk result (λ program. program ≡ roll-Instruction (Instruction-F.UnlockAsset asset target) ∷ []) }
+    ensures { IfOk result (λ program. program
+        ≡ roll-Instruction (Instruction-F.UnlockAsset asset target) ∷ []) }
 {
     let mut items = Vec::with_capacity(alloc, 1)?;
     items.push(Instruction::UnlockAsset { asset, target })?;
@@ -87,7 +89,8 @@ fn own_account(place: &Location) -> Option<[u8; 32]>
 impl ChainState {
     /// The account and the asset of a lock.
     fn lock_place(&self, asset: &Asset, owner: &Location) -> Option<([u8; 32], Location)>
-        ensures { (unlocker : Location) → option_map (λ place. (place.0, place.1, unlocker)) result ≡ lock_key (part_of self.now) asset.now owner.now unlocker }
+        ensures { (unlocker : Location) → option_map (λ place. (place.0, place.1, unlocker)) result
+            ≡ lock_key (part_of self.now) asset.now owner.now unlocker }
     {
         let id = lock_id(asset)?;
         let who = account_of(owner, &self.settings.site)?;
@@ -101,7 +104,9 @@ impl ChainState {
         owner: &Location,
         unlocker: &Location,
     ) -> Option<([u8; 32], Location)>
-        ensures { MatchOption result (MayNotLock (part_of self.now) asset.now owner.now unlocker.now) (λ place. MayLock (part_of self.now) asset.now owner.now unlocker.now (place.0, place.1, unlocker.now)) }
+        ensures { MatchOption result (MayNotLock (part_of self.now) asset.now owner.now
+            unlocker.now) (λ place. MayLock (part_of self.now) asset.now owner.now unlocker.now
+            (place.0, place.1, unlocker.now)) }
     {
         if !self.settings.locks {
             return None;
@@ -121,10 +126,14 @@ impl ChainState {
         owner: &Location,
         unlocker: &Location,
     ) -> Result<(ChainId, Vec<u8>), HostFault>
-        requires forwardable { IsForwardable (roll-Instruction (Instruction-F.LockAsset asset.now unlocker.now) ∷ []) }
+        requires forwardable { IsForwardable
+            (roll-Instruction (Instruction-F.LockAsset asset.now unlocker.now) ∷ []) }
         ensures { MatchResult result
-            (λ ready. IsTold (part_of self.now) unlocker.now (note_program (part_of self.now) asset.now owner.now unlocker.now) ready.0 ready.1.items)
-            (IsSendFault (named_refusal (part_of self.now) unlocker.now (note_program (part_of self.now) asset.now owner.now unlocker.now))) }
+            (λ ready. IsTold (part_of self.now) unlocker.now
+            (note_program (part_of self.now) asset.now owner.now unlocker.now) ready.0
+            ready.1.items)
+            (IsSendFault (named_refusal (part_of self.now) unlocker.now
+            (note_program (part_of self.now) asset.now owner.now unlocker.now))) }
     {
         let context = self.settings.site.path();
         let Some(seen) = asset.reanchored(unlocker, &context) else {
@@ -144,8 +153,12 @@ impl ChainState {
         owner: &Location,
         unlocker: &Location,
     ) -> Result<u64, HostFault>
-        requires forwardable { IsForwardable (roll-Instruction (Instruction-F.LockAsset asset.now unlocker.now) ∷ []) }
-        ensures step { Answers (lock_refusal (part_of self.old) asset.now owner.now unlocker.now) (number_to (part_of self.old) unlocker.now) (asset_locked (part_of self.old) asset.now owner.now unlocker.now) (part_of self.old) result (part_of self.new) }
+        requires forwardable { IsForwardable
+            (roll-Instruction (Instruction-F.LockAsset asset.now unlocker.now) ∷ []) }
+        ensures step { Answers (lock_refusal (part_of self.old) asset.now owner.now unlocker.now)
+            (number_to (part_of self.old) unlocker.now)
+            (asset_locked (part_of self.old) asset.now owner.now unlocker.now) (part_of self.old)
+            result (part_of self.new) }
     {
         let Some(place) = self.lockable(asset, owner, unlocker) else {
             return Err(HostFault::Xcm(XcmError::LockError));
@@ -168,7 +181,9 @@ impl ChainState {
         target: &Location,
         from: &Location,
     ) -> Result<(), HostFault>
-        ensures step { Answers (unlock_refusal (part_of self.old) asset.now target.now from.now) tt (asset_unlocked (part_of self.old) asset.now target.now from.now) (part_of self.old) result (part_of self.new) }
+        ensures step { Answers (unlock_refusal (part_of self.old) asset.now target.now from.now) tt
+            (asset_unlocked (part_of self.old) asset.now target.now from.now) (part_of self.old)
+            result (part_of self.new) }
     {
         if !self.settings.locks {
             return Err(HostFault::Xcm(XcmError::LockError));
@@ -190,8 +205,11 @@ impl ChainState {
         owner: &Location,
         from: &Location,
     ) -> Result<(), HostFault>
-        requires forwardable { IsForwardable (roll-Instruction (Instruction-F.NoteUnlockable asset.now owner.now) ∷ []) }
-        ensures step { Answers (note_refusal (part_of self.old) asset.now owner.now from.now) tt (asset_noted (part_of self.old) asset.now owner.now from.now) (part_of self.old) result (part_of self.new) }
+        requires forwardable { IsForwardable
+            (roll-Instruction (Instruction-F.NoteUnlockable asset.now owner.now) ∷ []) }
+        ensures step { Answers (note_refusal (part_of self.old) asset.now owner.now from.now) tt
+            (asset_noted (part_of self.old) asset.now owner.now from.now) (part_of self.old) result
+            (part_of self.new) }
     {
         if !self.settings.locks {
             return Err(HostFault::Xcm(XcmError::LockError));
@@ -214,7 +232,9 @@ impl ChainState {
         owner: &Location,
         locker: &Location,
     ) -> Option<([u8; 32], Location)>
-        ensures { MatchOption result (MayNotRequest (part_of self.now) asset.now owner.now locker.now) (λ place. MayRequest (part_of self.now) asset.now owner.now locker.now (locker.now, place.1, place.0)) }
+        ensures { MatchOption result (MayNotRequest (part_of self.now) asset.now owner.now
+            locker.now) (λ place. MayRequest (part_of self.now) asset.now owner.now locker.now
+            (locker.now, place.1, place.0)) }
     {
         if !self.settings.locks {
             return None;
@@ -234,10 +254,15 @@ impl ChainState {
         who: &[u8; 32],
         locker: &Location,
     ) -> Result<(ChainId, Vec<u8>), HostFault>
-        requires forwardable { IsForwardable (roll-Instruction (Instruction-F.RequestUnlock asset.now locker.now) ∷ []) }
+        requires forwardable { IsForwardable
+            (roll-Instruction (Instruction-F.RequestUnlock asset.now locker.now) ∷ []) }
         ensures { (id : Location) → MatchResult result
-            (λ ready. IsTold (part_of self.now) locker.now (unlock_program (part_of self.now) asset.now (Some (locker.now, id, who.now)) locker.now) ready.0 ready.1.items)
-            (IsSendFault (named_refusal (part_of self.now) locker.now (unlock_program (part_of self.now) asset.now (Some (locker.now, id, who.now)) locker.now))) }
+            (λ ready. IsTold (part_of self.now) locker.now
+            (unlock_program (part_of self.now) asset.now (Some (locker.now, id, who.now))
+            locker.now) ready.0 ready.1.items)
+            (IsSendFault (named_refusal (part_of self.now) locker.now
+            (unlock_program (part_of self.now) asset.now (Some (locker.now, id, who.now))
+            locker.now))) }
     {
         let Some(seen) = asset.reanchored(locker, &self.settings.site.path()) else {
             return Err(HostFault::Xcm(XcmError::ReanchorFailed));
@@ -261,8 +286,12 @@ impl ChainState {
         owner: &Location,
         locker: &Location,
     ) -> Result<u64, HostFault>
-        requires forwardable { IsForwardable (roll-Instruction (Instruction-F.RequestUnlock asset.now locker.now) ∷ []) }
-        ensures step { Answers (request_refusal (part_of self.old) asset.now owner.now locker.now) (number_to (part_of self.old) locker.now) (asset_requested (part_of self.old) asset.now owner.now locker.now) (part_of self.old) result (part_of self.new) }
+        requires forwardable { IsForwardable
+            (roll-Instruction (Instruction-F.RequestUnlock asset.now locker.now) ∷ []) }
+        ensures step { Answers (request_refusal (part_of self.old) asset.now owner.now locker.now)
+            (number_to (part_of self.old) locker.now)
+            (asset_requested (part_of self.old) asset.now owner.now locker.now) (part_of self.old)
+            result (part_of self.new) }
     {
         let Some(place) = self.requestable(asset, owner, locker) else {
             return Err(HostFault::Xcm(XcmError::LockError));

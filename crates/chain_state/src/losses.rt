@@ -15,7 +15,8 @@ impl ChainState {
     /// The lines of a shipment that is lost, under the names of this chain.
     pub fn lost_lines(&self, shipment: &Shipment) -> Result<Vec<Event>, AllocError>
         requires listed { AreListed (listing (part_of self.now).rows) shipment.now.units }
-        ensures lines { IfOk result (λ lines. lines.items ≡ burned_lines (part_of self.now) (λ unit. LostTeleport) shipment.now.units) }
+        ensures lines { IfOk result (λ lines. lines.items ≡ burned_lines (part_of self.now)
+            (λ unit. LostTeleport) shipment.now.units) }
     {
         let assets = shipment.list()?;
         self.lines(assets.as_slice(), Some(Cause::LostTeleport))
@@ -23,7 +24,8 @@ impl ChainState {
 
     /// Tells these lines, behind what was told.
     pub fn tell_lines(&mut self, mut lines: Vec<Event>) -> Result<(), AllocError>
-        ensures told { OnOk result (part_of self.new ≡ record (part_of self.old) { events = (part_of self.old).events ++ lines.items }) }
+        ensures told { OnOk result (part_of self.new
+            ≡ record (part_of self.old) { events = (part_of self.old).events ++ lines.items }) }
         ensures kept { OnErr result (part_of self.new ≡ part_of self.old) }
     {
         self.events.append(&mut lines)

@@ -62,9 +62,11 @@ impl ChainState {
         requires few_pallets { length settings.pallets ≤ 64 }
         requires few_pools { length settings.pools ≤ 16 }
         requires prices { IsTrue (have_prices (map opened channels.items)) }
-        requires fees { IsTrue (are_fees_listed (listing settings.rows) (map opened channels.items)) }
+        requires fees { IsTrue (are_fees_listed (listing settings.rows)
+            (map opened channels.items)) }
         requires checkings { IsTrue (may_have_checkings settings.rows) }
-        ensures fresh { IfOk result (λ chain. part_of chain ≡ fresh settings rates.now queries.items channels.items) }
+        ensures fresh { IfOk result (λ chain. part_of chain
+            ≡ fresh settings rates.now queries.items channels.items) }
     {
         let ledger = Ledger::open(alloc, places(alloc, settings.rows.items())?)?;
         let listed = ids(alloc, settings.rows.items())?;
@@ -101,10 +103,17 @@ impl ChainState {
     /// pass 2^128-1, an instance that has an owner, or out of memory; the account is then as it was.
     pub fn place(&mut self, who: &[u8; 32], asset: Asset) -> Result<(), DepositFault>
         requires some { IsFalse (is_zero asset) }
-        requires listed { IsTrue (lists (listing (part_of self.old).rows) (listed_of (unit_of asset))) }
-        ensures placed { OnOk result (part_of self.new ≡ record (part_of self.old) { held = (Deposited who.now (bundle_of (asset ∷ [])) (accounts_of (part_of self.old))).held }) }
-        ensures fault { IfErr result (λ fault. IsDepositFault (part_of self.old).held who.now (held_assets (bundle_of (asset ∷ []))) fault) }
-        ensures free { OnOk result (barred (part_of self.old).held who.now (held_assets (bundle_of (asset ∷ []))) ≡ None) }
+        requires listed { IsTrue (lists (listing (part_of self.old).rows)
+            (listed_of (unit_of asset))) }
+        ensures placed { OnOk result (part_of self.new
+            ≡ record (part_of self.old) {
+              held = (Deposited who.now (bundle_of (asset ∷ []))
+                  (accounts_of (part_of self.old))).held;
+            }) }
+        ensures fault { IfErr result (λ fault. IsDepositFault (part_of self.old).held who.now
+            (held_assets (bundle_of (asset ∷ []))) fault) }
+        ensures free { OnOk result (barred (part_of self.old).held who.now
+            (held_assets (bundle_of (asset ∷ []))) ≡ None) }
         ensures kept { OnErr result (part_of self.new ≡ part_of self.old) }
     {
         let goods = AssetBundle::mint(*self.events.allocator(), &[asset])?;
@@ -121,7 +130,8 @@ impl ChainState {
     fn bare(alloc: Global, spec: &NetworkSpec, entry: &ChainSpec) -> Result<ChainState, AllocError>
         requires chain { IsOpenableChain spec.now.network entry.now }
         requires prices { IsTrue (have_prices (bare_part spec.now entry.now).channels) }
-        requires fees { IsTrue (are_fees_listed (listing entry.now.assets) (bare_part spec.now entry.now).channels) }
+        requires fees { IsTrue (are_fees_listed (listing entry.now.assets)
+            (bare_part spec.now entry.now).channels) }
         ensures { IfOk result (λ chain. part_of chain ≡ bare_part spec.now entry.now) }
     {
         let rows = copied_rows(alloc, entry.assets.items())?;
@@ -147,9 +157,15 @@ impl ChainState {
     /// Places what the document says that an account holds, which the conditions on it never refuse.
     fn place_balance(&mut self, balance: &Balance) -> Result<(), AllocError>
         requires some { IsFalse (is_zero balance.now.asset) }
-        requires listed { IsTrue (lists (listing (part_of self.old).rows) (listed_of (unit_of balance.now.asset))) }
-        requires free { barred (part_of self.old).held balance.now.who (held_assets (bundle_of (balance.now.asset ∷ []))) ≡ None }
-        ensures placed { OnOk result (part_of self.new ≡ record (part_of self.old) { held = with_balance (part_of self.old).held balance.now }) }
+        requires listed { IsTrue (lists (listing (part_of self.old).rows)
+            (listed_of (unit_of balance.now.asset))) }
+        requires free { barred (part_of self.old).held balance.now.who
+            (held_assets (bundle_of (balance.now.asset ∷ []))) ≡ None }
+        ensures placed { OnOk result (part_of self.new
+            ≡ record (part_of self.old) {
+              held = with_balance (part_of self.old).held
+                  balance.now;
+            }) }
         ensures kept { OnErr result (part_of self.new ≡ part_of self.old) }
     {
         match self.place(&balance.who, balance.asset.copy()) {
@@ -166,8 +182,13 @@ impl ChainState {
         requires empty { (part_of self.old).held ≡ empty }
         requires balances { IsTrue (list_all (is_placeable (part_of self.old).rows) balances.now) }
         requires once { IsDistinct same_holding balances.now }
-        ensures placed { OnOk result (part_of self.new ≡ record (part_of self.old) { held = with_balances empty balances.now }) }
-        ensures left { OnErr result ((k : ℕ) × (part_of self.new ≡ record (part_of self.old) { held = with_balances empty (take k balances.now) })) }
+        ensures placed { OnOk result (part_of self.new
+            ≡ record (part_of self.old) { held = with_balances empty balances.now }) }
+        ensures left { OnErr result ((k : ℕ)
+            × (part_of self.new
+            ≡ record (part_of self.old) {
+              held = with_balances empty (take k balances.now);
+            })) }
     {
         for balance in balances {
             let _amount = balance.asset.amount(); // For the prover alone: it is below 2^128.
@@ -180,7 +201,9 @@ impl ChainState {
     pub fn open(alloc: Global, spec: &NetworkSpec, chain: ChainId) -> Result<ChainState, AllocError>
         requires openable { IsOpenable spec.now }
         requires listed { IsTrue (has_chain spec.now.chains chain) }
-        ensures opened { IfOk result (λ state. IsSomeAnd (find (λ (c : ChainSpec). same_chain c.chain chain) spec.now.chains) (λ c. part_of state ≡ part_at spec.now c)) }
+        ensures opened { IfOk result
+            (λ state. IsSomeAnd (find (λ (c : ChainSpec). same_chain c.chain chain) spec.now.chains)
+            (λ c. part_of state ≡ part_at spec.now c)) }
     {
         let Some(entry) = entry_of(spec.chains.items(), chain) else {
             unreachable!();

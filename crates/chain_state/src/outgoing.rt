@@ -28,8 +28,12 @@ impl ChainState {
     ) -> Result<(ChainId, Vec<u8>, Assets), HostFault>
         requires forwardable { IsForwardable xcm.now }
         ensures ready { MatchResult result
-            (λ ready. IsTaken (part_of self.now) dest.now (listed_program (λ a. deposit_program a xcm.now) (seen_from (part_of self.now) dest.now (held_assets goods.now))) ready.0 ready.1.items
-            × (deposit_out_refusal (part_of self.now) goods.now dest.now xcm.now ≡ None) × (ready.2 ≡ held_assets goods.now))
+            (λ ready. IsTaken (part_of self.now) dest.now (listed_program
+            (λ a. deposit_program a xcm.now)
+            (seen_from (part_of self.now) dest.now (held_assets goods.now))) ready.0
+            ready.1.items
+            × (deposit_out_refusal (part_of self.now) goods.now dest.now xcm.now ≡ None)
+            × (ready.2 ≡ held_assets goods.now))
             (IsSendFault (deposit_out_refusal (part_of self.now) goods.now dest.now xcm.now)) }
     {
         if let Some(error) = self.deposit_refusal(goods, dest) {
@@ -59,7 +63,9 @@ impl ChainState {
         xcm: &Program,
     ) -> Result<u64, (AssetBundle, HostFault)>
         requires forwardable { IsForwardable xcm.now }
-        ensures step { TakesIn (deposit_out_refusal (part_of self.old) goods dest.now xcm.now) goods (number_to (part_of self.old) dest.now) (deposited_out (part_of self.old) goods dest.now xcm.now) (part_of self.old) result (part_of self.new) }
+        ensures step { TakesIn (deposit_out_refusal (part_of self.old) goods dest.now xcm.now) goods
+            (number_to (part_of self.old) dest.now) (deposited_out (part_of self.old) goods dest.now
+            xcm.now) (part_of self.old) result (part_of self.new) }
     {
         let (to, bytes, cargo) = match self.ready_deposit(&goods, dest, xcm) {
             Ok(ready) => ready,
@@ -85,9 +91,13 @@ impl ChainState {
     ) -> Result<(ChainId, Vec<u8>, Assets), HostFault>
         requires forwardable { IsForwardable xcm.now }
         ensures ready { MatchResult result
-            (λ ready. IsTaken (part_of self.now) dest.now (listed_program (λ a. deposit_program a xcm.now) (seen_from (part_of self.now) dest.now list.now)) ready.0 ready.1.items
-            × (transfer_out_refusal (part_of self.now) list.now from.now dest.now xcm.now ≡ None) × (ready.2 ≡ list.now))
-            (IsSendFault (transfer_out_refusal (part_of self.now) list.now from.now dest.now xcm.now)) }
+            (λ ready. IsTaken (part_of self.now) dest.now (listed_program
+            (λ a. deposit_program a xcm.now)
+            (seen_from (part_of self.now) dest.now list.now)) ready.0 ready.1.items
+            × (transfer_out_refusal (part_of self.now) list.now from.now dest.now xcm.now ≡ None)
+            × (ready.2 ≡ list.now))
+            (IsSendFault (transfer_out_refusal (part_of self.now) list.now from.now dest.now
+            xcm.now)) }
     {
         if let Some(error) = self.transfer_refusal(list, from, dest) {
             return Err(HostFault::Xcm(error));
@@ -109,7 +119,10 @@ impl ChainState {
         xcm: &Program,
     ) -> Result<u64, HostFault>
         requires forwardable { IsForwardable xcm.now }
-        ensures step { Answers (transfer_out_refusal (part_of self.old) list.now from.now dest.now xcm.now) (number_to (part_of self.old) dest.now) (transferred_out (part_of self.old) list.now from.now dest.now xcm.now) (part_of self.old) result (part_of self.new) }
+        ensures step { Answers (transfer_out_refusal (part_of self.old) list.now from.now dest.now
+            xcm.now) (number_to (part_of self.old) dest.now)
+            (transferred_out (part_of self.old) list.now from.now dest.now xcm.now)
+            (part_of self.old) result (part_of self.new) }
     {
         let (to, bytes, cargo) = match self.ready_transfer(list, from, dest, xcm) {
             Ok(ready) => ready,

@@ -24,10 +24,14 @@ use xcm_program::Program;
 /// Puts a message, which the channel takes, last in it. The answer is its number.
 fn put(queues: &mut Queues, to: ChainId, bytes: Vec<u8>) -> u64
     requires message { IsTrue (decodes bytes.items) }
-    requires spelled { IsTrue (is_spelled_for (channel_to to (channels_of queues.old)) bytes.items) }
-    requires free { push_refusal (length bytes.items) (channel_to to (channels_of queues.old)) ≡ None }
-    ensures number { option_map (λ (c : Outgoing). c.next) (channel_to to (channels_of queues.old)) ≡ Some result }
-    ensures queued { channels_of queues.new ≡ pushed to (program_read (message_of bytes.items)) Nothing (channels_of queues.old) }
+    requires spelled { IsTrue (is_spelled_for (channel_to to (channels_of queues.old))
+        bytes.items) }
+    requires free { push_refusal (length bytes.items) (channel_to to (channels_of queues.old))
+        ≡ None }
+    ensures number { option_map (λ (c : Outgoing). c.next) (channel_to to (channels_of queues.old))
+        ≡ Some result }
+    ensures queued { channels_of queues.new
+        ≡ pushed to (program_read (message_of bytes.items)) Nothing (channels_of queues.old) }
 {
     match queues.push(to, bytes, Cargo::Nothing) {
         Ok(number) => number,
@@ -45,7 +49,8 @@ fn queue_named(queues: &[Queue], to: ChainId) -> Option<&Queue>
 impl ChainState {
     /// The channel that leads to the chain, with what waits in it.
     fn queue_for(&self, to: ChainId) -> Option<&Queue>
-        ensures { option_map outgoing_of (option_copied result) ≡ channel_to to (part_of self.now).channels }
+        ensures { option_map outgoing_of (option_copied result)
+            ≡ channel_to to (part_of self.now).channels }
     {
         queue_named(self.queues.channels(), to)
     }
@@ -54,8 +59,10 @@ impl ChainState {
     fn claim_bytes(&self, to: ChainId, program: &Program) -> Result<Vec<u8>, HostFault>
         requires forwardable { IsForwardable program.now }
         ensures taken { MatchResult result
-            (λ bytes. IsClaimTaken (channel_to to (part_of self.now).channels) program.now bytes.items)
-            (IsSendFault (channel_refusal (channel_to to (part_of self.now).channels) true program.now)) }
+            (λ bytes. IsClaimTaken (channel_to to (part_of self.now).channels) program.now
+            bytes.items)
+            (IsSendFault (channel_refusal (channel_to to (part_of self.now).channels) true
+            program.now)) }
     {
         let Some(queue) = self.queue_for(to) else {
             return Err(HostFault::Xcm(XcmError::Unroutable));
@@ -71,7 +78,13 @@ impl ChainState {
     /// channel doesn't take it.
     pub fn send(&mut self, to: ChainId, program: &Program) -> Result<u64, HostFault>
         requires forwardable { IsForwardable program.now }
-        ensures step { Answers (channel_refusal (channel_to to (part_of self.old).channels) true program.now) (option_map_or (λ (c : Outgoing). c.next) (channel_to to (part_of self.old).channels) 0) (record (part_of self.old) { channels = pushed to program.now Nothing (part_of self.old).channels }) (part_of self.old) result (part_of self.new) }
+        ensures step { Answers (channel_refusal (channel_to to (part_of self.old).channels) true
+            program.now) (option_map_or (λ (c : Outgoing). c.next)
+            (channel_to to (part_of self.old).channels) 0)
+            (record (part_of self.old) {
+              channels = pushed to program.now Nothing
+                  (part_of self.old).channels;
+            }) (part_of self.old) result (part_of self.new) }
     {
         let bytes = match self.claim_bytes(to, program) {
             Ok(bytes) => bytes,

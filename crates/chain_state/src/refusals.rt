@@ -44,7 +44,8 @@ impl ChainState {
         teleport: bool,
         list: &[Asset],
     ) -> Option<XcmError>
-        ensures { result ≡ first_fault (host.trust_fault (part_of self.now) from.now teleport) list.now }
+        ensures { result ≡ first_fault (host.trust_fault (part_of self.now) from.now teleport)
+            list.now }
     {
         for asset in list {
             if let Some(error) = self.trust_fault(from, teleport, asset) {

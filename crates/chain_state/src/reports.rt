@@ -37,7 +37,8 @@ fn report_program(
 impl ChainState {
     /// The querier as the destination names it, where it can.
     fn seen_querier(&self, dest: &Location, querier: Option<&Location>) -> Option<Option<Location>>
-        ensures { result ≡ host.querier_seen (part_of self.now) dest.now (option_copied querier.entry) }
+        ensures { result ≡ host.querier_seen (part_of self.now) dest.now
+            (option_copied querier.entry) }
     {
         let Some(querier) = querier else {
             return Some(None);
@@ -55,8 +56,12 @@ impl ChainState {
         response: Response,
         querier: Option<&Location>,
     ) -> Result<u64, HostFault>
-        requires forwardable { IsForwardable (report_program to.now response (option_copied querier)) }
-        ensures step { Answers (respond_refusal (part_of self.old) to.now response (option_copied querier.entry)) (number_to (part_of self.old) to.now.destination) (responded (part_of self.old) to.now response (option_copied querier.entry)) (part_of self.old) result (part_of self.new) }
+        requires forwardable { IsForwardable
+            (report_program to.now response (option_copied querier)) }
+        ensures step { Answers (respond_refusal (part_of self.old) to.now response
+            (option_copied querier.entry)) (number_to (part_of self.old) to.now.destination)
+            (responded (part_of self.old) to.now response (option_copied querier.entry))
+            (part_of self.old) result (part_of self.new) }
     {
         let Some(querier) = self.seen_querier(&to.destination, querier) else {
             return Err(HostFault::Xcm(XcmError::ReanchorFailed));

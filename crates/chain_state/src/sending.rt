@@ -29,7 +29,9 @@ use xcm_program::Program;
 
 /// Why the channel doesn't take a message of so many bytes.
 fn channel_fault(queue: &Queue, size: usize) -> Option<XcmError>
-    ensures { result ≡ unless (nat_le size queue.now.channel.max_size) error.ExceedsMaxMessageSize (unless (nat_lt (length queue.now.waiting.items) queue.now.channel.capacity) error.Transport None) }
+    ensures { result ≡ unless (nat_le size queue.now.channel.max_size) error.ExceedsMaxMessageSize
+        (unless (nat_lt (length queue.now.waiting.items) queue.now.channel.capacity) error.Transport
+        None) }
 {
     if size > queue.channel.max_size as usize {
         return Some(XcmError::ExceedsMaxMessageSize);
@@ -46,8 +48,11 @@ pub(crate) fn accepted(
     encoded: Result<Vec<u8>, EncodeFault>,
 ) -> Result<(ChainId, Vec<u8>), HostFault>
     ensures { (program : List Instruction) → is_convertible program ≡ true
-        → MatchResult encoded (λ bytes. IsMessageIn queue.now.channel.version bytes.items program) (IsEncodeCause queue.now.channel.version program)
-        → MatchResult result (λ ready. IsAccepted (outgoing_of queue.now) program ready.0 ready.1.items) (IsSendFault (channel_refusal (Some (outgoing_of queue.now)) true program)) }
+        → MatchResult encoded (λ bytes. IsMessageIn queue.now.channel.version bytes.items program)
+        (IsEncodeCause queue.now.channel.version program)
+        → MatchResult result (λ ready. IsAccepted (outgoing_of queue.now) program ready.0
+        ready.1.items) (IsSendFault (channel_refusal (Some (outgoing_of queue.now)) true
+        program)) }
 {
     law_of_round_trip();
     let bytes = match encoded {
@@ -85,13 +90,18 @@ impl ChainState {
     /// Puts the message last in the channel, which takes it, and keeps its line back, for which there is room. It takes no memory.
     pub(crate) fn post(&mut self, to: ChainId, bytes: Vec<u8>, cargo: Cargo) -> u64
         requires message { IsTrue (decodes bytes.items) }
-        requires spelled { IsTrue (is_spelled_for (queues.channel_to to (part_of self.old).channels) bytes.items) }
-        requires free { push_refusal (length bytes.items) (queues.channel_to to (part_of self.old).channels) ≡ None }
+        requires spelled { IsTrue (is_spelled_for (queues.channel_to to (part_of self.old).channels)
+            bytes.items) }
+        requires free { push_refusal (length bytes.items)
+            (queues.channel_to to (part_of self.old).channels) ≡ None }
         requires room { vec_len self.old.kept_back + 1 ≤ vec_capacity self.old.kept_back }
-        ensures number { option_map (λ (c : Outgoing). c.next) (queues.channel_to to (part_of self.old).channels) ≡ Some result }
+        ensures number { option_map (λ (c : Outgoing). c.next)
+            (queues.channel_to to (part_of self.old).channels) ≡ Some result }
         ensures posted { part_of self.new ≡ record (part_of self.old) {
-          channels = pushed to (program_read (message_of bytes.items)) cargo (part_of self.old).channels;
-          kept_back = (part_of self.old).kept_back ++ Event.Sent (part_of self.old).site.chain to result ∷ [];
+          channels = pushed to (program_read (message_of bytes.items)) cargo
+              (part_of self.old).channels;
+          kept_back = (part_of self.old).kept_back ++ Event.Sent (part_of self.old).site.chain to
+              result ∷ [];
         } }
     {
         match self.queues.push(to, bytes, cargo) {
@@ -110,7 +120,10 @@ impl ChainState {
     /// Sends a program that carries nothing.
     pub(crate) fn send_to(&mut self, dest: &Location, program: &Program) -> Result<u64, HostFault>
         requires forwardable { IsForwardable program.now }
-        ensures step { Answers (send_refusal (part_of self.old) dest.now true program.now) (number_to (part_of self.old) dest.now) (sent (part_of self.old) dest.now program.now Cargo.Nothing) (part_of self.old) result (part_of self.new) }
+        ensures step { Answers (send_refusal (part_of self.old) dest.now true program.now)
+            (number_to (part_of self.old) dest.now)
+            (sent (part_of self.old) dest.now program.now Cargo.Nothing) (part_of self.old) result
+            (part_of self.new) }
     {
         let (to, bytes) = self.encoded_to(dest, program)?;
         self.kept_back.reserve(1)?;

@@ -25,7 +25,8 @@ fn deposit_into(
     requires holding { IsHolding coins.now }
     requires listed { AreListed ledger.old.listed (bundle_of coins.now) }
     requires free { barred ledger.old.held who.now coins.now ≡ None }
-    ensures deposited { OnOk result (ledger.new ≡ Deposited who.now (bundle_of coins.now) ledger.old) }
+    ensures deposited { OnOk result (ledger.new
+        ≡ Deposited who.now (bundle_of coins.now) ledger.old) }
     ensures kept { OnErr result (ledger.new ≡ ledger.old) }
 {
     law_of_bundles();
@@ -43,7 +44,8 @@ impl ChainState {
     /// Puts what was paid, to the trader and for deliveries, into the fee account. What would pass 2^128-1 there is booked as saturated,
     /// and told at once. An `Err` is out of memory: then all that was paid stays where it is.
     pub(crate) fn settle_fees(&mut self) -> Result<(), AllocError>
-        ensures step { Gives tt (settled (part_of self.old)) (part_of self.old) result (part_of self.new) }
+        ensures step { Gives tt (settled (part_of self.old)) (part_of self.old) result
+            (part_of self.new) }
     {
         let (coins, above) = self.shares()?;
         let mut lines = self.above_lines(above.as_slice())?;

@@ -38,7 +38,8 @@ fn push_coins(list: &mut Vec<Asset>, id: &AssetId, amount: u128) -> Result<(), A
 
 /// Adds so much of a fungible asset to the list, if it isn't 0.
 fn push_above(list: &mut Vec<Above>, id: &AssetId, amount: Wide) -> Result<(), AllocError>
-    ensures { OnOk result (list.new.items ≡ list.old.items ++ some_row (id.now, None) (wide_value amount)) }
+    ensures { OnOk result (list.new.items ≡ list.old.items
+        ++ some_row (id.now, None) (wide_value amount)) }
 {
     if amount.is_none() {
         return Ok(());
@@ -65,8 +66,10 @@ impl ChainState {
         requires paid { paid ≡ amount (paid_goods (part_of self.now).lines) (id.now, None) }
         requires kept { total_value kept ≡ amount (part_of self.now).fees (id.now, None) }
         ensures within { result.0 ≡ amount (fees_within (part_of self.now)) (id.now, None) }
-        ensures above { wide_value result.1 ≡ amount (fees_above (part_of self.now)) (id.now, None) }
-        ensures free { barred (part_of self.now).held (part_of self.now).fee_account (some_coins id.now result.0) ≡ None }
+        ensures above { wide_value result.1
+            ≡ amount (fees_above (part_of self.now)) (id.now, None) }
+        ensures free { barred (part_of self.now).held (part_of self.now).fee_account
+            (some_coins id.now result.0) ≡ None }
     {
         if paid == 0 && kept.high == 0 && kept.low == 0 {
             return (0, Wide { high: 0, low: 0 });
@@ -77,11 +80,16 @@ impl ChainState {
 
     /// As `shares`, where this much of one asset was paid, and no more was paid or kept.
     fn lone_share(&self, id: &AssetId, paid: u128) -> Result<(Vec<Asset>, Vec<Above>), AllocError>
-        requires paid { bundle_of (record { id = id.now; fun = Fungible paid } ∷ []) ≡ paid_goods (part_of self.now).lines }
+        requires paid { bundle_of (record { id = id.now; fun = Fungible paid } ∷ [])
+            ≡ paid_goods (part_of self.now).lines }
         requires clear { (part_of self.now).fees ≡ empty }
-        ensures within { IfOk result (λ shares. rows_of shares.0.items ≡ rows (fees_within (part_of self.now))) }
-        ensures free { IfOk result (λ shares. barred (part_of self.now).held (part_of self.now).fee_account shares.0.items ≡ None) }
-        ensures above { IfOk result (λ shares. shares.1.items ≡ rows (fees_above (part_of self.now))) }
+        ensures within { IfOk result (λ shares. rows_of shares.0.items
+            ≡ rows (fees_within (part_of self.now))) }
+        ensures free { IfOk result
+            (λ shares. barred (part_of self.now).held (part_of self.now).fee_account shares.0.items
+            ≡ None) }
+        ensures above { IfOk result (λ shares. shares.1.items
+            ≡ rows (fees_above (part_of self.now))) }
     {
         let alloc = *self.events.allocator();
         let mut within = Vec::new(alloc);
@@ -94,9 +102,13 @@ impl ChainState {
 
     /// As `shares`, row by row of the fees.
     fn row_shares(&self) -> Result<(Vec<Asset>, Vec<Above>), AllocError>
-        ensures within { IfOk result (λ shares. rows_of shares.0.items ≡ rows (fees_within (part_of self.now))) }
-        ensures free { IfOk result (λ shares. barred (part_of self.now).held (part_of self.now).fee_account shares.0.items ≡ None) }
-        ensures above { IfOk result (λ shares. shares.1.items ≡ rows (fees_above (part_of self.now))) }
+        ensures within { IfOk result (λ shares. rows_of shares.0.items
+            ≡ rows (fees_within (part_of self.now))) }
+        ensures free { IfOk result
+            (λ shares. barred (part_of self.now).held (part_of self.now).fee_account shares.0.items
+            ≡ None) }
+        ensures above { IfOk result (λ shares. shares.1.items
+            ≡ rows (fees_above (part_of self.now))) }
     {
         let alloc = *self.events.allocator();
         let mut within = Vec::new(alloc);
@@ -115,9 +127,13 @@ impl ChainState {
     /// What the fee account gets, and what would pass 2^128-1 there, in holding order. Where one asset was paid in and nothing is kept, the
     /// rows of the fees aren't looked at.
     pub(crate) fn shares(&self) -> Result<(Vec<Asset>, Vec<Above>), AllocError>
-        ensures within { IfOk result (λ shares. rows_of shares.0.items ≡ rows (fees_within (part_of self.now))) }
-        ensures free { IfOk result (λ shares. barred (part_of self.now).held (part_of self.now).fee_account shares.0.items ≡ None) }
-        ensures above { IfOk result (λ shares. shares.1.items ≡ rows (fees_above (part_of self.now))) }
+        ensures within { IfOk result (λ shares. rows_of shares.0.items
+            ≡ rows (fees_within (part_of self.now))) }
+        ensures free { IfOk result
+            (λ shares. barred (part_of self.now).held (part_of self.now).fee_account shares.0.items
+            ≡ None) }
+        ensures above { IfOk result (λ shares. shares.1.items
+            ≡ rows (fees_above (part_of self.now))) }
     {
         if self.fees.is_clear() {
             let alloc = *self.events.allocator();
@@ -139,7 +155,8 @@ impl ChainState {
     /// The line of so much of a listed asset that is booked as saturated.
     fn above_line(&self, above: &Above) -> Event
         requires listed { IsTrue (lists (listing self.now.settings.rows) (listed_of above.now.0)) }
-        ensures { result ≡ burned_line (part_of self.now) (λ unit. Cause.Saturated) (asset_at above.now) }
+        ensures { result ≡ burned_line (part_of self.now)
+            (λ unit. Cause.Saturated) (asset_at above.now) }
     {
         let asset = Asset {
             id: above.id().copy(),
@@ -156,7 +173,9 @@ impl ChainState {
     /// The lines of what is booked as saturated.
     pub(crate) fn above_lines(&self, above: &[Above]) -> Result<Vec<Event>, AllocError>
         requires listed { IsTrue (are_units_listed (listing self.now.settings.rows) above.now) }
-        ensures { IfOk result (λ lines. lines.items ≡ map (burned_line (part_of self.now) (λ unit. Cause.Saturated)) (assets_at above.now)) }
+        ensures { IfOk result (λ lines. lines.items
+            ≡ map (burned_line (part_of self.now) (λ unit. Cause.Saturated))
+            (assets_at above.now)) }
     {
         let mut lines = Vec::new(*self.events.allocator());
         for one in above {

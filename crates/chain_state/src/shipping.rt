@@ -39,7 +39,10 @@ fn is_teleport(way: Way) -> bool
 impl ChainState {
     /// Why the chain at that location isn't trusted with the assets, or the checking accounts of their rows can't rise.
     fn leave_refusal(&self, list: &[Asset], way: Way, dest: &Location) -> Option<XcmError>
-        ensures { result ≡ or_else (first_fault (trust_fault (part_of self.now) dest.now (is_teleport way)) list.now) (if is_teleport way then first_fault (raise_fault (part_of self.now)) list.now else None) }
+        ensures { result
+            ≡ or_else (first_fault (trust_fault (part_of self.now) dest.now (is_teleport way))
+            list.now) (if is_teleport way then first_fault (raise_fault (part_of self.now))
+            list.now else None) }
     {
         let teleport = is_teleport(way);
         if let Some(error) = self.trust_refusal(dest, teleport, list) {
@@ -62,8 +65,12 @@ impl ChainState {
     ) -> Result<(ChainId, Vec<u8>, Vec<Asset>), HostFault>
         requires forwardable { IsForwardable xcm.now }
         ensures ready { MatchResult result
-            (λ ready. IsTaken (part_of self.now) dest.now (listed_program (λ a. away_program way a xcm.now) (seen_from (part_of self.now) dest.now (held_assets goods.now))) ready.0 ready.1.items
-            × (ship_refusal (part_of self.now) goods.now way dest.now xcm.now ≡ None) × (ready.2.items ≡ held_assets goods.now))
+            (λ ready. IsTaken (part_of self.now) dest.now (listed_program
+            (λ a. away_program way a xcm.now)
+            (seen_from (part_of self.now) dest.now (held_assets goods.now))) ready.0
+            ready.1.items
+            × (ship_refusal (part_of self.now) goods.now way dest.now xcm.now ≡ None)
+            × (ready.2.items ≡ held_assets goods.now))
             (IsSendFault (ship_refusal (part_of self.now) goods.now way dest.now xcm.now)) }
     {
         let list = goods.list()?;
@@ -79,7 +86,8 @@ impl ChainState {
     /// Raises the checking accounts of the rows of teleported goods, which can rise.
     fn raise_for(&mut self, way: Way, goods: &AssetBundle, list: &[Asset])
         requires list { list.now ≡ held_assets goods.now }
-        requires free { (if is_teleport way then first_fault (raise_fault (part_of self.old)) list.now else None) ≡ None }
+        requires free { (if is_teleport way then first_fault (raise_fault (part_of self.old))
+            list.now else None) ≡ None }
         ensures room { self.new.kept_back ≡ self.old.kept_back }
         ensures step { part_of self.new ≡ raised_for (part_of self.old) way goods.now }
     {
@@ -98,7 +106,9 @@ impl ChainState {
         xcm: &Program,
     ) -> Result<u64, (AssetBundle, HostFault)>
         requires forwardable { IsForwardable xcm.now }
-        ensures step { TakesIn (ship_refusal (part_of self.old) goods way dest.now xcm.now) goods (number_to (part_of self.old) dest.now) (shipped (part_of self.old) goods way dest.now xcm.now) (part_of self.old) result (part_of self.new) }
+        ensures step { TakesIn (ship_refusal (part_of self.old) goods way dest.now xcm.now) goods
+            (number_to (part_of self.old) dest.now) (shipped (part_of self.old) goods way dest.now
+            xcm.now) (part_of self.old) result (part_of self.new) }
     {
         let (to, bytes, list) = match self.ready_shipment(&goods, way, dest, xcm) {
             Ok(ready) => ready,

@@ -48,7 +48,9 @@ pub struct ChainState {
     pub(crate) cargo: Cargo,
     pub(crate) events: Vec<Event>,
     pub(crate) kept_back: Vec<Event>,
-    ghost set_up: { IsSetUp (path_of_site settings.site) settings.rows settings.pallets settings.pools } by { IsSetUp-prop (path_of_site settings.site) settings.rows settings.pallets settings.pools },
+    ghost set_up: { IsSetUp (path_of_site settings.site) settings.rows settings.pallets
+        settings.pools } by { IsSetUp-prop (path_of_site settings.site) settings.rows
+            settings.pallets settings.pools },
     ghost floors: { KeepsFloors settings.pools locked ledger.held } by { KeepsFloors-prop settings.pools locked ledger.held },
     ghost ledger_lists: { ledger.listed ≡ listing settings.rows },
     ghost book_lists: { book.listed ≡ listing settings.rows },

@@ -18,7 +18,8 @@ impl ChainState {
     /// Takes the oldest message that waits for the chain; `None` where no channel leads there, or where none waits. It takes no memory.
     pub fn take(&mut self, to: ChainId) -> Option<Queued>
         ensures oldest { option_map waiting_of result ≡ oldest_to to (part_of self.old).channels }
-        ensures rest { part_of self.new ≡ record (part_of self.old) { channels = popped to (part_of self.old).channels } }
+        ensures rest { part_of self.new
+            ≡ record (part_of self.old) { channels = popped to (part_of self.old).channels } }
     {
         self.queues.pop(to)
     }
@@ -27,7 +28,11 @@ impl ChainState {
     /// comes from the chain itself, with nothing. It takes no memory.
     pub fn begin(&mut self, from: ChainId, cargo: Cargo)
         requires none { (part_of self.old).cargo.cargo ≡ Cargo.Nothing }
-        ensures begun { part_of self.new ≡ record (part_of self.old) { cargo = record { sender = from; cargo = cargo }; events = [] } }
+        ensures begun { part_of self.new
+            ≡ record (part_of self.old) {
+              cargo = record { sender = from; cargo = cargo };
+              events = [];
+            } }
     {
         self.events.clear();
         self.sender = from;
@@ -37,7 +42,13 @@ impl ChainState {
     /// Ends a step, and hands back the cargo that no call has ended. It takes no memory.
     pub fn finish(&mut self) -> Cargo
         ensures cargo { result ≡ (part_of self.old).cargo.cargo }
-        ensures finished { part_of self.new ≡ record (part_of self.old) { cargo = record { sender = (part_of self.old).cargo.sender; cargo = Cargo.Nothing } } }
+        ensures finished { part_of self.new
+            ≡ record (part_of self.old) {
+              cargo = record {
+                sender = (part_of self.old).cargo.sender;
+                cargo = Cargo.Nothing;
+              };
+            } }
     {
         replace(&mut self.cargo, Cargo::Nothing)
     }
@@ -45,7 +56,11 @@ impl ChainState {
     /// Ends a shipment that came nowhere: a teleport is booked as lost, under the ids of this chain. It takes no memory.
     pub fn lose(&mut self, shipment: Shipment)
         requires listed { AreListed (listing (part_of self.old).rows) shipment.units }
-        ensures lost { part_of self.new ≡ record (part_of self.old) { burns = (book_after_loss shipment.way shipment.units (book_of (part_of self.old))).burns } }
+        ensures lost { part_of self.new
+            ≡ record (part_of self.old) {
+              burns = (book_after_loss shipment.way shipment.units
+                  (book_of (part_of self.old))).burns;
+            } }
     {
         shipment.lose(&mut self.book);
     }

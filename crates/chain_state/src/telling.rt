@@ -28,7 +28,9 @@ fn place_of(queries: &[OpenQuery], query: u64, from: &Location) -> Option<usize>
 impl ChainState {
     /// Closes the query, where it is open from that location.
     pub(crate) fn close_query(&mut self, from: &Location, query: u64) -> Result<bool, AllocError>
-        ensures step { Gives (is_open (part_of self.old) from.now query) (answered (part_of self.old) from.now query) (part_of self.old) result (part_of self.new) }
+        ensures step { Gives (is_open (part_of self.old) from.now query)
+            (answered (part_of self.old) from.now query) (part_of self.old) result
+            (part_of self.new) }
     {
         self.kept_back.reserve(1)?;
         let Some(place) = place_of(self.queries.as_slice(), query, from) else {
@@ -53,7 +55,8 @@ impl ChainState {
     #[inline(always)]
     #[tactic(auto, unfolding(exec_base::specs::Host::told))]
     pub(crate) fn tell(&mut self, e: Event) -> Result<(), AllocError>
-        ensures step { Gives tt (told (part_of self.old) e) (part_of self.old) result (part_of self.new) }
+        ensures step { Gives tt (told (part_of self.old) e) (part_of self.old) result
+            (part_of self.new) }
     {
         self.events.reserve(1 + self.kept_back.len())?;
         self.events.push_reserved(e);

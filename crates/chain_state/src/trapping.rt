@@ -22,7 +22,9 @@ impl ChainState {
         a: &Assets,
         origin: &Location,
     ) -> Result<AssetBundle, HostFault>
-        ensures step { Answers (claim_refusal (part_of self.old) a.now origin.now) (bundle_of a.now) (claimed (part_of self.old) a.now origin.now) (part_of self.old) result (part_of self.new) }
+        ensures step { Answers (claim_refusal (part_of self.old) a.now origin.now) (bundle_of a.now)
+            (claimed (part_of self.old) a.now origin.now) (part_of self.old) result
+            (part_of self.new) }
     {
         match self.traps.claim(a, origin) {
             Ok(goods) => Ok(goods),
@@ -37,7 +39,8 @@ impl ChainState {
         origin: &Location,
     ) -> Result<(), AssetBundle>
         requires some { 0 < length (rows goods) }
-        ensures step { Keeps goods (trapped (part_of self.old) goods origin.now) (part_of self.old) result (part_of self.new) }
+        ensures step { Keeps goods (trapped (part_of self.old) goods origin.now) (part_of self.old)
+            result (part_of self.new) }
     {
         let count = TrapStore::pieces(&goods);
         if self.events.reserve(count).is_err() {

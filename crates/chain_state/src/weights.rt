@@ -20,7 +20,8 @@ use std::alloc::AllocError;
 impl ChainState {
     /// The line of what a purchase would book as saturated, if it would book something.
     fn purchase_lines(&self, w: Weight, payment: &AssetBundle) -> Result<Vec<Event>, AllocError>
-        ensures { IfOk result (λ lines. lines.items ≡ excess_lines (part_of self.now) (excess_of w payment.now self.now.trader)) }
+        ensures { IfOk result (λ lines. lines.items
+            ≡ excess_lines (part_of self.now) (excess_of w payment.now self.now.trader)) }
     {
         let mut lines = Vec::new(*self.events.allocator());
         let Some((asset, amount)) = self.trader.excess_of(w, payment) else {
@@ -40,7 +41,9 @@ impl ChainState {
         w: Weight,
         payment: AssetBundle,
     ) -> Result<AssetBundle, (AssetBundle, HostFault)>
-        ensures step { TakesIn (buy_refusal (part_of self.old) w payment) payment (unspent (part_of self.old) w payment) (bought (part_of self.old) w payment) (part_of self.old) result (part_of self.new) }
+        ensures step { TakesIn (buy_refusal (part_of self.old) w payment) payment
+            (unspent (part_of self.old) w payment) (bought (part_of self.old) w payment)
+            (part_of self.old) result (part_of self.new) }
     {
         let Ok(mut lines) = self.purchase_lines(w, &payment) else {
             return Err((payment, HostFault::Memory));
@@ -67,7 +70,8 @@ impl ChainState {
     /// Gives back what was paid for the weight.
     #[tactic(auto, unfolding(exec_base::specs::Host::refund_goods, exec_base::specs::Host::refunded))]
     pub(crate) fn refund_weight(&mut self, w: Weight) -> Result<AssetBundle, AllocError>
-        ensures step { Gives (refund_goods (part_of self.old) w) (refunded (part_of self.old) w) (part_of self.old) result (part_of self.new) }
+        ensures step { Gives (refund_goods (part_of self.old) w) (refunded (part_of self.old) w)
+            (part_of self.old) result (part_of self.new) }
     {
         self.trader.refund(w)
     }

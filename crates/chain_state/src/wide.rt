@@ -84,7 +84,8 @@ pub(crate) fn parted(held: u128, paid: u128, kept: Total) -> (u128, Wide)
 /// Books 2^128-1 of a listed fungible asset as saturated.
 fn book_most(book: &mut BurnBook, id: &AssetId)
     requires listed { IsTrue (lists book.old.listed (id.now, Kind.Fungible)) }
-    ensures { book.new ≡ Booked book.old (single ((id.now, Kind.Fungible), Cause.Saturated) (2 ^ 128 - 1)) }
+    ensures { book.new ≡ Booked book.old (single ((id.now, Kind.Fungible), Cause.Saturated)
+        (2 ^ 128 - 1)) }
 {
     book.add(id, Kind::Fungible, Cause::Saturated, u128::MAX);
 }
@@ -92,7 +93,8 @@ fn book_most(book: &mut BurnBook, id: &AssetId)
 /// Books so often 2^128 of a listed fungible asset as saturated.
 fn book_high(book: &mut BurnBook, id: &AssetId, high: u64)
     requires listed { IsTrue (lists book.old.listed (id.now, Kind.Fungible)) }
-    ensures { book.new ≡ Booked book.old (single ((id.now, Kind.Fungible), Cause.Saturated) (high * 2 ^ 128)) }
+    ensures { book.new ≡ Booked book.old (single ((id.now, Kind.Fungible), Cause.Saturated)
+        (high * 2 ^ 128)) }
 {
     for _ in 0..high {
         book_most(book, id);
@@ -103,7 +105,8 @@ fn book_high(book: &mut BurnBook, id: &AssetId, high: u64)
 /// Books so much of a listed fungible asset as saturated. No memory is taken.
 pub(crate) fn book_wide(book: &mut BurnBook, id: &AssetId, amount: Wide)
     requires listed { IsTrue (lists book.old.listed (id.now, Kind.Fungible)) }
-    ensures { book.new ≡ Booked book.old (single ((id.now, Kind.Fungible), Cause.Saturated) (wide_value amount)) }
+    ensures { book.new ≡ Booked book.old (single ((id.now, Kind.Fungible), Cause.Saturated)
+        (wide_value amount)) }
 {
     book_high(book, id, amount.high);
     book.add(id, Kind::Fungible, Cause::Saturated, amount.low);

@@ -20,9 +20,12 @@ use message_shapes::law_of_shapes;
 /// listed row.
 pub fn law_of_conserved_networks()
     ensures first { (spec : NetworkSpec) → IsCoherent spec → IsFirst (first_world spec) }
-    ensures kept { (spec : NetworkSpec) (steps : List Step) → IsCoherent spec → NetworkKept spec steps }
-    ensures between { (spec : NetworkSpec) (steps : List Step) → IsCoherent spec → NetworkKeptBetween spec steps }
-    ensures sound { (spec : NetworkSpec) (steps : List Step) → IsCoherent spec → NetworkSound spec steps }
+    ensures kept { (spec : NetworkSpec) (steps : List Step)
+        → IsCoherent spec → NetworkKept spec steps }
+    ensures between { (spec : NetworkSpec) (steps : List Step)
+        → IsCoherent spec → NetworkKeptBetween spec steps }
+    ensures sound { (spec : NetworkSpec) (steps : List Step)
+        → IsCoherent spec → NetworkSound spec steps }
 {
     law_of_shapes();
     law_of_conserved_worlds();
@@ -31,8 +34,10 @@ pub fn law_of_conserved_networks()
 /// So is every moment inside a run of such a network: of a local execution wherever it comes, of a delivery behind its first instruction, and
 /// where memory is refused to one; and in none of them would a checking account pass its end, so `NotDepositable` never comes.
 pub fn law_of_kept_network_runs()
-    ensures kept { (spec : NetworkSpec) (steps : List Step) → IsCoherent spec → NetworkRunsKept spec steps }
-    ensures rising { (spec : NetworkSpec) (steps : List Step) → IsCoherent spec → NetworkAccountsRise spec steps }
+    ensures kept { (spec : NetworkSpec) (steps : List Step)
+        → IsCoherent spec → NetworkRunsKept spec steps }
+    ensures rising { (spec : NetworkSpec) (steps : List Step)
+        → IsCoherent spec → NetworkAccountsRise spec steps }
 {
     law_of_conserved_networks();
     law_of_kept_runs();
@@ -55,5 +60,6 @@ pub fn law_of_opened_networks()
 /// Steps with each drain as the deliveries that it makes lead to the world to which the steps lead; so the worlds of these are those of the steps,
 /// and between them those of each drain.
 pub fn law_of_single_deliveries()
-    ensures { (order : List Link) (w : World) (steps : List Step) → last_world order w (by_deliveries order w steps) ≡ last_world order w steps }
+    ensures { (order : List Link) (w : World) (steps : List Step)
+        → last_world order w (by_deliveries order w steps) ≡ last_world order w steps }
 {}

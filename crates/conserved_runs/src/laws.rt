@@ -22,10 +22,14 @@ use weight_trader::law_of_trading;
 /// Where the chains agree, each accepted instruction is a safe change of its chain, with what the run holds counted, and leaves the run where the
 /// next one is; so is a run, wherever it comes, and its end; and what stands where memory was refused inside an instruction.
 pub fn law_of_safe_runs()
-    ensures done { (n : List Table) (x : Instruction) (m : Machine) → Agrees n → AreLists x → refusal_of x m ≡ None → Goes n m (xcm.done x m) }
-    ensures reached { (n : List Table) (most : Weight) (g h : Stage) → Agrees n → IsBalanced most g → IsAheadOf AreLists g → Reaches xcm g h → Goes n (machine_of g) (machine_of h) }
-    ensures ended { (n : List Table) (m : Machine) → Agrees n → IsSafeAt n m → Safely m (machine (record m.regs { holding = empty }) (finished xcm m)) }
-    ensures stopped { (n : List Table) (x : Instruction) (m now : Machine) → IsSafeAt n m → AreLists x → spills x m now → Safely m now }
+    ensures done { (n : List Table) (x : Instruction) (m : Machine)
+        → Agrees n → AreLists x → refusal_of x m ≡ None → Goes n m (xcm.done x m) }
+    ensures reached { (n : List Table) (most : Weight) (g h : Stage) → Agrees n → IsBalanced most g
+        → IsAheadOf AreLists g → Reaches xcm g h → Goes n (machine_of g) (machine_of h) }
+    ensures ended { (n : List Table) (m : Machine) → Agrees n
+        → IsSafeAt n m → Safely m (machine (record m.regs { holding = empty }) (finished xcm m)) }
+    ensures stopped { (n : List Table) (x : Instruction) (m now : Machine)
+        → IsSafeAt n m → AreLists x → spills x m now → Safely m now }
 {
     law_of_ledgers();
     law_of_trading();

@@ -50,9 +50,12 @@ pub fn law_of_foundations()
 /// 2^128-1. So it is of any two worlds, the earlier in the place of the first: no derivative's cover shrinks in between. And each unit of every
 /// place and each burn belongs to a listed row.
 pub fn law_of_conserved_worlds()
-    ensures kept { (order : List Link) (w : World) (steps : List Step) → IsFirst w → AllKept order w steps }
-    ensures between { (order : List Link) (w : World) (steps : List Step) → IsFirst w → KeptBetween order w steps }
-    ensures sound { (order : List Link) (w : World) (steps : List Step) → IsFirst w → AllSound order w steps }
+    ensures kept { (order : List Link) (w : World) (steps : List Step)
+        → IsFirst w → AllKept order w steps }
+    ensures between { (order : List Link) (w : World) (steps : List Step)
+        → IsFirst w → KeptBetween order w steps }
+    ensures sound { (order : List Link) (w : World) (steps : List Step)
+        → IsFirst w → AllSound order w steps }
 {
     law_of_foundations();
 }
@@ -60,11 +63,18 @@ pub fn law_of_conserved_worlds()
 /// So it is inside a local execution, wherever its run comes, with what the run holds counted; and where memory is refused to it, with what is
 /// parked counted.
 pub fn law_of_conserved_executions()
-    ensures inside { (order : List Link) (w : World) (steps : List Step) (account : List ℕ) (program : List Instruction) (x : IsExecution order w steps account program) (a : Admitted) (g : Stage) → IsFirst w
-        → admitted x.member.rules (caller account) x.member.rules.limit (begins x.member).queries program ≡ Ok a
-        → Reaches xcm (first_stage x.member.rules (caller account) a (begins x.member)) g → IsKept (views w) (while_running x.world x.place (machine_of g)) }
-    ensures stopped { (order : List Link) (w : World) (steps : List Step) (account : List ℕ) (program : List Instruction) (x : IsExecution order w steps account program) (now : ChainPart) → IsFirst w
-        → IsAbandoned x.member.rules (caller account) x.member.rules.limit program (begins x.member) now → IsKept (views w) (where_stopped x.world x.place now) }
+    ensures inside { (order : List Link) (w : World) (steps : List Step) (account : List ℕ)
+        (program : List Instruction) (x : IsExecution order w steps account program) (a : Admitted)
+        (g : Stage) → IsFirst w
+        → admitted x.member.rules (caller account) x.member.rules.limit (begins x.member).queries
+        program ≡ Ok a
+        → Reaches xcm (first_stage x.member.rules (caller account) a (begins x.member)) g
+        → IsKept (views w) (while_running x.world x.place (machine_of g)) }
+    ensures stopped { (order : List Link) (w : World) (steps : List Step) (account : List ℕ)
+        (program : List Instruction) (x : IsExecution order w steps account program)
+        (now : ChainPart) → IsFirst w
+        → IsAbandoned x.member.rules (caller account) x.member.rules.limit program (begins x.member)
+        now → IsKept (views w) (where_stopped x.world x.place now) }
 {
     law_of_foundations();
 }
@@ -73,11 +83,18 @@ pub fn law_of_conserved_executions()
 /// counted, and a teleported cargo that it didn't take counts as burned. And where memory is refused to it, in the first instruction too, with
 /// what is parked counted: its teleport has landed, or is burned.
 pub fn law_of_conserved_deliveries()
-    ensures inside { (order : List Link) (w : World) (steps : List Step) (d : IsDelivery order w steps) (a : Admitted) (g : Stage) → IsFirst w
-        → admitted d.receiver.rules (name_at (chain_of d.receiver) (chain_of d.sender)) no_weight (arrives d.sender d.receiver d.message).queries d.message.program ≡ Ok a
-        → GoesOnTo xcm (first_stage d.receiver.rules (name_at (chain_of d.receiver) (chain_of d.sender)) a (arrives d.sender d.receiver d.message)) g
-        → IsKept (views w) (while_delivered d.world d.from d.sender d.to d.receiver (machine_of g)) }
-    ensures stopped { (order : List Link) (w : World) (steps : List Step) (d : IsDelivery order w steps) (now : ChainPart) → IsFirst w → StopsAt d.sender d.receiver d.message now
+    ensures inside { (order : List Link) (w : World) (steps : List Step)
+        (d : IsDelivery order w steps) (a : Admitted) (g : Stage) → IsFirst w
+        → admitted d.receiver.rules (name_at (chain_of d.receiver) (chain_of d.sender)) no_weight
+        (arrives d.sender d.receiver d.message).queries d.message.program ≡ Ok a
+        → GoesOnTo xcm (first_stage d.receiver.rules
+        (name_at (chain_of d.receiver) (chain_of d.sender)) a
+        (arrives d.sender d.receiver d.message)) g
+        → IsKept (views w) (while_delivered d.world d.from d.sender d.to d.receiver
+        (machine_of g)) }
+    ensures stopped { (order : List Link) (w : World) (steps : List Step)
+        (d : IsDelivery order w steps) (now : ChainPart)
+        → IsFirst w → StopsAt d.sender d.receiver d.message now
         → IsKept (views w) (where_delivery_stopped d.world d.from d.sender d.to d.receiver now) }
 {
     law_of_foundations();
@@ -86,12 +103,20 @@ pub fn law_of_conserved_deliveries()
 /// So no teleport of what a run holds is refused because a checking account would pass its end, in a local execution or in a delivery:
 /// `NotDepositable` never comes.
 pub fn law_of_rising_accounts()
-    ensures executions { (order : List Link) (w : World) (steps : List Step) (account : List ℕ) (program : List Instruction) (x : IsExecution order w steps account program) (a : Admitted) (g : Stage) → IsFirst w
-        → admitted x.member.rules (caller account) x.member.rules.limit (begins x.member).queries program ≡ Ok a
-        → Reaches xcm (first_stage x.member.rules (caller account) a (begins x.member)) g → AccountsMayRise (machine_of g) }
-    ensures deliveries { (order : List Link) (w : World) (steps : List Step) (d : IsDelivery order w steps) (a : Admitted) (g : Stage) → IsFirst w
-        → admitted d.receiver.rules (name_at (chain_of d.receiver) (chain_of d.sender)) no_weight (arrives d.sender d.receiver d.message).queries d.message.program ≡ Ok a
-        → Reaches xcm (first_stage d.receiver.rules (name_at (chain_of d.receiver) (chain_of d.sender)) a (arrives d.sender d.receiver d.message)) g → AccountsMayRise (machine_of g) }
+    ensures executions { (order : List Link) (w : World) (steps : List Step) (account : List ℕ)
+        (program : List Instruction) (x : IsExecution order w steps account program) (a : Admitted)
+        (g : Stage) → IsFirst w
+        → admitted x.member.rules (caller account) x.member.rules.limit (begins x.member).queries
+        program ≡ Ok a
+        → Reaches xcm (first_stage x.member.rules (caller account) a (begins x.member)) g
+        → AccountsMayRise (machine_of g) }
+    ensures deliveries { (order : List Link) (w : World) (steps : List Step)
+        (d : IsDelivery order w steps) (a : Admitted) (g : Stage) → IsFirst w
+        → admitted d.receiver.rules (name_at (chain_of d.receiver) (chain_of d.sender)) no_weight
+        (arrives d.sender d.receiver d.message).queries d.message.program ≡ Ok a
+        → Reaches xcm (first_stage d.receiver.rules
+        (name_at (chain_of d.receiver) (chain_of d.sender)) a
+        (arrives d.sender d.receiver d.message)) g → AccountsMayRise (machine_of g) }
 {
     law_of_conserved_worlds();
     law_of_conserved_executions();
@@ -101,8 +126,10 @@ pub fn law_of_rising_accounts()
 /// The same of all runs at once: every moment inside a run is kept, of local executions and of deliveries, also where memory is refused; and in
 /// none of them would a checking account pass its end.
 pub fn law_of_kept_runs()
-    ensures kept { (order : List Link) (w : World) (steps : List Step) → IsFirst w → RunsKept order w steps }
-    ensures rising { (order : List Link) (w : World) (steps : List Step) → IsFirst w → AccountsAlwaysRise order w steps }
+    ensures kept { (order : List Link) (w : World) (steps : List Step)
+        → IsFirst w → RunsKept order w steps }
+    ensures rising { (order : List Link) (w : World) (steps : List Step)
+        → IsFirst w → AccountsAlwaysRise order w steps }
 {
     law_of_conserved_executions();
     law_of_conserved_deliveries();

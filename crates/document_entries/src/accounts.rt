@@ -15,7 +15,8 @@ use std::alloc::Global;
 
 /// An amount, or an instance.
 fn fun_of(alloc: Global, place: Place, value: &Value) -> Result<Fun, Stop>
-    ensures { Answers result (either (codes "amount") (made Fungible amount) (codes "instance") (made NonFungible instance) place (view value.now)) }
+    ensures { Answers result (either (codes "amount") (made Fungible amount) (codes "instance")
+        (made NonFungible instance) place (view value.now)) }
 {
     match value.get("amount") {
         Some(amount) => match value.get("instance") {

@@ -19,7 +19,8 @@ struct Causes {
 
 /// The causes for which a field is refused.
 fn causes_of<X: Drop>(read: Result<X, Stop>) -> Result<Causes, AllocError>
-    ensures { IfOk result (λ causes. (given : Result X NetworkFault) → Answers read given → AreCausesOf causes given) }
+    ensures { IfOk result (λ causes. (given : Result X NetworkFault) → Answers read given
+        → AreCausesOf causes given) }
 {
     match read {
         Ok(_) => Ok(Causes {
@@ -40,7 +41,8 @@ pub(crate) fn both_there<X: Drop, Y: Drop>(
     one: Result<X, Stop>,
     other: Result<Y, Stop>,
 ) -> Stop
-    ensures { (x : Result X NetworkFault) (y : Result Y NetworkFault) → Answers one x → Answers other y → Refuses result (both_fault place x y) }
+    ensures { (x : Result X NetworkFault) (y : Result Y NetworkFault)
+        → Answers one x → Answers other y → Refuses result (both_fault place x y) }
 {
     let Ok(first) = causes_of(one) else {
         return Stop::Memory;

@@ -44,7 +44,8 @@ fn kind_field(place: Place, value: &Value) -> Result<Kind, Stop>
 
 /// The part that the chain plays for the asset, without a checking account.
 fn role_of(alloc: Global, place: Place, value: &Value) -> Result<AssetRole, Stop>
-    ensures { Answers result (either (codes "native") (made native (each is_chain_kind chain)) (codes "reserve") (made Derivative chain) place (view value.now)) }
+    ensures { Answers result (either (codes "native") (made native (each is_chain_kind chain))
+        (codes "reserve") (made Derivative chain) place (view value.now)) }
 {
     match value.get("native") {
         Some(native) => match value.get("reserve") {
@@ -69,7 +70,8 @@ fn role_of(alloc: Global, place: Place, value: &Value) -> Result<AssetRole, Stop
 
 /// What the checking account begins with, if there is one.
 fn checking_field(place: Place, value: &Value) -> Result<Option<u128>, Stop>
-    ensures { Answers result (optional (codes "checking") (decimal_below amount_limit) place (view value.now)) }
+    ensures { Answers result (optional (codes "checking") (decimal_below amount_limit) place
+        (view value.now)) }
 {
     match value.get("checking") {
         Some(checking) => Ok(Some(balance_of(place, checking)?)),

@@ -40,7 +40,8 @@ fn version_field(place: Place, value: &Value) -> Result<Version, Stop>
 
 /// A number from 1 on, which may be absent and is then the most that it may be.
 fn number_field(place: Place, name: &str, most: u32, value: &Value) -> Result<u32, Stop>
-    ensures { Answers result (defaulted name.now most (number_within 1 most) place (view value.now)) }
+    ensures { Answers result (defaulted name.now most (number_within 1 most) place
+        (view value.now)) }
 {
     match value.get(name) {
         Some(number) => number_of(place, 1, most, number),
@@ -55,7 +56,8 @@ fn fee_of(
     asset: Option<&Value>,
     amount: Option<&Value>,
 ) -> Result<Option<Asset>, Stop>
-    ensures { Answers result (fee place (option_map (λ v. view v.now) asset.entry) (option_map (λ v. view v.now) amount.entry)) }
+    ensures { Answers result (fee place (option_map (λ v. view v.now) asset.entry)
+        (option_map (λ v. view v.now) amount.entry)) }
 {
     let Some(asset) = asset else {
         return match amount {

@@ -85,7 +85,8 @@ fn are_chain_kinds(items: &[Value]) -> bool
 /// The elements of a list of whole numbers.
 #[tactic(auto, unfolding(crate::specs::Forms::passing))]
 fn wholes_of(place: Place, value: &Value) -> Result<&[Value], Stop>
-    ensures { AnswersAs (λ items. items_view items.now) result (passing is_whole place (view value.now)) }
+    ensures { AnswersAs (λ items. items_view items.now) result
+        (passing is_whole place (view value.now)) }
 {
     let items = list_of(place, value)?;
     if !are_whole(items) {
@@ -97,7 +98,8 @@ fn wholes_of(place: Place, value: &Value) -> Result<&[Value], Stop>
 /// The elements of a list of texts.
 #[tactic(auto, unfolding(crate::specs::Forms::passing))]
 pub fn texts_of(place: Place, value: &Value) -> Result<&[Value], Stop>
-    ensures { AnswersAs (λ items. items_view items.now) result (passing is_text place (view value.now)) }
+    ensures { AnswersAs (λ items. items_view items.now) result
+        (passing is_text place (view value.now)) }
 {
     let items = list_of(place, value)?;
     if !are_texts(items) {
@@ -109,7 +111,8 @@ pub fn texts_of(place: Place, value: &Value) -> Result<&[Value], Stop>
 /// The elements of a list of what may be chains.
 #[tactic(auto, unfolding(crate::specs::Forms::passing))]
 pub(crate) fn chain_kinds_of(place: Place, value: &Value) -> Result<&[Value], Stop>
-    ensures { AnswersAs (λ items. items_view items.now) result (passing forms.is_chain_kind place (view value.now)) }
+    ensures { AnswersAs (λ items. items_view items.now) result
+        (passing forms.is_chain_kind place (view value.now)) }
 {
     let items = list_of(place, value)?;
     if !are_chain_kinds(items) {

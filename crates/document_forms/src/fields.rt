@@ -19,7 +19,8 @@ fn is_known(names: &[&str], name: &str) -> bool
 
 /// Whether all names of the members are of these.
 fn are_known(names: &[&str], members: &Map<String, Value>) -> bool
-    ensures { result ≡ list_all (λ name. list_any (λ known. bytes_eq known.now (string_bytes name)) names.now) (keys members.now) }
+    ensures { result ≡ list_all (λ name. list_any (λ known. bytes_eq known.now (string_bytes name))
+        names.now) (keys members.now) }
 {
     members.keys().all(|name| is_known(names, name.as_str()))
 }

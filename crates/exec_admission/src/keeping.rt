@@ -34,13 +34,22 @@ pub trait KeptByCalls {
 /// A fact that each call keeps, each accepted instruction keeps, each that memory stops, each run wherever it comes, and each execution, at its end
 /// and where memory was refused to it.
 pub fn law_of_kept_facts<K: KeptByCalls>()
-    ensures done { (x : Instruction) (m : Machine) → K.kind x → refusal_of x m ≡ None → K.fact (between m) → K.fact (between (xcm.done x m)) }
-    ensures stopped { (x : Instruction) (m now : Machine) → K.kind x → spills x m now → K.fact (between m) → K.fact (between now) }
-    ensures reached { (rules : ChainRules) (origin : Location) (a : Admitted) (p : ChainPart) → ((j : ℕ) → IsAheadOf K.kind (steps xcm j (first_stage rules origin a p)))
-        → K.fact (between (first_machine rules origin p)) → (g : Stage) → Reaches xcm (first_stage rules origin a p) g → K.fact (between (machine_of g)) }
-    ensures executed { (rules : ChainRules) (origin : Location) (r : Result Admitted Outcome) (p : ChainPart)
-        → ((a : Admitted) → r ≡ Ok a → (j : ℕ) → IsAheadOf K.kind (steps xcm j (first_stage rules origin a p)))
-        → K.fact (between (first_machine rules origin p)) → Ends K.fact (executed_by rules origin r p).1 }
-    ensures abandoned { (rules : ChainRules) (origin : Location) (a : Admitted) (p now : ChainPart) → ((j : ℕ) → IsAheadOf K.kind (steps xcm j (first_stage rules origin a p)))
-        → AbandonedIn rules origin a p now → K.fact (between (first_machine rules origin p)) → Ends K.fact now }
+    ensures done { (x : Instruction) (m : Machine)
+        → K.kind x → refusal_of x m ≡ None → K.fact (between m) → K.fact (between (xcm.done x m)) }
+    ensures stopped { (x : Instruction) (m now : Machine)
+        → K.kind x → spills x m now → K.fact (between m) → K.fact (between now) }
+    ensures reached { (rules : ChainRules) (origin : Location) (a : Admitted) (p : ChainPart)
+        → ((j : ℕ) → IsAheadOf K.kind (steps xcm j (first_stage rules origin a p)))
+        → K.fact (between (first_machine rules origin p)) → (g : Stage)
+        → Reaches xcm (first_stage rules origin a p) g → K.fact (between (machine_of g)) }
+    ensures executed { (rules : ChainRules) (origin : Location) (r : Result Admitted Outcome)
+        (p : ChainPart)
+        → ((a : Admitted) → r ≡ Ok a → (j : ℕ)
+        → IsAheadOf K.kind (steps xcm j (first_stage rules origin a p)))
+        → K.fact (between (first_machine rules origin p))
+        → Ends K.fact (executed_by rules origin r p).1 }
+    ensures abandoned { (rules : ChainRules) (origin : Location) (a : Admitted) (p now : ChainPart)
+        → ((j : ℕ) → IsAheadOf K.kind (steps xcm j (first_stage rules origin a p)))
+        → AbandonedIn rules origin a p now
+        → K.fact (between (first_machine rules origin p)) → Ends K.fact now }
 {}

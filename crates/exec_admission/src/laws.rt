@@ -30,25 +30,43 @@ use exec_rules::law_of_runs;
 /// and what was refunded at most the surplus, behind the last refund too; from a chain at rest it is ready for whichever instruction comes next; it ends, and leaves the chain at rest. A program that isn't admitted changes nothing. At the end no fee is left aside,
 /// nothing is left with the trader, and a holding is trapped just where it isn't empty.
 pub fn law_of_admission()
-    ensures weighed { (rules : ChainRules) (origin : Location) (credit : Weight) (queries : List OpenQuery) (program : List Instruction) (a : Admitted)
-        → deep_count program < 2 ^ 32 → admitted rules origin credit queries program ≡ Ok a → IsWeighed rules.weight a }
-    ensures balanced { (rules : ChainRules) (origin : Location) (a : Admitted) (p : ChainPart) → IsWeighed rules.weight a → IsBalanced a.weight (first_stage rules origin a p) }
-    ensures accounts { (rules : ChainRules) (origin : Location) (a : Admitted) (p : ChainPart) (g : Stage)
-        → IsWeighed rules.weight a → Reaches xcm (first_stage rules origin a p) g → KeepsAccounts a.weight (machine_of g).regs }
+    ensures weighed { (rules : ChainRules) (origin : Location) (credit : Weight)
+        (queries : List OpenQuery) (program : List Instruction) (a : Admitted)
+        → deep_count program < 2 ^ 32
+        → admitted rules origin credit queries program ≡ Ok a → IsWeighed rules.weight a }
+    ensures balanced { (rules : ChainRules) (origin : Location) (a : Admitted) (p : ChainPart)
+        → IsWeighed rules.weight a → IsBalanced a.weight (first_stage rules origin a p) }
+    ensures accounts { (rules : ChainRules) (origin : Location) (a : Admitted) (p : ChainPart)
+        (g : Stage)
+        → IsWeighed rules.weight a → Reaches xcm (first_stage rules origin a p) g
+        → KeepsAccounts a.weight (machine_of g).regs }
     ensures at_end { (rules : ChainRules) (origin : Location) (a : Admitted) (p : ChainPart)
-        → IsWeighed rules.weight a → KeepsAccounts a.weight (refunded_last xcm (last_machine rules origin a p)).regs }
-    ensures forwardable { (rules : ChainRules) (origin : Location) (credit : Weight) (queries : List OpenQuery) (program : List Instruction) (a : Admitted)
-        → IsForwardable program → admitted rules origin credit queries program ≡ Ok a → IsForwardable a.program }
-    ensures ready { (rules : ChainRules) (origin : Location) (a : Admitted) (p : ChainPart) (part : Part) (place : ℕ) (x : Instruction) (behind : List Instruction) (m : Machine)
-        → IsWeighed rules.weight a → IsForwardable a.program → IsAtRest p → Reaches xcm (first_stage rules origin a p) (At part place x behind m) → IsReady x m }
-    ensures rests { (rules : ChainRules) (origin : Location) (a : Admitted) (p : ChainPart) → IsWeighed rules.weight a → IsAtRest p → IsAtRest (finished xcm (last_machine rules origin a p)) }
-    ensures ends { (rules : ChainRules) (origin : Location) (a : Admitted) (p : ChainPart) → IsEnd (run xcm (first_stage rules origin a p)) }
-    ensures refused { (rules : ChainRules) (origin : Location) (credit : Weight) (program : List Instruction) (outcome : Outcome) (p : ChainPart)
-        → admitted rules origin credit p.queries program ≡ Err outcome → executed rules origin credit program p ≡ ((outcome, false), p) }
-    ensures settled { (m : Machine) → ((finished xcm m).fees ≡ empty) × ((finished xcm m).lines ≡ Closed (refunded_last xcm m).part.lines) }
+        → IsWeighed rules.weight a
+        → KeepsAccounts a.weight (refunded_last xcm (last_machine rules origin a p)).regs }
+    ensures forwardable { (rules : ChainRules) (origin : Location) (credit : Weight)
+        (queries : List OpenQuery) (program : List Instruction) (a : Admitted)
+        → IsForwardable program
+        → admitted rules origin credit queries program ≡ Ok a → IsForwardable a.program }
+    ensures ready { (rules : ChainRules) (origin : Location) (a : Admitted) (p : ChainPart)
+        (part : Part) (place : ℕ) (x : Instruction) (behind : List Instruction) (m : Machine)
+        → IsWeighed rules.weight a → IsForwardable a.program → IsAtRest p
+        → Reaches xcm (first_stage rules origin a p) (At part place x behind m) → IsReady x m }
+    ensures rests { (rules : ChainRules) (origin : Location) (a : Admitted) (p : ChainPart)
+        → IsWeighed rules.weight a
+        → IsAtRest p → IsAtRest (finished xcm (last_machine rules origin a p)) }
+    ensures ends { (rules : ChainRules) (origin : Location) (a : Admitted) (p : ChainPart)
+        → IsEnd (run xcm (first_stage rules origin a p)) }
+    ensures refused { (rules : ChainRules) (origin : Location) (credit : Weight)
+        (program : List Instruction) (outcome : Outcome) (p : ChainPart)
+        → admitted rules origin credit p.queries program ≡ Err outcome
+        → executed rules origin credit program p ≡ ((outcome, false), p) }
+    ensures settled { (m : Machine) → ((finished xcm m).fees ≡ empty)
+        × ((finished xcm m).lines ≡ Closed (refunded_last xcm m).part.lines) }
     ensures trapped { (m : Machine) → 0 < length (rows (refunded_last xcm m).regs.holding)
-        → (finished xcm m).traps ≡ with_trapped (refunded_last xcm m).part.traps (owner_of (refunded_last xcm m).regs) (refunded_last xcm m).regs.holding }
-    ensures untrapped { (m : Machine) → length (rows (refunded_last xcm m).regs.holding) ≡ 0 → (finished xcm m).traps ≡ (refunded_last xcm m).part.traps }
+        → (finished xcm m).traps ≡ with_trapped (refunded_last xcm m).part.traps
+        (owner_of (refunded_last xcm m).regs) (refunded_last xcm m).regs.holding }
+    ensures untrapped { (m : Machine) → length (rows (refunded_last xcm m).regs.holding) ≡ 0
+        → (finished xcm m).traps ≡ (refunded_last xcm m).part.traps }
 {
     law_of_runs();
     law_of_rules();

@@ -21,9 +21,12 @@ pub fn withdraw_asset<H: Host>(
     h: &mut H,
     assets: &Assets,
 ) -> Result<Result<(), XcmError>, AllocError>
-    requires ready { IsReadyFor (Instruction-F.WithdrawAsset assets.now) (machine r.old (H.part h.old)) }
-    ensures ok { IfOk result (λ answer. Ran (Instruction-F.WithdrawAsset assets.now) (machine r.old (H.part h.old)) answer (machine r.new (H.part h.new))) }
-    ensures err { OnErr result (Spilled (Instruction-F.WithdrawAsset assets.now) (machine r.old (H.part h.old)) (machine r.new (H.part h.new))) }
+    requires ready { IsReadyFor (Instruction-F.WithdrawAsset assets.now)
+        (machine r.old (H.part h.old)) }
+    ensures ok { IfOk result (λ answer. Ran (Instruction-F.WithdrawAsset assets.now)
+        (machine r.old (H.part h.old)) answer (machine r.new (H.part h.new))) }
+    ensures err { OnErr result (Spilled (Instruction-F.WithdrawAsset assets.now)
+        (machine r.old (H.part h.old)) (machine r.new (H.part h.new))) }
 {
     let Some(who) = &r.origin else {
         return Ok(Err(XcmError::BadOrigin));
@@ -48,8 +51,10 @@ fn receive<H: Host>(
     teleport: bool,
 ) -> Result<Result<(), XcmError>, AllocError>
     requires ready { IsReadyFor (arriving teleport assets.now) (machine r.old (H.part h.old)) }
-    ensures ok { IfOk result (λ answer. Ran (arriving teleport assets.now) (machine r.old (H.part h.old)) answer (machine r.new (H.part h.new))) }
-    ensures err { OnErr result (Spilled (arriving teleport assets.now) (machine r.old (H.part h.old)) (machine r.new (H.part h.new))) }
+    ensures ok { IfOk result (λ answer. Ran (arriving teleport assets.now)
+        (machine r.old (H.part h.old)) answer (machine r.new (H.part h.new))) }
+    ensures err { OnErr result (Spilled (arriving teleport assets.now)
+        (machine r.old (H.part h.old)) (machine r.new (H.part h.new))) }
 {
     let Some(who) = &r.origin else {
         return Ok(Err(XcmError::BadOrigin));
@@ -72,9 +77,12 @@ pub fn reserve_asset_deposited<H: Host>(
     h: &mut H,
     assets: &Assets,
 ) -> Result<Result<(), XcmError>, AllocError>
-    requires ready { IsReadyFor (Instruction-F.ReserveAssetDeposited assets.now) (machine r.old (H.part h.old)) }
-    ensures ok { IfOk result (λ answer. Ran (Instruction-F.ReserveAssetDeposited assets.now) (machine r.old (H.part h.old)) answer (machine r.new (H.part h.new))) }
-    ensures err { OnErr result (Spilled (Instruction-F.ReserveAssetDeposited assets.now) (machine r.old (H.part h.old)) (machine r.new (H.part h.new))) }
+    requires ready { IsReadyFor (Instruction-F.ReserveAssetDeposited assets.now)
+        (machine r.old (H.part h.old)) }
+    ensures ok { IfOk result (λ answer. Ran (Instruction-F.ReserveAssetDeposited assets.now)
+        (machine r.old (H.part h.old)) answer (machine r.new (H.part h.new))) }
+    ensures err { OnErr result (Spilled (Instruction-F.ReserveAssetDeposited assets.now)
+        (machine r.old (H.part h.old)) (machine r.new (H.part h.new))) }
 {
     receive(r, h, assets, false)
 }
@@ -85,9 +93,12 @@ pub fn receive_teleported_asset<H: Host>(
     h: &mut H,
     assets: &Assets,
 ) -> Result<Result<(), XcmError>, AllocError>
-    requires ready { IsReadyFor (Instruction-F.ReceiveTeleportedAsset assets.now) (machine r.old (H.part h.old)) }
-    ensures ok { IfOk result (λ answer. Ran (Instruction-F.ReceiveTeleportedAsset assets.now) (machine r.old (H.part h.old)) answer (machine r.new (H.part h.new))) }
-    ensures err { OnErr result (Spilled (Instruction-F.ReceiveTeleportedAsset assets.now) (machine r.old (H.part h.old)) (machine r.new (H.part h.new))) }
+    requires ready { IsReadyFor (Instruction-F.ReceiveTeleportedAsset assets.now)
+        (machine r.old (H.part h.old)) }
+    ensures ok { IfOk result (λ answer. Ran (Instruction-F.ReceiveTeleportedAsset assets.now)
+        (machine r.old (H.part h.old)) answer (machine r.new (H.part h.new))) }
+    ensures err { OnErr result (Spilled (Instruction-F.ReceiveTeleportedAsset assets.now)
+        (machine r.old (H.part h.old)) (machine r.new (H.part h.new))) }
 {
     receive(r, h, assets, true)
 }
@@ -113,9 +124,12 @@ pub fn claim_asset<H: Host>(
     assets: &Assets,
     ticket: &Location,
 ) -> Result<Result<(), XcmError>, AllocError>
-    requires ready { IsReadyFor (Instruction-F.ClaimAsset assets.now ticket.now) (machine r.old (H.part h.old)) }
-    ensures ok { IfOk result (λ answer. Ran (Instruction-F.ClaimAsset assets.now ticket.now) (machine r.old (H.part h.old)) answer (machine r.new (H.part h.new))) }
-    ensures err { OnErr result (Spilled (Instruction-F.ClaimAsset assets.now ticket.now) (machine r.old (H.part h.old)) (machine r.new (H.part h.new))) }
+    requires ready { IsReadyFor (Instruction-F.ClaimAsset assets.now ticket.now)
+        (machine r.old (H.part h.old)) }
+    ensures ok { IfOk result (λ answer. Ran (Instruction-F.ClaimAsset assets.now ticket.now)
+        (machine r.old (H.part h.old)) answer (machine r.new (H.part h.new))) }
+    ensures err { OnErr result (Spilled (Instruction-F.ClaimAsset assets.now ticket.now)
+        (machine r.old (H.part h.old)) (machine r.new (H.part h.new))) }
 {
     let Some(who) = &r.origin else {
         return Ok(Err(XcmError::BadOrigin));

@@ -24,9 +24,12 @@ pub fn buy_execution<H: Host>(
     fees: &Asset,
     limit: WeightLimit,
 ) -> Result<Result<(), XcmError>, AllocError>
-    requires ready { IsReadyFor (Instruction-F.BuyExecution fees.now limit) (machine r.old (H.part h.old)) }
-    ensures ok { IfOk result (λ answer. Ran (Instruction-F.BuyExecution fees.now limit) (machine r.old (H.part h.old)) answer (machine r.new (H.part h.new))) }
-    ensures err { OnErr result (Spilled (Instruction-F.BuyExecution fees.now limit) (machine r.old (H.part h.old)) (machine r.new (H.part h.new))) }
+    requires ready { IsReadyFor (Instruction-F.BuyExecution fees.now limit)
+        (machine r.old (H.part h.old)) }
+    ensures ok { IfOk result (λ answer. Ran (Instruction-F.BuyExecution fees.now limit)
+        (machine r.old (H.part h.old)) answer (machine r.new (H.part h.new))) }
+    ensures err { OnErr result (Spilled (Instruction-F.BuyExecution fees.now limit)
+        (machine r.old (H.part h.old)) (machine r.new (H.part h.new))) }
 {
     let WeightLimit::Limited(weight) = limit else {
         return Ok(Ok(()));
@@ -60,7 +63,8 @@ fn not_refunded(r: &Registers) -> Weight
 
 /// Whether the holding has this asset, or room for one kind more.
 fn takes_in(r: &Registers, coin: Location) -> bool
-    ensures { result ≡ (nat_lt 0 (amount r.now.holding (Concrete coin, None)) || nat_le (length (rows r.now.holding) + 1) (2 * r.now.max_holding)) }
+    ensures { result ≡ (nat_lt 0 (amount r.now.holding (Concrete coin, None))
+        || nat_le (length (rows r.now.holding) + 1) (2 * r.now.max_holding)) }
 {
     r.holding.amount(&AssetId::Concrete(coin)) > 0 || has_room(&r.holding, r.max_holding, 1)
 }
@@ -71,8 +75,10 @@ pub fn refund_surplus<H: Host>(
     h: &mut H,
 ) -> Result<Result<(), XcmError>, AllocError>
     requires ready { IsReadyFor Instruction-F.RefundSurplus (machine r.old (H.part h.old)) }
-    ensures ok { IfOk result (λ answer. Ran Instruction-F.RefundSurplus (machine r.old (H.part h.old)) answer (machine r.new (H.part h.new))) }
-    ensures err { OnErr result (Spilled Instruction-F.RefundSurplus (machine r.old (H.part h.old)) (machine r.new (H.part h.new))) }
+    ensures ok { IfOk result (λ answer. Ran Instruction-F.RefundSurplus
+        (machine r.old (H.part h.old)) answer (machine r.new (H.part h.new))) }
+    ensures err { OnErr result (Spilled Instruction-F.RefundSurplus (machine r.old (H.part h.old))
+        (machine r.new (H.part h.new))) }
 {
     let weight = not_refunded(r);
     let Some((coin, _)) = h.refund_of(weight) else {

@@ -17,9 +17,12 @@ pub fn expect_asset<H: Host>(
     h: &mut H,
     assets: &Assets,
 ) -> Result<Result<(), XcmError>, AllocError>
-    requires ready { IsReadyFor (Instruction-F.ExpectAsset assets.now) (machine r.old (H.part h.old)) }
-    ensures ok { IfOk result (λ answer. Ran (Instruction-F.ExpectAsset assets.now) (machine r.old (H.part h.old)) answer (machine r.new (H.part h.new))) }
-    ensures err { OnErr result (Spilled (Instruction-F.ExpectAsset assets.now) (machine r.old (H.part h.old)) (machine r.new (H.part h.new))) }
+    requires ready { IsReadyFor (Instruction-F.ExpectAsset assets.now)
+        (machine r.old (H.part h.old)) }
+    ensures ok { IfOk result (λ answer. Ran (Instruction-F.ExpectAsset assets.now)
+        (machine r.old (H.part h.old)) answer (machine r.new (H.part h.new))) }
+    ensures err { OnErr result (Spilled (Instruction-F.ExpectAsset assets.now)
+        (machine r.old (H.part h.old)) (machine r.new (H.part h.new))) }
 {
     // For the prover alone: no unit is twice in a list.
     law_of_bundles();

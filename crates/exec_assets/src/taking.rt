@@ -19,9 +19,12 @@ pub fn transfer_asset<H: Host>(
     assets: &Assets,
     beneficiary: &Location,
 ) -> Result<Result<(), XcmError>, AllocError>
-    requires ready { IsReadyFor (Instruction-F.TransferAsset assets.now beneficiary.now) (machine r.old (H.part h.old)) }
-    ensures ok { IfOk result (λ answer. Ran (Instruction-F.TransferAsset assets.now beneficiary.now) (machine r.old (H.part h.old)) answer (machine r.new (H.part h.new))) }
-    ensures err { OnErr result (Spilled (Instruction-F.TransferAsset assets.now beneficiary.now) (machine r.old (H.part h.old)) (machine r.new (H.part h.new))) }
+    requires ready { IsReadyFor (Instruction-F.TransferAsset assets.now beneficiary.now)
+        (machine r.old (H.part h.old)) }
+    ensures ok { IfOk result (λ answer. Ran (Instruction-F.TransferAsset assets.now beneficiary.now)
+        (machine r.old (H.part h.old)) answer (machine r.new (H.part h.new))) }
+    ensures err { OnErr result (Spilled (Instruction-F.TransferAsset assets.now beneficiary.now)
+        (machine r.old (H.part h.old)) (machine r.new (H.part h.new))) }
 {
     let Some(who) = &r.origin else {
         return Ok(Err(XcmError::BadOrigin));
@@ -39,9 +42,12 @@ pub fn deposit_asset<H: Host>(
     assets: &Filter,
     beneficiary: &Location,
 ) -> Result<Result<(), XcmError>, AllocError>
-    requires ready { IsReadyFor (Instruction-F.DepositAsset assets.now beneficiary.now) (machine r.old (H.part h.old)) }
-    ensures ok { IfOk result (λ answer. Ran (Instruction-F.DepositAsset assets.now beneficiary.now) (machine r.old (H.part h.old)) answer (machine r.new (H.part h.new))) }
-    ensures err { OnErr result (Spilled (Instruction-F.DepositAsset assets.now beneficiary.now) (machine r.old (H.part h.old)) (machine r.new (H.part h.new))) }
+    requires ready { IsReadyFor (Instruction-F.DepositAsset assets.now beneficiary.now)
+        (machine r.old (H.part h.old)) }
+    ensures ok { IfOk result (λ answer. Ran (Instruction-F.DepositAsset assets.now beneficiary.now)
+        (machine r.old (H.part h.old)) answer (machine r.new (H.part h.new))) }
+    ensures err { OnErr result (Spilled (Instruction-F.DepositAsset assets.now beneficiary.now)
+        (machine r.old (H.part h.old)) (machine r.new (H.part h.new))) }
 {
     let goods = r.holding.take(assets)?;
     match h.deposit(goods, beneficiary) {
@@ -60,9 +66,12 @@ pub fn burn_asset<H: Host>(
     h: &mut H,
     assets: &Assets,
 ) -> Result<Result<(), XcmError>, AllocError>
-    requires ready { IsReadyFor (Instruction-F.BurnAsset assets.now) (machine r.old (H.part h.old)) }
-    ensures ok { IfOk result (λ answer. Ran (Instruction-F.BurnAsset assets.now) (machine r.old (H.part h.old)) answer (machine r.new (H.part h.new))) }
-    ensures err { OnErr result (Spilled (Instruction-F.BurnAsset assets.now) (machine r.old (H.part h.old)) (machine r.new (H.part h.new))) }
+    requires ready { IsReadyFor (Instruction-F.BurnAsset assets.now)
+        (machine r.old (H.part h.old)) }
+    ensures ok { IfOk result (λ answer. Ran (Instruction-F.BurnAsset assets.now)
+        (machine r.old (H.part h.old)) answer (machine r.new (H.part h.new))) }
+    ensures err { OnErr result (Spilled (Instruction-F.BurnAsset assets.now)
+        (machine r.old (H.part h.old)) (machine r.new (H.part h.new))) }
 {
     let goods = r.holding.take_listed(assets)?;
     match h.burn(goods) {

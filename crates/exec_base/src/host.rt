@@ -47,7 +47,8 @@ pub trait Host {
 
     /// Takes assets out of an account.
     fn withdraw(&mut self, a: &Assets, who: &Location) -> Result<AssetBundle, HostFault>
-        ensures step { Answers (withdraw_refusal (part self.old) a.now who.now) (bundle_of a.now) (withdrawn (part self.old) a.now who.now) (part self.old) result (part self.new) };
+        ensures step { Answers (withdraw_refusal (part self.old) a.now who.now) (bundle_of a.now)
+            (withdrawn (part self.old) a.now who.now) (part self.old) result (part self.new) };
 
     /// Puts goods into an account.
     fn deposit(
@@ -55,11 +56,14 @@ pub trait Host {
         goods: AssetBundle,
         who: &Location,
     ) -> Result<(), (AssetBundle, HostFault)>
-        ensures step { TakesIn (deposit_refusal (part self.old) goods who.now) goods tt (deposited (part self.old) goods who.now) (part self.old) result (part self.new) };
+        ensures step { TakesIn (deposit_refusal (part self.old) goods who.now) goods tt
+            (deposited (part self.old) goods who.now) (part self.old) result (part self.new) };
 
     /// Moves assets between accounts.
     fn transfer(&mut self, a: &Assets, from: &Location, to: &Location) -> Result<(), HostFault>
-        ensures step { Answers (transfer_refusal (part self.old) a.now from.now to.now) tt (transferred (part self.old) a.now from.now to.now) (part self.old) result (part self.new) };
+        ensures step { Answers (transfer_refusal (part self.old) a.now from.now to.now) tt
+            (transferred (part self.old) a.now from.now to.now) (part self.old) result
+            (part self.new) };
 
     /// Makes assets that another chain deposited or teleported here.
     fn receive(
@@ -68,7 +72,9 @@ pub trait Host {
         from: &Location,
         teleport: bool,
     ) -> Result<AssetBundle, HostFault>
-        ensures step { Answers (receive_refusal (part self.old) a.now from.now teleport) (bundle_of a.now) (received (part self.old) a.now teleport) (part self.old) result (part self.new) };
+        ensures step { Answers (receive_refusal (part self.old) a.now from.now teleport)
+            (bundle_of a.now) (received (part self.old) a.now teleport) (part self.old) result
+            (part self.new) };
 
     /// Moves assets to the account of another chain, and tells it.
     fn transfer_out(
@@ -79,7 +85,10 @@ pub trait Host {
         xcm: &Program,
     ) -> Result<u64, HostFault>
         requires forwardable { IsForwardable xcm.now }
-        ensures step { Answers (transfer_out_refusal (part self.old) a.now from.now dest.now xcm.now) (number_to (part self.old) dest.now) (transferred_out (part self.old) a.now from.now dest.now xcm.now) (part self.old) result (part self.new) };
+        ensures step { Answers (transfer_out_refusal (part self.old) a.now from.now dest.now
+            xcm.now) (number_to (part self.old) dest.now)
+            (transferred_out (part self.old) a.now from.now dest.now xcm.now) (part self.old) result
+            (part self.new) };
 
     /// Puts goods into the account of another chain, and tells it.
     fn deposit_out(
@@ -89,7 +98,10 @@ pub trait Host {
         xcm: &Program,
     ) -> Result<u64, (AssetBundle, HostFault)>
         requires forwardable { IsForwardable xcm.now }
-        ensures step { TakesIn (deposit_out_refusal (part self.old) goods dest.now xcm.now) goods (number_to (part self.old) dest.now) (deposited_out (part self.old) goods dest.now xcm.now) (part self.old) result (part self.new) };
+        ensures step { TakesIn (deposit_out_refusal (part self.old) goods dest.now xcm.now) goods
+            (number_to (part self.old) dest.now)
+            (deposited_out (part self.old) goods dest.now xcm.now) (part self.old) result
+            (part self.new) };
 
     /// Ships goods to another chain.
     fn ship_out(
@@ -100,7 +112,10 @@ pub trait Host {
         xcm: &Program,
     ) -> Result<u64, (AssetBundle, HostFault)>
         requires forwardable { IsForwardable xcm.now }
-        ensures step { TakesIn (ship_refusal (part self.old) goods way dest.now xcm.now) goods (number_to (part self.old) dest.now) (shipped (part self.old) goods way dest.now xcm.now) (part self.old) result (part self.new) };
+        ensures step { TakesIn (ship_refusal (part self.old) goods way dest.now xcm.now) goods
+            (number_to (part self.old) dest.now)
+            (shipped (part self.old) goods way dest.now xcm.now) (part self.old) result
+            (part self.new) };
 
     /// Answers a query of another chain.
     fn respond(
@@ -109,8 +124,12 @@ pub trait Host {
         response: Response,
         querier: Option<&Location>,
     ) -> Result<u64, HostFault>
-        requires forwardable { IsForwardable (report_program to.now response (option_copied querier)) }
-        ensures step { Answers (respond_refusal (part self.old) to.now response (option_copied querier.entry)) (number_to (part self.old) to.now.destination) (responded (part self.old) to.now response (option_copied querier.entry)) (part self.old) result (part self.new) };
+        requires forwardable { IsForwardable
+            (report_program to.now response (option_copied querier)) }
+        ensures step { Answers (respond_refusal (part self.old) to.now response
+            (option_copied querier.entry)) (number_to (part self.old) to.now.destination)
+            (responded (part self.old) to.now response (option_copied querier.entry))
+            (part self.old) result (part self.new) };
 
     /// Whether a channel leads to just that location.
     fn routes(&self, dest: &Location) -> bool
@@ -118,7 +137,8 @@ pub trait Host {
 
     /// Closes the query, where it is open from that location.
     fn answer(&mut self, from: &Location, query: u64) -> Result<bool, AllocError>
-        ensures step { Gives (is_open (part self.old) from.now query) (answered (part self.old) from.now query) (part self.old) result (part self.new) };
+        ensures step { Gives (is_open (part self.old) from.now query)
+            (answered (part self.old) from.now query) (part self.old) result (part self.new) };
 
     /// Buys weight, and hands back what is unspent.
     fn buy(
@@ -126,7 +146,9 @@ pub trait Host {
         w: Weight,
         payment: AssetBundle,
     ) -> Result<AssetBundle, (AssetBundle, HostFault)>
-        ensures step { TakesIn (buy_refusal (part self.old) w payment) payment (unspent (part self.old) w payment) (bought (part self.old) w payment) (part self.old) result (part self.new) };
+        ensures step { TakesIn (buy_refusal (part self.old) w payment) payment
+            (unspent (part self.old) w payment) (bought (part self.old) w payment) (part self.old)
+            result (part self.new) };
 
     /// What would be given back for the weight.
     fn refund_of(&self, w: Weight) -> Option<(Location, u128)>
@@ -134,27 +156,32 @@ pub trait Host {
 
     /// Gives back what was paid for the weight.
     fn refund(&mut self, w: Weight) -> Result<AssetBundle, AllocError>
-        ensures step { Gives (refund_goods (part self.old) w) (refunded (part self.old) w) (part self.old) result (part self.new) };
+        ensures step { Gives (refund_goods (part self.old) w) (refunded (part self.old) w)
+            (part self.old) result (part self.new) };
 
     /// Joins goods into a bundle, and books what it can't hold.
     fn join(&mut self, into: &mut AssetBundle, goods: AssetBundle) -> Result<(), AssetBundle>
         requires listed { AreListed (listing (part self.old).rows) (Excess into.old goods) }
-        ensures step { Keeps goods (joined (part self.old) into.old goods) (part self.old) result (part self.new) }
+        ensures step { Keeps goods (joined (part self.old) into.old goods) (part self.old) result
+            (part self.new) }
         ensures into { JoinedInto goods into.old result into.new };
 
     /// Burns goods.
     fn burn(&mut self, goods: AssetBundle) -> Result<(), AssetBundle>
         requires listed { AreListed (listing (part self.old).rows) goods }
-        ensures step { Keeps goods (burnt (part self.old) goods) (part self.old) result (part self.new) };
+        ensures step { Keeps goods (burnt (part self.old) goods) (part self.old) result
+            (part self.new) };
 
     /// Takes a trap that has this origin and this list.
     fn claim(&mut self, a: &Assets, origin: &Location) -> Result<AssetBundle, HostFault>
-        ensures step { Answers (claim_refusal (part self.old) a.now origin.now) (bundle_of a.now) (claimed (part self.old) a.now origin.now) (part self.old) result (part self.new) };
+        ensures step { Answers (claim_refusal (part self.old) a.now origin.now) (bundle_of a.now)
+            (claimed (part self.old) a.now origin.now) (part self.old) result (part self.new) };
 
     /// Traps goods, which aren't empty.
     fn trap(&mut self, goods: AssetBundle, origin: &Location) -> Result<(), AssetBundle>
         requires some { 0 < length (rows goods) }
-        ensures step { Keeps goods (trapped (part self.old) goods origin.now) (part self.old) result (part self.new) };
+        ensures step { Keeps goods (trapped (part self.old) goods origin.now) (part self.old) result
+            (part self.new) };
 
     /// Puts paid fees into the fee account.
     fn settle(&mut self) -> Result<(), AllocError>
@@ -188,8 +215,11 @@ pub trait Host {
     /// Takes a fee out of an account, which can take it back; it ends no cargo.
     fn draw_fee(&mut self, fee: &Asset, who: &Location) -> Result<AssetBundle, HostFault>
         requires price { IsPrice fee.now }
-        ensures step { Answers (withdraw_refusal (part self.old) (fee.now ∷ []) who.now) (bundle_of (fee.now ∷ [])) (fee_drawn (part self.old) (fee.now ∷ []) who.now) (part self.old) result (part self.new) }
-        ensures back { OnOk result (deposit_refusal (part self.new) (bundle_of (fee.now ∷ [])) who.now ≡ None) };
+        ensures step { Answers (withdraw_refusal (part self.old) (fee.now ∷ []) who.now)
+            (bundle_of (fee.now ∷ [])) (fee_drawn (part self.old) (fee.now ∷ []) who.now)
+            (part self.old) result (part self.new) }
+        ensures back { OnOk result (deposit_refusal (part self.new) (bundle_of (fee.now ∷ []))
+            who.now ≡ None) };
 
     /// Whether the chain serves calls.
     fn calls(&self) -> bool
@@ -212,17 +242,26 @@ pub trait Host {
         owner: &Location,
         unlocker: &Location,
     ) -> Result<u64, HostFault>
-        requires forwardable { IsForwardable (roll-Instruction (Instruction-F.LockAsset asset.now unlocker.now) ∷ []) }
-        ensures step { Answers (lock_refusal (part self.old) asset.now owner.now unlocker.now) (number_to (part self.old) unlocker.now) (asset_locked (part self.old) asset.now owner.now unlocker.now) (part self.old) result (part self.new) };
+        requires forwardable { IsForwardable
+            (roll-Instruction (Instruction-F.LockAsset asset.now unlocker.now) ∷ []) }
+        ensures step { Answers (lock_refusal (part self.old) asset.now owner.now unlocker.now)
+            (number_to (part self.old) unlocker.now)
+            (asset_locked (part self.old) asset.now owner.now unlocker.now) (part self.old) result
+            (part self.new) };
 
     /// Lets a lock fall, of which `from` is the unlocker.
     fn unlock(&mut self, asset: &Asset, target: &Location, from: &Location) -> Result<(), HostFault>
-        ensures step { Answers (unlock_refusal (part self.old) asset.now target.now from.now) tt (asset_unlocked (part self.old) asset.now target.now from.now) (part self.old) result (part self.new) };
+        ensures step { Answers (unlock_refusal (part self.old) asset.now target.now from.now) tt
+            (asset_unlocked (part self.old) asset.now target.now from.now) (part self.old) result
+            (part self.new) };
 
     /// Notes a lock that `from` holds.
     fn note(&mut self, asset: &Asset, owner: &Location, from: &Location) -> Result<(), HostFault>
-        requires forwardable { IsForwardable (roll-Instruction (Instruction-F.NoteUnlockable asset.now owner.now) ∷ []) }
-        ensures step { Answers (note_refusal (part self.old) asset.now owner.now from.now) tt (asset_noted (part self.old) asset.now owner.now from.now) (part self.old) result (part self.new) };
+        requires forwardable { IsForwardable
+            (roll-Instruction (Instruction-F.NoteUnlockable asset.now owner.now) ∷ []) }
+        ensures step { Answers (note_refusal (part self.old) asset.now owner.now from.now) tt
+            (asset_noted (part self.old) asset.now owner.now from.now) (part self.old) result
+            (part self.new) };
 
     /// Asks the locker to let a lock fall that is noted, and lowers the note.
     fn request(
@@ -231,8 +270,12 @@ pub trait Host {
         owner: &Location,
         locker: &Location,
     ) -> Result<u64, HostFault>
-        requires forwardable { IsForwardable (roll-Instruction (Instruction-F.RequestUnlock asset.now locker.now) ∷ []) }
-        ensures step { Answers (request_refusal (part self.old) asset.now owner.now locker.now) (number_to (part self.old) locker.now) (asset_requested (part self.old) asset.now owner.now locker.now) (part self.old) result (part self.new) };
+        requires forwardable { IsForwardable
+            (roll-Instruction (Instruction-F.RequestUnlock asset.now locker.now) ∷ []) }
+        ensures step { Answers (request_refusal (part self.old) asset.now owner.now locker.now)
+            (number_to (part self.old) locker.now)
+            (asset_requested (part self.old) asset.now owner.now locker.now) (part self.old) result
+            (part self.new) };
 
     /// Exchanges goods for what is wanted with one of the chain's pools, and hands back all that comes of them: as much as there is for the
     /// goods where `maximal`, else just what is wanted for as little as it costs.

@@ -23,17 +23,22 @@ use exec_rules::law_of_runs;
 /// call has its reason, and where memory stops an instruction, accepted calls have led there, which change nothing else yet or did a front of a
 /// call's batch.
 pub fn law_of_calls()
-    ensures refused { (l : Instruction-F Instruction) (m : Machine) → refused l m ≡ refusal_along (calls l m) (between m) }
-    ensures done { (l : Instruction-F Instruction) (m : Machine) → between (done l m) ≡ through l m }
-    ensures asked { (l : Instruction-F Instruction) (m : Machine) → HaveReasons l m (calls l m) (between m) }
-    ensures stopped { (l : Instruction-F Instruction) (m now : Machine) → Spilled l m now → IsLedTo l m now }
+    ensures refused { (l : Instruction-F Instruction) (m : Machine)
+        → refused l m ≡ refusal_along (calls l m) (between m) }
+    ensures done { (l : Instruction-F Instruction) (m : Machine)
+        → between (done l m) ≡ through l m }
+    ensures asked { (l : Instruction-F Instruction) (m : Machine)
+        → HaveReasons l m (calls l m) (between m) }
+    ensures stopped { (l : Instruction-F Instruction) (m now : Machine)
+        → Spilled l m now → IsLedTo l m now }
 {}
 
 /// The instructions steer a run only as they may, so the laws of runs hold of it; and a refused instruction changes no register but the
 /// error, the surplus and those of the handler and the appendix, and nothing of the chain but what is told.
 pub fn law_of_rules()
     ensures steers { IsOrderly xcm }
-    ensures refused { (part : Part) (place : ℕ) (x : Instruction) (behind : List Instruction) (m : Machine) (e : XcmError)
+    ensures refused { (part : Part) (place : ℕ) (x : Instruction) (behind : List Instruction)
+        (m : Machine) (e : XcmError)
         → refusal_of x m ≡ Some e → LeavesAll m (machine_of (next xcm (At part place x behind m))) }
 {
     law_of_runs();
@@ -42,9 +47,14 @@ pub fn law_of_rules()
 /// Each instruction leaves a steady machine steady, so a run that begins so stays so; and where its instructions are sound it is ready for
 /// whichever comes next. A program that may be sent is made of sound instructions.
 pub fn law_of_readiness()
-    ensures done { (x : Instruction) (m : Machine) → IsSteady m → refusal_of x m ≡ None → IsSteady (xcm.done x m) }
-    ensures reached { (most : Weight) (g h : Stage) → IsBalanced most g → Reaches xcm g h → IsSteady (machine_of g) → IsSteady (machine_of h) }
-    ensures sound { (program : List Instruction) → IsForwardable program → AllByRecursion IsSound program }
-    ensures ready { (most : Weight) (g : Stage) (part : Part) (place : ℕ) (x : Instruction) (behind : List Instruction) (m : Machine)
-        → IsBalanced most g → IsAheadOf IsSound g → IsSteady (machine_of g) → Reaches xcm g (At part place x behind m) → IsReady x m }
+    ensures done { (x : Instruction) (m : Machine)
+        → IsSteady m → refusal_of x m ≡ None → IsSteady (xcm.done x m) }
+    ensures reached { (most : Weight) (g h : Stage)
+        → IsBalanced most g → Reaches xcm g h → IsSteady (machine_of g) → IsSteady (machine_of h) }
+    ensures sound { (program : List Instruction)
+        → IsForwardable program → AllByRecursion IsSound program }
+    ensures ready { (most : Weight) (g : Stage) (part : Part) (place : ℕ) (x : Instruction)
+        (behind : List Instruction) (m : Machine)
+        → IsBalanced most g → IsAheadOf IsSound g
+        → IsSteady (machine_of g) → Reaches xcm g (At part place x behind m) → IsReady x m }
 {}

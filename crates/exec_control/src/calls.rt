@@ -71,9 +71,11 @@ pub fn transact<H: Host>(
 ) -> Result<Result<(), XcmError>, AllocError>
     requires ready { IsReadyFor (Instruction-F.Transact origin_kind require_weight_at_most call.now)
         (machine r.old (H.part h.old)) }
-    ensures ok { IfOk result (λ answer. Ran (Instruction-F.Transact origin_kind require_weight_at_most call.now)
+    ensures ok { IfOk result
+        (λ answer. Ran (Instruction-F.Transact origin_kind require_weight_at_most call.now)
         (machine r.old (H.part h.old)) answer (machine r.new (H.part h.new))) }
-    ensures err { OnErr result (Spilled (Instruction-F.Transact origin_kind require_weight_at_most call.now)
+    ensures err { OnErr result (Spilled (Instruction-F.Transact origin_kind require_weight_at_most
+        call.now)
         (machine r.old (H.part h.old)) (machine r.new (H.part h.new))) }
 {
     let Some(who) = &r.origin else {

@@ -17,9 +17,12 @@ pub fn expect_origin<H: Host>(
     h: &mut H,
     origin: &Option<Location>,
 ) -> Result<Result<(), XcmError>, AllocError>
-    requires ready { IsReadyFor (Instruction-F.ExpectOrigin origin.now) (machine r.old (H.part h.old)) }
-    ensures ok { IfOk result (λ answer. Ran (Instruction-F.ExpectOrigin origin.now) (machine r.old (H.part h.old)) answer (machine r.new (H.part h.new))) }
-    ensures err { OnErr result (Spilled (Instruction-F.ExpectOrigin origin.now) (machine r.old (H.part h.old)) (machine r.new (H.part h.new))) }
+    requires ready { IsReadyFor (Instruction-F.ExpectOrigin origin.now)
+        (machine r.old (H.part h.old)) }
+    ensures ok { IfOk result (λ answer. Ran (Instruction-F.ExpectOrigin origin.now)
+        (machine r.old (H.part h.old)) answer (machine r.new (H.part h.new))) }
+    ensures err { OnErr result (Spilled (Instruction-F.ExpectOrigin origin.now)
+        (machine r.old (H.part h.old)) (machine r.new (H.part h.new))) }
 {
     if !same_origin(&r.origin, origin) {
         return Ok(Err(XcmError::ExpectationFalse));
@@ -33,9 +36,12 @@ pub fn expect_error<H: Host>(
     h: &mut H,
     error: &Option<(u32, XcmError)>,
 ) -> Result<Result<(), XcmError>, AllocError>
-    requires ready { IsReadyFor (Instruction-F.ExpectError error.now) (machine r.old (H.part h.old)) }
-    ensures ok { IfOk result (λ answer. Ran (Instruction-F.ExpectError error.now) (machine r.old (H.part h.old)) answer (machine r.new (H.part h.new))) }
-    ensures err { OnErr result (Spilled (Instruction-F.ExpectError error.now) (machine r.old (H.part h.old)) (machine r.new (H.part h.new))) }
+    requires ready { IsReadyFor (Instruction-F.ExpectError error.now)
+        (machine r.old (H.part h.old)) }
+    ensures ok { IfOk result (λ answer. Ran (Instruction-F.ExpectError error.now)
+        (machine r.old (H.part h.old)) answer (machine r.new (H.part h.new))) }
+    ensures err { OnErr result (Spilled (Instruction-F.ExpectError error.now)
+        (machine r.old (H.part h.old)) (machine r.new (H.part h.new))) }
 {
     if !same_failure(&r.error, error) {
         return Ok(Err(XcmError::ExpectationFalse));
@@ -49,9 +55,12 @@ pub fn expect_transact_status<H: Host>(
     h: &mut H,
     status: &MaybeError,
 ) -> Result<Result<(), XcmError>, AllocError>
-    requires ready { IsReadyFor (Instruction-F.ExpectTransactStatus status.now) (machine r.old (H.part h.old)) }
-    ensures ok { IfOk result (λ answer. Ran (Instruction-F.ExpectTransactStatus status.now) (machine r.old (H.part h.old)) answer (machine r.new (H.part h.new))) }
-    ensures err { OnErr result (Spilled (Instruction-F.ExpectTransactStatus status.now) (machine r.old (H.part h.old)) (machine r.new (H.part h.new))) }
+    requires ready { IsReadyFor (Instruction-F.ExpectTransactStatus status.now)
+        (machine r.old (H.part h.old)) }
+    ensures ok { IfOk result (λ answer. Ran (Instruction-F.ExpectTransactStatus status.now)
+        (machine r.old (H.part h.old)) answer (machine r.new (H.part h.new))) }
+    ensures err { OnErr result (Spilled (Instruction-F.ExpectTransactStatus status.now)
+        (machine r.old (H.part h.old)) (machine r.new (H.part h.new))) }
 {
     if !same_status(&r.status, status) {
         return Ok(Err(XcmError::ExpectationFalse));
@@ -69,9 +78,15 @@ pub fn expect_pallet<H: Host>(
     crate_major: u32,
     min_crate_minor: u32,
 ) -> Result<Result<(), XcmError>, AllocError>
-    requires ready { IsReadyFor (Instruction-F.ExpectPallet index name.now module_name.now crate_major min_crate_minor) (machine r.old (H.part h.old)) }
-    ensures ok { IfOk result (λ answer. Ran (Instruction-F.ExpectPallet index name.now module_name.now crate_major min_crate_minor) (machine r.old (H.part h.old)) answer (machine r.new (H.part h.new))) }
-    ensures err { OnErr result (Spilled (Instruction-F.ExpectPallet index name.now module_name.now crate_major min_crate_minor) (machine r.old (H.part h.old)) (machine r.new (H.part h.new))) }
+    requires ready { IsReadyFor (Instruction-F.ExpectPallet index name.now module_name.now
+        crate_major min_crate_minor) (machine r.old (H.part h.old)) }
+    ensures ok { IfOk result
+        (λ answer. Ran (Instruction-F.ExpectPallet index name.now module_name.now crate_major
+        min_crate_minor) (machine r.old (H.part h.old)) answer
+        (machine r.new (H.part h.new))) }
+    ensures err { OnErr result (Spilled (Instruction-F.ExpectPallet index name.now module_name.now
+        crate_major min_crate_minor) (machine r.old (H.part h.old))
+        (machine r.new (H.part h.new))) }
 {
     let Some(info) = pallet_at(h.pallets(), index) else {
         return Ok(Err(XcmError::PalletNotFound));
@@ -92,9 +107,12 @@ pub fn unpaid_execution<H: Host>(
     limit: WeightLimit,
     check_origin: &Option<Location>,
 ) -> Result<Result<(), XcmError>, AllocError>
-    requires ready { IsReadyFor (Instruction-F.UnpaidExecution limit check_origin.now) (machine r.old (H.part h.old)) }
-    ensures ok { IfOk result (λ answer. Ran (Instruction-F.UnpaidExecution limit check_origin.now) (machine r.old (H.part h.old)) answer (machine r.new (H.part h.new))) }
-    ensures err { OnErr result (Spilled (Instruction-F.UnpaidExecution limit check_origin.now) (machine r.old (H.part h.old)) (machine r.new (H.part h.new))) }
+    requires ready { IsReadyFor (Instruction-F.UnpaidExecution limit check_origin.now)
+        (machine r.old (H.part h.old)) }
+    ensures ok { IfOk result (λ answer. Ran (Instruction-F.UnpaidExecution limit check_origin.now)
+        (machine r.old (H.part h.old)) answer (machine r.new (H.part h.new))) }
+    ensures err { OnErr result (Spilled (Instruction-F.UnpaidExecution limit check_origin.now)
+        (machine r.old (H.part h.old)) (machine r.new (H.part h.new))) }
 {
     if check_origin.is_some() && !same_origin(&r.origin, check_origin) {
         return Ok(Err(XcmError::BadOrigin));

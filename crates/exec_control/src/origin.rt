@@ -17,8 +17,10 @@ pub fn clear_origin<H: Host>(
     h: &mut H,
 ) -> Result<Result<(), XcmError>, AllocError>
     requires ready { IsReadyFor Instruction-F.ClearOrigin (machine r.old (H.part h.old)) }
-    ensures ok { IfOk result (λ answer. Ran Instruction-F.ClearOrigin (machine r.old (H.part h.old)) answer (machine r.new (H.part h.new))) }
-    ensures err { OnErr result (Spilled Instruction-F.ClearOrigin (machine r.old (H.part h.old)) (machine r.new (H.part h.new))) }
+    ensures ok { IfOk result (λ answer. Ran Instruction-F.ClearOrigin (machine r.old (H.part h.old))
+        answer (machine r.new (H.part h.new))) }
+    ensures err { OnErr result (Spilled Instruction-F.ClearOrigin (machine r.old (H.part h.old))
+        (machine r.new (H.part h.new))) }
 {
     r.origin = None;
     Ok(Ok(()))
@@ -30,9 +32,12 @@ pub fn descend_origin<H: Host>(
     h: &mut H,
     interior: &Junctions,
 ) -> Result<Result<(), XcmError>, AllocError>
-    requires ready { IsReadyFor (Instruction-F.DescendOrigin interior.now) (machine r.old (H.part h.old)) }
-    ensures ok { IfOk result (λ answer. Ran (Instruction-F.DescendOrigin interior.now) (machine r.old (H.part h.old)) answer (machine r.new (H.part h.new))) }
-    ensures err { OnErr result (Spilled (Instruction-F.DescendOrigin interior.now) (machine r.old (H.part h.old)) (machine r.new (H.part h.new))) }
+    requires ready { IsReadyFor (Instruction-F.DescendOrigin interior.now)
+        (machine r.old (H.part h.old)) }
+    ensures ok { IfOk result (λ answer. Ran (Instruction-F.DescendOrigin interior.now)
+        (machine r.old (H.part h.old)) answer (machine r.new (H.part h.new))) }
+    ensures err { OnErr result (Spilled (Instruction-F.DescendOrigin interior.now)
+        (machine r.old (H.part h.old)) (machine r.new (H.part h.new))) }
 {
     let Some(who) = &r.origin else {
         return Ok(Err(XcmError::BadOrigin));
@@ -50,7 +55,8 @@ pub fn descend_origin<H: Host>(
 fn descended(who: &Location, interior: &Junctions) -> Option<Location>
     ensures { MatchOption result
         (fits_below who.now interior.now ≡ false)
-        (λ place. (fits_below who.now interior.now ≡ true) × (place ≡ descended who.now interior.now)) }
+        (λ place. (fits_below who.now interior.now ≡ true)
+        × (place ≡ descended who.now interior.now)) }
 {
     let mut place = who.copy();
     match place.interior.append(interior) {

@@ -44,8 +44,10 @@ pub fn set_error_handler<H: Host>(
     xcm: Program,
 ) -> Result<Result<(), XcmError>, AllocError>
     requires ready { IsReadyFor (Instruction-F.SetErrorHandler xcm) (machine r.old (H.part h.old)) }
-    ensures ok { IfOk result (λ answer. Ran (Instruction-F.SetErrorHandler xcm) (machine r.old (H.part h.old)) answer (machine r.new (H.part h.new))) }
-    ensures err { OnErr result (Spilled (Instruction-F.SetErrorHandler xcm) (machine r.old (H.part h.old)) (machine r.new (H.part h.new))) }
+    ensures ok { IfOk result (λ answer. Ran (Instruction-F.SetErrorHandler xcm)
+        (machine r.old (H.part h.old)) answer (machine r.new (H.part h.new))) }
+    ensures err { OnErr result (Spilled (Instruction-F.SetErrorHandler xcm)
+        (machine r.old (H.part h.old)) (machine r.new (H.part h.new))) }
 {
     let weight = weight_of(&xcm, r.rule);
     r.surplus = added(r.surplus, r.handler_weight);
@@ -61,8 +63,10 @@ pub fn set_appendix<H: Host>(
     xcm: Program,
 ) -> Result<Result<(), XcmError>, AllocError>
     requires ready { IsReadyFor (Instruction-F.SetAppendix xcm) (machine r.old (H.part h.old)) }
-    ensures ok { IfOk result (λ answer. Ran (Instruction-F.SetAppendix xcm) (machine r.old (H.part h.old)) answer (machine r.new (H.part h.new))) }
-    ensures err { OnErr result (Spilled (Instruction-F.SetAppendix xcm) (machine r.old (H.part h.old)) (machine r.new (H.part h.new))) }
+    ensures ok { IfOk result (λ answer. Ran (Instruction-F.SetAppendix xcm)
+        (machine r.old (H.part h.old)) answer (machine r.new (H.part h.new))) }
+    ensures err { OnErr result (Spilled (Instruction-F.SetAppendix xcm)
+        (machine r.old (H.part h.old)) (machine r.new (H.part h.new))) }
 {
     let weight = weight_of(&xcm, r.rule);
     r.surplus = added(r.surplus, r.appendix_weight);

@@ -20,9 +20,14 @@ pub fn query_response<H: Host>(
     max_weight: Weight,
     querier: &Option<Location>,
 ) -> Result<Result<(), XcmError>, AllocError>
-    requires ready { IsReadyFor (Instruction-F.QueryResponse query_id response.now max_weight querier.now) (machine r.old (H.part h.old)) }
-    ensures ok { IfOk result (λ answer. Ran (Instruction-F.QueryResponse query_id response.now max_weight querier.now) (machine r.old (H.part h.old)) answer (machine r.new (H.part h.new))) }
-    ensures err { OnErr result (Spilled (Instruction-F.QueryResponse query_id response.now max_weight querier.now) (machine r.old (H.part h.old)) (machine r.new (H.part h.new))) }
+    requires ready { IsReadyFor (Instruction-F.QueryResponse query_id response.now max_weight
+        querier.now) (machine r.old (H.part h.old)) }
+    ensures ok { IfOk result
+        (λ answer. Ran (Instruction-F.QueryResponse query_id response.now max_weight querier.now)
+        (machine r.old (H.part h.old)) answer (machine r.new (H.part h.new))) }
+    ensures err { OnErr result (Spilled (Instruction-F.QueryResponse query_id response.now
+        max_weight querier.now) (machine r.old (H.part h.old))
+        (machine r.new (H.part h.new))) }
 {
     let Some(who) = &r.origin else {
         return Ok(Err(XcmError::BadOrigin));

@@ -15,8 +15,10 @@ pub fn clear_error<H: Host>(
     h: &mut H,
 ) -> Result<Result<(), XcmError>, AllocError>
     requires ready { IsReadyFor Instruction-F.ClearError (machine r.old (H.part h.old)) }
-    ensures ok { IfOk result (λ answer. Ran Instruction-F.ClearError (machine r.old (H.part h.old)) answer (machine r.new (H.part h.new))) }
-    ensures err { OnErr result (Spilled Instruction-F.ClearError (machine r.old (H.part h.old)) (machine r.new (H.part h.new))) }
+    ensures ok { IfOk result (λ answer. Ran Instruction-F.ClearError (machine r.old (H.part h.old))
+        answer (machine r.new (H.part h.new))) }
+    ensures err { OnErr result (Spilled Instruction-F.ClearError (machine r.old (H.part h.old))
+        (machine r.new (H.part h.new))) }
 {
     r.error = None;
     Ok(Ok(()))
@@ -28,8 +30,10 @@ pub fn clear_transact_status<H: Host>(
     h: &mut H,
 ) -> Result<Result<(), XcmError>, AllocError>
     requires ready { IsReadyFor Instruction-F.ClearTransactStatus (machine r.old (H.part h.old)) }
-    ensures ok { IfOk result (λ answer. Ran Instruction-F.ClearTransactStatus (machine r.old (H.part h.old)) answer (machine r.new (H.part h.new))) }
-    ensures err { OnErr result (Spilled Instruction-F.ClearTransactStatus (machine r.old (H.part h.old)) (machine r.new (H.part h.new))) }
+    ensures ok { IfOk result (λ answer. Ran Instruction-F.ClearTransactStatus
+        (machine r.old (H.part h.old)) answer (machine r.new (H.part h.new))) }
+    ensures err { OnErr result (Spilled Instruction-F.ClearTransactStatus
+        (machine r.old (H.part h.old)) (machine r.new (H.part h.new))) }
 {
     r.status = MaybeError::Success;
     Ok(Ok(()))
@@ -41,9 +45,12 @@ pub fn set_fees_mode<H: Host>(
     h: &mut H,
     jit_withdraw: bool,
 ) -> Result<Result<(), XcmError>, AllocError>
-    requires ready { IsReadyFor (Instruction-F.SetFeesMode jit_withdraw) (machine r.old (H.part h.old)) }
-    ensures ok { IfOk result (λ answer. Ran (Instruction-F.SetFeesMode jit_withdraw) (machine r.old (H.part h.old)) answer (machine r.new (H.part h.new))) }
-    ensures err { OnErr result (Spilled (Instruction-F.SetFeesMode jit_withdraw) (machine r.old (H.part h.old)) (machine r.new (H.part h.new))) }
+    requires ready { IsReadyFor (Instruction-F.SetFeesMode jit_withdraw)
+        (machine r.old (H.part h.old)) }
+    ensures ok { IfOk result (λ answer. Ran (Instruction-F.SetFeesMode jit_withdraw)
+        (machine r.old (H.part h.old)) answer (machine r.new (H.part h.new))) }
+    ensures err { OnErr result (Spilled (Instruction-F.SetFeesMode jit_withdraw)
+        (machine r.old (H.part h.old)) (machine r.new (H.part h.new))) }
 {
     r.fees_mode = jit_withdraw;
     Ok(Ok(()))
@@ -56,8 +63,10 @@ pub fn set_topic<H: Host>(
     topic: &[u8; 32],
 ) -> Result<Result<(), XcmError>, AllocError>
     requires ready { IsReadyFor (Instruction-F.SetTopic topic.now) (machine r.old (H.part h.old)) }
-    ensures ok { IfOk result (λ answer. Ran (Instruction-F.SetTopic topic.now) (machine r.old (H.part h.old)) answer (machine r.new (H.part h.new))) }
-    ensures err { OnErr result (Spilled (Instruction-F.SetTopic topic.now) (machine r.old (H.part h.old)) (machine r.new (H.part h.new))) }
+    ensures ok { IfOk result (λ answer. Ran (Instruction-F.SetTopic topic.now)
+        (machine r.old (H.part h.old)) answer (machine r.new (H.part h.new))) }
+    ensures err { OnErr result (Spilled (Instruction-F.SetTopic topic.now)
+        (machine r.old (H.part h.old)) (machine r.new (H.part h.new))) }
 {
     r.topic = Some(*topic);
     Ok(Ok(()))
@@ -69,8 +78,10 @@ pub fn clear_topic<H: Host>(
     h: &mut H,
 ) -> Result<Result<(), XcmError>, AllocError>
     requires ready { IsReadyFor Instruction-F.ClearTopic (machine r.old (H.part h.old)) }
-    ensures ok { IfOk result (λ answer. Ran Instruction-F.ClearTopic (machine r.old (H.part h.old)) answer (machine r.new (H.part h.new))) }
-    ensures err { OnErr result (Spilled Instruction-F.ClearTopic (machine r.old (H.part h.old)) (machine r.new (H.part h.new))) }
+    ensures ok { IfOk result (λ answer. Ran Instruction-F.ClearTopic (machine r.old (H.part h.old))
+        answer (machine r.new (H.part h.new))) }
+    ensures err { OnErr result (Spilled Instruction-F.ClearTopic (machine r.old (H.part h.old))
+        (machine r.new (H.part h.new))) }
 {
     r.topic = None;
     Ok(Ok(()))
@@ -83,8 +94,10 @@ pub fn trap<H: Host>(
     code: u64,
 ) -> Result<Result<(), XcmError>, AllocError>
     requires ready { IsReadyFor (Instruction-F.Trap code) (machine r.old (H.part h.old)) }
-    ensures ok { IfOk result (λ answer. Ran (Instruction-F.Trap code) (machine r.old (H.part h.old)) answer (machine r.new (H.part h.new))) }
-    ensures err { OnErr result (Spilled (Instruction-F.Trap code) (machine r.old (H.part h.old)) (machine r.new (H.part h.new))) }
+    ensures ok { IfOk result (λ answer. Ran (Instruction-F.Trap code) (machine r.old (H.part h.old))
+        answer (machine r.new (H.part h.new))) }
+    ensures err { OnErr result (Spilled (Instruction-F.Trap code) (machine r.old (H.part h.old))
+        (machine r.new (H.part h.new))) }
 {
     Ok(Err(XcmError::Trap(code)))
 }

@@ -20,9 +20,15 @@ pub fn hrmp_new_channel_open_request<H: Host>(
     max_message_size: u32,
     max_capacity: u32,
 ) -> Result<Result<(), XcmError>, AllocError>
-    requires ready { IsReadyFor (Instruction-F.HrmpNewChannelOpenRequest sender max_message_size max_capacity) (machine r.old (H.part h.old)) }
-    ensures ok { IfOk result (λ answer. Ran (Instruction-F.HrmpNewChannelOpenRequest sender max_message_size max_capacity) (machine r.old (H.part h.old)) answer (machine r.new (H.part h.new))) }
-    ensures err { OnErr result (Spilled (Instruction-F.HrmpNewChannelOpenRequest sender max_message_size max_capacity) (machine r.old (H.part h.old)) (machine r.new (H.part h.new))) }
+    requires ready { IsReadyFor (Instruction-F.HrmpNewChannelOpenRequest sender max_message_size
+        max_capacity) (machine r.old (H.part h.old)) }
+    ensures ok { IfOk result
+        (λ answer. Ran (Instruction-F.HrmpNewChannelOpenRequest sender max_message_size
+        max_capacity) (machine r.old (H.part h.old)) answer
+        (machine r.new (H.part h.new))) }
+    ensures err { OnErr result (Spilled (Instruction-F.HrmpNewChannelOpenRequest sender
+        max_message_size max_capacity) (machine r.old (H.part h.old))
+        (machine r.new (H.part h.new))) }
 {
     Ok(Err(XcmError::Unimplemented))
 }
@@ -33,9 +39,12 @@ pub fn hrmp_channel_accepted<H: Host>(
     h: &mut H,
     recipient: u32,
 ) -> Result<Result<(), XcmError>, AllocError>
-    requires ready { IsReadyFor (Instruction-F.HrmpChannelAccepted recipient) (machine r.old (H.part h.old)) }
-    ensures ok { IfOk result (λ answer. Ran (Instruction-F.HrmpChannelAccepted recipient) (machine r.old (H.part h.old)) answer (machine r.new (H.part h.new))) }
-    ensures err { OnErr result (Spilled (Instruction-F.HrmpChannelAccepted recipient) (machine r.old (H.part h.old)) (machine r.new (H.part h.new))) }
+    requires ready { IsReadyFor (Instruction-F.HrmpChannelAccepted recipient)
+        (machine r.old (H.part h.old)) }
+    ensures ok { IfOk result (λ answer. Ran (Instruction-F.HrmpChannelAccepted recipient)
+        (machine r.old (H.part h.old)) answer (machine r.new (H.part h.new))) }
+    ensures err { OnErr result (Spilled (Instruction-F.HrmpChannelAccepted recipient)
+        (machine r.old (H.part h.old)) (machine r.new (H.part h.new))) }
 {
     Ok(Err(XcmError::Unimplemented))
 }
@@ -48,9 +57,13 @@ pub fn hrmp_channel_closing<H: Host>(
     sender: u32,
     recipient: u32,
 ) -> Result<Result<(), XcmError>, AllocError>
-    requires ready { IsReadyFor (Instruction-F.HrmpChannelClosing initiator sender recipient) (machine r.old (H.part h.old)) }
-    ensures ok { IfOk result (λ answer. Ran (Instruction-F.HrmpChannelClosing initiator sender recipient) (machine r.old (H.part h.old)) answer (machine r.new (H.part h.new))) }
-    ensures err { OnErr result (Spilled (Instruction-F.HrmpChannelClosing initiator sender recipient) (machine r.old (H.part h.old)) (machine r.new (H.part h.new))) }
+    requires ready { IsReadyFor (Instruction-F.HrmpChannelClosing initiator sender recipient)
+        (machine r.old (H.part h.old)) }
+    ensures ok { IfOk result
+        (λ answer. Ran (Instruction-F.HrmpChannelClosing initiator sender recipient)
+        (machine r.old (H.part h.old)) answer (machine r.new (H.part h.new))) }
+    ensures err { OnErr result (Spilled (Instruction-F.HrmpChannelClosing initiator sender
+        recipient) (machine r.old (H.part h.old)) (machine r.new (H.part h.new))) }
 {
     Ok(Err(XcmError::Unimplemented))
 }
@@ -62,9 +75,14 @@ pub fn subscribe_version<H: Host>(
     query_id: u64,
     max_response_weight: Weight,
 ) -> Result<Result<(), XcmError>, AllocError>
-    requires ready { IsReadyFor (Instruction-F.SubscribeVersion query_id max_response_weight) (machine r.old (H.part h.old)) }
-    ensures ok { IfOk result (λ answer. Ran (Instruction-F.SubscribeVersion query_id max_response_weight) (machine r.old (H.part h.old)) answer (machine r.new (H.part h.new))) }
-    ensures err { OnErr result (Spilled (Instruction-F.SubscribeVersion query_id max_response_weight) (machine r.old (H.part h.old)) (machine r.new (H.part h.new))) }
+    requires ready { IsReadyFor (Instruction-F.SubscribeVersion query_id max_response_weight)
+        (machine r.old (H.part h.old)) }
+    ensures ok { IfOk result
+        (λ answer. Ran (Instruction-F.SubscribeVersion query_id max_response_weight)
+        (machine r.old (H.part h.old)) answer (machine r.new (H.part h.new))) }
+    ensures err { OnErr result (Spilled (Instruction-F.SubscribeVersion query_id
+        max_response_weight) (machine r.old (H.part h.old))
+        (machine r.new (H.part h.new))) }
 {
     if !is_original(r) {
         return Ok(Err(XcmError::BadOrigin));
@@ -78,8 +96,10 @@ pub fn unsubscribe_version<H: Host>(
     h: &mut H,
 ) -> Result<Result<(), XcmError>, AllocError>
     requires ready { IsReadyFor Instruction-F.UnsubscribeVersion (machine r.old (H.part h.old)) }
-    ensures ok { IfOk result (λ answer. Ran Instruction-F.UnsubscribeVersion (machine r.old (H.part h.old)) answer (machine r.new (H.part h.new))) }
-    ensures err { OnErr result (Spilled Instruction-F.UnsubscribeVersion (machine r.old (H.part h.old)) (machine r.new (H.part h.new))) }
+    ensures ok { IfOk result (λ answer. Ran Instruction-F.UnsubscribeVersion
+        (machine r.old (H.part h.old)) answer (machine r.new (H.part h.new))) }
+    ensures err { OnErr result (Spilled Instruction-F.UnsubscribeVersion
+        (machine r.old (H.part h.old)) (machine r.new (H.part h.new))) }
 {
     if !is_original(r) {
         return Ok(Err(XcmError::BadOrigin));
@@ -93,9 +113,12 @@ pub fn universal_origin<H: Host>(
     h: &mut H,
     junction: &Junction,
 ) -> Result<Result<(), XcmError>, AllocError>
-    requires ready { IsReadyFor (Instruction-F.UniversalOrigin junction.now) (machine r.old (H.part h.old)) }
-    ensures ok { IfOk result (λ answer. Ran (Instruction-F.UniversalOrigin junction.now) (machine r.old (H.part h.old)) answer (machine r.new (H.part h.new))) }
-    ensures err { OnErr result (Spilled (Instruction-F.UniversalOrigin junction.now) (machine r.old (H.part h.old)) (machine r.new (H.part h.new))) }
+    requires ready { IsReadyFor (Instruction-F.UniversalOrigin junction.now)
+        (machine r.old (H.part h.old)) }
+    ensures ok { IfOk result (λ answer. Ran (Instruction-F.UniversalOrigin junction.now)
+        (machine r.old (H.part h.old)) answer (machine r.new (H.part h.new))) }
+    ensures err { OnErr result (Spilled (Instruction-F.UniversalOrigin junction.now)
+        (machine r.old (H.part h.old)) (machine r.new (H.part h.new))) }
 {
     if is_own_network(h.site(), junction) {
         return Ok(Err(XcmError::InvalidLocation));
@@ -114,9 +137,12 @@ pub fn export_message<H: Host>(
     destination: &Junctions,
     xcm: &Program,
 ) -> Result<Result<(), XcmError>, AllocError>
-    requires ready { IsReadyFor (Instruction-F.ExportMessage network.now destination.now xcm.now) (machine r.old (H.part h.old)) }
-    ensures ok { IfOk result (λ answer. Ran (Instruction-F.ExportMessage network.now destination.now xcm.now) (machine r.old (H.part h.old)) answer (machine r.new (H.part h.new))) }
-    ensures err { OnErr result (Spilled (Instruction-F.ExportMessage network.now destination.now xcm.now) (machine r.old (H.part h.old)) (machine r.new (H.part h.new))) }
+    requires ready { IsReadyFor (Instruction-F.ExportMessage network.now destination.now xcm.now)
+        (machine r.old (H.part h.old)) }
+    ensures ok { IfOk result (λ answer. Ran (Instruction-F.ExportMessage network.now destination.now
+        xcm.now) (machine r.old (H.part h.old)) answer (machine r.new (H.part h.new))) }
+    ensures err { OnErr result (Spilled (Instruction-F.ExportMessage network.now destination.now
+        xcm.now) (machine r.old (H.part h.old)) (machine r.new (H.part h.new))) }
 {
     if r.origin.is_none() {
         return Ok(Err(XcmError::BadOrigin));
@@ -130,9 +156,12 @@ pub fn alias_origin<H: Host>(
     h: &mut H,
     target: &Location,
 ) -> Result<Result<(), XcmError>, AllocError>
-    requires ready { IsReadyFor (Instruction-F.AliasOrigin target.now) (machine r.old (H.part h.old)) }
-    ensures ok { IfOk result (λ answer. Ran (Instruction-F.AliasOrigin target.now) (machine r.old (H.part h.old)) answer (machine r.new (H.part h.new))) }
-    ensures err { OnErr result (Spilled (Instruction-F.AliasOrigin target.now) (machine r.old (H.part h.old)) (machine r.new (H.part h.new))) }
+    requires ready { IsReadyFor (Instruction-F.AliasOrigin target.now)
+        (machine r.old (H.part h.old)) }
+    ensures ok { IfOk result (λ answer. Ran (Instruction-F.AliasOrigin target.now)
+        (machine r.old (H.part h.old)) answer (machine r.new (H.part h.new))) }
+    ensures err { OnErr result (Spilled (Instruction-F.AliasOrigin target.now)
+        (machine r.old (H.part h.old)) (machine r.new (H.part h.new))) }
 {
     if r.origin.is_none() {
         return Ok(Err(XcmError::BadOrigin));

@@ -24,7 +24,8 @@ pub fn charge<H: Host>(
     requires price { IsPrice fee.now }
     requires fee { IsFeeOf (H.part h.old) (payment_of fee.now) }
     requires slot { (H.part h.old).fee_slot ≡ empty }
-    ensures ok { IfOk result (λ answer. Charged fee.now (machine r.old (H.part h.old)) answer (machine r.new (H.part h.new))) }
+    ensures ok { IfOk result (λ answer. Charged fee.now (machine r.old (H.part h.old)) answer
+        (machine r.new (H.part h.new))) }
     ensures err { OnErr result (machine r.new (H.part h.new) ≡ machine r.old (H.part h.old)) }
 {
     if r.fees_mode {
@@ -50,8 +51,10 @@ pub fn charge<H: Host>(
 /// Puts the fee in the slot back to where it came from, behind a refusal, or parks it where memory is refused.
 pub fn give_back<H: Host>(r: &mut Registers, h: &mut H) -> Result<(), AllocError>
     requires refundable { IsRefundable (machine r.old (H.part h.old)) }
-    ensures ok { OnOk result (machine r.new (H.part h.new) ≡ fee_returned (machine r.old (H.part h.old))) }
-    ensures err { OnErr result (machine r.new (H.part h.new) ≡ fee_parked (machine r.old (H.part h.old))) }
+    ensures ok { OnOk result (machine r.new (H.part h.new)
+        ≡ fee_returned (machine r.old (H.part h.old))) }
+    ensures err { OnErr result (machine r.new (H.part h.new)
+        ≡ fee_parked (machine r.old (H.part h.old))) }
 {
     let goods = h.take_fee();
     if !r.fees_mode {
@@ -79,7 +82,8 @@ pub fn begin_sending<H: Host>(
     dest: &Location,
 ) -> Result<Result<bool, XcmError>, AllocError>
     requires slot { (H.part h.old).fee_slot ≡ empty }
-    ensures ok { IfOk result (λ answer. Begins (fee_to (H.part h.old) dest.now) (machine r.old (H.part h.old)) answer (machine r.new (H.part h.new))) }
+    ensures ok { IfOk result (λ answer. Begins (fee_to (H.part h.old) dest.now)
+        (machine r.old (H.part h.old)) answer (machine r.new (H.part h.new))) }
     ensures err { OnErr result (machine r.new (H.part h.new) ≡ machine r.old (H.part h.old)) }
 {
     let Some(fee) = h.fee_of(dest) else {
@@ -99,7 +103,8 @@ pub fn end_sending<H: Host>(
     answer: Result<(), XcmError>,
 ) -> Result<Result<(), XcmError>, AllocError>
     requires can { CanEnd charged answer (machine r.old (H.part h.old)) }
-    ensures { Ends charged answer (machine r.old (H.part h.old)) result (machine r.new (H.part h.new)) }
+    ensures { Ends charged answer (machine r.old (H.part h.old)) result
+        (machine r.new (H.part h.new)) }
 {
     if !charged {
         return Ok(answer);

@@ -8,5 +8,6 @@ ghost use Rattle.exec_rules.specs.Instructions.{refusal_of};
 
 /// Seventeen instructions are refused by BadOrigin where the origin register is empty, whatever else would refuse them.
 pub fn law_of_origins()
-    ensures empty { (x : Instruction) (m : Machine) → IsTrue (needs_origin (out-Instruction x)) → m.regs.origin ≡ None → refusal_of x m ≡ Some BadOrigin }
+    ensures empty { (x : Instruction) (m : Machine) → IsTrue (needs_origin (out-Instruction x))
+        → m.regs.origin ≡ None → refusal_of x m ≡ Some BadOrigin }
 {}

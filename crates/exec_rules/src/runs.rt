@@ -14,14 +14,21 @@ ghost use Rattle.exec_rules.specs.Keeping.{LeavesAll, IsAheadOf};
 /// the surplus, and the next instruction may be taken. A refused instruction changes no
 /// register but the error, the surplus and those of the handler and the appendix, and nothing of the chain but what is told.
 pub fn law_of_runs()
-    ensures once { (rules : Rules) (g : Stage) → IsOrderly rules → IsUnderWay g → 1 + still_to_run (next rules g) ≤ still_to_run g }
+    ensures once { (rules : Rules) (g : Stage)
+        → IsOrderly rules → IsUnderWay g → 1 + still_to_run (next rules g) ≤ still_to_run g }
     ensures ends { (rules : Rules) (g : Stage) → IsOrderly rules → IsEnd (run rules g) }
-    ensures same { (rules : Rules) (g h : Stage) → IsOrderly rules → Reaches rules g h → run rules g ≡ run rules h }
-    ensures accounts { (rules : Rules) (most : Weight) (g h : Stage) → IsOrderly rules → Reaches rules g h → IsBalanced most g → KeepsAccounts most (machine_of h).regs }
-    ensures affordable { (rules : Rules) (most : Weight) (g : Stage) (part : Part) (place : ℕ) (x : Instruction) (behind : List Instruction) (m : Machine)
-        → IsOrderly rules → Reaches rules g (At part place x behind m) → IsBalanced most g → IsAffordable x m.regs }
-    ensures refused { (rules : Rules) (part : Part) (place : ℕ) (x : Instruction) (behind : List Instruction) (m : Machine) (e : XcmError)
-        → rules.refusal_of x m ≡ Some e → LeavesAll m (machine_of (next rules (At part place x behind m))) }
+    ensures same { (rules : Rules) (g h : Stage)
+        → IsOrderly rules → Reaches rules g h → run rules g ≡ run rules h }
+    ensures accounts { (rules : Rules) (most : Weight) (g h : Stage) → IsOrderly rules
+        → Reaches rules g h → IsBalanced most g → KeepsAccounts most (machine_of h).regs }
+    ensures affordable { (rules : Rules) (most : Weight) (g : Stage) (part : Part) (place : ℕ)
+        (x : Instruction) (behind : List Instruction) (m : Machine)
+        → IsOrderly rules → Reaches rules g (At part place x behind m)
+        → IsBalanced most g → IsAffordable x m.regs }
+    ensures refused { (rules : Rules) (part : Part) (place : ℕ) (x : Instruction)
+        (behind : List Instruction) (m : Machine) (e : XcmError)
+        → rules.refusal_of x m ≡ Some e
+        → LeavesAll m (machine_of (next rules (At part place x behind m))) }
 {}
 
 /// A relation between machines that each step of a run keeps, where its instructions, and those that they keep, are of one kind.
@@ -53,5 +60,6 @@ pub trait KeptByRuns {
 /// are of the same kind.
 pub fn law_of_kept_relations<K: KeptByRuns>()
     ensures ahead { (g h : Stage) → IsAheadOf K.kind g → Reaches K.rules g h → IsAheadOf K.kind h }
-    ensures reached { (most : Weight) (g h : Stage) → IsBalanced most g → IsAheadOf K.kind g → Reaches K.rules g h → K.relation (machine_of g) (machine_of h) }
+    ensures reached { (most : Weight) (g h : Stage) → IsBalanced most g
+        → IsAheadOf K.kind g → Reaches K.rules g h → K.relation (machine_of g) (machine_of h) }
 {}

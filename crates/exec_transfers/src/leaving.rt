@@ -31,7 +31,10 @@ fn transfer_out<H: Host>(
     xcm: &Program,
 ) -> Result<Result<(), XcmError>, AllocError>
     requires forwardable { IsForwardable xcm.now }
-    ensures ok { IfOk result (λ answer. RanTo (transfer_out_refusal (H.part h.old) assets.now from.now dest.now xcm.now) (machine r.old (transferred_out (H.part h.old) assets.now from.now dest.now xcm.now)) (machine r.old (H.part h.old)) answer (machine r.new (H.part h.new))) }
+    ensures ok { IfOk result
+        (λ answer. RanTo (transfer_out_refusal (H.part h.old) assets.now from.now dest.now xcm.now)
+        (machine r.old (transferred_out (H.part h.old) assets.now from.now dest.now xcm.now))
+        (machine r.old (H.part h.old)) answer (machine r.new (H.part h.new))) }
     ensures err { OnErr result (machine r.new (H.part h.new) ≡ machine r.old (H.part h.old)) }
 {
     match h.transfer_out(assets, from, dest, xcm) {
@@ -49,9 +52,12 @@ pub fn transfer_reserve_asset<H: Host>(
     dest: &Location,
     xcm: &Program,
 ) -> Result<Result<(), XcmError>, AllocError>
-    requires ready { IsReadyFor (Instruction-F.TransferReserveAsset assets.now dest.now xcm.now) (machine r.old (H.part h.old)) }
-    ensures ok { IfOk result (λ answer. Ran (Instruction-F.TransferReserveAsset assets.now dest.now xcm.now) (machine r.old (H.part h.old)) answer (machine r.new (H.part h.new))) }
-    ensures err { OnErr result (Spilled (Instruction-F.TransferReserveAsset assets.now dest.now xcm.now) (machine r.old (H.part h.old)) (machine r.new (H.part h.new))) }
+    requires ready { IsReadyFor (Instruction-F.TransferReserveAsset assets.now dest.now xcm.now)
+        (machine r.old (H.part h.old)) }
+    ensures ok { IfOk result (λ answer. Ran (Instruction-F.TransferReserveAsset assets.now dest.now
+        xcm.now) (machine r.old (H.part h.old)) answer (machine r.new (H.part h.new))) }
+    ensures err { OnErr result (Spilled (Instruction-F.TransferReserveAsset assets.now dest.now
+        xcm.now) (machine r.old (H.part h.old)) (machine r.new (H.part h.new))) }
 {
     let Some(who) = &r.origin else {
         return Ok(Err(XcmError::BadOrigin));
@@ -76,8 +82,13 @@ fn deposit_out<H: Host>(
 ) -> Result<Result<(), XcmError>, AllocError>
     requires unparked { (H.part h.old).parked ≡ [] }
     requires forwardable { IsForwardable xcm.now }
-    ensures ok { IfOk result (λ answer. RanTo (deposit_out_refusal (H.part h.old) (Taken assets.now r.old.holding) dest.now xcm.now) (holding_left (machine r.old (H.part h.old)) assets.now (deposited_out (H.part h.old) (Taken assets.now r.old.holding) dest.now xcm.now)) (machine r.old (H.part h.old)) answer (machine r.new (H.part h.new))) }
-    ensures err { OnErr result ((machine r.new (H.part h.new) ≡ machine r.old (H.part h.old)) ⊎ NotPutBack (machine r.old (H.part h.old)) assets.now (machine r.new (H.part h.new))) }
+    ensures ok { IfOk result
+        (λ answer. RanTo (deposit_out_refusal (H.part h.old) (Taken assets.now r.old.holding)
+        dest.now xcm.now) (holding_left (machine r.old (H.part h.old)) assets.now
+        (deposited_out (H.part h.old) (Taken assets.now r.old.holding) dest.now xcm.now))
+        (machine r.old (H.part h.old)) answer (machine r.new (H.part h.new))) }
+    ensures err { OnErr result ((machine r.new (H.part h.new) ≡ machine r.old (H.part h.old))
+        ⊎ NotPutBack (machine r.old (H.part h.old)) assets.now (machine r.new (H.part h.new))) }
 {
     let goods = r.holding.take(assets)?;
     match h.deposit_out(goods, dest, xcm) {
@@ -98,9 +109,13 @@ pub fn deposit_reserve_asset<H: Host>(
     dest: &Location,
     xcm: &Program,
 ) -> Result<Result<(), XcmError>, AllocError>
-    requires ready { IsReadyFor (Instruction-F.DepositReserveAsset assets.now dest.now xcm.now) (machine r.old (H.part h.old)) }
-    ensures ok { IfOk result (λ answer. Ran (Instruction-F.DepositReserveAsset assets.now dest.now xcm.now) (machine r.old (H.part h.old)) answer (machine r.new (H.part h.new))) }
-    ensures err { OnErr result (Spilled (Instruction-F.DepositReserveAsset assets.now dest.now xcm.now) (machine r.old (H.part h.old)) (machine r.new (H.part h.new))) }
+    requires ready { IsReadyFor (Instruction-F.DepositReserveAsset assets.now dest.now xcm.now)
+        (machine r.old (H.part h.old)) }
+    ensures ok { IfOk result
+        (λ answer. Ran (Instruction-F.DepositReserveAsset assets.now dest.now xcm.now)
+        (machine r.old (H.part h.old)) answer (machine r.new (H.part h.new))) }
+    ensures err { OnErr result (Spilled (Instruction-F.DepositReserveAsset assets.now dest.now
+        xcm.now) (machine r.old (H.part h.old)) (machine r.new (H.part h.new))) }
 {
     match begin_sending(alloc, r, h, dest)? {
         Ok(charged) => {
@@ -122,8 +137,13 @@ fn ship_out<H: Host>(
 ) -> Result<Result<(), XcmError>, AllocError>
     requires unparked { (H.part h.old).parked ≡ [] }
     requires forwardable { IsForwardable xcm.now }
-    ensures ok { IfOk result (λ answer. RanTo (ship_refusal (H.part h.old) (Taken assets.now r.old.holding) way dest.now xcm.now) (holding_left (machine r.old (H.part h.old)) assets.now (shipped (H.part h.old) (Taken assets.now r.old.holding) way dest.now xcm.now)) (machine r.old (H.part h.old)) answer (machine r.new (H.part h.new))) }
-    ensures err { OnErr result ((machine r.new (H.part h.new) ≡ machine r.old (H.part h.old)) ⊎ NotPutBack (machine r.old (H.part h.old)) assets.now (machine r.new (H.part h.new))) }
+    ensures ok { IfOk result
+        (λ answer. RanTo (ship_refusal (H.part h.old) (Taken assets.now r.old.holding) way dest.now
+        xcm.now) (holding_left (machine r.old (H.part h.old)) assets.now
+        (shipped (H.part h.old) (Taken assets.now r.old.holding) way dest.now xcm.now))
+        (machine r.old (H.part h.old)) answer (machine r.new (H.part h.new))) }
+    ensures err { OnErr result ((machine r.new (H.part h.new) ≡ machine r.old (H.part h.old))
+        ⊎ NotPutBack (machine r.old (H.part h.old)) assets.now (machine r.new (H.part h.new))) }
 {
     let goods = r.holding.take(assets)?;
     match h.ship_out(goods, way, dest, xcm) {
@@ -145,9 +165,12 @@ fn send_away<H: Host>(
     dest: &Location,
     xcm: &Program,
 ) -> Result<Result<(), XcmError>, AllocError>
-    requires ready { IsReadyFor (leaving way assets.now dest.now xcm.now) (machine r.old (H.part h.old)) }
-    ensures ok { IfOk result (λ answer. Ran (leaving way assets.now dest.now xcm.now) (machine r.old (H.part h.old)) answer (machine r.new (H.part h.new))) }
-    ensures err { OnErr result (Spilled (leaving way assets.now dest.now xcm.now) (machine r.old (H.part h.old)) (machine r.new (H.part h.new))) }
+    requires ready { IsReadyFor (leaving way assets.now dest.now xcm.now)
+        (machine r.old (H.part h.old)) }
+    ensures ok { IfOk result (λ answer. Ran (leaving way assets.now dest.now xcm.now)
+        (machine r.old (H.part h.old)) answer (machine r.new (H.part h.new))) }
+    ensures err { OnErr result (Spilled (leaving way assets.now dest.now xcm.now)
+        (machine r.old (H.part h.old)) (machine r.new (H.part h.new))) }
 {
     match begin_sending(alloc, r, h, dest)? {
         Ok(charged) => {
@@ -167,9 +190,14 @@ pub fn initiate_reserve_withdraw<H: Host>(
     reserve: &Location,
     xcm: &Program,
 ) -> Result<Result<(), XcmError>, AllocError>
-    requires ready { IsReadyFor (Instruction-F.InitiateReserveWithdraw assets.now reserve.now xcm.now) (machine r.old (H.part h.old)) }
-    ensures ok { IfOk result (λ answer. Ran (Instruction-F.InitiateReserveWithdraw assets.now reserve.now xcm.now) (machine r.old (H.part h.old)) answer (machine r.new (H.part h.new))) }
-    ensures err { OnErr result (Spilled (Instruction-F.InitiateReserveWithdraw assets.now reserve.now xcm.now) (machine r.old (H.part h.old)) (machine r.new (H.part h.new))) }
+    requires ready { IsReadyFor (Instruction-F.InitiateReserveWithdraw assets.now reserve.now
+        xcm.now) (machine r.old (H.part h.old)) }
+    ensures ok { IfOk result
+        (λ answer. Ran (Instruction-F.InitiateReserveWithdraw assets.now reserve.now xcm.now)
+        (machine r.old (H.part h.old)) answer (machine r.new (H.part h.new))) }
+    ensures err { OnErr result (Spilled (Instruction-F.InitiateReserveWithdraw assets.now
+        reserve.now xcm.now) (machine r.old (H.part h.old))
+        (machine r.new (H.part h.new))) }
 {
     send_away(alloc, r, h, Way::Withdrawal, assets, reserve, xcm)
 }
@@ -183,9 +211,13 @@ pub fn initiate_teleport<H: Host>(
     dest: &Location,
     xcm: &Program,
 ) -> Result<Result<(), XcmError>, AllocError>
-    requires ready { IsReadyFor (Instruction-F.InitiateTeleport assets.now dest.now xcm.now) (machine r.old (H.part h.old)) }
-    ensures ok { IfOk result (λ answer. Ran (Instruction-F.InitiateTeleport assets.now dest.now xcm.now) (machine r.old (H.part h.old)) answer (machine r.new (H.part h.new))) }
-    ensures err { OnErr result (Spilled (Instruction-F.InitiateTeleport assets.now dest.now xcm.now) (machine r.old (H.part h.old)) (machine r.new (H.part h.new))) }
+    requires ready { IsReadyFor (Instruction-F.InitiateTeleport assets.now dest.now xcm.now)
+        (machine r.old (H.part h.old)) }
+    ensures ok { IfOk result
+        (λ answer. Ran (Instruction-F.InitiateTeleport assets.now dest.now xcm.now)
+        (machine r.old (H.part h.old)) answer (machine r.new (H.part h.new))) }
+    ensures err { OnErr result (Spilled (Instruction-F.InitiateTeleport assets.now dest.now xcm.now)
+        (machine r.old (H.part h.old)) (machine r.new (H.part h.new))) }
 {
     send_away(alloc, r, h, Way::Teleport, assets, dest, xcm)
 }

@@ -24,8 +24,12 @@ fn lock<H: Host>(
     owner: &Location,
     unlocker: &Location,
 ) -> Result<Result<(), XcmError>, AllocError>
-    requires forwardable { IsForwardable (roll-Instruction (Instruction-F.LockAsset asset.now unlocker.now) ∷ []) }
-    ensures ok { IfOk result (λ answer. RanTo (lock_refusal (H.part h.old) asset.now owner.now unlocker.now) (machine r.old (asset_locked (H.part h.old) asset.now owner.now unlocker.now)) (machine r.old (H.part h.old)) answer (machine r.new (H.part h.new))) }
+    requires forwardable { IsForwardable
+        (roll-Instruction (Instruction-F.LockAsset asset.now unlocker.now) ∷ []) }
+    ensures ok { IfOk result
+        (λ answer. RanTo (lock_refusal (H.part h.old) asset.now owner.now unlocker.now)
+        (machine r.old (asset_locked (H.part h.old) asset.now owner.now unlocker.now))
+        (machine r.old (H.part h.old)) answer (machine r.new (H.part h.new))) }
     ensures err { OnErr result (machine r.new (H.part h.new) ≡ machine r.old (H.part h.old)) }
 {
     match h.lock(asset, owner, unlocker) {
@@ -42,9 +46,12 @@ pub fn lock_asset<H: Host>(
     asset: &Asset,
     unlocker: &Location,
 ) -> Result<Result<(), XcmError>, AllocError>
-    requires ready { IsReadyFor (Instruction-F.LockAsset asset.now unlocker.now) (machine r.old (H.part h.old)) }
-    ensures ok { IfOk result (λ answer. Ran (Instruction-F.LockAsset asset.now unlocker.now) (machine r.old (H.part h.old)) answer (machine r.new (H.part h.new))) }
-    ensures err { OnErr result (Spilled (Instruction-F.LockAsset asset.now unlocker.now) (machine r.old (H.part h.old)) (machine r.new (H.part h.new))) }
+    requires ready { IsReadyFor (Instruction-F.LockAsset asset.now unlocker.now)
+        (machine r.old (H.part h.old)) }
+    ensures ok { IfOk result (λ answer. Ran (Instruction-F.LockAsset asset.now unlocker.now)
+        (machine r.old (H.part h.old)) answer (machine r.new (H.part h.new))) }
+    ensures err { OnErr result (Spilled (Instruction-F.LockAsset asset.now unlocker.now)
+        (machine r.old (H.part h.old)) (machine r.new (H.part h.new))) }
 {
     let Some(who) = &r.origin else {
         return Ok(Err(XcmError::BadOrigin));
@@ -70,8 +77,12 @@ fn request<H: Host>(
     owner: &Location,
     locker: &Location,
 ) -> Result<Result<(), XcmError>, AllocError>
-    requires forwardable { IsForwardable (roll-Instruction (Instruction-F.RequestUnlock asset.now locker.now) ∷ []) }
-    ensures ok { IfOk result (λ answer. RanTo (request_refusal (H.part h.old) asset.now owner.now locker.now) (machine r.old (asset_requested (H.part h.old) asset.now owner.now locker.now)) (machine r.old (H.part h.old)) answer (machine r.new (H.part h.new))) }
+    requires forwardable { IsForwardable
+        (roll-Instruction (Instruction-F.RequestUnlock asset.now locker.now) ∷ []) }
+    ensures ok { IfOk result
+        (λ answer. RanTo (request_refusal (H.part h.old) asset.now owner.now locker.now)
+        (machine r.old (asset_requested (H.part h.old) asset.now owner.now locker.now))
+        (machine r.old (H.part h.old)) answer (machine r.new (H.part h.new))) }
     ensures err { OnErr result (machine r.new (H.part h.new) ≡ machine r.old (H.part h.old)) }
 {
     match h.request(asset, owner, locker) {
@@ -88,9 +99,12 @@ pub fn request_unlock<H: Host>(
     asset: &Asset,
     locker: &Location,
 ) -> Result<Result<(), XcmError>, AllocError>
-    requires ready { IsReadyFor (Instruction-F.RequestUnlock asset.now locker.now) (machine r.old (H.part h.old)) }
-    ensures ok { IfOk result (λ answer. Ran (Instruction-F.RequestUnlock asset.now locker.now) (machine r.old (H.part h.old)) answer (machine r.new (H.part h.new))) }
-    ensures err { OnErr result (Spilled (Instruction-F.RequestUnlock asset.now locker.now) (machine r.old (H.part h.old)) (machine r.new (H.part h.new))) }
+    requires ready { IsReadyFor (Instruction-F.RequestUnlock asset.now locker.now)
+        (machine r.old (H.part h.old)) }
+    ensures ok { IfOk result (λ answer. Ran (Instruction-F.RequestUnlock asset.now locker.now)
+        (machine r.old (H.part h.old)) answer (machine r.new (H.part h.new))) }
+    ensures err { OnErr result (Spilled (Instruction-F.RequestUnlock asset.now locker.now)
+        (machine r.old (H.part h.old)) (machine r.new (H.part h.new))) }
 {
     let Some(who) = &r.origin else {
         return Ok(Err(XcmError::BadOrigin));

@@ -47,7 +47,8 @@ pub(crate) fn named_list(
     context: &Junctions,
 ) -> Result<Option<Vec<Asset>>, AllocError>
     requires some { has_zero items.now ≡ false }
-    ensures { IfOk result (λ named. TellsList (named_list target.now context.now items.now) (option_map (λ list. list.items) named)) }
+    ensures { IfOk result (λ named. TellsList (named_list target.now context.now items.now)
+        (option_map (λ list. list.items) named)) }
 {
     let mut named = named_assets(alloc, items, target, context)?;
     named.sort_unstable();

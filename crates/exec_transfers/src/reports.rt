@@ -27,7 +27,10 @@ fn report<H: Host>(
     response: Response,
 ) -> Result<Result<(), XcmError>, AllocError>
     requires forwardable { IsForwardable (report_program info.now response r.old.origin) }
-    ensures ok { IfOk result (λ answer. RanTo (report_refused (machine r.old (H.part h.old)) info.now response) (report_done (machine r.old (H.part h.old)) info.now response) (machine r.old (H.part h.old)) answer (machine r.new (H.part h.new))) }
+    ensures ok { IfOk result
+        (λ answer. RanTo (report_refused (machine r.old (H.part h.old)) info.now response)
+        (report_done (machine r.old (H.part h.old)) info.now response)
+        (machine r.old (H.part h.old)) answer (machine r.new (H.part h.new))) }
     ensures err { OnErr result (machine r.new (H.part h.new) ≡ machine r.old (H.part h.old)) }
 {
     match h.respond(info, response, r.origin.as_ref()) {
@@ -43,9 +46,12 @@ pub fn report_error<H: Host>(
     h: &mut H,
     info: &QueryInfo,
 ) -> Result<Result<(), XcmError>, AllocError>
-    requires ready { IsReadyFor (Instruction-F.ReportError info.now) (machine r.old (H.part h.old)) }
-    ensures ok { IfOk result (λ answer. Ran (Instruction-F.ReportError info.now) (machine r.old (H.part h.old)) answer (machine r.new (H.part h.new))) }
-    ensures err { OnErr result (Spilled (Instruction-F.ReportError info.now) (machine r.old (H.part h.old)) (machine r.new (H.part h.new))) }
+    requires ready { IsReadyFor (Instruction-F.ReportError info.now)
+        (machine r.old (H.part h.old)) }
+    ensures ok { IfOk result (λ answer. Ran (Instruction-F.ReportError info.now)
+        (machine r.old (H.part h.old)) answer (machine r.new (H.part h.new))) }
+    ensures err { OnErr result (Spilled (Instruction-F.ReportError info.now)
+        (machine r.old (H.part h.old)) (machine r.new (H.part h.new))) }
 {
     match begin_sending(alloc, r, h, &info.destination)? {
         Ok(charged) => {
@@ -64,9 +70,12 @@ pub fn report_transact_status<H: Host>(
     h: &mut H,
     info: &QueryInfo,
 ) -> Result<Result<(), XcmError>, AllocError>
-    requires ready { IsReadyFor (Instruction-F.ReportTransactStatus info.now) (machine r.old (H.part h.old)) }
-    ensures ok { IfOk result (λ answer. Ran (Instruction-F.ReportTransactStatus info.now) (machine r.old (H.part h.old)) answer (machine r.new (H.part h.new))) }
-    ensures err { OnErr result (Spilled (Instruction-F.ReportTransactStatus info.now) (machine r.old (H.part h.old)) (machine r.new (H.part h.new))) }
+    requires ready { IsReadyFor (Instruction-F.ReportTransactStatus info.now)
+        (machine r.old (H.part h.old)) }
+    ensures ok { IfOk result (λ answer. Ran (Instruction-F.ReportTransactStatus info.now)
+        (machine r.old (H.part h.old)) answer (machine r.new (H.part h.new))) }
+    ensures err { OnErr result (Spilled (Instruction-F.ReportTransactStatus info.now)
+        (machine r.old (H.part h.old)) (machine r.new (H.part h.new))) }
 {
     match begin_sending(alloc, r, h, &info.destination)? {
         Ok(charged) => {
@@ -101,7 +110,10 @@ fn report_assets<H: Host>(
     named: Vec<Asset>,
 ) -> Result<Result<(), XcmError>, AllocError>
     requires tellable { IsTellable named.items }
-    ensures ok { IfOk result (λ answer. RanTo (holding_report_refused (machine r.old (H.part h.old)) info.now (Some named.items)) (holding_report_done (machine r.old (H.part h.old)) info.now (Some named.items)) (machine r.old (H.part h.old)) answer (machine r.new (H.part h.new))) }
+    ensures ok { IfOk result (λ answer. RanTo (holding_report_refused (machine r.old (H.part h.old))
+        info.now (Some named.items)) (holding_report_done (machine r.old (H.part h.old))
+        info.now (Some named.items)) (machine r.old (H.part h.old)) answer
+        (machine r.new (H.part h.new))) }
     ensures err { OnErr result (machine r.new (H.part h.new) ≡ machine r.old (H.part h.old)) }
 {
     if named.len() > MAX_ASSETS {
@@ -121,7 +133,8 @@ fn told_list<H: Host>(
     info: &QueryInfo,
     assets: &Filter,
 ) -> Result<Option<Vec<Asset>>, AllocError>
-    ensures { IfOk result (λ named. TellsList (reported_list (machine r.now (H.part h.now)) info.now assets.now) (option_map (λ list. list.items) named)) }
+    ensures { IfOk result (λ named. TellsList (reported_list (machine r.now (H.part h.now)) info.now
+        assets.now) (option_map (λ list. list.items) named)) }
 {
     let held = r.holding.min(assets)?;
     let context = h.site().path();
@@ -137,7 +150,11 @@ fn report_held<H: Host>(
     info: &QueryInfo,
     assets: &Filter,
 ) -> Result<Result<(), XcmError>, AllocError>
-    ensures ok { IfOk result (λ answer. RanTo (holding_report_refused (machine r.old (H.part h.old)) info.now (reported_list (machine r.old (H.part h.old)) info.now assets.now)) (holding_report_done (machine r.old (H.part h.old)) info.now (reported_list (machine r.old (H.part h.old)) info.now assets.now)) (machine r.old (H.part h.old)) answer (machine r.new (H.part h.new))) }
+    ensures ok { IfOk result (λ answer. RanTo (holding_report_refused (machine r.old (H.part h.old))
+        info.now (reported_list (machine r.old (H.part h.old)) info.now assets.now))
+        (holding_report_done (machine r.old (H.part h.old)) info.now
+        (reported_list (machine r.old (H.part h.old)) info.now assets.now))
+        (machine r.old (H.part h.old)) answer (machine r.new (H.part h.new))) }
     ensures err { OnErr result (machine r.new (H.part h.new) ≡ machine r.old (H.part h.old)) }
 {
     match told_list(alloc, r, h, info, assets)? {
@@ -154,9 +171,12 @@ pub fn report_holding<H: Host>(
     info: &QueryInfo,
     assets: &Filter,
 ) -> Result<Result<(), XcmError>, AllocError>
-    requires ready { IsReadyFor (Instruction-F.ReportHolding info.now assets.now) (machine r.old (H.part h.old)) }
-    ensures ok { IfOk result (λ answer. Ran (Instruction-F.ReportHolding info.now assets.now) (machine r.old (H.part h.old)) answer (machine r.new (H.part h.new))) }
-    ensures err { OnErr result (Spilled (Instruction-F.ReportHolding info.now assets.now) (machine r.old (H.part h.old)) (machine r.new (H.part h.new))) }
+    requires ready { IsReadyFor (Instruction-F.ReportHolding info.now assets.now)
+        (machine r.old (H.part h.old)) }
+    ensures ok { IfOk result (λ answer. Ran (Instruction-F.ReportHolding info.now assets.now)
+        (machine r.old (H.part h.old)) answer (machine r.new (H.part h.new))) }
+    ensures err { OnErr result (Spilled (Instruction-F.ReportHolding info.now assets.now)
+        (machine r.old (H.part h.old)) (machine r.new (H.part h.new))) }
 {
     match begin_sending(alloc, r, h, &info.destination)? {
         Ok(charged) => {
@@ -175,9 +195,12 @@ pub fn query_pallet<H: Host>(
     module_name: &LongBytes,
     info: &QueryInfo,
 ) -> Result<Result<(), XcmError>, AllocError>
-    requires ready { IsReadyFor (Instruction-F.QueryPallet module_name.now info.now) (machine r.old (H.part h.old)) }
-    ensures ok { IfOk result (λ answer. Ran (Instruction-F.QueryPallet module_name.now info.now) (machine r.old (H.part h.old)) answer (machine r.new (H.part h.new))) }
-    ensures err { OnErr result (Spilled (Instruction-F.QueryPallet module_name.now info.now) (machine r.old (H.part h.old)) (machine r.new (H.part h.new))) }
+    requires ready { IsReadyFor (Instruction-F.QueryPallet module_name.now info.now)
+        (machine r.old (H.part h.old)) }
+    ensures ok { IfOk result (λ answer. Ran (Instruction-F.QueryPallet module_name.now info.now)
+        (machine r.old (H.part h.old)) answer (machine r.new (H.part h.new))) }
+    ensures err { OnErr result (Spilled (Instruction-F.QueryPallet module_name.now info.now)
+        (machine r.old (H.part h.old)) (machine r.new (H.part h.new))) }
 {
     match begin_sending(alloc, r, h, &info.destination)? {
         Ok(charged) => {

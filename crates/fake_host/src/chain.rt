@@ -65,9 +65,11 @@ impl FakeHost {
         requires few { length rows.items < 2 ^ 32 }
         requires paths { IsTrue (have_paths (path_of_site site) rows.items) }
         requires unchecked { IsTrue (have_no_checkings rows.items) }
-        requires balances { IsTrue (list_all (is_placeable rows.items) (map balance_of accounts.items)) }
+        requires balances { IsTrue (list_all (is_placeable rows.items)
+            (map balance_of accounts.items)) }
         requires once { IsDistinct same_holding (map balance_of accounts.items) }
-        ensures opened { IfOk result (λ host. part_of host ≡ opened site rows.items accounts.items queries.items) }
+        ensures opened { IfOk result (λ host. part_of host
+            ≡ opened site rows.items accounts.items queries.items) }
     {
         let balances = balances_of(alloc, accounts)?;
         let settings = Settings {
@@ -103,7 +105,8 @@ impl FakeHost {
     /// The amount of a fungible asset in all traps, in its smallest unit, or the number of instances
     /// of a class. It saturates at 2^160-1.
     pub fn trapped(&self, id: &AssetId, kind: Kind) -> Total
-        ensures { total_value result ≡ min (trapped id.now kind (part_of self.now).traps.traps) most_burned }
+        ensures { total_value result ≡ min (trapped id.now kind (part_of self.now).traps.traps)
+            most_burned }
     {
         self.chain.traps().total(id, kind)
     }

@@ -37,7 +37,8 @@ impl Model for FeeRows {
     ghost use Rattle.amounts.specs.Amounts.{empty};
     ghost use Rattle.fee_rows.specs.Fees.{kept_goods};
 
-    ghost invariant = { λ f. IsStrictlySortedBy unit_cmp (keys_of f.rows.items) × (IsTrue f.is_clear → kept_goods f.rows.items ≡ empty) };
+    ghost invariant = { λ f. IsStrictlySortedBy unit_cmp (keys_of f.rows.items)
+        × (IsTrue f.is_clear → kept_goods f.rows.items ≡ empty) };
 }
 
 /// A row for each id, with nothing in it.

@@ -15,7 +15,8 @@ pub(crate) fn fill_hrmp_new_channel_open_request(
     c: &mut Cursor<'_>,
     slot: &mut Instruction,
 ) -> Result<(), WireFault>
-    ensures { FilledHead result (made3 (below_at (2 ^ 32)) (below_at (2 ^ 32)) (below_at (2 ^ 32)) Instruction-F.HrmpNewChannelOpenRequest c.old) slot.new c.new }
+    ensures { FilledHead result (made3 (below_at (2 ^ 32)) (below_at (2 ^ 32)) (below_at (2 ^ 32))
+        Instruction-F.HrmpNewChannelOpenRequest c.old) slot.new c.new }
 {
     let sender = c.compact_u32()?;
     let max_message_size = c.compact_u32()?;
@@ -36,7 +37,8 @@ pub(crate) fn fill_hrmp_channel_accepted(
     c: &mut Cursor<'_>,
     slot: &mut Instruction,
 ) -> Result<(), WireFault>
-    ensures { FilledHead result (made1 (below_at (2 ^ 32)) Instruction-F.HrmpChannelAccepted c.old) slot.new c.new }
+    ensures { FilledHead result (made1 (below_at (2 ^ 32)) Instruction-F.HrmpChannelAccepted c.old)
+        slot.new c.new }
 {
     let recipient = c.compact_u32()?;
     put(slot, Instruction::HrmpChannelAccepted { recipient });
@@ -48,7 +50,8 @@ pub(crate) fn fill_hrmp_channel_closing(
     c: &mut Cursor<'_>,
     slot: &mut Instruction,
 ) -> Result<(), WireFault>
-    ensures { FilledHead result (made3 (below_at (2 ^ 32)) (below_at (2 ^ 32)) (below_at (2 ^ 32)) Instruction-F.HrmpChannelClosing c.old) slot.new c.new }
+    ensures { FilledHead result (made3 (below_at (2 ^ 32)) (below_at (2 ^ 32)) (below_at (2 ^ 32))
+        Instruction-F.HrmpChannelClosing c.old) slot.new c.new }
 {
     let initiator = c.compact_u32()?;
     let sender = c.compact_u32()?;

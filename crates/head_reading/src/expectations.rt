@@ -21,7 +21,8 @@ pub(crate) fn fill_expect_asset(
     v: Version,
     slot: &mut Instruction,
 ) -> Result<(), WireFault>
-    ensures { FilledHead result (made1 (assets_at v) Instruction-F.ExpectAsset c.old) slot.new c.new }
+    ensures { FilledHead result (made1 (assets_at v) Instruction-F.ExpectAsset c.old) slot.new
+        c.new }
 {
     let assets = take_assets(alloc, c, v)?;
     put(slot, Instruction::ExpectAsset { assets });
@@ -30,7 +31,8 @@ pub(crate) fn fill_expect_asset(
 
 /// The instruction and its error, or none.
 pub(crate) fn fill_expect_error(c: &mut Cursor<'_>, slot: &mut Instruction) -> Result<(), WireFault>
-    ensures { FilledHead result (made1 (optional_at failure_at) Instruction-F.ExpectError c.old) slot.new c.new }
+    ensures { FilledHead result (made1 (optional_at failure_at) Instruction-F.ExpectError c.old)
+        slot.new c.new }
 {
     let error = take_optional_failure(c)?;
     put(slot, Instruction::ExpectError { error });
@@ -43,7 +45,8 @@ pub(crate) fn fill_expect_transact_status(
     c: &mut Cursor<'_>,
     slot: &mut Instruction,
 ) -> Result<(), WireFault>
-    ensures { FilledHead result (made1 maybe_error_at Instruction-F.ExpectTransactStatus c.old) slot.new c.new }
+    ensures { FilledHead result (made1 maybe_error_at Instruction-F.ExpectTransactStatus c.old)
+        slot.new c.new }
 {
     let status = take_maybe_error(alloc, c)?;
     put(slot, Instruction::ExpectTransactStatus { status });
@@ -56,7 +59,9 @@ pub(crate) fn fill_expect_pallet(
     c: &mut Cursor<'_>,
     slot: &mut Instruction,
 ) -> Result<(), WireFault>
-    ensures { FilledHead result (made5 (below_at (2 ^ 32)) (bytes_at 4294967295) (bytes_at 4294967295) (below_at (2 ^ 32)) (below_at (2 ^ 32)) Instruction-F.ExpectPallet c.old) slot.new c.new }
+    ensures { FilledHead result (made5 (below_at (2 ^ 32)) (bytes_at 4294967295)
+        (bytes_at 4294967295) (below_at (2 ^ 32)) (below_at (2 ^ 32)) Instruction-F.ExpectPallet
+        c.old) slot.new c.new }
 {
     let index = c.compact_u32()?;
     let name = take_bytes(alloc, c)?;

@@ -23,7 +23,8 @@ pub(crate) fn fill_exchange_asset(
     v: Version,
     slot: &mut Instruction,
 ) -> Result<(), WireFault>
-    ensures { FilledHead result (made3 (filter_at v) (assets_at v) flag_at Instruction-F.ExchangeAsset c.old) slot.new c.new }
+    ensures { FilledHead result (made3 (filter_at v) (assets_at v) flag_at
+        Instruction-F.ExchangeAsset c.old) slot.new c.new }
 {
     let give = take_filter(alloc, c, v)?;
     let want = take_assets(alloc, c, v)?;
@@ -45,7 +46,8 @@ pub(crate) fn fill_buy_execution(
     v: Version,
     slot: &mut Instruction,
 ) -> Result<(), WireFault>
-    ensures { FilledHead result (made2 (asset_at v) weight_limit_at Instruction-F.BuyExecution c.old) slot.new c.new }
+    ensures { FilledHead result (made2 (asset_at v) weight_limit_at Instruction-F.BuyExecution
+        c.old) slot.new c.new }
 {
     let fees = take_asset(c, v)?;
     let limit = take_weight_limit(c)?;
@@ -60,7 +62,8 @@ pub(crate) fn fill_claim_asset(
     v: Version,
     slot: &mut Instruction,
 ) -> Result<(), WireFault>
-    ensures { FilledHead result (made2 (assets_at v) location_at Instruction-F.ClaimAsset c.old) slot.new c.new }
+    ensures { FilledHead result (made2 (assets_at v) location_at Instruction-F.ClaimAsset c.old)
+        slot.new c.new }
 {
     let assets = take_assets(alloc, c, v)?;
     let mut ticket = empty_place();
@@ -76,7 +79,8 @@ pub(crate) fn fill_withdraw_asset(
     v: Version,
     slot: &mut Instruction,
 ) -> Result<(), WireFault>
-    ensures { FilledHead result (made1 (assets_at v) Instruction-F.WithdrawAsset c.old) slot.new c.new }
+    ensures { FilledHead result (made1 (assets_at v) Instruction-F.WithdrawAsset c.old) slot.new
+        c.new }
 {
     let assets = take_assets(alloc, c, v)?;
     put(slot, Instruction::WithdrawAsset { assets });
@@ -90,7 +94,8 @@ pub(crate) fn fill_reserve_asset_deposited(
     v: Version,
     slot: &mut Instruction,
 ) -> Result<(), WireFault>
-    ensures { FilledHead result (made1 (assets_at v) Instruction-F.ReserveAssetDeposited c.old) slot.new c.new }
+    ensures { FilledHead result (made1 (assets_at v) Instruction-F.ReserveAssetDeposited c.old)
+        slot.new c.new }
 {
     let assets = take_assets(alloc, c, v)?;
     put(slot, Instruction::ReserveAssetDeposited { assets });
@@ -104,7 +109,8 @@ pub(crate) fn fill_receive_teleported_asset(
     v: Version,
     slot: &mut Instruction,
 ) -> Result<(), WireFault>
-    ensures { FilledHead result (made1 (assets_at v) Instruction-F.ReceiveTeleportedAsset c.old) slot.new c.new }
+    ensures { FilledHead result (made1 (assets_at v) Instruction-F.ReceiveTeleportedAsset c.old)
+        slot.new c.new }
 {
     let assets = take_assets(alloc, c, v)?;
     put(slot, Instruction::ReceiveTeleportedAsset { assets });

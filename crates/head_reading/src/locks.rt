@@ -19,7 +19,8 @@ pub(crate) fn fill_lock_asset(
     v: Version,
     slot: &mut Instruction,
 ) -> Result<(), WireFault>
-    ensures { FilledHead result (made2 (asset_at v) location_at Instruction-F.LockAsset c.old) slot.new c.new }
+    ensures { FilledHead result (made2 (asset_at v) location_at Instruction-F.LockAsset c.old)
+        slot.new c.new }
 {
     let asset = take_asset(c, v)?;
     let mut unlocker = empty_place();
@@ -34,7 +35,8 @@ pub(crate) fn fill_unlock_asset(
     v: Version,
     slot: &mut Instruction,
 ) -> Result<(), WireFault>
-    ensures { FilledHead result (made2 (asset_at v) location_at Instruction-F.UnlockAsset c.old) slot.new c.new }
+    ensures { FilledHead result (made2 (asset_at v) location_at Instruction-F.UnlockAsset c.old)
+        slot.new c.new }
 {
     let asset = take_asset(c, v)?;
     let mut target = empty_place();
@@ -49,7 +51,8 @@ pub(crate) fn fill_note_unlockable(
     v: Version,
     slot: &mut Instruction,
 ) -> Result<(), WireFault>
-    ensures { FilledHead result (made2 (asset_at v) location_at Instruction-F.NoteUnlockable c.old) slot.new c.new }
+    ensures { FilledHead result (made2 (asset_at v) location_at Instruction-F.NoteUnlockable c.old)
+        slot.new c.new }
 {
     let asset = take_asset(c, v)?;
     let mut owner = empty_place();
@@ -64,7 +67,8 @@ pub(crate) fn fill_request_unlock(
     v: Version,
     slot: &mut Instruction,
 ) -> Result<(), WireFault>
-    ensures { FilledHead result (made2 (asset_at v) location_at Instruction-F.RequestUnlock c.old) slot.new c.new }
+    ensures { FilledHead result (made2 (asset_at v) location_at Instruction-F.RequestUnlock c.old)
+        slot.new c.new }
 {
     let asset = take_asset(c, v)?;
     let mut locker = empty_place();

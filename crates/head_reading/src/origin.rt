@@ -21,7 +21,8 @@ pub(crate) fn fill_descend_origin(
     c: &mut Cursor<'_>,
     slot: &mut Instruction,
 ) -> Result<(), WireFault>
-    ensures { FilledHead result (made1 junctions_at Instruction-F.DescendOrigin c.old) slot.new c.new }
+    ensures { FilledHead result (made1 junctions_at Instruction-F.DescendOrigin c.old) slot.new
+        c.new }
 {
     let mut interior = Junctions::empty();
     fill_junctions(c, &mut interior)?;
@@ -34,7 +35,8 @@ pub(crate) fn fill_expect_origin(
     c: &mut Cursor<'_>,
     slot: &mut Instruction,
 ) -> Result<(), WireFault>
-    ensures { FilledHead result (made1 (optional_at location_at) Instruction-F.ExpectOrigin c.old) slot.new c.new }
+    ensures { FilledHead result (made1 (optional_at location_at) Instruction-F.ExpectOrigin c.old)
+        slot.new c.new }
 {
     let origin = take_optional_location(c)?;
     put(slot, Instruction::ExpectOrigin { origin });
@@ -56,7 +58,8 @@ pub(crate) fn fill_unpaid_execution(
     c: &mut Cursor<'_>,
     slot: &mut Instruction,
 ) -> Result<(), WireFault>
-    ensures { FilledHead result (made2 weight_limit_at (optional_at location_at) Instruction-F.UnpaidExecution c.old) slot.new c.new }
+    ensures { FilledHead result (made2 weight_limit_at (optional_at location_at)
+        Instruction-F.UnpaidExecution c.old) slot.new c.new }
 {
     let limit = take_weight_limit(c)?;
     let check_origin = take_optional_location(c)?;
@@ -76,7 +79,8 @@ pub(crate) fn fill_export_message(
     c: &mut Cursor<'_>,
     slot: &mut Instruction,
 ) -> Result<(), WireFault>
-    ensures { FilledHead result (made2 network_at junctions_at (λ net path. Instruction-F.ExportMessage net path []) c.old) slot.new c.new }
+    ensures { FilledHead result (made2 network_at junctions_at
+        (λ net path. Instruction-F.ExportMessage net path []) c.old) slot.new c.new }
 {
     let network = take_network(c)?;
     let mut destination = Junctions::empty();
@@ -98,7 +102,8 @@ pub(crate) fn fill_universal_origin(
     c: &mut Cursor<'_>,
     slot: &mut Instruction,
 ) -> Result<(), WireFault>
-    ensures { FilledHead result (made1 junction_at Instruction-F.UniversalOrigin c.old) slot.new c.new }
+    ensures { FilledHead result (made1 junction_at Instruction-F.UniversalOrigin c.old) slot.new
+        c.new }
 {
     let junction = take_junction(c)?;
     put(slot, Instruction::UniversalOrigin { junction });

@@ -19,7 +19,8 @@ pub(crate) fn fill_transact(
     c: &mut Cursor<'_>,
     slot: &mut Instruction,
 ) -> Result<(), WireFault>
-    ensures { FilledHead result (made3 origin_kind_at weight_at (bytes_at 4294967295) Instruction-F.Transact c.old) slot.new c.new }
+    ensures { FilledHead result (made3 origin_kind_at weight_at (bytes_at 4294967295)
+        Instruction-F.Transact c.old) slot.new c.new }
 {
     let origin_kind = take_origin_kind(c)?;
     let require_weight_at_most = take_weight(c)?;
@@ -37,7 +38,8 @@ pub(crate) fn fill_transact(
 
 /// The code.
 pub(crate) fn fill_trap(c: &mut Cursor<'_>, slot: &mut Instruction) -> Result<(), WireFault>
-    ensures { FilledHead result (made1 (below_at (2 ^ 64)) Instruction-F.Trap c.old) slot.new c.new }
+    ensures { FilledHead result (made1 (below_at (2 ^ 64)) Instruction-F.Trap c.old) slot.new
+        c.new }
 {
     let code = c.compact_u64()?;
     put(slot, Instruction::Trap { code });

@@ -22,7 +22,8 @@ pub(crate) fn fill_query_response(
     v: Version,
     slot: &mut Instruction,
 ) -> Result<(), WireFault>
-    ensures { FilledHead result (made4 (below_at (2 ^ 64)) (response_at v) weight_at (optional_at location_at) Instruction-F.QueryResponse c.old) slot.new c.new }
+    ensures { FilledHead result (made4 (below_at (2 ^ 64)) (response_at v) weight_at
+        (optional_at location_at) Instruction-F.QueryResponse c.old) slot.new c.new }
 {
     let query_id = c.compact_u64()?;
     let response = take_response(alloc, c, v)?;
@@ -42,7 +43,8 @@ pub(crate) fn fill_query_response(
 
 /// Where to.
 pub(crate) fn fill_report_error(c: &mut Cursor<'_>, slot: &mut Instruction) -> Result<(), WireFault>
-    ensures { FilledHead result (made1 query_info_at Instruction-F.ReportError c.old) slot.new c.new }
+    ensures { FilledHead result (made1 query_info_at Instruction-F.ReportError c.old) slot.new
+        c.new }
 {
     let info = take_query_info(c)?;
     put(slot, Instruction::ReportError { info });
@@ -56,7 +58,8 @@ pub(crate) fn fill_report_holding(
     v: Version,
     slot: &mut Instruction,
 ) -> Result<(), WireFault>
-    ensures { FilledHead result (made2 query_info_at (filter_at v) Instruction-F.ReportHolding c.old) slot.new c.new }
+    ensures { FilledHead result (made2 query_info_at (filter_at v) Instruction-F.ReportHolding
+        c.old) slot.new c.new }
 {
     let info = take_query_info(c)?;
     let assets = take_filter(alloc, c, v)?;
@@ -70,7 +73,8 @@ pub(crate) fn fill_query_pallet(
     c: &mut Cursor<'_>,
     slot: &mut Instruction,
 ) -> Result<(), WireFault>
-    ensures { FilledHead result (made2 (bytes_at 4294967295) query_info_at Instruction-F.QueryPallet c.old) slot.new c.new }
+    ensures { FilledHead result (made2 (bytes_at 4294967295) query_info_at Instruction-F.QueryPallet
+        c.old) slot.new c.new }
 {
     let module_name = take_bytes(alloc, c)?;
     let info = take_query_info(c)?;
@@ -83,7 +87,8 @@ pub(crate) fn fill_report_transact_status(
     c: &mut Cursor<'_>,
     slot: &mut Instruction,
 ) -> Result<(), WireFault>
-    ensures { FilledHead result (made1 query_info_at Instruction-F.ReportTransactStatus c.old) slot.new c.new }
+    ensures { FilledHead result (made1 query_info_at Instruction-F.ReportTransactStatus c.old)
+        slot.new c.new }
 {
     let info = take_query_info(c)?;
     put(slot, Instruction::ReportTransactStatus { info });
@@ -95,7 +100,8 @@ pub(crate) fn fill_subscribe_version(
     c: &mut Cursor<'_>,
     slot: &mut Instruction,
 ) -> Result<(), WireFault>
-    ensures { FilledHead result (made2 (below_at (2 ^ 64)) weight_at Instruction-F.SubscribeVersion c.old) slot.new c.new }
+    ensures { FilledHead result (made2 (below_at (2 ^ 64)) weight_at Instruction-F.SubscribeVersion
+        c.old) slot.new c.new }
 {
     let query_id = c.compact_u64()?;
     let max_response_weight = take_weight(c)?;

@@ -21,7 +21,8 @@ pub(crate) fn fill_transfer_asset(
     v: Version,
     slot: &mut Instruction,
 ) -> Result<(), WireFault>
-    ensures { FilledHead result (made2 (assets_at v) location_at Instruction-F.TransferAsset c.old) slot.new c.new }
+    ensures { FilledHead result (made2 (assets_at v) location_at Instruction-F.TransferAsset c.old)
+        slot.new c.new }
 {
     let assets = take_assets(alloc, c, v)?;
     let mut beneficiary = empty_place();
@@ -43,7 +44,8 @@ pub(crate) fn fill_transfer_reserve_asset(
     v: Version,
     slot: &mut Instruction,
 ) -> Result<(), WireFault>
-    ensures { FilledHead result (made2 (assets_at v) location_at (λ list place. Instruction-F.TransferReserveAsset list place []) c.old) slot.new c.new }
+    ensures { FilledHead result (made2 (assets_at v) location_at
+        (λ list place. Instruction-F.TransferReserveAsset list place []) c.old) slot.new c.new }
 {
     let assets = take_assets(alloc, c, v)?;
     let mut dest = empty_place();
@@ -63,7 +65,8 @@ pub(crate) fn fill_deposit_asset(
     v: Version,
     slot: &mut Instruction,
 ) -> Result<(), WireFault>
-    ensures { FilledHead result (made2 (filter_at v) location_at Instruction-F.DepositAsset c.old) slot.new c.new }
+    ensures { FilledHead result (made2 (filter_at v) location_at Instruction-F.DepositAsset c.old)
+        slot.new c.new }
 {
     let assets = take_filter(alloc, c, v)?;
     let mut beneficiary = empty_place();
@@ -85,7 +88,9 @@ pub(crate) fn fill_deposit_reserve_asset(
     v: Version,
     slot: &mut Instruction,
 ) -> Result<(), WireFault>
-    ensures { FilledHead result (made2 (filter_at v) location_at (λ taken place. Instruction-F.DepositReserveAsset taken place []) c.old) slot.new c.new }
+    ensures { FilledHead result (made2 (filter_at v) location_at
+        (λ taken place. Instruction-F.DepositReserveAsset taken place []) c.old) slot.new
+        c.new }
 {
     let assets = take_filter(alloc, c, v)?;
     let mut dest = empty_place();
@@ -102,7 +107,9 @@ pub(crate) fn fill_initiate_reserve_withdraw(
     v: Version,
     slot: &mut Instruction,
 ) -> Result<(), WireFault>
-    ensures { FilledHead result (made2 (filter_at v) location_at (λ taken place. Instruction-F.InitiateReserveWithdraw taken place []) c.old) slot.new c.new }
+    ensures { FilledHead result (made2 (filter_at v) location_at
+        (λ taken place. Instruction-F.InitiateReserveWithdraw taken place []) c.old) slot.new
+        c.new }
 {
     let assets = take_filter(alloc, c, v)?;
     let mut reserve = empty_place();
@@ -126,7 +133,8 @@ pub(crate) fn fill_initiate_teleport(
     v: Version,
     slot: &mut Instruction,
 ) -> Result<(), WireFault>
-    ensures { FilledHead result (made2 (filter_at v) location_at (λ taken place. Instruction-F.InitiateTeleport taken place []) c.old) slot.new c.new }
+    ensures { FilledHead result (made2 (filter_at v) location_at
+        (λ taken place. Instruction-F.InitiateTeleport taken place []) c.old) slot.new c.new }
 {
     let assets = take_filter(alloc, c, v)?;
     let mut dest = empty_place();

@@ -12,14 +12,19 @@ ghost use Rattle.head_reading.specs.Reading.{Layer, head_at};
 /// The reader takes the head of each instruction that fits, whatever follows it, and nothing else. In the place of the program inside it
 /// gives an empty one.
 pub fn law_of_heads()
-    ensures takes { (v : Version) (bytes : List ℕ) (l : Layer) (rest : List ℕ) → head_at v bytes ≡ Some (l, rest) → (bytes ≡ head v l ++ rest) × FitsHead v l }
-    ensures again { (v : Version) (l : Layer) (rest : List ℕ) → FitsHead v l → head_at v (head v l ++ rest) ≡ Some (with_inner l [], rest) }
-    ensures empty { (v : Version) (bytes : List ℕ) (l : Layer) (rest : List ℕ) → head_at v bytes ≡ Some (l, rest) → with_inner l [] ≡ l }
+    ensures takes { (v : Version) (bytes : List ℕ) (l : Layer) (rest : List ℕ)
+        → head_at v bytes ≡ Some (l, rest) → (bytes ≡ head v l ++ rest) × FitsHead v l }
+    ensures again { (v : Version) (l : Layer) (rest : List ℕ)
+        → FitsHead v l → head_at v (head v l ++ rest) ≡ Some (with_inner l [], rest) }
+    ensures empty { (v : Version) (bytes : List ℕ) (l : Layer) (rest : List ℕ)
+        → head_at v bytes ≡ Some (l, rest) → with_inner l [] ≡ l }
 {}
 
 /// No head is a proper prefix of another. Instructions with the same head are the same but for the program inside.
 pub fn law_of_no_prefix()
-    ensures { (v : Version) (l m : Layer) (a b : List ℕ) → FitsHead v l → FitsHead v m → head v l ++ a ≡ head v m ++ b → (with_inner l [] ≡ with_inner m []) × (head v l ≡ head v m) × (a ≡ b) }
+    ensures { (v : Version) (l m : Layer) (a b : List ℕ) → FitsHead v l → FitsHead v m
+        → head v l ++ a ≡ head v m ++ b
+        → (with_inner l [] ≡ with_inner m []) × (head v l ≡ head v m) × (a ≡ b) }
 {}
 
 /// What has a head in a version can be written in it, and so what is read in a version.

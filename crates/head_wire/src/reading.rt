@@ -27,7 +27,8 @@ fn take_head(alloc: Global, c: &mut Cursor<'_>, v: Version) -> Result<Instructio
 /// is where it was.
 pub fn read_head(alloc: Global, c: &mut Cursor<'_>, v: Version) -> Result<Instruction, WireFault>
     ensures read { GotOrFails (λ i. out-Instruction i) result (head_at v c.old) c.new }
-    ensures spelling { IsReadOrFails (λ i. head v (out-Instruction i)) (λ i. FitsHead v (out-Instruction i)) result c.old c.new }
+    ensures spelling { IsReadOrFails (λ i. head v (out-Instruction i))
+        (λ i. FitsHead v (out-Instruction i)) result c.old c.new }
     ensures empty { IfOk result (λ i. with_inner (out-Instruction i) [] ≡ out-Instruction i) }
 {
     let start = c.rest();

@@ -18,7 +18,8 @@ use xcm_program::Instruction;
 pub fn write_head(o: &mut Out, i: &Instruction, v: Version) -> Result<(), AllocError>
     requires named { IsNamedHead v Instruction (out-Instruction i.now) }
     requires amount { HasAmount Instruction (out-Instruction i.now) }
-    ensures { IsWritten (λ i. head v (out-Instruction i)) (λ i. FitsHead v (out-Instruction i)) i.now result o.old o.new }
+    ensures { IsWritten (λ i. head v (out-Instruction i)) (λ i. FitsHead v (out-Instruction i))
+        i.now result o.old o.new }
 {
     let mut draft = o.draft();
     let written = put_head(&mut draft, i, v);

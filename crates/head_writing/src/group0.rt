@@ -20,7 +20,8 @@ use xcm_program::Instruction;
 pub(crate) fn put_group0(o: &mut Draft, i: &Instruction, v: Version) -> Result<(), AllocError>
     requires high { index (out-Instruction i.now) < 8 }
     requires named { IsNamedHead v Instruction (out-Instruction i.now) }
-    ensures { Appends result o.old o.new (fields v (out-Instruction i.now)) (FitsHead v (out-Instruction i.now)) }
+    ensures { Appends result o.old o.new (fields v (out-Instruction i.now))
+        (FitsHead v (out-Instruction i.now)) }
 {
     match i {
         Instruction::WithdrawAsset { assets }

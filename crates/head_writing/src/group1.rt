@@ -22,7 +22,8 @@ pub(crate) fn put_group1(o: &mut Draft, i: &Instruction, v: Version) -> Result<(
     requires low { 8 ≤ index (out-Instruction i.now) }
     requires high { index (out-Instruction i.now) < 16 }
     requires named { IsNamedHead v Instruction (out-Instruction i.now) }
-    ensures { Appends result o.old o.new (fields v (out-Instruction i.now)) (FitsHead v (out-Instruction i.now)) }
+    ensures { Appends result o.old o.new (fields v (out-Instruction i.now))
+        (FitsHead v (out-Instruction i.now)) }
 {
     match i {
         Instruction::HrmpChannelAccepted { recipient } => o.put_compact(u128::from(*recipient)),

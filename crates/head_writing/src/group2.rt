@@ -23,7 +23,8 @@ pub(crate) fn put_group2(o: &mut Draft, i: &Instruction, v: Version) -> Result<(
     requires high { index (out-Instruction i.now) < 24 }
     requires named { IsNamedHead v Instruction (out-Instruction i.now) }
     requires amount { HasAmount Instruction (out-Instruction i.now) }
-    ensures { Appends result o.old o.new (fields v (out-Instruction i.now)) (FitsHead v (out-Instruction i.now)) }
+    ensures { Appends result o.old o.new (fields v (out-Instruction i.now))
+        (FitsHead v (out-Instruction i.now)) }
 {
     match i {
         Instruction::InitiateReserveWithdraw {

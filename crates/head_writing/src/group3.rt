@@ -21,7 +21,8 @@ pub(crate) fn put_group3(o: &mut Draft, i: &Instruction, v: Version) -> Result<(
     requires low { 24 ≤ index (out-Instruction i.now) }
     requires high { index (out-Instruction i.now) < 32 }
     requires named { IsNamedHead v Instruction (out-Instruction i.now) }
-    ensures { Appends result o.old o.new (fields v (out-Instruction i.now)) (FitsHead v (out-Instruction i.now)) }
+    ensures { Appends result o.old o.new (fields v (out-Instruction i.now))
+        (FitsHead v (out-Instruction i.now)) }
 {
     match i {
         Instruction::ClaimAsset { assets, ticket } => put_assets_for(o, assets, ticket, v),

@@ -24,7 +24,8 @@ pub(crate) fn put_group5(o: &mut Draft, i: &Instruction, v: Version) -> Result<(
     requires high { index (out-Instruction i.now) < 48 }
     requires named { IsNamedHead v Instruction (out-Instruction i.now) }
     requires amount { HasAmount Instruction (out-Instruction i.now) }
-    ensures { Appends result o.old o.new (fields v (out-Instruction i.now)) (FitsHead v (out-Instruction i.now)) }
+    ensures { Appends result o.old o.new (fields v (out-Instruction i.now))
+        (FitsHead v (out-Instruction i.now)) }
 {
     match i {
         Instruction::UnlockAsset { asset, target } => put_asset_for(o, asset, target, v),

@@ -23,7 +23,8 @@ use xcm_program::Instruction;
 fn put_fields(o: &mut Draft, i: &Instruction, v: Version) -> Result<(), AllocError>
     requires named { IsNamedHead v Instruction (out-Instruction i.now) }
     requires amount { HasAmount Instruction (out-Instruction i.now) }
-    ensures { Appends result o.old o.new (fields v (out-Instruction i.now)) (FitsHead v (out-Instruction i.now)) }
+    ensures { Appends result o.old o.new (fields v (out-Instruction i.now))
+        (FitsHead v (out-Instruction i.now)) }
 {
     match i.index() {
         0..=7 => put_group0(o, i, v),
@@ -41,7 +42,8 @@ fn put_fields(o: &mut Draft, i: &Instruction, v: Version) -> Result<(), AllocErr
 pub fn put_head(o: &mut Draft, i: &Instruction, v: Version) -> Result<(), AllocError>
     requires named { IsNamedHead v Instruction (out-Instruction i.now) }
     requires amount { HasAmount Instruction (out-Instruction i.now) }
-    ensures { Puts (λ i. head v (out-Instruction i)) (λ i. FitsHead v (out-Instruction i)) i.now result o.old o.new }
+    ensures { Puts (λ i. head v (out-Instruction i)) (λ i. FitsHead v (out-Instruction i)) i.now
+        result o.old o.new }
 {
     o.put_u8(i.index())?;
     put_fields(o, i, v)

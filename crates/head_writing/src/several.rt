@@ -28,7 +28,8 @@ pub(crate) fn put_assets_for(
     v: Version,
 ) -> Result<(), AllocError>
     requires { AreNamed v list.now }
-    ensures { Appends result o.old o.new (assets v list.now ++ location place.now) (FitsAssets v list.now × FitsLocation place.now) }
+    ensures { Appends result o.old o.new (assets v list.now ++ location place.now)
+        (FitsAssets v list.now × FitsLocation place.now) }
 {
     put_assets(o, list, v)?;
     put_location(o, place)
@@ -42,7 +43,8 @@ pub(crate) fn put_filter_for(
     v: Version,
 ) -> Result<(), AllocError>
     requires { IsFilterNamed v taken.now }
-    ensures { Appends result o.old o.new (filter v taken.now ++ location place.now) (FitsFilter v taken.now × FitsLocation place.now) }
+    ensures { Appends result o.old o.new (filter v taken.now ++ location place.now)
+        (FitsFilter v taken.now × FitsLocation place.now) }
 {
     put_filter(o, taken, v)?;
     put_location(o, place)
@@ -56,7 +58,8 @@ pub(crate) fn put_asset_for(
     v: Version,
 ) -> Result<(), AllocError>
     requires { IsWritableAsset v goods.now }
-    ensures { Appends result o.old o.new (asset v goods.now ++ location place.now) (FitsAsset v goods.now × FitsLocation place.now) }
+    ensures { Appends result o.old o.new (asset v goods.now ++ location place.now)
+        (FitsAsset v goods.now × FitsLocation place.now) }
 {
     put_asset(o, goods, v)?;
     put_location(o, place)
@@ -69,7 +72,8 @@ pub(crate) fn put_numbers(
     second: u32,
     third: u32,
 ) -> Result<(), AllocError>
-    ensures { Appends result o.old o.new (compact first ++ compact second ++ compact third) ((first < 2 ^ 32) × (second < 2 ^ 32) × (third < 2 ^ 32)) }
+    ensures { Appends result o.old o.new (compact first ++ compact second ++ compact third)
+        ((first < 2 ^ 32) × (second < 2 ^ 32) × (third < 2 ^ 32)) }
 {
     o.put_compact(u128::from(first))?;
     o.put_compact(u128::from(second))?;

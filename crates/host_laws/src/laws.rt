@@ -38,21 +38,29 @@ use weight_trader::law_of_trading;
 
 /// What goes into a bundle and what a join books, what is burned, and what is parked.
 pub fn law_of_hosts()
-    ensures joined { (p : ChainPart) (into goods : Bundle) → BooksBelow p (given_up into goods) → Conserves (merge into goods) (Joined into goods) p (joined p into goods) }
-    ensures burnt { (p : ChainPart) (goods : Bundle) → BooksBelow p (burned_for Cause.BurnAsset goods) → Conserves goods empty p (burnt p goods) }
+    ensures joined { (p : ChainPart) (into goods : Bundle) → BooksBelow p (given_up into goods)
+        → Conserves (merge into goods) (Joined into goods) p (joined p into goods) }
+    ensures burnt { (p : ChainPart) (goods : Bundle)
+        → BooksBelow p (burned_for Cause.BurnAsset goods)
+        → Conserves goods empty p (burnt p goods) }
     ensures parked { (p : ChainPart) (goods : Bundle) → Conserves goods empty p (parked p goods) }
     ensures told { (p : ChainPart) (e : Event) → Conserves empty empty p (told p e) }
-    ensures answered { (p : ChainPart) (from : Location) (query : ℕ) → Conserves empty empty p (answered p from query) }
+    ensures answered { (p : ChainPart) (from : Location) (query : ℕ)
+        → Conserves empty empty p (answered p from query) }
 {}
 
 /// What goes between accounts and bundles. What is received is made: it isn't taken from anything on the chain.
 pub fn law_of_moves()
     ensures withdrawn { (p : ChainPart) (list : List Asset) (who : Location)
-        → IsAssetList list → withdraw_refusal p list who ≡ None → Conserves empty (bundle_of list) p (withdrawn p list who) }
-    ensures deposited { (p : ChainPart) (goods : Bundle) (who : Location) → deposit_refusal p goods who ≡ None → Conserves goods empty p (deposited p goods who) }
+        → IsAssetList list → withdraw_refusal p list who ≡ None
+        → Conserves empty (bundle_of list) p (withdrawn p list who) }
+    ensures deposited { (p : ChainPart) (goods : Bundle) (who : Location)
+        → deposit_refusal p goods who ≡ None → Conserves goods empty p (deposited p goods who) }
     ensures transferred { (p : ChainPart) (list : List Asset) (from to : Location)
-        → IsAssetList list → transfer_refusal p list from to ≡ None → Conserves empty empty p (transferred p list from to) }
-    ensures received { (p : ChainPart) (list : List Asset) (teleport : Bool) (test : Listed → Bool) → whole test (received p list teleport) ≡ whole test p }
+        → IsAssetList list → transfer_refusal p list from to ≡ None
+        → Conserves empty empty p (transferred p list from to) }
+    ensures received { (p : ChainPart) (list : List Asset) (teleport : Bool) (test : Listed → Bool)
+        → whole test (received p list teleport) ≡ whole test p }
 {
     law_of_ledgers();
 }
@@ -74,41 +82,60 @@ pub fn law_of_exchanged_goods()
 
 /// What goes into traps and out of them.
 pub fn law_of_claims()
-    ensures trapped { (p : ChainPart) (goods : Bundle) (origin : Location) → Conserves goods empty p (trapped p goods origin) }
+    ensures trapped { (p : ChainPart) (goods : Bundle) (origin : Location)
+        → Conserves goods empty p (trapped p goods origin) }
     ensures claimed { (p : ChainPart) (list : List Asset) (origin : Location)
-        → claim_refusal p list origin ≡ None → Conserves empty (bundle_of list) p (claimed p list origin) }
+        → claim_refusal p list origin ≡ None
+        → Conserves empty (bundle_of list) p (claimed p list origin) }
 {
     law_of_traps();
 }
 
 /// What is sent: a shipment carries what it took, a deposit is in the receiver's account, and a report carries nothing.
 pub fn law_of_sendings()
-    ensures shipped { (p : ChainPart) (goods : Bundle) (way : Way) (dest : Location) (xcm : List Instruction)
-        → ship_refusal p goods way dest xcm ≡ None → Conserves goods empty p (shipped p goods way dest xcm) }
-    ensures deposited_out { (p : ChainPart) (goods : Bundle) (dest : Location) (xcm : List Instruction)
-        → deposit_out_refusal p goods dest xcm ≡ None → Conserves goods empty p (deposited_out p goods dest xcm) }
-    ensures transferred_out { (p : ChainPart) (list : List Asset) (from dest : Location) (xcm : List Instruction)
-        → IsAssetList list → transfer_out_refusal p list from dest xcm ≡ None → Conserves empty empty p (transferred_out p list from dest xcm) }
-    ensures responded { (p : ChainPart) (info : QueryInfo) (response : Response) (querier : Option Location) → Conserves empty empty p (responded p info response querier) }
-    ensures raises_by_goods { (p : ChainPart) (goods : Bundle) (dest : Location) (xcm : List Instruction) (who : List ℕ) (t : Unit → Bool)
-        → account_of dest p.site ≡ Some who → account_total who t (deposited_out p goods dest xcm) ≡ account_total who t p + total t goods }
-    ensures raises_by_list { (p : ChainPart) (list : List Asset) (from dest : Location) (xcm : List Instruction) (who : List ℕ) (t : Unit → Bool)
-        → IsAssetList list → transfer_out_refusal p list from dest xcm ≡ None → account_of dest p.site ≡ Some who → IsOtherAccount who (account_of from p.site)
-        → account_total who t (transferred_out p list from dest xcm) ≡ account_total who t p + total t (bundle_of list) }
+    ensures shipped { (p : ChainPart) (goods : Bundle) (way : Way) (dest : Location)
+        (xcm : List Instruction)
+        → ship_refusal p goods way dest xcm ≡ None
+        → Conserves goods empty p (shipped p goods way dest xcm) }
+    ensures deposited_out { (p : ChainPart) (goods : Bundle) (dest : Location)
+        (xcm : List Instruction)
+        → deposit_out_refusal p goods dest xcm ≡ None
+        → Conserves goods empty p (deposited_out p goods dest xcm) }
+    ensures transferred_out { (p : ChainPart) (list : List Asset) (from dest : Location)
+        (xcm : List Instruction)
+        → IsAssetList list → transfer_out_refusal p list from dest xcm ≡ None
+        → Conserves empty empty p (transferred_out p list from dest xcm) }
+    ensures responded { (p : ChainPart) (info : QueryInfo) (response : Response)
+        (querier : Option Location) → Conserves empty empty p (responded p info response querier) }
+    ensures raises_by_goods { (p : ChainPart) (goods : Bundle) (dest : Location)
+        (xcm : List Instruction) (who : List ℕ) (t : Unit → Bool)
+        → account_of dest p.site ≡ Some who → account_total who t (deposited_out p goods dest xcm)
+        ≡ account_total who t p + total t goods }
+    ensures raises_by_list { (p : ChainPart) (list : List Asset) (from dest : Location)
+        (xcm : List Instruction) (who : List ℕ) (t : Unit → Bool)
+        → IsAssetList list → transfer_out_refusal p list from dest xcm ≡ None
+        → account_of dest p.site ≡ Some who → IsOtherAccount who (account_of from p.site)
+        → account_total who t (transferred_out p list from dest xcm)
+        ≡ account_total who t p + total t (bundle_of list) }
 {
     law_of_ledgers();
 }
 
 /// What is paid, for weight and for deliveries, and what is given back of it.
 pub fn law_of_fees()
-    ensures held { (p : ChainPart) (goods : Bundle) → p.fee_slot ≡ empty → Conserves goods empty p (fee_held p goods) }
+    ensures held { (p : ChainPart) (goods : Bundle)
+        → p.fee_slot ≡ empty → Conserves goods empty p (fee_held p goods) }
     ensures taken { (p : ChainPart) → Conserves empty p.fee_slot p (fee_taken p) }
     ensures kept { (p : ChainPart) → KeepsBelow p → Conserves empty empty p (fee_kept p) }
     ensures drawn { (p : ChainPart) (list : List Asset) (who : Location)
-        → IsAssetList list → withdraw_refusal p list who ≡ None → Conserves empty (bundle_of list) p (fee_drawn p list who) }
-    ensures bought { (p : ChainPart) (w : Weight) (payment : Bundle) → AreWithinEnd p.lines → BuysBelow p w payment → Conserves payment (unspent p w payment) p (bought p w payment) }
-    ensures refunded { (p : ChainPart) (w : Weight) → AreWithinEnd p.lines → Conserves empty (refund_goods p w) p (refunded p w) }
-    ensures settled { (p : ChainPart) → AreWithinEnd p.lines → IsFeeAccountWithin p → BooksBelow p (settled_burns p) → Conserves empty empty p (settled p) }
+        → IsAssetList list → withdraw_refusal p list who ≡ None
+        → Conserves empty (bundle_of list) p (fee_drawn p list who) }
+    ensures bought { (p : ChainPart) (w : Weight) (payment : Bundle) → AreWithinEnd p.lines
+        → BuysBelow p w payment → Conserves payment (unspent p w payment) p (bought p w payment) }
+    ensures refunded { (p : ChainPart) (w : Weight)
+        → AreWithinEnd p.lines → Conserves empty (refund_goods p w) p (refunded p w) }
+    ensures settled { (p : ChainPart) → AreWithinEnd p.lines → IsFeeAccountWithin p
+        → BooksBelow p (settled_burns p) → Conserves empty empty p (settled p) }
 {
     law_of_ledgers();
     law_of_trading();
@@ -118,11 +145,15 @@ pub fn law_of_fees()
 /// more. Only ReserveAssetDeposited and ReceiveTeleportedAsset make anything. Where memory is refused inside an instruction, what was taken out
 /// is put aside, and there is as much as before; or what it makes is there too.
 pub fn law_of_instructions()
-    ensures conserved { (x : Instruction) (m : Machine) (test : Listed → Bool) → IsSteady m → HasList (out-Instruction x) → AreFees m.part → HasRoomFor (made (out-Instruction x)) m
-        → refusal_of x m ≡ None → whole_of test (xcm.done x m) ≡ whole_of test m + total (is_unit_where test) (made (out-Instruction x)) }
+    ensures conserved { (x : Instruction) (m : Machine) (test : Listed → Bool) → IsSteady m
+        → HasList (out-Instruction x) → AreFees m.part → HasRoomFor (made (out-Instruction x)) m
+        → refusal_of x m ≡ None → whole_of test (xcm.done x m)
+        ≡ whole_of test m + total (is_unit_where test) (made (out-Instruction x)) }
     ensures spilt { (x : Instruction) (m now : Machine) (test : Listed → Bool)
-        → IsSteady m → HasList (out-Instruction x) → AreFees m.part → HasRoomFor (made (out-Instruction x)) m
-        → spills x m now → IsMadeOrNothing (made (out-Instruction x)) (whole_of test m) (whole_of test now) test }
+        → IsSteady m → HasList (out-Instruction x)
+        → AreFees m.part → HasRoomFor (made (out-Instruction x)) m
+        → spills x m now → IsMadeOrNothing (made (out-Instruction x)) (whole_of test m)
+        (whole_of test now) test }
 {
     law_of_calls();
     law_of_ledgers();

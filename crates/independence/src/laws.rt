@@ -22,10 +22,15 @@ use network_steps::law_of_settings;
 /// books a teleport that it loses, where that channel isn't empty and no send of the program on it answers Transport. And whatever a program
 /// sends, the oldest message of a channel stays the oldest.
 pub fn law_of_runs_beside_deliveries()
-    ensures ran { (to : ChainId) (lost : Bundle) (rules : ChainRules) (origin : Location) (credit : Weight) (program : List Instruction) (p : ChainPart)
-        → IsNotEmpty to p → RunsCalmly to rules origin credit program p → RanBeside to lost (acted rules origin credit program p) (acted rules origin credit program (beside to lost p)) }
-    ensures oldest { (to : ChainId) (rules : ChainRules) (origin : Location) (credit : Weight) (program : List Instruction) (p : ChainPart) (x : Waiting)
-        → oldest_to to p.channels ≡ Some x → oldest_to to (acted rules origin credit program p).part.channels ≡ Some x }
+    ensures ran { (to : ChainId) (lost : Bundle) (rules : ChainRules) (origin : Location)
+        (credit : Weight) (program : List Instruction) (p : ChainPart)
+        → IsNotEmpty to p → RunsCalmly to rules origin credit program p
+        → RanBeside to lost (acted rules origin credit program p)
+        (acted rules origin credit program (beside to lost p)) }
+    ensures oldest { (to : ChainId) (rules : ChainRules) (origin : Location) (credit : Weight)
+        (program : List Instruction) (p : ChainPart) (x : Waiting)
+        → oldest_to to p.channels ≡ Some x
+        → oldest_to to (acted rules origin credit program p).part.channels ≡ Some x }
 {}
 
 /// In every network, coherent or not, two steps that act at different chains may change places: both orders lead to the same world, and each
@@ -33,15 +38,18 @@ pub fn law_of_runs_beside_deliveries()
 /// Where one of them takes from a channel of the other's chain, it must not find that channel empty, and no send of the other on it may
 /// answer Transport.
 pub fn law_of_independence()
-    ensures step { (order : List Link) (w : World) (t : Act) → after order w (step_of t) ≡ (stepped_by w t).world }
-    ensures free { (w : World) (s t : Act) → (acts_at s ≡ acts_at t → ⊥) → TakesFreely w s t → TakesFreely w t s → AreFree w s t }
+    ensures step { (order : List Link) (w : World) (t : Act)
+        → after order w (step_of t) ≡ (stepped_by w t).world }
+    ensures free { (w : World) (s t : Act)
+        → (acts_at s ≡ acts_at t → ⊥) → TakesFreely w s t → TakesFreely w t s → AreFree w s t }
 {
     law_of_settings();
 }
 
 /// Executions and claims at different chains may change places, whatever they answer.
 pub fn law_of_local_acts()
-    ensures free { (w : World) (s t : Act) → (acts_at s ≡ acts_at t → ⊥) → takes_from s ≡ None → takes_from t ≡ None → AreFree w s t }
+    ensures free { (w : World) (s t : Act)
+        → (acts_at s ≡ acts_at t → ⊥) → takes_from s ≡ None → takes_from t ≡ None → AreFree w s t }
 {
     law_of_independence();
 }

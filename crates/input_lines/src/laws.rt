@@ -20,10 +20,13 @@ pub fn law_of_lines()
 /// The text of a step, in lower-case digits, reads back as that step.
 #[tactic(auto, unfolding(crate::specs::Step::read_line))]
 pub fn law_of_step_lines()
-    ensures exec { (chain : ChainId) (account message : List ℕ) → ChainFits chain → length account ≡ 32 → IsBytes account → IsBytes message
+    ensures exec { (chain : ChainId) (account message : List ℕ)
+        → ChainFits chain → length account ≡ 32 → IsBytes account → IsBytes message
         → read_line (exec_line chain account message) ≡ Line.Exec chain account message }
-    ensures deliver { (from to : ChainId) → ChainFits from → ChainFits to → read_line (deliver_line from to) ≡ Line.Deliver from to }
-    ensures claim { (from to : ChainId) (message : List ℕ) → ChainFits from → ChainFits to → IsBytes message
+    ensures deliver { (from to : ChainId)
+        → ChainFits from → ChainFits to → read_line (deliver_line from to) ≡ Line.Deliver from to }
+    ensures claim { (from to : ChainId) (message : List ℕ)
+        → ChainFits from → ChainFits to → IsBytes message
         → read_line (claim_line from to message) ≡ Line.Claim from to message }
     ensures drain { read_line (codes "drain") ≡ Line.Drain }
     ensures balances { read_line (codes "balances") ≡ Line.Balances }

@@ -12,7 +12,8 @@ pub fn line_len(bytes: &[u8]) -> Option<usize>
     ensures some { IfSome result (λ n. 0 < n) }
     ensures bound { IfSome result (λ n. n ≤ length bytes.now) }
     ensures feed { IfSome result (λ n. ends_with 10 (take n bytes.now) ≡ true) }
-    ensures line { IfSome result (λ n. (more : List ℕ) → lines_of (bytes.now ++ more) ≡ take n bytes.now ∷ lines_of (drop n bytes.now ++ more)) }
+    ensures line { IfSome result (λ n. (more : List ℕ) → lines_of (bytes.now ++ more)
+        ≡ take n bytes.now ∷ lines_of (drop n bytes.now ++ more)) }
 {
     match memchr(b'\n', bytes) {
         Some(at) => Some(at + 1),

@@ -34,7 +34,8 @@ fn account(number: u64) -> [u8; 32] {
 
 /// Deposits 1, and tells what all accounts have.
 fn deposit(ledger: &mut Ledger, alloc: Global, who: &[u8; 32]) -> Result<Total, AllocError>
-    requires { ledger.old.listed ≡ (Concrete (record { parents = 0; interior = [] }), Kind.Fungible) ∷ [] }
+    requires { ledger.old.listed ≡ (Concrete (record { parents = 0; interior = [] }), Kind.Fungible)
+        ∷ [] }
     ensures { ledger.new.listed ≡ ledger.old.listed }
 {
     let coin = Asset {
@@ -51,7 +52,8 @@ fn deposit(ledger: &mut Ledger, alloc: Global, who: &[u8; 32]) -> Result<Total, 
 
 /// Deposits to each of the first accounts.
 fn deposit_to_each(ledger: &mut Ledger, alloc: Global, accounts: u64) -> Result<(), AllocError>
-    requires { ledger.old.listed ≡ (Concrete (record { parents = 0; interior = [] }), Kind.Fungible) ∷ [] }
+    requires { ledger.old.listed ≡ (Concrete (record { parents = 0; interior = [] }), Kind.Fungible)
+        ∷ [] }
     ensures { ledger.new.listed ≡ ledger.old.listed }
 {
     for number in 0..accounts {
@@ -67,7 +69,8 @@ fn deposit_to_first(
     accounts: u64,
     deposits: u64,
 ) -> Result<u64, AllocError>
-    requires { ledger.old.listed ≡ (Concrete (record { parents = 0; interior = [] }), Kind.Fungible) ∷ [] }
+    requires { ledger.old.listed ≡ (Concrete (record { parents = 0; interior = [] }), Kind.Fungible)
+        ∷ [] }
 {
     let first = account(0);
     let mut right: u64 = 0;

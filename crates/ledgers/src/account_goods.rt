@@ -16,7 +16,8 @@ impl Rows {
     /// What an account holds, in no order.
     pub(crate) fn goods(&self, who: &[u8; 32]) -> Result<Vec<Asset>, AllocError>
         requires { AreSound self.now }
-        ensures { IfOk result (λ goods. IsUnsortedListOf (account_goods who.now (rows_held self.now)) goods.items) }
+        ensures { IfOk result (λ goods. IsUnsortedListOf
+            (account_goods who.now (rows_held self.now)) goods.items) }
     {
         let mut goods = self.fungibles(who)?;
         let mut instances = self.instances(who)?;
@@ -27,7 +28,8 @@ impl Rows {
     /// The fungible assets that an account holds.
     fn fungibles(&self, who: &[u8; 32]) -> Result<Vec<Asset>, AllocError>
         requires { AreSound self.now }
-        ensures { IfOk result (λ goods. IsUnsortedListOf (restriction is_amount (account_goods who.now (rows_held self.now))) goods.items) }
+        ensures { IfOk result (λ goods. IsUnsortedListOf
+            (restriction is_amount (account_goods who.now (rows_held self.now))) goods.items) }
     {
         let mut goods = Vec::new(*self.sums.allocator());
         for number in 0..self.assets.len() {
@@ -41,7 +43,9 @@ impl Rows {
     /// The instances that an account has. It takes time in proportion to the instances of all accounts.
     fn instances(&self, who: &[u8; 32]) -> Result<Vec<Asset>, AllocError>
         requires { AreSound self.now }
-        ensures { IfOk result (λ goods. IsUnsortedListOf (restriction (λ unit. not (is_amount unit)) (account_goods who.now (rows_held self.now))) goods.items) }
+        ensures { IfOk result (λ goods. IsUnsortedListOf
+            (restriction (λ unit. not (is_amount unit))
+            (account_goods who.now (rows_held self.now))) goods.items) }
     {
         let mut goods = Vec::new(*self.sums.allocator());
         for (key, owner) in self.owners.iter() {
@@ -54,7 +58,8 @@ impl Rows {
 
     /// What an account has of the asset of a number; None where it has nothing, or it is a class.
     fn fungible(&self, who: &[u8; 32], number: u32) -> Option<Asset>
-        ensures { result ≡ fungible_held_at (slice_get self.now.assets number) (amount_in_row self.now.amounts.entries (number, who.now)) }
+        ensures { result ≡ fungible_held_at (slice_get self.now.assets number)
+            (amount_in_row self.now.amounts.entries (number, who.now)) }
     {
         let amount = amount_in(&self.amounts, number, who);
         if amount == 0 {
@@ -77,7 +82,8 @@ impl Rows {
         key: &(u32, Instance),
         owner: &Option<[u8; 32]>,
     ) -> Option<Asset>
-        ensures { result ≡ instance_held_at (slice_get self.now.assets key.now.0) key.now.1 (owned who.now owner.now) }
+        ensures { result ≡ instance_held_at (slice_get self.now.assets key.now.0) key.now.1
+            (owned who.now owner.now) }
     {
         if owned(*owner, who) == 0 {
             return None;

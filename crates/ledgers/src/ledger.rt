@@ -53,7 +53,8 @@ impl Ledger {
     pub fn open(alloc: Global, list: Vec<(Location, Kind)>) -> Result<Ledger, AllocError>
         requires distinct { IsDistinct (eq_by_cmp listed_cmp) (map listed_pair list.items) }
         requires few { length list.items < 2 ^ 32 }
-        ensures opened { IfOk result (λ ledger. ledger ≡ record { listed = map listed_pair list.items; held = empty }) }
+        ensures opened { IfOk result (λ ledger. ledger
+            ≡ record { listed = map listed_pair list.items; held = empty }) }
     {
         let assets = AssetTable::open(alloc, list)?;
         let sums = zero_sums(alloc, assets.len() as usize)?;
@@ -77,7 +78,8 @@ impl Ledger {
     /// instances. It saturates at 2^160-1 where it would pass it.
     pub fn total(&self, number: u32) -> Total
         requires listed { number < length self.now.listed }
-        ensures sum { IfSome (slice_get self.now.listed number) (λ asset. total_value result ≡ min (sum_of asset self.now.held) (2 ^ 160 - 1)) }
+        ensures sum { IfSome (slice_get self.now.listed number) (λ asset. total_value result
+            ≡ min (sum_of asset self.now.held) (2 ^ 160 - 1)) }
     {
         self.rows.sums[number as usize].total()
     }
@@ -140,8 +142,10 @@ impl Ledger {
     /// What an account holds, in holding order: fungibles by id, then instances by id and instance. An `Err`
     /// is out of memory.
     pub fn held(&self, who: &[u8; 32]) -> Result<Vec<Asset>, AllocError>
-        ensures listed { IfOk result (λ assets. assets.items ≡ held_assets (account_goods who.now self.now.held)) }
-        ensures bundle { IfOk result (λ assets. bundle_of assets.items ≡ account_goods who.now self.now.held) }
+        ensures listed { IfOk result (λ assets. assets.items
+            ≡ held_assets (account_goods who.now self.now.held)) }
+        ensures bundle { IfOk result (λ assets. bundle_of assets.items
+            ≡ account_goods who.now self.now.held) }
     {
         let found = self.rows.goods(who)?;
         let goods = AssetBundle::mint(*self.rows.sums.allocator(), found.as_slice())?;
@@ -221,7 +225,8 @@ impl Ledger {
         ensures free { OnOk result (barred self.old.held who.now (held_assets goods) ≡ None) }
         ensures deposited { OnOk result (self.new ≡ Deposited who.now goods self.old) }
         ensures back { IfErr result (λ refusal. refusal.0 ≡ goods) }
-        ensures fault { IfErr result (λ refusal. IsDepositFault self.old.held who.now (held_assets goods) refusal.1) }
+        ensures fault { IfErr result
+            (λ refusal. IsDepositFault self.old.held who.now (held_assets goods) refusal.1) }
         ensures kept { OnErr result (self.new ≡ self.old) }
     {
         if let Some(fault) = self.barred(who, goods.items()) {
@@ -328,8 +333,10 @@ impl Ledger {
         list: &Assets,
     ) -> Result<(), TransferFault>
         ensures enough { OnOk result (shortage self.old.held from.now list.now ≡ None) }
-        ensures fits { OnOk result (barred (Withdrawn from.now list.now self.old).held to.now list.now ≡ None) }
-        ensures transferred { OnOk result (self.new ≡ Transferred from.now to.now list.now self.old) }
+        ensures fits { OnOk result (barred (Withdrawn from.now list.now self.old).held to.now
+            list.now ≡ None) }
+        ensures transferred { OnOk result (self.new
+            ≡ Transferred from.now to.now list.now self.old) }
         ensures fault { IfErr result (IsTransferFault self.old from.now to.now list.now) }
         ensures kept { OnErr result (self.new ≡ self.old) }
     {
@@ -349,7 +356,8 @@ impl Ledger {
         list: &Assets,
     ) -> Result<(), AllocError>
         requires able { IsTransferable self.old from.now to.now list.now }
-        ensures transferred { OnOk result (self.new ≡ Transferred from.now to.now list.now self.old) }
+        ensures transferred { OnOk result (self.new
+            ≡ Transferred from.now to.now list.now self.old) }
         ensures kept { OnErr result (self.new ≡ self.old) }
     {
         let assets = list.items();

@@ -66,7 +66,8 @@ pub(crate) fn take_all(rows: &mut Rows, who: &[u8; 32], list: &[Asset])
     requires has { HasAll (rows_held rows.old) who.now list.now }
     ensures sound { AreSound rows.new }
     ensures stay { KeepsRows rows.old rows.new }
-    ensures held { rows_held rows.new ≡ minus_all (rows_held rows.old) (account_rows who.now list.now) }
+    ensures held { rows_held rows.new
+        ≡ minus_all (rows_held rows.old) (account_rows who.now list.now) }
 {
     for asset in list {
         rows.take(who, asset);
@@ -106,13 +107,15 @@ pub(crate) fn make_all_room(
 /// Gives the listed assets to an account that may take them.
 pub(crate) fn give_all(rows: &mut Rows, who: &[u8; 32], list: &[Asset])
     requires sound { AreSound rows.old }
-    requires listed { IsTrue (list_all (λ a. lists rows.old.assets (listed_of (unit_of a))) list.now) }
+    requires listed { IsTrue (list_all (λ a. lists rows.old.assets (listed_of (unit_of a)))
+        list.now) }
     requires room { HasAllRoom rows.old who.now list.now }
     requires may { MayTakeAll (rows_held rows.old) who.now list.now }
     requires once { IsTrue (is_rising list.now) }
     ensures sound { AreSound rows.new }
     ensures assets { rows.new.assets ≡ rows.old.assets }
-    ensures held { rows_held rows.new ≡ plus_all (rows_held rows.old) (account_rows who.now list.now) }
+    ensures held { rows_held rows.new
+        ≡ plus_all (rows_held rows.old) (account_rows who.now list.now) }
 {
     for asset in list {
         rows.give(who, asset);

@@ -64,7 +64,8 @@ impl PartialEq for Sought<'_> {
 
     ghost eq = { λ a b. eq_by_cmp row_cmp (asset_at a.id.now a.kind) (asset_at b.id.now b.kind) };
 
-    ghost laws = { partial_equiv_from_equiv (on_equiv (λ a. asset_at a.id.now a.kind) (eq_by_cmp_equiv rows_total)) };
+    ghost laws = { partial_equiv_from_equiv (on_equiv
+        (λ a. asset_at a.id.now a.kind) (eq_by_cmp_equiv rows_total)) };
 
     fn eq(&self, other: &Self) -> bool {
         *self.id == *other.id && is_same_kind(self.kind, other.kind)
@@ -85,7 +86,8 @@ impl Hash for Sought<'_> {
 
     ghost hash_input = { λ a. location_input a.id.now };
 
-    ghost respects_eq = { λ a b. hashed_alike (asset_at a.id.now a.kind) (asset_at b.id.now b.kind) };
+    ghost respects_eq = { λ a b. hashed_alike (asset_at a.id.now a.kind)
+        (asset_at b.id.now b.kind) };
 
     fn hash<H: Hasher>(&self, state: &mut H) {
         hash_location(self.id, state);

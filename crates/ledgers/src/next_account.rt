@@ -15,7 +15,8 @@ pub(crate) fn next_holder(
 ) -> Option<[u8; 32]>
     requires { (k : AmountKey) → 0 < amount_in_row rows.now.entries k → k.0 < numbers }
     ensures { MatchOption result
-        ((k : AmountKey) → IsAfter (option_copied after.entry) k.1 → amount_in_row rows.now.entries k ≡ 0)
+        ((k : AmountKey) → IsAfter (option_copied after.entry) k.1
+        → amount_in_row rows.now.entries k ≡ 0)
         (IsNextRow (option_copied after.entry) rows.now.entries) }
 {
     match after {
@@ -61,7 +62,8 @@ fn holder_after(rows: &AmountRows, numbers: u32, after: &[u8; 32]) -> Option<[u8
 /// The least account after another of which the row of a number says more than 0.
 fn holder_of(rows: &AmountRows, number: u32, after: &[u8; 32]) -> Option<[u8; 32]>
     ensures { MatchOption result
-        ((w : List ℕ) → account_cmp after.now w ≡ Less → amount_in_row rows.now.entries (number, w) ≡ 0)
+        ((w : List ℕ) → account_cmp after.now w ≡ Less → amount_in_row rows.now.entries (number, w)
+        ≡ 0)
         (IsNextOf rows.now.entries number after.now) }
 {
     for (key, amount) in rows.range((number, AccountKey::of(after))..) {

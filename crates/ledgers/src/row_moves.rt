@@ -46,9 +46,12 @@ pub(crate) fn owned(owner: Option<[u8; 32]>, who: &[u8; 32]) -> u128
 /// Writes who owns the instance of an asset.
 pub(crate) fn set_owner(rows: &mut OwnerRows, number: u32, asset: &Asset, owner: Option<[u8; 32]>)
     requires { HasInstanceRow rows.old.entries number (instance_in asset.now.fun) }
-    ensures wrote { OwnerIs (instance_in asset.now.fun) number owner rows.old.entries rows.new.entries }
-    ensures stay { (q : OwnerKey) → HasOwnerRow rows.old.entries q → HasOwnerRow rows.new.entries q }
-    ensures sorted { IsStrictlySortedBy owner_key_cmp (keys_of rows.old.entries) → IsStrictlySortedBy owner_key_cmp (keys_of rows.new.entries) }
+    ensures wrote { OwnerIs (instance_in asset.now.fun) number owner rows.old.entries
+        rows.new.entries }
+    ensures stay { (q : OwnerKey)
+        → HasOwnerRow rows.old.entries q → HasOwnerRow rows.new.entries q }
+    ensures sorted { IsStrictlySortedBy owner_key_cmp (keys_of rows.old.entries)
+        → IsStrictlySortedBy owner_key_cmp (keys_of rows.new.entries) }
 {
     match asset.fun {
         Fun::Fungible(_) => {}
@@ -59,7 +62,8 @@ pub(crate) fn set_owner(rows: &mut OwnerRows, number: u32, asset: &Asset, owner:
 /// Takes the row of an instance out where it names nobody.
 pub(crate) fn sweep_instance(rows: &mut OwnerRows, number: u32, asset: &Asset)
     ensures same { (q : OwnerKey) → owner_at rows.new.entries q ≡ owner_at rows.old.entries q }
-    ensures sorted { IsStrictlySortedBy owner_key_cmp (keys_of rows.old.entries) → IsStrictlySortedBy owner_key_cmp (keys_of rows.new.entries) }
+    ensures sorted { IsStrictlySortedBy owner_key_cmp (keys_of rows.old.entries)
+        → IsStrictlySortedBy owner_key_cmp (keys_of rows.new.entries) }
 {
     match asset.fun {
         Fun::Fungible(_) => {}
@@ -74,9 +78,12 @@ pub(crate) fn make_instance_row(
     asset: &Asset,
 ) -> Result<(), AllocError>
     ensures same { (q : OwnerKey) → owner_at rows.new.entries q ≡ owner_at rows.old.entries q }
-    ensures stay { (q : OwnerKey) → HasOwnerRow rows.old.entries q → HasOwnerRow rows.new.entries q }
-    ensures made { OnOk result (HasInstanceRow rows.new.entries number (instance_in asset.now.fun)) }
-    ensures sorted { IsStrictlySortedBy owner_key_cmp (keys_of rows.old.entries) → IsStrictlySortedBy owner_key_cmp (keys_of rows.new.entries) }
+    ensures stay { (q : OwnerKey)
+        → HasOwnerRow rows.old.entries q → HasOwnerRow rows.new.entries q }
+    ensures made { OnOk result (HasInstanceRow rows.new.entries number
+        (instance_in asset.now.fun)) }
+    ensures sorted { IsStrictlySortedBy owner_key_cmp (keys_of rows.old.entries)
+        → IsStrictlySortedBy owner_key_cmp (keys_of rows.new.entries) }
 {
     match asset.fun {
         Fun::Fungible(_) => Ok(()),
@@ -88,7 +95,8 @@ pub(crate) fn make_instance_row(
 pub(crate) fn lower_sum(sums: &mut Vec<Sum>, number: u32, amount: u128)
     requires within { number < length sums.old.items }
     requires enough { (s : Sum) → slice_get sums.old.items number ≡ Some s → amount ≤ sum_value s }
-    ensures { (s : Sum) × (t : Sum) × IsSumWritten number sums.old.items sums.new.items s t × (sum_value t ≡ sum_value s - amount) }
+    ensures { (s : Sum) × (t : Sum) × IsSumWritten number sums.old.items sums.new.items s t
+        × (sum_value t ≡ sum_value s - amount) }
 {
     let place = number as usize;
     let sum = sums[place];
@@ -98,8 +106,10 @@ pub(crate) fn lower_sum(sums: &mut Vec<Sum>, number: u32, amount: u128)
 /// Raises the running sum of an asset.
 pub(crate) fn raise_sum(sums: &mut Vec<Sum>, number: u32, amount: u128)
     requires within { number < length sums.old.items }
-    requires room { (s : Sum) → slice_get sums.old.items number ≡ Some s → sum_value s + amount < 2 ^ 192 }
-    ensures { (s : Sum) × (t : Sum) × IsSumWritten number sums.old.items sums.new.items s t × (sum_value t ≡ sum_value s + amount) }
+    requires room { (s : Sum) → slice_get sums.old.items number ≡ Some s
+        → sum_value s + amount < 2 ^ 192 }
+    ensures { (s : Sum) × (t : Sum) × IsSumWritten number sums.old.items sums.new.items s t
+        × (sum_value t ≡ sum_value s + amount) }
 {
     let place = number as usize;
     let sum = sums[place];

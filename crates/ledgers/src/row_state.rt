@@ -85,7 +85,8 @@ impl Rows {
         requires { AreSound self.now }
         ensures { MatchOption result
             (IsFalse (is_barred (rows_held self.now) who.now asset.now))
-            (λ fault. IsTrue (is_barred (rows_held self.now) who.now asset.now) × IsBarred (rows_held self.now) who.now asset.now fault) }
+            (λ fault. IsTrue (is_barred (rows_held self.now) who.now asset.now)
+            × IsBarred (rows_held self.now) who.now asset.now fault) }
     {
         match asset.fun {
             Fun::Fungible(amount) => {
@@ -106,10 +107,12 @@ impl Rows {
     pub(crate) fn take(&mut self, who: &[u8; 32], asset: &Asset)
         requires sound { AreSound self.old }
         requires some { 0 < amount_of_asset asset.now }
-        requires enough { amount_of_asset asset.now ≤ amount (rows_held self.old) (who.now, unit_of asset.now) }
+        requires enough { amount_of_asset asset.now
+            ≤ amount (rows_held self.old) (who.now, unit_of asset.now) }
         ensures sound { AreSound self.new }
         ensures stay { KeepsRows self.old self.new }
-        ensures held { rows_held self.new ≡ minus (rows_held self.old) (who.now, unit_of asset.now) (amount_of_asset asset.now) }
+        ensures held { rows_held self.new ≡ minus (rows_held self.old) (who.now, unit_of asset.now)
+            (amount_of_asset asset.now) }
     {
         let Some(number) = self.number(asset) else {
             unreachable!();
@@ -158,7 +161,8 @@ impl Rows {
         requires may { MayTake (rows_held self.old) who.now asset.now }
         ensures sound { AreSound self.new }
         ensures stay { KeepsRows self.old self.new }
-        ensures held { rows_held self.new ≡ plus (rows_held self.old) (who.now, unit_of asset.now) (amount_of_asset asset.now) }
+        ensures held { rows_held self.new ≡ plus (rows_held self.old) (who.now, unit_of asset.now)
+            (amount_of_asset asset.now) }
     {
         let Some(number) = self.number(asset) else {
             unreachable!();

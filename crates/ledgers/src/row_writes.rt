@@ -31,8 +31,10 @@ pub(crate) fn make_amount_row(
     number: u32,
     who: &[u8; 32],
 ) -> Result<(), AllocError>
-    ensures same { (q : AmountKey) → amount_in_row rows.new.entries q ≡ amount_in_row rows.old.entries q }
-    ensures stay { (q : AmountKey) → HasAmountRow rows.old.entries q → HasAmountRow rows.new.entries q }
+    ensures same { (q : AmountKey)
+        → amount_in_row rows.new.entries q ≡ amount_in_row rows.old.entries q }
+    ensures stay { (q : AmountKey)
+        → HasAmountRow rows.old.entries q → HasAmountRow rows.new.entries q }
     ensures made { OnOk result (HasAmountRow rows.new.entries (number, who.now)) }
     ensures small { AreSmall rows.old.entries → AreSmall rows.new.entries }
 {
@@ -48,8 +50,11 @@ pub(crate) fn make_amount_row(
 pub(crate) fn lower_amount(rows: &mut AmountRows, number: u32, who: &[u8; 32], amount: u128)
     requires there { HasAmountRow rows.old.entries (number, who.now) }
     requires enough { amount ≤ amount_in_row rows.old.entries (number, who.now) }
-    ensures wrote { (q : AmountKey) → amount_in_row rows.new.entries q ≡ (if eq_by_cmp amount_key_cmp (number, who.now) q then amount_in_row rows.old.entries (number, who.now) - amount else amount_in_row rows.old.entries q) }
-    ensures stay { (q : AmountKey) → HasAmountRow rows.old.entries q → HasAmountRow rows.new.entries q }
+    ensures wrote { (q : AmountKey) → amount_in_row rows.new.entries q
+        ≡ (if eq_by_cmp amount_key_cmp (number, who.now) q then amount_in_row rows.old.entries
+        (number, who.now) - amount else amount_in_row rows.old.entries q) }
+    ensures stay { (q : AmountKey)
+        → HasAmountRow rows.old.entries q → HasAmountRow rows.new.entries q }
     ensures small { AreSmall rows.old.entries → AreSmall rows.new.entries }
 {
     match rows.get_mut(&(number, AccountKey::of(who))) {
@@ -62,8 +67,11 @@ pub(crate) fn lower_amount(rows: &mut AmountRows, number: u32, who: &[u8; 32], a
 pub(crate) fn raise_amount(rows: &mut AmountRows, number: u32, who: &[u8; 32], amount: u128)
     requires there { HasAmountRow rows.old.entries (number, who.now) }
     requires room { amount_in_row rows.old.entries (number, who.now) + amount ≤ 2 ^ 128 - 1 }
-    ensures wrote { (q : AmountKey) → amount_in_row rows.new.entries q ≡ (if eq_by_cmp amount_key_cmp (number, who.now) q then amount_in_row rows.old.entries (number, who.now) + amount else amount_in_row rows.old.entries q) }
-    ensures stay { (q : AmountKey) → HasAmountRow rows.old.entries q → HasAmountRow rows.new.entries q }
+    ensures wrote { (q : AmountKey) → amount_in_row rows.new.entries q
+        ≡ (if eq_by_cmp amount_key_cmp (number, who.now) q then amount_in_row rows.old.entries
+        (number, who.now) + amount else amount_in_row rows.old.entries q) }
+    ensures stay { (q : AmountKey)
+        → HasAmountRow rows.old.entries q → HasAmountRow rows.new.entries q }
     ensures small { AreSmall rows.old.entries → AreSmall rows.new.entries }
 {
     match rows.get_mut(&(number, AccountKey::of(who))) {
@@ -74,7 +82,8 @@ pub(crate) fn raise_amount(rows: &mut AmountRows, number: u32, who: &[u8; 32], a
 
 /// Takes a row that says 0 out.
 pub(crate) fn sweep_amount(rows: &mut AmountRows, number: u32, who: &[u8; 32])
-    ensures same { (q : AmountKey) → amount_in_row rows.new.entries q ≡ amount_in_row rows.old.entries q }
+    ensures same { (q : AmountKey)
+        → amount_in_row rows.new.entries q ≡ amount_in_row rows.old.entries q }
     ensures small { AreSmall rows.old.entries → AreSmall rows.new.entries }
 {
     if amount_in(rows, number, who) > 0 {
@@ -97,7 +106,8 @@ pub(crate) fn make_owner_row(
     instance: Instance,
 ) -> Result<(), AllocError>
     ensures same { (q : OwnerKey) → owner_at rows.new.entries q ≡ owner_at rows.old.entries q }
-    ensures stay { (q : OwnerKey) → HasOwnerRow rows.old.entries q → HasOwnerRow rows.new.entries q }
+    ensures stay { (q : OwnerKey)
+        → HasOwnerRow rows.old.entries q → HasOwnerRow rows.new.entries q }
     ensures made { OnOk result (HasOwnerRow rows.new.entries (number, instance)) }
     ensures sorted { IsStrictlySortedBy owner_key_cmp (keys_of rows.new.entries) }
 {
@@ -118,8 +128,11 @@ pub(crate) fn write_owner(
     owner: Option<[u8; 32]>,
 )
     requires { HasOwnerRow rows.old.entries (number, instance) }
-    ensures wrote { (q : OwnerKey) → owner_at rows.new.entries q ≡ (if eq_by_cmp owner_key_cmp (number, instance) q then owner else owner_at rows.old.entries q) }
-    ensures stay { (q : OwnerKey) → HasOwnerRow rows.old.entries q → HasOwnerRow rows.new.entries q }
+    ensures wrote { (q : OwnerKey) → owner_at rows.new.entries q
+        ≡ (if eq_by_cmp owner_key_cmp (number, instance) q then owner
+        else owner_at rows.old.entries q) }
+    ensures stay { (q : OwnerKey)
+        → HasOwnerRow rows.old.entries q → HasOwnerRow rows.new.entries q }
     ensures sorted { IsStrictlySortedBy owner_key_cmp (keys_of rows.new.entries) }
 {
     match rows.insert((number, instance), owner) {

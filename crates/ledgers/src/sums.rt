@@ -76,7 +76,8 @@ impl Sum {
 /// So many sums of nothing.
 pub(crate) fn zero_sums(alloc: Global, count: usize) -> Result<Vec<Sum>, AllocError>
     ensures count { IfOk result (λ sums. length sums.items ≡ count) }
-    ensures zero { IfOk result (λ sums. (k : ℕ) (s : Sum) → slice_get sums.items k ≡ Some s → sum_value s ≡ 0) }
+    ensures zero { IfOk result (λ sums. (k : ℕ) (s : Sum) → slice_get sums.items k ≡ Some s
+        → sum_value s ≡ 0) }
 {
     let mut sums = Vec::with_capacity(alloc, count)?;
     for _ in 0..count {

@@ -112,7 +112,8 @@ fn fill_parachain(c: &mut Cursor<'_>, slot: &mut Junction) -> Result<(), NoSpell
 /// An account of 32 bytes, behind its network.
 #[inline(never)]
 fn fill_account32(c: &mut Cursor<'_>, slot: &mut Junction) -> Result<(), NoSpelling>
-    ensures { Filled result (made2 (optional_at network_at) (take_at 32) AccountId32 c.old) slot.new c.new }
+    ensures { Filled result (made2 (optional_at network_at) (take_at 32) AccountId32 c.old) slot.new
+        c.new }
 {
     let network = take_optional_network(c)?;
     let id = c.take_array()?;
@@ -123,7 +124,8 @@ fn fill_account32(c: &mut Cursor<'_>, slot: &mut Junction) -> Result<(), NoSpell
 /// An account by its number, behind its network.
 #[inline(never)]
 fn fill_account_index(c: &mut Cursor<'_>, slot: &mut Junction) -> Result<(), NoSpelling>
-    ensures { Filled result (made2 (optional_at network_at) (below_at (2 ^ 64)) AccountIndex64 c.old) slot.new c.new }
+    ensures { Filled result (made2 (optional_at network_at) (below_at (2 ^ 64)) AccountIndex64
+        c.old) slot.new c.new }
 {
     let network = take_optional_network(c)?;
     let index = c.compact_u64()?;
@@ -134,7 +136,8 @@ fn fill_account_index(c: &mut Cursor<'_>, slot: &mut Junction) -> Result<(), NoS
 /// An account of 20 bytes, behind its network.
 #[inline(never)]
 fn fill_account20(c: &mut Cursor<'_>, slot: &mut Junction) -> Result<(), NoSpelling>
-    ensures { Filled result (made2 (optional_at network_at) (take_at 20) AccountKey20 c.old) slot.new c.new }
+    ensures { Filled result (made2 (optional_at network_at) (take_at 20) AccountKey20 c.old)
+        slot.new c.new }
 {
     let network = take_optional_network(c)?;
     let key = c.take_array()?;

@@ -14,7 +14,8 @@ use std::fmt::Write;
 
 /// Appends the hex of the junction's spelling.
 fn push_spelled(alloc: Global, text: &mut String, step: &Junction) -> Result<(), AllocError>
-    ensures { OnOk result (string_bytes text.new ≡ string_bytes text.old ++ hex_text (junction step.now)) }
+    ensures { OnOk result (string_bytes text.new
+        ≡ string_bytes text.old ++ hex_text (junction step.now)) }
 {
     let mut out = Out::new(alloc);
     write_junction(&mut out, step)?;
@@ -24,7 +25,8 @@ fn push_spelled(alloc: Global, text: &mut String, step: &Junction) -> Result<(),
 
 /// Appends the text of an account that names no network.
 fn push_account(alloc: Global, text: &mut String, id: &[u8]) -> Result<(), AllocError>
-    ensures { OnOk result (string_bytes text.new ≡ string_bytes text.old ++ (codes "AccountId32(" ++ hex_text id.now ++ codes ")")) }
+    ensures { OnOk result (string_bytes text.new
+        ≡ string_bytes text.old ++ (codes "AccountId32(" ++ hex_text id.now ++ codes ")")) }
 {
     let digits = hex::encode(alloc, id)?;
     write!(text, "AccountId32(0x{digits})")
@@ -38,7 +40,8 @@ fn push_network(
     step: &Junction,
 ) -> Result<(), AllocError>
     requires { step.now ≡ Junction.GlobalConsensus net.now }
-    ensures { OnOk result (string_bytes text.new ≡ string_bytes text.old ++ junction_text step.now) }
+    ensures { OnOk result (string_bytes text.new
+        ≡ string_bytes text.old ++ junction_text step.now) }
 {
     match net {
         NetworkId::Polkadot => text.push_str("GlobalConsensus(Polkadot)"),
@@ -56,7 +59,8 @@ fn push_network(
 
 #[tactic(auto, unfolding(crate::specs::Texts::junction_text))]
 fn push_junction(alloc: Global, text: &mut String, step: &Junction) -> Result<(), AllocError>
-    ensures { OnOk result (string_bytes text.new ≡ string_bytes text.old ++ junction_text step.now) }
+    ensures { OnOk result (string_bytes text.new
+        ≡ string_bytes text.old ++ junction_text step.now) }
 {
     match step {
         Junction::Parachain(id) => write!(text, "Parachain({id})"),
@@ -77,7 +81,8 @@ fn push_junction(alloc: Global, text: &mut String, step: &Junction) -> Result<()
 
 /// Appends each junction behind a slash.
 fn push_steps(alloc: Global, text: &mut String, items: &[Junction]) -> Result<(), AllocError>
-    ensures { OnOk result (string_bytes text.new ≡ string_bytes text.old ++ joined (map step_text items.now)) }
+    ensures { OnOk result (string_bytes text.new
+        ≡ string_bytes text.old ++ joined (map step_text items.now)) }
 {
     for step in items {
         text.push_str("/")?;

@@ -43,14 +43,17 @@ impl From<AllocError> for TextFault {
 
 /// The parts of a text between its slashes.
 fn parts_of(alloc: Global, text: &str) -> Result<Vec<&str>, AllocError>
-    ensures { IfOk result (λ parts. map (λ x. x.now) parts.items ≡ slice_split (λ b. b == 47) text.now) }
+    ensures { IfOk result (λ parts. map (λ x. x.now) parts.items
+        ≡ slice_split (λ b. b == 47) text.now) }
 {
     text.split('/').collect(alloc)
 }
 
 /// What is before an opening parenthesis, and between it and a closing one at the end.
 fn name_and_inside(part: &str) -> Option<(&str, &str)>
-    ensures { (name inside : List ℕ) → IsTrue (lacks 40 name) → part.now ≡ name ++ codes "(" ++ inside ++ codes ")" → MatchOption result ⊥ (λ x. (x.0.now ≡ name) × (x.1.now ≡ inside)) }
+    ensures { (name inside : List ℕ) → IsTrue (lacks 40 name) → part.now
+        ≡ name ++ codes "(" ++ inside ++ codes ")"
+        → MatchOption result ⊥ (λ x. (x.0.now ≡ name) × (x.1.now ≡ inside)) }
 {
     let (name, rest) = part.split_once('(')?;
     let inside = rest.strip_suffix(')')?;
@@ -67,7 +70,8 @@ fn front_junction(bytes: &[u8]) -> Option<Junction>
 
 /// The junction that hex digits spell.
 fn spelled_junction(alloc: Global, digits: &str) -> Result<Option<Junction>, AllocError>
-    ensures found { IfOk result (λ o. (j : Junction) → IsJunction j → digits.now ≡ encode_lower (junction j) → o ≡ Some j) }
+    ensures found { IfOk result (λ o. (j : Junction) → IsJunction j → digits.now
+        ≡ encode_lower (junction j) → o ≡ Some j) }
     ensures fits { IfOk result (λ o. IfSome o IsJunction) }
 {
     match hex::decode(alloc, digits) {
@@ -94,7 +98,8 @@ fn network_of_name(name: &str) -> Option<NetworkId>
 }
 
 fn global_of_text(inside: &str) -> Option<Junction>
-    ensures found { (j : Junction) → IsJunction j → named j ≡ Some (codes "GlobalConsensus", inside.now) → result ≡ Some j }
+    ensures found { (j : Junction)
+        → IsJunction j → named j ≡ Some (codes "GlobalConsensus", inside.now) → result ≡ Some j }
     ensures fits { IfSome result IsJunction }
 {
     let network = network_of_name(inside)?;
@@ -103,13 +108,15 @@ fn global_of_text(inside: &str) -> Option<Junction>
 
 /// What is behind the `0x` at the front.
 fn behind_0x(text: &str) -> Option<&str>
-    ensures { MatchOption result ((rest : List ℕ) → text.now ≢ codes "0x" ++ rest) (λ x. text.now ≡ codes "0x" ++ x.now) }
+    ensures { MatchOption result ((rest : List ℕ) → text.now ≢ codes "0x" ++ rest)
+        (λ x. text.now ≡ codes "0x" ++ x.now) }
 {
     text.strip_prefix("0x")
 }
 
 fn parachain_of_text(inside: &str) -> Option<Junction>
-    ensures found { (j : Junction) → IsJunction j → named j ≡ Some (codes "Parachain", inside.now) → result ≡ Some j }
+    ensures found { (j : Junction)
+        → IsJunction j → named j ≡ Some (codes "Parachain", inside.now) → result ≡ Some j }
     ensures fits { IfSome result IsJunction }
 {
     let id = inside.parse().ok()?;
@@ -117,7 +124,8 @@ fn parachain_of_text(inside: &str) -> Option<Junction>
 }
 
 fn pallet_of_text(inside: &str) -> Option<Junction>
-    ensures found { (j : Junction) → IsJunction j → named j ≡ Some (codes "PalletInstance", inside.now) → result ≡ Some j }
+    ensures found { (j : Junction)
+        → IsJunction j → named j ≡ Some (codes "PalletInstance", inside.now) → result ≡ Some j }
     ensures fits { IfSome result IsJunction }
 {
     let index = inside.parse().ok()?;
@@ -125,7 +133,8 @@ fn pallet_of_text(inside: &str) -> Option<Junction>
 }
 
 fn general_index_of_text(inside: &str) -> Option<Junction>
-    ensures found { (j : Junction) → IsJunction j → named j ≡ Some (codes "GeneralIndex", inside.now) → result ≡ Some j }
+    ensures found { (j : Junction)
+        → IsJunction j → named j ≡ Some (codes "GeneralIndex", inside.now) → result ≡ Some j }
     ensures fits { IfSome result IsJunction }
 {
     let index = inside.parse().ok()?;
@@ -133,7 +142,8 @@ fn general_index_of_text(inside: &str) -> Option<Junction>
 }
 
 fn account_of_text(inside: &str) -> Option<Junction>
-    ensures found { (j : Junction) → IsJunction j → named j ≡ Some (codes "AccountId32", inside.now) → result ≡ Some j }
+    ensures found { (j : Junction)
+        → IsJunction j → named j ≡ Some (codes "AccountId32", inside.now) → result ≡ Some j }
     ensures fits { IfSome result IsJunction }
 {
     let digits = behind_0x(inside)?;
@@ -143,7 +153,8 @@ fn account_of_text(inside: &str) -> Option<Junction>
 
 /// The junction of a name and what its parentheses hold.
 fn named_junction(name: &str, inside: &str) -> Option<Junction>
-    ensures found { (j : Junction) → IsJunction j → named j ≡ Some (name.now, inside.now) → result ≡ Some j }
+    ensures found { (j : Junction)
+        → IsJunction j → named j ≡ Some (name.now, inside.now) → result ≡ Some j }
     ensures fits { IfSome result IsJunction }
 {
     match name {
@@ -157,7 +168,8 @@ fn named_junction(name: &str, inside: &str) -> Option<Junction>
 }
 
 fn junction_of_text(alloc: Global, part: &str) -> Result<Option<Junction>, AllocError>
-    ensures found { IfOk result (λ o. (j : Junction) → IsJunction j → part.now ≡ junction_text j → o ≡ Some j) }
+    ensures found { IfOk result (λ o. (j : Junction) → IsJunction j → part.now ≡ junction_text j → o
+        ≡ Some j) }
     ensures fits { IfOk result (λ o. IfSome o IsJunction) }
 {
     if let Some(digits) = behind_0x(part) {
@@ -171,8 +183,11 @@ fn junction_of_text(alloc: Global, part: &str) -> Result<Option<Junction>, Alloc
 
 /// A junction for each part, at most eight.
 fn interior_of_texts(alloc: Global, parts: &[&str]) -> Result<Option<Junctions>, AllocError>
-    ensures found { IfOk result (λ o. (js : List Junction) → length js ≤ 8 → AllByRecursion IsJunction js → map (λ x. x.now) parts.now ≡ map junction_text js → o ≡ Some js) }
-    ensures fits { IfOk result (λ o. IfSome o (λ js. (length js ≤ 8) × AllByRecursion IsJunction js)) }
+    ensures found { IfOk result (λ o. (js : List Junction) → length js ≤ 8
+        → AllByRecursion IsJunction js → map (λ x. x.now) parts.now ≡ map junction_text js → o
+        ≡ Some js) }
+    ensures fits { IfOk result (λ o. IfSome o (λ js. (length js ≤ 8)
+        × AllByRecursion IsJunction js)) }
 {
     let mut junctions = Junctions::empty();
     for part in parts {

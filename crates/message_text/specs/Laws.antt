@@ -5,9 +5,9 @@ use Rattle.scale_codec.specs.Spelling.{joined}
 use Rattle.std.specs.Option.{option_map}
 use Rattle.xcm_program.specs.declared.instruction.Instruction.{Instruction, out-Instruction, fold_out-Instruction, map-Instruction}
 use Rattle.xcm_program.specs.declared.instruction.Instruction.TheOpen.{Instruction-F}
-use Rattle.xcm_program.specs.Measure.{inner, inner_of, deep_count_one}
+use Rattle.xcm_program.specs.Measure.{inner, inner_of}
 use Rattle.xcm_program.specs.Texts.{instruction_name}
-use Rattle.xcm_program.specs.Laws.{inner-map, deep_count_inside, deep_count_one-is}
+use Rattle.xcm_program.specs.Laws.{inner-map}
 use Rattle.message_text.specs.declared.names.FieldName.TheVariants.{Xcm}
 use Rattle.message_text.specs.Names.{name_text}
 use Rattle.message_text.specs.Lines.{line}
@@ -84,9 +84,3 @@ some_text i level p inside =
     text_by i level (Some p) inside
     ∙ ap (λ t. line level (instruction_name (out-Instruction i)) ++ (own_fields (level + 1) (out-Instruction i)
     ++ (line (level + 1) (name_text Xcm) ++ t))) (two_deeper level p)
-
--- how many instructions there are, by what was found inside
-pub counted_by : (i : Instruction) (nested : Option (List Instruction)) → inner_of i ≡ nested
-    → deep_count_one i ≡ 1 + deep_count_inside nested
-counted_by i nested inside =
-    deep_count_one-is i ∙ ap (λ (o : Option (List Instruction)). 1 + deep_count_inside o) inside

@@ -3,7 +3,7 @@ ghost use Rattle.std.specs.Prelude.{◌≡◌};
 ghost use Rattle.message_text.specs.Names.{name_text};
 
 /// A field of an instruction or of a query (XCM format).
-#[derive(Clone, Copy, Debug)]
+#[derive(Clone, Copy)]
 pub(crate) enum FieldName {
     /// `assets`.
     Assets,

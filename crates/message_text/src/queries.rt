@@ -19,7 +19,8 @@ pub(crate) fn push_info(
     info: &QueryInfo,
 ) -> Result<(), AllocError>
     requires { level + 1 < 2 ^ 32 }
-    ensures { OnOk result (string_bytes text.new ≡ string_bytes text.old ++ info_field level info.now) }
+    ensures { OnOk result (string_bytes text.new
+        ≡ string_bytes text.old ++ info_field level info.now) }
 {
     push_line(text, level, name_text(FieldName::Info))?;
     push_location(

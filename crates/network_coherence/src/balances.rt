@@ -23,7 +23,8 @@ use trust_tables::AssetRow;
 
 /// Whether what a chain's account holds is of the asset.
 pub(crate) fn is_of(context: &Junctions, asset: &Asset, home: &Junctions, row: &AssetRow) -> bool
-    ensures { result ≡ is_unit_at context.now (path_of home.now row.now.id, row.now.kind) every (unit_of asset.now) }
+    ensures { result ≡ is_unit_at context.now (path_of home.now row.now.id, row.now.kind) every
+        (unit_of asset.now) }
 {
     match &asset.id {
         AssetId::Concrete(id) => is_asset(context, id, asset.kind(), home, row),
@@ -60,7 +61,8 @@ fn is_share(
     home: &Junctions,
     row: &AssetRow,
 ) -> bool
-    ensures { result ≡ is_unit_of who context.now (path_of home.now row.now.id, row.now.kind) every (holder_of balance.now) }
+    ensures { result ≡ is_unit_of who context.now (path_of home.now row.now.id, row.now.kind) every
+        (holder_of balance.now) }
 {
     is_of_account(who, balance) && is_of(context, &balance.asset, home, row)
 }
@@ -73,7 +75,9 @@ fn share(
     home: &Junctions,
     row: &AssetRow,
 ) -> u128
-    ensures { result ≡ amount_if (is_unit_of who context.now (path_of home.now row.now.id, row.now.kind) every (holder_of balance.now)) (amount_of balance.now.asset) }
+    ensures { result ≡ amount_if (is_unit_of who context.now
+        (path_of home.now row.now.id, row.now.kind) every (holder_of balance.now))
+        (amount_of balance.now.asset) }
 {
     if is_share(who, context, balance, home, row) {
         return balance.asset.amount();
@@ -89,7 +93,9 @@ fn sum_of(
     home: &Junctions,
     row: &AssetRow,
 ) -> Sum
-    ensures { sum_value result ≡ sum_where (is_unit_of who context.now (path_of home.now row.now.id, row.now.kind) every) (balance_rows balances.now) }
+    ensures { sum_value result
+        ≡ sum_where (is_unit_of who context.now (path_of home.now row.now.id, row.now.kind) every)
+        (balance_rows balances.now) }
 {
     let mut sum = Sum::zero();
     for balance in balances {
@@ -107,7 +113,8 @@ fn is_unit(
     row: &AssetRow,
     fun: &Fun,
 ) -> bool
-    ensures { result ≡ has_some (is_unit_of who context.now (path_of home.now row.now.id, row.now.kind) (just (instance_in fun.now))) balance.now }
+    ensures { result ≡ has_some (is_unit_of who context.now
+        (path_of home.now row.now.id, row.now.kind) (just (instance_in fun.now))) balance.now }
 {
     balance.asset.amount() > 0
         && same_instance(fun, &balance.asset.fun)
@@ -123,7 +130,8 @@ fn has_unit(
     row: &AssetRow,
     fun: &Fun,
 ) -> bool
-    ensures { result ≡ some_balance (is_unit_of who context.now (path_of home.now row.now.id, row.now.kind) (just (instance_in fun.now))) balances.now }
+    ensures { result ≡ some_balance (is_unit_of who context.now
+        (path_of home.now row.now.id, row.now.kind) (just (instance_in fun.now))) balances.now }
 {
     balances
         .iter()
@@ -132,7 +140,8 @@ fn has_unit(
 
 /// What all accounts of a chain hold of the asset.
 pub(crate) fn amount_at(spec: &NetworkSpec, home: &Junctions, row: &AssetRow, at: &ChainSpec) -> Sum
-    ensures { sum_value result ≡ causes.amount_at (path_of home.now row.now.id, row.now.kind) every (entry_of spec.now at.now) }
+    ensures { sum_value result ≡ causes.amount_at (path_of home.now row.now.id, row.now.kind) every
+        (entry_of spec.now at.now) }
 {
     let context = context_of(spec, at);
     sum_of(None, &context, at.accounts.items(), home, row)
@@ -146,7 +155,8 @@ pub(crate) fn has_owner(
     at: &ChainSpec,
     fun: &Fun,
 ) -> bool
-    ensures { result ≡ nat_lt 0 (causes.amount_at (path_of home.now row.now.id, row.now.kind) (just (instance_in fun.now)) (entry_of spec.now at.now)) }
+    ensures { result ≡ nat_lt 0 (causes.amount_at (path_of home.now row.now.id, row.now.kind)
+        (just (instance_in fun.now)) (entry_of spec.now at.now)) }
 {
     let context = context_of(spec, at);
     has_unit(None, &context, at.accounts.items(), home, row, fun)
@@ -160,7 +170,8 @@ pub(crate) fn amount_for(
     row: &AssetRow,
     at: &ChainSpec,
 ) -> Sum
-    ensures { sum_value result ≡ causes.amount_for chain (path_of home.now row.now.id, row.now.kind) every (entry_of spec.now at.now) }
+    ensures { sum_value result ≡ causes.amount_for chain (path_of home.now row.now.id, row.now.kind)
+        every (entry_of spec.now at.now) }
 {
     let who = sovereign_account(at.chain, chain);
     let context = context_of(spec, at);
@@ -176,7 +187,8 @@ pub(crate) fn has_account(
     at: &ChainSpec,
     fun: &Fun,
 ) -> bool
-    ensures { result ≡ nat_lt 0 (causes.amount_for chain (path_of home.now row.now.id, row.now.kind) (just (instance_in fun.now)) (entry_of spec.now at.now)) }
+    ensures { result ≡ nat_lt 0 (causes.amount_for chain (path_of home.now row.now.id, row.now.kind)
+        (just (instance_in fun.now)) (entry_of spec.now at.now)) }
 {
     let who = sovereign_account(at.chain, chain);
     let context = context_of(spec, at);

@@ -35,14 +35,17 @@ use trust_tables::{AssetRole, AssetRow};
 
 /// Whether a chain's row lists the asset as native.
 fn is_home_row(context: &Junctions, other: &AssetRow, home: &Junctions, row: &AssetRow) -> bool
-    ensures { result ≡ (is_native_role other.now.role && (eq_by_cmp junctions_cmp (path_of context.now other.now.id) (path_of home.now row.now.id) && same_kind other.now.kind row.now.kind)) }
+    ensures { result ≡ (is_native_role other.now.role
+        && (eq_by_cmp junctions_cmp (path_of context.now other.now.id)
+        (path_of home.now row.now.id) && same_kind other.now.kind row.now.kind)) }
 {
     is_native(&other.role) && is_asset(context, &other.id, other.kind, home, row)
 }
 
 /// Whether the asset is at home at a chain.
 fn is_home(spec: &NetworkSpec, home: &Junctions, row: &AssetRow, at: &ChainSpec) -> bool
-    ensures { result ≡ networks.is_home (path_of home.now row.now.id, row.now.kind) (table_of spec.now at.now) }
+    ensures { result ≡ networks.is_home (path_of home.now row.now.id, row.now.kind)
+        (table_of spec.now at.now) }
 {
     let context = context_of(spec, at);
     let rows = at.assets.items();
@@ -67,7 +70,8 @@ fn is_shared(
     balance: &Balance,
     at: &ChainSpec,
 ) -> bool
-    ensures { result ≡ has_some (balances.is_shared home.now (path_of home.now row.now.id, row.now.kind) (entry_of spec.now at.now)) balance.now }
+    ensures { result ≡ has_some (balances.is_shared home.now
+        (path_of home.now row.now.id, row.now.kind) (entry_of spec.now at.now)) balance.now }
 {
     let fun = &balance.asset.fun;
     balance.asset.amount() > 0
@@ -84,7 +88,8 @@ fn has_shared(
     accounts: &[Balance],
     at: &ChainSpec,
 ) -> bool
-    ensures { result ≡ some_balance (balances.is_shared home.now (path_of home.now row.now.id, row.now.kind) (entry_of spec.now at.now)) accounts.now }
+    ensures { result ≡ some_balance (balances.is_shared home.now
+        (path_of home.now row.now.id, row.now.kind) (entry_of spec.now at.now)) accounts.now }
 {
     accounts
         .iter()
@@ -93,7 +98,8 @@ fn has_shared(
 
 /// Whether another chain is a home of a row's asset, where an instance has an owner that has one at the row's chain too.
 fn shares_instance(spec: &NetworkSpec, here: &ChainSpec, row: &AssetRow, at: &ChainSpec) -> bool
-    ensures { result ≡ causes.shares_instance (asset_of_row (table_of spec.now here.now) row.now) (entry_of spec.now here.now) (entry_of spec.now at.now) }
+    ensures { result ≡ causes.shares_instance (asset_of_row (table_of spec.now here.now) row.now)
+        (entry_of spec.now here.now) (entry_of spec.now at.now) }
 {
     let home = context_of(spec, here);
     let accounts = here.accounts.items();
@@ -107,7 +113,8 @@ fn first_sharing(
     row: &AssetRow,
     later: &[ChainSpec],
 ) -> Option<Incoherent>
-    ensures { finding_of result ≡ parts.first_sharing (entry_of spec.now here.now) row.now (entries_in spec.now later.now) }
+    ensures { finding_of result ≡ parts.first_sharing (entry_of spec.now here.now) row.now
+        (entries_in spec.now later.now) }
 {
     for at in later {
         if shares_instance(spec, here, row, at) {
@@ -128,7 +135,8 @@ fn row_sharing(
     row: &AssetRow,
     later: &[ChainSpec],
 ) -> Option<Incoherent>
-    ensures { finding_of result ≡ row_sharing (entry_of spec.now here.now) (entries_in spec.now later.now) row.now }
+    ensures { finding_of result ≡ row_sharing (entry_of spec.now here.now)
+        (entries_in spec.now later.now) row.now }
 {
     if same_kind(row.kind, Kind::Fungible) {
         return None;
@@ -141,7 +149,8 @@ fn row_sharing(
 
 /// The same of the first of a chain's rows.
 fn chain_sharing(spec: &NetworkSpec, here: &ChainSpec, later: &[ChainSpec]) -> Option<Incoherent>
-    ensures { finding_of result ≡ chain_sharing (entry_of spec.now here.now) (entries_in spec.now later.now) }
+    ensures { finding_of result ≡ chain_sharing (entry_of spec.now here.now)
+        (entries_in spec.now later.now) }
 {
     let rows = here.assets.items();
     for row in rows {
@@ -177,7 +186,9 @@ fn is_uncovered(
     balance: &Balance,
     at: &ChainSpec,
 ) -> bool
-    ensures { result ≡ has_some (balances.is_uncovered home.now (path_of home.now row.now.id, row.now.kind) chain (entry_of spec.now at.now)) balance.now }
+    ensures { result ≡ has_some (balances.is_uncovered home.now
+        (path_of home.now row.now.id, row.now.kind) chain (entry_of spec.now at.now))
+        balance.now }
 {
     let fun = &balance.asset.fun;
     balance.asset.amount() > 0
@@ -194,7 +205,9 @@ fn has_uncovered(
     accounts: &[Balance],
     at: &ChainSpec,
 ) -> bool
-    ensures { result ≡ some_balance (balances.is_uncovered home.now (path_of home.now row.now.id, row.now.kind) chain (entry_of spec.now at.now)) accounts.now }
+    ensures { result ≡ some_balance (balances.is_uncovered home.now
+        (path_of home.now row.now.id, row.now.kind) chain (entry_of spec.now at.now))
+        accounts.now }
 {
     accounts.iter().any(|balance| is_uncovered(spec, chain, home, row, balance, at))
 }
@@ -202,7 +215,8 @@ fn has_uncovered(
 /// Whether the chain's account at the reserve has less than the chain's accounts have of the row's asset, or lacks one of its units.
 /// Where they have nothing there is no unit, and what has amounts is one unit.
 fn is_short(spec: &NetworkSpec, here: &ChainSpec, row: &AssetRow, reserve: &ChainSpec) -> bool
-    ensures { result ≡ causes.is_short (asset_of_row (table_of spec.now here.now) row.now) (entry_of spec.now here.now) (Some (entry_of spec.now reserve.now)) }
+    ensures { result ≡ causes.is_short (asset_of_row (table_of spec.now here.now) row.now)
+        (entry_of spec.now here.now) (Some (entry_of spec.now reserve.now)) }
 {
     let home = context_of(spec, here);
     let owed = amount_at(spec, &home, row, here);
@@ -229,7 +243,8 @@ fn chain_at(spec: &NetworkSpec, chain: ChainId) -> Option<&ChainSpec>
 
 /// Whether the reserve is there, and keeps too little of the row's asset for the chain.
 fn is_short_at(spec: &NetworkSpec, here: &ChainSpec, row: &AssetRow, reserve: ChainId) -> bool
-    ensures { result ≡ causes.is_short (asset_of_row (table_of spec.now here.now) row.now) (entry_of spec.now here.now) (entry_at (entries_of spec.now) reserve) }
+    ensures { result ≡ causes.is_short (asset_of_row (table_of spec.now here.now) row.now)
+        (entry_of spec.now here.now) (entry_at (entries_of spec.now) reserve) }
 {
     match chain_at(spec, reserve) {
         None => false,
@@ -239,7 +254,8 @@ fn is_short_at(spec: &NetworkSpec, here: &ChainSpec, row: &AssetRow, reserve: Ch
 
 /// A row's reserve, where it keeps too little; a native asset has no reserve.
 fn row_unbacked(spec: &NetworkSpec, here: &ChainSpec, row: &AssetRow) -> Option<Incoherent>
-    ensures { finding_of result ≡ causes.not_backed (entries_of spec.now) (entry_of spec.now here.now) row.now row.now.role }
+    ensures { finding_of result ≡ causes.not_backed (entries_of spec.now)
+        (entry_of spec.now here.now) row.now row.now.role }
 {
     match &row.role {
         AssetRole::Native { .. } => None,
@@ -258,7 +274,8 @@ fn row_unbacked(spec: &NetworkSpec, here: &ChainSpec, row: &AssetRow) -> Option<
 
 /// The first such reserve of a chain's rows.
 fn chain_unbacked(spec: &NetworkSpec, here: &ChainSpec) -> Option<Incoherent>
-    ensures { finding_of result ≡ parts.not_backed_at (entries_of spec.now) (entry_of spec.now here.now) }
+    ensures { finding_of result ≡ parts.not_backed_at (entries_of spec.now)
+        (entry_of spec.now here.now) }
 {
     let rows = here.assets.items();
     for row in rows {
@@ -292,7 +309,8 @@ fn share_elsewhere(
     row: &AssetRow,
     at: &ChainSpec,
 ) -> Sum
-    ensures { sum_value result ≡ balances.share_elsewhere (path_of home.now row.now.id, row.now.kind) here (entry_of spec.now at.now) }
+    ensures { sum_value result ≡ balances.share_elsewhere
+        (path_of home.now row.now.id, row.now.kind) here (entry_of spec.now at.now) }
 {
     if !same_chain(at.chain, here) && is_home(spec, home, row, at) {
         return amount_at(spec, home, row, at);
@@ -302,7 +320,8 @@ fn share_elsewhere(
 
 /// Whether an amount is below what the other homes of a row's asset hold.
 fn is_below_elsewhere(spec: &NetworkSpec, here: &ChainSpec, row: &AssetRow, amount: u128) -> bool
-    ensures { result ≡ nat_lt amount (elsewhere (asset_of_row (table_of spec.now here.now) row.now) here.now.chain (entries_of spec.now)) }
+    ensures { result ≡ nat_lt amount (elsewhere (asset_of_row (table_of spec.now here.now) row.now)
+        here.now.chain (entries_of spec.now)) }
 {
     let home = context_of(spec, here);
     let mut left = amount;
@@ -319,7 +338,8 @@ fn is_below_elsewhere(spec: &NetworkSpec, here: &ChainSpec, row: &AssetRow, amou
 
 /// A row's checking account, where it is below what other homes hold.
 fn row_short(spec: &NetworkSpec, here: &ChainSpec, row: &AssetRow) -> Option<Incoherent>
-    ensures { finding_of result ≡ causes.falls_short (entries_of spec.now) (entry_of spec.now here.now) row.now (causes.checking_in row.now.role) }
+    ensures { finding_of result ≡ causes.falls_short (entries_of spec.now)
+        (entry_of spec.now here.now) row.now (causes.checking_in row.now.role) }
 {
     match &row.role {
         AssetRole::Native {
@@ -336,7 +356,8 @@ fn row_short(spec: &NetworkSpec, here: &ChainSpec, row: &AssetRow) -> Option<Inc
 
 /// The first such checking account of a chain's rows.
 fn chain_short(spec: &NetworkSpec, here: &ChainSpec) -> Option<Incoherent>
-    ensures { finding_of result ≡ parts.falls_short_at (entries_of spec.now) (entry_of spec.now here.now) }
+    ensures { finding_of result ≡ parts.falls_short_at (entries_of spec.now)
+        (entry_of spec.now here.now) }
 {
     let rows = here.assets.items();
     for row in rows {

@@ -130,14 +130,18 @@ fn is_back(
     context: &Junctions,
     other: &AssetRow,
 ) -> bool
-    ensures { result ≡ ((eq_by_cmp junctions_cmp (path_of context.now other.now.id) (path_of home.now row.now.id) && same_kind other.now.kind row.now.kind) && causes.has_partner chain other.now.role) }
+    ensures { result
+        ≡ ((eq_by_cmp junctions_cmp (path_of context.now other.now.id) (path_of home.now row.now.id)
+        && same_kind other.now.kind row.now.kind)
+        && causes.has_partner chain other.now.role) }
 {
     is_asset(context, &other.id, other.kind, home, row) && has_partner(chain, &other.role)
 }
 
 /// Whether the second chain lists the row's asset as native with the first chain as partner.
 fn has_back(spec: &NetworkSpec, here: &ChainSpec, row: &AssetRow, there: &ChainSpec) -> bool
-    ensures { result ≡ parts.has_back (table_of spec.now here.now) row.now (table_of spec.now there.now) }
+    ensures { result ≡ parts.has_back (table_of spec.now here.now) row.now
+        (table_of spec.now there.now) }
 {
     let home = context_of(spec, here);
     let context = context_of(spec, there);
@@ -154,7 +158,8 @@ fn lists_back(
     chain: ChainId,
     there: &ChainSpec,
 ) -> bool
-    ensures { result ≡ causes.lists_back (table_of spec.now here.now) row.now chain (table_of spec.now there.now) }
+    ensures { result ≡ causes.lists_back (table_of spec.now here.now) row.now chain
+        (table_of spec.now there.now) }
 {
     same_chain(there.chain, chain) && has_back(spec, here, row, there)
 }
@@ -167,7 +172,8 @@ fn some_lists_back(
     chain: ChainId,
     chains: &[ChainSpec],
 ) -> bool
-    ensures { result ≡ list_any (λ there. causes.lists_back (table_of spec.now here.now) row.now chain (table_of spec.now there)) chains.now }
+    ensures { result ≡ list_any (λ there. causes.lists_back (table_of spec.now here.now) row.now
+        chain (table_of spec.now there)) chains.now }
 {
     chains
         .iter()
@@ -176,7 +182,8 @@ fn some_lists_back(
 
 /// Whether the chain is there, and lists the row's asset as native with the row's chain as partner.
 fn is_listed_back(spec: &NetworkSpec, here: &ChainSpec, row: &AssetRow, chain: ChainId) -> bool
-    ensures { result ≡ list_any (causes.lists_back (table_of spec.now here.now) row.now chain) (tables_in spec.now) }
+    ensures { result ≡ list_any (causes.lists_back (table_of spec.now here.now) row.now chain)
+        (tables_in spec.now) }
 {
     some_lists_back(spec, here, row, chain, spec.chains.items())
 }
@@ -188,7 +195,8 @@ fn first_unlisted(
     row: &AssetRow,
     partners: &[ChainId],
 ) -> Option<Incoherent>
-    ensures { finding_of result ≡ parts.first_unlisted (tables_in spec.now) (table_of spec.now here.now) row.now partners.now }
+    ensures { finding_of result ≡ parts.first_unlisted (tables_in spec.now)
+        (table_of spec.now here.now) row.now partners.now }
 {
     for partner in partners {
         if !is_listed_back(spec, here, row, *partner) {
@@ -204,7 +212,8 @@ fn first_unlisted(
 
 /// A row's first partner that doesn't list the asset so; a derivative has no partners.
 fn row_partner(spec: &NetworkSpec, here: &ChainSpec, row: &AssetRow) -> Option<Incoherent>
-    ensures { finding_of result ≡ causes.partner_unlisted (tables_in spec.now) (table_of spec.now here.now) row.now row.now.role }
+    ensures { finding_of result ≡ causes.partner_unlisted (tables_in spec.now)
+        (table_of spec.now here.now) row.now row.now.role }
 {
     match &row.role {
         AssetRole::Native { partners, .. } => first_unlisted(spec, here, row, partners.items()),
@@ -214,7 +223,8 @@ fn row_partner(spec: &NetworkSpec, here: &ChainSpec, row: &AssetRow) -> Option<I
 
 /// The first such partner of a chain's rows.
 fn chain_partner(spec: &NetworkSpec, here: &ChainSpec) -> Option<Incoherent>
-    ensures { finding_of result ≡ parts.partners_unlisted_at (tables_in spec.now) (table_of spec.now here.now) }
+    ensures { finding_of result ≡ parts.partners_unlisted_at (tables_in spec.now)
+        (table_of spec.now here.now) }
 {
     let rows = here.assets.items();
     for row in rows {
@@ -227,7 +237,8 @@ fn chain_partner(spec: &NetworkSpec, here: &ChainSpec) -> Option<Incoherent>
 
 /// The first partner that doesn't list the asset as native with the row's chain as partner.
 pub(crate) fn partner_unlisted(spec: &NetworkSpec) -> Option<Incoherent>
-    ensures { finding_of result ≡ parts.partners_unlisted (tables_in spec.now) (tables_in spec.now) }
+    ensures { finding_of result ≡ parts.partners_unlisted (tables_in spec.now)
+        (tables_in spec.now) }
 {
     let chains = spec.chains.items();
     for here in chains {
@@ -240,14 +251,17 @@ pub(crate) fn partner_unlisted(spec: &NetworkSpec) -> Option<Incoherent>
 
 /// Whether a row of another chain is of the row's asset, and native.
 fn is_source(home: &Junctions, row: &AssetRow, context: &Junctions, other: &AssetRow) -> bool
-    ensures { result ≡ ((eq_by_cmp junctions_cmp (path_of context.now other.now.id) (path_of home.now row.now.id) && same_kind other.now.kind row.now.kind) && is_native_role other.now.role) }
+    ensures { result
+        ≡ ((eq_by_cmp junctions_cmp (path_of context.now other.now.id) (path_of home.now row.now.id)
+        && same_kind other.now.kind row.now.kind) && is_native_role other.now.role) }
 {
     is_native(&other.role) && is_asset(context, &other.id, other.kind, home, row)
 }
 
 /// Whether the second chain lists the row's asset as native.
 fn has_source(spec: &NetworkSpec, here: &ChainSpec, row: &AssetRow, there: &ChainSpec) -> bool
-    ensures { result ≡ parts.has_source (table_of spec.now here.now) row.now (table_of spec.now there.now) }
+    ensures { result ≡ parts.has_source (table_of spec.now here.now) row.now
+        (table_of spec.now there.now) }
 {
     let home = context_of(spec, here);
     let context = context_of(spec, there);
@@ -264,7 +278,8 @@ fn lists_native(
     chain: ChainId,
     there: &ChainSpec,
 ) -> bool
-    ensures { result ≡ causes.lists_native (table_of spec.now here.now) row.now chain (table_of spec.now there.now) }
+    ensures { result ≡ causes.lists_native (table_of spec.now here.now) row.now chain
+        (table_of spec.now there.now) }
 {
     same_chain(there.chain, chain) && has_source(spec, here, row, there)
 }
@@ -277,7 +292,8 @@ fn some_lists_native(
     chain: ChainId,
     chains: &[ChainSpec],
 ) -> bool
-    ensures { result ≡ list_any (λ there. causes.lists_native (table_of spec.now here.now) row.now chain (table_of spec.now there)) chains.now }
+    ensures { result ≡ list_any (λ there. causes.lists_native (table_of spec.now here.now) row.now
+        chain (table_of spec.now there)) chains.now }
 {
     chains
         .iter()
@@ -286,14 +302,16 @@ fn some_lists_native(
 
 /// Whether the chain is there, and lists the row's asset as native.
 fn is_native_at(spec: &NetworkSpec, here: &ChainSpec, row: &AssetRow, chain: ChainId) -> bool
-    ensures { result ≡ list_any (causes.lists_native (table_of spec.now here.now) row.now chain) (tables_in spec.now) }
+    ensures { result ≡ list_any (causes.lists_native (table_of spec.now here.now) row.now chain)
+        (tables_in spec.now) }
 {
     some_lists_native(spec, here, row, chain, spec.chains.items())
 }
 
 /// A row's reserve, where it doesn't list the asset as native; a native asset has no reserve.
 fn row_reserve(spec: &NetworkSpec, here: &ChainSpec, row: &AssetRow) -> Option<Incoherent>
-    ensures { finding_of result ≡ causes.reserve_unlisted (tables_in spec.now) (table_of spec.now here.now) row.now row.now.role }
+    ensures { finding_of result ≡ causes.reserve_unlisted (tables_in spec.now)
+        (table_of spec.now here.now) row.now row.now.role }
 {
     match &row.role {
         AssetRole::Native { .. } => None,
@@ -312,7 +330,8 @@ fn row_reserve(spec: &NetworkSpec, here: &ChainSpec, row: &AssetRow) -> Option<I
 
 /// The first such reserve of a chain's rows.
 fn chain_reserve(spec: &NetworkSpec, here: &ChainSpec) -> Option<Incoherent>
-    ensures { finding_of result ≡ parts.reserves_unlisted_at (tables_in spec.now) (table_of spec.now here.now) }
+    ensures { finding_of result ≡ parts.reserves_unlisted_at (tables_in spec.now)
+        (table_of spec.now here.now) }
 {
     let rows = here.assets.items();
     for row in rows {
@@ -325,7 +344,8 @@ fn chain_reserve(spec: &NetworkSpec, here: &ChainSpec) -> Option<Incoherent>
 
 /// The first reserve that doesn't list the asset as native.
 pub(crate) fn reserve_unlisted(spec: &NetworkSpec) -> Option<Incoherent>
-    ensures { finding_of result ≡ parts.reserves_unlisted (tables_in spec.now) (tables_in spec.now) }
+    ensures { finding_of result ≡ parts.reserves_unlisted (tables_in spec.now)
+        (tables_in spec.now) }
 {
     let chains = spec.chains.items();
     for here in chains {

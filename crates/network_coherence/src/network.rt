@@ -36,7 +36,8 @@ fn first_cause(spec: &NetworkSpec) -> Option<Incoherent>
 /// order, each over chains in order, their rows in listed order and a row's partners in listed order. It takes no memory.
 pub fn coherent(spec: &NetworkSpec) -> Result<(), Incoherent>
     ensures coherent { OnOk result (first_cause (entries_of spec.now) ≡ None) }
-    ensures first { IfErr result (λ found. first_cause (entries_of spec.now) ≡ Some (incoherent_of found)) }
+    ensures first { IfErr result (λ found. first_cause (entries_of spec.now)
+        ≡ Some (incoherent_of found)) }
 {
     match first_cause(spec) {
         None => Ok(()),

@@ -106,7 +106,8 @@ fn are_apart(a: &Junction, b: &Junction) -> bool
 /// Whether two lists end with different numbers: whatever stands before them, the lists are then different. That is what paths differ in
 /// most often.
 fn ends_apart(a: &[Junction], b: &[Junction]) -> bool
-    ensures { IsTrue result → (front other_front : List Junction) → front ++ a.now ≢ other_front ++ b.now }
+    ensures { IsTrue result → (front other_front : List Junction)
+        → front ++ a.now ≢ other_front ++ b.now }
 {
     if a.is_empty() || b.is_empty() {
         return false;
@@ -146,7 +147,8 @@ pub fn same_path(
     other_context: &Junctions,
     other_id: &Location,
 ) -> bool
-    ensures { result ≡ eq_by_cmp junctions_cmp (path_of context.now id.now) (path_of other_context.now other_id.now) }
+    ensures { result ≡ eq_by_cmp junctions_cmp (path_of context.now id.now)
+        (path_of other_context.now other_id.now) }
 {
     let back = id.interior.items();
     let other_back = other_id.interior.items();
@@ -166,7 +168,8 @@ pub(crate) fn is_asset(
     home: &Junctions,
     row: &AssetRow,
 ) -> bool
-    ensures { result ≡ (eq_by_cmp junctions_cmp (path_of context.now id.now) (path_of home.now row.now.id) && same_kind kind row.now.kind) }
+    ensures { result ≡ (eq_by_cmp junctions_cmp (path_of context.now id.now)
+        (path_of home.now row.now.id) && same_kind kind row.now.kind) }
 {
     same_kind(kind, row.kind) && same_path(context, id, home, &row.id)
 }

@@ -52,7 +52,8 @@ impl Sum {
 
     /// What an amount has more than the sum; None where it has less.
     pub(crate) fn taken_from(self, amount: u128) -> Option<u128>
-        ensures { result ≡ (if nat_lt amount (sum_value self) then None else Some (amount - sum_value self)) }
+        ensures { result ≡ (if nat_lt amount (sum_value self) then None
+            else Some (amount - sum_value self)) }
     {
         if self.high > 0 || self.low > amount {
             return None;

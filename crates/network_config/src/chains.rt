@@ -142,7 +142,8 @@ impl Entry<Pool> for InChain {
 
 /// The chain's rates.
 fn rates_field(alloc: Global, list: InChain, value: &Value) -> Result<Listed<Rate>, Stop>
-    ensures { Answers result (entries_field (codes "rates") sections.Rates rate list.chain (view value.now)) }
+    ensures { Answers result (entries_field (codes "rates") sections.Rates rate list.chain
+        (view value.now)) }
 {
     let items = list_field(list.fields(), "rates", value)?;
     read_entries(alloc, &list, items)
@@ -150,7 +151,8 @@ fn rates_field(alloc: Global, list: InChain, value: &Value) -> Result<Listed<Rat
 
 /// The chain's assets.
 fn assets_field(alloc: Global, list: InChain, value: &Value) -> Result<Listed<AssetRow>, Stop>
-    ensures { Answers result (entries_field (codes "assets") sections.Assets asset_row list.chain (view value.now)) }
+    ensures { Answers result (entries_field (codes "assets") sections.Assets asset_row list.chain
+        (view value.now)) }
 {
     let items = list_field(list.fields(), "assets", value)?;
     read_entries(alloc, &list, items)
@@ -158,7 +160,8 @@ fn assets_field(alloc: Global, list: InChain, value: &Value) -> Result<Listed<As
 
 /// The chain's accounts.
 fn accounts_field(alloc: Global, list: InChain, value: &Value) -> Result<Listed<Balance>, Stop>
-    ensures { Answers result (entries_field (codes "accounts") sections.Accounts account list.chain (view value.now)) }
+    ensures { Answers result (entries_field (codes "accounts") sections.Accounts account list.chain
+        (view value.now)) }
 {
     let items = list_field(list.fields(), "accounts", value)?;
     read_entries(alloc, &list, items)
@@ -166,7 +169,8 @@ fn accounts_field(alloc: Global, list: InChain, value: &Value) -> Result<Listed<
 
 /// The chain's pallets.
 fn pallets_field(alloc: Global, list: InChain, value: &Value) -> Result<Listed<PalletInfo>, Stop>
-    ensures { Answers result (entries_field (codes "pallets") sections.Pallets pallet list.chain (view value.now)) }
+    ensures { Answers result (entries_field (codes "pallets") sections.Pallets pallet list.chain
+        (view value.now)) }
 {
     let items = list_field(list.fields(), "pallets", value)?;
     read_entries(alloc, &list, items)
@@ -178,7 +182,8 @@ fn queries_field(
     list: InChain,
     value: &Value,
 ) -> Result<Listed<(u64, ChainId)>, Stop>
-    ensures { Answers result (entries_field (codes "queries") sections.Queries query list.chain (view value.now)) }
+    ensures { Answers result (entries_field (codes "queries") sections.Queries query list.chain
+        (view value.now)) }
 {
     let items = list_field(list.fields(), "queries", value)?;
     read_entries(alloc, &list, items)
@@ -186,7 +191,8 @@ fn queries_field(
 
 /// The chain's pools.
 fn pools_field(alloc: Global, list: InChain, value: &Value) -> Result<Listed<Pool>, Stop>
-    ensures { Answers result (entries_field (codes "pools") sections.Pools pool list.chain (view value.now)) }
+    ensures { Answers result (entries_field (codes "pools") sections.Pools pool list.chain
+        (view value.now)) }
 {
     let items = list_field(list.fields(), "pools", value)?;
     read_entries(alloc, &list, items)

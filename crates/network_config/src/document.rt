@@ -97,7 +97,8 @@ fn has_relay(items: &[Value]) -> bool
 /// The entries of chains, which are at most 64 with the relay chain.
 #[tactic(auto, using(crate::proofs::Counts::count_is, crate::proofs::Counts::relay_is), unfolding(crate::specs::Document::chains_list))]
 fn chains_list(place: Place, value: &Value) -> Result<&[Value], Stop>
-    ensures { AnswersAs (λ items. items_view items.now) result (chains_list place (view value.now)) }
+    ensures { AnswersAs (λ items. items_view items.now) result
+        (chains_list place (view value.now)) }
 {
     let items = list_field(place, "chains", value)?;
     let most = if has_relay(items) { 64 } else { 63 };

@@ -47,7 +47,8 @@ fn para_field(place: Place, value: &Value) -> Result<ChainId, Stop>
 
 /// A weight, or the one given where it isn't there.
 fn weight_field(place: Place, name: &str, missing: Weight, value: &Value) -> Result<Weight, Stop>
-    ensures { Answers result (weight_field name.now missing.ref_time missing.proof_size place (view value.now)) }
+    ensures { Answers result (weight_field name.now missing.ref_time missing.proof_size place
+        (view value.now)) }
 {
     match value.get(name) {
         Some(weight) => {
@@ -63,7 +64,8 @@ fn weight_field(place: Place, name: &str, missing: Weight, value: &Value) -> Res
 
 /// A number of a range, or the range's end where it isn't there.
 fn number_field(place: Place, name: &str, low: u32, high: u32, value: &Value) -> Result<u32, Stop>
-    ensures { Answers result (defaulted name.now high (number_within low high) place (view value.now)) }
+    ensures { Answers result (defaulted name.now high (number_within low high) place
+        (view value.now)) }
 {
     match value.get(name) {
         Some(number) => number_of(place, low, high, number),
@@ -73,7 +75,8 @@ fn number_field(place: Place, name: &str, low: u32, high: u32, value: &Value) ->
 
 /// The account that fees are paid to.
 fn fee_account_field(place: Place, value: &Value) -> Result<[u8; 32], Stop>
-    ensures { Answers result (defaulted (codes "fee_account") no_account bytes place (view value.now)) }
+    ensures { Answers result (defaulted (codes "fee_account") no_account bytes place
+        (view value.now)) }
 {
     match value.get("fee_account") {
         Some(account) => bytes_of(place, account),

@@ -73,7 +73,8 @@ fn has(held: &BTreeSet<Holding>, holding: &Holding) -> bool
 
 /// Adds a holding.
 fn add(held: &mut BTreeSet<Holding>, holding: Holding) -> Result<(), AllocError>
-    ensures { OnOk result ((q : HoldingKey) → is_held held.new.keys q ≡ (if eq_by_cmp holding_key_cmp holding q then true else is_held held.old.keys q)) }
+    ensures { OnOk result ((q : HoldingKey) → is_held held.new.keys q
+        ≡ (if eq_by_cmp holding_key_cmp holding q then true else is_held held.old.keys q)) }
 {
     held.insert(holding)?;
     Ok(())
@@ -89,7 +90,8 @@ fn add_account(
     ensures flaws { Answers result (flaw_at place
         (flaws_beside (listed_number table.now balance.now) held.old.keys balance.now)) }
     ensures added { OnOk result ((q : HoldingKey) → is_held held.new.keys q
-        ≡ (is_of_holding (listed_number table.now balance.now) balance.now q || is_held held.old.keys q)) }
+        ≡ (is_of_holding (listed_number table.now balance.now) balance.now q
+        || is_held held.old.keys q)) }
 {
     let Some(row) = listed_number(table, balance) else {
         return Err(Stop::Fault(NetworkFault::BadValue(place)));
@@ -112,7 +114,8 @@ pub(crate) fn check_accounts(
     accounts: &[Balance],
 ) -> Result<(), Stop>
     requires distinct { IsDistinct (eq_by_cmp listed_cmp) (listing rows.now) }
-    ensures { Answers result (each_in (account_flaws rows.now) chain sections.Accounts 0 [] accounts.now) }
+    ensures { Answers result (each_in (account_flaws rows.now) chain sections.Accounts 0 []
+        accounts.now) }
 {
     let table = row_table(alloc, rows)?;
     let mut held: BTreeSet<Holding> = BTreeSet::new(alloc);

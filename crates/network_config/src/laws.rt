@@ -9,6 +9,8 @@ ghost use Rattle.network_config.specs.Valid.{is_valid};
 
 /// The network that a document describes is valid, and each parachain's number is below 2^32.
 pub fn law_of_documents()
-    ensures valid { (bytes : List ℕ) (spec : NetworkSpec) → network_of bytes ≡ Ok spec → is_valid spec ≡ true }
-    ensures named { (bytes : List ℕ) (spec : NetworkSpec) → network_of bytes ≡ Ok spec → All (λ (c : ChainSpec). IsChain c.chain) spec.chains }
+    ensures valid { (bytes : List ℕ) (spec : NetworkSpec)
+        → network_of bytes ≡ Ok spec → is_valid spec ≡ true }
+    ensures named { (bytes : List ℕ) (spec : NetworkSpec)
+        → network_of bytes ≡ Ok spec → All (λ (c : ChainSpec). IsChain c.chain) spec.chains }
 {}

@@ -16,7 +16,8 @@ pub(crate) fn list_field<'a>(
     name: &str,
     value: &'a Value,
 ) -> Result<&'a [Value], Stop>
-    ensures { AnswersAs (λ items. items_view items.now) result (list_field name.now place (view value.now)) }
+    ensures { AnswersAs (λ items. items_view items.now) result
+        (list_field name.now place (view value.now)) }
 {
     match value.get(name) {
         Some(listed) => list_of(place, listed),
@@ -32,7 +33,8 @@ pub(crate) fn short_list<'a>(
     most: usize,
     value: &'a Value,
 ) -> Result<&'a [Value], Stop>
-    ensures { AnswersAs (λ items. items_view items.now) result (short_list name.now most place (view value.now)) }
+    ensures { AnswersAs (λ items. items_view items.now) result
+        (short_list name.now most place (view value.now)) }
 {
     let items = list_field(place, name, value)?;
     if items.len() > most {

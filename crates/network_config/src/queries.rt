@@ -43,7 +43,8 @@ fn has(asked: &BTreeSet<Query>, query: &Query) -> bool
 
 /// Adds a query.
 fn add(asked: &mut BTreeSet<Query>, query: Query) -> Result<(), AllocError>
-    ensures { OnOk result ((q : QueryKey) → is_asked asked.new.keys q ≡ (if eq_by_cmp query_key_cmp query q then true else is_asked asked.old.keys q)) }
+    ensures { OnOk result ((q : QueryKey) → is_asked asked.new.keys q
+        ≡ (if eq_by_cmp query_key_cmp query q then true else is_asked asked.old.keys q)) }
 {
     asked.insert(query)?;
     Ok(())
@@ -57,8 +58,10 @@ fn add_query(
     place: Place,
     query: &(u64, ChainId),
 ) -> Result<(), Stop>
-    ensures flaws { Answers result (flaw_at place (flaws_beside chains.now here asked.old.keys query.now)) }
-    ensures added { OnOk result ((q : QueryKey) → is_asked asked.new.keys q ≡ (eq_by_cmp query_key_cmp (spec.key_of query.now) q || is_asked asked.old.keys q)) }
+    ensures flaws { Answers result (flaw_at place
+        (flaws_beside chains.now here asked.old.keys query.now)) }
+    ensures added { OnOk result ((q : QueryKey) → is_asked asked.new.keys q
+        ≡ (eq_by_cmp query_key_cmp (spec.key_of query.now) q || is_asked asked.old.keys q)) }
 {
     let key = key_of(query);
     if has(asked, &key) {
@@ -81,7 +84,8 @@ pub(crate) fn check_queries(
     here: ChainId,
     queries: &[(u64, ChainId)],
 ) -> Result<(), Stop>
-    ensures { Answers result (each_in (query_flaws chains.now here) chain sections.Queries 0 [] queries.now) }
+    ensures { Answers result (each_in (query_flaws chains.now here) chain sections.Queries 0 []
+        queries.now) }
 {
     let mut asked: BTreeSet<Query> = BTreeSet::new(alloc);
     let mut index: u32 = 0;

@@ -132,7 +132,9 @@ fn levels_of(network: NetworkId, here: ChainId) -> usize
 
 /// Whether the path of the id, as seen from the chain, has more than eight junctions.
 fn is_long(network: NetworkId, here: ChainId, id: &Location) -> bool
-    ensures { result ≡ nat_lt 8 (length (path_of (path_of_site (record { network = network; chain = here })) id.now)) }
+    ensures { result
+        ≡ nat_lt 8 (length (path_of (path_of_site (record { network = network; chain = here }))
+        id.now)) }
 {
     let levels = levels_of(network, here);
     let below = id.interior.items().len();
@@ -151,7 +153,9 @@ fn names_others(chains: &NamedChains, here: ChainId, role: &AssetRole) -> bool
 
 /// Whether the row names a chain that isn't there, or the chain itself, or its id passes the root.
 fn is_misplaced(chains: &NamedChains, network: NetworkId, here: ChainId, row: &AssetRow) -> bool
-    ensures { result ≡ (not (names_others chains.now here row.now.role) || nat_lt (length (path_of_site (record { network = network; chain = here }))) row.now.id.parents) }
+    ensures { result ≡ (not (names_others chains.now here row.now.role)
+        || nat_lt (length (path_of_site (record { network = network; chain = here })))
+        row.now.id.parents) }
 {
     if !names_others(chains, here, &row.role) {
         return true;
@@ -170,7 +174,8 @@ struct AssetCheck<'a> {
 impl Check<AssetRow> for AssetCheck<'_> {
     ghost use Rattle.network_config.specs.References.{asset_flaws};
 
-    ghost flaws = { λ check earlier row. asset_flaws check.chains.now check.network check.here earlier row };
+    ghost flaws = { λ check earlier row. asset_flaws check.chains.now check.network check.here
+        earlier row };
 
     fn flaws_of(&self, earlier: &[AssetRow], row: &AssetRow) -> Flaws {
         Flaws {
@@ -269,14 +274,16 @@ impl Check<Pool> for PoolCheck<'_> {
 
 /// Whether the sender lists the asset.
 fn sender_lists(chains: &[ChainSpec], from: ChainId, fee: &Asset) -> bool
-    ensures { result ≡ list_any (λ c. same_chain c.chain from && list_any (is_row_of fee.now) c.assets) chains.now }
+    ensures { result ≡ list_any (λ c. same_chain c.chain from
+        && list_any (is_row_of fee.now) c.assets) chains.now }
 {
     chains.iter().any(|c| same_chain(c.chain, from) && is_listed(c.assets.items(), fee))
 }
 
 /// Whether one of the channels leads from the one chain to the other.
 fn has_channel(channels: &[ChannelSpec], from: ChainId, to: ChainId) -> bool
-    ensures { result ≡ list_any (λ other. same_chain other.from from && same_chain other.channel.to to) channels.now }
+    ensures { result ≡ list_any (λ other. same_chain other.from from
+        && same_chain other.channel.to to) channels.now }
 {
     channels.iter().any(|other| same_chain(other.from, from) && same_chain(other.channel.to, to))
 }

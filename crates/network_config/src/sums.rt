@@ -75,7 +75,8 @@ fn add_shares(
     context: &Junctions,
     accounts: &[Balance],
 ) -> Result<(), AllocError>
-    ensures { OnOk result (shares.new.items ≡ shares.old.items ++ shares_in chain context.now 0 accounts.now) }
+    ensures { OnOk result (shares.new.items
+        ≡ shares.old.items ++ shares_in chain context.now 0 accounts.now) }
 {
     let mut index: u32 = 0;
     for balance in accounts {
@@ -92,7 +93,8 @@ fn add_shares(
 
 /// What the accounts of all chains count for, in the document's order.
 fn shares_of(alloc: Global, network: &NetworkSpec) -> Result<Vec<Share>, AllocError>
-    ensures { IfOk result (λ shares. shares.items ≡ shares_of network.now.network 0 network.now.chains) }
+    ensures { IfOk result (λ shares. shares.items
+        ≡ shares_of network.now.network 0 network.now.chains) }
 {
     let mut shares = Vec::new(alloc);
     let mut index: u32 = 0;
@@ -137,7 +139,8 @@ fn total_in(totals: &Totals, key: &(Junctions, u32)) -> u128
 
 /// Writes the total of a path and kind.
 fn write_total(totals: &mut Totals, key: (Junctions, u32), total: u128) -> Result<(), AllocError>
-    ensures { OnOk result ((q : TotalKey) → total_at totals.new.entries q ≡ (if eq_by_cmp total_key_cmp key q then total else total_at totals.old.entries q)) }
+    ensures { OnOk result ((q : TotalKey) → total_at totals.new.entries q
+        ≡ (if eq_by_cmp total_key_cmp key q then total else total_at totals.old.entries q)) }
 {
     totals.insert(key, total)?;
     Ok(())
@@ -153,9 +156,14 @@ fn is_within(sum: u128) -> bool
 
 /// Adds a share to the totals, and refuses it where its total reaches the limit.
 fn add_total(totals: &mut Totals, share: &Share) -> Result<(), Stop>
-    ensures added { OnOk result ((q : TotalKey) → total_at totals.new.entries q ≡ with_share share.now totals.old.entries q) }
-    ensures below { OnOk result (nat_lt (total_at totals.old.entries (key_of share.now) + share.now.amount) amount_limit ≡ true) }
-    ensures refused { IfErr result (λ stop. (stop ≡ Stop.Memory) ⊎ ((stop ≡ Stop.Fault (NetworkFault.LimitPassed share.now.place)) × (nat_lt (total_at totals.old.entries (key_of share.now) + share.now.amount) amount_limit ≡ false))) }
+    ensures added { OnOk result ((q : TotalKey) → total_at totals.new.entries q
+        ≡ with_share share.now totals.old.entries q) }
+    ensures below { OnOk result (nat_lt (total_at totals.old.entries (key_of share.now)
+        + share.now.amount) amount_limit ≡ true) }
+    ensures refused { IfErr result (λ stop. (stop ≡ Stop.Memory)
+        ⊎ ((stop ≡ Stop.Fault (NetworkFault.LimitPassed share.now.place))
+        × (nat_lt (total_at totals.old.entries (key_of share.now) + share.now.amount)
+        amount_limit ≡ false))) }
 {
     let key = key_of(share);
     let sum = total_in(totals, &key).saturating_add(share.amount);

@@ -12,12 +12,14 @@ use network_config::law_of_documents;
 
 /// A valid network, whose parachains' numbers are below 2^32 as those of a program are, is one that can open.
 pub fn law_of_valid_networks()
-    ensures { (spec : NetworkSpec) → All (λ (c : ChainSpec). IsChain c.chain) spec.chains → is_valid spec ≡ true → IsOpenable spec }
+    ensures { (spec : NetworkSpec) → All (λ (c : ChainSpec). IsChain c.chain) spec.chains
+        → is_valid spec ≡ true → IsOpenable spec }
 {}
 
 /// The network that a document describes is one that can open.
 pub fn law_of_read_networks()
-    ensures opens { (bytes : List ℕ) (spec : NetworkSpec) → network_of bytes ≡ Ok spec → IsOpenable spec }
+    ensures opens { (bytes : List ℕ) (spec : NetworkSpec)
+        → network_of bytes ≡ Ok spec → IsOpenable spec }
 {
     law_of_documents();
 }

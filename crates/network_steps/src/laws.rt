@@ -14,7 +14,8 @@ use versioned_xcm::law_of_messages;
 
 /// Whatever program bytes decode to can be executed and sent on: no id of it is bytes, no amount is 0, and it isn't too large to be counted.
 pub fn law_of_decoded_programs()
-    ensures forwardable { (bytes : List ℕ) (program : List Instruction) → message_of bytes ≡ Ok program → IsForwardable program }
+    ensures forwardable { (bytes : List ℕ) (program : List Instruction)
+        → message_of bytes ≡ Ok program → IsForwardable program }
 {
     law_of_messages();
     law_of_writable();
@@ -23,21 +24,29 @@ pub fn law_of_decoded_programs()
 /// A step that answers neither that a program ran nor that a claim was sent changes nothing, and tells nothing. An execution changes its
 /// chain alone, a delivery the sender and the receiver, and a claim the sender.
 pub fn law_of_steps()
-    ensures exec_still { (w : World) (chain : ChainId) (account bytes : List ℕ) → IsStill (exec w chain account bytes) w }
+    ensures exec_still { (w : World) (chain : ChainId) (account bytes : List ℕ)
+        → IsStill (exec w chain account bytes) w }
     ensures deliver_still { (w : World) (from to : ChainId) → IsStill (deliver w from to) w }
-    ensures claim_still { (w : World) (from to : ChainId) (bytes : List ℕ) → IsStill (claim w from to bytes) w }
+    ensures claim_still { (w : World) (from to : ChainId) (bytes : List ℕ)
+        → IsStill (claim w from to bytes) w }
     ensures exec_elsewhere { (w : World) (chain : ChainId) (account bytes : List ℕ) (i k : ℕ)
-        → place_of w chain ≡ Some i → (k ≡ i → ⊥) → slice_get (exec w chain account bytes).world k ≡ slice_get w k }
-    ensures deliver_elsewhere { (w : World) (from to : ChainId) (i j k : ℕ) → place_of w from ≡ Some i → place_of w to ≡ Some j
+        → place_of w chain ≡ Some i
+        → (k ≡ i → ⊥) → slice_get (exec w chain account bytes).world k ≡ slice_get w k }
+    ensures deliver_elsewhere { (w : World) (from to : ChainId) (i j k : ℕ)
+        → place_of w from ≡ Some i → place_of w to ≡ Some j
         → (k ≡ i → ⊥) → (k ≡ j → ⊥) → slice_get (deliver w from to).world k ≡ slice_get w k }
     ensures claim_elsewhere { (w : World) (from to : ChainId) (bytes : List ℕ) (i k : ℕ)
-        → place_of w from ≡ Some i → (k ≡ i → ⊥) → slice_get (claim w from to bytes).world k ≡ slice_get w k }
+        → place_of w from ≡ Some i
+        → (k ≡ i → ⊥) → slice_get (claim w from to bytes).world k ≡ slice_get w k }
 {}
 
 /// No step changes what the network document says: how each chain runs programs, where it stands, what it lists, its pallets, its fee
 /// account, and its channels.
 pub fn law_of_settings()
-    ensures exec { (w : World) (chain : ChainId) (account bytes : List ℕ) → all_settings (exec w chain account bytes).world ≡ all_settings w }
-    ensures deliver { (w : World) (from to : ChainId) → all_settings (deliver w from to).world ≡ all_settings w }
-    ensures claim { (w : World) (from to : ChainId) (bytes : List ℕ) → all_settings (claim w from to bytes).world ≡ all_settings w }
+    ensures exec { (w : World) (chain : ChainId) (account bytes : List ℕ)
+        → all_settings (exec w chain account bytes).world ≡ all_settings w }
+    ensures deliver { (w : World) (from to : ChainId)
+        → all_settings (deliver w from to).world ≡ all_settings w }
+    ensures claim { (w : World) (from to : ChainId) (bytes : List ℕ)
+        → all_settings (claim w from to bytes).world ≡ all_settings w }
 {}

@@ -25,13 +25,22 @@ use conserved_steps::law_of_foundations;
 /// held and what another account gives. So no deposit passes 2^128-1, none is of an instance that has an owner, and none is refused where the
 /// location has an account. So it is in every coherent network: `Overflow` and `InstanceExists` never come.
 pub fn law_of_unbarred_deposits()
-    ensures executions { (order : List Link) (w : World) (steps : List Step) (account : List ℕ) (program : List Instruction) (x : IsExecution order w steps account program) (a : Admitted) (g : Stage) → IsFirst w
-        → admitted x.member.rules (caller account) x.member.rules.limit (begins x.member).queries program ≡ Ok a
-        → Reaches xcm (first_stage x.member.rules (caller account) a (begins x.member)) g → NothingBarred (machine_of g) }
-    ensures deliveries { (order : List Link) (w : World) (steps : List Step) (d : IsDelivery order w steps) (a : Admitted) (g : Stage) → IsFirst w
-        → admitted d.receiver.rules (name_at (chain_of d.receiver) (chain_of d.sender)) no_weight (arrives d.sender d.receiver d.message).queries d.message.program ≡ Ok a
-        → Reaches xcm (first_stage d.receiver.rules (name_at (chain_of d.receiver) (chain_of d.sender)) a (arrives d.sender d.receiver d.message)) g → NothingBarred (machine_of g) }
-    ensures networks { (spec : NetworkSpec) (steps : List Step) → IsCoherent spec → NeverBarred (order_of spec) (first_world spec) steps }
+    ensures executions { (order : List Link) (w : World) (steps : List Step) (account : List ℕ)
+        (program : List Instruction) (x : IsExecution order w steps account program) (a : Admitted)
+        (g : Stage) → IsFirst w
+        → admitted x.member.rules (caller account) x.member.rules.limit (begins x.member).queries
+        program ≡ Ok a
+        → Reaches xcm (first_stage x.member.rules (caller account) a (begins x.member)) g
+        → NothingBarred (machine_of g) }
+    ensures deliveries { (order : List Link) (w : World) (steps : List Step)
+        (d : IsDelivery order w steps) (a : Admitted) (g : Stage) → IsFirst w
+        → admitted d.receiver.rules (name_at (chain_of d.receiver) (chain_of d.sender)) no_weight
+        (arrives d.sender d.receiver d.message).queries d.message.program ≡ Ok a
+        → Reaches xcm (first_stage d.receiver.rules
+        (name_at (chain_of d.receiver) (chain_of d.sender)) a
+        (arrives d.sender d.receiver d.message)) g → NothingBarred (machine_of g) }
+    ensures networks { (spec : NetworkSpec) (steps : List Step)
+        → IsCoherent spec → NeverBarred (order_of spec) (first_world spec) steps }
 {
     law_of_foundations();
     law_of_conserved_networks();
@@ -40,8 +49,10 @@ pub fn law_of_unbarred_deposits()
 /// No burn is ever booked because an amount passes its end or because an instance is there already: in no world that any steps lead to, from a first
 /// world without such burns, nor from the first world of a coherent network document.
 pub fn law_of_unsaturated_worlds()
-    ensures worlds { (order : List Link) (w : World) (steps : List Step) → IsFirst w → NoExcessIn w → NoExcessEver order w steps }
-    ensures networks { (spec : NetworkSpec) (steps : List Step) → IsCoherent spec → NoExcessEver (order_of spec) (first_world spec) steps }
+    ensures worlds { (order : List Link) (w : World) (steps : List Step)
+        → IsFirst w → NoExcessIn w → NoExcessEver order w steps }
+    ensures networks { (spec : NetworkSpec) (steps : List Step)
+        → IsCoherent spec → NoExcessEver (order_of spec) (first_world spec) steps }
 {
     law_of_foundations();
     law_of_conserved_networks();
@@ -49,15 +60,28 @@ pub fn law_of_unsaturated_worlds()
 
 /// Nor is it in the book of the chain that runs, inside a local execution or a delivery, wherever its run stands, and where memory is refused to it.
 pub fn law_of_unsaturated_runs()
-    ensures executions { (order : List Link) (w : World) (steps : List Step) (account : List ℕ) (program : List Instruction) (x : IsExecution order w steps account program) (a : Admitted) (g : Stage) → IsFirst w → NoExcessIn w
-        → admitted x.member.rules (caller account) x.member.rules.limit (begins x.member).queries program ≡ Ok a
-        → Reaches xcm (first_stage x.member.rules (caller account) a (begins x.member)) g → NoExcess (machine_of g).part.burns }
-    ensures stopped_executions { (order : List Link) (w : World) (steps : List Step) (account : List ℕ) (program : List Instruction) (x : IsExecution order w steps account program) (now : ChainPart) → IsFirst w → NoExcessIn w
-        → IsAbandoned x.member.rules (caller account) x.member.rules.limit program (begins x.member) now → NoExcess now.burns }
-    ensures deliveries { (order : List Link) (w : World) (steps : List Step) (d : IsDelivery order w steps) (a : Admitted) (g : Stage) → IsFirst w → NoExcessIn w
-        → admitted d.receiver.rules (name_at (chain_of d.receiver) (chain_of d.sender)) no_weight (arrives d.sender d.receiver d.message).queries d.message.program ≡ Ok a
-        → Reaches xcm (first_stage d.receiver.rules (name_at (chain_of d.receiver) (chain_of d.sender)) a (arrives d.sender d.receiver d.message)) g → NoExcess (machine_of g).part.burns }
-    ensures stopped_deliveries { (order : List Link) (w : World) (steps : List Step) (d : IsDelivery order w steps) (now : ChainPart) → IsFirst w → NoExcessIn w → StopsAt d.sender d.receiver d.message now → NoExcess now.burns }
+    ensures executions { (order : List Link) (w : World) (steps : List Step) (account : List ℕ)
+        (program : List Instruction) (x : IsExecution order w steps account program) (a : Admitted)
+        (g : Stage) → IsFirst w → NoExcessIn w
+        → admitted x.member.rules (caller account) x.member.rules.limit (begins x.member).queries
+        program ≡ Ok a
+        → Reaches xcm (first_stage x.member.rules (caller account) a (begins x.member)) g
+        → NoExcess (machine_of g).part.burns }
+    ensures stopped_executions { (order : List Link) (w : World) (steps : List Step)
+        (account : List ℕ) (program : List Instruction)
+        (x : IsExecution order w steps account program) (now : ChainPart) → IsFirst w → NoExcessIn w
+        → IsAbandoned x.member.rules (caller account) x.member.rules.limit program (begins x.member)
+        now → NoExcess now.burns }
+    ensures deliveries { (order : List Link) (w : World) (steps : List Step)
+        (d : IsDelivery order w steps) (a : Admitted) (g : Stage) → IsFirst w → NoExcessIn w
+        → admitted d.receiver.rules (name_at (chain_of d.receiver) (chain_of d.sender)) no_weight
+        (arrives d.sender d.receiver d.message).queries d.message.program ≡ Ok a
+        → Reaches xcm (first_stage d.receiver.rules
+        (name_at (chain_of d.receiver) (chain_of d.sender)) a
+        (arrives d.sender d.receiver d.message)) g → NoExcess (machine_of g).part.burns }
+    ensures stopped_deliveries { (order : List Link) (w : World) (steps : List Step)
+        (d : IsDelivery order w steps) (now : ChainPart) → IsFirst w
+        → NoExcessIn w → StopsAt d.sender d.receiver d.message now → NoExcess now.burns }
 {
     law_of_foundations();
 }

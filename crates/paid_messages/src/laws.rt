@@ -20,9 +20,12 @@ use network_steps::law_of_settings;
 /// that its reserve admits is paid from its sender's account, and each teleport that its receiver admits is received, so that nothing of it is
 /// lost.
 pub fn law_of_paid_deliveries()
-    ensures withdrawal { (order : List Link) (w : World) (steps : List Step) → IsFirst w → HaveRoom w → NoneSovereign w → WithdrawalsPaid order w steps }
-    ensures teleport { (order : List Link) (w : World) (steps : List Step) → IsFirst w → HaveRoom w → TeleportsReceived order w steps }
-    ensures lost { (order : List Link) (w : World) (steps : List Step) → IsFirst w → HaveRoom w → NoneLost order w steps }
+    ensures withdrawal { (order : List Link) (w : World) (steps : List Step)
+        → IsFirst w → HaveRoom w → NoneSovereign w → WithdrawalsPaid order w steps }
+    ensures teleport { (order : List Link) (w : World) (steps : List Step)
+        → IsFirst w → HaveRoom w → TeleportsReceived order w steps }
+    ensures lost { (order : List Link) (w : World) (steps : List Step)
+        → IsFirst w → HaveRoom w → NoneLost order w steps }
 {
     law_of_foundations();
     law_of_matched_cargoes();
@@ -34,9 +37,12 @@ pub fn law_of_paid_deliveries()
 /// sender to be redeemed is redeemed, unless the reserve doesn't admit the message. And each teleport that its receiver admits is received, also
 /// where the asset has a checking account there; so where memory isn't refused only a teleport that isn't admitted is lost.
 pub fn law_of_paid_messages()
-    ensures withdrawal { (spec : NetworkSpec) (steps : List Step) → IsCoherent spec → WithdrawalsPaid (order_of spec) (first_world spec) steps }
-    ensures teleport { (spec : NetworkSpec) (steps : List Step) → IsCoherent spec → TeleportsReceived (order_of spec) (first_world spec) steps }
-    ensures lost { (spec : NetworkSpec) (steps : List Step) → IsCoherent spec → NoneLost (order_of spec) (first_world spec) steps }
+    ensures withdrawal { (spec : NetworkSpec) (steps : List Step)
+        → IsCoherent spec → WithdrawalsPaid (order_of spec) (first_world spec) steps }
+    ensures teleport { (spec : NetworkSpec) (steps : List Step)
+        → IsCoherent spec → TeleportsReceived (order_of spec) (first_world spec) steps }
+    ensures lost { (spec : NetworkSpec) (steps : List Step)
+        → IsCoherent spec → NoneLost (order_of spec) (first_world spec) steps }
 {
     law_of_conserved_networks();
     law_of_paid_deliveries();
@@ -47,9 +53,12 @@ pub fn law_of_paid_messages()
 /// ReceiveTeleportedAsset can be refused so: where it leads an admitted message, each account has as much as its list says; elsewhere there is no
 /// origin, or it is no other chain, and no asset is trusted from it.
 pub fn law_of_lowered_accounts()
-    ensures executions { (order : List Link) (w : World) (steps : List Step) → ExecutionsCovered order w steps }
-    ensures deliveries { (order : List Link) (w : World) (steps : List Step) → IsFirst w → DeliveriesCovered order w steps }
-    ensures networks { (spec : NetworkSpec) (steps : List Step) → IsCoherent spec → AllCovered (order_of spec) (first_world spec) steps }
+    ensures executions { (order : List Link) (w : World) (steps : List Step)
+        → ExecutionsCovered order w steps }
+    ensures deliveries { (order : List Link) (w : World) (steps : List Step)
+        → IsFirst w → DeliveriesCovered order w steps }
+    ensures networks { (spec : NetworkSpec) (steps : List Step)
+        → IsCoherent spec → AllCovered (order_of spec) (first_world spec) steps }
 {
     law_of_foundations();
     law_of_conserved_networks();

@@ -51,8 +51,10 @@ pub fn law_of_readers()
     ensures origin_kind { Reads origin_kind (λ _. ⊤) origin_kind_at }
     ensures error { Reads xcm_error FitsError error_at }
     ensures failure { Reads failure FitsFailure failure_at }
-    ensures optional_failure { Reads (optional failure) (λ o. IfSome o FitsFailure) (optional_at failure_at) }
-    ensures optional_location { Reads (optional location) (λ o. IfSome o FitsLocation) (optional_at location_at) }
+    ensures optional_failure { Reads (optional failure)
+        (λ o. IfSome o FitsFailure) (optional_at failure_at) }
+    ensures optional_location { Reads (optional location)
+        (λ o. IfSome o FitsLocation) (optional_at location_at) }
     ensures bytes { (most : ℕ) → most < 2 ^ 32 → Reads bytes (FitsBytes most) (bytes_at most) }
     ensures maybe_error { Reads maybe_error FitsMaybeError maybe_error_at }
     ensures pallet_info { Reads pallet_info FitsPallet pallet_info_at }

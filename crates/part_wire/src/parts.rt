@@ -184,7 +184,8 @@ pub fn take_pallet_info(alloc: Global, c: &mut Cursor<'_>) -> Result<PalletInfo,
 
 /// So many pallets. Memory is taken as they are read, and not by their number.
 fn take_several(alloc: Global, c: &mut Cursor<'_>, count: u32) -> Result<Vec<PalletInfo>, WireFault>
-    ensures read { GotOrFails (λ items. items.items) result (repeated pallet_info_at count c.old) c.new }
+    ensures read { GotOrFails (λ items. items.items) result (repeated pallet_info_at count c.old)
+        c.new }
     ensures count { IfOk result (λ items. vec_len items ≡ count) }
 {
     let mut items = Vec::new(alloc);

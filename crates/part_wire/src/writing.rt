@@ -181,7 +181,8 @@ pub fn put_pallet_info(o: &mut Draft, pallet: &PalletInfo) -> Result<(), AllocEr
 
 /// How many pallets, and these.
 fn put_pallet_infos(o: &mut Draft, pallets: &PalletInfos) -> Result<(), AllocError>
-    ensures { Puts (counted compact pallet_info) (λ list. (length list ≤ 64) × AllByRecursion FitsPallet list) pallets.now result o.old o.new }
+    ensures { Puts (counted compact pallet_info) (λ list. (length list ≤ 64)
+        × AllByRecursion FitsPallet list) pallets.now result o.old o.new }
 {
     let items = pallets.items();
     o.put_compact(items.len() as u128)?;
@@ -284,7 +285,8 @@ pub fn write_optional_failure(
     o: &mut Out,
     failed: &Option<(u32, XcmError)>,
 ) -> Result<(), AllocError>
-    ensures { IsWritten (optional failure) (λ f. IfSome f FitsFailure) failed.now result o.old o.new }
+    ensures { IsWritten (optional failure) (λ f. IfSome f FitsFailure) failed.now result o.old
+        o.new }
 {
     let mut draft = o.draft();
     let written = put_optional_failure(&mut draft, failed);
@@ -293,7 +295,8 @@ pub fn write_optional_failure(
 
 /// Appends the one spelling of a location that may be left out. Where memory is refused, `o` is as before.
 pub fn write_optional_location(o: &mut Out, place: &Option<Location>) -> Result<(), AllocError>
-    ensures { IsWritten (optional location) (λ p. IfSome p FitsLocation) place.now result o.old o.new }
+    ensures { IsWritten (optional location) (λ p. IfSome p FitsLocation) place.now result o.old
+        o.new }
 {
     let mut draft = o.draft();
     let written = put_optional_location(&mut draft, place);

@@ -20,13 +20,15 @@ pub fn law_of_one_spelling()
 /// instructions, with the programs inside. Whatever their size and depth.
 pub fn law_of_no_prefix()
     ensures program { (v : Version) → IsPrefixFree (program_spelling v) (FitsProgram v) }
-    ensures instruction { (v : Version) → IsPrefixFree (instruction_spelling v) (FitsInstruction v) }
+    ensures instruction { (v : Version)
+        → IsPrefixFree (instruction_spelling v) (FitsInstruction v) }
 {}
 
 /// What was read in a version can be written in it, and in either version where both can say it.
 pub fn law_of_writable()
     ensures same { (v : Version) (p : List Instruction) → IsReadable v p → IsWritable v p }
-    ensures either { (v w : Version) (p : List Instruction) → IsReadable v p → is_convertible p ≡ true → IsWritable w p }
+    ensures either { (v w : Version) (p : List Instruction)
+        → IsReadable v p → is_convertible p ≡ true → IsWritable w p }
 {}
 
 /// The reader takes what is spelled so within the limits, whatever follows it, and nothing else.

@@ -30,7 +30,8 @@ fn fill_instruction(
     left: u32,
     slot: &mut Instruction,
 ) -> Result<u32, WireFault>
-    ensures { GotWith (λ after. (slot.new, (after, c.new))) result (instruction_at v (program_at v depth) left c.old) }
+    ensures { GotWith (λ after. (slot.new, (after, c.new))) result
+        (instruction_at v (program_at v depth) left c.old) }
 {
     if left == 0 {
         return Err(WireFault::NoSpelling);

@@ -27,7 +27,8 @@ fn move_amount(
     n: u128,
 ) -> Result<(), ShiftFault>
     ensures step { MovesUnit (unit_fault ledger.old.held (Concrete id.now, None) from.now to.now n)
-        (moved_unit ledger.old (Concrete id.now, None) from.now to.now n) ledger.old result ledger.new }
+        (moved_unit ledger.old (Concrete id.now, None) from.now to.now n) ledger.old result
+        ledger.new }
     ensures had { OnOk result
         (amount ledger.old.held (from.now, (Concrete id.now, None)) < 2 ^ 128) }
 {
@@ -66,7 +67,8 @@ pub fn shift_row(
 ) -> Result<(), ShiftFault>
     requires apart { IsDistinct (eq_by_cmp listed_cmp) (listing rows.now) }
     ensures step { Shifts
-        (shift_fault (row_amounts rows.now ledger.old.held) no_floors (fungible_rows rows.now) row from.now to.now amount)
+        (shift_fault (row_amounts rows.now ledger.old.held) no_floors (fungible_rows rows.now) row
+        from.now to.now amount)
         (shifted (row_amounts rows.now ledger.old.held) row from.now to.now amount)
         (row_amounts rows.now ledger.old.held) result (row_amounts rows.now ledger.new.held) }
     ensures had { OnOk result (IsNumberAt (row_amounts rows.now ledger.old.held) (from.now, row)) }

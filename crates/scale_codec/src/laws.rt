@@ -7,12 +7,14 @@ ghost use Rattle.scale_codec.specs.Reading.{Reads, u8_at, fixed_at, below_at, ta
 
 /// A value has one spelling, by definition: a spelling is a function of its value.
 pub fn law_of_one_spelling<T>()
-    ensures { (spelling : T → List ℕ) (fits : T → Bool) → HasOneSpelling spelling (λ x. IsTrue (fits x)) }
+    ensures { (spelling : T → List ℕ) (fits : T → Bool)
+        → HasOneSpelling spelling (λ x. IsTrue (fits x)) }
 {}
 
 /// Of a type that has a reader with both laws, no spelling is a proper prefix of another.
 pub fn law_of_no_prefix<T>()
-    ensures { (spelling : T → List ℕ) (fits : T → Bool) (at : List ℕ → Option (T × List ℕ)) → Reads spelling (λ x. IsTrue (fits x)) at → IsPrefixFree spelling (λ x. IsTrue (fits x)) }
+    ensures { (spelling : T → List ℕ) (fits : T → Bool) (at : List ℕ → Option (T × List ℕ))
+        → Reads spelling (λ x. IsTrue (fits x)) at → IsPrefixFree spelling (λ x. IsTrue (fits x)) }
 {}
 
 /// No spelling of a number, a flag or bytes is a proper prefix of another of its kind.
@@ -29,7 +31,8 @@ pub fn law_of_no_prefix_of_numbers()
 pub fn law_of_readers()
     ensures byte { Reads byte (λ n. n < 2 ^ 8) u8_at }
     ensures fixed { (k : ℕ) → Reads (fixed k) (λ n. n < 256 ^ k) (fixed_at k) }
-    ensures compact { (limit : ℕ) → limit ≤ 2 ^ 128 → Reads compact (λ n. n < limit) (below_at limit) }
+    ensures compact { (limit : ℕ)
+        → limit ≤ 2 ^ 128 → Reads compact (λ n. n < limit) (below_at limit) }
     ensures flag { Reads flag (λ _. Unit {0}) flag_at }
     ensures taken { (n : ℕ) → Reads {X = List ℕ} (λ x. x) (λ x. length x ≡ n) (take_at n) }
 {}

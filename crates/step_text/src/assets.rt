@@ -40,7 +40,8 @@ fn push_next(alloc: Global, text: &mut String, asset: &Asset) -> Result<(), Allo
 
 /// Appends assets behind another.
 fn push_others(alloc: Global, text: &mut String, assets: &[Asset]) -> Result<(), AllocError>
-    ensures { OnOk result (string_bytes text.new ≡ string_bytes text.old ++ flat_map next_text assets.now) }
+    ensures { OnOk result (string_bytes text.new
+        ≡ string_bytes text.old ++ flat_map next_text assets.now) }
 {
     for asset in assets {
         push_next(alloc, text, asset)?;

@@ -41,7 +41,9 @@ fn push_account(
     who: &[u8; 32],
     ledger: &Ledger,
 ) -> Result<(), AllocError>
-    ensures { OnOk result (string_bytes text.new ≡ string_bytes text.old ++ flat_map (balance_line chain who.now) (held_assets (account_goods who.now ledger.now.held))) }
+    ensures { OnOk result (string_bytes text.new
+        ≡ string_bytes text.old ++ flat_map (balance_line chain who.now)
+        (held_assets (account_goods who.now ledger.now.held))) }
 {
     let assets = ledger.held(who)?;
     push_balances(alloc, text, chain, who, assets.as_slice())
@@ -55,7 +57,8 @@ fn push_balances(
     who: &[u8; 32],
     assets: &[Asset],
 ) -> Result<(), AllocError>
-    ensures { OnOk result (string_bytes text.new ≡ string_bytes text.old ++ flat_map (balance_line chain who.now) assets.now) }
+    ensures { OnOk result (string_bytes text.new
+        ≡ string_bytes text.old ++ flat_map (balance_line chain who.now) assets.now) }
 {
     for asset in assets {
         let line = balance_line(alloc, chain, who, asset)?;
@@ -80,7 +83,8 @@ fn push_traps(
     chain: ChainId,
     store: &TrapStore,
 ) -> Result<(), AllocError>
-    ensures { OnOk result (string_bytes text.new ≡ string_bytes text.old ++ trapped_text chain store.now.traps) }
+    ensures { OnOk result (string_bytes text.new
+        ≡ string_bytes text.old ++ trapped_text chain store.now.traps) }
 {
     for trap in store.traps() {
         push_trap(alloc, text, chain, trap)?;
@@ -95,7 +99,8 @@ fn push_trap(
     chain: ChainId,
     trap: &Trap,
 ) -> Result<(), AllocError>
-    ensures { OnOk result (string_bytes text.new ≡ string_bytes text.old ++ trap_text chain trap.now) }
+    ensures { OnOk result (string_bytes text.new
+        ≡ string_bytes text.old ++ trap_text chain trap.now) }
 {
     let assets = trap.goods.list()?;
     let line = trap_line(alloc, chain, trap.number, &trap.origin, assets.as_slice())?;
@@ -110,7 +115,8 @@ pub fn checking_text(
     listed: &[AssetRow],
     checking: &[Option<u128>],
 ) -> Result<String, AllocError>
-    ensures { IfOk result (λ text. string_bytes text ≡ checking_text chain listed.now checking.now) }
+    ensures { IfOk result (λ text. string_bytes text
+        ≡ checking_text chain listed.now checking.now) }
 {
     let mut text = String::new(alloc);
     for place in 0..listed.len().min(checking.len()) {
@@ -127,7 +133,8 @@ fn push_checking(
     row: &AssetRow,
     amount: Option<u128>,
 ) -> Result<(), AllocError>
-    ensures { OnOk result (string_bytes text.new ≡ string_bytes text.old ++ checking_if chain row.now amount) }
+    ensures { OnOk result (string_bytes text.new
+        ≡ string_bytes text.old ++ checking_if chain row.now amount) }
 {
     match amount {
         None => Ok(()),
@@ -167,8 +174,10 @@ fn push_locks(
 /// The lines of the messages that wait in a channel of a chain, oldest first: the bytes that are kept, and so the programs that they
 /// mean, spelled in the channel's version.
 pub fn queue_text(alloc: Global, from: ChainId, queue: &Queue) -> Result<String, AllocError>
-    ensures bytes { IfOk result (λ text. string_bytes text ≡ flat_map (queued_line from queue.now.channel.to) queue.now.waiting.items) }
-    ensures channel { IfOk result (λ text. string_bytes text ≡ channel_text from (outgoing_of queue.now)) }
+    ensures bytes { IfOk result (λ text. string_bytes text
+        ≡ flat_map (queued_line from queue.now.channel.to) queue.now.waiting.items) }
+    ensures channel { IfOk result (λ text. string_bytes text
+        ≡ channel_text from (outgoing_of queue.now)) }
 {
     law_of_queued();
     let mut text = String::new(alloc);
@@ -192,7 +201,8 @@ fn push_queued(
     to: ChainId,
     queued: &Queued,
 ) -> Result<(), AllocError>
-    ensures { OnOk result (string_bytes text.new ≡ string_bytes text.old ++ queued_line from to queued.now) }
+    ensures { OnOk result (string_bytes text.new
+        ≡ string_bytes text.old ++ queued_line from to queued.now) }
 {
     let line = queue_line(alloc, from, to, queued.number, queued.bytes.as_slice())?;
     text.push_str(&line)

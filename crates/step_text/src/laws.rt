@@ -16,12 +16,14 @@ use versioned_xcm::law_of_messages;
 
 /// The name that stands in the line of an instruction that ran, found by its number, is the instruction's own.
 pub fn law_of_names()
-    ensures { (x : Instruction) → name_at (index (out-Instruction x)) ≡ instruction_name (out-Instruction x) }
+    ensures { (x : Instruction)
+        → name_at (index (out-Instruction x)) ≡ instruction_name (out-Instruction x) }
 {}
 
 /// The line of the bytes of a message that waits is the line of the message that they mean, spelled in the version with which they begin.
 pub fn law_of_queued()
-    ensures { (v : Version) (from to : ChainId) (q : Queued) → IsTrue (decodes q.bytes.items) → IsSpelledIn v q.bytes.items
+    ensures { (v : Version) (from to : ChainId) (q : Queued)
+        → IsTrue (decodes q.bytes.items) → IsSpelledIn v q.bytes.items
         → queued_line from to q ≡ waiting_line v from to (waiting_of q) }
 {
     law_of_messages();

@@ -73,7 +73,8 @@ pub fn trap_line(
     origin: &Location,
     assets: &[Asset],
 ) -> Result<String, AllocError>
-    ensures { IfOk result (λ text. string_bytes text ≡ trap_line chain number origin.now assets.now) }
+    ensures { IfOk result (λ text. string_bytes text
+        ≡ trap_line chain number origin.now assets.now) }
 {
     let origin = location_text(alloc, origin)?;
     let assets = assets_text(alloc, assets)?;
@@ -128,7 +129,8 @@ pub fn backing_line(
     path: &Junctions,
     backing: &Backing,
 ) -> Result<String, AllocError>
-    ensures { IfOk result (λ text. string_bytes text ≡ backing_line chain kind path.now backing.now) }
+    ensures { IfOk result (λ text. string_bytes text
+        ≡ backing_line chain kind path.now backing.now) }
 {
     let kind = kind_name(kind);
     let path = path_text(alloc, path)?;

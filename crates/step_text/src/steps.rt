@@ -43,7 +43,8 @@ pub fn drained_line(alloc: Global, count: u64) -> Result<String, AllocError>
 
 /// Appends the lines of events.
 fn push_events(alloc: Global, text: &mut String, events: &[Event]) -> Result<(), AllocError>
-    ensures { OnOk result (string_bytes text.new ≡ string_bytes text.old ++ flat_map event_line events.now) }
+    ensures { OnOk result (string_bytes text.new
+        ≡ string_bytes text.old ++ flat_map event_line events.now) }
 {
     for event in events {
         push_event(alloc, text, event)?;
@@ -96,7 +97,8 @@ fn push_ran(
     instruction: u8,
     error: Option<XcmError>,
 ) -> Result<(), AllocError>
-    ensures { OnOk result (string_bytes text.new ≡ string_bytes text.old ++ event_line (Event.Ran part index instruction error)) }
+    ensures { OnOk result (string_bytes text.new
+        ≡ string_bytes text.old ++ event_line (Event.Ran part index instruction error)) }
 {
     let letter = part_letter(part);
     let name = name_at(instruction);
@@ -116,7 +118,8 @@ fn push_burned(
     amount: Total,
     cause: Cause,
 ) -> Result<(), AllocError>
-    ensures { OnOk result (string_bytes text.new ≡ string_bytes text.old ++ event_line (Event.Burned kind path.now amount cause)) }
+    ensures { OnOk result (string_bytes text.new
+        ≡ string_bytes text.old ++ event_line (Event.Burned kind path.now amount cause)) }
 {
     let kind = kind_name(kind);
     let path = path_text(alloc, path)?;
@@ -135,7 +138,9 @@ fn push_end(
     surplus: Weight,
     refunded: Weight,
 ) -> Result<(), AllocError>
-    ensures { OnOk result (string_bytes text.new ≡ string_bytes text.old ++ event_line (Event.End origin.now topic.now surplus refunded)) }
+    ensures { OnOk result (string_bytes text.new
+        ≡ string_bytes text.old ++ event_line
+        (Event.End origin.now topic.now surplus refunded)) }
 {
     let origin = origin_text(alloc, origin)?;
     let topic = topic_text(alloc, topic)?;

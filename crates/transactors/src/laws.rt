@@ -25,10 +25,12 @@ pub fn law_of_floors_of_moves()
     ensures withdrawn { (rows : List AssetRow) (site : Site) (floors : UnitFloors)
         (ledger : Accounts) (list : List Asset) (who : Location) → IsHolding list
         → withdraw_fault rows site floors ledger list who ≡ None
-        → KeepsFloors floors ledger.held → KeepsFloors floors (withdrawn site list who ledger).held }
+        → KeepsFloors floors ledger.held
+        → KeepsFloors floors (withdrawn site list who ledger).held }
     ensures deposited { (site : Site) (floors : UnitFloors)
         (ledger : Accounts) (goods : Bundle) (who : Location)
-        → KeepsFloors floors ledger.held → KeepsFloors floors (deposited site goods who ledger).held }
+        → KeepsFloors floors ledger.held
+        → KeepsFloors floors (deposited site goods who ledger).held }
     ensures transferred { (rows : List AssetRow) (site : Site) (floors : UnitFloors)
         (ledger : Accounts) (list : List Asset) (from to : Location) → IsHolding list
         → transfer_fault rows site floors ledger list from to ≡ None

@@ -40,6 +40,7 @@ pub trait Transactor {
     /// the amount and its floor together. It takes no memory.
     fn check_out(&self, ledger: &Ledger, a: &Asset, who: &Location) -> Result<(), MoveFault>
         requires agrees { agrees self.now }
-        ensures checked { result ≡ accepted (check_out (rows self.now) (site self.now) (floors self.now)
+        ensures checked { result
+            ≡ accepted (check_out (rows self.now) (site self.now) (floors self.now)
             ledger.now.held who.now a.now) };
 }

@@ -13,10 +13,13 @@ ghost use Rattle.trap_store.specs.Traps.{Store, piece_count, pieces_of, with_tra
 /// have one number after the other.
 pub fn law_of_traps()
     ensures kept { (p : Unit → Bool) (store : Store) (origin : Location) (goods : Bundle)
-        → trapped_where p (with_trapped store origin goods).traps ≡ trapped_where p store.traps + total p goods }
+        → trapped_where p (with_trapped store origin goods).traps ≡ trapped_where p store.traps
+        + total p goods }
     ensures given { (p : Unit → Bool) (list : List Asset) (origin : Location) (old new : Store)
-        → IsClaimed list origin old new → trapped_where p new.traps + total p (bundle_of list) ≡ trapped_where p old.traps }
+        → IsClaimed list origin old new
+        → trapped_where p new.traps + total p (bundle_of list) ≡ trapped_where p old.traps }
     ensures pieces { (number : ℕ) (origin : Location) (xs : List Asset)
         → IsHolding xs → AllByRecursion (IsPiece origin) (pieces_of number origin (bundle_of xs)) }
-    ensures numbers { (number : ℕ) (origin : Location) (goods : Bundle) → AreNumbered number (pieces_of number origin goods) }
+    ensures numbers { (number : ℕ) (origin : Location) (goods : Bundle)
+        → AreNumbered number (pieces_of number origin goods) }
 {}

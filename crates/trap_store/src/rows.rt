@@ -94,7 +94,8 @@ fn push_all(
     requires { ArePlaced rows.old.entries places.old.keys }
     ensures placed { ArePlaced rows.new.entries places.new.keys }
     ensures kept { IsLonger rows.old.entries rows.new.entries }
-    ensures added { OnOk result (values_of rows.new.entries ≡ values_of rows.old.entries ++ traps.items) }
+    ensures added { OnOk result (values_of rows.new.entries ≡ values_of rows.old.entries
+        ++ traps.items) }
 {
     for trap in traps {
         push(rows, places, trap)?;

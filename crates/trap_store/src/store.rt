@@ -45,7 +45,8 @@ impl Model for TrapStore {
 
     ghost view = { λ s. record { traps = s.traps; next = s.next } };
 
-    ghost invariant = { λ s. (k : Listed) → sum_at k s.sums.items ≡ min (trapped k.0 k.1 s.traps) most_burned };
+    ghost invariant = { λ s. (k : Listed)
+        → sum_at k s.sums.items ≡ min (trapped k.0 k.1 s.traps) most_burned };
 }
 
 impl TrapStore {
@@ -79,7 +80,8 @@ impl TrapStore {
     pub fn trap(&mut self, goods: AssetBundle, origin: &Location) -> Result<u64, AssetBundle>
         requires some { 0 < length (rows goods) }
         ensures { MatchResult result
-            (λ number. (number ≡ self.old.next) × (self.new ≡ with_trapped self.old origin.now goods))
+            (λ number. (number ≡ self.old.next)
+            × (self.new ≡ with_trapped self.old origin.now goods))
             (λ back. (back ≡ goods) × (self.new ≡ self.old)) }
     {
         let units = goods.set_down();
@@ -92,7 +94,8 @@ impl TrapStore {
     /// The traps of these units are put behind the others.
     fn take_in(&mut self, goods: &Units, origin: &Location) -> Result<u64, AllocError>
         ensures { MatchResult result
-            (λ number. (number ≡ self.old.next) × (self.new ≡ with_trapped self.old origin.now goods.now))
+            (λ number. (number ≡ self.old.next)
+            × (self.new ≡ with_trapped self.old origin.now goods.now))
             (λ _. self.new ≡ self.old) }
     {
         let number = self.next;
@@ -108,7 +111,8 @@ impl TrapStore {
     /// Takes the oldest trap that has that origin and just that list. It takes no memory.
     pub fn claim(&mut self, list: &Assets, origin: &Location) -> Result<AssetBundle, Unknown>
         ensures { MatchResult result
-            (λ goods. (goods ≡ bundle_of list.now) × IsClaimed list.now origin.now self.old self.new)
+            (λ goods. (goods ≡ bundle_of list.now)
+            × IsClaimed list.now origin.now self.old self.new)
             (λ _. NoneFits list.now origin.now self.old.traps × (self.new ≡ self.old)) }
     {
         match self.traps.take_oldest(list, origin) {

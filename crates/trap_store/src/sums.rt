@@ -134,7 +134,8 @@ pub(crate) fn sum_of(rows: &[AssetSum], id: &AssetId, kind: Kind) -> Total
 /// Makes a row for each asset that has none. The sums stay, also where memory is refused.
 pub(crate) fn make_rows(rows: &mut Vec<AssetSum>, assets: &[Asset]) -> Result<(), AllocError>
     ensures same { (k : Listed) → sum_at k rows.new.items ≡ sum_at k rows.old.items }
-    ensures listed { OnOk result (IsTrue (list_all (λ a. lists (keys_in rows.new.items) (listed_of (unit_of a))) assets.now)) }
+    ensures listed { OnOk result (IsTrue (list_all
+        (λ a. lists (keys_in rows.new.items) (listed_of (unit_of a))) assets.now)) }
 {
     for asset in assets {
         make_row(rows, asset)?;
@@ -145,8 +146,10 @@ pub(crate) fn make_rows(rows: &mut Vec<AssetSum>, assets: &[Asset]) -> Result<()
 /// Makes a row for the asset where it has none.
 fn make_row(rows: &mut Vec<AssetSum>, asset: &Asset) -> Result<(), AllocError>
     ensures same { (k : Listed) → sum_at k rows.new.items ≡ sum_at k rows.old.items }
-    ensures kept { (k : Listed) → IsTrue (lists (keys_in rows.old.items) k) → IsTrue (lists (keys_in rows.new.items) k) }
-    ensures listed { OnOk result (IsTrue (lists (keys_in rows.new.items) (listed_of (unit_of asset.now)))) }
+    ensures kept { (k : Listed)
+        → IsTrue (lists (keys_in rows.old.items) k) → IsTrue (lists (keys_in rows.new.items) k) }
+    ensures listed { OnOk result
+        (IsTrue (lists (keys_in rows.new.items) (listed_of (unit_of asset.now)))) }
 {
     match place_of(rows.as_slice(), &asset.id, asset.kind()) {
         Some(_) => Ok(()),

@@ -53,7 +53,8 @@ fn finished(out: Out) -> Result<Vec<u8>, EncodeFault>
 /// 65,536 bytes.
 pub fn encode_message(alloc: Global, program: &Program, v: Version) -> Result<Vec<u8>, EncodeFault>
     requires { IsWritable v program.now }
-    ensures { MatchResult result (λ bytes. IsMessageIn v bytes.items program.now) (IsEncodeCause v program.now) }
+    ensures { MatchResult result (λ bytes. IsMessageIn v bytes.items program.now)
+        (IsEncodeCause v program.now) }
 {
     if deep_count(program) > MAX_INSTRUCTIONS || depth(program) > MAX_DEPTH {
         return Err(EncodeFault::ExceedsLimits);
@@ -68,7 +69,8 @@ pub fn encode_message(alloc: Global, program: &Program, v: Version) -> Result<Ve
 /// Whether the forwarded program has too many instructions or levels.
 fn forwards_too_much(first: &Instruction, rest: &Program) -> bool
     requires { deep_count (forwarded first.now rest.now) < 2 ^ 32 }
-    ensures { MatchBool result ((100 < deep_count (forwarded first.now rest.now)) ⊎ (8 < depth (forwarded first.now rest.now))) (IsSmall (forwarded first.now rest.now)) }
+    ensures { MatchBool result ((100 < deep_count (forwarded first.now rest.now))
+        ⊎ (8 < depth (forwarded first.now rest.now))) (IsSmall (forwarded first.now rest.now)) }
 {
     if deep_count_one(first) + 1 + deep_count(rest) > MAX_INSTRUCTIONS {
         return true;
@@ -106,7 +108,8 @@ pub fn encode_forwarded(
     v: Version,
 ) -> Result<Vec<u8>, EncodeFault>
     requires { IsWritable v (forwarded first.now rest.now) }
-    ensures { MatchResult result (λ bytes. IsMessageIn v bytes.items (forwarded first.now rest.now)) (IsEncodeCause v (forwarded first.now rest.now)) }
+    ensures { MatchResult result (λ bytes. IsMessageIn v bytes.items (forwarded first.now rest.now))
+        (IsEncodeCause v (forwarded first.now rest.now)) }
 {
     if forwards_too_much(first, rest) {
         return Err(EncodeFault::ExceedsLimits);

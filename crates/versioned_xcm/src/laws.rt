@@ -15,17 +15,22 @@ pub fn law_of_messages()
 
 /// Bytes are the message of at most one program.
 pub fn law_of_one_program()
-    ensures { (bytes : List ℕ) (p q : List Instruction) → IsMessage bytes p → IsMessage bytes q → p ≡ q }
+    ensures { (bytes : List ℕ) (p q : List Instruction)
+        → IsMessage bytes p → IsMessage bytes q → p ≡ q }
 {}
 
 /// What was encoded, in either version, is decoded to the same program, on two premises: the bytes are the program's message in that
 /// version, as `encode_message` and `encode_forwarded` say of what they answer, and no asset id of the program is bytes.
 pub fn law_of_round_trip()
-    ensures { (v : Version) (bytes : List ℕ) (program : List Instruction) → IsMessageIn v bytes program → is_convertible program ≡ true → message_of bytes ≡ Ok program }
+    ensures { (v : Version) (bytes : List ℕ) (program : List Instruction)
+        → IsMessageIn v bytes program
+        → is_convertible program ≡ true → message_of bytes ≡ Ok program }
 {}
 
 /// What `encode_forwarded` answers is decoded to the program that it stands for, where no asset id of the first instruction and of the rest
 /// is bytes. So what waits for delivery can be kept as its bytes.
 pub fn law_of_forwarding()
-    ensures { (v : Version) (bytes : List ℕ) (first : Instruction) (rest : List Instruction) → IsMessageIn v bytes (forwarded first rest) → is_convertible_one first ≡ true → is_convertible rest ≡ true → message_of bytes ≡ Ok (forwarded first rest) }
+    ensures { (v : Version) (bytes : List ℕ) (first : Instruction) (rest : List Instruction)
+        → IsMessageIn v bytes (forwarded first rest) → is_convertible_one first ≡ true
+        → is_convertible rest ≡ true → message_of bytes ≡ Ok (forwarded first rest) }
 {}

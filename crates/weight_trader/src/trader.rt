@@ -95,7 +95,8 @@ fn minted(alloc: Global, lines: &[Purchases]) -> Result<AssetBundle, AllocError>
 /// Makes what a line gives back for the weight.
 fn minted_refund(alloc: Global, line: &Purchases, weight: Weight) -> Result<AssetBundle, AllocError>
     requires { IsTrue (is_refunded weight line.now) }
-    ensures { IfOk result (λ goods. goods ≡ single (coin_of line.now.rate) (refund_at weight line.now)) }
+    ensures { IfOk result (λ goods. goods
+        ≡ single (coin_of line.now.rate) (refund_at weight line.now)) }
 {
     let coins = line.coins(line.refund_amount(weight));
     let goods = AssetBundle::mint(alloc, &[coins])?;
@@ -147,7 +148,8 @@ impl Trader {
     /// have passed 2^128-1 of what is paid in it; none where each price passes the payment.
     fn charge(&mut self, weight: Weight, payment: &mut AssetBundle) -> Option<(AssetId, u128)>
         ensures { MatchOption result
-            (IsTooExpensive weight payment.old self.old × (payment.new ≡ payment.old) × (self.new ≡ self.old))
+            (IsTooExpensive weight payment.old self.old × (payment.new ≡ payment.old)
+            × (self.new ≡ self.old))
             (λ above. IsCharge weight payment.old self.old payment.new self.new above.0 above.1) }
     {
         let Some(place) = first_covered(self.lines.as_slice(), weight, payment) else {
@@ -168,7 +170,8 @@ impl Trader {
         book: &mut BurnBook,
     ) -> Result<AssetBundle, (AssetBundle, TooExpensive)>
         requires { AreRatesListed book.old.listed self.old }
-        ensures bought { IfOk result (λ left. IsPurchase weight payment self.old book.old left self.new book.new) }
+        ensures bought { IfOk result (λ left. IsPurchase weight payment self.old book.old left
+            self.new book.new) }
         ensures too_expensive { OnErr result (IsTooExpensive weight payment self.old) }
         ensures handed_back { IfErr result (λ refusal. refusal.0 ≡ payment) }
         ensures unchanged { OnErr result (self.new ≡ self.old) }

@@ -38,8 +38,10 @@ impl Sums {
         requires short { self.ref_time + inside.ref_time < 2 ^ 127 }
         requires small { self.proof_size + inside.proof_size < 2 ^ 127 }
         ensures instructions { result.instructions ≡ self.instructions + 1 + inside.instructions }
-        ensures ref_time { result.ref_time ≡ self.ref_time + unit.ref_time + call.ref_time + inside.ref_time }
-        ensures proof_size { result.proof_size ≡ self.proof_size + unit.proof_size + call.proof_size + inside.proof_size }
+        ensures ref_time { result.ref_time ≡ self.ref_time + unit.ref_time + call.ref_time
+            + inside.ref_time }
+        ensures proof_size { result.proof_size ≡ self.proof_size + unit.proof_size + call.proof_size
+            + inside.proof_size }
     {
         let ref_time = u128::from(unit.ref_time) + u128::from(call.ref_time);
         let proof_size = u128::from(unit.proof_size) + u128::from(call.proof_size);

@@ -1,11 +1,8 @@
 -- The measures of an instruction, by the program that was found inside.
 use Rattle.std.proofs.Common.{◌≡◌, ◌+◌, List, Option, ap, ◌∙◌}
 use Rattle.xcm_program.specs.declared.instruction.Instruction.{Instruction, out-Instruction}
-use Rattle.xcm_program.specs.Measure.{inner_of, deep_count_one, depth_one, sending, sends_one}
-use Rattle.xcm_program.specs.Laws.{deep_count_inside, deep_count_one-is, depth_inside, depth_one-is, sends_inside, sends_one-is}
-
-pub counted_inside : (i : Instruction) (nested : Option (List Instruction)) → inner_of i ≡ nested → deep_count_one i ≡ 1 + deep_count_inside nested
-counted_inside i nested inside = deep_count_one-is i ∙ ap (λ (o : Option (List Instruction)). 1 + deep_count_inside o) inside
+use Rattle.xcm_program.specs.Measure.{inner_of, depth_one, sending, sends_one}
+use Rattle.xcm_program.specs.Laws.{depth_inside, depth_one-is, sends_inside, sends_one-is}
 
 pub deep_inside : (i : Instruction) (nested : Option (List Instruction)) → inner_of i ≡ nested → depth_one i ≡ depth_inside nested
 deep_inside i nested inside = depth_one-is i ∙ ap depth_inside inside

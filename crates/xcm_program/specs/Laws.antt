@@ -76,6 +76,12 @@ deep_count_inside o = total_inside deep_count_one o
 pub deep_count_one-is : (i : Instruction) → deep_count_one i ≡ 1 + deep_count_inside (inner_of i)
 deep_count_one-is = sum_one-is (λ X l. 1) (λ X l. inner l) (λ X Y f l. refl) (λ X Y f l. inner-map f l)
 
+-- by the program that was found inside
+pub counted_inside : (i : Instruction) (nested : Option (List Instruction)) → inner_of i ≡ nested
+    → deep_count_one i ≡ 1 + deep_count_inside nested
+counted_inside i nested inside =
+    deep_count_one-is i ∙ ap (λ (o : Option (List Instruction)). 1 + deep_count_inside o) inside
+
 abbrev pub sends_inside : Option (List Instruction) → ℕ
 sends_inside o = total_inside sends_one o
 

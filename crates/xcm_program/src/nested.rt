@@ -36,7 +36,8 @@ pub fn kept(instruction: &Instruction) -> Option<&Program>
 
 /// Puts another program inside the instruction where it has one, and drops the one before.
 pub fn set_program(instruction: &mut Instruction, program: Program)
-    ensures { out-Instruction instruction.new ≡ with_inner (out-Instruction instruction.old) program }
+    ensures { out-Instruction instruction.new
+        ≡ with_inner (out-Instruction instruction.old) program }
 {
     match instruction {
         Instruction::TransferReserveAsset { xcm, .. } => *xcm = program,
