@@ -2,3 +2,4 @@ mod Apart
 mod Draining
 mod Reading
 pub mod Listed
+mod Keeping

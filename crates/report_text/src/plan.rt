@@ -30,7 +30,7 @@ impl Model for SupplyPlan {
 
 impl SupplyPlan {
     /// The plan of the supply block of these chains. It takes time in proportion to the rows of all chains and the logarithm of their number,
-    /// and for each derivative in proportion to the rows of its chain and its reserve. An `Err` is out of memory.
+    /// and for each derivative in proportion to the chains. An `Err` is out of memory.
     pub fn of(alloc: Global, chains: &[ChainState]) -> Result<SupplyPlan, AllocError>
         ensures { IfOk result (λ plan. plan ≡ plan_of (map table_of (map part_of chains.now))) }
     {
@@ -48,6 +48,14 @@ impl SupplyPlan {
         ensures { IfOk result (λ text. string_bytes text ≡ supply_block (map part_of chains.now)) }
     {
         self.text(alloc, chains)
+    }
+
+    /// Its entries.
+    pub(crate) fn entries(self) -> (Vec<SupplyEntry>, Vec<BackingEntry>)
+        ensures supplies { result.0.items ≡ self.supplies }
+        ensures backings { result.1.items ≡ self.backings }
+    {
+        (self.supplies, self.backings)
     }
 
     /// The lines of the plan, with the figures of these chains.

@@ -1,28 +1,32 @@
 //! Where a derivative and what covers it stand.
-ghost use Rattle.std.specs.Prelude.{◌≡◌, ◌++◌, min, map, IfOk, OnOk, Some, None, option_map, position, slice_get, true};
+ghost use Rattle.std.specs.Prelude.{◌≡◌, ◌+◌, min, map, IfOk, IsTrue, Some, None, option_map, position, slice_get};
 ghost use Rattle.std.specs.Option.{option_copied};
 ghost use Rattle.asset_bundles.specs.Books.{most_burned};
 ghost use Rattle.asset_bundles.specs.Totals.{total_value};
-ghost use Rattle.locations.specs.Chains.{path_of};
 ghost use Rattle.trust_tables.specs.Chains.{path_of_site};
 ghost use Rattle.chain_ids.specs.Chains.{same_chain};
+ghost use Rattle.network_genesis.specs.Tests.{has_path};
 ghost use Rattle.chain_state.specs.PartOf.{part_of};
 ghost use Rattle.supply_audit.specs.Places.{table_of};
-ghost use Rattle.supply_audit.specs.RowPlaces.{chain_places, place_if};
-ghost use Rattle.supply_audit.specs.Covers.{cover_at, cover_between, cover_by, cover_of_row, cover_of_chain, number_of, of_cover, held_at, owed_at};
+ghost use Rattle.supply_audit.specs.declared.figures.Carried.TheVariants.{Withdrawals};
+ghost use Rattle.supply_audit.specs.declared.figures.Figure.TheVariants.{Placed, Sent};
+ghost use Rattle.supply_audit.specs.RowPlaces as places;
+ghost use Rattle.supply_audit.specs.AssetPlaces.{ArePlaces, HavePlacesOf};
+ghost use Rattle.supply_audit.specs.Covers.{cover_at, cover_between, cover_by, cover_of_row, cover_of_chain, number_of, of_cover, held_at, owed_at, coming_at, standing_at, own_touched, kept_touched};
+ghost use Rattle.supply_audit.specs.Renewed.{HasFigures, IsRenewed};
 
+use crate::asset_places::AssetPlaces;
 use crate::audit::name_of;
 use crate::figures::{Carried, Figure};
 use crate::messages::same_chain;
+use crate::network_asset::NetworkAsset;
 use crate::over_places::{chain_of, over_places};
-use crate::places::{context_of, is_row_of};
+use crate::stale::are_touched;
 use crate::totals::none;
 use crate::{Backing, Place};
 use asset_bundles::Total;
-use asset_lists::Kind;
 use chain_ids::ChainId;
 use chain_state::ChainState;
-use locations::{Junctions, Location};
 use network_coherence::sovereign_account;
 use std::alloc::{AllocError, Global};
 use std::marker::Model;
@@ -58,7 +62,7 @@ fn place_of(chains: &[ChainState], chain: ChainId) -> Option<usize>
 }
 
 /// The number of the first chain of this name, or how many chains there are.
-fn number_of(chains: &[ChainState], chain: ChainId) -> usize
+pub fn number_of(chains: &[ChainState], chain: ChainId) -> usize
     ensures { result ≡ number_of (map table_of (map part_of chains.now)) chain }
 {
     place_of(chains, chain).unwrap_or(chains.len())
@@ -72,70 +76,25 @@ fn listed_chain(chains: &[ChainState], number: usize) -> Option<&ChainState>
     chain_of(chains, number)
 }
 
-/// Appends the place of a chain's row, where it is of the asset.
-fn push_place(
-    list: &mut Vec<Place>,
-    chain: &ChainState,
-    context: &Junctions,
-    home: &Junctions,
-    id: &Location,
-    kind: Kind,
-    place: Place,
-    row: &AssetRow,
-) -> Result<(), AllocError>
-    requires { context.now ≡ path_of_site (part_of chain.now).site }
-    ensures { OnOk result (list.new.items ≡ list.old.items
-        ++ place_if true (table_of (part_of chain.now)) (path_of home.now id.now, kind)
-        place.chain (place.row, row.now)) }
-{
-    if is_row_of(context, home, id, kind, row) {
-        list.push(place)?;
-    }
-    Ok(())
-}
-
-/// The places of a chain's rows that are of an asset.
-fn row_places(
-    alloc: Global,
-    number: usize,
-    chain: &ChainState,
-    home: &Junctions,
-    id: &Location,
-    kind: Kind,
-) -> Result<Vec<Place>, AllocError>
-    ensures { IfOk result (λ list. list.items
-        ≡ chain_places true (path_of home.now id.now, kind)
-        (number, table_of (part_of chain.now))) }
-{
-    let context = context_of(chain);
-    let mut list = Vec::new(alloc);
-    let rows = chain.rows();
-    for (k, row) in rows.iter().enumerate() {
-        let place = Place {
-            chain: number,
-            row: k,
-        };
-        push_place(&mut list, chain, &context, home, id, kind, place, row)?;
-    }
-    Ok(list)
-}
-
 impl Cover {
-    /// Where the derivative in a chain's row stands, and what covers it. `row` is the place in the chain's list, from 0. There is nothing where
-    /// the chain, the row or its reserve isn't there, or the row is native. An `Err` is out of memory.
+    /// Where the derivative in a chain's row stands, and what covers it, by the places of all rows of these chains. `row` is the place in the
+    /// chain's list, from 0. There is nothing where the chain, the row or its reserve isn't there, or the row is native. An `Err` is out of
+    /// memory.
     pub fn of(
         alloc: Global,
         chains: &[ChainState],
+        index: &AssetPlaces,
         chain: ChainId,
         row: usize,
     ) -> Result<Option<Cover>, AllocError>
+        requires { ArePlaces index.now.places.entries (map table_of (map part_of chains.now)) }
         ensures { IfOk result (λ cover. cover
             ≡ cover_at (map table_of (map part_of chains.now)) chain row) }
     {
         let number = number_of(chains, chain);
         match listed_chain(chains, number) {
             None => Ok(None),
-            Some(here) => place_cover(alloc, chains, number, here, row),
+            Some(here) => place_cover(alloc, chains, index, number, here, row),
         }
     }
 
@@ -145,6 +104,22 @@ impl Cover {
     {
         let who = sovereign_account(self.there, self.here);
         over_places(Figure::Account(who), chains, self.kept.as_slice())
+    }
+
+    /// What is on its way to the chain as deposits.
+    fn coming(&self, chains: &[ChainState]) -> Total
+        ensures { total_value result ≡ min (coming_at (map part_of chains.now) self.now) most_burned }
+    {
+        let to_here = Figure::Sent(Carried::Deposits, Some(self.here));
+        over_places(to_here, chains, self.kept.as_slice())
+    }
+
+    /// What the chain has, with what is on its way back as withdrawals.
+    fn standing(&self, chains: &[ChainState]) -> Total
+        ensures { total_value result
+            ≡ min (standing_at (map part_of chains.now) self.now) most_burned }
+    {
+        standing_over(chains, self.there, self.own.as_slice())
     }
 
     /// What the chain has, with what is on its way to it and back.
@@ -177,6 +152,17 @@ fn owed_over(
     placed.sum(coming).sum(leaving)
 }
 
+/// What stands at a chain's own places, with what is on its way back to the reserve as withdrawals.
+fn standing_over(chains: &[ChainState], there: ChainId, own: &[Place]) -> Total
+    ensures { total_value result ≡ min (places.over_places Placed (map part_of chains.now) own.now
+        + places.over_places (Sent Withdrawals (Some there)) (map part_of chains.now) own.now) most_burned }
+{
+    let to_there = Figure::Sent(Carried::Withdrawals, Some(there));
+    let placed = over_places(Figure::Placed, chains, own);
+    let leaving = over_places(to_there, chains, own);
+    placed.sum(leaving)
+}
+
 /// How a derivative is covered, by where it stands: what the chain's account at the reserve has, and what is owed: what the chain has, what
 /// is on its way to it as deposits, and what is on its way back as withdrawals. Both are 0 where there is none. It takes no memory.
 pub fn backing_at(chains: &[ChainState], cover: &Option<Cover>) -> Backing
@@ -197,22 +183,117 @@ pub fn backing_at(chains: &[ChainState], cover: &Option<Cover>) -> Backing
     }
 }
 
+/// Whether a derivative's own places, or those at its reserve, are at a chain that has changed, by a flag for each chain.
+fn touched(stale: &[bool], cover: &Option<Cover>) -> (bool, bool)
+    ensures own { result.0 ≡ own_touched stale.now cover.now }
+    ensures kept { result.1 ≡ kept_touched stale.now cover.now }
+{
+    match cover {
+        None => (false, false),
+        Some(cover) => (
+            are_touched(stale, cover.own.as_slice()),
+            are_touched(stale, cover.kept.as_slice()),
+        ),
+    }
+}
+
+/// What the chain of a derivative has, with what is on its way back as withdrawals; 0 where there is none.
+fn standing(chains: &[ChainState], cover: &Option<Cover>) -> Total
+    ensures { total_value result
+        ≡ min (of_cover (standing_at (map part_of chains.now)) cover.now) most_burned }
+{
+    match cover {
+        None => none(),
+        Some(cover) => cover.standing(chains),
+    }
+}
+
+/// What the account of a derivative's chain has at the reserve; 0 where there is none.
+fn held(chains: &[ChainState], cover: &Option<Cover>) -> Total
+    ensures { total_value result
+        ≡ min (of_cover (held_at (map part_of chains.now)) cover.now) most_burned }
+{
+    match cover {
+        None => none(),
+        Some(cover) => cover.held(chains),
+    }
+}
+
+/// What is on its way to the chain of a derivative as deposits; 0 where there is none.
+fn coming(chains: &[ChainState], cover: &Option<Cover>) -> Total
+    ensures { total_value result
+        ≡ min (of_cover (coming_at (map part_of chains.now)) cover.now) most_burned }
+{
+    match cover {
+        None => none(),
+        Some(cover) => cover.coming(chains),
+    }
+}
+
+/// What a derivative's line is made of. Each figure hangs on one chain alone. It saturates at 2^160-1.
+#[derive(Clone, Copy, Debug)]
+pub struct CoverFigures {
+    /// What the chain's account at the reserve has.
+    pub held: Total,
+    /// What is on its way to the chain as deposits, which the reserve sent.
+    pub coming: Total,
+    /// What the chain has, with what is on its way back as withdrawals.
+    pub standing: Total,
+}
+
+/// The figures of a derivative; all are 0 where there is none. It takes no memory.
+pub fn cover_figures(chains: &[ChainState], cover: &Option<Cover>) -> CoverFigures
+    ensures { HasFigures result (map part_of chains.now) cover.now }
+{
+    CoverFigures {
+        held: held(chains, cover),
+        coming: coming(chains, cover),
+        standing: standing(chains, cover),
+    }
+}
+
+/// The figures of a derivative, of which `known` has those that are still right: of the chains that have changed, by a flag for each, they are read
+/// anew. It takes no memory.
+pub fn renewed_figures(
+    chains: &[ChainState],
+    stale: &[bool],
+    cover: &Option<Cover>,
+    known: CoverFigures,
+) -> CoverFigures
+    ensures { IsRenewed stale.now (map part_of chains.now) cover.now known result }
+{
+    let (own, kept) = touched(stale, cover);
+    let mut figures = known;
+    if kept {
+        figures.held = held(chains, cover);
+        figures.coming = coming(chains, cover);
+    }
+    if own {
+        figures.standing = standing(chains, cover);
+    }
+    figures
+}
+
 /// The cover of a row with its reserve.
 fn covering(
     alloc: Global,
+    index: &AssetPlaces,
     number: usize,
     here: &ChainState,
     row: &AssetRow,
     other: usize,
     there: &ChainState,
 ) -> Result<Option<Cover>, AllocError>
+    requires path { IsTrue (has_path (path_of_site (part_of here.now).site) row.now) }
+    requires own { HavePlacesOf index.now.places.entries (number, table_of (part_of here.now)) }
+    requires kept { HavePlacesOf index.now.places.entries (other, table_of (part_of there.now)) }
     ensures { IfOk result (λ cover. cover
         ≡ cover_between (number, table_of (part_of here.now)) row.now other
         (Some (table_of (part_of there.now)))) }
 {
-    let home = context_of(here);
-    let own = row_places(alloc, number, here, &home, &row.id, row.kind)?;
-    let kept = row_places(alloc, other, there, &home, &row.id, row.kind)?;
+    let asset = NetworkAsset::listed_at(here.site(), row);
+    let own = index.at(alloc, &asset, number)?;
+    let kept = index.at(alloc, &asset, other)?;
     Ok(Some(Cover {
         here: name_of(here),
         there: name_of(there),
@@ -225,10 +306,14 @@ fn covering(
 fn row_cover(
     alloc: Global,
     chains: &[ChainState],
+    index: &AssetPlaces,
     number: usize,
     here: &ChainState,
     row: &AssetRow,
 ) -> Result<Option<Cover>, AllocError>
+    requires path { IsTrue (has_path (path_of_site (part_of here.now).site) row.now) }
+    requires index { ArePlaces index.now.places.entries (map table_of (map part_of chains.now)) }
+    requires own { HavePlacesOf index.now.places.entries (number, table_of (part_of here.now)) }
     ensures { IfOk result (λ cover. cover
         ≡ cover_by (map table_of (map part_of chains.now))
         (number, table_of (part_of here.now)) row.now row.now.role) }
@@ -239,7 +324,7 @@ fn row_cover(
             let other = number_of(chains, *reserve);
             match listed_chain(chains, other) {
                 None => Ok(None),
-                Some(there) => covering(alloc, number, here, row, other, there),
+                Some(there) => covering(alloc, index, number, here, row, other, there),
             }
         }
     }
@@ -249,16 +334,19 @@ fn row_cover(
 fn place_cover(
     alloc: Global,
     chains: &[ChainState],
+    index: &AssetPlaces,
     number: usize,
     here: &ChainState,
     row: usize,
 ) -> Result<Option<Cover>, AllocError>
+    requires index { ArePlaces index.now.places.entries (map table_of (map part_of chains.now)) }
+    requires own { HavePlacesOf index.now.places.entries (number, table_of (part_of here.now)) }
     ensures { IfOk result (λ cover. cover
         ≡ cover_of_row (map table_of (map part_of chains.now)) (number, table_of (part_of here.now))
         (slice_get (part_of here.now).rows row)) }
 {
     match here.rows().get(row) {
         None => Ok(None),
-        Some(row) => row_cover(alloc, chains, number, here, row),
+        Some(row) => row_cover(alloc, chains, index, number, here, row),
     }
 }

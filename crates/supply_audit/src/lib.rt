@@ -1,6 +1,7 @@
 //! What a network has of each asset, and whether derivatives are covered.
 #![tactic(auto)]
 
+mod asset_places;
 mod audit;
 mod cover;
 mod figures;
@@ -10,15 +11,18 @@ mod network_asset;
 mod over_places;
 mod place;
 mod places;
+mod stale;
 mod table;
 mod totals;
 
+pub use asset_places::AssetPlaces;
 pub use audit::{backing, supply};
-pub use cover::{Cover, backing_at};
+pub use cover::{Cover, CoverFigures, backing_at, cover_figures, number_of, renewed_figures};
 pub use home_places::HomePlaces;
 pub use ledgers::{Backing, Supply};
 pub use network_asset::NetworkAsset;
 pub use network_coherence::{Incoherent, IncoherentCause, coherent};
 pub use over_places::supply_at;
 pub use place::Place;
+pub use stale::are_touched;
 pub use table::Supplies;

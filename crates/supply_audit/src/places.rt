@@ -79,7 +79,7 @@ fn same_kind(a: Kind, b: Kind) -> bool
 }
 
 /// Whether a row is of the asset of this path and kind.
-pub(crate) fn is_row_of(
+fn is_row_of(
     context: &Junctions,
     home: &Junctions,
     id: &Location,
@@ -93,7 +93,7 @@ pub(crate) fn is_row_of(
 }
 
 /// The junctions from the root of all networks to the chain.
-pub(crate) fn context_of(chain: &ChainState) -> Junctions
+fn context_of(chain: &ChainState) -> Junctions
     ensures { result ≡ path_of_site (part_of chain.now).site }
 {
     chain.site().path()
