@@ -7,7 +7,7 @@ use chain_state::ChainState;
 use std::alloc::Global;
 use std::process::Abort;
 use std::test::Fail;
-use supply_audit::{Cover, Place, backing, backing_at, supply, supply_at};
+use supply_audit::{AssetPlaces, Cover, Place, backing, backing_at, supply, supply_at};
 
 /// An account sends 1000 from the relay chain to parachain 2000, where weight is paid of it; and 500 of it come back.
 const THERE_AND_BACK: &[(&str, &str)] = &[
@@ -169,12 +169,13 @@ const ON_THE_WAY: &[(ChainId, usize, u128, u128)] = &[
 
 /// Looks at the first row of each chain, by its place and by its chain.
 fn check_first_rows(rt: &impl Abort, alloc: Global, chains: &[ChainState]) -> Result<(), Fail> {
+    let index = AssetPlaces::of(alloc, chains)?;
     for (chain, number, stands, owed) in ON_THE_WAY {
         let place = Place {
             chain: *number,
             row: 0,
         };
-        let cover = Cover::of(alloc, chains, *chain, 0)?;
+        let cover = Cover::of(alloc, chains, &index, *chain, 0)?;
         let by_place = backing_at(chains, &cover);
         let by_row = backing(chains, *chain, 0);
         assert!(rt; supply_at(chains, &[place]).home.low == *stands);

@@ -4,6 +4,7 @@ ghost use Rattle.std.specs.List.{enumerate_from};
 ghost use Rattle.trust_tables.specs.Chains.{path_of_site};
 ghost use Rattle.network_genesis.specs.Tests.{has_path, have_paths};
 ghost use Rattle.chain_state.specs.PartOf.{part_of};
+ghost use Rattle.supply_audit.specs.AssetPlaces.{ArePlaces};
 ghost use Rattle.supply_audit.specs.Places.{table_of};
 ghost use Rattle.report_text.specs.Plan.{backing_beginning, planned_backing, planned_if, planned_backings, planned_backing_text};
 
@@ -14,7 +15,7 @@ use location_wire::path_text;
 use std::alloc::{AllocError, Global};
 use std::fmt::Write;
 use std::marker::Model;
-use supply_audit::{Cover, backing_at};
+use supply_audit::{AssetPlaces, Cover, backing_at};
 use trust_tables::{AssetRole, AssetRow, Site};
 
 /// The line of a derivative: its beginning, and where it and what covers it stand.
@@ -51,16 +52,18 @@ fn beginning(alloc: Global, site: &Site, row: &AssetRow) -> Result<String, Alloc
 fn entry_of(
     alloc: Global,
     chains: &[ChainState],
+    index: &AssetPlaces,
     site: &Site,
     place: usize,
     row: &AssetRow,
 ) -> Result<BackingEntry, AllocError>
-    requires { IsTrue (has_path (path_of_site site.now) row.now) }
+    requires index { ArePlaces index.now.places.entries (map table_of (map part_of chains.now)) }
+    requires path { IsTrue (has_path (path_of_site site.now) row.now) }
     ensures { IfOk result (λ entry. entry
         ≡ planned_backing (map table_of (map part_of chains.now)) site.now place row.now) }
 {
     let beginning = beginning(alloc, site, row)?;
-    let cover = Cover::of(alloc, chains, site.chain, place)?;
+    let cover = Cover::of(alloc, chains, index, site.chain, place)?;
     Ok(BackingEntry { beginning, cover })
 }
 
@@ -69,11 +72,13 @@ fn plan_row(
     alloc: Global,
     entries: &mut Vec<BackingEntry>,
     chains: &[ChainState],
+    index: &AssetPlaces,
     site: &Site,
     place: usize,
     row: &AssetRow,
 ) -> Result<(), AllocError>
-    requires { IsTrue (has_path (path_of_site site.now) row.now) }
+    requires index { ArePlaces index.now.places.entries (map table_of (map part_of chains.now)) }
+    requires path { IsTrue (has_path (path_of_site site.now) row.now) }
     ensures { OnOk result (entries.new.items
         ≡ entries.old.items ++ planned_if (map table_of (map part_of chains.now)) site.now
         (place, row.now)) }
@@ -81,7 +86,7 @@ fn plan_row(
     match &row.role {
         AssetRole::Native { .. } => Ok(()),
         AssetRole::Derivative { .. } => {
-            let entry = entry_of(alloc, chains, site, place, row)?;
+            let entry = entry_of(alloc, chains, index, site, place, row)?;
             entries.push(entry)?;
             Ok(())
         }
@@ -93,16 +98,18 @@ fn plan_rows(
     alloc: Global,
     entries: &mut Vec<BackingEntry>,
     chains: &[ChainState],
+    index: &AssetPlaces,
     site: &Site,
     rows: &[AssetRow],
 ) -> Result<(), AllocError>
-    requires { IsTrue (have_paths (path_of_site site.now) rows.now) }
+    requires index { ArePlaces index.now.places.entries (map table_of (map part_of chains.now)) }
+    requires paths { IsTrue (have_paths (path_of_site site.now) rows.now) }
     ensures { OnOk result (entries.new.items
         ≡ entries.old.items ++ flat_map
         (planned_if (map table_of (map part_of chains.now)) site.now) (enumerate_from 0 rows.now)) }
 {
     for (place, row) in rows.iter().enumerate() {
-        plan_row(alloc, entries, chains, site, place, row)?;
+        plan_row(alloc, entries, chains, index, site, place, row)?;
     }
     Ok(())
 }
@@ -112,13 +119,15 @@ fn plan_chain(
     alloc: Global,
     entries: &mut Vec<BackingEntry>,
     chains: &[ChainState],
+    index: &AssetPlaces,
     chain: &ChainState,
 ) -> Result<(), AllocError>
+    requires { ArePlaces index.now.places.entries (map table_of (map part_of chains.now)) }
     ensures { OnOk result (entries.new.items
         ≡ entries.old.items ++ planned_backings (map table_of (map part_of chains.now))
         (table_of (part_of chain.now))) }
 {
-    plan_rows(alloc, entries, chains, chain.site(), chain.rows())
+    plan_rows(alloc, entries, chains, index, chain.site(), chain.rows())
 }
 
 /// The entries of the derivatives of all chains, of which `chains` is the network.
@@ -130,9 +139,10 @@ pub(crate) fn plan_backings(
         ≡ flat_map (planned_backings (map table_of (map part_of chains.now)))
         (map table_of (map part_of chains.now))) }
 {
+    let index = AssetPlaces::of(alloc, chains)?;
     let mut entries = Vec::new(alloc);
     for chain in chains {
-        plan_chain(alloc, &mut entries, chains, chain)?;
+        plan_chain(alloc, &mut entries, chains, &index, chain)?;
     }
     Ok(entries)
 }

@@ -30,7 +30,7 @@ impl Model for SupplyPlan {
 
 impl SupplyPlan {
     /// The plan of the supply block of these chains. It takes time in proportion to the rows of all chains and the logarithm of their number,
-    /// and for each derivative in proportion to the rows of its chain and its reserve. An `Err` is out of memory.
+    /// and for each derivative in proportion to the chains. An `Err` is out of memory.
     pub fn of(alloc: Global, chains: &[ChainState]) -> Result<SupplyPlan, AllocError>
         ensures { IfOk result (λ plan. plan ≡ plan_of (map table_of (map part_of chains.now))) }
     {

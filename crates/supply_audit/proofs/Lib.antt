@@ -3,3 +3,4 @@ pub mod Naming
 pub mod Tables
 pub mod Idle
 pub mod Listing
+pub mod Indexed

@@ -10,7 +10,6 @@ use Rattle.asset_bundles.specs.Books.{most_burned}
 use Rattle.asset_bundles.specs.Totals.{total_value}
 use Rattle.trust_tables.specs.declared.rows.AssetRow.{AssetRow}
 use Rattle.coherence.specs.UniversalAssets.{UniversalAsset}
-use Rattle.coherence.specs.Networks.{is_home}
 use Rattle.exec_base.specs.Part.{ChainPart}
 use Rattle.ledgers.specs.declared.supplies.Supply.{Supply}
 use Rattle.supply_audit.specs.declared.figures.Figure.{Figure}
@@ -24,31 +23,31 @@ use Rattle.supply_audit.proofs.Tables.{along, same_asset, sum_more, sums_both}
 
 -- ---- a row's place
 
-module _ (p : ChainPart) (row : AssetRow) (place : Place) where
+module _ (counts : UniversalAsset → Bool) (p : ChainPart) (row : AssetRow) (place : Place) where
   abbrev here : UniversalAsset → List Place
-  here a = place_if (is_home a (table_of p)) (table_of p) a place.chain (place.row, row)
+  here a = place_if (counts a) (table_of p) a place.chain (place.row, row)
 
   none_here : (a : UniversalAsset) → is_row_of p a row ≡ false → here a ≡ []
-  none_here a of_other = ap (λ b. if is_home a (table_of p) && b then place ∷ [] else []) of_other ∙ either (is_home a (table_of p))
+  none_here a of_other = ap (λ b. if counts a && b then place ∷ [] else []) of_other ∙ either (counts a)
     where
       either : (b : Bool) → ◌≡◌ {A = List Place} (if b && false then place ∷ [] else []) []
       either true = refl
       either false = refl
 
-  -- of an asset that isn't at home at the chain
-  pub put_away : is_home (listed_at p.site row) (table_of p) ≡ false → (a : UniversalAsset) → here a ≡ []
+  -- of an asset that doesn't count
+  pub put_away : counts (listed_at p.site row) ≡ false → (a : UniversalAsset) → here a ≡ []
   put_away away a =
       let own = listed_at p.site row in
       elim (is_row_of p a row) as (λ b. is_row_of p a row ≡ b → here a ≡ []) [
         | true ↦ λ e.
             let same : own ≡ a = same_asset own a (asset_tests own a ∙ e) in
-            let none : is_home a (table_of p) ≡ false = ap (λ (x : UniversalAsset). is_home x (table_of p)) (sym same) ∙ away in
+            let none : counts a ≡ false = ap counts (sym same) ∙ away in
             λ i. if none i && is_row_of p a row then place ∷ [] else []
         | false ↦ none_here a
       ] refl
 
   -- behind those that its asset has
-  pub put_more : is_home (listed_at p.site row) (table_of p) ≡ true → (old : UniversalAsset → List Place) (a : UniversalAsset)
+  pub put_more : counts (listed_at p.site row) ≡ true → (old : UniversalAsset → List Place) (a : UniversalAsset)
       → (if eq_by_cmp asset_cmp (listed_at p.site row) a then old (listed_at p.site row) ++ place ∷ [] else old a) ≡ old a ++ here a
   put_more at_home old a =
       let own = listed_at p.site row in
@@ -57,7 +56,7 @@ module _ (p : ChainPart) (row : AssetRow) (place : Place) where
         | true ↦ λ e.
             let same : own ≡ a = same_asset own a e in
             let of_it : is_row_of p a row ≡ true = sym test ∙ e in
-            let home : is_home a (table_of p) ≡ true = ap (λ (x : UniversalAsset). is_home x (table_of p)) (sym same) ∙ at_home in
+            let home : counts a ≡ true = ap counts (sym same) ∙ at_home in
             ap (λ x. old x ++ place ∷ []) same ∙ sym (λ i. old a ++ (if home i && of_it i then place ∷ [] else []))
         | false ↦ λ e. sym (append-nil (old a)) ∙ sym (ap (λ xs. old a ++ xs) (none_here a (sym test ∙ e)))
       ] refl

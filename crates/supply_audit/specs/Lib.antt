@@ -6,6 +6,7 @@ pub mod Supplies
 pub mod Covering
 pub mod Covered
 pub mod RowPlaces
+pub mod AssetPlaces
 pub mod Covers
 pub mod PlaceLaws
 pub mod ListLaws

@@ -1,28 +1,27 @@
 //! Where a derivative and what covers it stand.
-ghost use Rattle.std.specs.Prelude.{◌≡◌, ◌++◌, min, map, IfOk, OnOk, Some, None, option_map, position, slice_get, true};
+ghost use Rattle.std.specs.Prelude.{◌≡◌, min, map, IfOk, IsTrue, Some, None, option_map, position, slice_get};
 ghost use Rattle.std.specs.Option.{option_copied};
 ghost use Rattle.asset_bundles.specs.Books.{most_burned};
 ghost use Rattle.asset_bundles.specs.Totals.{total_value};
-ghost use Rattle.locations.specs.Chains.{path_of};
 ghost use Rattle.trust_tables.specs.Chains.{path_of_site};
 ghost use Rattle.chain_ids.specs.Chains.{same_chain};
+ghost use Rattle.network_genesis.specs.Tests.{has_path};
 ghost use Rattle.chain_state.specs.PartOf.{part_of};
 ghost use Rattle.supply_audit.specs.Places.{table_of};
-ghost use Rattle.supply_audit.specs.RowPlaces.{chain_places, place_if};
+ghost use Rattle.supply_audit.specs.AssetPlaces.{ArePlaces, HavePlacesOf};
 ghost use Rattle.supply_audit.specs.Covers.{cover_at, cover_between, cover_by, cover_of_row, cover_of_chain, number_of, of_cover, held_at, owed_at};
 
+use crate::asset_places::AssetPlaces;
 use crate::audit::name_of;
 use crate::figures::{Carried, Figure};
 use crate::messages::same_chain;
+use crate::network_asset::NetworkAsset;
 use crate::over_places::{chain_of, over_places};
-use crate::places::{context_of, is_row_of};
 use crate::totals::none;
 use crate::{Backing, Place};
 use asset_bundles::Total;
-use asset_lists::Kind;
 use chain_ids::ChainId;
 use chain_state::ChainState;
-use locations::{Junctions, Location};
 use network_coherence::sovereign_account;
 use std::alloc::{AllocError, Global};
 use std::marker::Model;
@@ -72,70 +71,25 @@ fn listed_chain(chains: &[ChainState], number: usize) -> Option<&ChainState>
     chain_of(chains, number)
 }
 
-/// Appends the place of a chain's row, where it is of the asset.
-fn push_place(
-    list: &mut Vec<Place>,
-    chain: &ChainState,
-    context: &Junctions,
-    home: &Junctions,
-    id: &Location,
-    kind: Kind,
-    place: Place,
-    row: &AssetRow,
-) -> Result<(), AllocError>
-    requires { context.now ≡ path_of_site (part_of chain.now).site }
-    ensures { OnOk result (list.new.items ≡ list.old.items
-        ++ place_if true (table_of (part_of chain.now)) (path_of home.now id.now, kind)
-        place.chain (place.row, row.now)) }
-{
-    if is_row_of(context, home, id, kind, row) {
-        list.push(place)?;
-    }
-    Ok(())
-}
-
-/// The places of a chain's rows that are of an asset.
-fn row_places(
-    alloc: Global,
-    number: usize,
-    chain: &ChainState,
-    home: &Junctions,
-    id: &Location,
-    kind: Kind,
-) -> Result<Vec<Place>, AllocError>
-    ensures { IfOk result (λ list. list.items
-        ≡ chain_places true (path_of home.now id.now, kind)
-        (number, table_of (part_of chain.now))) }
-{
-    let context = context_of(chain);
-    let mut list = Vec::new(alloc);
-    let rows = chain.rows();
-    for (k, row) in rows.iter().enumerate() {
-        let place = Place {
-            chain: number,
-            row: k,
-        };
-        push_place(&mut list, chain, &context, home, id, kind, place, row)?;
-    }
-    Ok(list)
-}
-
 impl Cover {
-    /// Where the derivative in a chain's row stands, and what covers it. `row` is the place in the chain's list, from 0. There is nothing where
-    /// the chain, the row or its reserve isn't there, or the row is native. An `Err` is out of memory.
+    /// Where the derivative in a chain's row stands, and what covers it, by the places of all rows of these chains. `row` is the place in the
+    /// chain's list, from 0. There is nothing where the chain, the row or its reserve isn't there, or the row is native. An `Err` is out of
+    /// memory.
     pub fn of(
         alloc: Global,
         chains: &[ChainState],
+        index: &AssetPlaces,
         chain: ChainId,
         row: usize,
     ) -> Result<Option<Cover>, AllocError>
+        requires { ArePlaces index.now.places.entries (map table_of (map part_of chains.now)) }
         ensures { IfOk result (λ cover. cover
             ≡ cover_at (map table_of (map part_of chains.now)) chain row) }
     {
         let number = number_of(chains, chain);
         match listed_chain(chains, number) {
             None => Ok(None),
-            Some(here) => place_cover(alloc, chains, number, here, row),
+            Some(here) => place_cover(alloc, chains, index, number, here, row),
         }
     }
 
@@ -200,19 +154,23 @@ pub fn backing_at(chains: &[ChainState], cover: &Option<Cover>) -> Backing
 /// The cover of a row with its reserve.
 fn covering(
     alloc: Global,
+    index: &AssetPlaces,
     number: usize,
     here: &ChainState,
     row: &AssetRow,
     other: usize,
     there: &ChainState,
 ) -> Result<Option<Cover>, AllocError>
+    requires path { IsTrue (has_path (path_of_site (part_of here.now).site) row.now) }
+    requires own { HavePlacesOf index.now.places.entries (number, table_of (part_of here.now)) }
+    requires kept { HavePlacesOf index.now.places.entries (other, table_of (part_of there.now)) }
     ensures { IfOk result (λ cover. cover
         ≡ cover_between (number, table_of (part_of here.now)) row.now other
         (Some (table_of (part_of there.now)))) }
 {
-    let home = context_of(here);
-    let own = row_places(alloc, number, here, &home, &row.id, row.kind)?;
-    let kept = row_places(alloc, other, there, &home, &row.id, row.kind)?;
+    let asset = NetworkAsset::listed_at(here.site(), row);
+    let own = index.at(alloc, &asset, number)?;
+    let kept = index.at(alloc, &asset, other)?;
     Ok(Some(Cover {
         here: name_of(here),
         there: name_of(there),
@@ -225,10 +183,14 @@ fn covering(
 fn row_cover(
     alloc: Global,
     chains: &[ChainState],
+    index: &AssetPlaces,
     number: usize,
     here: &ChainState,
     row: &AssetRow,
 ) -> Result<Option<Cover>, AllocError>
+    requires path { IsTrue (has_path (path_of_site (part_of here.now).site) row.now) }
+    requires index { ArePlaces index.now.places.entries (map table_of (map part_of chains.now)) }
+    requires own { HavePlacesOf index.now.places.entries (number, table_of (part_of here.now)) }
     ensures { IfOk result (λ cover. cover
         ≡ cover_by (map table_of (map part_of chains.now))
         (number, table_of (part_of here.now)) row.now row.now.role) }
@@ -239,7 +201,7 @@ fn row_cover(
             let other = number_of(chains, *reserve);
             match listed_chain(chains, other) {
                 None => Ok(None),
-                Some(there) => covering(alloc, number, here, row, other, there),
+                Some(there) => covering(alloc, index, number, here, row, other, there),
             }
         }
     }
@@ -249,16 +211,19 @@ fn row_cover(
 fn place_cover(
     alloc: Global,
     chains: &[ChainState],
+    index: &AssetPlaces,
     number: usize,
     here: &ChainState,
     row: usize,
 ) -> Result<Option<Cover>, AllocError>
+    requires index { ArePlaces index.now.places.entries (map table_of (map part_of chains.now)) }
+    requires own { HavePlacesOf index.now.places.entries (number, table_of (part_of here.now)) }
     ensures { IfOk result (λ cover. cover
         ≡ cover_of_row (map table_of (map part_of chains.now)) (number, table_of (part_of here.now))
         (slice_get (part_of here.now).rows row)) }
 {
     match here.rows().get(row) {
         None => Ok(None),
-        Some(row) => row_cover(alloc, chains, number, here, row),
+        Some(row) => row_cover(alloc, chains, index, number, here, row),
     }
 }

@@ -19,8 +19,8 @@ use std::alloc::{AllocError, Global};
 use std::collections::BTreeMap;
 use trust_tables::AssetRow;
 
-/// The places of the rows of each asset that has a home, at its homes.
-type Places = BTreeMap<NetworkAsset, Vec<Place>>;
+/// Places of the rows of each asset.
+pub(crate) type Places = BTreeMap<NetworkAsset, Vec<Place>>;
 
 /// Where the rows of each asset stand, at the chains where it is at home.
 #[derive(Drop)]
@@ -78,7 +78,7 @@ fn write_places(
 }
 
 /// Adds a place to those of an asset.
-fn add_place(
+pub(crate) fn add_place(
     alloc: Global,
     places: &mut Places,
     asset: NetworkAsset,

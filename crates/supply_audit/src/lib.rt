@@ -1,6 +1,7 @@
 //! What a network has of each asset, and whether derivatives are covered.
 #![tactic(auto)]
 
+mod asset_places;
 mod audit;
 mod cover;
 mod figures;
@@ -13,6 +14,7 @@ mod places;
 mod table;
 mod totals;
 
+pub use asset_places::AssetPlaces;
 pub use audit::{backing, supply};
 pub use cover::{Cover, backing_at};
 pub use home_places::HomePlaces;

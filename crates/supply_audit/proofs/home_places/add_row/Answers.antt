@@ -20,7 +20,7 @@ returns-then-not-contains c = λ a.
     let own = listed_at p.site row in
     let is_own : c.listed_at-asset.result ≡ own = c.listed_at-asset.ensures ∙ ap (λ (s : Site). listed_at s row) c.site.ensures in
     let told : c.contains.result ≡ is_home own (table_of p) = c.contains.ensures ∙ ap (contains asset_cmp c.args.homes.now) is_own ∙ c.requires.homes own in
-    sym (append-nil (places_in c.args.places.now.entries a)) ∙ ap (λ xs. places_in c.args.places.now.entries a ++ xs) (sym (put_away p row c.args.place (sym told ∙ c.if-not-contains.true) a))
+    sym (append-nil (places_in c.args.places.now.entries a)) ∙ ap (λ xs. places_in c.args.places.now.entries a ++ xs) (sym (put_away (λ (x : UniversalAsset). is_home x (table_of p)) p row c.args.place (sym told ∙ c.if-not-contains.true) a))
 
 pub returns : goal.returns
 returns c =
@@ -33,5 +33,5 @@ returns c =
     on_ok_weaker c.add_place.result
     (λ wrote a. wrote a
     ∙ ap (λ (x : UniversalAsset). if eq_by_cmp asset_cmp x a then old x ++ c.args.place ∷ [] else old a) is_own
-    ∙ put_more p row c.args.place (sym told ∙ c.if-not-contains.false) old a)
+    ∙ put_more (λ (x : UniversalAsset). is_home x (table_of p)) p row c.args.place (sym told ∙ c.if-not-contains.false) old a)
     c.add_place.ensures

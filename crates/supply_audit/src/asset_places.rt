@@ -1,0 +1,107 @@
+//! Where the rows of each asset stand, at all chains.
+ghost use Rattle.std.specs.Prelude.{◌≡◌, ◌++◌, true, map, IfOk, OnOk, IsTrue};
+ghost use Rattle.std.specs.List.{filter};
+ghost use Rattle.trust_tables.specs.Chains.{path_of_site};
+ghost use Rattle.coherence.specs.UniversalAssets.{UniversalAsset};
+ghost use Rattle.network_genesis.specs.Tests.{has_path};
+ghost use Rattle.chain_state.specs.PartOf.{part_of};
+ghost use Rattle.supply_audit.specs.Places.{table_of};
+ghost use Rattle.supply_audit.specs.RowPlaces.{chain_places, place_if, places_in};
+ghost use Rattle.supply_audit.specs.AssetPlaces.{ArePlaces, is_at};
+
+use crate::Place;
+use crate::home_places::{Places, add_place};
+use crate::network_asset::NetworkAsset;
+use chain_state::ChainState;
+use std::alloc::{AllocError, Global};
+use std::collections::BTreeMap;
+use trust_tables::AssetRow;
+
+/// Where the rows of each asset stand, at all chains that list it.
+#[derive(Drop)]
+pub struct AssetPlaces {
+    places: Places,
+}
+
+impl AssetPlaces {
+    /// Where the rows of these chains stand. It takes time in proportion to the rows of all chains and the logarithm of the number of assets. An
+    /// `Err` is out of memory.
+    pub fn of(alloc: Global, chains: &[ChainState]) -> Result<AssetPlaces, AllocError>
+        ensures { IfOk result
+            (λ index. ArePlaces index.places.entries (map table_of (map part_of chains.now))) }
+    {
+        let mut places = BTreeMap::new(alloc);
+        for (number, chain) in chains.iter().enumerate() {
+            add_rows(alloc, &mut places, number, chain)?;
+        }
+        Ok(AssetPlaces { places })
+    }
+
+    /// Where the rows of an asset stand that the chain of this number lists. An `Err` is out of memory.
+    pub(crate) fn at(
+        &self,
+        alloc: Global,
+        asset: &NetworkAsset,
+        chain: usize,
+    ) -> Result<Vec<Place>, AllocError>
+        ensures { IfOk result (λ list. list.items
+            ≡ filter (is_at chain) (places_in self.now.places.entries asset.now)) }
+    {
+        match self.places.get(asset) {
+            None => Ok(Vec::new(alloc)),
+            Some(list) => places_at(alloc, list.as_slice(), chain),
+        }
+    }
+}
+
+/// Those of the places that stand at the chain of this number.
+fn places_at(alloc: Global, places: &[Place], chain: usize) -> Result<Vec<Place>, AllocError>
+    ensures { IfOk result (λ list. list.items ≡ filter (is_at chain) places.now) }
+{
+    let mut list = Vec::new(alloc);
+    for place in places {
+        if place.chain == chain {
+            list.push(*place)?;
+        }
+    }
+    Ok(list)
+}
+
+/// Adds the place of a row.
+fn add_row(
+    alloc: Global,
+    places: &mut Places,
+    chain: &ChainState,
+    place: Place,
+    row: &AssetRow,
+) -> Result<(), AllocError>
+    requires { IsTrue (has_path (path_of_site (part_of chain.now).site) row.now) }
+    ensures { OnOk result ((a : UniversalAsset) → places_in places.new.entries a
+        ≡ places_in places.old.entries a
+        ++ place_if true (table_of (part_of chain.now)) a place.chain (place.row, row.now)) }
+{
+    let asset = NetworkAsset::listed_at(chain.site(), row);
+    add_place(alloc, places, asset, place)
+}
+
+/// Adds the places of a chain's rows.
+fn add_rows(
+    alloc: Global,
+    places: &mut Places,
+    number: usize,
+    chain: &ChainState,
+) -> Result<(), AllocError>
+    ensures { OnOk result ((a : UniversalAsset) → places_in places.new.entries a
+        ≡ places_in places.old.entries a
+        ++ chain_places true a (number, table_of (part_of chain.now))) }
+{
+    let rows = chain.rows();
+    for (k, row) in rows.iter().enumerate() {
+        let place = Place {
+            chain: number,
+            row: k,
+        };
+        add_row(alloc, places, chain, place, row)?;
+    }
+    Ok(())
+}
