@@ -6,25 +6,29 @@ ghost use Rattle.amounts.specs.Amounts.{difference};
 ghost use Rattle.asset_bundles.specs.Bundles.{bundle_of, IsHolding};
 ghost use Rattle.asset_bundles.specs.Joins.{IsListOf};
 ghost use Rattle.asset_bundles.specs.Filters.{is_fun, is_all_of, Taken, Left};
-ghost use Rattle.asset_bundles.specs.Portions.{asset_with, kept, changed, left_of, common_with, wanted_wild, count_wild, at_most, chosen, IsListed};
+ghost use Rattle.asset_bundles.specs.Portions.{fun_with, asset_with, kept, changed, left_of, common_with, wanted_wild, count_wild, at_most, chosen, IsListed};
 
 use crate::items::held;
-use asset_lists::{Asset, AssetId, Assets, Filter, Fun, Wild, WildFun, copied};
+use asset_lists::{Asset, AssetId, Assets, Filter, Fun, Wild, WildFun, copied, push_asset};
 use std::alloc::{AllocError, Global};
 
-/// The same asset with this amount; an instance stays as it is.
+/// So much of the asset; an instance stays as it is.
 #[inline(always)]
-pub(crate) fn with_amount(item: &Asset, amount: u128) -> Asset
-    ensures { result ≡ asset_with item.now amount }
+fn fun_with(fun: Fun, amount: u128) -> Fun
+    ensures { result ≡ fun_with fun amount }
 {
-    let fun = match item.fun {
+    match fun {
         Fun::Fungible(_) => Fun::Fungible(amount),
         Fun::NonFungible(instance) => Fun::NonFungible(instance),
-    };
-    Asset {
-        id: item.id.copy(),
-        fun,
     }
+}
+
+/// Makes it so much of the asset; an instance stays as it is.
+#[inline(always)]
+pub(crate) fn set_amount(item: &mut Asset, amount: u128)
+    ensures { item.new ≡ asset_with item.old amount }
+{
+    item.fun = fun_with(item.fun, amount);
 }
 
 /// Puts the asset with this amount at the end, unless that is 0.
@@ -39,7 +43,8 @@ pub(crate) fn push_amount(
     if amount == 0 {
         return Ok(());
     }
-    list.push(with_amount(item, amount))?;
+    list.reserve(1)?;
+    push_asset(list, &item.id, fun_with(item.fun, amount));
     Ok(())
 }
 

@@ -5,7 +5,7 @@ ghost use Rattle.asset_lists.specs.Units.{unit_of, amount_of};
 ghost use Rattle.asset_bundles.specs.Portions.{spent, is_other};
 
 use crate::items::is_same_unit;
-use crate::portions::with_amount;
+use crate::portions::set_amount;
 use asset_lists::Asset;
 
 /// Where the unit of this asset is: how many others stand before it.
@@ -35,6 +35,5 @@ pub(crate) fn give_up(items: &mut Vec<Asset>, asset: &Asset)
         items.remove(place);
         return;
     }
-    let rest = with_amount(item, left);
-    items[place] = rest;
+    set_amount(&mut items[place], left);
 }

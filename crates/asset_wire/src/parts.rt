@@ -1,10 +1,12 @@
 //! The readers behind the public ones. Where they leave the cursor after a refusal isn't said.
 
-ghost use Rattle.std.specs.Prelude.{◌≡◌, [], ◌≤◌};
-ghost use Rattle.scale_codec.specs.Reading.{made1, take_at, repeated};
+ghost use Rattle.std.specs.Prelude.{◌≡◌, [], ◌≤◌, ◌^◌};
+ghost use Rattle.scale_codec.specs.Reading.{made1, made2, made3, take_at, below_at, repeated};
 ghost use Rattle.scale_codec.specs.Answers.{Got, Filled, GotOrFails};
 ghost use Rattle.location_wire.specs.Reading.{location_at};
 ghost use Rattle.asset_lists.specs.declared.units.AssetId.TheVariants.{Concrete, Abstract};
+ghost use Rattle.asset_lists.specs.declared.filters.Wild.TheVariants.{All, AllOf, AllOfCounted};
+ghost use Rattle.asset_lists.specs.declared.filters.Filter.TheVariants as filters;
 ghost use Rattle.asset_wire.specs.Blanks.{IsBlank};
 ghost use Rattle.asset_wire.specs.Reading.{asset_id_at, instance_at, amount_at, fun_at, asset_at, assets_at, wild_fun_at, wild_at, filter_at};
 
@@ -191,25 +193,54 @@ fn take_wild_fun(c: &mut Cursor<'_>) -> Result<WildFun, NoSpelling>
     }
 }
 
+/// All of an asset, into its place: apart, since it makes large values.
+#[inline(never)]
+fn fill_all_of(c: &mut Cursor<'_>, wild: &mut Wild, v: Version) -> Result<(), NoSpelling>
+    ensures { Filled result (made2 (asset_id_at v) wild_fun_at AllOf c.old) wild.new c.new }
+{
+    let id = take_asset_id(c, v)?;
+    let fun = take_wild_fun(c)?;
+    *wild = Wild::AllOf { id, fun };
+    Ok(())
+}
+
+/// The same with a count.
+#[inline(never)]
+fn fill_all_of_counted(c: &mut Cursor<'_>, wild: &mut Wild, v: Version) -> Result<(), NoSpelling>
+    ensures { Filled result (made3 (asset_id_at v) wild_fun_at (below_at (2 ^ 32)) AllOfCounted c.old) wild.new c.new }
+{
+    let id = take_asset_id(c, v)?;
+    let fun = take_wild_fun(c)?;
+    let count = c.compact_u32()?;
+    *wild = Wild::AllOfCounted { id, fun, count };
+    Ok(())
+}
+
+/// A wildcard, into its place.
 #[tactic(auto, unfolding(crate::specs::Reading::wild_at))]
-fn take_wild(c: &mut Cursor<'_>, v: Version) -> Result<Wild, NoSpelling>
-    ensures { Got result (wild_at v c.old) c.new }
+#[inline(always)]
+fn fill_wild(c: &mut Cursor<'_>, wild: &mut Wild, v: Version) -> Result<(), NoSpelling>
+    ensures { Filled result (wild_at v c.old) wild.new c.new }
 {
     match c.u8()? {
-        0 => Ok(Wild::All),
-        1 => {
-            let id = take_asset_id(c, v)?;
-            let fun = take_wild_fun(c)?;
-            Ok(Wild::AllOf { id, fun })
-        }
-        2 => Ok(Wild::AllCounted(c.compact_u32()?)),
-        3 => {
-            let id = take_asset_id(c, v)?;
-            let fun = take_wild_fun(c)?;
-            let count = c.compact_u32()?;
-            Ok(Wild::AllOfCounted { id, fun, count })
-        }
-        _ => Err(NoSpelling),
+        0 => *wild = Wild::All,
+        1 => fill_all_of(c, wild, v)?,
+        2 => *wild = Wild::AllCounted(c.compact_u32()?),
+        3 => fill_all_of_counted(c, wild, v)?,
+        _ => return Err(NoSpelling),
+    }
+    Ok(())
+}
+
+/// A wildcard, into a filter that is one.
+#[inline(always)]
+fn fill_wild_filter(c: &mut Cursor<'_>, filter: &mut Filter, v: Version) -> Result<(), NoSpelling>
+    requires { filter.old ≡ filters.Wild All }
+    ensures { Filled result (made1 (wild_at v) filters.Wild c.old) filter.new c.new }
+{
+    match filter {
+        Filter::Wild(wild) => fill_wild(c, wild, v),
+        Filter::Definite(_) => Err(NoSpelling),
     }
 }
 
@@ -218,9 +249,11 @@ fn take_wild(c: &mut Cursor<'_>, v: Version) -> Result<Wild, NoSpelling>
 pub fn take_filter(alloc: Global, c: &mut Cursor<'_>, v: Version) -> Result<Filter, WireFault>
     ensures { GotOrFails (λ filter. filter) result (filter_at v c.old) c.new }
 {
+    let mut filter = Filter::Wild(Wild::All);
     match c.u8()? {
-        0 => Ok(Filter::Definite(take_assets(alloc, c, v)?)),
-        1 => Ok(Filter::Wild(take_wild(c, v)?)),
-        _ => Err(WireFault::NoSpelling),
+        0 => filter = Filter::Definite(take_assets(alloc, c, v)?),
+        1 => fill_wild_filter(c, &mut filter, v)?,
+        _ => return Err(WireFault::NoSpelling),
     }
+    Ok(filter)
 }

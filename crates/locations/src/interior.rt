@@ -1,8 +1,9 @@
 //! The list of junctions of a location.
-ghost use Rattle.std.specs.Prelude.{◌≡◌, [], ◌∷◌, ◌++◌, ◌+◌, length, ◌<◌, ◌≤◌, ◌↔◌, IsTrue, IsOk, IfOk, OnOk, OnErr, refl};
+ghost use Rattle.std.specs.Prelude.{◌≡◌, [], ◌∷◌, ◌++◌, ◌+◌, length, drop, replicate, ◌<◌, ◌≤◌, ◌↔◌, IsTrue, IsOk, IfOk, OnOk, OnErr, refl};
 ghost use Rattle.std.specs.List.{common_prefix_len};
 ghost use Rattle.std.specs.Borrow.{sem};
 ghost use Rattle.locations.specs.Lending.{LendsPlaces};
+ghost use Rattle.locations.specs.declared.grammar.Junction.TheVariants.{OnlyChild};
 ghost use Rattle.locations.specs.Chains;
 ghost use Rattle.locations.specs.Chains.{same_junction};
 ghost use Rattle.std.specs.Cmp.{partial_equiv_from_equiv, eq_by_cmp_equiv, po};
@@ -61,6 +62,15 @@ impl Junctions {
         Junctions::from_few(self.items())
     }
 
+    /// Becomes the same junctions, in its place.
+    pub fn assign(&mut self, other: &Junctions)
+        ensures same { self.new ≡ other.now }
+        ensures bound { length other.now ≤ 8 }
+    {
+        self.items.clear();
+        let _ = self.extend(other.items());
+    }
+
     /// The junctions of a slice, of which there must be at most eight.
     pub fn from_few(junctions: &[Junction]) -> Junctions
         requires { length junctions.now ≤ 8 }
@@ -103,12 +113,44 @@ impl Junctions {
     }
 
     /// Appends the junctions of a slice, or `Full` where there would be more than eight.
-    fn extend(&mut self, more: &[Junction]) -> Result<(), Full>
+    pub(crate) fn extend(&mut self, more: &[Junction]) -> Result<(), Full>
         ensures room { IsOk result ↔ (length self.old + length more.now ≤ 8) }
         ensures ok { OnOk result (self.new ≡ self.old ++ more.now) }
         ensures err { OnErr result (self.new ≡ self.old) }
     {
         self.items.try_extend_from_slice(more).map_err(|_| Full)
+    }
+
+    /// Becomes so many junctions that aren't known.
+    pub(crate) fn set_unknown(&mut self, count: usize)
+        requires { count ≤ 8 }
+        ensures { self.new ≡ replicate count OnlyChild }
+    {
+        if count == 0 {
+            self.items.clear();
+            return;
+        }
+        self.become_unknown(count);
+    }
+
+    /// The same, where there are some: apart, since it makes a large value.
+    #[inline(never)]
+    fn become_unknown(&mut self, count: usize)
+        requires { count ≤ 8 }
+        ensures { self.new ≡ replicate count OnlyChild }
+    {
+        let unknown = [Junction::OnlyChild; MAX_JUNCTIONS];
+        *self = Junctions::from_few(&unknown[..count]);
+    }
+
+    /// Drops the first junctions: apart, since it makes a large value.
+    #[inline(never)]
+    pub(crate) fn drop_front(&mut self, count: usize)
+        requires { count ≤ length self.old }
+        ensures { self.new ≡ drop count self.old }
+    {
+        let rest = Junctions::from_few(&self.items()[count..]);
+        *self = rest;
     }
 
     /// The first junctions and then the others, or `Full` where they are more than eight.

@@ -1,5 +1,5 @@
 //! What a location becomes when another chain looks at the same place.
-ghost use Rattle.std.specs.Prelude.{◌≡◌, ◌<◌, ◌≤◌, OnOk, MatchResult, length};
+ghost use Rattle.std.specs.Prelude.{◌≡◌, ◌<◌, ◌≤◌, Ok, Err, OnOk, MatchResult, length};
 ghost use Rattle.std.specs.List.{common_prefix_len};
 ghost use Rattle.locations.specs.Chains.{same_junction};
 ghost use Rattle.locations.specs.Steps.{inverted, prepended, shortened, simplified, Becomes};
@@ -81,22 +81,39 @@ impl Location {
     ) -> Result<Location, LocationFault>
         ensures { result ≡ reanchored self.now target.now context.now }
     {
+        let mut seen = Location::here();
+        self.reanchor_into(target, context, &mut seen)?;
+        Ok(seen)
+    }
+
+    /// The same, in the place of another location. Nothing is said of what stands there where it is refused.
+    pub fn reanchor_into(
+        &self,
+        target: &Location,
+        context: &Junctions,
+        seen: &mut Location,
+    ) -> Result<(), LocationFault>
+        ensures { MatchResult result
+            (λ _. reanchored self.now target.now context.now ≡ Ok seen.new)
+            (λ fault. reanchored self.now target.now context.now ≡ Err fault) }
+    {
         if usize::from(target.parents) > MAX_JUNCTIONS {
             return Err(LocationFault::Full);
         }
         if self.parents > target.parents {
-            return self.raised(target);
+            return self.raise_into(target, seen);
         }
-        let way = self.way_down(target, context)?;
-        Ok(forked(way, target))
+        self.go_down(target, context, &mut seen.interior)?;
+        fork(seen, target);
+        Ok(())
     }
 
     /// The location where it lies above all that it shares with the target: as many parents more as the target has junctions behind its own
     /// parents.
-    fn raised(&self, target: &Location) -> Result<Location, LocationFault>
+    fn raise_into(&self, target: &Location, seen: &mut Location) -> Result<(), LocationFault>
         requires above { target.now.parents < self.now.parents }
         ensures { MatchResult result
-            (λ l. (raised_parents self.now target.now ≤ 255) × (l ≡ record { parents = raised_parents self.now target.now; interior = self.now.interior }))
+            (λ _. (raised_parents self.now target.now ≤ 255) × (seen.new ≡ record { parents = raised_parents self.now target.now; interior = self.now.interior }))
             (λ fault. (255 < raised_parents self.now target.now) × (fault ≡ LocationFault.TooHigh)) }
     {
         let above = usize::from(self.parents) - usize::from(target.parents);
@@ -104,47 +121,45 @@ impl Location {
         if parents > 255 {
             return Err(LocationFault::TooHigh);
         }
-        Ok(Location {
-            parents: parents as u8,
-            interior: self.interior.copy(),
-        })
+        seen.parents = parents as u8;
+        seen.interior.assign(&self.interior);
+        Ok(())
     }
 
     /// The way down to the place from the highest point that the target reaches: the first of the context's last junctions, `OnlyChild`
     /// for each one that is missing, and then its own.
-    fn way_down(&self, target: &Location, context: &Junctions) -> Result<Junctions, Full>
+    fn go_down(
+        &self,
+        target: &Location,
+        context: &Junctions,
+        way: &mut Junctions,
+    ) -> Result<(), Full>
         requires near { target.now.parents ≤ 8 }
         requires below { self.now.parents ≤ target.now.parents }
         ensures { MatchResult result
-            (λ way. (length (way_down self.now target.now context.now) ≤ 8) × (way ≡ way_down self.now target.now context.now))
+            (λ _. (length (way_down self.now target.now context.now) ≤ 8) × (way.new ≡ way_down self.now target.now context.now))
             (λ _. 8 < length (way_down self.now target.now context.now)) }
     {
         let known = last(context.items(), usize::from(target.parents));
         let missing = usize::from(target.parents) - known.len();
         let above = usize::from(target.parents) - usize::from(self.parents);
         let blanks = above.min(missing);
-        let unknown = [Junction::OnlyChild; MAX_JUNCTIONS];
-        let mut way = Junctions::joined(&unknown[..blanks], &known[..above - blanks])?;
+        way.set_unknown(blanks);
+        way.extend(&known[..above - blanks])?;
         way.append(&self.interior)?;
-        Ok(way)
+        Ok(())
     }
 }
 
-/// The location at the end of a way down, without the junctions with which it goes along the target's, each with a parent.
-fn forked(way: Junctions, target: &Location) -> Location
-    ensures { result ≡ shortened (common_prefix_len same_junction target.now.interior way) (record { parents = length target.now.interior; interior = way }) }
+/// Drops the junctions with which a way down goes along the target's, each with a parent.
+fn fork(way: &mut Location, target: &Location)
+    ensures { way.new ≡ shortened (common_prefix_len same_junction target.now.interior way.old.interior) (record { parents = length target.now.interior; interior = way.old.interior }) }
 {
     let down = target.interior.items();
-    let shared = common_length(down, way.items());
-    let parents = (down.len() - shared) as u8;
+    let shared = common_length(down, way.interior.items());
+    way.parents = (down.len() - shared) as u8;
     if shared == 0 {
-        return Location {
-            parents,
-            interior: way,
-        };
+        return;
     }
-    Location {
-        parents,
-        interior: Junctions::from_few(&way.items()[shared..]),
-    }
+    way.interior.drop_front(shared);
 }

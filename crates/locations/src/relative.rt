@@ -1,5 +1,5 @@
 //! A location: how many levels up, and then the junctions down.
-ghost use Rattle.std.specs.Prelude.{◌≡◌, ◌≤◌, length};
+ghost use Rattle.std.specs.Prelude.{◌≡◌, ◌≤◌, [], length};
 
 use crate::Junctions;
 use std::cmp::Ordering;
@@ -20,10 +20,28 @@ impl Location {
         ensures same { result ≡ self.now }
         ensures bound { length self.now.interior ≤ 8 }
     {
+        let mut place = Location::here();
+        place.assign(self);
+        place
+    }
+
+    /// The place that looks: no level up, and no junction down.
+    pub fn here() -> Location
+        ensures { result ≡ record { parents = 0; interior = [] } }
+    {
         Location {
-            parents: self.parents,
-            interior: self.interior.copy(),
+            parents: 0,
+            interior: Junctions::empty(),
         }
+    }
+
+    /// Becomes the same location, in its place.
+    pub fn assign(&mut self, other: &Location)
+        ensures same { self.new ≡ other.now }
+        ensures bound { length other.now.interior ≤ 8 }
+    {
+        self.parents = other.parents;
+        self.interior.assign(&other.interior);
     }
 }
 

@@ -1,5 +1,6 @@
-use Rattle.std.proofs.Common.{◌≡◌, ap, ◌∙◌, ◌-◌, ◌<◌, get_or, length, arith, rules}
+use Rattle.std.proofs.Common.{◌≡◌, sym, ap, ◌∙◌, ◌-◌, ◌<◌, get_or, length, arith, rules}
 use Rattle.std.specs.Prelude.{slice_set}
+use Rattle.std.proofs.lemmas.List.{get_or_read}
 use Rattle.std.specs.List.{prefix_len}
 use Rattle.asset_lists.specs.Units.{unit_of, amount_of}
 use Rattle.asset_bundles.specs.Portions.{asset_with, is_other}
@@ -34,4 +35,6 @@ returns c =
     let at : b ≡ get_or xs c.place_of-place.result b = search rules in
     let left : c.saturating_sub-left.result ≡ amount_of b - n = omega (arith, c.saturating_sub-left.ensures, c.amount.ensures, c.amount-2.ensures) in
     let some : 0 < amount_of b - n = omega (arith, left, c.if-left-eq0.false) in
-    ap (slice_set xs c.place_of-place.result) (c.with_amount-rest.ensures ∙ ap (asset_with b) left) ∙ spent_set u n xs c.place_of-place.result b place inside at some
+    let at_mut : c.index_mut.result.now ≡ get_or xs c.place_of-place.result c.index_mut.result.now = search rules in
+    let same : c.index_mut.result.now ≡ b = get_or_read xs c.place_of-place.result c.index_mut.result.now inside at_mut b ∙ sym at in
+    ap (slice_set xs c.place_of-place.result) (c.set_amount.ensures ∙ (λ i. asset_with (same i) (left i))) ∙ spent_set u n xs c.place_of-place.result b place inside at some
