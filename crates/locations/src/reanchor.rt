@@ -86,7 +86,8 @@ impl Location {
         Ok(seen)
     }
 
-    /// The same, in the place of another location. Nothing is said of what stands there where it is refused.
+    /// Writes into `seen` the same place as the target sees it, both seen from the chain of this context.
+    /// `Full` as in `reanchored`; nothing is said of what then stands in `seen`.
     pub fn reanchor_into(
         &self,
         target: &Location,
