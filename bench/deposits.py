@@ -3,14 +3,14 @@
 
   bench/deposits.py [--program PATH]
 
-The program `ledger_bench` deposits 1 to each of so many accounts, then so many times more to accounts in scattered order, and
+The program `bench_ledger` deposits 1 to each of so many accounts, then so many times more to accounts in scattered order, and
 asks for the asset's sum over all accounts after each deposit.
 
 - growing: N accounts and N deposits more, then 2N, 4N and 8N (N is 50,000). Time should grow as N log N.
 - many: 100,000 accounts and 1,000,000 deposits more, which should take a few seconds.
 
-Without --program it takes crates/ledger_bench/out/ledger_bench of this repository, which `rt run` leaves there:
-(cd crates/ledger_bench && rt run -- 100 1000).
+Without --program it takes crates/bench_ledger/out/bench_ledger of this repository, which `rt run` leaves there:
+(cd crates/bench_ledger && rt run -- 100 1000).
 """
 import argparse
 import pathlib
@@ -34,7 +34,7 @@ def seconds(program, accounts, deposits):
 
 def main():
     words = argparse.ArgumentParser(description=__doc__, formatter_class=argparse.RawDescriptionHelpFormatter)
-    words.add_argument("--program", default=ROOT / "crates/ledger_bench/out/ledger_bench", type=pathlib.Path)
+    words.add_argument("--program", default=ROOT / "crates/bench_ledger/out/bench_ledger", type=pathlib.Path)
     program = words.parse_args().program
     if not program.exists():
         sys.exit(f"no program at {program}; see --help")

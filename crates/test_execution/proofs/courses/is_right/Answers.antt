@@ -1,0 +1,5 @@
+use Rattle.chain_state.specs.Known.{all_there}
+use Rattle.test_execution.proofs.courses.is_right.Goals as goal
+
+pub invariant_of-chain : goal.invariant_of-chain
+invariant_of-chain c = all_there c.goes.new.chain

@@ -1,0 +1,4 @@
+pub mod Natives
+pub mod Rows
+pub mod PartOf
+pub mod Opening

@@ -1,0 +1,34 @@
+//! Steps in networks: what each tells, and what stands behind it; and a course of messages through channels.
+#![tactic(auto)]
+
+#[cfg(test)]
+mod admission;
+#[cfg(test)]
+mod documents;
+#[cfg(test)]
+mod fees;
+#[cfg(test)]
+mod programs;
+#[cfg(test)]
+mod queries;
+#[cfg(test)]
+mod queue_rows;
+#[cfg(test)]
+mod refusals;
+#[cfg(test)]
+mod stepping;
+#[cfg(test)]
+mod teleports;
+#[cfg(test)]
+mod together;
+#[cfg(test)]
+mod transfers;
+#[cfg(test)]
+mod traps;
+
+use chain_net::Net;
+
+/// Lets a network go, as the rows do at their ends: for the prover, which shows here that what always holds of it holds to the last.
+pub fn let_go(net: Net) {
+    drop(net);
+}
