@@ -1,11 +1,10 @@
 -- Deliveries, one after the other.
-use Rattle.std.proofs.Common.{◌≡◌, ℕ, zero, suc, ◌+◌, ◌-◌, ◌^◌, ◌<◌, ◌≤◌, Bool, true, false, List, [], ◌∷◌, length, Option, Some, None, refl, sym, ap, ◌∙◌, subst, arith, map}
-use Rattle.std.specs.Prelude.{if◌then◌else◌, is_some, slice_get, find, option_map, option_and_then, min}
+use Rattle.std.proofs.Common.{◌≡◌, ℕ, zero, suc, ◌+◌, ◌-◌, ◌^◌, ◌<◌, ◌≤◌, true, false, List, [], ◌∷◌, length, Option, Some, None, refl, sym, ap, ◌∙◌, subst, arith}
+use Rattle.std.specs.Prelude.{if◌then◌else◌, is_some, slice_get, find, option_and_then, min}
 use Rattle.std.specs.Option.{option_map_or}
 use Rattle.chain_ids.specs.declared.chain.ChainId.{ChainId}
 use Rattle.channel_parts.specs.Channels.{Waiting, Outgoing}
 use Rattle.chain_queues.specs.Queues.{channel_to, oldest}
-use Rattle.network_spec.specs.declared.network.ChannelSpec.{ChannelSpec}
 use Rattle.network_steps.specs.Worlds.{Member, chain_of, World, place_of}
 use Rattle.network_steps.specs.Sends.{deliveries_left}
 use Rattle.network_steps.specs.Steps.{deliver, Link, waiting, waits, next_channel, deliveries, world_behind}
@@ -30,24 +29,6 @@ module _ (w : World) (from to : ChainId) where
   waiting_at i j s r at_i at_j is_s is_r =
       between_at w from to None (λ i j s r. option_and_then oldest (channel_to (chain_of r) s.part.channels)) i j s r at_i at_j is_s is_r
       ∙ ap (λ (c : ChainId). option_and_then oldest (channel_to c s.part.channels)) (place_says w to j r at_j is_r)
-
-pub no_channel : (o : Option Outgoing) → None ≡ option_map (λ (c : Outgoing). is_some (oldest c)) o → false ≡ is_some (option_and_then oldest o)
-no_channel None e = refl
-no_channel (Some c) e = absurd cc
-
-pub a_channel : (b : Bool) (o : Option Outgoing) → Some b ≡ option_map (λ (c : Outgoing). is_some (oldest c)) o → b ≡ is_some (option_and_then oldest o)
-a_channel b None e = absurd cc
-a_channel b (Some c) e = cc
-
--- ---- the first channel
-pub found_link : (w : World) (cs : List ChannelSpec) → find (waits w) (map (λ (c : ChannelSpec). (c.from, c.channel.to)) cs) ≡ option_map (λ (c : ChannelSpec). (c.from, c.channel.to)) (find (λ (c : ChannelSpec). waits w (c.from, c.channel.to)) cs)
-found_link w [] = refl
-found_link w (c ∷ cs) =
-    elim (waits w (c.from, c.channel.to)) as (λ b. (if b then Some (c.from, c.channel.to) else find (waits w) (map (λ (c : ChannelSpec). (c.from, c.channel.to)) cs))
-    ≡ option_map (λ (c : ChannelSpec). (c.from, c.channel.to)) (if b then Some c else find (λ (c : ChannelSpec). waits w (c.from, c.channel.to)) cs)) [
-      | true ↦ refl
-      | false ↦ found_link w cs
-    ]
 
 -- ---- so many deliveries
 module _ (order : List Link) where

@@ -10,6 +10,8 @@ pub mod Passes
 pub mod Deliveries
 pub mod Claims
 pub mod Drains
+pub mod Standing
+pub mod Staying
 pub mod Openings
 pub mod Pasts
 pub mod Swaps

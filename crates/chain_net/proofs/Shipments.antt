@@ -148,6 +148,10 @@ pub record IsCarrying (far : List Listed) (p : ChainPart) : Type 0 where
   pub shipped_is : AreListedIn (listing p.rows) p.channels
   pub landing : IsListedCargo far p.cargo.cargo
 
+-- what the document says stays, also where memory was refused
+pub abandoned_said : (rules : ChainRules) (origin : Location) (credit : Weight) (program : List Instruction) (p q : ChainPart) → IsAbandoned rules origin credit program p q → fixed_of q ≡ fixed_of p
+abandoned_said rules origin credit program p q e = (keeps_abandoned (λ (t : MachineWithGoods). fixed_of t.part ≡ fixed_of p) (fixed_is_kept (fixed_of p)) rules origin credit program p q e refl).kept
+
 module _ (far : List Listed) (rules : ChainRules) (origin : Location) where
   first_ships : (p : ChainPart) → IsCarrying far p → ListsShipped (between (first_machine rules origin p))
   first_ships p h =
@@ -172,8 +176,7 @@ module _ (far : List Listed) (rules : ChainRules) (origin : Location) where
   abandoned_lands credit program p q h e = (keeps_abandoned (λ (t : MachineWithGoods). IsListedCargo far t.part.cargo.cargo) (cargo_is_kept far) rules origin credit program p q e h.landing).kept
 
   pub abandoned_site : (credit : Weight) (program : List Instruction) (p q : ChainPart) → IsCarrying far p → IsAbandoned rules origin credit program p q → q.site ≡ p.site
-  abandoned_site credit program p q h e =
-      ap (λ (x : Fixed). x.site) (keeps_abandoned (λ (t : MachineWithGoods). fixed_of t.part ≡ fixed_of p) (fixed_is_kept (fixed_of p)) rules origin credit program p q e refl).kept
+  abandoned_site credit program p q h e = ap (λ (x : Fixed). x.site) (abandoned_said rules origin credit program p q e)
 
 -- ---- what is kept back is told at the end
 rest_quiet : (r : Registers) (p : ChainPart) (b : Bool) → p.kept_back ≡ [] → (if b then p else trapped p r.holding (owner_of r)).kept_back ≡ []

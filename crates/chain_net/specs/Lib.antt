@@ -1,5 +1,6 @@
 pub mod Order
 pub mod Chains
+pub mod Links
 pub mod Nets
 pub mod Sound
 pub mod Answers

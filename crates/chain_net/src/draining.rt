@@ -1,12 +1,11 @@
 //! The next channel, and drains.
 ghost use Rattle.std.specs.Prelude.{◌≡◌, ◌≤◌, ◌^◌, ◌-◌, min, false, true, length, None, find, IfOk, OnOk, OnErr};
 ghost use Rattle.std.specs.Option.{option_copied};
-ghost use Rattle.network_spec.specs.declared.network.ChannelSpec.{ChannelSpec};
 ghost use Rattle.network_steps.specs.Sends.{deliveries_left};
-ghost use Rattle.network_steps.specs.Steps as steps;
 ghost use Rattle.network_steps.specs.Steps.{next_channel, drain, world_behind};
 ghost use Rattle.network_genesis.specs.Genesis.{order_of};
 ghost use Rattle.chain_net.specs.Nets.{world_of, spec_of, is_stopped};
+ghost use Rattle.chain_net.specs.Links.{waits_at};
 ghost use Rattle.message_shapes.specs.Shapes.{AllShaped};
 ghost use Rattle.conserved_networks.specs.Kept.{IsCoherent};
 ghost use Rattle.net_laws.specs.Promises.{KeepsAssets, PaysInFull, StopsWithAuthority};
@@ -14,50 +13,41 @@ ghost use Rattle.authority.specs.Speakers.{HaveAuthority};
 ghost use Rattle.net_laws.specs.Stops.{DrainStops};
 
 use crate::Net;
-use crate::delivering::waits_for;
 use crate::laws::law_of_reached_nets;
+use crate::links::Link;
 use chain_ids::ChainId;
 use message_shapes::law_of_drains;
 use net_laws::{law_of_nets, law_of_stopped_messages};
-use network_spec::ChannelSpec;
 use std::alloc::AllocError;
 
 impl Net {
-    /// Whether a message waits on the channel between these chains.
-    fn waits(&self, from: ChainId, to: ChainId) -> bool
-        ensures { result ≡ steps.waits (world_of self.now) (from, to) }
+    /// Whether a message waits where the channel stands.
+    fn waits(&self, link: &Link) -> bool
+        ensures { result ≡ waits_at self.now.chains.items link.now }
     {
-        let Some(sender) = self.place(from) else {
+        let Some(sender) = self.chains.get(link.sender) else {
             return false;
         };
-        let Some(_) = self.place(to) else {
+        let Some(queue) = sender.queues().channels().get(link.channel) else {
             return false;
         };
-        let Some(waits) = waits_for(&self.chains[sender], to) else {
-            return false;
-        };
-        waits
+        !queue.waiting.is_empty()
     }
 
-    /// The first channel of the document on which a message waits.
-    fn first_waiting(&self) -> Option<&ChannelSpec>
-        ensures { option_copied result ≡ find
-            (λ (c : ChannelSpec). steps.waits (world_of self.now) (c.from, c.channel.to))
-            self.now.spec.channels }
+    /// The first channel on which a message waits, with its places.
+    fn first_waiting(&self) -> Option<&Link>
+        ensures { option_copied result
+            ≡ find (waits_at self.now.chains.items) self.now.links.items }
     {
-        self.spec
-            .channels
-            .items()
-            .iter()
-            .find(|channel| self.waits(channel.from, channel.channel.to))
+        self.links.iter().find(|link| self.waits(link))
     }
 
     /// The first channel, in the order of the document, on which a message waits.
     pub fn next_channel(&self) -> Option<(ChainId, ChainId)>
         ensures { result ≡ next_channel (order_of (spec_of self.now)) (world_of self.now) }
     {
-        let channel = self.first_waiting()?;
-        Some((channel.from, channel.channel.to))
+        let link = self.first_waiting()?;
+        Some((link.from, link.to))
     }
 
     /// Delivers on the next channel until no message waits, and answers the number of deliveries, which saturates at 2^64-1. There are at

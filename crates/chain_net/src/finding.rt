@@ -10,7 +10,7 @@ use crate::Net;
 use chain_ids::ChainId;
 
 /// Where the chain stands among these, which rise; `None` where it isn't one of them. It takes no memory.
-fn place_in(names: &[ChainId], chain: ChainId) -> Option<usize>
+pub(crate) fn place_in(names: &[ChainId], chain: ChainId) -> Option<usize>
     requires order { IsTrue (are_in_order names.now) }
     ensures { result ≡ position (λ name. same_chain name chain) names.now }
 {

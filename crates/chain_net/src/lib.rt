@@ -7,6 +7,7 @@ mod draining;
 mod executing;
 mod finding;
 mod laws;
+mod links;
 mod losing;
 mod net;
 mod opening;

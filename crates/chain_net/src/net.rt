@@ -2,9 +2,11 @@
 ghost use Rattle.std.specs.Prelude.{◌≡◌, IsTrue, length, false};
 ghost use Rattle.chain_net.specs.Order.{are_in_order};
 ghost use Rattle.chain_net.specs.Chains.{names_of, world_in};
+ghost use Rattle.chain_net.specs.Links.{links_of};
 ghost use Rattle.chain_net.specs.Sound.{AreBetweenSteps, AreBetweenSteps-prop, HasSomePast-prop};
 ghost use Rattle.net_laws.specs.Runs.{HasSomePast};
 
+use crate::links::Link;
 use chain_ids::ChainId;
 use chain_state::ChainState;
 use exec_admission::ChainRules;
@@ -19,11 +21,13 @@ pub struct Net {
     pub(crate) names: Vec<ChainId>,
     pub(crate) rules: Vec<ChainRules>,
     pub(crate) chains: Vec<ChainState>,
+    pub(crate) links: Vec<Link>,
     pub(crate) acted: Option<usize>,
     pub(crate) stopped: bool,
     ghost order: { IsTrue (are_in_order names.items) },
     ghost ruled: { length rules.items ≡ length chains.items },
     ghost named: { names_of chains.items ≡ names.items },
+    ghost linked: { links.items ≡ links_of names.items chains.items spec.channels },
     ghost between: { stopped ≡ false
         → AreBetweenSteps chains.items } by { AreBetweenSteps-prop stopped chains.items },
     ghost reached: { stopped ≡ false → HasSomePast spec (world_in rules.items chains.items) } by { HasSomePast-prop stopped spec (world_in rules.items chains.items) },

@@ -11,6 +11,7 @@ ghost use Rattle.conserved_networks.specs.Kept.{IsCoherent};
 ghost use Rattle.net_laws.specs.Promises.{KeepsAssets, PaysInFull};
 
 use crate::Net;
+use crate::links::all_links;
 use barriers::Barrier;
 use chain_ids::ChainId;
 use chain_state::ChainState;
@@ -99,11 +100,18 @@ impl Net {
         let names = names(alloc, spec.chains.items())?;
         let rules = all_rules(alloc, spec.chains.items())?;
         let chains = all_states(alloc, &spec)?;
+        let links = all_links(
+            alloc,
+            names.as_slice(),
+            chains.as_slice(),
+            spec.channels.items(),
+        )?;
         Ok(Net {
             spec,
             names,
             rules,
             chains,
+            links,
             acted: None,
             stopped: false,
         })

@@ -4,6 +4,7 @@ use Rattle.chain_ids.specs.declared.chain.ChainId.{ChainId}
 use Rattle.network_spec.specs.declared.chain.ChainSpec.{ChainSpec}
 use Rattle.network_genesis.specs.Genesis.{rules_of}
 use Rattle.chain_net.specs.Order.{are_in_order}
+use Rattle.chain_net.specs.Links.{links_of}
 use Rattle.net_laws.specs.Runs.{HasPast}
 use Rattle.chain_net.proofs.Openings.{in_order_by, first_is, names_are, as_many, all_between, openable_chains}
 use Rattle.chain_net.proofs.net.Net.open.Goals as goal
@@ -18,9 +19,16 @@ invariant_of-result c =
       order = subst (λ (ns : List ChainId). IsTrue (are_in_order ns)) (sym names) (in_order_by spec.chains c.requires.openable.order);
       ruled = as_many spec spec.chains c.in_ok-rules.rules.items c.in_ok-chains.chains.items rules parts;
       named = names_are spec spec.chains c.in_ok-chains.chains.items parts ∙ sym names;
+      linked = c.in_ok-links.ensures ∙ (λ k. links_of (c.as_slice.ensures.value k) (c.as_slice-2.ensures.value k) (c.items-3.ensures k));
       between = λ going. all_between spec spec.chains c.in_ok-chains.chains.items c.requires.openable (openable_chains spec c.requires.openable) parts;
       reached = λ going. ∣ subst (HasPast spec) (sym (first_is spec spec.chains c.in_ok-rules.rules.items c.in_ok-chains.chains.items rules parts)) (c.law_of_pasts.ensures.opened spec) ∣₁;
     }
+
+pub all_links-requires : goal.all_links-requires
+all_links-requires c =
+    let spec = c.args.spec in
+    let names = c.as_slice.ensures.value ∙ c.in_ok-names.ensures ∙ ap (map (λ (d : ChainSpec). d.chain)) c.items.ensures in
+    record { order = subst (λ (ns : List ChainId). IsTrue (are_in_order ns)) (sym names) (in_order_by spec.chains c.requires.openable.order) }
 
 pub returns-clause-first : goal.returns-clause-first
 returns-clause-first c = first_is c.args.spec c.args.spec.chains c.in_ok-rules.rules.items c.in_ok-chains.chains.items (c.in_ok-rules.ensures ∙ ap (map rules_of) c.items-2.ensures) c.in_ok-chains.ensures

@@ -18,6 +18,8 @@ use Rattle.chain_net.proofs.Pairs.{claim_nowhere, claim_to_nowhere, claim_at}
 use Rattle.chain_net.proofs.Deliveries.{none_of, some_of}
 use Rattle.chain_net.proofs.Executions.{read_is, fault_is, by_answer}
 use Rattle.chain_net.proofs.Claims.{on_fault, on_other, on_refused, on_posted, between_posted, answer_chain, same_world, changed_world, xcm_told, memory_told}
+use Rattle.chain_net.proofs.Standing.{links_stay}
+use Rattle.chain_net.proofs.Staying.{set_channels, answer_fixed}
 use Rattle.chain_net.proofs.net.Net.try_claim.Goals as goal
 
 pub returns-in_default-clause-step : goal.returns-in_default-clause-step
@@ -88,6 +90,16 @@ invariant_of-self-clause-named c =
     let o = channel_to c.args.to p.channels in
     set_names xs c.in-Some.sender c.index_mut.result.now c.send.new.self (at_place xs c.in-Some.sender c.index_mut.result.now c.index_mut.ensures.value c.in-Some.ensures.there)
     (answer_chain (channel_refusal o true c.in-Ok.program) (option_map_or (λ (q : Outgoing). q.next) o 0) c.args.to c.in-Ok.program p (part_of c.send.new.self) c.send.result c.send.ensures.step) ∙ c.args.self.now.named
+
+pub invariant_of-self-clause-linked : goal.invariant_of-self-clause-linked
+invariant_of-self-clause-linked c =
+    let n = c.args.self.now in
+    let xs = n.chains.items in
+    let p = part_of c.index_mut.result.now in
+    let o = channel_to c.args.to p.channels in
+    let at = at_place xs c.in-Some.sender c.index_mut.result.now c.index_mut.ensures.value c.in-Some.ensures.there in
+    let same = answer_fixed (channel_refusal o true c.in-Ok.program) (option_map_or (λ (q : Outgoing). q.next) o 0) c.args.to c.in-Ok.program p (part_of c.send.new.self) c.send.result c.send.ensures.step in
+    n.linked ∙ sym (links_stay n.names.items xs (slice_set xs c.in-Some.sender c.send.new.self) n.spec.channels (set_channels xs c.in-Some.sender c.index_mut.result.now c.send.new.self at same))
 
 pub returns-in-Ok-send-clause-step : goal.returns-in-Ok-send-clause-step
 returns-in-Ok-send-clause-step c =

@@ -4,6 +4,7 @@ use Rattle.std.specs.Prelude.{slice_set}
 use Rattle.chain_queues.specs.Queues.{waiting_of, channel_to}
 use Rattle.network_steps.specs.declared.step_result.StepResult.{StepResult}
 use Rattle.exec_base.specs.Part.{ChainPart}
+use Rattle.network_steps.specs.Fixed.{fixed_of}
 use Rattle.chain_state.specs.PartOf.{part_of}
 use Rattle.chain_net.specs.Sound.{IsBetweenSteps}
 use Rattle.chain_net.specs.Chains.{member_in}
@@ -11,6 +12,8 @@ use Rattle.chain_net.specs.Nets.{world_of, told_at}
 use Rattle.chain_net.proofs.Members.{at_place, member_at, something, somebody, set_many, set_names, set_between}
 use Rattle.chain_net.proofs.Pairs.{deliver_nowhere, deliver_to_nowhere, deliver_at}
 use Rattle.chain_net.proofs.Deliveries.{between_popped, deliver_ran, deliver_stopped, changed_by, changed_many, changed_names, passed_between, none_of, some_of, empty_of, apart_places, other_chain, carried_by}
+use Rattle.chain_net.proofs.Standing.{links_stay}
+use Rattle.chain_net.proofs.Staying.{set_channels, popped_fixed, passed_channels}
 use Rattle.chain_net.proofs.net.Net.try_deliver.Goals as goal
 
 pub returns-in_default-clause-step : goal.returns-in_default-clause-step
@@ -108,6 +111,23 @@ invariant_of-self-2-clause-named c =
     let ys = slice_set xs i c.take.new.self in
     changed_names i j ys c.pass.new.chains.items apart (changed_by c.index-rules.result.now c.args.from (waiting_of c.in-Some-take.queued) i j ys c.pass.new.chains.items c.pass.result c.pass.ensures.passed c.pass.ensures.stopped)
     ∙ set_names xs i c.index_mut.result.now c.take.new.self at_i (ap (λ (p : ChainPart). p.site.chain) c.in-Some-take.ensures.rest) ∙ c.args.self.now.named
+
+pub invariant_of-self-2-clause-linked : goal.invariant_of-self-2-clause-linked
+invariant_of-self-2-clause-linked c =
+    let n = c.args.self.now in
+    let rs = n.rules.items in
+    let xs = n.chains.items in
+    let i = c.in-Some.sender in
+    let j = c.in-Some-place.receiver in
+    let rule = something rs i (subst (λ n. i < n) (sym n.ruled) c.in-Some.ensures.there) in
+    let first = at_place xs i c.index.result.now c.index.ensures c.in-Some.ensures.there in
+    let apart = apart_places (world_of n) i j (member_in rule.0 c.index.result.now) c.args.to (member_at rs xs i rule.0 c.index.result.now rule.1 first) (sym c.in-Some-place.ensures.place)
+    (c.requires.between i c.index.result.now first).apart (some_of c.in-Some-waits_for.waits (channel_to c.args.to (part_of c.index.result.now).channels) c.in-Some-waits_for.ensures) in
+    let at_i = at_place xs i c.index_mut.result.now c.index_mut.ensures.value c.in-Some.ensures.there in
+    let ys = slice_set xs i c.take.new.self in
+    let same = passed_channels c.index-rules.result.now c.args.from (waiting_of c.in-Some-take.queued) i j ys c.pass.new.chains.items apart c.pass.result c.pass.ensures.passed c.pass.ensures.stopped
+    ∙ set_channels xs i c.index_mut.result.now c.take.new.self at_i (ap fixed_of c.in-Some-take.ensures.rest ∙ popped_fixed c.args.to (part_of c.index_mut.result.now)) in
+    n.linked ∙ sym (links_stay n.names.items xs c.pass.new.chains.items n.spec.channels same)
 
 pub returns-in_err-outcome-clause-stops : goal.returns-in_err-outcome-clause-stops
 returns-in_err-outcome-clause-stops c =

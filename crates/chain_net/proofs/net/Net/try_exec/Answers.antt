@@ -1,12 +1,16 @@
 use Rattle.std.proofs.Common.{◌≡◌, false, ◌∙◌, ap, sym, subst, ◌<◌, Err}
 use Rattle.std.proofs.lemmas.Result.{err_from_is_err_and}
+use Rattle.std.specs.Prelude.{slice_set}
 use Rattle.network_steps.specs.declared.step_result.StepResult.{StepResult}
 use Rattle.versioned_xcm.specs.Reading.{message_of}
 use Rattle.network_steps.specs.Steps.{exec}
+use Rattle.chain_state.specs.PartOf.{part_of}
 use Rattle.chain_net.specs.Nets.{world_of, told_at, stepped}
 use Rattle.chain_net.specs.Chains.{member_in}
 use Rattle.chain_net.proofs.Members.{member_at, at_place, set_many, set_names, set_between}
 use Rattle.chain_net.proofs.Executions.{exec_nowhere, exec_whole, exec_pool, exec_there, own_of, exec_ran, exec_stopped, read_is, fault_is, by_answer}
+use Rattle.chain_net.proofs.Standing.{links_stay}
+use Rattle.chain_net.proofs.Staying.{set_channels, run_fixed}
 use Rattle.chain_net.proofs.net.Net.try_exec.Goals as goal
 
 pub returns-in_default-clause-step : goal.returns-in_default-clause-step
@@ -51,6 +55,14 @@ pub invariant_of-self-2-clause-named : goal.invariant_of-self-2-clause-named
 invariant_of-self-2-clause-named c =
     set_names c.args.self.now.chains.items c.in-Some.place c.index_mut.result.now c.run_here.new.here (at_place c.args.self.now.chains.items c.in-Some.place c.index_mut.result.now c.index_mut.ensures.value c.in-Some.ensures.there) (ap (λ s. s.chain) c.run_here.ensures.place)
     ∙ c.args.self.now.named
+
+pub invariant_of-self-2-clause-linked : goal.invariant_of-self-2-clause-linked
+invariant_of-self-2-clause-linked c =
+    let n = c.args.self.now in
+    let xs = n.chains.items in
+    let at = at_place xs c.in-Some.place c.index_mut.result.now c.index_mut.ensures.value c.in-Some.ensures.there in
+    let same = run_fixed c.index-rules.result.now c.args.account.now c.in-Ok.program (part_of c.index_mut.result.now) (part_of c.run_here.new.here) c.run_here.result c.run_here.ensures.part c.run_here.ensures.stopped in
+    n.linked ∙ sym (links_stay n.names.items xs (slice_set xs c.in-Some.place c.run_here.new.here) n.spec.channels (set_channels xs c.in-Some.place c.index_mut.result.now c.run_here.new.here at same))
 
 pub returns-in_err-outcome-clause-stops : goal.returns-in_err-outcome-clause-stops
 returns-in_err-outcome-clause-stops c =
