@@ -48,8 +48,9 @@ pub(crate) fn account_word(text: &[u8]) -> Option<[u8; 32]>
     <[u8; 32] as FromHex>::from_hex(without_prefix(text)).ok()
 }
 
-/// The bytes of an even number of hex digits. `Err` is out of memory alone.
-pub(crate) fn message_word(alloc: Global, text: &[u8]) -> Result<Option<Vec<u8>>, AllocError>
+/// The bytes of a message in hex: an even number of digits, either case, with `0x` in front or without; `None` for other texts and for
+/// no text. `Err` is out of memory alone.
+pub fn message_word(alloc: Global, text: &[u8]) -> Result<Option<Vec<u8>>, AllocError>
     ensures { IfOk result (λ bytes. option_map (λ v. v.items) bytes ≡ message_word text.now) }
 {
     if text.is_empty() {

@@ -1,0 +1,3 @@
+mod Flowing
+mod PastLimits
+mod Streams

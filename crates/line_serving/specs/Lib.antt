@@ -1,0 +1,5 @@
+pub mod Replies
+pub mod Calls
+pub mod Feeding
+pub mod Serving
+pub mod Laws

@@ -1,0 +1,5 @@
+mod Steps
+mod Headline
+mod Walks
+mod Decoded
+mod Agreeing

@@ -1,0 +1,5 @@
+pub mod Lines
+pub mod Stops
+pub mod Blocks
+pub mod Explanations
+pub mod Laws

@@ -1,0 +1,13 @@
+//! What the places of refusals amount to.
+
+ghost use Rattle.std.specs.Prelude.{ℕ, List};
+ghost use Rattle.message_parts.specs.declared.version.Version.{Version};
+ghost use Rattle.program_wire.specs.Reading.{program_at};
+ghost use Rattle.xcm_explain.specs.Stops.{WalksAsRead, walk_program};
+
+/// A walk goes past a program just where one is read, to the same place, and else it stops. So the end is named only where bytes stand behind a
+/// program that is read.
+pub fn law_of_walks()
+    ensures { (v : Version) (levels most : ℕ) (bytes : List ℕ)
+        → WalksAsRead (program_at v levels most bytes) (walk_program v levels most bytes) }
+{}
