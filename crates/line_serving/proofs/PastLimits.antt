@@ -1,23 +1,11 @@
 -- A line that is past a limit, whatever comes.
-use Rattle.std.proofs.Common.{◌≡◌, ◌∙◌, ◌<◌, ◌≤◌, ◌+◌, ◌-◌, ℕ, suc, Bool, true, false, cond, eqb, ◌&&◌, List, [], ◌∷◌, ◌++◌, length, take, get_or, refl, ap, append-nil, arith, length-take, length-append}
+use Rattle.std.proofs.Common.{◌≡◌, ◌∙◌, ◌<◌, ◌≤◌, ◌+◌, ◌-◌, ℕ, Bool, true, false, cond, eqb, ◌&&◌, List, [], ◌∷◌, ◌++◌, length, take, get_or, refl, ap, append-nil, arith, length-take, length-append}
 use Rattle.std.proofs.lemmas.Bool.{ne_eqb}
 use Rattle.std.proofs.lemmas.Bool.Decides.{nat_tests}
 use Rattle.std.specs.Prelude.{nat_le}
-use Rattle.input_lines.specs.Lines.{lines_of, HasNoFeed, onto, without_feed, ends_with}
-use Rattle.input_lines.specs.Laws.{past_other}
+use Rattle.input_lines.specs.Lines.{lines_of, HasNoFeed, without_feed, ends_with}
+use Rattle.line_serving.specs.Laws.{begins}
 use Rattle.line_serving.specs.Replies.{max_input, max_line, fits_limits}
-
-begins_one : (b : ℕ) (more : List ℕ) (lines : List (List ℕ)) → lines_of more ≡ lines → (b ≡ 10 → ⊥) → (tail : List ℕ) × ((rest : List (List ℕ)) × (lines_of (b ∷ more) ≡ (b ∷ tail) ∷ rest))
-begins_one b more [] e n = ([], ([], past_other b more n ∙ ap (onto b) e))
-begins_one b more (line ∷ lines) e n = (line, (lines, past_other b more n ∙ ap (onto b) e))
-
--- bytes without a feed begin the first line
-begins : (bytes more : List ℕ) → 0 < length bytes → HasNoFeed bytes → (tail : List ℕ) × ((lines : List (List ℕ)) × (lines_of (bytes ++ more) ≡ (bytes ++ tail) ∷ lines))
-begins [] more l n = absurd (omega arith)
-begins (b ∷ []) more l n = begins_one b more (lines_of more) refl (n 0 (omega arith))
-begins (b ∷ c ∷ rest) more l n =
-    let h = begins (c ∷ rest) more (omega arith) (λ k i. n (suc k) (omega arith)) in
-    (h.0, (h.1.0, past_other b ((c ∷ rest) ++ more) (n 0 (omega arith)) ∙ ap (onto b) h.1.1))
 
 second_false : (a b : Bool) → b ≡ false → (a && b) ≡ false
 second_false true b e = e

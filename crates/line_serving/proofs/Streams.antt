@@ -16,6 +16,7 @@ use Rattle.line_serving.specs.declared.status.Status.TheVariants.{Done, ReadFaul
 use Rattle.line_serving.specs.Replies.{Replies, Rooms, ends, then_on, bytes_reply, whole_lines, so_far}
 use Rattle.line_serving.specs.Feeding.{AllWhole, Flows, Stops, StopsInLine, StopsAtLimit, StopsAtEnd, Ends}
 use Rattle.line_serving.specs.Serving.{Serves, FailedInLine, FailedAtEnd, StoppedAtLimit, ReadInTime}
+use Rattle.line_serving.specs.Laws.{in_time_start}
 use Rattle.line_serving.proofs.Flowing.{then_then, then_front, then_proper, then_ends, then_nothing, all_whole}
 use Rattle.line_serving.proofs.PastLimits.{no_feed_end}
 
@@ -32,22 +33,6 @@ pub record Streams {M : Type 0} (replies : M → Replies) (rooms : M → Rooms) 
   pub goes : (at_end : Bool) (lines : List (List ℕ)) → replies start at_end (reported ++ lines) ≡ then_on text (replies machine at_end lines)
   pub room : (lines : List (List ℕ)) (begun : ℕ) → rooms machine lines begun → rooms start (reported ++ lines) begun
   pub in_time : ReadInTime (replies start) (rooms start) taken text
-
--- nothing is read, and a line that isn't begun has room
-in_time_start : (first : Replies) (room : Rooms) → first false [] ≡ ends [] Done → room [] 0 → ReadInTime first room [] []
-unfolding lines_of
-in_time_start first room nothing begun = record {
-  before = [];
-  piece = [];
-  parts = refl;
-  few = omega arith;
-  begun = [];
-  lines = refl;
-  within = begun;
-  told = [];
-  undecided = nothing;
-  written = ([], refl);
-}
 
 -- more is written
 pub in_time_more : (first : Replies) (room : Rooms) (taken text more : List ℕ) → ReadInTime first room taken text → ReadInTime first room taken (text ++ more)

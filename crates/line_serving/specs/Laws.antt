@@ -1,10 +1,13 @@
 -- For the proofs of crates above; a reader of the definitions can leave it out. How a call that writes a text goes on with the run.
-use Rattle.std.proofs.Common.{◌≡◌, ◌≢◌, ◌∙◌, inl, inr, ℕ, List, [], ◌++◌, length-append, refl, sym, ap, Option, Some, None, Result, Ok, Err, append_assoc, append-nil, arith}
+use Rattle.std.proofs.Common.{◌≡◌, ◌≢◌, ◌∙◌, inl, inr, ℕ, suc, ◌<◌, List, [], ◌∷◌, ◌++◌, length, length-append, refl, sym, ap, Option, Some, None, Result, Ok, Err, false, append_assoc, append-nil, arith}
 use Rattle.std.proofs.KnownBytes.{Appends-nil}
+use Rattle.input_lines.specs.Lines.{lines_of, HasNoFeed, onto}
+use Rattle.input_lines.specs.Laws.{past_other}
 use Rattle.xcm_io.specs.Bytes.{IsFront, IsProperFront}
 use Rattle.line_serving.specs.declared.status.Status.{Status}
 use Rattle.line_serving.specs.declared.status.Status.TheVariants.{Done, WriteFault, TooLong}
-use Rattle.line_serving.specs.Replies.{Reply, ends, then_on}
+use Rattle.line_serving.specs.Replies.{Reply, Replies, Rooms, ends, then_on}
+use Rattle.line_serving.specs.Serving.{ReadInTime}
 use Rattle.line_serving.specs.Calls.{Writes, Advances, Finishes}
 
 -- ---- fronts
@@ -120,4 +123,36 @@ finishes_done rest known whole = record {
   short = λ r. absurd cc;
   long = λ r. cc;
   no_read = λ r. cc;
+}
+
+-- ---- lines that are begun
+
+begins_one : (b : ℕ) (more : List ℕ) (lines : List (List ℕ)) → lines_of more ≡ lines → (b ≡ 10 → ⊥) → (tail : List ℕ) × ((rest : List (List ℕ)) × (lines_of (b ∷ more) ≡ (b ∷ tail) ∷ rest))
+begins_one b more [] e n = ([], ([], past_other b more n ∙ ap (onto b) e))
+begins_one b more (line ∷ lines) e n = (line, (lines, past_other b more n ∙ ap (onto b) e))
+
+-- bytes without a feed begin the first line
+pub begins : (bytes more : List ℕ) → 0 < length bytes → HasNoFeed bytes → (tail : List ℕ) × ((lines : List (List ℕ)) × (lines_of (bytes ++ more) ≡ (bytes ++ tail) ∷ lines))
+begins [] more l n = absurd (omega arith)
+begins (b ∷ []) more l n = begins_one b more (lines_of more) refl (n 0 (omega arith))
+begins (b ∷ c ∷ rest) more l n =
+    let h = begins (c ∷ rest) more (omega arith) (λ k i. n (suc k) (omega arith)) in
+    (h.0, (h.1.0, past_other b ((c ∷ rest) ++ more) (n 0 (omega arith)) ∙ ap (onto b) h.1.1))
+
+-- ---- the start
+
+-- nothing is read, and a line that isn't begun has room
+pub in_time_start : (first : Replies) (room : Rooms) → first false [] ≡ ends [] Done → room [] 0 → ReadInTime first room [] []
+unfolding lines_of
+in_time_start first room nothing begun = record {
+  before = [];
+  piece = [];
+  parts = refl;
+  few = omega arith;
+  begun = [];
+  lines = refl;
+  within = begun;
+  told = [];
+  undecided = nothing;
+  written = ([], refl);
 }

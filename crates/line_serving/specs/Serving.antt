@@ -56,7 +56,7 @@ pub record ReadInTime (replies : Replies) (room : Rooms) (taken text : List ℕ)
 -- the whole of the input's report, and the answer its fate, unless source or sink failed. With ReadFault the whole lines taken pass no limit and none is refused, and the
 -- text is exactly their report. With WriteFault the failure stands in the first line whose report isn't written whole, and little
 -- was taken behind it. With TooLong the text is exactly the report of lines that are within the limits. Whatever the answer, nothing was read behind
--- what decides it, unless that is the first read.
+-- what decides it.
 pub record Serves {E : Type 0} (replies : Replies) (room : Rooms)
     (left rest old new : Option (List ℕ)) (result : Result Status E) : Type 0 where
   pub taken : List ℕ

@@ -4,7 +4,7 @@ use Rattle.std.proofs.KnownBytes.{Appends-nil}
 use Rattle.std.proofs.lemmas.Bool.{cond-true, cond-false}
 use Rattle.std.proofs.lemmas.Bool.Decides.{nat_tests}
 use Rattle.std.specs.Prelude.{Vec, nat_le, ◌||◌, String, string_bytes}
-use Rattle.xcm_io.specs.Bytes.{IsFront, IsProperFront}
+use Rattle.xcm_io.specs.Bytes.{IsProperFront}
 use Rattle.input_lines.specs.Lines.{text_of, network_part, later_lines, lines_through, bytes_through, ends_network, has_mark}
 use Rattle.input_lines.specs.Step.{read_line}
 use Rattle.document_forms.specs.declared.fault.NetworkFault.{NetworkFault}
@@ -26,111 +26,18 @@ use Rattle.xcm_cli.specs.declared.phase.Phase.{Phase}
 use Rattle.xcm_cli.specs.declared.phase.Phase.TheVariants.{Network, Steps}
 use Rattle.xcm_cli.specs.declared.phase.Opened.{Opened}
 use Rattle.xcm_cli.specs.declared.phase.Opened.TheVariants.{Runs, Over}
-use Rattle.xcm_cli.specs.declared.status.Status.{Status}
-use Rattle.xcm_cli.specs.declared.status.Status.TheVariants.{Done, ReadFault, WriteFault, NetworkRefused, LineRefused, TooLong}
-use Rattle.xcm_cli.specs.Report.{Reply, ends, then_on, steps_reply, network_reply, part_reply, lines_reply, fits_limits, max_network, max_line, max_input}
-use Rattle.xcm_cli.specs.Session.{Writes, Advances, Finishes, Opens, Begins, head_of, reply_at, phase_reply, HoldsPart, HasRoom, IsReady}
-
--- ---- fronts
-
--- what was written of a text is a front of it
-pub wrote_front : (text : List ℕ) (answer : Option Status) (old new : Option (List ℕ)) (result : Option Status) (w : Writes text answer old new result) → IsFront w.part text
-wrote_front text answer old new result w = elim w.whole [ inl h ↦ ([], sym (append-nil text) ∙ ap (λ t. t ++ []) (sym h.1)) | inr h ↦ (h.1.0, h.1.1) ]
-
--- a front of a text is a front of what begins with the text
-front_on : (part text : List ℕ) (rest whole : Reply) → IsFront part text → whole ≡ then_on text rest → IsFront part whole.text
-front_on part text rest whole f e = (f.0 ++ rest.text, ap (λ o. o.text) e ∙ ap (λ t. t ++ rest.text) f.1 ∙ append_assoc part f.0 rest.text)
-
--- the same of a proper front
-pub proper_on : (part text more whole : List ℕ) → IsProperFront part text → whole ≡ text ++ more → IsProperFront part whole
-proper_on part text more whole f e =
-    (f.0 ++ more, e ∙ ap (λ t. t ++ more) f.1 ∙ append_assoc part f.0 more, omega (arith, length-append f.0 more, f.2))
-
--- ---- a call that writes a text, or nothing
-
--- nothing was written
-pub stays : {X E : Type 0} (before after : X → Reply) (due : List ℕ) (known : Option (List ℕ)) → ((lines : X) → before lines ≡ after lines)
-    → Advances {E = E} before after due known known (Ok None)
-stays before after due known same = record {
-  text = [];
-  appends = Appends-nil known;
-  front = λ lines. ((before lines).text, refl);
-  goes_on = λ _ lines. same lines;
-  ended = λ status e _ _. cc;
-  short = λ e. absurd cc;
-  long = λ e. refl;
-}
-
--- a text was written and the run goes on
-pub writes_on : {X E : Type 0} (before after : X → Reply) (text : List ℕ) (none : X) (old new : Option (List ℕ)) (result : Option Status)
-    → Writes text None old new result → ((lines : X) → before lines ≡ then_on text (after lines)) → Advances {E = E} before after (before none).text old new (Ok result)
-writes_on before after text none old new result w same = record {
-  text = w.part;
-  appends = w.appends;
-  front = λ lines. front_on w.part text (after lines) (before lines) (wrote_front text None old new result w) (same lines);
-  goes_on = λ e lines. elim w.whole [ inl h ↦ rw h.1 (same lines) | inr h ↦ cc ];
-  ended = λ status e n lines. elim w.whole [ inl h ↦ cc | inr h ↦ absurd (n cc) ];
-  short = λ e. elim w.whole [ inl h ↦ absurd cc | inr h ↦ proper_on w.part text (after none).text (before none).text h.1 (ap (λ o. o.text) (same none)) ];
-  long = λ e. elim w.whole [ inl h ↦ absurd cc | inr h ↦ absurd cc ];
-}
-
-ended_as : (text : List ℕ) (answer : Status) (part : List ℕ) (status : Status) (whole : Reply) → whole ≡ ends text answer → part ≡ text → answer ≡ status → whole ≡ ends part status
-ended_as text answer part status whole e p s = rw (p, ← s) e
-
-proper_whole : (part text whole : List ℕ) → IsProperFront part text → whole ≡ text → IsProperFront part whole
-proper_whole part text whole f e = (f.0, e ∙ f.1, f.2)
-
--- a text was written and the run is over
-pub writes_end : {X E : Type 0} (before after : X → Reply) (text : List ℕ) (answer : Status) (none : X) (old new : Option (List ℕ)) (result : Option Status)
-    → Writes text (Some answer) old new result → answer ≢ TooLong → answer ≢ WriteFault → ((lines : X) → before lines ≡ ends text answer)
-    → Advances {E = E} before after (before none).text old new (Ok result)
-writes_end before after text answer none old new result w n m same = record {
-  text = w.part;
-  appends = w.appends;
-  front = λ lines. let f = wrote_front text (Some answer) old new result w in (f.0, ap (λ o. o.text) (same lines) ∙ f.1);
-  goes_on = λ e lines. elim w.whole [ inl h ↦ cc | inr h ↦ cc ];
-  ended = λ status e k lines. elim w.whole [ inl h ↦ ended_as text answer w.part status (before lines) (same lines) h.1 cc | inr h ↦ absurd (k cc) ];
-  short = λ e. elim w.whole [ inl h ↦ absurd (m cc) | inr h ↦ proper_whole w.part text (before none).text h.1 (ap (λ o. o.text) (same none)) ];
-  long = λ e. elim w.whole [ inl h ↦ absurd (n cc) | inr h ↦ absurd cc ];
-}
-
--- the run is over with nothing written
-pub stops : {X E : Type 0} (before after : X → Reply) (answer : Status) (due : List ℕ) (known : Option (List ℕ)) → answer ≢ WriteFault → ((lines : X) → before lines ≡ ends [] answer)
-    → Advances {E = E} before after due known known (Ok (Some answer))
-stops before after answer due known n same = record {
-  text = [];
-  appends = Appends-nil known;
-  front = λ lines. ((before lines).text, refl);
-  goes_on = λ e lines. cc;
-  ended = λ status e k lines. same lines ∙ ap (λ x. ends [] x) cc;
-  short = λ e. absurd (n cc);
-  long = λ e. refl;
-}
-
--- memory was refused with nothing written
-pub refuses : {X E : Type 0} (before after : X → Reply) (due : List ℕ) (known : Option (List ℕ)) (refused : E) → Advances before after due known known (Err refused)
-refuses before after due known refused = record {
-  text = [];
-  appends = Appends-nil known;
-  front = λ lines. ((before lines).text, refl);
-  goes_on = λ e lines. cc;
-  ended = λ status e n lines. cc;
-  short = λ e. absurd cc;
-  long = λ e. refl;
-}
-
--- the same steps, by other words for what is still to come
-pub advances_as : {X Y E : Type 0} (through : Y → X) (before after : X → Reply) (first then : Y → Reply) (due owed : List ℕ) (old new : Option (List ℕ)) (result : Result (Option Status) E)
-    → ((lines : Y) → first lines ≡ before (through lines)) → ((lines : Y) → then lines ≡ after (through lines)) → owed ≡ due → Advances before after due old new result → Advances first then owed old new result
-advances_as through before after first then due owed old new result eb ea ed a = record {
-  text = a.text;
-  appends = a.appends;
-  front = λ lines. let f = a.front (through lines) in (f.0, ap (λ o. o.text) (eb lines) ∙ f.1);
-  goes_on = λ e lines. eb lines ∙ a.goes_on e (through lines) ∙ ap (λ o. then_on a.text o) (sym (ea lines));
-  ended = λ status e n lines. eb lines ∙ a.ended status e n (through lines);
-  short = λ e. proper_whole a.text due owed (a.short e) ed;
-  long = a.long;
-}
+use Rattle.line_serving.specs.declared.status.Status.{Status}
+use Rattle.line_serving.specs.declared.status.Status.TheVariants.{Done, ReadFault, WriteFault, NetworkRefused, LineRefused, TooLong}
+use Rattle.line_serving.specs.Replies.{Reply, ends, then_on, fits_limits, max_input}
+use Rattle.line_serving.specs.Calls.{Writes, Advances, Finishes}
+use Rattle.line_serving.specs.Laws.{proper_on, proper_whole}
+use Rattle.xcm_cli.specs.Report.{steps_reply, network_reply, part_reply, lines_reply, max_network}
+use Rattle.xcm_cli.specs.Session.{Opens, Begins, head_of, reply_at, runs_steps, session_rooms, IsReady}
+use Rattle.std.specs.List.{concat}
+use Rattle.line_serving.specs.Replies.{Replies, Rooms, max_line}
+use Rattle.line_serving.specs.Serving.{Serves}
+use Rattle.xcm_cli.specs.Report.{IsWithin, lines_room}
+use Rattle.xcm_cli.specs.Laws.{at_steps, at_network, no_steps, part_size}
 
 -- ---- a line after the network
 
@@ -320,23 +227,10 @@ pub part_fits : (audit : Bool) (part : List ℕ) (before taken : ℕ) (closed : 
     → part_reply audit closed part before taken lines ≡ network_reply audit (network_of part) before taken lines
 part_fits audit part before taken closed lines c l = rw c (cond-true (nat_le (length part) max_network) _ _ (grind (arith, nat_tests)))
 
--- a part within its limit that goes on
-pub part_goes_on : (audit : Bool) (part : List ℕ) (before taken : ℕ) (lines : List (List ℕ)) → length part ≤ max_network → part_reply audit false part before taken lines ≡ ends [] Done
-part_goes_on audit part before taken lines l = cond-true (nat_le (length part) max_network) _ _ (grind (arith, nat_tests))
-
 pub part_long : (audit : Bool) (part : List ℕ) (before taken : ℕ) (closed : Bool) (lines : List (List ℕ)) → max_network < length part → part_reply audit closed part before taken lines ≡ ends [] TooLong
 part_long audit part before taken closed lines l = cond-false (nat_le (length part) max_network) _ _ (grind (arith, nat_tests))
 
 -- ---- where a session stands
-
-pub at_steps : (s : Session) (net : Net) (done : ℕ) (at_end : Bool) (lines : List (List ℕ)) → s.phase ≡ Steps net done → reply_at s at_end lines ≡ steps_reply s.audit (spec_of net) (world_of net) done s.lines s.taken lines
-unfolding reply_at
-at_steps s net done at_end lines e = ap (λ p. phase_reply s.audit p s.lines s.taken at_end lines) e
-
-pub at_network : (s : Session) (part : Vec ℕ Global) (at_end : Bool) (lines : List (List ℕ)) → s.phase ≡ Network part
-    → reply_at s at_end lines ≡ part_reply s.audit (has_mark lines || at_end) (part.items ++ network_part lines) (s.lines + lines_through lines) (s.taken + bytes_through lines) (later_lines lines)
-unfolding reply_at
-at_network s part at_end lines e = ap (λ p. phase_reply s.audit p s.lines s.taken at_end lines) e
 
 pub at_start : (s : Session) (part : Vec ℕ Global) (at_end : Bool) (lines : List (List ℕ)) → s.phase ≡ Network part → part.items ≡ [] → s.lines ≡ 0 → s.taken ≡ 0
     → reply_at s at_end lines ≡ lines_reply s.audit at_end lines
@@ -384,20 +278,8 @@ line_ends old part line at_end lines e l m =
 
 -- ---- the end of the lines
 
-no_steps : (audit : Bool) (spec : NetworkSpec) (w : World) (done before taken : ℕ) → steps_reply audit spec w done before taken [] ≡ ends [] Done
-unfolding steps_reply
-no_steps audit spec w done before taken = refl
-
 pub at_end : (s : Session) (part : Vec ℕ Global) → s.phase ≡ Network part → length part.items ≤ max_network → reply_at s true [] ≡ network_reply s.audit (network_of part.items) s.lines s.taken []
 at_end s part e l = at_network s part true [] e ∙ rw (append-nil, add-zero, add-zero) (part_fits s.audit part.items s.lines s.taken true [] refl l)
-
-nothing_at : (s : Session) (phase : Phase) → s.phase ≡ phase → HoldsPart phase s.taken → reply_at s false [] ≡ ends [] Done
-nothing_at s (Network part) e h = at_network s part false [] e ∙ rw append-nil (part_goes_on s.audit part.items s.lines s.taken [] (omega (arith, h.0, h.1)))
-nothing_at s (Steps net done) e h = at_steps s net done false [] e ∙ no_steps s.audit (spec_of net) (world_of net) done s.lines s.taken
-
--- where no line comes, nothing is reported
-pub nothing_yet : (s : Session) → IsReady s → reply_at s false [] ≡ ends [] Done
-nothing_yet s r = nothing_at s s.phase refl r.part
 
 pub finishes_steps : {E : Type 0} (s : Session) (net : Net) (done : ℕ) (known : Option (List ℕ)) → s.phase ≡ Steps net done → Finishes {E = E} (reply_at s true []) known known (Ok Done)
 finishes_steps s net done known e =
@@ -452,24 +334,43 @@ finishes_err rest before after due old new refused result e a = record {
 
 -- ---- what a ready session says of its part
 
-pub part_size : (s : Session) (part : Vec ℕ Global) → s.phase ≡ Network part → IsReady s → (length part.items ≡ s.taken) × (s.taken ≤ max_network)
-part_size s part e r = let P : Phase → Type 0 = λ p. HoldsPart p s.taken in subst P e r.part
-
 pub part_within : (s : Session) (part : Vec ℕ Global) → s.phase ≡ Network part → IsReady s → length part.items ≤ max_network
 part_within s part e r = let h : (length part.items ≡ s.taken) × (s.taken ≤ max_network) = part_size s part e r in omega arith
-
-pub steps_size : (s : Session) (net : Net) (done : ℕ) → s.phase ≡ Steps net done → IsReady s → (s.taken ≤ max_input) × (is_stopped net ≡ false)
-steps_size s net done e r = let P : Phase → Type 0 = λ p. HoldsPart p s.taken in subst P e r.part
-
--- a line that is begun is within the limits so far
-pub room_steps : (s : Session) (net : Net) (done begun : ℕ) → s.phase ≡ Steps net done → begun ≤ max_line → s.taken + begun ≤ max_input → HasRoom s.phase s.taken begun
-room_steps s net done begun e line total = let P : Phase → Type 0 = λ p. HasRoom p s.taken begun in subst P (sym e) (line, total)
-
-pub room_network : (s : Session) (part : Vec ℕ Global) (begun : ℕ) → s.phase ≡ Network part → s.taken + begun ≤ max_network + 4 → HasRoom s.phase s.taken begun
-room_network s part begun e size = let P : Phase → Type 0 = λ p. HasRoom p s.taken begun in subst P (sym e) size
 
 pub ready_steps : (s : Session) (part : Vec ℕ Global) (net : Net) (line : List ℕ) → s.phase ≡ Network part → IsReady s → is_stopped net ≡ false → 0 < length line → length line ≤ 5
     → IsReady (record { audit = s.audit; phase = Steps net 0; lines = s.lines + 1; taken = s.taken + length line })
 ready_steps s part net line e r running l m =
     let h : (length part.items ≡ s.taken) × (s.taken ≤ max_network) = part_size s part e r in
     record { steps = omega arith; lines = omega (arith, r.lines); part = (omega (arith, h.1), running) }
+
+-- ---- room for more of a line
+
+or_assoc : (a b c : Bool) → ((a || b) || c) ≡ (a || (b || c))
+or_assoc true b c = refl
+or_assoc false b c = refl
+
+-- a line that is taken leaves the same room behind it
+pub room_behind : (old new : Session) (line : List ℕ) (lines : List (List ℕ)) (begun : ℕ) → runs_steps new.phase ≡ (runs_steps old.phase || ends_network line) → new.taken ≡ old.taken + length line
+    → session_rooms new lines begun → session_rooms old (line ∷ lines) begun
+room_behind old new line lines begun p t r =
+    let size : new.taken + length (concat lines) + begun ≡ old.taken + length (line ++ concat lines) + begun = omega (arith, length-append line (concat lines)) in
+    let mark : (runs_steps new.phase || has_mark lines) ≡ (runs_steps old.phase || (ends_network line || has_mark lines)) =
+    ap (λ b. b || has_mark lines) p ∙ or_assoc (runs_steps old.phase) (ends_network line) (has_mark lines) in
+    subst (λ (b : Bool). IsWithin b (old.taken + length (line ++ concat lines) + begun) begun) mark
+    (subst (λ (n : ℕ). IsWithin (runs_steps new.phase || has_mark lines) n begun) size r)
+
+-- what has come of a line is within the limits so far
+pub room_steps : (s : Session) (net : Net) (done begun : ℕ) → s.phase ≡ Steps net done → begun ≤ max_line → s.taken + begun ≤ max_input → session_rooms s [] begun
+room_steps s net done begun e line total = let P : Phase → Type 0 = λ p. IsWithin (runs_steps p || false) (s.taken + 0 + begun) begun in subst P (sym e) (line, omega arith)
+
+pub room_network : (s : Session) (part : Vec ℕ Global) (begun : ℕ) → s.phase ≡ Network part → s.taken + begun ≤ max_network + 4 → session_rooms s [] begun
+room_network s part begun e size = let P : Phase → Type 0 = λ p. IsWithin (runs_steps p || false) (s.taken + 0 + begun) begun in subst P (sym e) (omega arith)
+
+-- a run at its start has all of its report to write
+pub serves_first : {E : Type 0} (audit : Bool) (s : Session) (left rest old new : Option (List ℕ)) (result : Result Status E) → ((at_end : Bool) (lines : List (List ℕ)) → reply_at s at_end lines ≡ lines_reply audit at_end lines)
+    → runs_steps s.phase ≡ false → s.taken ≡ 0 → Serves (reply_at s) (session_rooms s) left rest old new result → Serves (lines_reply audit) lines_room left rest old new result
+serves_first audit s left rest old new result start phase none served =
+    let size : (lines : List (List ℕ)) (begun : ℕ) → s.taken + length (concat lines) + begun ≡ length (concat lines) + begun = λ lines begun. omega arith in
+    let replies : reply_at s ≡ lines_reply audit = λ i at_end lines. start at_end lines i in
+    let rooms : session_rooms s ≡ lines_room = λ i lines begun. IsWithin (phase i || has_mark lines) (size lines begun i) begun in
+    subst (λ (f : Rooms). Serves (lines_reply audit) f left rest old new result) rooms (subst (λ (f : Replies). Serves f (session_rooms s) left rest old new result) replies served)

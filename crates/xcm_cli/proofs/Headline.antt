@@ -6,11 +6,15 @@ use Rattle.std.proofs.KnownBytes.{Consumes-nil, Appends-nil}
 use Rattle.xcm_cli.specs.declared.words.Task.{Task}
 use Rattle.xcm_cli.specs.declared.words.Task.TheVariants.{Run}
 use Rattle.xcm_cli.specs.Words.{task_of, reads}
-use Rattle.xcm_cli.specs.Report.{Reply, ends, reply, task_reply, report, fate}
-use Rattle.xcm_cli.specs.Session.{Finishes, IsFault}
-use Rattle.xcm_cli.specs.Serving.{Serves, ServesWords}
-use Rattle.xcm_cli.proofs.Streams.{in_time_start}
-use Rattle.xcm_cli.specs.declared.status.Status.{Status}
+use Rattle.std.proofs.Common.{arith}
+use Rattle.line_serving.specs.Replies.{Reply, ends, IsFault}
+use Rattle.line_serving.specs.Calls.{Finishes}
+use Rattle.line_serving.specs.Serving.{Serves}
+use Rattle.line_serving.specs.Laws.{in_time_start}
+use Rattle.line_serving.specs.declared.status.Status.{Status}
+use Rattle.line_serving.specs.declared.status.Status.TheVariants.{Done}
+use Rattle.xcm_cli.specs.Report.{reply, task_reply, report, fate, lines_reply, lines_room}
+use Rattle.xcm_cli.specs.Serving.{ServesWords}
 
 pub reply_of : (words : List (String Global)) (task : Task) (bytes : List ℕ) → task_of words ≡ task → reply words bytes ≡ task_reply task bytes
 unfolding reply
@@ -30,13 +34,13 @@ every_some None P f = tt
 
 -- ---- a run of an input
 
-pub answer_run : {E : Type 0} (words : List (String Global)) (audit : Bool) (left rest old new : Option (List ℕ)) (result : Result Status E) → task_of words ≡ Run audit → Serves audit left rest old new result
+pub answer_run : {E : Type 0} (words : List (String Global)) (audit : Bool) (left rest old new : Option (List ℕ)) (result : Result Status E) → task_of words ≡ Run audit → Serves (lines_reply audit) lines_room left rest old new result
     → IfOk result (λ status. (IsFault status → ⊥) → IfSome left (λ bytes. (status ≡ fate words bytes) × Appends old new (report words bytes)))
 answer_run words audit left rest old new (Ok status) r s = λ n. map_some left _ _
     (λ bytes e. told_by status s.text old new (reply words bytes) (reply_of words (Run audit) bytes r ∙ e) s.appends) (s.ended status refl n)
 answer_run words audit left rest old new (Err e) r s = tt
 
-pub front_run : {E : Type 0} (words : List (String Global)) (audit : Bool) (left rest old new : Option (List ℕ)) (result : Result Status E) → task_of words ≡ Run audit → Serves audit left rest old new result
+pub front_run : {E : Type 0} (words : List (String Global)) (audit : Bool) (left rest old new : Option (List ℕ)) (result : Result Status E) → task_of words ≡ Run audit → Serves (lines_reply audit) lines_room left rest old new result
     → ServesWords words left rest old new result
 front_run words audit left rest old new result r s =
     let read : reads (task_of words) ≡ true = ap reads r in
@@ -82,6 +86,13 @@ front_written words whole left old new result same n f = record {
   none_taken = λ w. refl;
 }
 
+nothing_begun : lines_room [] 0
+nothing_begun = omega arith
+
+nothing_told : (audit : Bool) → lines_reply audit false [] ≡ ends [] Done
+unfolding lines_reply
+nothing_told audit = refl
+
 -- nothing was read or written
 pub front_none : {E : Type 0} (words : List (String Global)) (left known : Option (List ℕ)) (result : Result Status E) → IsErr result → ServesWords words left left known known result
 front_none words left known (Ok status) e = absurd cc
@@ -95,7 +106,7 @@ front_none words left known (Err gone) e = record {
   read_failed = λ audit w r. absurd cc;
   write_failed = λ audit w r. absurd cc;
   past_limit = λ audit w r. absurd cc;
-  in_time = λ audit w. in_time_start audit;
+  in_time = λ audit w. in_time_start (lines_reply audit) lines_room (nothing_told audit) nothing_begun;
   no_read = λ w r. cc;
   no_limit = λ w r. cc;
   none_taken = λ w. refl;

@@ -1,6 +1,5 @@
 pub mod Advance
-pub mod Flowing
-pub mod Streams
+pub mod Marks
 pub mod Headline
 pub mod Numbers
 mod FirstWorlds

@@ -12,8 +12,9 @@ use Rattle.network_steps.specs.Steps.{Step, after}
 use Rattle.step_text.specs.Lines.{line_refused_line}
 use Rattle.report_blocks.specs.Asked.{Asked, asked_of, Nothing, Asks, Unknown}
 use Rattle.report_blocks.specs.Blocks.{opening_text, step_block}
-use Rattle.xcm_cli.specs.declared.status.Status.TheVariants.{LineRefused, TooLong}
-use Rattle.xcm_cli.specs.Report.{Reply, ends, then_on, steps_reply, part_reply, lines_reply, bytes_reply, fits_limits, max_network, steps_in, steps_of, network_bytes}
+use Rattle.line_serving.specs.declared.status.Status.TheVariants.{LineRefused, TooLong}
+use Rattle.line_serving.specs.Replies.{Reply, ends, then_on, bytes_reply, fits_limits}
+use Rattle.xcm_cli.specs.Report.{steps_reply, lines_reply, max_network, steps_in, steps_of, network_bytes}
 use Rattle.xcm_cli.specs.Told.{blocks_of, told_of, TellsOf}
 use Rattle.xcm_cli.proofs.Advance.{nothing_here, block_here, refused_step, long_step}
 
@@ -78,12 +79,12 @@ or_true true = refl
 or_true false = refl
 
 pub input_tells : (audit : Bool) (bytes : List ℕ) (spec : NetworkSpec) → network_of (network_bytes bytes) ≡ Ok spec → length (network_bytes bytes) ≤ max_network
-    → TellsOf (bytes_reply audit bytes) (told_of audit spec (steps_of bytes))
+    → TellsOf (bytes_reply (lines_reply audit) bytes) (told_of audit spec (steps_of bytes))
 unfolding lines_reply
 input_tells audit bytes spec read few =
     let lines = lines_of bytes in
     let fits : nat_le (length (network_bytes bytes)) max_network ≡ true = grind (arith, nat_tests, few) in
-    let whole : bytes_reply audit bytes ≡ then_on (opening_text spec) (steps_reply audit spec (first_world spec) 0 (lines_through lines) (bytes_through lines) (later_lines lines)) =
+    let whole : bytes_reply (lines_reply audit) bytes ≡ then_on (opening_text spec) (steps_reply audit spec (first_world spec) 0 (lines_through lines) (bytes_through lines) (later_lines lines)) =
     rw (fits, or_true (has_mark lines), read) refl in
     tells_as _ _ _ _ whole refl
     (tells_on (opening_text spec) _ _ (lines_tell audit spec (later_lines lines) (first_world spec) 0 (lines_through lines) (bytes_through lines)))

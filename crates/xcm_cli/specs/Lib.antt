@@ -2,6 +2,6 @@ pub mod Words
 pub mod Promise
 pub mod Report
 pub mod Session
-pub mod Feeding
 pub mod Serving
 pub mod Told
+pub mod Laws

@@ -1,7 +1,7 @@
 -- What is written for an input, and how the run ends. Source: this project's own rule.
-use Rattle.std.specs.Prelude.{ℕ, ◌+◌, ◌≤◌, ◌&&◌, ◌||◌, nat_le, List, [], ◌∷◌, ◌++◌, length, Bool, true, false, filter, Result, Ok, Err, codes, String, if◌then◌else◌}
+use Rattle.std.specs.Prelude.{ℕ, ◌+◌, ◌≤◌, ◌||◌, nat_le, List, [], ◌∷◌, length, Bool, true, false, Result, Ok, Err, codes, String, if◌then◌else◌}
 use Rattle.std.specs.declared.alloc.Global.{Global}
-use Rattle.input_lines.specs.Lines.{lines_of, text_of, has_mark, network_part, later_lines, lines_through, bytes_through, without_feed, ends_with}
+use Rattle.input_lines.specs.Lines.{lines_of, text_of, has_mark, network_part, later_lines, lines_through, bytes_through}
 use Rattle.input_lines.specs.Step.{read_line}
 use Rattle.document_forms.specs.declared.fault.NetworkFault.{NetworkFault}
 use Rattle.network_config.specs.Network.{network_of}
@@ -17,20 +17,10 @@ use Rattle.xcm_cli.specs.declared.words.Task.{Task}
 use Rattle.xcm_cli.specs.declared.words.Task.TheVariants.{Run, Generate}
 use Rattle.xcm_cli.specs.declared.words.Task.TheVariants as tasks
 use Rattle.xcm_cli.specs.Words.{task_of}
-use Rattle.xcm_cli.specs.declared.status.Status.{Status}
-use Rattle.xcm_cli.specs.declared.status.Status.TheVariants.{Done, Usage, NetworkRefused, LineRefused, ReadFault, WriteFault, TooLong}
-
--- what is written, and the answer
-pub record Reply : Type 0 where
-  pub text : List ℕ
-  pub status : Status
-
-abbrev pub ends : List ℕ → Status → Reply
-ends text status = record { text = text; status = status }
-
--- this text, and then the rest
-abbrev pub then_on : List ℕ → Reply → Reply
-then_on text rest = record { text = text ++ rest.text; status = rest.status }
+use Rattle.std.specs.List.{concat}
+use Rattle.line_serving.specs.Replies.{Reply, ends, then_on, max_input, max_line, fits_limits, bytes_reply}
+use Rattle.line_serving.specs.declared.status.Status.{Status}
+use Rattle.line_serving.specs.declared.status.Status.TheVariants.{Done, Usage, NetworkRefused, LineRefused, TooLong}
 
 -- ---- texts
 
@@ -39,22 +29,9 @@ usage_text = codes "usage: run | run --audit | gen NUMBER STEPS\n"
 
 -- ---- limits, in bytes
 
--- of an input
-abbrev pub max_input : ℕ
-max_input = 67108864
-
 -- of the network part
 abbrev pub max_network : ℕ
 max_network = 1048576
-
--- of a later line, its line feed left out
-abbrev pub max_line : ℕ
-max_line = 262144
-
--- the line is within its limit, and the input up to its end is, with this many bytes taken before it
-abbrev pub fits_limits : ℕ → List ℕ → Bool
-fits_limits taken line =
-    nat_le (length (without_feed line)) max_line && nat_le (taken + length line) max_input
 
 -- So many bytes of an input, the last of which begin a line, are within the limits so far. While the network part is read, that
 -- line may be the one that ends it, of which at most four bytes can have come: `---` and a carriage return.
@@ -99,17 +76,9 @@ lines_reply audit at_end lines =
     part_reply audit (has_mark lines || at_end) (network_part lines) (lines_through lines)
     (bytes_through lines) (later_lines lines)
 
--- a whole input
-abbrev pub bytes_reply : Bool → List ℕ → Reply
-bytes_reply audit bytes = lines_reply audit true (lines_of bytes)
-
--- the lines of these bytes that have their line feed
-abbrev pub whole_lines : List ℕ → List (List ℕ)
-whole_lines bytes = filter (ends_with 10) (lines_of bytes)
-
--- the whole lines of these bytes, where more may come
-abbrev pub so_far : Bool → List ℕ → Reply
-so_far audit bytes = lines_reply audit false (whole_lines bytes)
+-- where a line that is begun stands behind these lines, of so many bytes: there may be more of it
+abbrev pub lines_room : List (List ℕ) → ℕ → Type 0
+lines_room lines begun = IsWithin (has_mark lines) (length (concat lines) + begun) begun
 
 abbrev pub usage_reply : Reply
 usage_reply = ends usage_text Usage
@@ -120,7 +89,7 @@ generated_reply number steps = ends (generated number steps) Done
 
 -- what is written for an input where this is asked for, and the answer
 abbrev pub task_reply : Task → List ℕ → Reply
-task_reply (Run audit) bytes = bytes_reply audit bytes
+task_reply (Run audit) bytes = bytes_reply (lines_reply audit) bytes
 task_reply (Generate number steps) bytes = generated_reply number steps
 task_reply tasks.Usage bytes = usage_reply
 
@@ -135,16 +104,6 @@ report words bytes = (reply words bytes).text
 -- the fate, decided by the first place in the input
 abbrev pub fate : List (String Global) → List ℕ → Status
 fate words bytes = (reply words bytes).status
-
--- the number that the program ends with
-abbrev pub code_of : Status → ℕ
-code_of Done = 0
-code_of Usage = 2
-code_of NetworkRefused = 3
-code_of LineRefused = 4
-code_of ReadFault = 5
-code_of WriteFault = 6
-code_of TooLong = 7
 
 -- ---- the steps of an input
 

@@ -7,8 +7,9 @@ use Rattle.network_steps.specs.Worlds.{World}
 use Rattle.network_steps.specs.Steps.{Step, after}
 use Rattle.step_text.specs.Lines.{line_refused_line}
 use Rattle.report_blocks.specs.Blocks.{opening_text, step_block}
-use Rattle.xcm_cli.specs.declared.status.Status.TheVariants.{LineRefused}
-use Rattle.xcm_cli.specs.Report.{Reply, network_bytes, steps_of, bytes_reply, max_network}
+use Rattle.line_serving.specs.declared.status.Status.TheVariants.{LineRefused}
+use Rattle.line_serving.specs.Replies.{Reply, bytes_reply}
+use Rattle.xcm_cli.specs.Report.{network_bytes, steps_of, lines_reply, max_network}
 
 -- the blocks of these steps, from a world on, with so many steps before them
 abbrev pub blocks_of : Bool → NetworkSpec → World → ℕ → List Step → List ℕ
@@ -32,4 +33,4 @@ pub record TellsOf (reply : Reply) (told : List ℕ) : Type 0 where
 abbrev pub ReportsTellOfSteps : Type 0
 ReportsTellOfSteps = (audit : Bool) (bytes : List ℕ) (spec : NetworkSpec)
     → network_of (network_bytes bytes) ≡ Ok spec → length (network_bytes bytes) ≤ max_network
-    → TellsOf (bytes_reply audit bytes) (told_of audit spec (steps_of bytes))
+    → TellsOf (bytes_reply (lines_reply audit) bytes) (told_of audit spec (steps_of bytes))

@@ -1,6 +1,6 @@
 //! Where a run stands.
 
-use crate::status::Status;
+use line_serving::Status;
 use report_blocks::AuditedNet;
 
 /// Which part of the input is read.

@@ -1,20 +1,24 @@
 //! A run, a line at a time.
 
-ghost use Rattle.std.specs.Prelude.{◌≡◌, ◌≢◌, ◌⊎◌, ◌||◌, ◌+◌, ◌^◌, ◌<◌, ◌≤◌, ℕ, List, [], ◌∷◌, length, drop, Bool, false, true, Some, None, Ok};
+ghost use Rattle.std.specs.Prelude.{◌≡◌, ◌+◌, ◌<◌, ◌≤◌, ◌^◌, ℕ, List, [], ◌∷◌, length, Bool, false, None, Ok};
 ghost use Rattle.xcm_io.specs.Causes.{Rose};
-ghost use Rattle.input_lines.specs.Lines.{HasNoFeed, ends_network};
 ghost use Rattle.chain_net.specs.Nets.{world_of, spec_of, is_stopped};
-ghost use Rattle.xcm_cli.specs.Report.{lines_reply, steps_reply, fits_limits, max_input};
-ghost use Rattle.xcm_cli.specs.Session.{Writes, Advances, Finishes, HasWriteCause, IsReady, Opens, TakesLines, reply_at, runs_steps};
+ghost use Rattle.line_serving.specs.Replies.{max_input};
+ghost use Rattle.line_serving.specs.Calls.{Advances, HasWriteCause};
+ghost use Rattle.xcm_cli.specs.Report.{lines_reply, steps_reply};
+ghost use Rattle.xcm_cli.specs.Session.{IsReady, Opens, reply_at, runs_steps};
 
-use crate::limits::{MAX_INPUT, MAX_LINE, MAX_NETWORK};
+use crate::limits::MAX_NETWORK;
 use crate::phase::{Opened, Phase, Session};
-use crate::status::Status;
-use input_lines::{ends_network, line_len, read_line, text_of, without_feed};
+use input_lines::{ends_network, read_line, text_of};
+use line_serving::{LineMachine, Status, fits_limits, passes_limits, write_text};
 use report_blocks::{AuditedNet, Served, open_audited, opening_text, serve};
 use std::alloc::{AllocError, Global};
 use step_text::{line_refused_line, network_refused_line};
-use xcm_io::{Sink, write_whole};
+use xcm_io::Sink;
+
+/// What the line that ends the network part may begin with, before its line feed.
+const MARK: &[u8] = b"---\r";
 
 impl Session {
     /// A run at the start of its input.
@@ -32,28 +36,30 @@ impl Session {
             taken: 0,
         }
     }
+}
 
-    /// Takes the next line, with its line feed where it has one.
-    pub(crate) fn take_line<O: Sink>(
+impl LineMachine for Session {
+    ghost use Rattle.xcm_cli.specs.Session.{reply_at, session_rooms, IsReady};
+    ghost use Rattle.xcm_cli.specs.Laws.{nothing_yet, room_at_first};
+
+    ghost replies = { reply_at };
+
+    ghost rooms = { session_rooms };
+
+    ghost taken = { λ s. s.taken };
+
+    ghost is_ready = { IsReady };
+
+    ghost nothing_yet = { nothing_yet };
+
+    ghost room_to_begin = { room_at_first };
+
+    fn take_line<O: Sink>(
         &mut self,
         alloc: Global,
         line: &[u8],
         out: &mut O,
-    ) -> Result<Option<Status>, AllocError>
-        requires ready { IsReady self.old }
-        requires some { 0 < length line.now }
-        requires few { length line.now < 2 ^ 40 }
-        ensures run { Advances
-            (λ (x : Bool × List (List ℕ)). reply_at self.old x.0 (line.now ∷ x.1))
-            (λ x. reply_at self.new x.0 x.1)
-            (reply_at self.old false (line.now ∷ [])).text
-            (O.written out.old) (O.written out.new) result }
-        ensures cause { HasWriteCause (O.faults out.old) (O.faults out.new) result }
-        ensures taken { result ≡ Ok None → self.new.taken ≡ self.old.taken + length line.now }
-        ensures ready { result ≡ Ok None → IsReady self.new }
-        ensures phase { result ≡ Ok None → runs_steps self.new.phase
-            ≡ (runs_steps self.old.phase || ends_network line.now) }
-    {
+    ) -> Result<Option<Status>, AllocError> {
         let before = self.lines;
         let taken = self.taken;
         self.lines += 1;
@@ -82,51 +88,16 @@ impl Session {
         }
     }
 
-    /// Takes each whole line of the bytes, and tells how many bytes these are.
-    pub(crate) fn take_lines<O: Sink>(
-        &mut self,
-        alloc: Global,
-        bytes: &[u8],
-        used: &mut usize,
-        out: &mut O,
-    ) -> Result<Option<Status>, AllocError>
-        requires ready { IsReady self.old }
-        requires few { length bytes.now < 2 ^ 40 }
-        ensures run { TakesLines self.old self.new bytes.now (drop used.new bytes.now)
-            (O.written out.old) (O.written out.new) result }
-        ensures cause { HasWriteCause (O.faults out.old) (O.faults out.new) result }
-        ensures used { used.new ≤ length bytes.now }
-        ensures rest { result ≡ Ok None → HasNoFeed (drop used.new bytes.now) }
-        ensures taken { result ≡ Ok None → self.new.taken ≡ self.old.taken + used.new }
-        ensures ready { result ≡ Ok None → IsReady self.new }
-    {
-        let mut at = 0;
-        while let Some(len) = line_len(&bytes[at..]) {
-            match self.take_line(alloc, &bytes[at..at + len], out) {
-                Ok(None) => at += len,
-                Ok(Some(status)) => {
-                    *used = at;
-                    return Ok(Some(status));
-                }
-                Err(refused) => {
-                    *used = at;
-                    return Err(refused);
-                }
+    fn is_over(&self, pending: &[u8]) -> bool {
+        match &self.phase {
+            Phase::Steps { .. } => passes_limits(self.taken, pending),
+            Phase::Network(part) => {
+                !MARK.starts_with(pending) && part.len() + pending.len() > MAX_NETWORK
             }
         }
-        *used = at;
-        Ok(None)
     }
 
-    /// Ends the run where the input ends.
-    pub(crate) fn finish<O: Sink>(&self, alloc: Global, out: &mut O) -> Result<Status, AllocError>
-        requires { IsReady self.now }
-        ensures run { Finishes (reply_at self.now true []) (O.written out.old)
-            (O.written out.new) result }
-        ensures later { O.faults out.old ≤ O.faults out.new }
-        ensures cause { result ≡ Ok Status.WriteFault → Rose (O.faults out.old) (O.faults out.new) }
-        ensures usage { result ≢ Ok Status.Usage }
-    {
+    fn finish<O: Sink>(&self, alloc: Global, out: &mut O) -> Result<Status, AllocError> {
         match &self.phase {
             Phase::Steps { .. } => Ok(Status::Done),
             Phase::Network(part) => match opened(alloc, part, out) {
@@ -135,19 +106,6 @@ impl Session {
                 Err(refused) => Err(refused),
             },
         }
-    }
-}
-
-/// Writes a text. The answer is the one handed in, or a write fault.
-fn write_text<O: Sink>(out: &mut O, text: &str, answer: Option<Status>) -> Option<Status>
-    ensures text { Writes text.now answer (O.written out.old) (O.written out.new) result }
-    ensures later { O.faults out.old ≤ O.faults out.new }
-    ensures cause { (result ≡ answer)
-        ⊎ ((result ≡ Some Status.WriteFault) × Rose (O.faults out.old) (O.faults out.new)) }
-{
-    match write_whole(out, text.as_bytes()) {
-        Ok(()) => answer,
-        Err(_) => Some(Status::WriteFault),
     }
 }
 
@@ -175,14 +133,6 @@ fn opened<O: Sink>(alloc: Global, part: &[u8], out: &mut O) -> Result<Opened, Al
             }
         }
     }
-}
-
-/// Whether a later line is within its limit, and the input up to its end.
-fn fits_limits(taken: u64, line: &[u8]) -> bool
-    requires { taken + length line.now < 2 ^ 64 }
-    ensures { result ≡ fits_limits taken line.now }
-{
-    without_feed(line).len() <= MAX_LINE && taken + line.len() as u64 <= MAX_INPUT
 }
 
 /// Takes a line after the network, with so many lines and bytes before it.

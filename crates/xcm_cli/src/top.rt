@@ -4,22 +4,23 @@ ghost use Rattle.std.specs.Prelude.{◌≡◌, ◌≢◌, ◌⊎◌, ℕ, true, 
 ghost use Rattle.std.specs.Io.KnownBytes.{Appends, IsAtEnd};
 ghost use Rattle.std.specs.declared.alloc.AllocError.{AllocError};
 ghost use Rattle.xcm_io.specs.Causes.{Rose};
-ghost use Rattle.xcm_cli.specs.Report.{report, fate, ends, usage_reply, generated_reply};
+ghost use Rattle.xcm_cli.specs.Report.{report, fate, usage_reply, generated_reply};
 ghost use Rattle.xcm_cli.specs.Promise.{ReadNetworksAreLawful, CoherentNetworksAreSecure, DrawnStepsAreLawful, DrawnStepsAreSecure};
 ghost use Rattle.xcm_cli.specs.Told.{ReportsTellOfSteps};
 ghost use Rattle.xcm_cli.specs.Words.{task_of, reads};
 ghost use Rattle.xcm_cli.specs.declared.words.Task.TheVariants.{Generate, Usage};
-ghost use Rattle.xcm_cli.specs.Session.{IsFault, Finishes};
+ghost use Rattle.line_serving.specs.Replies.{IsFault};
+ghost use Rattle.line_serving.specs.Calls.{Finishes};
 ghost use Rattle.xcm_cli.specs.Serving.{ServesWords};
 
 use crate::laws::law_of_inputs;
-use crate::serving::serve;
-use crate::status::Status;
+use crate::phase::Session;
 use crate::texts::USAGE;
 use crate::words::{Task, task_of};
 use generator::generate;
+use line_serving::{Status, serve, write_reply};
 use std::alloc::{AllocError, Global};
-use xcm_io::{Sink, Source, write_whole};
+use xcm_io::{Sink, Source};
 
 /// Runs the program. With the words `run` or `run --audit` it reads the input by pieces, runs and reports each line before it reads on, and
 /// answers how the run ended. With `gen`, a number and a number of steps it reports the run of steps that are drawn from the number. With
@@ -83,7 +84,7 @@ pub fn run<I: Source, O: Sink>(
 {
     law_of_inputs(); // For the prover alone.
     match task_of(alloc, words)? {
-        Task::Run { audit } => serve(alloc, audit, input, out),
+        Task::Run { audit } => serve(alloc, Session::new(alloc, audit), input, out),
         Task::Generate { number, steps } => write_generated(alloc, number, steps, out),
         Task::Usage => Ok(write_usage(out)),
     }
@@ -115,21 +116,5 @@ fn write_generated<O: Sink>(
     match generate(alloc, number, steps) {
         Ok(text) => Ok(write_reply(out, &text, Status::Done)),
         Err(refused) => Err(refused),
-    }
-}
-
-/// Writes a text, behind which the run is over with this answer. The answer is the one handed in, or a write fault.
-fn write_reply<O: Sink>(out: &mut O, text: &str, answer: Status) -> Status
-    requires read { answer ≢ Status.ReadFault }
-    requires write { answer ≢ Status.WriteFault }
-    requires long { answer ≢ Status.TooLong }
-    ensures run { Finishes {E = AllocError} (ends text.now answer) (O.written out.old)
-        (O.written out.new) (Ok result) }
-    ensures answer { (result ≡ answer) ⊎ (result ≡ Status.WriteFault) }
-    ensures cause { result ≡ Status.WriteFault → Rose (O.faults out.old) (O.faults out.new) }
-{
-    match write_whole(out, text.as_bytes()) {
-        Ok(()) => answer,
-        Err(_) => Status::WriteFault,
     }
 }

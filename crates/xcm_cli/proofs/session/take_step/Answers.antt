@@ -4,8 +4,9 @@ use Rattle.input_lines.specs.Step.{read_line}
 use Rattle.chain_net.specs.Nets.{world_of, spec_of}
 use Rattle.report_blocks.specs.Asked.{asked_of, Nothing, Asks, Unknown}
 use Rattle.report_blocks.specs.Serving.{IsServed}
-use Rattle.xcm_cli.specs.Report.{fits_limits}
-use Rattle.xcm_cli.proofs.Advance.{stays, stops, refuses, writes_on, writes_end, served_nothing, served_block, served_unknown, no_step, block_step, refused_step, long_step}
+use Rattle.line_serving.specs.Replies.{fits_limits}
+use Rattle.line_serving.specs.Laws.{stays, stops, refuses, writes_on, writes_end}
+use Rattle.xcm_cli.proofs.Advance.{served_nothing, served_block, served_unknown, no_step, block_step, refused_step, long_step}
 use Rattle.xcm_cli.proofs.session.take_step.Goals as goal
 
 pub returns-then-not-fits_limits-clause-run : goal.returns-then-not-fits_limits-clause-run

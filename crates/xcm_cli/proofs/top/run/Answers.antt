@@ -1,6 +1,7 @@
 use Rattle.std.proofs.Common.{◌≡◌, ◌∙◌, [], sym, ap, true, Some}
 use Rattle.xcm_cli.specs.declared.words.Task.TheVariants.{Run, Generate, Usage}
 use Rattle.xcm_cli.specs.Words.{task_of, reads}
+use Rattle.xcm_cli.proofs.Advance.{serves_first}
 use Rattle.xcm_cli.proofs.Headline.{reply_of, answer_run, front_run, answer_written, front_written, front_none}
 use Rattle.xcm_cli.proofs.top.run.Goals as goal
 
@@ -37,7 +38,7 @@ returns-in-Generate-clause-front g c =
 pub returns-in-Run-clause-answer : goal.returns-in-Run-clause-answer
 returns-in-Run-clause-answer g c =
     let words : task_of c.args.words.now ≡ Run c.in-Run.audit = sym c.in_ok-audit.ensures ∙ c.in-Run.is in
-    answer_run _ _ _ _ _ _ _ words c.serve.ensures.run
+    answer_run _ _ _ _ _ _ _ words (serves_first _ c.new.result _ _ _ _ _ c.new.ensures.start c.new.ensures.phase c.new.ensures.taken c.serve.ensures.run)
 
 pub returns-in-Run-clause-unread : goal.returns-in-Run-clause-unread
 returns-in-Run-clause-unread g c =
@@ -47,7 +48,7 @@ returns-in-Run-clause-unread g c =
 pub returns-in-Run-clause-front : goal.returns-in-Run-clause-front
 returns-in-Run-clause-front g c =
     let words : task_of c.args.words.now ≡ Run c.in-Run.audit = sym c.in_ok-audit.ensures ∙ c.in-Run.is in
-    front_run _ _ _ _ _ _ _ words c.serve.ensures.run
+    front_run _ _ _ _ _ _ _ words (serves_first _ c.new.result _ _ _ _ _ c.new.ensures.start c.new.ensures.phase c.new.ensures.taken c.serve.ensures.run)
 
 pub returns-in_err-audit-clause-front : goal.returns-in_err-audit-clause-front
 returns-in_err-audit-clause-front g c = front_none _ _ _ c.from_residual.result c.from_residual.ensures.0

@@ -4,9 +4,9 @@ use Rattle.chain_net.specs.Nets.{world_of, spec_of}
 use Rattle.xcm_cli.specs.Report.{network_reply, steps_reply}
 use Rattle.xcm_cli.specs.Session.{reply_at}
 use Rattle.xcm_cli.specs.declared.phase.Opened.TheVariants.{Runs, Over}
-use Rattle.xcm_cli.specs.declared.status.Status.TheVariants.{NetworkRefused, WriteFault}
+use Rattle.line_serving.specs.declared.status.Status.TheVariants.{NetworkRefused, WriteFault}
 use Rattle.xcm_cli.proofs.Advance.{at_end, part_within, finishes_steps, finishes_some, finishes_none, opens_runs, opens_over, over_status}
-use Rattle.xcm_cli.proofs.phase.Session.finish.Goals as goal
+use Rattle.xcm_cli.proofs.session.SessionLineMachine.finish.Goals as goal
 
 pub returns-in-Steps-clause-run : goal.returns-in-Steps-clause-run
 returns-in-Steps-clause-run g c = finishes_steps _ _ _ _ c.in-Steps.is

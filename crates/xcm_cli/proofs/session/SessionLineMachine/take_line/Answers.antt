@@ -4,8 +4,10 @@ use Rattle.network_config.specs.Network.{network_of}
 use Rattle.xcm_cli.specs.Report.{network_reply}
 use Rattle.input_lines.specs.Laws.{mark_short}
 use Rattle.xcm_cli.specs.declared.phase.Opened.TheVariants.{Runs, Over}
-use Rattle.xcm_cli.proofs.Advance.{stays, stops, line_kept, line_over, line_ends, at_steps, advances_as, part_within, ready_steps, opens_runs, opens_over}
-use Rattle.xcm_cli.proofs.phase.Session.take_line.Goals as goal
+use Rattle.line_serving.specs.Laws.{stays, stops, advances_as}
+use Rattle.xcm_cli.specs.Laws.{at_steps}
+use Rattle.xcm_cli.proofs.Advance.{line_kept, line_over, line_ends, part_within, ready_steps, opens_runs, opens_over}
+use Rattle.xcm_cli.proofs.session.SessionLineMachine.take_line.Goals as goal
 
 pub returns-then-len-line-gt-MAX_NETWORK-clause-run : goal.returns-then-len-line-gt-MAX_NETWORK-clause-run
 returns-then-len-line-gt-MAX_NETWORK-clause-run g c =
