@@ -1,4 +1,5 @@
 mod Apart
-mod Draining
+mod DrainLines
 mod Reading
 pub mod Listed
+mod Keeping

@@ -1,19 +1,16 @@
 -- No step changes what chains list.
-use Rattle.std.proofs.Common.{◌≡◌, ◌∙◌, ℕ, zero, suc, List, [], ◌∷◌, map, Option, Some, None, refl, sym, ap, subst}
-use Rattle.std.specs.Prelude.{IfSome}
+use Rattle.std.proofs.Common.{◌≡◌, ◌∙◌, ℕ, zero, suc, List, [], ◌∷◌, map, Option, Some, None, refl, sym, ap}
 use Rattle.std.specs.Option.{option_map_or}
 use Rattle.chain_ids.specs.declared.chain.ChainId.{ChainId}
 use Rattle.coherence.specs.Networks.{Table}
 use Rattle.exec_admission.specs.declared.rules.ChainRules.{ChainRules}
-use Rattle.network_steps.specs.Worlds.{World, Stepped}
+use Rattle.network_steps.specs.Worlds.{World}
 use Rattle.network_steps.specs.Fixed.{Fixed, all_settings}
 use Rattle.network_steps.specs.Steps.{Link, Step, exec, deliver, claim, after, next_channel, deliveries, world_behind}
 use Rattle.network_steps.specs.Sends.{deliveries_left}
 use Rattle.network_steps.specs.Steps as steps
 use Rattle.supply_audit.specs.Places.{table_of}
-use Rattle.report_text.specs.Planned.{Plan}
-use Rattle.report_text.specs.Plan.{plan_of}
-use Rattle.report_blocks.specs.Tables.{tables_of, IsPlanOf}
+use Rattle.report_blocks.specs.Tables.{tables_of}
 
 abbrev table_in : ChainRules × Fixed → Table
 table_in s = record { site = s.1.settings.site; rows = s.1.settings.rows }
@@ -51,8 +48,3 @@ module _ (keeps : KeepsSettings) (order : List Link) where
   tables_kept w steps.Traps = refl
   tables_kept w steps.Queues = refl
   tables_kept w steps.Supply = refl
-
-  -- so a plan stays right
-  pub still_planned : (plan : Option Plan) (w now : World) (step : Step) → now ≡ after order w step → IsPlanOf plan w → IsPlanOf plan now
-  still_planned plan w now step is planned =
-      subst (λ (ts : List Table). IfSome plan (λ (p : Plan). p ≡ plan_of ts)) (sym (ap tables_of is ∙ tables_kept w step)) planned

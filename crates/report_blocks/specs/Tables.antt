@@ -1,14 +1,31 @@
--- What the chains of a world list, which no step changes, and a plan of its supply block. This project's own rule.
-use Rattle.std.specs.Prelude.{◌≡◌, List, Option, IfSome, map}
+-- What the chains of a world list, which no step changes, and what is kept of a world's supply block. This project's own rule.
+use Rattle.std.specs.Prelude.{◌≡◌, ℕ, false, List, Option, IfSome, map, ⊤}
 use Rattle.coherence.specs.Networks.{Table}
 use Rattle.network_steps.specs.Worlds.{World, parts_of}
 use Rattle.supply_audit.specs.Places.{table_of}
-use Rattle.report_text.specs.Planned.{Plan}
+use Rattle.supply_audit.specs.Stale.{is_stale}
 use Rattle.report_text.specs.Plan.{plan_of}
+use Rattle.report_text.specs.Sheets.{IsSheetOf}
+use Rattle.report_blocks.specs.declared.kept_block.KeptBlock.{KeptBlock}
+use Rattle.report_blocks.specs.declared.kept_block.KeptBlock.TheVariants.{Planned, Written}
 
 abbrev pub tables_of : World → List Table
 tables_of w = map table_of (parts_of w)
 
--- a plan, where there is one, is that of the world
-abbrev pub IsPlanOf : Option Plan → World → Type 0
-IsPlanOf plan w = IfSome plan (λ (p : Plan). p ≡ plan_of (tables_of w))
+-- the plan is that of the world, or the lines are, but for chains that may have changed
+abbrev pub IsBlockOf : KeptBlock → World → Type 0
+IsBlockOf (Planned plan) w = plan ≡ plan_of (tables_of w)
+IsBlockOf (Written sheet) w = IsSheetOf (parts_of w) sheet
+
+-- where something is kept
+abbrev pub IsKeptOf : Option KeptBlock → World → Type 0
+IsKeptOf kept w = IfSome kept (λ block. IsBlockOf block w)
+
+-- the chain of this number counts as changed, where lines are kept
+abbrev pub IsChangedIn : KeptBlock → ℕ → Type 0
+IsChangedIn (Planned plan) number = ⊤
+IsChangedIn (Written sheet) number =
+    (chain : ℕ) → is_stale sheet.stale chain ≡ false → chain ≡ number → ⊥
+
+abbrev pub CountsAsChanged : Option KeptBlock → ℕ → Type 0
+CountsAsChanged kept number = IfSome kept (λ block. IsChangedIn block number)

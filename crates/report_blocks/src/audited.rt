@@ -1,17 +1,19 @@
-//! A network with the plan of its supply block.
+//! A network with what is kept of its supply block.
 ghost use Rattle.std.specs.Prelude.{◌≡◌, IfOk};
 
+use crate::KeptBlock;
 use chain_net::Net;
 use report_text::SupplyPlan;
 use std::alloc::{AllocError, Global};
 use std::marker::Model;
 
-/// A network with the plan of its supply block, which is made once, since no step changes what chains list. Contracts see it as the network.
+/// A network with its supply block as it is kept between steps: the plan, which is made once, since no step changes what chains list, or the lines as
+/// they were written last. Contracts see it as the network.
 #[derive(Drop)]
 pub struct AuditedNet {
     pub(crate) net: Net,
     // None while a step runs, and where memory was refused to it.
-    pub(crate) plan: Option<SupplyPlan>,
+    pub(crate) kept: Option<KeptBlock>,
 }
 
 impl Model for AuditedNet {
@@ -25,9 +27,9 @@ impl Model for AuditedNet {
     ghost view = { λ a. a.net };
 
     ghost use Rattle.chain_net.specs.Nets.{world_of};
-    ghost use Rattle.report_blocks.specs.Tables.{IsPlanOf};
+    ghost use Rattle.report_blocks.specs.Tables.{IsKeptOf};
 
-    ghost invariant = { λ a. IsPlanOf a.plan (world_of a.net) };
+    ghost invariant = { λ a. IsKeptOf a.kept (world_of a.net) };
 }
 
 impl AuditedNet {
@@ -38,7 +40,7 @@ impl AuditedNet {
         let plan = SupplyPlan::of(alloc, net.chains())?;
         Ok(AuditedNet {
             net,
-            plan: Some(plan),
+            kept: Some(KeptBlock::Planned(plan)),
         })
     }
 }

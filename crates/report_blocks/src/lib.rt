@@ -2,6 +2,10 @@
 #![tactic(auto)]
 
 mod audited;
+mod draining;
+mod kept_block;
+mod marked_steps;
+mod marking;
 mod opening;
 mod reads;
 mod served;
@@ -11,6 +15,7 @@ mod title;
 mod titles;
 
 pub use audited::AuditedNet;
+pub(crate) use kept_block::KeptBlock;
 pub use opening::{open_audited, open_network, opening_text};
 pub use served::Served;
 pub use serving::serve;

@@ -6,7 +6,7 @@ ghost use Rattle.report_blocks.specs.Blocks as blocks;
 ghost use Rattle.report_blocks.specs.Serving.{IsOpened, IsRefused};
 
 use crate::AuditedNet;
-use crate::reads::{coherence_line, supply_block};
+use crate::reads::{coherence_line, first_supply_block};
 use chain_net::Net;
 use document_forms::NetworkFault;
 use network_config::read_network;
@@ -54,7 +54,7 @@ pub fn opening_text(alloc: Global, net: &AuditedNet) -> Result<String, AllocErro
     ensures text { IfOk result (λ text. string_bytes text ≡ blocks.opening_text (spec_of net.now)) }
 {
     let mut text = coherence_line(alloc, &net.net)?;
-    let sums = supply_block(alloc, &net.net, &net.plan)?;
+    let sums = first_supply_block(alloc, &net.net, &net.kept)?;
     text.push_str(&sums)?;
     Ok(text)
 }

@@ -1,13 +1,18 @@
 //! What is read of a network for its report.
-ghost use Rattle.std.specs.Prelude.{◌≡◌, IfOk, string_bytes};
+ghost use Rattle.std.specs.Prelude.{◌≡◌, IfOk, OnOk, Some, List, string_bytes};
 ghost use Rattle.network_genesis.specs.Genesis.{order_of};
 ghost use Rattle.chain_net.specs.Nets.{world_of, spec_of};
-ghost use Rattle.report_blocks.specs.Tables.{IsPlanOf};
+ghost use Rattle.exec_base.specs.Part.{ChainPart};
+ghost use Rattle.report_text.specs.Block as supply;
+ghost use Rattle.report_text.specs.Sheets.{IsWrittenOf};
+ghost use Rattle.report_blocks.specs.declared.kept_block.KeptBlock.TheVariants as kinds;
+ghost use Rattle.report_blocks.specs.Tables.{IsKeptOf};
 ghost use Rattle.report_blocks.specs.Reads as reads;
 
+use crate::KeptBlock;
 use chain_net::Net;
 use network_coherence::coherent;
-use report_text::{SupplyPlan, balances_text, queues_text, traps_text};
+use report_text::{SupplySheet, balances_text, queues_text, traps_text};
 use std::alloc::{AllocError, Global};
 use step_text::opening_line;
 
@@ -43,17 +48,55 @@ pub(crate) fn queues_block(alloc: Global, net: &Net) -> Result<String, AllocErro
     queues_text(alloc, net.spec().channels.items(), net.chains())
 }
 
-/// What the network has of each asset that is native somewhere, and what backs each derivative; by a plan, where there is one.
+/// What the network has of each asset that is native somewhere, and what backs each derivative; by the plan, where there is one.
+pub(crate) fn first_supply_block(
+    alloc: Global,
+    net: &Net,
+    kept: &Option<KeptBlock>,
+) -> Result<String, AllocError>
+    requires { IsKeptOf kept.now (world_of net.now) }
+    ensures { IfOk result (λ text. string_bytes text ≡ reads.supply_block (world_of net.now)) }
+{
+    match kept {
+        Some(KeptBlock::Planned(plan)) => plan.block(alloc, net.chains()),
+        _ => report_text::supply_block(alloc, net.chains()),
+    }
+}
+
+/// The lines of a sheet, which are those of the network; the sheet is kept.
+fn written(
+    alloc: Global,
+    kept: &mut Option<KeptBlock>,
+    sheet: SupplySheet,
+) -> Result<String, AllocError>
+    ensures text { IfOk result (λ text. (parts : List ChainPart) → IsWrittenOf parts sheet
+        → string_bytes text ≡ supply.supply_block parts) }
+    ensures kept { OnOk result (kept.new ≡ Some (kinds.Written sheet)) }
+{
+    let text = sheet.text(alloc)?;
+    *kept = Some(KeptBlock::Written(sheet));
+    Ok(text)
+}
+
+/// The same by what is kept of the block, whose lines are then those of the network as it is.
 pub(crate) fn supply_block(
     alloc: Global,
     net: &Net,
-    plan: &Option<SupplyPlan>,
+    kept: &mut Option<KeptBlock>,
 ) -> Result<String, AllocError>
-    requires { IsPlanOf plan.now (world_of net.now) }
-    ensures { IfOk result (λ text. string_bytes text ≡ reads.supply_block (world_of net.now)) }
+    requires { IsKeptOf kept.old (world_of net.now) }
+    ensures text { IfOk result (λ text. string_bytes text ≡ reads.supply_block (world_of net.now)) }
+    ensures kept { OnOk result (IsKeptOf kept.new (world_of net.now)) }
 {
-    match plan {
-        Some(plan) => plan.block(alloc, net.chains()),
+    match kept.take() {
         None => report_text::supply_block(alloc, net.chains()),
+        Some(KeptBlock::Planned(plan)) => {
+            let sheet = SupplySheet::of(alloc, plan, net.chains())?;
+            written(alloc, kept, sheet)
+        }
+        Some(KeptBlock::Written(mut sheet)) => {
+            sheet.renew(alloc, net.chains())?;
+            written(alloc, kept, sheet)
+        }
     }
 }

@@ -10,7 +10,6 @@ use crate::title::Title;
 use crate::titles::title_of;
 use crate::{AuditedNet, Served};
 use input_lines::Line;
-use network_steps::law_of_settings;
 use std::alloc::{AllocError, Global};
 use step_text::heading;
 
@@ -31,20 +30,19 @@ pub fn serve(
     ensures running { OnOk result (is_stopped net.new ≡ false) }
     ensures spec { spec_of net.new ≡ spec_of net.old }
 {
-    law_of_settings(); // For the prover alone.
     let words = match title_of(line) {
         Title::Nothing => return Ok(Served::Nothing),
         Title::Unknown => return Ok(Served::Unknown),
         Title::Step(words) => words,
     };
     let mut text = heading(alloc, number, words)?;
-    let plan = net.plan.take();
-    let lines = step_lines(alloc, &mut net.net, &plan, line)?;
-    net.plan = plan;
+    let mut kept = net.kept.take();
+    let lines = step_lines(alloc, &mut net.net, &mut kept, line)?;
     text.push_str(&lines)?;
     if audit {
-        let sums = supply_block(alloc, &net.net, &net.plan)?;
+        let sums = supply_block(alloc, &net.net, &mut kept)?;
         text.push_str(&sums)?;
     }
+    net.kept = kept;
     Ok(Served::Block(text))
 }

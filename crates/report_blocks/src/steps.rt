@@ -2,36 +2,31 @@
 ghost use Rattle.std.specs.Prelude.{◌≡◌, IfOk, OnOk, false, string_bytes};
 ghost use Rattle.chain_net.specs.Nets.{world_of, spec_of, is_stopped};
 ghost use Rattle.report_blocks.specs.Asked.{asked_of};
-ghost use Rattle.report_blocks.specs.Blocks.{drain_lines, lines_of_step};
-ghost use Rattle.report_blocks.specs.Tables.{IsPlanOf};
+ghost use Rattle.report_blocks.specs.Tables.{IsKeptOf};
 ghost use Rattle.report_blocks.specs.Serving.{IsRun, IsStep};
-ghost use Rattle.network_steps.specs.Steps.{drain, after, exec, deliver, claim};
-ghost use Rattle.network_steps.specs.Steps as steps;
-ghost use Rattle.network_genesis.specs.Genesis.{order_of};
 
+use crate::KeptBlock;
+use crate::marked_steps::{claim_step, deliver_step, drain_step, exec_step};
 use crate::reads::{balances_block, queues_block, supply_block, traps_block};
-use chain_ids::ChainId;
-use chain_net::{Net, law_of_reached_nets};
+use chain_net::Net;
 use input_lines::Line;
-use message_shapes::law_of_drains;
-use report_text::SupplyPlan;
 use std::alloc::{AllocError, Global};
-use step_text::{drained_line, step_text};
 
 /// Runs the step that the line asks for, and gives the lines that stand below its heading.
 #[tactic(auto, unfolding(crate::specs::Asked::asked_of, crate::specs::Blocks::step_lines))]
 pub(crate) fn step_lines(
     alloc: Global,
     net: &mut Net,
-    plan: &Option<SupplyPlan>,
+    kept: &mut Option<KeptBlock>,
     line: &Line,
 ) -> Result<String, AllocError>
     requires running { is_stopped net.old ≡ false }
     requires step { IsStep (asked_of line.now) }
-    requires plan { IsPlanOf plan.now (world_of net.old) }
+    requires kept { IsKeptOf kept.old (world_of net.old) }
     ensures run { IfOk result
         (λ text. IsRun (spec_of net.old) (world_of net.old) (asked_of line.now) (string_bytes text)
         (world_of net.new)) }
+    ensures kept { OnOk result (IsKeptOf kept.new (world_of net.new)) }
     ensures running { OnOk result (is_stopped net.new ≡ false) }
     ensures spec { spec_of net.new ≡ spec_of net.old }
 {
@@ -40,64 +35,16 @@ pub(crate) fn step_lines(
             chain,
             account,
             message,
-        } => {
-            let answer = net.exec(*chain, account, message.items())?;
-            step_text(alloc, net.trace(), &answer)
-        }
-        Line::Deliver { from, to } => {
-            let answer = net.deliver(*from, *to)?;
-            step_text(alloc, net.trace(), &answer)
-        }
+        } => exec_step(alloc, net, kept, *chain, account, message.items()),
+        Line::Deliver { from, to } => deliver_step(alloc, net, kept, *from, *to),
         Line::Claim { from, to, message } => {
-            let answer = net.claim(*from, *to, message.items())?;
-            step_text(alloc, net.trace(), &answer)
+            claim_step(alloc, net, kept, *from, *to, message.items())
         }
-        Line::Drain => drained(alloc, net),
+        Line::Drain => drain_step(alloc, net, kept),
         Line::Balances => balances_block(alloc, net),
         Line::Traps => traps_block(alloc, net),
         Line::Queues => queues_block(alloc, net),
-        Line::Supply => supply_block(alloc, net, plan),
+        Line::Supply => supply_block(alloc, net, kept),
         Line::NoStep | Line::Refused => unreachable!(),
     }
-}
-
-/// Delivers until no message waits, and gives the lines of all deliveries. `Err` is out of memory, or more than 2^64-1 deliveries.
-fn drained(alloc: Global, net: &mut Net) -> Result<String, AllocError>
-    requires running { is_stopped net.old ≡ false }
-    ensures lines { IfOk result (λ text. string_bytes text
-        ≡ drain_lines (drain (order_of (spec_of net.old)) (world_of net.old))) }
-    ensures world { OnOk result (world_of net.new
-        ≡ after (order_of (spec_of net.old)) (world_of net.old) steps.Drain) }
-    ensures running { OnOk result (is_stopped net.new ≡ false) }
-    ensures spec { spec_of net.new ≡ spec_of net.old }
-{
-    // For the prover alone.
-    law_of_drains();
-    law_of_reached_nets();
-    let mut text = String::new(alloc);
-    let mut count: u64 = 0;
-    'deliveries: while let Some((from, to)) = net.next_channel() {
-        let lines = delivered(alloc, net, from, to)?;
-        text.push_str(&lines)?;
-        let Some(more) = count.checked_add(1) else {
-            return Err(AllocError);
-        };
-        count = more;
-    }
-    let last = drained_line(alloc, count)?;
-    text.push_str(&last)?;
-    Ok(text)
-}
-
-/// Delivers the oldest message of a channel, and gives the lines of the delivery.
-fn delivered(alloc: Global, net: &mut Net, from: ChainId, to: ChainId) -> Result<String, AllocError>
-    requires running { is_stopped net.old ≡ false }
-    ensures lines { IfOk result (λ text. string_bytes text
-        ≡ lines_of_step (deliver (world_of net.old) from to)) }
-    ensures world { OnOk result (world_of net.new ≡ (deliver (world_of net.old) from to).world) }
-    ensures running { OnOk result (is_stopped net.new ≡ false) }
-    ensures spec { spec_of net.new ≡ spec_of net.old }
-{
-    let answer = net.deliver(from, to)?;
-    step_text(alloc, net.trace(), &answer)
 }

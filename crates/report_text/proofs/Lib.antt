@@ -6,3 +6,5 @@ pub mod Homes
 pub mod Found
 pub mod Links
 pub mod Planning
+pub mod Sheets
+pub mod Mapped

@@ -21,8 +21,8 @@ use trust_tables::{AssetRole, AssetRow, Site};
 /// The line of a derivative: its beginning, and where it and what covers it stand.
 #[derive(Drop)]
 pub(crate) struct BackingEntry {
-    beginning: String,
-    cover: Option<Cover>,
+    pub(crate) beginning: String,
+    pub(crate) cover: Option<Cover>,
 }
 
 impl Model for BackingEntry {

@@ -50,6 +50,14 @@ impl SupplyPlan {
         self.text(alloc, chains)
     }
 
+    /// Its entries.
+    pub(crate) fn entries(self) -> (Vec<SupplyEntry>, Vec<BackingEntry>)
+        ensures supplies { result.0.items ≡ self.supplies }
+        ensures backings { result.1.items ≡ self.backings }
+    {
+        (self.supplies, self.backings)
+    }
+
     /// The lines of the plan, with the figures of these chains.
     fn text(&self, alloc: Global, chains: &[ChainState]) -> Result<String, AllocError>
         ensures { IfOk result (λ text. string_bytes text

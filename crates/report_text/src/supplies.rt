@@ -17,8 +17,8 @@ use supply_audit::{HomePlaces, NetworkAsset, Place, supply_at};
 /// The line of an asset: its beginning, and where the rows stand whose figures it has.
 #[derive(Drop)]
 pub(crate) struct SupplyEntry {
-    beginning: String,
-    places: Vec<Place>,
+    pub(crate) beginning: String,
+    pub(crate) places: Vec<Place>,
 }
 
 impl Model for SupplyEntry {

@@ -1,6 +1,6 @@
 -- Where the derivative in a chain's row stands and what covers it, by what chains list, and its figures by these places. This project's own
 -- rule.
-use Rattle.std.specs.Prelude.{ℕ, ◌+◌, true, List, Option, Some, None, slice_get}
+use Rattle.std.specs.Prelude.{ℕ, ◌+◌, Bool, true, false, List, Option, Some, None, slice_get}
 use Rattle.std.specs.List.{position_or_len}
 use Rattle.chain_ids.specs.declared.chain.ChainId.{ChainId}
 use Rattle.chain_ids.specs.Chains.{same_chain}
@@ -13,6 +13,7 @@ use Rattle.exec_base.specs.Part.{ChainPart}
 use Rattle.supply_audit.specs.declared.figures.Carried.TheVariants.{Deposits, Withdrawals}
 use Rattle.supply_audit.specs.declared.figures.Figure.TheVariants.{Placed, Account, Sent}
 use Rattle.supply_audit.specs.RowPlaces.{chain_places, over_places}
+use Rattle.supply_audit.specs.Stale.{are_touched}
 use Rattle.supply_audit.specs.Covered.{Covered}
 
 -- the number of the first chain of this name, or how many chains there are
@@ -57,6 +58,24 @@ abbrev pub owed_at : List ChainPart → Covered → ℕ
 owed_at parts c =
     over_places Placed parts c.own + over_places (Sent Deposits (Some c.here)) parts c.kept
     + over_places (Sent Withdrawals (Some c.there)) parts c.own
+
+-- what is on its way to the chain, and what the chain has with what is on its way back: the one hangs on the reserve alone, the other on the
+-- chain
+abbrev pub coming_at : List ChainPart → Covered → ℕ
+coming_at parts c = over_places (Sent Deposits (Some c.here)) parts c.kept
+
+abbrev pub standing_at : List ChainPart → Covered → ℕ
+standing_at parts c =
+    over_places Placed parts c.own + over_places (Sent Withdrawals (Some c.there)) parts c.own
+
+-- a place at the chain, or one at the reserve, is at a chain that may have changed
+abbrev pub own_touched : List Bool → Option Covered → Bool
+own_touched stale None = false
+own_touched stale (Some c) = are_touched stale c.own
+
+abbrev pub kept_touched : List Bool → Option Covered → Bool
+kept_touched stale None = false
+kept_touched stale (Some c) = are_touched stale c.kept
 
 -- a figure of a derivative; 0 where there is none
 abbrev pub of_cover : (Covered → ℕ) → Option Covered → ℕ

@@ -10,3 +10,6 @@ pub mod AssetPlaces
 pub mod Covers
 pub mod PlaceLaws
 pub mod ListLaws
+pub mod Stale
+pub mod StaleLaws
+pub mod Renewed

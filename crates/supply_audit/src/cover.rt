@@ -1,5 +1,5 @@
 //! Where a derivative and what covers it stand.
-ghost use Rattle.std.specs.Prelude.{◌≡◌, min, map, IfOk, IsTrue, Some, None, option_map, position, slice_get};
+ghost use Rattle.std.specs.Prelude.{◌≡◌, ◌+◌, min, map, IfOk, IsTrue, Some, None, option_map, position, slice_get};
 ghost use Rattle.std.specs.Option.{option_copied};
 ghost use Rattle.asset_bundles.specs.Books.{most_burned};
 ghost use Rattle.asset_bundles.specs.Totals.{total_value};
@@ -8,8 +8,12 @@ ghost use Rattle.chain_ids.specs.Chains.{same_chain};
 ghost use Rattle.network_genesis.specs.Tests.{has_path};
 ghost use Rattle.chain_state.specs.PartOf.{part_of};
 ghost use Rattle.supply_audit.specs.Places.{table_of};
+ghost use Rattle.supply_audit.specs.declared.figures.Carried.TheVariants.{Withdrawals};
+ghost use Rattle.supply_audit.specs.declared.figures.Figure.TheVariants.{Placed, Sent};
+ghost use Rattle.supply_audit.specs.RowPlaces as places;
 ghost use Rattle.supply_audit.specs.AssetPlaces.{ArePlaces, HavePlacesOf};
-ghost use Rattle.supply_audit.specs.Covers.{cover_at, cover_between, cover_by, cover_of_row, cover_of_chain, number_of, of_cover, held_at, owed_at};
+ghost use Rattle.supply_audit.specs.Covers.{cover_at, cover_between, cover_by, cover_of_row, cover_of_chain, number_of, of_cover, held_at, owed_at, coming_at, standing_at, own_touched, kept_touched};
+ghost use Rattle.supply_audit.specs.Renewed.{HasFigures, IsRenewed};
 
 use crate::asset_places::AssetPlaces;
 use crate::audit::name_of;
@@ -17,6 +21,7 @@ use crate::figures::{Carried, Figure};
 use crate::messages::same_chain;
 use crate::network_asset::NetworkAsset;
 use crate::over_places::{chain_of, over_places};
+use crate::stale::are_touched;
 use crate::totals::none;
 use crate::{Backing, Place};
 use asset_bundles::Total;
@@ -57,7 +62,7 @@ fn place_of(chains: &[ChainState], chain: ChainId) -> Option<usize>
 }
 
 /// The number of the first chain of this name, or how many chains there are.
-fn number_of(chains: &[ChainState], chain: ChainId) -> usize
+pub fn number_of(chains: &[ChainState], chain: ChainId) -> usize
     ensures { result ≡ number_of (map table_of (map part_of chains.now)) chain }
 {
     place_of(chains, chain).unwrap_or(chains.len())
@@ -101,6 +106,23 @@ impl Cover {
         over_places(Figure::Account(who), chains, self.kept.as_slice())
     }
 
+    /// What is on its way to the chain as deposits.
+    fn coming(&self, chains: &[ChainState]) -> Total
+        ensures { total_value result
+            ≡ min (coming_at (map part_of chains.now) self.now) most_burned }
+    {
+        let to_here = Figure::Sent(Carried::Deposits, Some(self.here));
+        over_places(to_here, chains, self.kept.as_slice())
+    }
+
+    /// What the chain has, with what is on its way back as withdrawals.
+    fn standing(&self, chains: &[ChainState]) -> Total
+        ensures { total_value result
+            ≡ min (standing_at (map part_of chains.now) self.now) most_burned }
+    {
+        standing_over(chains, self.there, self.own.as_slice())
+    }
+
     /// What the chain has, with what is on its way to it and back.
     fn owed(&self, chains: &[ChainState]) -> Total
         ensures { total_value result ≡ min (owed_at (map part_of chains.now) self.now) most_burned }
@@ -131,6 +153,18 @@ fn owed_over(
     placed.sum(coming).sum(leaving)
 }
 
+/// What stands at a chain's own places, with what is on its way back to the reserve as withdrawals.
+fn standing_over(chains: &[ChainState], there: ChainId, own: &[Place]) -> Total
+    ensures { total_value result ≡ min (places.over_places Placed (map part_of chains.now) own.now
+        + places.over_places (Sent Withdrawals (Some there)) (map part_of chains.now) own.now)
+        most_burned }
+{
+    let to_there = Figure::Sent(Carried::Withdrawals, Some(there));
+    let placed = over_places(Figure::Placed, chains, own);
+    let leaving = over_places(to_there, chains, own);
+    placed.sum(leaving)
+}
+
 /// How a derivative is covered, by where it stands: what the chain's account at the reserve has, and what is owed: what the chain has, what
 /// is on its way to it as deposits, and what is on its way back as withdrawals. Both are 0 where there is none. It takes no memory.
 pub fn backing_at(chains: &[ChainState], cover: &Option<Cover>) -> Backing
@@ -149,6 +183,97 @@ pub fn backing_at(chains: &[ChainState], cover: &Option<Cover>) -> Backing
             owed: cover.owed(chains),
         },
     }
+}
+
+/// Whether a derivative's own places, or those at its reserve, are at a chain that has changed, by a flag for each chain.
+fn touched(stale: &[bool], cover: &Option<Cover>) -> (bool, bool)
+    ensures own { result.0 ≡ own_touched stale.now cover.now }
+    ensures kept { result.1 ≡ kept_touched stale.now cover.now }
+{
+    match cover {
+        None => (false, false),
+        Some(cover) => (
+            are_touched(stale, cover.own.as_slice()),
+            are_touched(stale, cover.kept.as_slice()),
+        ),
+    }
+}
+
+/// What the chain of a derivative has, with what is on its way back as withdrawals; 0 where there is none.
+fn standing(chains: &[ChainState], cover: &Option<Cover>) -> Total
+    ensures { total_value result
+        ≡ min (of_cover (standing_at (map part_of chains.now)) cover.now) most_burned }
+{
+    match cover {
+        None => none(),
+        Some(cover) => cover.standing(chains),
+    }
+}
+
+/// What the account of a derivative's chain has at the reserve; 0 where there is none.
+fn held(chains: &[ChainState], cover: &Option<Cover>) -> Total
+    ensures { total_value result
+        ≡ min (of_cover (held_at (map part_of chains.now)) cover.now) most_burned }
+{
+    match cover {
+        None => none(),
+        Some(cover) => cover.held(chains),
+    }
+}
+
+/// What is on its way to the chain of a derivative as deposits; 0 where there is none.
+fn coming(chains: &[ChainState], cover: &Option<Cover>) -> Total
+    ensures { total_value result
+        ≡ min (of_cover (coming_at (map part_of chains.now)) cover.now) most_burned }
+{
+    match cover {
+        None => none(),
+        Some(cover) => cover.coming(chains),
+    }
+}
+
+/// What a derivative's line is made of. Each figure hangs on one chain alone. It saturates at 2^160-1.
+#[derive(Clone, Copy, Debug)]
+pub struct CoverFigures {
+    /// What the chain's account at the reserve has.
+    pub held: Total,
+    /// What is on its way to the chain as deposits, which the reserve sent.
+    pub coming: Total,
+    /// What the chain has, with what is on its way back as withdrawals.
+    pub standing: Total,
+}
+
+/// The figures of a derivative; all are 0 where there is none. It takes no memory.
+pub fn cover_figures(chains: &[ChainState], cover: &Option<Cover>) -> CoverFigures
+    ensures { HasFigures result (map part_of chains.now) cover.now }
+{
+    CoverFigures {
+        held: held(chains, cover),
+        coming: coming(chains, cover),
+        standing: standing(chains, cover),
+    }
+}
+
+/// The figures of a derivative, of which `known` has those that are still right: of the chains that have changed, by a flag for each, they are read
+/// anew. It takes no memory.
+pub fn renewed_figures(
+    chains: &[ChainState],
+    stale: &[bool],
+    cover: &Option<Cover>,
+    known: CoverFigures,
+) -> CoverFigures
+    ensures { IsRenewed stale.now (map part_of chains.now) cover.now known result }
+{
+    let (own, kept) = touched(stale, cover);
+    let mut figures = known;
+    if kept {
+        figures.held = held(chains, cover);
+        figures.coming = coming(chains, cover);
+    }
+    if own {
+        figures.standing = standing(chains, cover);
+    }
+    figures
 }
 
 /// The cover of a row with its reserve.

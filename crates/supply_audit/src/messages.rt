@@ -1,6 +1,7 @@
 //! What messages that wait carry of an asset.
 ghost use Rattle.std.specs.Prelude.{◌≡◌, min, map, sum_by};
 ghost use Rattle.std.specs.List.{list_all};
+ghost use Rattle.asset_lists.specs.declared.units.AssetId.TheVariants.{Concrete};
 ghost use Rattle.asset_lists.specs.Units.{unit_of};
 ghost use Rattle.asset_bundles.specs.Bundles.{bundle_of, is_asset};
 ghost use Rattle.asset_bundles.specs.Books.{most_burned};
@@ -15,17 +16,21 @@ use asset_bundles::{Shipment, Total, Way};
 use asset_lists::{Asset, AssetId, Assets, Kind};
 use chain_ids::ChainId;
 use chain_queues::{Cargo, Queue, Queues};
+use locations::Location;
 
 /// Whether an asset of a list is of this id and kind.
-fn is_asset(asset: &Asset, id: &AssetId, kind: Kind) -> bool
-    ensures { result ≡ is_asset id.now kind (unit_of asset.now) }
+fn is_asset(asset: &Asset, id: &Location, kind: Kind) -> bool
+    ensures { result ≡ is_asset (Concrete id.now) kind (unit_of asset.now) }
 {
-    *id == asset.id && kind == asset.kind()
+    match &asset.id {
+        AssetId::Concrete(place) => *id == *place && kind == asset.kind(),
+        AssetId::Abstract(_) => false,
+    }
 }
 
 /// What an asset of a list counts for.
-fn share(asset: &Asset, id: &AssetId, kind: Kind) -> u128
-    ensures { result ≡ list_share id.now kind asset.now }
+fn share(asset: &Asset, id: &Location, kind: Kind) -> u128
+    ensures { result ≡ list_share (Concrete id.now) kind asset.now }
 {
     if is_asset(asset, id, kind) {
         return asset.amount();
@@ -34,8 +39,9 @@ fn share(asset: &Asset, id: &AssetId, kind: Kind) -> u128
 }
 
 /// What a list has of an asset.
-fn in_list(assets: &[Asset], id: &AssetId, kind: Kind) -> Total
-    ensures { total_value result ≡ min (sum_by (list_share id.now kind) assets.now) most_burned }
+fn in_list(assets: &[Asset], id: &Location, kind: Kind) -> Total
+    ensures { total_value result
+        ≡ min (sum_by (list_share (Concrete id.now) kind) assets.now) most_burned }
 {
     let mut total = none();
     for asset in assets {
@@ -45,27 +51,28 @@ fn in_list(assets: &[Asset], id: &AssetId, kind: Kind) -> Total
 }
 
 /// What a deposit's list has of an asset.
-fn deposited(list: &Assets, id: &AssetId, kind: Kind) -> Total
-    ensures { total_value result ≡ min (asset_in id.now kind (bundle_of list.now)) most_burned }
+fn deposited(list: &Assets, id: &Location, kind: Kind) -> Total
+    ensures { total_value result
+        ≡ min (asset_in (Concrete id.now) kind (bundle_of list.now)) most_burned }
 {
     in_list(list.items(), id, kind)
 }
 
 /// What a shipment has of an asset, where it goes this way.
-fn by_way(way: Way, shipment: &Shipment, id: &AssetId, kind: Kind) -> u128
-    ensures { result ≡ by_way way shipment.now.way id.now kind shipment.now.units }
+fn by_way(way: Way, shipment: &Shipment, id: &Location, kind: Kind) -> u128
+    ensures { result ≡ by_way way shipment.now.way (Concrete id.now) kind shipment.now.units }
 {
     match (way, shipment.way()) {
         (Way::Withdrawal, Way::Withdrawal) | (Way::Teleport, Way::Teleport) => {
-            shipment.total(id, kind)
+            shipment.total(&AssetId::Concrete(id.copy()), kind)
         }
         _ => 0,
     }
 }
 
 /// What a message carries of an asset.
-fn carried(what: Carried, id: &AssetId, kind: Kind, cargo: &Cargo) -> Total
-    ensures { total_value result ≡ min (carried what id.now kind cargo.now) most_burned }
+fn carried(what: Carried, id: &Location, kind: Kind, cargo: &Cargo) -> Total
+    ensures { total_value result ≡ min (carried what (Concrete id.now) kind cargo.now) most_burned }
 {
     match (what, cargo) {
         (Carried::Teleports, Cargo::Away(shipment)) => {
@@ -80,9 +87,9 @@ fn carried(what: Carried, id: &AssetId, kind: Kind, cargo: &Cargo) -> Total
 }
 
 /// What the messages of a channel carry of an asset.
-fn in_channel(what: Carried, id: &AssetId, kind: Kind, queue: &Queue) -> Total
+fn in_channel(what: Carried, id: &Location, kind: Kind, queue: &Queue) -> Total
     ensures { total_value result
-        ≡ min (in_channel what id.now kind (outgoing_of queue.now)) most_burned }
+        ≡ min (in_channel what (Concrete id.now) kind (outgoing_of queue.now)) most_burned }
 {
     let mut total = none();
     for i in 0..queue.waiting.len() {
@@ -137,12 +144,12 @@ pub(crate) fn are_idle(to: Option<ChainId>, queues: &Queues) -> bool
 fn channel_share(
     what: Carried,
     to: Option<ChainId>,
-    id: &AssetId,
+    id: &Location,
     kind: Kind,
     queue: &Queue,
 ) -> Total
     ensures { total_value result
-        ≡ min (channel_share what to id.now kind (outgoing_of queue.now)) most_burned }
+        ≡ min (channel_share what to (Concrete id.now) kind (outgoing_of queue.now)) most_burned }
 {
     if is_towards(to, queue) {
         return in_channel(what, id, kind, queue);
@@ -154,12 +161,12 @@ fn channel_share(
 fn in_channels(
     what: Carried,
     to: Option<ChainId>,
-    id: &AssetId,
+    id: &Location,
     kind: Kind,
     channels: &[Queue],
 ) -> Total
     ensures { total_value result
-        ≡ min (sent what to (map outgoing_of channels.now) id.now kind) most_burned }
+        ≡ min (sent what to (map outgoing_of channels.now) (Concrete id.now) kind) most_burned }
 {
     let mut total = none();
     for queue in channels {
@@ -172,12 +179,12 @@ fn in_channels(
 pub(crate) fn sent(
     what: Carried,
     to: Option<ChainId>,
-    id: &AssetId,
+    id: &Location,
     kind: Kind,
     queues: &Queues,
 ) -> Total
     ensures { total_value result
-        ≡ min (sent what to (channels_of queues.now) id.now kind) most_burned }
+        ≡ min (sent what to (channels_of queues.now) (Concrete id.now) kind) most_burned }
 {
     in_channels(what, to, id, kind, queues.channels())
 }

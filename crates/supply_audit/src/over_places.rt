@@ -18,7 +18,6 @@ use crate::places::figure;
 use crate::table::row_supply;
 use crate::totals::{no_supply, none, sum};
 use asset_bundles::Total;
-use asset_lists::AssetId;
 use chain_state::ChainState;
 use ledgers::Supply;
 
@@ -50,10 +49,7 @@ fn row_share(which: Figure, chain: &ChainState, row: usize) -> Total
     }
     match chain.rows().get(row) {
         None => none(),
-        Some(row) => {
-            let id = AssetId::Concrete(row.id.copy());
-            figure(which, chain, &id, row.kind)
-        }
+        Some(row) => figure(which, chain, &row.id, row.kind),
     }
 }
 

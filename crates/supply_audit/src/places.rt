@@ -29,7 +29,7 @@ use network_coherence::same_path;
 use trust_tables::{AssetRole, AssetRow};
 
 /// What stands at a chain under an id: in accounts, in traps, and in fees and parked bundles.
-fn placed(chain: &ChainState, id: &AssetId, kind: Kind) -> Total
+pub(crate) fn placed(chain: &ChainState, id: &AssetId, kind: Kind) -> Total
     ensures { total_value result ≡ min (placed (part_of chain.now) id.now kind) most_burned }
 {
     let held = chain.ledger().sum(id, kind);
@@ -38,7 +38,7 @@ fn placed(chain: &ChainState, id: &AssetId, kind: Kind) -> Total
 }
 
 /// What a book says was burned under an id, for all causes.
-fn burned(book: &BurnBook, id: &AssetId, kind: Kind) -> Total
+pub(crate) fn burned(book: &BurnBook, id: &AssetId, kind: Kind) -> Total
     ensures { total_value result ≡ min (places.burned book.now.burns id.now kind) most_burned }
 {
     let given_up = book.total(id, kind, Cause::BurnAsset);
@@ -58,15 +58,22 @@ fn account(ledger: &Ledger, who: &[u8; 32], id: &AssetId, kind: Kind) -> u128
     }
 }
 
+/// The asset that an id names.
+pub(crate) fn named(id: &Location) -> AssetId
+    ensures { result ≡ Concrete id.now }
+{
+    AssetId::Concrete(id.copy())
+}
+
 /// A figure of a chain under an id. It saturates at 2^160-1.
-pub(crate) fn figure(figure: Figure, chain: &ChainState, id: &AssetId, kind: Kind) -> Total
+pub(crate) fn figure(figure: Figure, chain: &ChainState, id: &Location, kind: Kind) -> Total
     ensures { total_value result
-        ≡ min (places.figure figure (part_of chain.now) id.now kind) most_burned }
+        ≡ min (places.figure figure (part_of chain.now) (Concrete id.now) kind) most_burned }
 {
     match figure {
-        Figure::Placed => placed(chain, id, kind),
-        Figure::Burned => burned(chain.burns(), id, kind),
-        Figure::Account(who) => none().plus(account(chain.ledger(), &who, id, kind)),
+        Figure::Placed => placed(chain, &named(id), kind),
+        Figure::Burned => burned(chain.burns(), &named(id), kind),
+        Figure::Account(who) => none().plus(account(chain.ledger(), &who, &named(id), kind)),
         Figure::Sent(what, to) => sent(what, to, id, kind, chain.queues()),
     }
 }
@@ -117,8 +124,7 @@ fn row_share(
     if !is_row_of(context, home, id, kind, row) {
         return none();
     }
-    let own = AssetId::Concrete(row.id.copy());
-    figure(which, chain, &own, row.kind)
+    figure(which, chain, &row.id, row.kind)
 }
 
 /// A figure of the asset of this path and kind, over the rows that list it. It saturates at 2^160-1.

@@ -14,11 +14,11 @@ ghost use Rattle.supply_audit.specs.Places as places;
 ghost use Rattle.supply_audit.specs.Places.{table_of};
 ghost use Rattle.supply_audit.specs.Supplies.{AreSupplies, HasSums, Raises, row_part, rows_part, supply_by, supply_in};
 
-use crate::figures::{Carried, Figure};
+use crate::figures::Carried;
+use crate::messages::sent;
 use crate::network_asset::NetworkAsset;
-use crate::places::{figure, is_native};
+use crate::places::{burned, is_native, named, placed};
 use crate::totals::{no_supply, none, sum};
-use asset_lists::AssetId;
 use chain_state::ChainState;
 use ledgers::Supply;
 use std::alloc::{AllocError, Global};
@@ -86,11 +86,10 @@ pub(crate) fn row_supply(chain: &ChainState, row: &AssetRow) -> Supply
     ensures { HasSums result
         (λ f. places.figure f (part_of chain.now) (Concrete row.now.id) row.now.kind) }
 {
-    let id = AssetId::Concrete(row.id.copy());
-    let teleports = Figure::Sent(Carried::Teleports, None);
-    let home = figure(Figure::Placed, chain, &id, row.kind);
-    let flight = figure(teleports, chain, &id, row.kind);
-    let burned = figure(Figure::Burned, chain, &id, row.kind);
+    let id = named(&row.id);
+    let home = placed(chain, &id, row.kind);
+    let flight = sent(Carried::Teleports, None, &row.id, row.kind, chain.queues());
+    let burned = burned(chain.burns(), &id, row.kind);
     Supply {
         home,
         flight,

@@ -1,4 +1,5 @@
 use Rattle.std.proofs.Common.{◌≡◌, min, take}
+use Rattle.asset_lists.specs.declared.units.AssetId.TheVariants.{Concrete}
 use Rattle.asset_bundles.specs.Books.{most_burned}
 use Rattle.asset_bundles.specs.Totals.{total_value}
 use Rattle.std.specs.Prelude.{map}
@@ -7,4 +8,4 @@ use Rattle.supply_audit.specs.Places.{sent}
 use Rattle.supply_audit.proofs.messages.in_channels.Given as goal
 
 abbrev pub invariant-loop-queue : goal.invariant-loop-queue
-invariant-loop-queue l = total_value l.total ≡ min (sent l.what l.to (map outgoing_of (take l.queue-index l.channels)) l.id l.kind) most_burned
+invariant-loop-queue l = total_value l.total ≡ min (sent l.what l.to (map outgoing_of (take l.queue-index l.channels)) (Concrete l.id) l.kind) most_burned

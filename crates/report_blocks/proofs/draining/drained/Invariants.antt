@@ -2,8 +2,8 @@ use Rattle.std.proofs.Common.{◌≡◌, false, string_bytes}
 use Rattle.network_genesis.specs.Genesis.{order_of}
 use Rattle.network_steps.specs.Sends.{deliveries_left}
 use Rattle.chain_net.specs.Nets.{world_of, spec_of, is_stopped}
-use Rattle.report_blocks.proofs.Draining.{Drains}
-use Rattle.report_blocks.proofs.steps.drained.Given as goal
+use Rattle.report_blocks.proofs.DrainLines.{Drains}
+use Rattle.report_blocks.proofs.draining.drained.Given as goal
 
 abbrev pub invariant-deliveries : goal.invariant-deliveries
 invariant-deliveries l = record {

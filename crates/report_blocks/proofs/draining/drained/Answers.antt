@@ -5,8 +5,8 @@ use Rattle.network_steps.specs.Sends.{deliveries_left}
 use Rattle.chain_net.specs.Nets.{world_of, spec_of}
 use Rattle.report_blocks.specs.Blocks.{lines_of_step}
 use Rattle.report_blocks.proofs.Apart.{apart_link}
-use Rattle.report_blocks.proofs.Draining.{Drains, drains_start, drains_on, drains_lower, drains_end, drained_text}
-use Rattle.report_blocks.proofs.steps.drained.Goals as goal
+use Rattle.report_blocks.proofs.DrainLines.{Drains, drains_start, drains_on, drains_lower, drains_end, drained_text}
+use Rattle.report_blocks.proofs.draining.drained.Goals as goal
 
 pub deliveries-init : goal.deliveries-init
 deliveries-init c = record {

@@ -1,0 +1,15 @@
+use Rattle.std.specs.Prelude.{[]}
+use Rattle.chain_net.specs.Nets.{world_of}
+use Rattle.report_blocks.proofs.Listed.{KeepsSettings}
+use Rattle.report_blocks.proofs.Keeping.{KeepsOthers, kept_claim, whatever}
+use Rattle.report_blocks.proofs.marked_steps.claim_step.Goals as goal
+
+pub returns-clause-kept : goal.returns-clause-kept
+returns-clause-kept c =
+    let says = c.law_of_settings.ensures in
+    let keeps : KeepsSettings = record { exec = says.exec; deliver = says.deliver; claim = says.claim } in
+    let still = c.law_of_steps.ensures in
+    let others : KeepsOthers = record { exec = still.exec_elsewhere; deliver = still.deliver_elsewhere; claim = still.claim_elsewhere } in
+    let w = world_of c.args.net.now in
+    whatever c.step_text.result
+    (kept_claim keeps others [] c.mark.new.kept w (world_of c.claim.new.self) (c.mark.ensures.kept w c.requires.kept) c.args.from c.args.to c.args.message.now c.in_ok-answer.ensures.world c.mark.ensures.marked)

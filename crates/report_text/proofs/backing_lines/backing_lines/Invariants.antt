@@ -1,0 +1,7 @@
+use Rattle.std.proofs.Common.{◌≡◌, map}
+use Rattle.chain_state.specs.PartOf.{part_of}
+use Rattle.report_text.specs.Sheets.{kept_backing}
+use Rattle.report_text.proofs.backing_lines.backing_lines.Given as goal
+
+abbrev pub invariant-loop-entry : goal.invariant-loop-entry
+invariant-loop-entry l = l.lines.items ≡ map (kept_backing (map part_of l.chains)) l.yielded

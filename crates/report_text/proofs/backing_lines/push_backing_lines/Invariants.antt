@@ -1,0 +1,6 @@
+use Rattle.std.proofs.Common.{◌≡◌, ◌++◌, flat_map, string_bytes, take}
+use Rattle.report_text.specs.Sheets.{backing_written}
+use Rattle.report_text.proofs.backing_lines.push_backing_lines.Given as goal
+
+abbrev pub invariant-loop-line : goal.invariant-loop-line
+invariant-loop-line l = string_bytes l.text ≡ string_bytes l.initial.text ++ flat_map backing_written (take l.line-index l.lines)

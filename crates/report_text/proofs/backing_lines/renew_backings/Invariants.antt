@@ -1,0 +1,8 @@
+use Rattle.std.proofs.Common.{◌≡◌, map}
+use Rattle.chain_state.specs.PartOf.{part_of}
+use Rattle.report_text.specs.Sheets.{renewed_backing}
+use Rattle.report_text.proofs.Mapped.{front_mapped}
+use Rattle.report_text.proofs.backing_lines.renew_backings.Given as goal
+
+abbrev pub invariant-loop-line : goal.invariant-loop-line
+invariant-loop-line l = l.lines ≡ front_mapped (renewed_backing l.stale (map part_of l.chains)) l.line-index l.fn.lines

@@ -1,0 +1,160 @@
+//! The lines of what backs each derivative, kept with the figures that they were written with.
+ghost use Rattle.std.specs.Prelude.{◌≡◌, ◌++◌, map, IfOk, IsTrue, OnOk, flat_map, string_bytes};
+ghost use Rattle.asset_bundles.specs.Totals.{total_value};
+ghost use Rattle.chain_state.specs.PartOf.{part_of};
+ghost use Rattle.report_text.specs.Sheets.{kept_backing, renewed_backing, backing_written};
+
+use crate::backings::BackingEntry;
+use crate::figures::{is_same, push_sum};
+use chain_state::ChainState;
+use std::alloc::{AllocError, Global};
+use std::marker::Model;
+use supply_audit::{CoverFigures, cover_figures, renewed_figures};
+
+/// The line of a derivative, as it was written last. Contracts see it as `KeptBacking`.
+#[derive(Drop)]
+pub(crate) struct BackingLine {
+    entry: BackingEntry,
+    found: CoverFigures,
+    text: String,
+}
+
+impl Model for BackingLine {
+    ghost use Rattle.std.specs.Prelude.{◌≡◌, string_bytes};
+    ghost use Rattle.asset_bundles.specs.Totals.{total_value};
+    ghost use Rattle.report_text.specs.Kept.{KeptBacking};
+    ghost use Rattle.report_text.specs.Sheets.{backing_written};
+
+    ghost Value = { KeptBacking };
+
+    ghost view = { λ l. record {
+      entry = l.entry;
+      held = total_value l.found.held;
+      coming = total_value l.found.coming;
+      standing = total_value l.found.standing;
+    } };
+
+    ghost invariant = { λ l. string_bytes l.text ≡ backing_written (record {
+      entry = l.entry;
+      held = total_value l.found.held;
+      coming = total_value l.found.coming;
+      standing = total_value l.found.standing;
+    }) };
+}
+
+/// The line of a derivative with these figures.
+fn line_text(alloc: Global, entry: &BackingEntry, found: CoverFigures) -> Result<String, AllocError>
+    ensures { IfOk result (λ text. string_bytes text ≡ backing_written (record {
+      entry = entry.now;
+      held = total_value found.held;
+      coming = total_value found.coming;
+      standing = total_value found.standing;
+    })) }
+{
+    let owed = found.standing.sum(found.coming);
+    let mut text = String::new(alloc);
+    text.push_str(&entry.beginning)?;
+    push_sum(&mut text, found.held)?;
+    text.push_str(" owed ")?;
+    push_sum(&mut text, owed)?;
+    text.push_str("\n")?;
+    Ok(text)
+}
+
+/// Whether a derivative's figures are the same.
+fn are_same_figures(one: CoverFigures, other: CoverFigures) -> bool
+    ensures held { IsTrue result → total_value one.held ≡ total_value other.held }
+    ensures coming { IsTrue result → total_value one.coming ≡ total_value other.coming }
+    ensures standing { IsTrue result → total_value one.standing ≡ total_value other.standing }
+{
+    is_same(one.held, other.held)
+        && is_same(one.coming, other.coming)
+        && is_same(one.standing, other.standing)
+}
+
+impl BackingLine {
+    /// The line of an entry, with the figures of these chains.
+    fn of(
+        alloc: Global,
+        chains: &[ChainState],
+        entry: BackingEntry,
+    ) -> Result<BackingLine, AllocError>
+        ensures { IfOk result (λ line. line ≡ kept_backing (map part_of chains.now) entry) }
+    {
+        let found = cover_figures(chains, &entry.cover);
+        let text = line_text(alloc, &entry, found)?;
+        Ok(BackingLine { entry, found, text })
+    }
+
+    /// Reads those figures anew that hang on a chain that has changed, and writes the line anew where they are others.
+    fn renew(
+        &mut self,
+        alloc: Global,
+        chains: &[ChainState],
+        stale: &[bool],
+    ) -> Result<(), AllocError>
+        ensures { OnOk result (self.new
+            ≡ renewed_backing stale.now (map part_of chains.now) self.old) }
+    {
+        let found = renewed_figures(chains, stale, &self.entry.cover, self.found);
+        if are_same_figures(self.found, found) {
+            return Ok(());
+        }
+        let text = line_text(alloc, &self.entry, found)?;
+        self.text = text;
+        self.found = found;
+        Ok(())
+    }
+
+    /// Appends the line.
+    fn push(&self, text: &mut String) -> Result<(), AllocError>
+        ensures { OnOk result (string_bytes text.new
+            ≡ string_bytes text.old ++ backing_written self.now) }
+    {
+        text.push_str(&self.text)
+    }
+}
+
+/// The lines of entries, with the figures of these chains.
+pub(crate) fn backing_lines(
+    alloc: Global,
+    chains: &[ChainState],
+    entries: Vec<BackingEntry>,
+) -> Result<Vec<BackingLine>, AllocError>
+    ensures { IfOk result (λ lines. lines.items
+        ≡ map (kept_backing (map part_of chains.now)) entries.items) }
+{
+    let mut lines = Vec::new(alloc);
+    for entry in entries {
+        let line = BackingLine::of(alloc, chains, entry)?;
+        lines.push(line)?;
+    }
+    Ok(lines)
+}
+
+/// Renews each line.
+pub(crate) fn renew_backings(
+    lines: &mut [BackingLine],
+    alloc: Global,
+    chains: &[ChainState],
+    stale: &[bool],
+) -> Result<(), AllocError>
+    ensures { OnOk result (lines.new
+        ≡ map (renewed_backing stale.now (map part_of chains.now)) lines.old) }
+{
+    for line in lines.iter_mut() {
+        line.renew(alloc, chains, stale)?;
+    }
+    Ok(())
+}
+
+/// Appends the lines.
+pub(crate) fn push_backing_lines(text: &mut String, lines: &[BackingLine]) -> Result<(), AllocError>
+    ensures { OnOk result (string_bytes text.new
+        ≡ string_bytes text.old ++ flat_map backing_written lines.now) }
+{
+    for line in lines {
+        line.push(text)?;
+    }
+    Ok(())
+}

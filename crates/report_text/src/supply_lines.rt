@@ -1,0 +1,164 @@
+//! The lines of what there is of each asset, kept with the figures that they were written with.
+ghost use Rattle.std.specs.Prelude.{◌≡◌, ◌++◌, map, IfOk, IsTrue, OnOk, flat_map, string_bytes};
+ghost use Rattle.asset_bundles.specs.Totals.{total_value};
+ghost use Rattle.chain_state.specs.PartOf.{part_of};
+ghost use Rattle.report_text.specs.Sheets.{kept_supply, renewed_supply, supply_written};
+
+use crate::figures::{is_same, push_sum};
+use crate::supplies::SupplyEntry;
+use chain_state::ChainState;
+use std::alloc::{AllocError, Global};
+use std::marker::Model;
+use supply_audit::{Supply, are_touched, supply_at};
+
+/// The line of an asset, as it was written last. Contracts see it as `KeptSupply`.
+#[derive(Drop)]
+pub(crate) struct SupplyLine {
+    entry: SupplyEntry,
+    found: Supply,
+    text: String,
+}
+
+impl Model for SupplyLine {
+    ghost use Rattle.std.specs.Prelude.{◌≡◌, string_bytes};
+    ghost use Rattle.asset_bundles.specs.Totals.{total_value};
+    ghost use Rattle.report_text.specs.Kept.{KeptSupply};
+    ghost use Rattle.report_text.specs.Sheets.{supply_written};
+
+    ghost Value = { KeptSupply };
+
+    ghost view = { λ l. record {
+      entry = l.entry;
+      home = total_value l.found.home;
+      flight = total_value l.found.flight;
+      burned = total_value l.found.burned;
+    } };
+
+    ghost invariant = { λ l. string_bytes l.text ≡ supply_written (record {
+      entry = l.entry;
+      home = total_value l.found.home;
+      flight = total_value l.found.flight;
+      burned = total_value l.found.burned;
+    }) };
+}
+
+/// The line of an asset with these figures.
+fn line_text(alloc: Global, entry: &SupplyEntry, found: Supply) -> Result<String, AllocError>
+    ensures { IfOk result (λ text. string_bytes text ≡ supply_written (record {
+      entry = entry.now;
+      home = total_value found.home;
+      flight = total_value found.flight;
+      burned = total_value found.burned;
+    })) }
+{
+    let mut text = String::new(alloc);
+    text.push_str(&entry.beginning)?;
+    push_sum(&mut text, found.home)?;
+    text.push_str(" flight ")?;
+    push_sum(&mut text, found.flight)?;
+    text.push_str(" burned ")?;
+    push_sum(&mut text, found.burned)?;
+    text.push_str("\n")?;
+    Ok(text)
+}
+
+/// Whether two supplies are the same.
+fn is_same_supply(one: Supply, other: Supply) -> bool
+    ensures home { IsTrue result → total_value one.home ≡ total_value other.home }
+    ensures flight { IsTrue result → total_value one.flight ≡ total_value other.flight }
+    ensures burned { IsTrue result → total_value one.burned ≡ total_value other.burned }
+{
+    is_same(one.home, other.home)
+        && is_same(one.flight, other.flight)
+        && is_same(one.burned, other.burned)
+}
+
+impl SupplyLine {
+    /// The line of an entry, with the figures of these chains.
+    fn of(
+        alloc: Global,
+        chains: &[ChainState],
+        entry: SupplyEntry,
+    ) -> Result<SupplyLine, AllocError>
+        ensures { IfOk result (λ line. line ≡ kept_supply (map part_of chains.now) entry) }
+    {
+        let found = supply_at(chains, entry.places.as_slice());
+        let text = line_text(alloc, &entry, found)?;
+        Ok(SupplyLine { entry, found, text })
+    }
+
+    /// Reads the figures anew where one of the asset's places is at a chain that has changed, and writes the line anew where they are others.
+    fn renew(
+        &mut self,
+        alloc: Global,
+        chains: &[ChainState],
+        stale: &[bool],
+    ) -> Result<(), AllocError>
+        ensures { OnOk result (self.new
+            ≡ renewed_supply stale.now (map part_of chains.now) self.old) }
+    {
+        if !are_touched(stale, self.entry.places.as_slice()) {
+            return Ok(());
+        }
+        let found = supply_at(chains, self.entry.places.as_slice());
+        if is_same_supply(self.found, found) {
+            return Ok(());
+        }
+        let text = line_text(alloc, &self.entry, found)?;
+        self.text = text;
+        self.found = found;
+        Ok(())
+    }
+
+    /// Appends the line.
+    fn push(&self, text: &mut String) -> Result<(), AllocError>
+        ensures { OnOk result (string_bytes text.new
+            ≡ string_bytes text.old ++ supply_written self.now) }
+    {
+        text.push_str(&self.text)
+    }
+}
+
+/// The lines of entries, with the figures of these chains.
+pub(crate) fn supply_lines(
+    alloc: Global,
+    chains: &[ChainState],
+    entries: Vec<SupplyEntry>,
+) -> Result<Vec<SupplyLine>, AllocError>
+    ensures { IfOk result (λ lines. lines.items
+        ≡ map (kept_supply (map part_of chains.now)) entries.items) }
+{
+    let mut lines = Vec::new(alloc);
+    for entry in entries {
+        let line = SupplyLine::of(alloc, chains, entry)?;
+        lines.push(line)?;
+    }
+    Ok(lines)
+}
+
+/// Renews each line.
+pub(crate) fn renew_supplies(
+    lines: &mut [SupplyLine],
+    alloc: Global,
+    chains: &[ChainState],
+    stale: &[bool],
+) -> Result<(), AllocError>
+    ensures { OnOk result (lines.new
+        ≡ map (renewed_supply stale.now (map part_of chains.now)) lines.old) }
+{
+    for line in lines.iter_mut() {
+        line.renew(alloc, chains, stale)?;
+    }
+    Ok(())
+}
+
+/// Appends the lines.
+pub(crate) fn push_supply_lines(text: &mut String, lines: &[SupplyLine]) -> Result<(), AllocError>
+    ensures { OnOk result (string_bytes text.new
+        ≡ string_bytes text.old ++ flat_map supply_written lines.now) }
+{
+    for line in lines {
+        line.push(text)?;
+    }
+    Ok(())
+}
