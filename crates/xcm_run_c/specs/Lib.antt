@@ -1,0 +1,3 @@
+pub mod Buffers
+pub mod Trees
+pub mod Words
