@@ -30,7 +30,8 @@ impl<'a> Source for Bytes<'a> {
     fn read(&mut self, buf: &mut [u8]) -> Result<usize, Failed>
         requires { 0 < length buf.old }
         ensures bound { ReadsAtMost result buf.new }
-        ensures bytes { ReadConsumes (Some self.old.rest.now) (Some self.new.rest.now) result buf.new }
+        ensures bytes { ReadConsumes (Some self.old.rest.now) (Some self.new.rest.now) result
+            buf.new }
         ensures cause { HasCause 0 0 result }
     {
         let count = buf.len().min(self.rest.len());
