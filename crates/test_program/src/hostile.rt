@@ -673,7 +673,7 @@ const NO_LINES: &[(&str, &str)] = &[
     ("--- ", NOT_A_LINE),
 ];
 
-/// Messages on a relay chain without assets, messages on one that has an account, and lines.
+/// Messages with counts of 2^32-1, and past their limits, on a relay chain without assets.
 pub(crate) const HOSTILE: &[Table] = &[
     Table {
         network: "{}",
@@ -689,13 +689,19 @@ pub(crate) const HOSTILE: &[Table] = &[
         opening: STEP,
         rows: PAST_LIMITS,
     },
-    Table {
-        network: "{}",
-        before: EXECUTE,
-        status: Status::Done,
-        opening: STEP,
-        rows: AT_LIMITS,
-    },
+];
+
+/// Messages at their limits there.
+pub(crate) const LIMITED: &[Table] = &[Table {
+    network: "{}",
+    before: EXECUTE,
+    status: Status::Done,
+    opening: STEP,
+    rows: AT_LIMITS,
+}];
+
+/// Messages on a relay chain that has an account, and what is no line.
+pub(crate) const REFUSED_LINES: &[Table] = &[
     Table {
         network: ONE_ACCOUNT,
         before: EXECUTE,

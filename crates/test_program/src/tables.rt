@@ -5,7 +5,7 @@ use crate::crowds::{CROWDS, DRAINED};
 use crate::deliveries::{DELIVERIES, DELIVERY_FEES, QUERIES};
 use crate::faults::LIMITS;
 use crate::holdings::HOLDINGS;
-use crate::hostile::{HOSTILE, NESTED};
+use crate::hostile::{HOSTILE, LIMITED, NESTED, REFUSED_LINES};
 use crate::locks::LOCKS;
 use crate::messages::{LONG, MESSAGES};
 use crate::openings::{OPENINGS, REFUSED};
@@ -71,6 +71,16 @@ fn messages_have_their_reports(rt: HostRuntime) -> Result<(), Fail> {
 #[test]
 fn hostile_messages_have_their_reports(rt: HostRuntime) -> Result<(), Fail> {
     check_tables(&rt, rt.alloc(), HOSTILE)
+}
+
+#[test]
+fn messages_at_their_limits_have_their_reports(rt: HostRuntime) -> Result<(), Fail> {
+    check_tables(&rt, rt.alloc(), LIMITED)
+}
+
+#[test]
+fn hostile_lines_have_their_reports(rt: HostRuntime) -> Result<(), Fail> {
+    check_tables(&rt, rt.alloc(), REFUSED_LINES)
 }
 
 #[test]
