@@ -1,6 +1,0 @@
-use Rattle.std.proofs.Common.{◌≡◌, ◌++◌, take}
-use Rattle.asset_bundles.specs.Portions.{changed, new_to}
-use Rattle.asset_bundles.proofs.joining.push_new.Given as goal
-
-abbrev pub invariant-loop-item : goal.invariant-loop-item
-invariant-loop-item l = l.list.items ≡ l.fn.list.items ++ changed (new_to l.items) (take l.item-index l.more)

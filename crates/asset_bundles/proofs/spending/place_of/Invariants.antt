@@ -1,8 +1,0 @@
-use Rattle.std.proofs.Common.{◌≡◌, ◌+◌, drop}
-use Rattle.std.specs.List.{prefix_len}
-use Rattle.asset_lists.specs.Units.{unit_of}
-use Rattle.asset_bundles.specs.Portions.{is_other}
-use Rattle.asset_bundles.proofs.spending.place_of.Given as goal
-
-abbrev pub invariant-loop-i : goal.invariant-loop-i
-invariant-loop-i l = prefix_len (is_other (unit_of l.asset)) l.items ≡ l.i + prefix_len (is_other (unit_of l.asset)) (drop l.i l.items)

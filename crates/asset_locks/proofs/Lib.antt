@@ -1,5 +1,0 @@
-pub mod Edits
-pub mod Standing
-pub mod Searching
-pub mod Noting
-pub mod Booked

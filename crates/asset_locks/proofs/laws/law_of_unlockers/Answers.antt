@@ -1,5 +1,0 @@
-use Rattle.asset_locks.specs.Laws.{undone, two_locks}
-use Rattle.asset_locks.proofs.laws.law_of_unlockers.Goals as goal
-
-pub returns : goal.returns
-returns c = record { undone = undone; two = two_locks }

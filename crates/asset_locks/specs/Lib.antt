@@ -1,7 +1,0 @@
-pub mod Greatest
-pub mod LockMaps
-pub mod UnitFloors
-pub mod LockCode
-pub mod LockRows
-pub mod NoteRows
-pub mod Laws

@@ -1,5 +1,0 @@
-use Rattle.weight_trader.specs.ListedLaws.{purchased_listed}
-use Rattle.asset_rows.proofs.trading_rows.buy_more.Goals as goal
-
-pub returns-in-Ok : goal.returns-in-Ok
-returns-in-Ok c = purchased_listed _ _ _ _ _ _ _ c.requires c.in-Ok.ensures.bought

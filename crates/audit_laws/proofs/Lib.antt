@@ -1,7 +1,0 @@
-mod Rows
-mod Sums
-mod Causes
-mod Places
-mod Cargoes
-mod Messages
-mod Networks

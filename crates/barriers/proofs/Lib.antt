@@ -1,2 +1,0 @@
-pub mod Purchases
-pub mod Wording

@@ -1,2 +1,0 @@
-pub mod Barriers
-pub mod Meaning

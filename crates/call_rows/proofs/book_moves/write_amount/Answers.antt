@@ -1,5 +1,0 @@
-use Rattle.call_rows.specs.Laws.{written}
-use Rattle.call_rows.proofs.book_moves.write_amount.Goals as goal
-
-pub returns-clause-ok : goal.returns-clause-ok
-returns-clause-ok c = written _ _ (c.args.who.now, c.args.row) c.args.amount c.in_ok-insert.ensures.updates.0

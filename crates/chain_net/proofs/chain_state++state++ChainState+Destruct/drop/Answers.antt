@@ -1,5 +1,0 @@
-use Rattle.chain_state.specs.Known.{all_there}
-use Rattle.chain_net.proofs.chain_state++state++ChainState+Destruct.drop.Goals as goal
-
-pub invariant_of-drop : goal.invariant_of-drop
-invariant_of-drop c = all_there c.args.arg1

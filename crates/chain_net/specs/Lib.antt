@@ -1,7 +1,0 @@
-pub mod Order
-pub mod Chains
-pub mod Nets
-pub mod Sound
-pub mod Answers
-pub mod Passing
-pub mod Calls

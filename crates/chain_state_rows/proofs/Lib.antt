@@ -1,5 +1,0 @@
-pub mod Handled
-pub mod Listed
-pub mod Listings
-pub mod Reports
-pub mod Resting

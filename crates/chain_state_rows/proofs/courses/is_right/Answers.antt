@@ -1,5 +1,0 @@
-use Rattle.chain_state.specs.Known.{all_there}
-use Rattle.chain_state_rows.proofs.courses.is_right.Goals as goal
-
-pub invariant_of-chain : goal.invariant_of-chain
-invariant_of-chain c = all_there c.goes.new.chain

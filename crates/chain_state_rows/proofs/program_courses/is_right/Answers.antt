@@ -1,5 +1,0 @@
-use Rattle.chain_state.specs.Known.{all_there}
-use Rattle.chain_state_rows.proofs.program_courses.is_right.Goals as goal
-
-pub invariant_of-host : goal.invariant_of-host
-invariant_of-host c = all_there c.goes.new.host.chain

@@ -1,6 +1,0 @@
-use Rattle.std.proofs.Common.{[], ◌∷◌, refl}
-use Rattle.asset_lists.specs.Laws.{once_each}
-use Rattle.chain_state_rows.proofs.transactor_rows.deposited.Goals as goal
-
-pub mint-requires-clause-once : goal.mint-requires-clause-once
-mint-requires-clause-once c = once_each (c.args.asset ∷ []) refl

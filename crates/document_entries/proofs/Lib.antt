@@ -1,5 +1,0 @@
-pub mod Slashes
-pub mod LocationReading
-pub mod BothFields
-pub mod Locations
-pub mod PalletNames

@@ -1,3 +1,0 @@
-pub mod LocationTexts
-pub mod Entries
-pub mod Alternatives

@@ -1,6 +1,0 @@
-pub mod Around
-pub mod Filtering
-pub mod Forwarding
-pub mod Inside
-pub mod NamedLists
-pub mod Rising

@@ -1,6 +1,0 @@
-use Rattle.std.proofs.Common.{◌≡◌, ◌-◌, drop}
-use Rattle.asset_lists.specs.Lists.{is_rising}
-use Rattle.exec_transfers.proofs.naming.is_rising.Given as goal
-
-abbrev pub invariant-loop-i : goal.invariant-loop-i
-invariant-loop-i l = is_rising l.items ≡ is_rising (drop (l.i - 1) l.items)

@@ -1,5 +1,0 @@
-use Rattle.chain_state.specs.Known.{all_there}
-use Rattle.fake_host.proofs.chain.FakeHost.new.Goals as goal
-
-pub invariant_of-chain : goal.invariant_of-chain
-invariant_of-chain c = all_there c.place_all.new.self

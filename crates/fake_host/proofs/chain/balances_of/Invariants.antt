@@ -1,6 +1,0 @@
-use Rattle.std.proofs.Common.{◌≡◌, map}
-use Rattle.fake_host.specs.Opening.{balance_of}
-use Rattle.fake_host.proofs.chain.balances_of.Given as goal
-
-abbrev pub invariant-loop-who : goal.invariant-loop-who
-invariant-loop-who l = l.balances.items ≡ map balance_of l.yielded

@@ -1,2 +1,0 @@
-pub mod PartOf
-pub mod Opening

@@ -1,7 +1,0 @@
--- The chain's part of the world: that of its state. This project's own.
-use Rattle.exec_base.specs.Part.{ChainPart}
-use Rattle.chain_state.specs.PartOf as state
-use Rattle.fake_host.specs.declared.chain.FakeHost.{FakeHost}
-
-abbrev pub part_of : FakeHost → ChainPart
-part_of f = state.part_of f.chain

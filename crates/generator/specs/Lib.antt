@@ -1,5 +1,0 @@
-pub mod Draws
-pub mod Messages
-pub mod Turns
-pub mod Results
-pub mod Generated

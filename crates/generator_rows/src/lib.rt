@@ -1,5 +1,0 @@
-//! Runs of the generator, with what they report.
-#![tactic(auto)]
-
-#[cfg(test)]
-mod runs;

@@ -1,9 +1,0 @@
-mod Channels
-mod Calls
-mod Refusals
-mod Effects
-mod Keeping
-mod Runs
-mod Moves
-mod Plans
-mod Changing

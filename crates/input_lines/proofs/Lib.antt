@@ -1,5 +1,0 @@
-pub mod FirstLine
-pub mod Decimals
-pub mod FirstWord
-pub mod Cut
-pub mod ReadBack

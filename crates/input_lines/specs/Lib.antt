@@ -1,5 +1,0 @@
-pub mod Lines
-pub mod Numbers
-pub mod Step
-pub mod Meaning
-pub mod Laws

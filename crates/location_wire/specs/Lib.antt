@@ -1,5 +1,0 @@
-pub mod Spelling
-pub mod Reading
-pub mod Texts
-pub mod TextFaults
-pub mod Laws

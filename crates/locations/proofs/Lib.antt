@@ -1,5 +1,0 @@
-pub mod DerivedOrders
-pub mod CommonPrefix
-pub mod Inversion
-pub mod ThreeSteps
-pub mod WaysDown

@@ -1,9 +1,0 @@
-pub mod Order
-pub mod OrderLaws
-pub mod DerivedOrder
-pub mod Chains
-pub mod Steps
-pub mod Reanchoring
-pub mod PathLaw
-pub mod Laws
-pub mod Lending

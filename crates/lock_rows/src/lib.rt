@@ -1,5 +1,0 @@
-//! Locks and notes, with expected values worked out by hand.
-#![tactic(auto)]
-
-#[cfg(test)]
-mod course;

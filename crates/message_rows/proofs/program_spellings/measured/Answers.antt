@@ -1,5 +1,0 @@
-use Rattle.program_wire.specs.Laws.Writable.{writable}
-use Rattle.message_rows.proofs.program_spellings.measured.Goals as goal
-
-pub write_program-requires : goal.write_program-requires
-write_program-requires c = writable _ _ c.in_ok-program.ensures.spelling.0

@@ -1,6 +1,0 @@
-pub mod Names
-pub mod Lines
-pub mod Words
-pub mod Fields
-pub mod Messages
-pub mod Laws

@@ -1,2 +1,0 @@
-pub mod Stillness
-pub mod Keeping

@@ -1,4 +1,0 @@
-mod Apart
-mod Draining
-mod Reading
-pub mod Listed

@@ -1,5 +1,0 @@
-pub mod Balances
-pub mod ChannelLines
-pub mod Checking
-pub mod NamesFit
-pub mod Queued

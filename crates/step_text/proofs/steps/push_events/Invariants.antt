@@ -1,6 +1,0 @@
-use Rattle.std.proofs.Common.{◌≡◌, ◌++◌, take, flat_map, string_bytes}
-use Rattle.step_text.specs.Steps.{event_line}
-use Rattle.step_text.proofs.steps.push_events.Given as goal
-
-abbrev pub invariant-loop-event : goal.invariant-loop-event
-invariant-loop-event l = string_bytes l.text ≡ string_bytes l.initial.text ++ flat_map event_line (take l.event-index l.events)

@@ -1,5 +1,0 @@
-pub mod Names
-pub mod Texts
-pub mod Steps
-pub mod Lines
-pub mod Blocks

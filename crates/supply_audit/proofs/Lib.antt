@@ -1,6 +1,0 @@
-pub mod Saturating
-pub mod Naming
-pub mod Tables
-pub mod Idle
-pub mod Listing
-pub mod Indexed

@@ -1,3 +1,0 @@
-pub mod Floors
-pub mod Checks
-pub mod Moves

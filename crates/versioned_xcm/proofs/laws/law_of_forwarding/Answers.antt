@@ -1,7 +1,0 @@
-use Rattle.versioned_xcm.specs.Message.{forwarded}
-use Rattle.versioned_xcm.proofs.Exact.{round_trip}
-use Rattle.versioned_xcm.specs.Laws.{forwarded_convertible}
-use Rattle.versioned_xcm.proofs.laws.law_of_forwarding.Goals as goal
-
-pub returns : goal.returns
-returns c = λ v bytes first rest m one more. round_trip v bytes (forwarded first rest) m (forwarded_convertible first rest one more)

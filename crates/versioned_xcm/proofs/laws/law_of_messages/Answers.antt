@@ -1,5 +1,0 @@
-use Rattle.versioned_xcm.proofs.Exact.{exact}
-use Rattle.versioned_xcm.proofs.laws.law_of_messages.Goals as goal
-
-pub returns : goal.returns
-returns c = exact

@@ -1,5 +1,0 @@
-use Rattle.versioned_xcm.proofs.Exact.{one_program}
-use Rattle.versioned_xcm.proofs.laws.law_of_one_program.Goals as goal
-
-pub returns : goal.returns
-returns c = one_program

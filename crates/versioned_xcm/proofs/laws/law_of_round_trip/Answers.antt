@@ -1,5 +1,0 @@
-use Rattle.versioned_xcm.proofs.Exact.{round_trip}
-use Rattle.versioned_xcm.proofs.laws.law_of_round_trip.Goals as goal
-
-pub returns : goal.returns
-returns c = round_trip

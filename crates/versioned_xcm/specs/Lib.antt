@@ -1,3 +1,0 @@
-pub mod Message
-pub mod Reading
-pub mod Laws

@@ -1,7 +1,0 @@
-pub mod Prices
-pub mod Sums
-pub mod Purchases
-pub mod Refunds
-pub mod Closing
-pub mod ListedLaws
-pub mod Laws

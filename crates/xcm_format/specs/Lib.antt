@@ -1,5 +1,0 @@
-pub mod Parts
-pub mod Programs
-pub mod Messages
-pub mod Writable
-pub mod Laws

@@ -1,7 +1,0 @@
-pub mod Measure
-pub mod Everywhere
-pub mod Conversions
-pub mod Weights
-pub mod Indices
-pub mod Texts
-pub mod Laws
