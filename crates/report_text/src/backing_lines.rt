@@ -5,7 +5,7 @@ ghost use Rattle.chain_state.specs.PartOf.{part_of};
 ghost use Rattle.report_text.specs.Sheets.{kept_backing, renewed_backing, backing_written};
 
 use crate::backings::BackingEntry;
-use crate::figures::{is_same, push_sum};
+use crate::figures::push_sum;
 use chain_state::ChainState;
 use std::alloc::{AllocError, Global};
 use std::marker::Model;
@@ -66,10 +66,11 @@ fn are_same_figures(one: CoverFigures, other: CoverFigures) -> bool
     ensures held { IsTrue result → total_value one.held ≡ total_value other.held }
     ensures coming { IsTrue result → total_value one.coming ≡ total_value other.coming }
     ensures standing { IsTrue result → total_value one.standing ≡ total_value other.standing }
+    ensures same { total_value one.held ≡ total_value other.held
+        → total_value one.coming ≡ total_value other.coming
+        → total_value one.standing ≡ total_value other.standing → IsTrue result }
 {
-    is_same(one.held, other.held)
-        && is_same(one.coming, other.coming)
-        && is_same(one.standing, other.standing)
+    one.held == other.held && one.coming == other.coming && one.standing == other.standing
 }
 
 impl BackingLine {

@@ -1,5 +1,5 @@
 //! The words and sums of the block's lines.
-ghost use Rattle.std.specs.Prelude.{◌≡◌, ◌++◌, ℕ, min, IsTrue, OnOk, string_bytes};
+ghost use Rattle.std.specs.Prelude.{◌≡◌, ◌++◌, ℕ, min, OnOk, string_bytes};
 ghost use Rattle.asset_bundles.specs.Books.{most_burned};
 ghost use Rattle.asset_bundles.specs.Totals.{total_value};
 ghost use Rattle.step_text.specs.Texts.{kind_name, total_text};
@@ -31,13 +31,6 @@ fn push_total(text: &mut String, total: Total) -> Result<(), AllocError>
     } else {
         text.push_str("over")
     }
-}
-
-/// Whether two totals are the same.
-pub(crate) fn is_same(one: Total, other: Total) -> bool
-    ensures { IsTrue result → total_value one ≡ total_value other }
-{
-    one.high == other.high && one.low == other.low
 }
 
 /// Appends the sum of which this is the total, which saturates.

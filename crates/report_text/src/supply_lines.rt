@@ -4,7 +4,7 @@ ghost use Rattle.asset_bundles.specs.Totals.{total_value};
 ghost use Rattle.chain_state.specs.PartOf.{part_of};
 ghost use Rattle.report_text.specs.Sheets.{kept_supply, renewed_supply, supply_written};
 
-use crate::figures::{is_same, push_sum};
+use crate::figures::push_sum;
 use crate::supplies::SupplyEntry;
 use chain_state::ChainState;
 use std::alloc::{AllocError, Global};
@@ -67,10 +67,11 @@ fn is_same_supply(one: Supply, other: Supply) -> bool
     ensures home { IsTrue result → total_value one.home ≡ total_value other.home }
     ensures flight { IsTrue result → total_value one.flight ≡ total_value other.flight }
     ensures burned { IsTrue result → total_value one.burned ≡ total_value other.burned }
+    ensures same { total_value one.home ≡ total_value other.home
+        → total_value one.flight ≡ total_value other.flight
+        → total_value one.burned ≡ total_value other.burned → IsTrue result }
 {
-    is_same(one.home, other.home)
-        && is_same(one.flight, other.flight)
-        && is_same(one.burned, other.burned)
+    one.home == other.home && one.flight == other.flight && one.burned == other.burned
 }
 
 impl SupplyLine {
