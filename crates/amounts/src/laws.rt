@@ -76,7 +76,7 @@ pub fn law_of_merging<K: Ord>()
 {}
 
 /// What is taken out of a map and put back gives the map.
-pub fn law_of_parts<K: Ord>()
+pub fn law_of_parts_put_back<K: Ord>()
     requires { IsAntisymmetric K.cmp }
     ensures put_back { (m n : Amounts K.cmp) → IsWithin n m → merge (difference m n) n ≡ m }
     ensures taken_again { (m n : Amounts K.cmp) → difference (merge m n) n ≡ m }
@@ -85,7 +85,7 @@ pub fn law_of_parts<K: Ord>()
 {}
 
 /// A map and its rows tell the same, and rows may be added up before they are added.
-pub fn law_of_rows<K: Ord>()
+pub fn law_of_maps_as_rows<K: Ord>()
     requires { IsAntisymmetric K.cmp }
     ensures back { (m : Amounts K.cmp) → from_rows (rows m) ≡ m }
     ensures rising { (m : Amounts K.cmp) → IsStrictlySortedBy K.cmp (keys_of (rows m)) }
@@ -112,7 +112,7 @@ pub fn law_of_entries<K: Ord>()
 {}
 
 /// Amounts under other keys have the totals that they had under their own.
-pub fn law_of_keys<J: Ord, K: Ord>()
+pub fn law_of_totals_under_new_keys<J: Ord, K: Ord>()
     requires { IsAntisymmetric K.cmp }
     ensures { (p : K → Bool) (f : J → K) (m : Amounts J.cmp)
         → total p (map_keys {S = J.cmp} {R = K.cmp} f m) ≡ total (λ j. p (f j)) m }
@@ -129,7 +129,7 @@ pub fn law_of_a_move<J: Ord, K: Ord>()
 {}
 
 /// All amounts of a map that go from their keys in one map to their keys in another keep the sum of both.
-pub fn law_of_moves<J: Ord, K: Ord, L: Ord>()
+pub fn law_of_sums_kept_by_moves<J: Ord, K: Ord, L: Ord>()
     requires from_exact { IsAntisymmetric J.cmp }
     requires to_exact { IsAntisymmetric K.cmp }
     ensures { (p : J → Bool) (q : K → Bool) (f : L → J) (g : L → K) (from : Amounts J.cmp)

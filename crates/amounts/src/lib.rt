@@ -7,6 +7,7 @@
 mod laws;
 
 pub use laws::{
-    law_of_a_move, law_of_amounts, law_of_entries, law_of_equal_maps, law_of_keys, law_of_merging,
-    law_of_moves, law_of_parts, law_of_rows, law_of_totals,
+    law_of_a_move, law_of_amounts, law_of_entries, law_of_equal_maps, law_of_maps_as_rows,
+    law_of_merging, law_of_parts_put_back, law_of_sums_kept_by_moves, law_of_totals,
+    law_of_totals_under_new_keys,
 };

@@ -5,18 +5,20 @@ use Rattle.std.specs.Ordering.{eq_by_cmp}
 use Rattle.std.proofs.lemmas.Bool.{and_from, and_parts}
 use Rattle.std.proofs.lemmas.List.{take_more}
 use Rattle.amounts.specs.Rows.{rows_at, sum_where, amount_if, IsPositive}
-use Rattle.amounts.specs.Amounts.{amount, empty, from_rows, merge, single, map_keys, same_amounts, amount-empty}
-use Rattle.amounts.specs.Laws.{amount-from_rows, amount-single, from_rows-append, same_key}
+use Rattle.amounts.specs.Amounts.{amount, empty, from_rows, merge, single, map_keys}
+use Rattle.amounts.proofs.Lemmas.AmountLaws.{same_amounts, amount-empty}
+use Rattle.amounts.proofs.Lemmas.{amount-from_rows, amount-single, from_rows-append, same_key}
 use Rattle.asset_lists.specs.declared.units.Asset.{Asset}
 use Rattle.asset_lists.specs.declared.units.Kind.{Kind}
 use Rattle.asset_lists.specs.Units.{Unit, unit_of, amount_of, unit_cmp, instance_in}
 use Rattle.asset_bundles.specs.declared.book.Cause.{Cause}
-use Rattle.asset_bundles.specs.Bundles.{Bundle, unit_keys, rows_of, bundle_of, IsHolding}
-use Rattle.asset_bundles.specs.BundleLaws.{amount-bundle_of, map_keys-bundle_of}
+use Rattle.asset_bundles.specs.Bundles.{Bundle, rows_of, bundle_of, IsHolding}
+use Rattle.asset_bundles.proofs.Lemmas.Bundles.{unit_keys}
+use Rattle.asset_bundles.proofs.Lemmas.BundleLaws.{amount-bundle_of, map_keys-bundle_of}
 use Rattle.asset_bundles.specs.Joins.{Excess}
 use Rattle.asset_bundles.specs.Books.{Burn, burn_cmp, Burns, Book, Booked, AreListed, burned_for, given_up, excess_cause}
 use Rattle.asset_lists.specs.Listed.{Listed, kind_of, listed_of, lists}
-use Rattle.asset_bundles.specs.Laws.{burn_keys, booked_again, booked_nothing}
+use Rattle.asset_bundles.proofs.Lemmas.{burn_keys, booked_again, booked_nothing}
 
 no_rows : from_rows {R = burn_cmp} [] ≡ empty
 no_rows = same_amounts burn_keys _ _ (λ q. amount-from_rows burn_keys [] q ∙ sym (amount-empty burn_keys q))

@@ -10,16 +10,18 @@ use Rattle.std.proofs.lemmas.List.{take_more}
 use Rattle.std.proofs.lemmas.List.Sums.{prefix_len-drop_yes, prefix_len-drop_no}
 use Rattle.std.specs.Cmp.{eq_by_cmp_equiv}
 use Rattle.amounts.specs.Rows.{amount_if}
-use Rattle.amounts.specs.Amounts.{amount, empty, single, same_amounts, amount-empty}
-use Rattle.amounts.specs.Laws.{amount-single, key_same}
-use Rattle.amounts.specs.Entries.{amount-from_entries}
+use Rattle.amounts.specs.Amounts.{amount, empty, single}
+use Rattle.amounts.proofs.Lemmas.AmountLaws.{same_amounts, amount-empty}
+use Rattle.amounts.proofs.Lemmas.{amount-single, key_same}
+use Rattle.amounts.proofs.Lemmas.Entries.{amount-from_entries}
 use Rattle.asset_bundles.specs.declared.book.Cause.{Cause}
 use Rattle.asset_bundles.specs.declared.book.BookRow.{BookRow}
 use Rattle.asset_bundles.specs.Totals.{total_value}
 use Rattle.asset_bundles.specs.Books.{cause_index, burn_cmp, most_burned, Booked}
 use Rattle.asset_lists.specs.Listed.{Listed, listed_cmp, lists}
-use Rattle.asset_bundles.specs.Laws.{burn_keys, listed_keys, same_books, listed-Booked, amount-Booked}
-use Rattle.asset_bundles.specs.BookRows.{row_key, total_for, entries_in, keys_in, book_of, total_at, AreInRange, is_other_row, is_cause, IsBurned, CasesOf, IsBooked}
+use Rattle.asset_bundles.proofs.Lemmas.{burn_keys, listed_keys, same_books, listed-Booked, amount-Booked}
+use Rattle.asset_bundles.specs.BookRows.{row_key, total_for, burn_entries_in, book_keys_in, book_of_rows, total_at, AreInRange, is_other_row, is_cause, IsBurned, CasesOf, IsBooked}
+use Rattle.plain_lists.proofs.Lemmas.Facts.{equal_then as tie_both}
 
 -- ---- what the book has at a key
 at_entry : Cause → Ordering → Cause → ℕ → Option ℕ → Option ℕ
@@ -46,27 +48,27 @@ if_some : (b : Bool) (n : ℕ) (rest : Option ℕ) → unwrap_or (if b then Some
 if_some true n rest = refl
 if_some false n rest = refl
 
-looked_up : (k : Listed) (c : Cause) (rs : List BookRow) → unwrap_or (lookup (eq_by_cmp burn_cmp (k, c)) (entries_in rs)) 0 ≡ total_at k c rs
+looked_up : (k : Listed) (c : Cause) (rs : List BookRow) → unwrap_or (lookup (eq_by_cmp burn_cmp (k, c)) (burn_entries_in rs)) 0 ≡ total_at k c rs
 unfolding at_entry
 looked_up k c [] = refl
 looked_up k c (r ∷ rs) =
-    ap (λ o. unwrap_or o 0) (four_entries c (listed_cmp k (row_key r)) (λ d. total_value (total_for d r)) (lookup (eq_by_cmp burn_cmp (k, c)) (entries_in rs)))
-    ∙ if_some (is_eq (listed_cmp k (row_key r))) (total_value (total_for c r)) (lookup (eq_by_cmp burn_cmp (k, c)) (entries_in rs))
+    ap (λ o. unwrap_or o 0) (four_entries c (listed_cmp k (row_key r)) (λ d. total_value (total_for d r)) (lookup (eq_by_cmp burn_cmp (k, c)) (burn_entries_in rs)))
+    ∙ if_some (is_eq (listed_cmp k (row_key r))) (total_value (total_for c r)) (lookup (eq_by_cmp burn_cmp (k, c)) (burn_entries_in rs))
     ∙ ap (λ n. if is_eq (listed_cmp k (row_key r)) then total_value (total_for c r) else n) (looked_up k c rs)
 
-pub amount-book : (k : Listed) (c : Cause) (rs : List BookRow) → amount (book_of rs).burns (k, c) ≡ total_at k c rs
-unfolding book_of
-amount-book k c rs = amount-from_entries burn_keys (entries_in rs) (k, c) ∙ looked_up k c rs
+pub amount-book : (k : Listed) (c : Cause) (rs : List BookRow) → amount (book_of_rows rs).burns (k, c) ≡ total_at k c rs
+unfolding book_of_rows
+amount-book k c rs = amount-from_entries burn_keys (burn_entries_in rs) (k, c) ∙ looked_up k c rs
 
 -- ---- a new book
 
 pub new_stands : (rs : List BookRow) → ((k : Listed) (c : Cause) → total_at k c rs ≡ 0) → AreInRange rs
 new_stands rs new k c = let none = new k c in omega (arith, none)
 
-pub new_empty : (rs : List BookRow) → ((k : Listed) (c : Cause) → total_at k c rs ≡ 0) → (book_of rs).burns ≡ empty
+pub new_empty : (rs : List BookRow) → ((k : Listed) (c : Cause) → total_at k c rs ≡ 0) → (book_of_rows rs).burns ≡ empty
 new_empty rs new = same_amounts burn_keys _ _ (λ q. amount-book q.0 q.1 rs ∙ new q.0 q.1 ∙ sym (amount-empty burn_keys q))
 
-pub keys-push : (rs : List BookRow) (r : BookRow) → keys_in (rs ++ r ∷ []) ≡ keys_in rs ++ row_key r ∷ []
+pub keys-push : (rs : List BookRow) (r : BookRow) → book_keys_in (rs ++ r ∷ []) ≡ book_keys_in rs ++ row_key r ∷ []
 keys-push [] r = refl
 keys-push (x ∷ rs) r = ap (λ ks. row_key x ∷ ks) (keys-push rs r)
 
@@ -110,11 +112,6 @@ pub total_nowhere : (k : Listed) (c : Cause) (rs : List BookRow) (i : ℕ) → l
 total_nowhere k c rs i all so_far = sym (so_far ∙ ap (total_at k c) (past_rows rs i all))
 
 -- ---- one total that grows
-tie_both : (r s : Ordering) → is_eq (ordering_then r s) ≡ (is_eq r && is_eq s)
-tie_both Less s = refl
-tie_both Equal s = refl
-tie_both Greater s = refl
-
 in_row : (e i : Bool) (v w n end : ℕ) → (if e then (if i then min (v + n) end else v) else w) ≡ (if e && i then min ((if e then v else w) + n) end else (if e then v else w))
 in_row true true v w n end = refl
 in_row true false v w n end = refl
@@ -145,24 +142,24 @@ other_row k j i n v end r t s other rest =
       | false ↦ λ e. rest
     ] refl
 
-pub booked_at : (k : Listed) (cause : Cause) (n : ℕ) (old new : List BookRow) → IsBooked k cause n old new → lists (keys_in old) k ≡ true → (j : Listed) (c : Cause)
+pub booked_at : (k : Listed) (cause : Cause) (n : ℕ) (old new : List BookRow) → IsBooked k cause n old new → lists (book_keys_in old) k ≡ true → (j : Listed) (c : Cause)
     → total_at j c new ≡ (if eq_by_cmp listed_cmp j k && is_cause c cause then min (total_at j c old + n) most_burned else total_at j c old)
 booked_at k cause n [] new booked listed j c = absurd (cc)
 booked_at k cause n (r ∷ rs) [] booked listed j c = absurd booked
 booked_at k cause n (r ∷ rs) (s ∷ ss) booked listed j c =
-    elim (eq_by_cmp listed_cmp k (row_key r)) as (λ b. eq_by_cmp listed_cmp k (row_key r) ≡ b → (b || lists (keys_in rs) k) ≡ true
+    elim (eq_by_cmp listed_cmp k (row_key r)) as (λ b. eq_by_cmp listed_cmp k (row_key r) ≡ b → (b || lists (book_keys_in rs) k) ≡ true
     → CasesOf b (IsBurned cause n r s × (ss ≡ rs)) ((s ≡ r) × IsBooked k cause n rs ss)
     → total_at j c (s ∷ ss) ≡ (if eq_by_cmp listed_cmp j k && is_cause c cause then min (total_at j c (r ∷ rs) + n) most_burned else total_at j c (r ∷ rs))) [
       | true ↦ λ e l h. ap (λ xs. total_at j c (s ∷ xs)) h.1 ∙ booked_row k j cause c n r s rs (sym (key_same listed_keys k (row_key r) e)) h.0
       | false ↦ λ e l h. ap (λ x. total_at j c (x ∷ ss)) h.0 ∙ other_row k j (is_cause c cause) n (total_value (total_for c r)) most_burned r (total_at j c ss) (total_at j c rs) e (booked_at k cause n rs ss h.1 l j c)
     ] refl listed booked
 
-booked_keys : (k : Listed) (cause : Cause) (n : ℕ) (old new : List BookRow) → IsBooked k cause n old new → keys_in new ≡ keys_in old
-booked_keys k cause n [] new booked = ap keys_in booked
+booked_keys : (k : Listed) (cause : Cause) (n : ℕ) (old new : List BookRow) → IsBooked k cause n old new → book_keys_in new ≡ book_keys_in old
+booked_keys k cause n [] new booked = ap book_keys_in booked
 booked_keys k cause n (r ∷ rs) [] booked = absurd booked
 booked_keys k cause n (r ∷ rs) (s ∷ ss) booked =
-    elim (eq_by_cmp listed_cmp k (row_key r)) as (λ b. CasesOf b (IsBurned cause n r s × (ss ≡ rs)) ((s ≡ r) × IsBooked k cause n rs ss) → keys_in (s ∷ ss) ≡ keys_in (r ∷ rs)) [
-      | true ↦ λ h i. h.0.key i ∷ keys_in (h.1 i)
+    elim (eq_by_cmp listed_cmp k (row_key r)) as (λ b. CasesOf b (IsBurned cause n r s × (ss ≡ rs)) ((s ≡ r) × IsBooked k cause n rs ss) → book_keys_in (s ∷ ss) ≡ book_keys_in (r ∷ rs)) [
+      | true ↦ λ h i. h.0.key i ∷ book_keys_in (h.1 i)
       | false ↦ λ h i. row_key (h.0 i) ∷ booked_keys k cause n rs ss h.1 i
     ] booked
 
@@ -174,28 +171,28 @@ end_kept : (b : Bool) (t n end : ℕ) → t ≤ end → (if b then min (t + n) e
 end_kept true t n end le = omega arith
 end_kept false t n end le = le
 
-pub booked_stands : (k : Listed) (cause : Cause) (n : ℕ) (old new : List BookRow) → IsBooked k cause n old new → lists (keys_in old) k ≡ true → AreInRange old → AreInRange new
+pub booked_stands : (k : Listed) (cause : Cause) (n : ℕ) (old new : List BookRow) → IsBooked k cause n old new → lists (book_keys_in old) k ≡ true → AreInRange old → AreInRange new
 booked_stands k cause n old new booked listed stands j c =
     subst (λ t. t ≤ most_burned) (sym (booked_at k cause n old new booked listed j c)) (end_kept (eq_by_cmp listed_cmp j k && is_cause c cause) (total_at j c old) n most_burned (stands j c))
 
-booked_burns : (k : Listed) (cause : Cause) (n : ℕ) (old new : List BookRow) → IsBooked k cause n old new → lists (keys_in old) k ≡ true → AreInRange old
-    → (q : _) → amount (book_of new).burns q ≡ amount (Booked (book_of old) (single (k, cause) n)).burns q
+booked_burns : (k : Listed) (cause : Cause) (n : ℕ) (old new : List BookRow) → IsBooked k cause n old new → lists (book_keys_in old) k ≡ true → AreInRange old
+    → (q : _) → amount (book_of_rows new).burns q ≡ amount (Booked (book_of_rows old) (single (k, cause) n)).burns q
 booked_burns k cause n old new booked listed range q =
     amount-book q.0 q.1 new ∙ booked_at k cause n old new booked listed q.0 q.1
     ∙ at_end (eq_by_cmp listed_cmp q.0 k && is_cause q.1 cause) (total_at q.0 q.1 old) n most_burned (range q.0 q.1)
     ∙ ap (λ b. total_at q.0 q.1 old + min (amount_if b n) (most_burned - total_at q.0 q.1 old)) (sym (tie_both (listed_cmp q.0 k) (nat_cmp (cause_index q.1) (cause_index cause))))
     ∙ ap (λ t. t + min (amount_if (eq_by_cmp burn_cmp q (k, cause)) n) (most_burned - t)) (sym (amount-book q.0 q.1 old))
-    ∙ ap (λ t. amount (book_of old).burns q + min t (most_burned - amount (book_of old).burns q)) (sym (amount-single burn_keys (k, cause) n q))
-    ∙ sym (amount-Booked (book_of old) (single (k, cause) n) q)
+    ∙ ap (λ t. amount (book_of_rows old).burns q + min t (most_burned - amount (book_of_rows old).burns q)) (sym (amount-single burn_keys (k, cause) n q))
+    ∙ sym (amount-Booked (book_of_rows old) (single (k, cause) n) q)
 
-listed_rows : (rs : List BookRow) → (book_of rs).listed ≡ keys_in rs
-unfolding book_of
+listed_rows : (rs : List BookRow) → (book_of_rows rs).listed ≡ book_keys_in rs
+unfolding book_of_rows
 listed_rows rs = refl
 
-pub booked_is : (k : Listed) (cause : Cause) (n : ℕ) (old new : List BookRow) → IsBooked k cause n old new → lists (keys_in old) k ≡ true → AreInRange old
-    → book_of new ≡ Booked (book_of old) (single (k, cause) n)
+pub booked_is : (k : Listed) (cause : Cause) (n : ℕ) (old new : List BookRow) → IsBooked k cause n old new → lists (book_keys_in old) k ≡ true → AreInRange old
+    → book_of_rows new ≡ Booked (book_of_rows old) (single (k, cause) n)
 booked_is k cause n old new booked listed range =
-    same_books _ _ (listed_rows new ∙ booked_keys k cause n old new booked ∙ sym (listed_rows old) ∙ sym (listed-Booked (book_of old) (single (k, cause) n)))
+    same_books _ _ (listed_rows new ∙ booked_keys k cause n old new booked ∙ sym (listed_rows old) ∙ sym (listed-Booked (book_of_rows old) (single (k, cause) n)))
     (booked_burns k cause n old new booked listed range)
 
 -- ---- the place of a row
@@ -237,6 +234,6 @@ booked_set k cause n (x ∷ rs) (suc i) r s place inside at_i burned =
     ] place
 
 pub keys_more : (ks : List Listed) (i : ℕ) (k : Listed) (rs next : List BookRow) (r : BookRow) → i < length ks → k ≡ get_or ks i k → row_key r ≡ k → next ≡ rs ++ r ∷ []
-    → keys_in rs ≡ take i ks → keys_in next ≡ take (i + 1) ks
+    → book_keys_in rs ≡ take i ks → book_keys_in next ≡ take (i + 1) ks
 keys_more ks i k rs next r inside is key pushed before =
-    ap keys_in pushed ∙ keys-push rs r ∙ ap (λ x. keys_in rs ++ x ∷ []) (key ∙ is) ∙ ap (λ xs. xs ++ get_or ks i k ∷ []) before ∙ sym (take_more ks i k inside)
+    ap book_keys_in pushed ∙ keys-push rs r ∙ ap (λ x. book_keys_in rs ++ x ∷ []) (key ∙ is) ∙ ap (λ xs. xs ++ get_or ks i k ∷ []) before ∙ sym (take_more ks i k inside)

@@ -4,16 +4,17 @@ use Rattle.std.specs.Prelude.{IsSomeAnd, unwrap_or}
 use Rattle.std.specs.Option.{option_map}
 use Rattle.std.specs.Ordering.{eq_by_cmp}
 use Rattle.amounts.specs.Rows.{amount_if, sum_where}
-use Rattle.amounts.specs.Laws.{same_key, key_same}
+use Rattle.amounts.proofs.Lemmas.{same_key, key_same}
 use Rattle.locations.specs.declared.grammar.Junction.{Junction}
 use Rattle.locations.specs.declared.relative.Location.{Location}
 use Rattle.asset_lists.specs.declared.units.AssetId.{AssetId}
 use Rattle.asset_lists.specs.declared.units.Asset.{Asset}
 use Rattle.asset_lists.specs.Units.{Unit, unit_of, amount_of, unit_cmp}
 use Rattle.asset_lists.specs.Lists.{is_of}
-use Rattle.asset_lists.specs.Moves.{moved_id, both, all_moved, occurrences, IsMoved}
-use Rattle.asset_bundles.specs.Bundles.{unit_keys, rows_of, bundle_of, IsHolding}
-use Rattle.asset_bundles.specs.BundleLaws.{amount-bundle_of}
+use Rattle.asset_lists.specs.Moves.{reanchored_id, both, all_reanchored, occurrences, IsReanchoredList}
+use Rattle.asset_bundles.specs.Bundles.{rows_of, bundle_of, IsHolding}
+use Rattle.asset_bundles.proofs.Lemmas.Bundles.{unit_keys}
+use Rattle.asset_bundles.proofs.Lemmas.BundleLaws.{amount-bundle_of}
 use Rattle.asset_bundles.specs.Landing.{renamed, Renamed, StayApart, renamed_asset, renamed_assets}
 use Rattle.asset_bundles.proofs.Minting.{bundle_of-IsPermutation}
 use Rattle.asset_bundles.proofs.Naming.{renamed_is, count_first, named}
@@ -28,19 +29,19 @@ module _ (target : Location) (context : List Junction) where
       let first : record { id = id; fun = a.fun } ∷ ys ≡ all = cc in
       sym first ∙ ap (λ zs. record { id = id; fun = a.fun } ∷ zs) (later ys refl)
 
-  all_renamed : (xs all : List Asset) → all_moved target context xs ≡ Some all → all ≡ renamed_assets target context xs
+  all_renamed : (xs all : List Asset) → all_reanchored target context xs ≡ Some all → all ≡ renamed_assets target context xs
   all_renamed [] all is = cc
-  all_renamed (a ∷ xs) all is = one_renamed a (moved_id target context a.id) (all_moved target context xs) all (renamed_assets target context xs) (all_renamed xs) is
+  all_renamed (a ∷ xs) all is = one_renamed a (reanchored_id target context a.id) (all_reanchored target context xs) all (renamed_assets target context xs) (all_renamed xs) is
 
-  some_and : (o : Option (List Asset)) (ys new : List Asset) → ((all : List Asset) → o ≡ Some all → all ≡ ys) → IsSomeAnd o (λ all. IsMoved all new) → IsMoved ys new
+  some_and : (o : Option (List Asset)) (ys new : List Asset) → ((all : List Asset) → o ≡ Some all → all ≡ ys) → IsSomeAnd o (λ all. IsReanchoredList all new) → IsReanchoredList ys new
   some_and None ys new is moved = absurd moved
-  some_and (Some all) ys new is moved = subst (λ zs. IsMoved zs new) (is all refl) moved
+  some_and (Some all) ys new is moved = subst (λ zs. IsReanchoredList zs new) (is all refl) moved
 
-  moved_renamed : (xs new : List Asset) → IsSomeAnd (all_moved target context xs) (λ all. IsMoved all new) → IsMoved (renamed_assets target context xs) new
-  moved_renamed xs new moved = some_and (all_moved target context xs) (renamed_assets target context xs) new (all_renamed xs) moved
+  moved_renamed : (xs new : List Asset) → IsSomeAnd (all_reanchored target context xs) (λ all. IsReanchoredList all new) → IsReanchoredList (renamed_assets target context xs) new
+  moved_renamed xs new moved = some_and (all_reanchored target context xs) (renamed_assets target context xs) new (all_renamed xs) moved
 
   -- a bundle lands as the list that the target names
-  pub landed_moved : (xs new : List Asset) → IsHolding xs → IsSomeAnd (all_moved target context xs) (λ all. IsMoved all new) → Renamed target context (bundle_of xs) ≡ bundle_of new
+  pub landed_moved : (xs new : List Asset) → IsHolding xs → IsSomeAnd (all_reanchored target context xs) (λ all. IsReanchoredList all new) → Renamed target context (bundle_of xs) ≡ bundle_of new
   landed_moved xs new h moved =
       sym (renamed_is target context xs h) ∙ sym (bundle_of-IsPermutation (renamed_assets target context xs) new (moved_renamed xs new moved).same_units)
 
@@ -84,6 +85,6 @@ module _ (target : Location) (context : List Junction) where
         ] refl v_held
       ] refl u_held
 
-  pub apart_moved : (xs new : List Asset) → IsSomeAnd (all_moved target context xs) (λ all. IsMoved all new) → StayApart target context (bundle_of xs)
+  pub apart_moved : (xs new : List Asset) → IsSomeAnd (all_reanchored target context xs) (λ all. IsReanchoredList all new) → StayApart target context (bundle_of xs)
   apart_moved xs new moved u v u_held v_held same =
       kept_apart xs (moved_renamed xs new moved).apart u v (subst (λ n. 0 < n) (amount-bundle_of xs u) u_held) (subst (λ n. 0 < n) (amount-bundle_of xs v) v_held) same

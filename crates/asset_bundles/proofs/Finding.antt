@@ -9,16 +9,19 @@ use Rattle.std.specs.declared.cmp.Ordering.TheVariants.{Less, Equal, Greater}
 use Rattle.std.proofs.lemmas.Bool.{and_parts, and_from, leb-true, le-leb}
 use Rattle.std.proofs.lemmas.List.{take_more}
 use Rattle.amounts.specs.Rows.{sum_where, amount_if}
-use Rattle.amounts.specs.Amounts.{amount, total, IsWithin, total_alike, amount-total}
-use Rattle.amounts.specs.Laws.{same_key, key_same}
+use Rattle.amounts.specs.Amounts.{amount, total, IsWithin}
+use Rattle.amounts.proofs.Lemmas.AmountLaws.{total_alike, amount-total}
+use Rattle.amounts.proofs.Lemmas.{same_key, key_same}
 use Rattle.asset_lists.specs.declared.units.AssetId.{AssetId}
 use Rattle.asset_lists.specs.declared.units.Instance.{Instance}
 use Rattle.asset_lists.specs.declared.units.Kind.{Kind}
 use Rattle.asset_lists.specs.declared.units.Fun.{Fun}
 use Rattle.asset_lists.specs.declared.units.Asset.{Asset}
 use Rattle.asset_lists.specs.Units.{Unit, unit_of, amount_of, unit_cmp, asset_id_cmp, instance_in, amount_in}
-use Rattle.asset_bundles.specs.Bundles.{Bundle, unit_keys, rows_of, bundle_of, found, IsHolding, is_kind, is_asset}
-use Rattle.asset_bundles.specs.BundleLaws.{found-holding, amount-bundle_of}
+use Rattle.asset_bundles.specs.Bundles.{Bundle, rows_of, bundle_of, found, IsHolding, is_kind, is_asset}
+use Rattle.asset_bundles.proofs.Lemmas.Bundles.{unit_keys}
+use Rattle.asset_bundles.proofs.Lemmas.BundleLaws.{found-holding, amount-bundle_of}
+use Rattle.plain_lists.proofs.Lemmas.Facts.{and_false as not_both, equal_then_equal as tie_id}
 
 -- ---- a list at one place
 pub at_place : (xs : List Asset) (i : ℕ) (a : Asset) → i < length xs → a ≡ get_or xs i a → drop i xs ≡ a ∷ drop (i + 1) xs
@@ -79,15 +82,6 @@ holds_from_within xs list held within = holds_up_to (λ u. found u xs) list (λ 
     omega (arith, le, here, there))
 
 -- ---- totals of one asset
-tie_id : (r : Ordering) → (is_eq r && true) ≡ is_eq (ordering_then r Equal)
-tie_id Less = refl
-tie_id Equal = refl
-tie_id Greater = refl
-
-not_both : (b : Bool) → (b && false) ≡ false
-not_both true = refl
-not_both false = refl
-
 pub same_test : (id other : AssetId) (x : Option Instance) → is_asset id Kind.Fungible (other, x) ≡ eq_by_cmp unit_cmp (id, None) (other, x)
 same_test id other None = tie_id (asset_id_cmp id other)
 same_test id other (Some instance) = not_both (is_eq (asset_id_cmp id other))

@@ -10,16 +10,18 @@ use Rattle.std.specs.declared.cmp.Ordering.TheVariants.{Less}
 use Rattle.std.proofs.lemmas.List.Sums.{prefix_len-drop_yes, prefix_len-drop_no}
 use Rattle.amounts.specs.Rows.{IsPositive, amount_if}
 use Rattle.amounts.specs.Amounts.{amount, minus}
-use Rattle.amounts.specs.Laws.{amount-minus, key_same}
+use Rattle.amounts.proofs.Lemmas.{amount-minus, key_same}
 use Rattle.asset_lists.specs.declared.units.Fun.{Fun}
 use Rattle.asset_lists.specs.declared.units.Asset.{Asset}
 use Rattle.std.specs.Cmp.{eq_by_cmp_equiv}
 use Rattle.asset_lists.specs.UnitLaws.{unit_total}
 use Rattle.asset_lists.specs.Units.{Unit, unit_of, amount_of, unit_cmp, amount_in}
-use Rattle.asset_bundles.specs.Bundles.{unit_keys, rows_of, bundle_of, IsHolding}
-use Rattle.asset_bundles.specs.BundleLaws.{same_bundles}
-use Rattle.asset_bundles.specs.Changed.{amount-with_amounts}
-use Rattle.asset_bundles.specs.Portions.{fun_with, asset_with, kept, changed, FitsInstances, spent, is_other}
+use Rattle.asset_bundles.specs.Bundles.{rows_of, bundle_of, IsHolding}
+use Rattle.asset_bundles.proofs.Lemmas.Bundles.{unit_keys}
+use Rattle.asset_bundles.proofs.Lemmas.BundleLaws.{same_bundles}
+use Rattle.asset_bundles.proofs.Lemmas.Changed.{amount-with_amounts}
+use Rattle.asset_bundles.specs.Portions.{fun_with, asset_with, with_remainder, changed, spent, is_other}
+use Rattle.asset_bundles.proofs.Lemmas.Portions.{FitsInstances}
 use Rattle.asset_bundles.proofs.Parts.{bundle_of-changed, changed_holding}
 
 -- ---- the place
@@ -58,7 +60,7 @@ same_fun (Fun.NonFungible instance) = refl
 whole_asset : (a : Asset) → asset_with a (amount_of a) ≡ a
 whole_asset a i = record { id = a.id; fun = same_fun a.fun i }
 
-kept_at : (a : Asset) (n : ℕ) (rest : List Asset) → 0 < n → n ≡ amount_of a → kept a n rest ≡ a ∷ rest
+kept_at : (a : Asset) (n : ℕ) (rest : List Asset) → 0 < n → n ≡ amount_of a → with_remainder a n rest ≡ a ∷ rest
 kept_at a zero rest some is = absurd (omega (arith, some))
 kept_at a (suc n) rest some is = ap (λ m. asset_with a m ∷ rest) is ∙ ap (λ b. b ∷ rest) (whole_asset a)
 
@@ -70,15 +72,15 @@ unfolding less_at
 idle u n [] above positive = refl
 idle u n (a ∷ xs) above positive =
     let same : less_at u n (unit_of a) (amount_of a) ≡ amount_of a = ap (λ b. if b then amount_of a - n else amount_of a) (not_less (unit_cmp u (unit_of a)) above.0) in
-    ap (λ m. kept a m (changed (less_at u n) xs)) same ∙ kept_at a (amount_of a) (changed (less_at u n) xs) positive.0 refl ∙ ap (λ ys. a ∷ ys) (idle u n xs above.1 positive.1)
+    ap (λ m. with_remainder a m (changed (less_at u n) xs)) same ∙ kept_at a (amount_of a) (changed (less_at u n) xs) positive.0 refl ∙ ap (λ ys. a ∷ ys) (idle u n xs above.1 positive.1)
 
 spent_changed : (u : Unit) (n : ℕ) (xs : List Asset) → IsStrictlySortedBy unit_cmp (keys_of (rows_of xs)) → IsPositive (rows_of xs) → spent u n xs ≡ changed (less_at u n) xs
 unfolding less_at IsStrictlySortedBy
 spent_changed u n [] rising positive = refl
 spent_changed u n (a ∷ xs) rising positive =
     elim (eq_by_cmp unit_cmp u (unit_of a)) as (λ b. eq_by_cmp unit_cmp u (unit_of a) ≡ b
-    → (if b then kept a (amount_of a - n) xs else (a ∷ spent u n xs)) ≡ kept a (if b then amount_of a - n else amount_of a) (changed (less_at u n) xs)) [
-      | true ↦ λ t. ap (kept a (amount_of a - n)) (sym (idle u n xs (subst (λ v. AllByRecursion (λ w. unit_cmp v w ≡ Less) (keys_of (rows_of xs))) (sym (key_same unit_keys u (unit_of a) t)) rising.0) positive.1))
+    → (if b then with_remainder a (amount_of a - n) xs else (a ∷ spent u n xs)) ≡ with_remainder a (if b then amount_of a - n else amount_of a) (changed (less_at u n) xs)) [
+      | true ↦ λ t. ap (with_remainder a (amount_of a - n)) (sym (idle u n xs (subst (λ v. AllByRecursion (λ w. unit_cmp v w ≡ Less) (keys_of (rows_of xs))) (sym (key_same unit_keys u (unit_of a) t)) rising.0) positive.1))
       | false ↦ λ t. ap (λ ys. a ∷ ys) (spent_changed u n xs rising.1 positive.1) ∙ sym (kept_at a (amount_of a) (changed (less_at u n) xs) positive.0 refl)
     ] refl
 
@@ -106,7 +108,7 @@ spent_minus u n xs h =
 pub spent_nowhere : (u : Unit) (n : ℕ) (xs : List Asset) → length xs ≤ prefix_len (is_other u) xs → xs ≡ spent u n xs
 spent_nowhere u n [] past = refl
 spent_nowhere u n (a ∷ xs) past =
-    elim (eq_by_cmp unit_cmp u (unit_of a)) as (λ b. length (a ∷ xs) ≤ (if not b then 1 + prefix_len (is_other u) xs else 0) → (a ∷ xs) ≡ (if b then kept a (amount_of a - n) xs else (a ∷ spent u n xs))) [
+    elim (eq_by_cmp unit_cmp u (unit_of a)) as (λ b. length (a ∷ xs) ≤ (if not b then 1 + prefix_len (is_other u) xs else 0) → (a ∷ xs) ≡ (if b then with_remainder a (amount_of a - n) xs else (a ∷ spent u n xs))) [
       | true ↦ λ p. absurd (omega (arith, p))
       | false ↦ λ p. ap (λ ys. a ∷ ys) (spent_nowhere u n xs (omega (arith, p)))
     ] past
@@ -114,17 +116,17 @@ spent_nowhere u n (a ∷ xs) past =
 pub spent_removed : (u : Unit) (n : ℕ) (xs : List Asset) (k : ℕ) (b : Asset) → k ≡ prefix_len (is_other u) xs → k < length xs → b ≡ get_or xs k b → amount_of b - n ≡ 0 → remove xs k ≡ spent u n xs
 spent_removed u n [] k b place inside at_k none = absurd (omega (arith, inside))
 spent_removed u n (a ∷ xs) zero b place inside at_k none =
-    elim (eq_by_cmp unit_cmp u (unit_of a)) as (λ t. 0 ≡ (if not t then 1 + prefix_len (is_other u) xs else 0) → xs ≡ (if t then kept a (amount_of a - n) xs else (a ∷ spent u n xs))) [
-      | true ↦ λ p. ap (λ m. kept a m xs) (sym none ∙ ap (λ x. amount_of x - n) at_k)
+    elim (eq_by_cmp unit_cmp u (unit_of a)) as (λ t. 0 ≡ (if not t then 1 + prefix_len (is_other u) xs else 0) → xs ≡ (if t then with_remainder a (amount_of a - n) xs else (a ∷ spent u n xs))) [
+      | true ↦ λ p. ap (λ m. with_remainder a m xs) (sym none ∙ ap (λ x. amount_of x - n) at_k)
       | false ↦ λ p. absurd (omega (arith, p))
     ] place
 spent_removed u n (a ∷ xs) (suc k) b place inside at_k none =
-    elim (eq_by_cmp unit_cmp u (unit_of a)) as (λ t. suc k ≡ (if not t then 1 + prefix_len (is_other u) xs else 0) → (a ∷ remove xs k) ≡ (if t then kept a (amount_of a - n) xs else (a ∷ spent u n xs))) [
+    elim (eq_by_cmp unit_cmp u (unit_of a)) as (λ t. suc k ≡ (if not t then 1 + prefix_len (is_other u) xs else 0) → (a ∷ remove xs k) ≡ (if t then with_remainder a (amount_of a - n) xs else (a ∷ spent u n xs))) [
       | true ↦ λ p. absurd (omega (arith, p))
       | false ↦ λ p. ap (λ ys. a ∷ ys) (spent_removed u n xs k b (omega (arith, p)) (omega (arith, inside)) at_k none)
     ] place
 
-kept_front : (a : Asset) (n : ℕ) (rest : List Asset) → 0 < n → kept a n rest ≡ asset_with a n ∷ rest
+kept_front : (a : Asset) (n : ℕ) (rest : List Asset) → 0 < n → with_remainder a n rest ≡ asset_with a n ∷ rest
 kept_front a zero rest some = absurd (omega (arith, some))
 kept_front a (suc n) rest some = refl
 
@@ -132,12 +134,12 @@ pub spent_set : (u : Unit) (n : ℕ) (xs : List Asset) (k : ℕ) (b : Asset) →
     → slice_set xs k (asset_with b (amount_of b - n)) ≡ spent u n xs
 spent_set u n [] k b place inside at_k some = absurd (omega (arith, inside))
 spent_set u n (a ∷ xs) zero b place inside at_k some =
-    elim (eq_by_cmp unit_cmp u (unit_of a)) as (λ t. 0 ≡ (if not t then 1 + prefix_len (is_other u) xs else 0) → (asset_with b (amount_of b - n) ∷ xs) ≡ (if t then kept a (amount_of a - n) xs else (a ∷ spent u n xs))) [
-      | true ↦ λ p. sym (kept_front b (amount_of b - n) xs some) ∙ ap (λ x. kept x (amount_of x - n) xs) at_k
+    elim (eq_by_cmp unit_cmp u (unit_of a)) as (λ t. 0 ≡ (if not t then 1 + prefix_len (is_other u) xs else 0) → (asset_with b (amount_of b - n) ∷ xs) ≡ (if t then with_remainder a (amount_of a - n) xs else (a ∷ spent u n xs))) [
+      | true ↦ λ p. sym (kept_front b (amount_of b - n) xs some) ∙ ap (λ x. with_remainder x (amount_of x - n) xs) at_k
       | false ↦ λ p. absurd (omega (arith, p))
     ] place
 spent_set u n (a ∷ xs) (suc k) b place inside at_k some =
-    elim (eq_by_cmp unit_cmp u (unit_of a)) as (λ t. suc k ≡ (if not t then 1 + prefix_len (is_other u) xs else 0) → (a ∷ slice_set xs k (asset_with b (amount_of b - n))) ≡ (if t then kept a (amount_of a - n) xs else (a ∷ spent u n xs))) [
+    elim (eq_by_cmp unit_cmp u (unit_of a)) as (λ t. suc k ≡ (if not t then 1 + prefix_len (is_other u) xs else 0) → (a ∷ slice_set xs k (asset_with b (amount_of b - n))) ≡ (if t then with_remainder a (amount_of a - n) xs else (a ∷ spent u n xs))) [
       | true ↦ λ p. absurd (omega (arith, p))
       | false ↦ λ p. ap (λ ys. a ∷ ys) (spent_set u n xs k b (omega (arith, p)) (omega (arith, inside)) at_k some)
     ] place

@@ -1,3 +1,4 @@
+pub mod Lemmas
 pub mod Finding
 pub mod Listing
 pub mod Minting
@@ -5,7 +6,16 @@ pub mod Parts
 pub mod Giving
 pub mod Burning
 pub mod BookedAll
-pub mod Sums
+pub mod SumFacts
 pub mod Naming
 pub mod Conditions
-pub mod Pieces
+pub mod PieceFacts
+mod Holding
+mod Mapped
+mod SumRows
+mod Cutting
+mod Places
+mod Searching
+mod Claiming
+mod Conserving
+mod Settling

@@ -14,11 +14,7 @@ use Rattle.asset_lists.specs.Units.{Unit, unit_of, amount_of, unit_cmp, is_befor
 use Rattle.asset_lists.specs.UnitLaws.{unit_total}
 use Rattle.asset_lists.specs.Lists.{has_zero, is_rising, IsAssetList}
 use Rattle.asset_bundles.specs.Bundles.{rows_of, IsHolding}
-
-less_is : (r : Ordering) → is_lt r ≡ true → r ≡ Less
-less_is Less h = refl
-less_is Equal h = absurd (cc)
-less_is Greater h = absurd (cc)
+use Rattle.plain_lists.proofs.Lemmas.Facts.{less_told as less_is, neither_true as neither, not_zero_positive as above_zero}
 
 pub all_above : (u v : Unit) (us : List Unit) → unit_cmp u v ≡ Less → AllByRecursion (λ w. unit_cmp v w ≡ Less) us → AllByRecursion (λ w. unit_cmp u w ≡ Less) us
 all_above u v [] first all = tt
@@ -33,14 +29,6 @@ rising_keys (a ∷ b ∷ xs) rising =
     let rest = rising_keys (b ∷ xs) parts.1 in
     let first = less_is (unit_cmp (unit_of a) (unit_of b)) parts.0 in
     ((first, all_above (unit_of a) (unit_of b) (keys_of (rows_of xs)) first rest.0), rest)
-
-neither : (a b : Bool) → (a || b) ≡ false → (a ≡ false) × (b ≡ false)
-neither true b h = absurd (cc)
-neither false b h = (refl, h)
-
-above_zero : (n : ℕ) → nat_eq n 0 ≡ false → 0 < n
-above_zero zero h = absurd (cc)
-above_zero (suc n) h = omega arith
 
 pub positive_rows : (xs : List Asset) → has_zero xs ≡ false → IsPositive (rows_of xs)
 positive_rows [] none = tt

@@ -11,9 +11,9 @@ use Rattle.asset_lists.specs.declared.units.Asset.{Asset}
 use Rattle.asset_lists.specs.Units.{Unit, unit_of, amount_of, unit_cmp, asset_cmp, is_zero}
 use Rattle.asset_lists.specs.Lists.{has_zero, is_rising}
 use Rattle.asset_lists.specs.Moves.{occurrences}
-use Rattle.asset_lists.specs.Laws.{twice_in}
+use Rattle.asset_lists.proofs.Lemmas.{twice_in}
 use Rattle.asset_bundles.specs.Bundles.{rows_of, bundle_of, IsHolding}
-use Rattle.asset_bundles.specs.BundleLaws.{same_bundles, amount-bundle_of}
+use Rattle.asset_bundles.proofs.Lemmas.BundleLaws.{same_bundles, amount-bundle_of}
 use Rattle.asset_bundles.proofs.Listing.{rising_keys, positive_rows}
 
 counted_in : (Unit → Bool) → Asset → ℕ

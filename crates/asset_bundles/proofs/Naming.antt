@@ -11,19 +11,20 @@ use Rattle.std.proofs.lemmas.List.{append-nil, take_all}
 use Rattle.std.proofs.lemmas.List.Sums.{sum_by-cons}
 use Rattle.amounts.specs.Rows.{amount_if, sum_where, rows_at, IsPositive}
 use Rattle.amounts.specs.Amounts.{from_rows}
-use Rattle.amounts.specs.Laws.{same_key, key_same}
+use Rattle.amounts.proofs.Lemmas.{same_key, key_same}
 use Rattle.locations.specs.declared.grammar.Junction.{Junction}
 use Rattle.locations.specs.declared.relative.Location.{Location}
 use Rattle.asset_lists.specs.declared.units.Asset.{Asset}
 use Rattle.asset_lists.specs.Units.{Unit, unit_of, amount_of, unit_cmp, asset_cmp}
 use Rattle.asset_lists.specs.Lists.{is_of}
 use Rattle.asset_lists.specs.Moves.{occurrences}
-use Rattle.asset_bundles.specs.Bundles.{unit_keys, rows_of, bundle_of, IsHolding}
-use Rattle.asset_bundles.specs.BundleLaws.{amount-bundle_of, map_keys-bundle_of}
+use Rattle.asset_bundles.specs.Bundles.{rows_of, bundle_of, IsHolding}
+use Rattle.asset_bundles.proofs.Lemmas.Bundles.{unit_keys}
+use Rattle.asset_bundles.proofs.Lemmas.BundleLaws.{amount-bundle_of, map_keys-bundle_of}
 use Rattle.asset_bundles.specs.Landing.{renamed, Renamed, StayApart, renamed_asset, renamed_assets}
 use Rattle.asset_bundles.proofs.Finding.{past_end}
 use Rattle.asset_bundles.proofs.Minting.{bundle_of-IsPermutation, sorted_holding}
-use Rattle.asset_bundles.proofs.Sums.{no_zero_of}
+use Rattle.asset_bundles.proofs.SumFacts.{no_zero_of}
 
 held_in : Unit → List Asset → ℕ
 held_in u xs = sum_where (eq_by_cmp unit_cmp u) (rows_of xs)

@@ -8,21 +8,26 @@ use Rattle.std.specs.List.Sorted.{IsStrictlySortedBy}
 use Rattle.std.specs.Map.{keys_of}
 use Rattle.std.proofs.lemmas.List.{take_more, append_assoc}
 use Rattle.amounts.specs.Rows.{sum_where, amount_if, IsPositive}
-use Rattle.amounts.specs.Amounts.{amount, rows, from_rows, restriction, difference, amount-restriction}
-use Rattle.amounts.specs.Laws.{amount-from_rows, amount-difference, amount-lesser}
+use Rattle.amounts.specs.Amounts.{amount, rows, from_rows, restriction, difference}
+use Rattle.amounts.proofs.Lemmas.AmountLaws.{amount-restriction}
+use Rattle.amounts.proofs.Lemmas.{amount-from_rows, amount-difference, amount-lesser}
 use Rattle.asset_lists.specs.declared.units.AssetId.{AssetId}
 use Rattle.asset_lists.specs.declared.units.Fun.{Fun}
 use Rattle.asset_lists.specs.declared.units.Asset.{Asset}
 use Rattle.asset_lists.specs.declared.filters.Wild.{Wild}
 use Rattle.asset_lists.specs.declared.filters.Filter.{Filter}
 use Rattle.asset_lists.specs.Units.{Unit, unit_of, amount_of, unit_cmp, instance_in, amount_in}
-use Rattle.asset_bundles.specs.Bundles.{Bundle, unit_keys, rows_of, bundle_of, IsHolding}
-use Rattle.asset_bundles.specs.BundleLaws.{same_bundles, amount-bundle_of, rows-holding, found-holding, rows_of-take}
+use Rattle.asset_bundles.specs.Bundles.{Bundle, rows_of, bundle_of, IsHolding}
+use Rattle.asset_bundles.proofs.Lemmas.Bundles.{unit_keys}
+use Rattle.asset_bundles.proofs.Lemmas.BundleLaws.{same_bundles, amount-bundle_of, rows-holding, found-holding, rows_of-take}
 use Rattle.asset_bundles.specs.Filters.{is_all_of, first_kinds, Taken, Left}
 use Rattle.asset_bundles.specs.Joins.{IsListOf}
-use Rattle.asset_bundles.specs.Changed.{rows_with, with_amounts, amount-with_amounts}
-use Rattle.asset_bundles.specs.Portions.{fun_with, asset_with, kept, changed, FitsInstances, left_of, wanted, count_of_filter, at_most, chosen, IsListed}
+use Rattle.asset_bundles.specs.Changed.{rows_with, with_amounts}
+use Rattle.asset_bundles.proofs.Lemmas.Changed.{amount-with_amounts}
+use Rattle.asset_bundles.specs.Portions.{fun_with, asset_with, with_remainder, changed, left_of, wanted, count_of_filter, at_most, chosen, IsListed}
+use Rattle.asset_bundles.proofs.Lemmas.Portions.{FitsInstances}
 use Rattle.asset_bundles.proofs.Listing.{holding_of_list}
+use Rattle.plain_lists.proofs.Lemmas.Facts.{one_at_most as fits_if}
 
 -- ---- one asset
 same_instance : (f : Fun) (n : ℕ) → instance_in (fun_with f n) ≡ instance_in f
@@ -39,7 +44,7 @@ amount_with f fits id (Fun.NonFungible instance) n is = let one = fits id instan
 -- ---- rows
 module _ (f : Unit → ℕ → ℕ) (fits : FitsInstances f) where
   kept_sum : (p : Unit → Bool) (a : Asset) (rest : List Asset) (n : ℕ) → f (unit_of a) (amount_of a) ≡ n
-      → sum_where p (rows_of (kept a n rest)) ≡ amount_if (p (unit_of a)) n + sum_where p (rows_of rest)
+      → sum_where p (rows_of (with_remainder a n rest)) ≡ amount_if (p (unit_of a)) n + sum_where p (rows_of rest)
   kept_sum p a rest zero is = elim (p (unit_of a)) as (λ b. sum_where p (rows_of rest) ≡ amount_if b 0 + sum_where p (rows_of rest)) [ true ↦ omega arith | false ↦ omega arith ]
   kept_sum p a rest (suc n) is = λ i. amount_if (p (same_unit a (suc n) i)) (amount_with f fits a.id a.fun n is i) + sum_where p (rows_of rest)
 
@@ -57,7 +62,7 @@ module _ (f : Unit → ℕ → ℕ) (fits : FitsInstances f) where
 
   -- ---- holding order
   kept_above : (u : Unit) (a : Asset) (rest : List Asset) (n : ℕ) → unit_cmp u (unit_of a) ≡ Less → AllByRecursion (λ v. unit_cmp u v ≡ Less) (keys_of (rows_of rest))
-      → AllByRecursion (λ v. unit_cmp u v ≡ Less) (keys_of (rows_of (kept a n rest)))
+      → AllByRecursion (λ v. unit_cmp u v ≡ Less) (keys_of (rows_of (with_remainder a n rest)))
   kept_above u a rest zero first all = all
   kept_above u a rest (suc n) first all = (ap (unit_cmp u) (same_unit a (suc n)) ∙ first, all)
 
@@ -67,7 +72,7 @@ module _ (f : Unit → ℕ → ℕ) (fits : FitsInstances f) where
   changed_above u (a ∷ xs) all = kept_above u a (changed f xs) (f (unit_of a) (amount_of a)) all.0 (changed_above u xs all.1)
 
   kept_rising : (a : Asset) (rest : List Asset) (n : ℕ) → AllByRecursion (λ v. unit_cmp (unit_of a) v ≡ Less) (keys_of (rows_of rest))
-      → IsStrictlySortedBy unit_cmp (keys_of (rows_of rest)) → IsStrictlySortedBy unit_cmp (keys_of (rows_of (kept a n rest)))
+      → IsStrictlySortedBy unit_cmp (keys_of (rows_of rest)) → IsStrictlySortedBy unit_cmp (keys_of (rows_of (with_remainder a n rest)))
   unfolding IsStrictlySortedBy
   kept_rising a rest zero all rising = rising
   kept_rising a rest (suc n) all rising = (subst (λ u. AllByRecursion (λ v. unit_cmp u v ≡ Less) (keys_of (rows_of rest))) (sym (same_unit a (suc n))) all, rising)
@@ -77,7 +82,7 @@ module _ (f : Unit → ℕ → ℕ) (fits : FitsInstances f) where
   changed_rising [] rising = tt
   changed_rising (a ∷ xs) rising = kept_rising a (changed f xs) (f (unit_of a) (amount_of a)) (changed_above (unit_of a) xs rising.0) (changed_rising xs rising.1)
 
-  kept_positive : (a : Asset) (rest : List Asset) (n : ℕ) → f (unit_of a) (amount_of a) ≡ n → IsPositive (rows_of rest) → IsPositive (rows_of (kept a n rest))
+  kept_positive : (a : Asset) (rest : List Asset) (n : ℕ) → f (unit_of a) (amount_of a) ≡ n → IsPositive (rows_of rest) → IsPositive (rows_of (with_remainder a n rest))
   kept_positive a rest zero is positive = positive
   kept_positive a rest (suc n) is positive = (let e = amount_with f fits a.id a.fun n is in omega (arith, e), positive)
 
@@ -89,19 +94,19 @@ module _ (f : Unit → ℕ → ℕ) (fits : FitsInstances f) where
   changed_holding xs h = record { rising = changed_rising xs h.rising; positive = changed_positive xs }
 
 -- ---- the loops that make such a list
-kept_append : (a : Asset) (n : ℕ) (xs ys : List Asset) → kept a n (xs ++ ys) ≡ kept a n xs ++ ys
+kept_append : (a : Asset) (n : ℕ) (xs ys : List Asset) → with_remainder a n (xs ++ ys) ≡ with_remainder a n xs ++ ys
 kept_append a zero xs ys = refl
 kept_append a (suc n) xs ys = refl
 
-changed_push : (f : Unit → ℕ → ℕ) (xs : List Asset) (a : Asset) → changed f (xs ++ a ∷ []) ≡ changed f xs ++ kept a (f (unit_of a) (amount_of a)) []
+changed_push : (f : Unit → ℕ → ℕ) (xs : List Asset) (a : Asset) → changed f (xs ++ a ∷ []) ≡ changed f xs ++ with_remainder a (f (unit_of a) (amount_of a)) []
 changed_push f [] a = refl
-changed_push f (x ∷ xs) a = ap (kept x (f (unit_of x) (amount_of x))) (changed_push f xs a) ∙ kept_append x (f (unit_of x) (amount_of x)) (changed f xs) (kept a (f (unit_of a) (amount_of a)) [])
+changed_push f (x ∷ xs) a = ap (with_remainder x (f (unit_of x) (amount_of x))) (changed_push f xs a) ∙ kept_append x (f (unit_of x) (amount_of x)) (changed f xs) (with_remainder a (f (unit_of a) (amount_of a)) [])
 
 changed_take : (f : Unit → ℕ → ℕ) (xs : List Asset) (i : ℕ) (a : Asset) → i < length xs → a ≡ get_or xs i a
-    → changed f (take (i + 1) xs) ≡ changed f (take i xs) ++ kept a (f (unit_of a) (amount_of a)) []
+    → changed f (take (i + 1) xs) ≡ changed f (take i xs) ++ with_remainder a (f (unit_of a) (amount_of a)) []
 changed_take f xs i a inside is = ap (changed f) (take_more xs i a inside ∙ ap (λ x. take i xs ++ x ∷ []) (sym is)) ∙ changed_push f (take i xs) a
 
-pub kept_some : (a : Asset) (n : ℕ) → 0 < n → kept a n [] ≡ asset_with a n ∷ []
+pub kept_some : (a : Asset) (n : ℕ) → 0 < n → with_remainder a n [] ≡ asset_with a n ∷ []
 kept_some a zero some = absurd (omega (arith, some))
 kept_some a (suc n) some = refl
 
@@ -109,20 +114,20 @@ append_none : (xs : List Asset) → xs ++ [] ≡ xs
 append_none [] = refl
 append_none (x ∷ xs) = ap (λ ys. x ∷ ys) (append_none xs)
 
-pub kept_none : (a : Asset) (n : ℕ) (xs : List Asset) → n ≡ 0 → xs ≡ xs ++ kept a n []
-kept_none a n xs none = sym (append_none xs) ∙ ap (λ m. xs ++ kept a m []) (sym none)
+pub kept_none : (a : Asset) (n : ℕ) (xs : List Asset) → n ≡ 0 → xs ≡ xs ++ with_remainder a n []
+kept_none a n xs none = sym (append_none xs) ∙ ap (λ m. xs ++ with_remainder a m []) (sym none)
 
 pub changed_more : (f : Unit → ℕ → ℕ) (xs : List Asset) (i n : ℕ) (a : Asset) (so_far next : List Asset) → i < length xs → a ≡ get_or xs i a → n ≡ f (unit_of a) (amount_of a)
-    → next ≡ so_far ++ kept a n [] → so_far ≡ changed f (take i xs) → next ≡ changed f (take (i + 1) xs)
+    → next ≡ so_far ++ with_remainder a n [] → so_far ≡ changed f (take i xs) → next ≡ changed f (take (i + 1) xs)
 changed_more f xs i n a so_far next inside is amount pushed before =
-    pushed ∙ ap (λ ys. ys ++ kept a n []) before ∙ ap (λ m. changed f (take i xs) ++ kept a m []) amount ∙ sym (changed_take f xs i a inside is)
+    pushed ∙ ap (λ ys. ys ++ with_remainder a n []) before ∙ ap (λ m. changed f (take i xs) ++ with_remainder a m []) amount ∙ sym (changed_take f xs i a inside is)
 
 -- behind what is there already
 pub changed_behind : (f : Unit → ℕ → ℕ) (front xs : List Asset) (i n : ℕ) (a : Asset) (so_far next : List Asset) → i < length xs → a ≡ get_or xs i a → n ≡ f (unit_of a) (amount_of a)
-    → next ≡ so_far ++ kept a n [] → so_far ≡ front ++ changed f (take i xs) → next ≡ front ++ changed f (take (i + 1) xs)
+    → next ≡ so_far ++ with_remainder a n [] → so_far ≡ front ++ changed f (take i xs) → next ≡ front ++ changed f (take (i + 1) xs)
 changed_behind f front xs i n a so_far next inside is amount pushed before =
-    pushed ∙ ap (λ ys. ys ++ kept a n []) before ∙ append_assoc front (changed f (take i xs)) (kept a n [])
-    ∙ ap (λ ys. front ++ ys) (changed_more f xs i n a (changed f (take i xs)) (changed f (take i xs) ++ kept a n []) inside is amount refl refl)
+    pushed ∙ ap (λ ys. ys ++ with_remainder a n []) before ∙ append_assoc front (changed f (take i xs)) (with_remainder a n [])
+    ∙ ap (λ ys. front ++ ys) (changed_more f xs i n a (changed f (take i xs)) (changed f (take i xs) ++ with_remainder a n []) inside is amount refl refl)
 
 -- ---- what is left
 fits_left : (taken : List Asset) → FitsInstances (left_of taken)
@@ -139,10 +144,6 @@ left_difference taken xs t h = bundle_of-changed (left_of taken) (fits_left take
     omega (arith, left, there, less))
 
 -- ---- what a filter takes
-fits_if : (b : Bool) → (if b then 1 else 0) ≤ 1
-fits_if true = omega arith
-fits_if false = omega arith
-
 zero_if : (b : Bool) → amount_if b 0 ≡ 0
 zero_if true = refl
 zero_if false = refl

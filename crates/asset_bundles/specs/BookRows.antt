@@ -21,16 +21,16 @@ total_for Cause.Saturated r = r.saturated
 abbrev pub entry_for : Cause → BookRow → Burn × ℕ
 entry_for cause r = ((row_key r, cause), total_value (total_for cause r))
 
-abbrev pub keys_in : List BookRow → List Listed
-keys_in [] = []
-keys_in (r ∷ rs) = row_key r ∷ keys_in rs
+abbrev pub book_keys_in : List BookRow → List Listed
+book_keys_in [] = []
+book_keys_in (r ∷ rs) = row_key r ∷ book_keys_in rs
 
-abbrev pub entries_in : List BookRow → List (Burn × ℕ)
-entries_in [] = []
-entries_in (r ∷ rs) = entry_for Cause.BurnAsset r ∷ entry_for Cause.LostTeleport r ∷ entry_for Cause.Merged r ∷ entry_for Cause.Saturated r ∷ entries_in rs
+abbrev pub burn_entries_in : List BookRow → List (Burn × ℕ)
+burn_entries_in [] = []
+burn_entries_in (r ∷ rs) = entry_for Cause.BurnAsset r ∷ entry_for Cause.LostTeleport r ∷ entry_for Cause.Merged r ∷ entry_for Cause.Saturated r ∷ burn_entries_in rs
 
-unfoldable pub book_of : List BookRow → Book
-book_of rs = record { listed = keys_in rs; burns = from_entries (entries_in rs) }
+unfoldable pub book_of_rows : List BookRow → Book
+book_of_rows rs = record { listed = book_keys_in rs; burns = from_entries (burn_entries_in rs) }
 
 -- the total of the first row of an asset, or 0
 abbrev pub total_at : Listed → Cause → List BookRow → ℕ

@@ -76,6 +76,3 @@ is_burn_where test burn = test burn.0
 -- those of one asset
 abbrev pub is_unit_of : Listed → Unit → Bool
 is_unit_of k = is_unit_where (eq_by_cmp listed_cmp k)
-
-abbrev pub is_burn_of : Listed → Burn → Bool
-is_burn_of k = is_burn_where (eq_by_cmp listed_cmp k)

@@ -6,7 +6,7 @@ use Rattle.std.specs.Ordering.{eq_by_cmp}
 use Rattle.std.specs.FinMap.{find}
 use Rattle.std.specs.List.Sorted.{IsStrictlySortedBy}
 use Rattle.std.specs.Map.{keys_of}
-use Rattle.amounts.specs.Rows.{IsKeyOrder, IsPositive}
+use Rattle.amounts.specs.Rows.{IsPositive}
 use Rattle.amounts.specs.Amounts.{Amounts, rows, from_rows}
 use Rattle.asset_lists.specs.declared.units.AssetId.{AssetId}
 use Rattle.asset_lists.specs.declared.units.Instance.{Instance}
@@ -14,13 +14,9 @@ use Rattle.asset_lists.specs.declared.units.Kind.{Kind}
 use Rattle.asset_lists.specs.declared.units.Fun.{Fun}
 use Rattle.asset_lists.specs.declared.units.Asset.{Asset}
 use Rattle.asset_lists.specs.Units.{Unit, unit_of, amount_of, unit_cmp, asset_id_cmp}
-use Rattle.asset_lists.specs.UnitLaws.{unit_total, unit_exact}
 
 abbrev pub Bundle : Type 0
 Bundle = Amounts unit_cmp
-
-pub unit_keys : IsKeyOrder unit_cmp
-unit_keys = record { total = unit_total; exact = unit_exact }
 
 -- each asset as its unit and its amount
 abbrev pub rows_of : List Asset → List (Unit × ℕ)
@@ -35,13 +31,13 @@ abbrev pub fun_of : Option Instance → ℕ → Fun
 fun_of None amount = Fun.Fungible amount
 fun_of (Some instance) amount = Fun.NonFungible instance
 
-abbrev pub assets_at : List (Unit × ℕ) → List Asset
-assets_at [] = []
-assets_at (r ∷ rs) = record { id = r.0.0; fun = fun_of r.0.1 r.1 } ∷ assets_at rs
+abbrev pub assets_of_rows : List (Unit × ℕ) → List Asset
+assets_of_rows [] = []
+assets_of_rows (r ∷ rs) = record { id = r.0.0; fun = fun_of r.0.1 r.1 } ∷ assets_of_rows rs
 
 -- all assets of a bundle in holding order: fungibles by id, then instances by id and instance
 unfoldable pub held_assets : Bundle → List Asset
-held_assets b = assets_at (rows b)
+held_assets b = assets_of_rows (rows b)
 
 -- in holding order, no unit twice, and no amount of 0
 pub record IsHolding (xs : List Asset) : Type 0 where

@@ -6,12 +6,12 @@ use Rattle.locations.specs.declared.relative.Location.{Location}
 use Rattle.asset_lists.specs.declared.units.AssetId.{AssetId}
 use Rattle.asset_lists.specs.declared.units.Asset.{Asset}
 use Rattle.asset_lists.specs.Units.{Unit}
-use Rattle.asset_lists.specs.Moves.{moved_id}
+use Rattle.asset_lists.specs.Moves.{reanchored_id}
 use Rattle.asset_bundles.specs.Bundles.{Bundle}
 
 -- the id that the target gives it; the same id where the target can't name it
 abbrev pub new_id : Location → List Junction → AssetId → AssetId
-new_id target context id = unwrap_or (moved_id target context id) id
+new_id target context id = unwrap_or (reanchored_id target context id) id
 
 -- the same unit under its new id
 abbrev pub renamed : Location → List Junction → Unit → Unit

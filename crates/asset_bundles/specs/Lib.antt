@@ -1,11 +1,9 @@
 pub mod Bundles
-pub mod BundleLaws
 pub mod Filters
 pub mod Changed
 pub mod Joins
 pub mod Landing
 pub mod Books
-pub mod Laws
 pub mod Portions
 pub mod Taking
 pub mod Totals
@@ -13,3 +11,8 @@ pub mod TotalLaws
 pub mod BookCode
 pub mod BookRows
 pub mod Losing
+pub mod Traps
+pub mod Digest
+pub mod Sums
+pub mod Oldest
+pub mod StoreCode

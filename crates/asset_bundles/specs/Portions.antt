@@ -1,8 +1,6 @@
 -- Lists of assets with other amounts, as the code makes them.
 use Rattle.std.specs.Ordering.{eq_by_cmp}
-use Rattle.std.specs.Prelude.{Bool, not, ℕ, zero, suc, ◌+◌, ◌-◌, ◌≤◌, nat_eq, nat_le, min, take, if◌then◌else◌, List, [], ◌∷◌, Option, Some, None, IsTrue, ⊤}
-use Rattle.asset_lists.specs.declared.units.AssetId.{AssetId}
-use Rattle.asset_lists.specs.declared.units.Instance.{Instance}
+use Rattle.std.specs.Prelude.{Bool, not, ℕ, zero, suc, ◌+◌, ◌-◌, nat_eq, nat_le, min, take, if◌then◌else◌, List, [], ◌∷◌, Option, Some, None, IsTrue, ⊤}
 use Rattle.asset_lists.specs.declared.units.Fun.{Fun}
 use Rattle.asset_lists.specs.declared.units.Asset.{Asset}
 use Rattle.asset_lists.specs.declared.filters.Wild.{Wild}
@@ -23,18 +21,14 @@ abbrev pub asset_with : Asset → ℕ → Asset
 asset_with a n = record { id = a.id; fun = fun_with a.fun n }
 
 -- in front of others, if the amount isn't 0
-abbrev pub kept : Asset → ℕ → List Asset → List Asset
-kept a zero rest = rest
-kept a (suc n) rest = asset_with a (suc n) ∷ rest
+abbrev pub with_remainder : Asset → ℕ → List Asset → List Asset
+with_remainder a zero rest = rest
+with_remainder a (suc n) rest = asset_with a (suc n) ∷ rest
 
 -- each asset with the amount that f gives, without those that have none
 abbrev pub changed : (Unit → ℕ → ℕ) → List Asset → List Asset
 changed f [] = []
-changed f (a ∷ xs) = kept a (f (unit_of a) (amount_of a)) (changed f xs)
-
--- an instance stays one or goes
-abbrev pub FitsInstances : (Unit → ℕ → ℕ) → Type 0
-FitsInstances f = (id : AssetId) (instance : Instance) → f (id, Some instance) 1 ≤ 1
+changed f (a ∷ xs) = with_remainder a (f (unit_of a) (amount_of a)) (changed f xs)
 
 -- what is taken of each unit where these are asked for
 abbrev pub common_with : List Asset → Unit → ℕ → ℕ
@@ -81,7 +75,7 @@ IsListed (Filter.Wild wild) = ⊤
 -- so much of a unit taken from the first asset that is of it
 abbrev pub spent : Unit → ℕ → List Asset → List Asset
 spent unit n [] = []
-spent unit n (a ∷ xs) = if eq_by_cmp unit_cmp unit (unit_of a) then kept a (amount_of a - n) xs else (a ∷ spent unit n xs)
+spent unit n (a ∷ xs) = if eq_by_cmp unit_cmp unit (unit_of a) then with_remainder a (amount_of a - n) xs else (a ∷ spent unit n xs)
 
 abbrev pub is_other : Unit → Asset → Bool
 is_other unit a = not (eq_by_cmp unit_cmp unit (unit_of a))

@@ -41,9 +41,9 @@ impl Model for BurnBook {
 
     ghost coded = { book_code };
 
-    ghost use Rattle.asset_bundles.specs.BookRows.{book_of, AreInRange};
+    ghost use Rattle.asset_bundles.specs.BookRows.{book_of_rows, AreInRange};
 
-    ghost view = { λ b. book_of b.rows.items };
+    ghost view = { λ b. book_of_rows b.rows.items };
 
     ghost invariant = { λ b. AreInRange b.rows.items };
 }

@@ -7,15 +7,12 @@ ghost use Rattle.asset_bundles.specs.Totals.{total_value};
 ghost use Rattle.asset_bundles.specs.declared.book.Cause.{Cause};
 ghost use Rattle.asset_bundles.specs.Books.{Booked};
 ghost use Rattle.asset_lists.specs.Listed.{Listed, listed_cmp, kind_number, lists};
-ghost use Rattle.asset_bundles.specs.BookRows.{row_key, keys_in, total_for, total_at, is_other_row, IsBurned, IsBooked};
+ghost use Rattle.asset_bundles.specs.BookRows.{row_key, book_keys_in, total_for, total_at, is_other_row, IsBurned, IsBooked};
 
 use crate::book::BookRow;
 use crate::{BurnBook, Cause, Total};
 use asset_lists::{AssetId, Kind};
 use std::alloc::{AllocError, Global};
-
-/// Nothing burned.
-const NONE: Total = Total { high: 0, low: 0 };
 
 impl BookRow {
     /// The row of an asset of which nothing was burned.
@@ -26,10 +23,10 @@ impl BookRow {
         BookRow {
             id: id.copy(),
             kind,
-            burned: NONE,
-            lost: NONE,
-            merged: NONE,
-            saturated: NONE,
+            burned: Total::ZERO,
+            lost: Total::ZERO,
+            merged: Total::ZERO,
+            saturated: Total::ZERO,
         }
     }
 
@@ -98,12 +95,12 @@ fn total_in(rows: &[BookRow], id: &AssetId, kind: Kind, cause: Cause) -> Total
             return row.total(cause);
         }
     }
-    NONE
+    Total::ZERO
 }
 
 /// A row for each asset, of which nothing was burned.
 fn new_rows(alloc: Global, assets: &[(AssetId, Kind)]) -> Result<Vec<BookRow>, AllocError>
-    ensures keys { IfOk result (λ rows. keys_in rows.items ≡ assets.now) }
+    ensures keys { IfOk result (λ rows. book_keys_in rows.items ≡ assets.now) }
     ensures none { IfOk result (λ rows. (k : Listed) (c : Cause) → total_at k c rows.items ≡ 0) }
 {
     let mut rows = Vec::new(alloc);

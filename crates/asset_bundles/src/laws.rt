@@ -11,7 +11,7 @@ ghost use Rattle.asset_lists.specs.declared.filters.Filter.{Filter};
 ghost use Rattle.asset_lists.specs.Units.{Unit, unit_of, unit_cmp};
 ghost use Rattle.asset_lists.specs.Lists.{IsAssetList};
 ghost use Rattle.asset_lists.specs.Listed.{Listed, listed_of, lists};
-ghost use Rattle.asset_lists.specs.Moves.{all_moved, occurrences, IsMoved};
+ghost use Rattle.asset_lists.specs.Moves.{all_reanchored, occurrences, IsReanchoredList};
 ghost use Rattle.asset_bundles.specs.declared.book.Cause.{Cause};
 ghost use Rattle.asset_bundles.specs.Bundles.{Bundle, bundle_of, held_assets, IsHolding, IsGoods};
 ghost use Rattle.asset_bundles.specs.Filters.{Taken, Left};
@@ -84,16 +84,16 @@ pub fn law_of_listed_assets()
 pub fn law_of_landing()
     ensures landed { (target : Location) (context : List Junction) (xs new : List Asset)
         → IsHolding xs
-        → IsSomeAnd (all_moved target context xs) (λ all. IsMoved all new)
+        → IsSomeAnd (all_reanchored target context xs) (λ all. IsReanchoredList all new)
         → Renamed target context (bundle_of xs) ≡ bundle_of new }
     ensures apart { (target : Location) (context : List Junction) (xs new : List Asset)
-        → IsSomeAnd (all_moved target context xs) (λ all. IsMoved all new)
+        → IsSomeAnd (all_reanchored target context xs) (λ all. IsReanchoredList all new)
         → StayApart target context (bundle_of xs) }
 {}
 
 /// Each total rises by what is booked, as far as there is room below 2^160-1, and no other total changes. It
 /// makes no difference whether burns are booked at once or one after the other, and no burns change nothing.
-pub fn law_of_books()
+pub fn law_of_saturating_burn_totals()
     ensures rises { (book : Book) (more : Burns) (k : Burn)
         → amount (Booked book more).burns k ≡ amount book.burns k
         + min (amount more k) (most_burned - amount book.burns k) }
@@ -112,9 +112,9 @@ pub fn law_of_books()
 /// Bundles, shipments and burns together keep what they had of the assets that pass a test: when two bundles
 /// are joined, when one is burned, or lost as a teleport, when an amount is booked alone (`BurnBook::add`,
 /// which gives up so much that was in no bundle), and when a list or a filter takes a part; a landed shipment
-/// has its units under their new ids. Burns are counted here without end: `law_of_books` says that the book
+/// has its units under their new ids. Burns are counted here without end: `law_of_saturating_burn_totals` says that the book
 /// is the same while none of its totals would saturate.
-pub fn law_of_conservation()
+pub fn law_of_conserved_bundles()
     ensures joined { (test : Listed → Bool) (m n : Bundle) (burns : Burns)
         → total (is_unit_where test) (Joined m n)
         + total (is_burn_where test) (merge burns (given_up m n))

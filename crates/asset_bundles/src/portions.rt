@@ -6,7 +6,7 @@ ghost use Rattle.amounts.specs.Amounts.{difference};
 ghost use Rattle.asset_bundles.specs.Bundles.{bundle_of, IsHolding};
 ghost use Rattle.asset_bundles.specs.Joins.{IsListOf};
 ghost use Rattle.asset_bundles.specs.Filters.{is_fun, is_all_of, Taken, Left};
-ghost use Rattle.asset_bundles.specs.Portions.{fun_with, asset_with, kept, changed, left_of, common_with, wanted_wild, count_wild, at_most, chosen, IsListed};
+ghost use Rattle.asset_bundles.specs.Portions.{fun_with, asset_with, with_remainder, changed, left_of, common_with, wanted_wild, count_wild, at_most, chosen, IsListed};
 
 use crate::items::held;
 use asset_lists::{Asset, AssetId, Assets, Filter, Fun, Wild, WildFun, copied, push_asset};
@@ -38,7 +38,7 @@ pub(crate) fn push_amount(
     item: &Asset,
     amount: u128,
 ) -> Result<(), AllocError>
-    ensures { OnOk result (list.new.items ≡ list.old.items ++ kept item.now amount []) }
+    ensures { OnOk result (list.new.items ≡ list.old.items ++ with_remainder item.now amount []) }
 {
     if amount == 0 {
         return Ok(());

@@ -16,6 +16,9 @@ pub struct Total {
 }
 
 impl Total {
+    /// Nothing.
+    pub const ZERO: Total = Total { high: 0, low: 0 };
+
     /// So much more; it saturates at 2^160-1.
     pub fn plus(self, amount: u128) -> Total
         ensures { total_value result ≡ min (total_value self + amount) most_burned }

@@ -1,3 +1,4 @@
+pub mod Lemmas
 pub mod Rising
 pub mod KeptList
 pub mod Naming

@@ -4,4 +4,3 @@ pub mod DerivedOrder
 pub mod Listed
 pub mod Lists
 pub mod Moves
-pub mod Laws

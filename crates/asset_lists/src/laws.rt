@@ -7,22 +7,22 @@ ghost use Rattle.locations.specs.declared.relative.Location.{Location};
 ghost use Rattle.locations.specs.Order.{IsExactOrder};
 ghost use Rattle.asset_lists.specs.declared.units.Asset.{Asset};
 ghost use Rattle.asset_lists.specs.Units.{Unit, instance_cmp, asset_id_cmp, unit_cmp, asset_cmp};
-ghost use Rattle.asset_lists.specs.DerivedOrder.{IsDerivedOrder};
+ghost use Rattle.asset_lists.specs.DerivedOrder.{IsDerivedInstanceOrder};
 ghost use Rattle.asset_lists.specs.Lists.{TestsLists, AreInOrder, is_rising, IsAssetList, TakesIn};
-ghost use Rattle.asset_lists.specs.Moves.{all_moved, IsNamed, occurrences, HasTwice, IsMoved, reanchored_list};
+ghost use Rattle.asset_lists.specs.Moves.{all_reanchored, IsReanchorable, occurrences, HasTwice, IsReanchoredList, reanchored_list};
 
 /// Each order is total, and ties only equal values; the derived order of instances is that of the
 /// definition.
-pub fn law_of_order()
+pub fn law_of_exact_asset_orders()
     ensures instances { IsExactOrder instance_cmp }
-    ensures derived { IsDerivedOrder }
+    ensures derived { IsDerivedInstanceOrder }
     ensures ids { IsExactOrder asset_id_cmp }
     ensures units { IsExactOrder unit_cmp }
     ensures assets { IsExactOrder asset_cmp }
 {}
 
 /// The test that computes is true just of the lists that instructions speak in.
-pub fn law_of_lists()
+pub fn law_of_exact_list_test()
     ensures { TestsLists }
 {}
 
@@ -45,17 +45,17 @@ pub fn law_of_insertion()
 /// one that is computed, and what is computed stands in the relation; and where the call is refused, but for memory,
 /// none is computed.
 pub fn law_of_reanchored_lists()
-    ensures list { (all new : List Asset) → IsMoved all new → IsAssetList new }
+    ensures list { (all new : List Asset) → IsReanchoredList all new → IsAssetList new }
     ensures named { (target : Location) (context : List Junction) (xs all : List Asset)
-        → all_moved target context xs ≡ Some all
-        → (i : ℕ) (a : Asset) → slice_get xs i ≡ Some a → IsNamed target context a.id }
+        → all_reanchored target context xs ≡ Some all
+        → (i : ℕ) (a : Asset) → slice_get xs i ≡ Some a → IsReanchorable target context a.id }
     ensures computed { (target : Location) (context : List Junction) (xs new : List Asset)
-        → IsSomeAnd (all_moved target context xs) (λ all. IsMoved all new)
+        → IsSomeAnd (all_reanchored target context xs) (λ all. IsReanchoredList all new)
         → reanchored_list target context xs ≡ Some new }
     ensures moved { (target : Location) (context : List Junction) (xs new : List Asset)
         → IsAssetList new → reanchored_list target context xs ≡ Some new
-        → IsSomeAnd (all_moved target context xs) (λ all. IsMoved all new) }
+        → IsSomeAnd (all_reanchored target context xs) (λ all. IsReanchoredList all new) }
     ensures refused { (target : Location) (context : List Junction) (xs : List Asset)
-        → IsNone (all_moved target context xs) ⊎ IsSomeAnd (all_moved target context xs) HasTwice
+        → IsNone (all_reanchored target context xs) ⊎ IsSomeAnd (all_reanchored target context xs) HasTwice
         → reanchored_list target context xs ≡ None }
 {}

@@ -5,13 +5,14 @@ mod faults;
 mod filters;
 mod laws;
 mod list;
-mod moves;
+mod reanchor;
 mod units;
 
 pub use faults::{ListFault, ReanchorFault};
 pub use filters::{Filter, Wild, WildFun};
 pub use laws::{
-    law_of_insertion, law_of_lists, law_of_order, law_of_reanchored_lists, law_of_rising,
+    law_of_exact_asset_orders, law_of_exact_list_test, law_of_insertion, law_of_reanchored_lists,
+    law_of_rising,
 };
 pub use list::{Assets, MAX_ASSETS, copied, is_rising, push_asset};
 pub use units::{Asset, AssetId, Fun, Instance, Kind};

@@ -2,16 +2,16 @@
 use Rattle.std.proofs.Common.{◌≡◌, ℕ, ◌-◌, Result, Ok, Err, OnOk, List, [], map, refl, sym, ap, ◌∙◌}
 use Rattle.std.specs.Prelude.{max}
 use Rattle.std.specs.declared.cmp.Ordering.{Ordering}
-use Rattle.amounts.specs.Rows.{IsKeyOrder}
+use Rattle.amounts.proofs.Lemmas.Rows.{IsKeyOrder}
 use Rattle.amounts.specs.Entries.{from_entries}
 use Rattle.amounts.specs.Amounts.{empty, amount, rows, with_amount, minus}
 use Rattle.asset_locks.specs.declared.lock.Lock.{Lock}
 use Rattle.locations.specs.declared.relative.Location.{Location}
-use Rattle.asset_locks.specs.Greatest.{greatest_in, greatest}
+use Rattle.asset_locks.specs.Greatest.{greatest_in, greatest_amount}
 use Rattle.asset_locks.specs.LockMaps.{LockKey, NoteKey, Locks, Notes, LocksAndNotes, no_locks, is_lock_of, floor, lock_of, locks_of, Locked, Unlocked, Noted, Reduced}
-use Rattle.asset_locks.specs.LockRows.{row_of, locks_in, AreInOrder}
+use Rattle.asset_locks.specs.LockRows.{lock_row_of, locks_in, AreSortedLocks}
 use Rattle.asset_locks.specs.NoteRows.{notes_in}
-use Rattle.asset_locks.specs.Laws.{lock_keys, note_keys}
+use Rattle.asset_locks.proofs.Lemmas.{lock_keys, note_keys}
 use Rattle.asset_locks.proofs.Standing.{rows_in, locks_back}
 
 pub on_ok : {A E : Type 0} (r : Result A E) (P Q : Type 0) → (P → Q) → OnOk r P → OnOk r Q
@@ -35,11 +35,11 @@ module _ (locks : Locks) (notes : Notes) (l : LocksAndNotes) (view : ◌≡◌ {
   unfolding Reduced minus
   book_reduced new key a have told is = (λ i. record { locks = locks; notes = (is ∙ ap (λ n. with_amount notes key (n - a)) told) i }) ∙ ap (λ (b : LocksAndNotes). record b { notes = minus b.notes key a }) view
 
-module _ (items : List Lock) (order : AreInOrder items) (l : LocksAndNotes) (view : locks_in items ≡ l.locks) where
-  pub book_floor : (slice : List Lock) → slice ≡ items → (who : List ℕ) (id : Location) (n : ℕ) → n ≡ greatest_in (is_lock_of (who, id)) (map row_of slice) → n ≡ floor who id l
-  unfolding floor greatest
+module _ (items : List Lock) (order : AreSortedLocks items) (l : LocksAndNotes) (view : locks_in items ≡ l.locks) where
+  pub book_floor : (slice : List Lock) → slice ≡ items → (who : List ℕ) (id : Location) (n : ℕ) → n ≡ greatest_in (is_lock_of (who, id)) (map lock_row_of slice) → n ≡ floor who id l
+  unfolding floor greatest_amount
   book_floor slice same who id n is =
-      is ∙ ap (λ xs. greatest_in (is_lock_of (who, id)) (map row_of xs)) same ∙ ap (greatest_in (is_lock_of (who, id))) (sym (rows_in items order)) ∙ ap (λ m. greatest_in (is_lock_of (who, id)) (rows m)) view
+      is ∙ ap (λ xs. greatest_in (is_lock_of (who, id)) (map lock_row_of xs)) same ∙ ap (greatest_in (is_lock_of (who, id))) (sym (rows_in items order)) ∙ ap (λ m. greatest_in (is_lock_of (who, id)) (rows m)) view
 
   pub book_locks : (slice : List Lock) → slice ≡ items → slice ≡ locks_of l
   book_locks slice same = same ∙ sym (locks_back items) ∙ ap (map lock_of) (sym (rows_in items order)) ∙ ap (λ m. map lock_of (rows m)) view

@@ -8,20 +8,9 @@ use Rattle.std.specs.declared.cmp.Ordering.TheVariants.{Less, Equal, Greater}
 use Rattle.std.specs.Cmp.{tied_itself}
 use Rattle.std.specs.FinMap.{find, put, is_sorted}
 use Rattle.std.specs.FinMap.Entries.{where_key, below_all, by_order}
-use Rattle.amounts.specs.Rows.{IsKeyOrder, IsPositive}
-
-first : (a b : Bool) → T (a && b) → T a
-first true b h = tt
-first false b h = h
-
-second : (a b : Bool) → T (a && b) → T b
-second true b h = h
-second false b h = absurd h
-
-is_Less : (r : Ordering) → T (is_lt r) → r ≡ Less
-is_Less Less h = refl
-is_Less Equal h = absurd h
-is_Less Greater h = absurd h
+use Rattle.amounts.specs.Rows.{IsPositive}
+use Rattle.amounts.proofs.Lemmas.Rows.{IsKeyOrder}
+use Rattle.plain_lists.proofs.Lemmas.Facts.{and_first as first, and_second as second, is_less as is_Less}
 
 module _ {K X : Type 0} {R : K → K → Ordering} (o : IsKeyOrder R) (row : X → K × ℕ) (k : K) where
   -- the key of the element at a place, whatever stands for none

@@ -1,3 +1,4 @@
+pub mod Lemmas
 pub mod Edits
 pub mod Standing
 pub mod Searching

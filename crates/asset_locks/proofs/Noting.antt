@@ -5,10 +5,10 @@ use Rattle.std.specs.Ordering.{eq_by_cmp}
 use Rattle.std.specs.Cmp.{eq_by_cmp_equiv}
 use Rattle.std.specs.Map.{lookup}
 use Rattle.amounts.specs.Amounts.{with_amount}
-use Rattle.amounts.specs.Entries.{amount-from_entries, from_entries_changed}
+use Rattle.amounts.proofs.Lemmas.Entries.{amount-from_entries, from_entries_changed}
 use Rattle.asset_locks.specs.LockMaps.{NoteKey, note_cmp}
 use Rattle.asset_locks.specs.NoteRows.{notes_in, note_at}
-use Rattle.asset_locks.specs.Laws.{note_keys}
+use Rattle.asset_locks.proofs.Lemmas.{note_keys}
 
 module _ (rows : List (NoteKey × ℕ)) (key said : NoteKey) (same : said ≡ key) where
   pub note_read : (o : Option ℕ) → o ≡ lookup (eq_by_cmp note_cmp said) rows → unwrap_or o 0 ≡ note_at rows key

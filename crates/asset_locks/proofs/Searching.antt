@@ -14,28 +14,16 @@ use Rattle.amounts.specs.Rows.{amount_if}
 use Rattle.asset_locks.specs.declared.lock.Lock.{Lock}
 use Rattle.asset_locks.specs.Greatest.{greatest_in}
 use Rattle.asset_locks.specs.LockMaps.{LockKey, LockedAsset, asset_of, locked_asset_cmp, lock_cmp, is_lock_of}
-use Rattle.asset_locks.specs.LockRows.{key_of, row_of, AreInOrder, IsAt, IsGapFor}
-use Rattle.asset_locks.specs.Laws.{locked_asset_keys, lock_keys}
+use Rattle.asset_locks.specs.LockRows.{key_of, lock_row_of, AreSortedLocks, IsAt, IsGapFor}
+use Rattle.asset_locks.proofs.Lemmas.{locked_asset_keys, lock_keys}
+use Rattle.plain_lists.proofs.Lemmas.Facts.{and_first as first, and_second as second, is_less as is_Less}
 
-first : (a b : Bool) → T (a && b) → T a
-first true b h = tt
-first false b h = h
-
-second : (a b : Bool) → T (a && b) → T b
-second true b h = h
-second false b h = absurd h
-
-is_Less : (r : Ordering) → T (is_lt r) → r ≡ Less
-is_Less Less h = refl
-is_Less Equal h = absurd h
-is_Less Greater h = absurd h
-
-below_at : (x : LockKey) (xs : List Lock) (j : ℕ) (d : Lock) → T (below_all lock_cmp x (map row_of xs)) → j < length xs → lock_cmp x (key_of (get_or xs j d)) ≡ Less
+below_at : (x : LockKey) (xs : List Lock) (j : ℕ) (d : Lock) → T (below_all lock_cmp x (map lock_row_of xs)) → j < length xs → lock_cmp x (key_of (get_or xs j d)) ≡ Less
 below_at x [] j d h lt = absurd (omega (arith, lt))
 below_at x (y ∷ ys) zero d h lt = is_Less _ (first _ _ h)
 below_at x (y ∷ ys) (suc j) d h lt = below_at x ys j d (second _ _ h) (omega (arith, lt))
 
-rises : (xs : List Lock) → T (is_sorted lock_cmp (map row_of xs)) → (i j : ℕ) (d : Lock) → i < j → j < length xs → lock_cmp (key_of (get_or xs i d)) (key_of (get_or xs j d)) ≡ Less
+rises : (xs : List Lock) → T (is_sorted lock_cmp (map lock_row_of xs)) → (i j : ℕ) (d : Lock) → i < j → j < length xs → lock_cmp (key_of (get_or xs i d)) (key_of (get_or xs j d)) ≡ Less
 rises [] h i j d lt within = absurd (omega (arith, within))
 rises (x ∷ xs) h i zero d lt within = absurd (omega (arith, lt))
 rises (x ∷ xs) h zero (suc j) d lt within = below_at (key_of x) xs j d (first _ _ h) (omega (arith, within))
@@ -45,7 +33,7 @@ less_back : (r : Ordering) → r ≡ ordering_reverse Less → is_lt r ≡ false
 less_back r e = ap is_lt e
 
 -- keys rise, so that no later key is less
-keys_sorted : (xs : List Lock) → T (is_sorted lock_cmp (map row_of xs)) → IsSortedBy (λ a b. is_lt (lock_cmp (key_of a) (key_of b))) xs
+keys_sorted : (xs : List Lock) → T (is_sorted lock_cmp (map lock_row_of xs)) → IsSortedBy (λ a b. is_lt (lock_cmp (key_of a) (key_of b))) xs
 keys_sorted xs h k d low within =
     less_back _ (lock_keys.total.antisymm (key_of (get_or xs (k + 1) d)) (key_of (get_or xs k d)) ∙ ap ordering_reverse (rises xs h k (k + 1) d (omega arith) within))
 
@@ -55,12 +43,12 @@ not_later Less s e = refl
 not_later Equal s e = refl
 not_later Greater s e = absurd cc
 
-assets_sorted : (xs : List Lock) → T (is_sorted lock_cmp (map row_of xs)) → IsSortedBy (λ a b. is_lt (locked_asset_cmp (asset_of (key_of a)) (asset_of (key_of b)))) xs
+assets_sorted : (xs : List Lock) → T (is_sorted lock_cmp (map lock_row_of xs)) → IsSortedBy (λ a b. is_lt (locked_asset_cmp (asset_of (key_of a)) (asset_of (key_of b)))) xs
 assets_sorted xs h k d low within =
     ap is_lt (locked_asset_keys.total.antisymm (asset_of (key_of (get_or xs (k + 1) d))) (asset_of (key_of (get_or xs k d))))
     ∙ not_later _ _ (rises xs h k (k + 1) d (omega arith) within)
 
-module _ (xs : List Lock) (order : AreInOrder xs) (key : LockKey) where
+module _ (xs : List Lock) (order : AreSortedLocks xs) (key : LockKey) where
   pub searched : (r : Result ℕ ℕ) → IsSearchInRange r (length xs) → IsBinarySearchResult (λ lock. lock_cmp (key_of lock) key) xs r → IfOk r (IsAt xs key) × IfErr r (IsGapFor xs key)
   searched (Ok place) within equal = (record { within = within; is = λ d. lock_keys.exact _ _ (equal d) }, tt)
   searched (Err place) within parted =
@@ -92,9 +80,9 @@ module _ (asset : LockedAsset) where
   order_at lock = locked_asset_cmp (asset_of (key_of lock)) asset
 
   abbrev pub greatest_among : List Lock → ℕ
-  greatest_among xs = greatest_in (is_lock_of asset) (map row_of xs)
+  greatest_among xs = greatest_in (is_lock_of asset) (map lock_row_of xs)
 
-  pub parted : (xs : List Lock) → AreInOrder xs → IsPartitionedBy (λ lock. is_lt (order_at lock)) xs
+  pub parted : (xs : List Lock) → AreSortedLocks xs → IsPartitionedBy (λ lock. is_lt (order_at lock)) xs
   parted xs order i j d le within passes =
       low_is_less (order_at (get_or xs i d)) (order_at (get_or xs j d)) passes (searchable_from_sorted locked_asset_keys.total (λ lock. asset_of (key_of lock)) xs asset (assets_sorted xs order.rising) i j d le within)
 
@@ -117,7 +105,7 @@ module _ (asset : LockedAsset) where
       nothing_counted (is_lock_of asset (key_of x)) x.amount (greatest_among xs) (same_test x ∙ not_equal (order_at x) (before 0 x (omega arith)))
       ∙ none_before xs n (λ j d lt. before (suc j) d (omega (arith, lt))) (omega (arith, le))
 
-  pub order_of_rest : (xs : List Lock) (n : ℕ) → T (is_sorted lock_cmp (map row_of xs)) → T (is_sorted lock_cmp (map row_of (drop n xs)))
+  pub order_of_rest : (xs : List Lock) (n : ℕ) → T (is_sorted lock_cmp (map lock_row_of xs)) → T (is_sorted lock_cmp (map lock_row_of (drop n xs)))
   order_of_rest xs zero h = h
   order_of_rest [] (suc n) h = tt
   order_of_rest (x ∷ xs) (suc n) h = order_of_rest xs n (second _ _ h)
@@ -128,7 +116,7 @@ module _ (asset : LockedAsset) where
   later Equal s t e same less = same refl
   later Greater s t e same less = absurd cc
 
-  none_above : (x : Lock) (xs : List Lock) → T (below_all lock_cmp (key_of x) (map row_of xs)) → order_at x ≡ Greater → greatest_among xs ≡ 0
+  none_above : (x : Lock) (xs : List Lock) → T (below_all lock_cmp (key_of x) (map lock_row_of xs)) → order_at x ≡ Greater → greatest_among xs ≡ 0
   none_above x [] h above = refl
   none_above x (y ∷ ys) h above =
       let from_x : locked_asset_cmp asset (asset_of (key_of x)) ≡ Less = locked_asset_keys.total.antisymm asset (asset_of (key_of x)) ∙ ap ordering_reverse above in
@@ -140,7 +128,7 @@ module _ (asset : LockedAsset) where
   -- so far the greatest is that of the locks passed, and those to come are of the asset or of a later one
   pub record Walk (xs : List Lock) (most : ℕ) (items : List Lock) (i : ℕ) : Type 0 where
     pub total : greatest_among xs ≡ max most (greatest_among (drop i items))
-    pub rising : T (is_sorted lock_cmp (map row_of items))
+    pub rising : T (is_sorted lock_cmp (map lock_row_of items))
     pub not_before : (j : ℕ) (d : Lock) → j < length items → is_lt (order_at (get_or items j d)) ≡ false
 
   dropped : (xs : List Lock) (n j : ℕ) (d : Lock) → get_or (drop n xs) j d ≡ get_or xs (n + j) d
@@ -151,7 +139,7 @@ module _ (asset : LockedAsset) where
       later_on : (k m : ℕ) → m ≡ suc k → get_or (x ∷ xs) m d ≡ get_or xs k d
       later_on k m e = ap (λ l. get_or (x ∷ xs) l d) e
 
-  pub walk_starts : (xs : List Lock) → AreInOrder xs → (n : ℕ) → n ≤ length xs → IsPartitionPoint (λ lock. is_lt (order_at lock) ≡ true) (λ lock. is_lt (order_at lock) ≡ false) xs n → Walk xs 0 (drop n xs) 0
+  pub walk_starts : (xs : List Lock) → AreSortedLocks xs → (n : ℕ) → n ≤ length xs → IsPartitionPoint (λ lock. is_lt (order_at lock) ≡ true) (λ lock. is_lt (order_at lock) ≡ false) xs n → Walk xs 0 (drop n xs) 0
   walk_starts xs order n le point = record {
     total = none_before xs n (λ j d lt. point.0 j d (omega arith) lt) le ∙ nothing_yet (greatest_among (drop n xs));
     rising = order_of_rest xs n order.rising;
@@ -175,7 +163,7 @@ module _ (asset : LockedAsset) where
 
       pub walk_stops : is_eq (order_at x) ≡ false → most ≡ greatest_among xs
       walk_stops differs =
-          let sorted : T (is_sorted lock_cmp (map row_of (x ∷ drop (suc i) items))) = subst (λ ys. T (is_sorted lock_cmp (map row_of ys))) rest_is (order_of_rest items i walk.rising) in
+          let sorted : T (is_sorted lock_cmp (map lock_row_of (x ∷ drop (suc i) items))) = subst (λ ys. T (is_sorted lock_cmp (map lock_row_of ys))) rest_is (order_of_rest items i walk.rising) in
           let none : greatest_among (drop (suc i) items) ≡ 0 = none_above x (drop (suc i) items) (first _ _ sorted) (is_above (order_at x) here differs) in
           let all : greatest_among (drop i items) ≡ 0 = ap greatest_among rest_is ∙ nothing_counted (is_lock_of asset (key_of x)) x.amount (greatest_among (drop (suc i) items)) (same_test x ∙ differs) ∙ none in
           let total = walk.total in

@@ -8,14 +8,17 @@ use Rattle.std.specs.List.{insert, remove}
 use Rattle.std.specs.Map.{lookup}
 use Rattle.std.specs.FinMap.{find, put, is_sorted}
 use Rattle.std.specs.FinMap.Entries.{where_key, is_sorted-put, find-put, is_sorted-where_key, find-where_key}
-use Rattle.amounts.specs.Rows.{IsKeyOrder, IsPositive, keys_rising}
-use Rattle.amounts.specs.Amounts.{Amounts, amount, rows, with_amount, same_amounts, amount-with_amount}
-use Rattle.amounts.specs.Laws.{key_same}
-use Rattle.amounts.specs.Entries.{from_entries, amount-from_entries, from_entries_changed, rows-from_entries}
+use Rattle.amounts.specs.Rows.{IsPositive}
+use Rattle.amounts.proofs.Lemmas.Rows.{IsKeyOrder, keys_rising}
+use Rattle.amounts.specs.Amounts.{Amounts, amount, rows, with_amount}
+use Rattle.amounts.proofs.Lemmas.AmountLaws.{same_amounts, amount-with_amount}
+use Rattle.amounts.proofs.Lemmas.{key_same}
+use Rattle.amounts.specs.Entries.{from_entries}
+use Rattle.amounts.proofs.Lemmas.Entries.{amount-from_entries, from_entries_changed, rows-from_entries}
 use Rattle.asset_locks.specs.declared.lock.Lock.{Lock}
 use Rattle.asset_locks.specs.LockMaps.{LockKey, lock_cmp, lock_of}
-use Rattle.asset_locks.specs.LockRows.{key_of, row_of, locks_in, AreInOrder, IsAt, IsGapFor}
-use Rattle.asset_locks.specs.Laws.{lock_keys}
+use Rattle.asset_locks.specs.LockRows.{key_of, lock_row_of, locks_in, AreSortedLocks, IsAt, IsGapFor}
+use Rattle.asset_locks.proofs.Lemmas.{lock_keys}
 use Rattle.asset_locks.proofs.Edits.{set_put, insert_put, remove_where, find_at, find_gap, positive_put, positive_where}
 
 -- ---- entries put in, and taken out, as what the map of the entries is
@@ -44,48 +47,48 @@ module _ {K : Type 0} {R : K → K → Ordering} (o : IsKeyOrder R) where
   amount_found k es r is = amount-from_entries o es k ∙ ap (λ f. unwrap_or f 0) (lookup-find k es ∙ is)
 
 -- ---- a list of locks with another amount at a place, one more, one less
-module _ (locks : List Lock) (order : AreInOrder locks) (key : LockKey) (place : ℕ) where
+module _ (locks : List Lock) (order : AreSortedLocks locks) (key : LockKey) (place : ℕ) where
   pub amount_at : IsAt locks key place → (d : Lock) → amount (locks_in locks) key ≡ (get_or locks place d).amount
-  amount_at at d = amount_found lock_keys key (map row_of locks) _ (find_at lock_keys row_of key locks place d order.rising at.within at.is)
+  amount_at at d = amount_found lock_keys key (map lock_row_of locks) _ (find_at lock_keys lock_row_of key locks place d order.rising at.within at.is)
 
   pub amount_gap : IsGapFor locks key place → amount (locks_in locks) key ≡ 0
-  amount_gap gap = amount_found lock_keys key (map row_of locks) _ (find_gap lock_keys row_of key locks place gap.within (λ j d lt. gap.before j d (omega arith) lt) (λ j d more within. gap.behind j d more within))
+  amount_gap gap = amount_found lock_keys key (map lock_row_of locks) _ (find_gap lock_keys lock_row_of key locks place gap.within (λ j d lt. gap.before j d (omega arith) lt) (λ j d more within. gap.behind j d more within))
 
-  order_put : (new : List Lock) (a : ℕ) → 0 < a → map row_of new ≡ put lock_cmp key a (map row_of locks) → AreInOrder new
+  order_put : (new : List Lock) (a : ℕ) → 0 < a → map lock_row_of new ≡ put lock_cmp key a (map lock_row_of locks) → AreSortedLocks new
   order_put new a some is = record {
-    rising = subst (λ es. T (is_sorted lock_cmp es)) (sym is) (is_sorted-put lock_cmp lock_keys.total key a (map row_of locks) order.rising);
-    positive = subst IsPositive (sym is) (positive_put lock_cmp key a (map row_of locks) some order.positive);
+    rising = subst (λ es. T (is_sorted lock_cmp es)) (sym is) (is_sorted-put lock_cmp lock_keys.total key a (map lock_row_of locks) order.rising);
+    positive = subst IsPositive (sym is) (positive_put lock_cmp key a (map lock_row_of locks) some order.positive);
   }
 
-  put_is : (new : List Lock) (a : ℕ) → map row_of new ≡ put lock_cmp key a (map row_of locks) → locks_in new ≡ with_amount (locks_in locks) key a
-  put_is new a is = ap (λ es. from_entries {R = lock_cmp} es) is ∙ with_put lock_keys key a (map row_of locks)
+  put_is : (new : List Lock) (a : ℕ) → map lock_row_of new ≡ put lock_cmp key a (map lock_row_of locks) → locks_in new ≡ with_amount (locks_in locks) key a
+  put_is new a is = ap (λ es. from_entries {R = lock_cmp} es) is ∙ with_put lock_keys key a (map lock_row_of locks)
 
-  pub set_in_order : IsAt locks key place → (new : Lock) → key_of new ≡ key → 0 < new.amount → AreInOrder (set locks place new)
-  set_in_order at new same some = order_put (set locks place new) new.amount some (set_put lock_keys row_of key locks place new order.rising at.within at.is same)
+  pub set_in_order : IsAt locks key place → (new : Lock) → key_of new ≡ key → 0 < new.amount → AreSortedLocks (set locks place new)
+  set_in_order at new same some = order_put (set locks place new) new.amount some (set_put lock_keys lock_row_of key locks place new order.rising at.within at.is same)
 
   pub set_is : IsAt locks key place → (new : Lock) → key_of new ≡ key → locks_in (set locks place new) ≡ with_amount (locks_in locks) key new.amount
-  set_is at new same = put_is (set locks place new) new.amount (set_put lock_keys row_of key locks place new order.rising at.within at.is same)
+  set_is at new same = put_is (set locks place new) new.amount (set_put lock_keys lock_row_of key locks place new order.rising at.within at.is same)
 
-  insert_rows : IsGapFor locks key place → (new : Lock) → key_of new ≡ key → map row_of (insert locks place new) ≡ put lock_cmp key new.amount (map row_of locks)
-  insert_rows gap new same = insert_put lock_keys row_of key locks place new gap.within (λ j d lt. gap.before j d (omega arith) lt) (λ j d more within. gap.behind j d more within) same
+  insert_rows : IsGapFor locks key place → (new : Lock) → key_of new ≡ key → map lock_row_of (insert locks place new) ≡ put lock_cmp key new.amount (map lock_row_of locks)
+  insert_rows gap new same = insert_put lock_keys lock_row_of key locks place new gap.within (λ j d lt. gap.before j d (omega arith) lt) (λ j d more within. gap.behind j d more within) same
 
-  pub insert_in_order : IsGapFor locks key place → (new : Lock) → key_of new ≡ key → 0 < new.amount → AreInOrder (insert locks place new)
+  pub insert_in_order : IsGapFor locks key place → (new : Lock) → key_of new ≡ key → 0 < new.amount → AreSortedLocks (insert locks place new)
   insert_in_order gap new same some = order_put (insert locks place new) new.amount some (insert_rows gap new same)
 
   pub insert_is : IsGapFor locks key place → (new : Lock) → key_of new ≡ key → locks_in (insert locks place new) ≡ with_amount (locks_in locks) key new.amount
   insert_is gap new same = put_is (insert locks place new) new.amount (insert_rows gap new same)
 
-  remove_rows : IsAt locks key place → map row_of (remove locks place) ≡ where_key lock_cmp (λ x. not (eq_by_cmp lock_cmp key x)) (map row_of locks)
-  remove_rows at = remove_where lock_keys row_of key locks place order.rising at.within at.is
+  remove_rows : IsAt locks key place → map lock_row_of (remove locks place) ≡ where_key lock_cmp (λ x. not (eq_by_cmp lock_cmp key x)) (map lock_row_of locks)
+  remove_rows at = remove_where lock_keys lock_row_of key locks place order.rising at.within at.is
 
-  pub remove_in_order : IsAt locks key place → AreInOrder (remove locks place)
+  pub remove_in_order : IsAt locks key place → AreSortedLocks (remove locks place)
   remove_in_order at = record {
-    rising = subst (λ es. T (is_sorted lock_cmp es)) (sym (remove_rows at)) (is_sorted-where_key lock_cmp (λ x. not (eq_by_cmp lock_cmp key x)) (map row_of locks) order.rising);
-    positive = subst IsPositive (sym (remove_rows at)) (positive_where lock_cmp (λ x. not (eq_by_cmp lock_cmp key x)) (map row_of locks) order.positive);
+    rising = subst (λ es. T (is_sorted lock_cmp es)) (sym (remove_rows at)) (is_sorted-where_key lock_cmp (λ x. not (eq_by_cmp lock_cmp key x)) (map lock_row_of locks) order.rising);
+    positive = subst IsPositive (sym (remove_rows at)) (positive_where lock_cmp (λ x. not (eq_by_cmp lock_cmp key x)) (map lock_row_of locks) order.positive);
   }
 
   pub remove_is : IsAt locks key place → locks_in (remove locks place) ≡ with_amount (locks_in locks) key 0
-  remove_is at = ap (λ es. from_entries {R = lock_cmp} es) (remove_rows at) ∙ with_none lock_keys key (map row_of locks)
+  remove_is at = ap (λ es. from_entries {R = lock_cmp} es) (remove_rows at) ∙ with_none lock_keys key (map lock_row_of locks)
 
 -- ---- what the code does at a place
 as_it_was : {K : Type 0} {R : K → K → Ordering} (o : IsKeyOrder R) (m : Amounts R) (k : K) (v : ℕ) → v ≡ amount m k → with_amount m k v ≡ m
@@ -106,14 +109,14 @@ module _ (slice items : List Lock) (key : LockKey) (same : slice ≡ items) wher
   pub gap_items : (place : ℕ) → IsGapFor slice key place → IsGapFor items key place
   gap_items place gap = subst (λ xs. IsGapFor xs key place) same gap
 
-module _ (locks : List Lock) (order : AreInOrder locks) (key : LockKey) (place : ℕ) (at : IsAt locks key place) (d : Lock) (is : d ≡ get_or locks place d) where
+module _ (locks : List Lock) (order : AreSortedLocks locks) (key : LockKey) (place : ℕ) (at : IsAt locks key place) (d : Lock) (is : d ≡ get_or locks place d) where
   new_key : (a : ℕ) → key_of (record d { amount = a }) ≡ key
   new_key a = ap key_of is ∙ at.is d
 
   amount_there : amount (locks_in locks) key ≡ d.amount
   amount_there = amount_at locks order key place at d ∙ ap (λ (l : Lock). l.amount) (sym is)
 
-  pub written_in_order : (a : ℕ) → 0 < a → AreInOrder (set locks place (record d { amount = a }))
+  pub written_in_order : (a : ℕ) → 0 < a → AreSortedLocks (set locks place (record d { amount = a }))
   written_in_order a some = set_in_order locks order key place at (record d { amount = a }) (new_key a) some
 
   pub written_is : (a : ℕ) → locks_in (set locks place (record d { amount = a })) ≡ with_amount (locks_in locks) key a
@@ -124,7 +127,7 @@ module _ (locks : List Lock) (order : AreInOrder locks) (key : LockKey) (place :
       let there : amount (locks_in locks) key ≡ e.amount = amount_at locks order key place at e ∙ ap (λ (l : Lock). l.amount) (sym also) in
       with_said (locks_in locks) _ key m _ (written_is m) (omega (arith, most, there))
 
-module _ (locks : List Lock) (order : AreInOrder locks) (key : LockKey) (place : ℕ) (gap : IsGapFor locks key place) where
+module _ (locks : List Lock) (order : AreSortedLocks locks) (key : LockKey) (place : ℕ) (gap : IsGapFor locks key place) where
   pub new_is : (new : Lock) → key_of new ≡ key → locks_in (insert locks place new) ≡ with_amount (locks_in locks) key (max (amount (locks_in locks) key) new.amount)
   new_is new same =
       let none = amount_gap locks order key place gap in
@@ -136,10 +139,10 @@ module _ (locks : List Lock) (order : AreInOrder locks) (key : LockKey) (place :
       sym (as_it_was lock_keys (locks_in locks) key a (omega (arith, none, most)))
 
 -- ---- the lists as the maps' rows
-pub rows_in : (locks : List Lock) → AreInOrder locks → rows (locks_in locks) ≡ map row_of locks
-rows_in locks order = rows-from_entries lock_keys (map row_of locks) (keys_rising lock_cmp (map row_of locks) order.rising) order.positive
+pub rows_in : (locks : List Lock) → AreSortedLocks locks → rows (locks_in locks) ≡ map lock_row_of locks
+rows_in locks order = rows-from_entries lock_keys (map lock_row_of locks) (keys_rising lock_cmp (map lock_row_of locks) order.rising) order.positive
 
-pub locks_back : (locks : List Lock) → map lock_of (map row_of locks) ≡ locks
+pub locks_back : (locks : List Lock) → map lock_of (map lock_row_of locks) ≡ locks
 locks_back [] = refl
 locks_back (l ∷ ls) = ap (λ xs. l ∷ xs) (locks_back ls)
 

@@ -10,5 +10,5 @@ greatest_in p [] = 0
 greatest_in p (e ∷ es) = max (amount_if (p e.0) e.1) (greatest_in p es)
 
 -- the greatest amount at the keys that pass, 0 where none does
-unfoldable pub greatest : {K : Type 0} {R : K → K → Ordering} → (K → Bool) → Amounts R → ℕ
-greatest p m = greatest_in p (rows m)
+unfoldable pub greatest_amount : {K : Type 0} {R : K → K → Ordering} → (K → Bool) → Amounts R → ℕ
+greatest_amount p m = greatest_in p (rows m)

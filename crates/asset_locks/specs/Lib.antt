@@ -4,4 +4,3 @@ pub mod UnitFloors
 pub mod LockCode
 pub mod LockRows
 pub mod NoteRows
-pub mod Laws

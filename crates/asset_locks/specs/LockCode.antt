@@ -18,5 +18,5 @@ locks_code = map.code lock_key_code coded_ℕ
 abbrev pub notes_code : Coded Notes
 notes_code = map.code note_key_code coded_ℕ
 
-abbrev pub book_code : Coded LocksAndNotes
-book_code = code_by (Locks × Notes) (coded× locks_code notes_code) (λ l. (l.locks, l.notes)) (λ p. record { locks = p.0; notes = p.1 }) (λ _. refl)
+abbrev pub locks_and_notes_code : Coded LocksAndNotes
+locks_and_notes_code = code_by (Locks × Notes) (coded× locks_code notes_code) (λ l. (l.locks, l.notes)) (λ p. record { locks = p.0; notes = p.1 }) (λ _. refl)

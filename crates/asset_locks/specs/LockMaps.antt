@@ -17,7 +17,7 @@ use Rattle.locations.specs.declared.relative.Location.{Location}
 use Rattle.locations.specs.Order.{location_cmp}
 use Rattle.amounts.specs.Amounts.{Amounts, empty, amount, rows, with_amount, minus}
 use Rattle.asset_locks.specs.declared.lock.Lock.{Lock}
-use Rattle.asset_locks.specs.Greatest.{greatest}
+use Rattle.asset_locks.specs.Greatest.{greatest_amount}
 
 -- ---- the keys, and their order
 abbrev pub LockKey : Type 0
@@ -70,7 +70,7 @@ is_lock_of asset key = eq_by_cmp locked_asset_cmp asset (asset_of key)
 
 -- how much of an asset an account must keep: the greatest lock, since locks overlie one another
 unfoldable pub floor : List ℕ → Location → LocksAndNotes → ℕ
-floor who id l = greatest (is_lock_of (who, id)) l.locks
+floor who id l = greatest_amount (is_lock_of (who, id)) l.locks
 
 -- a note, 0 where there is none
 abbrev pub noted : NoteKey → LocksAndNotes → ℕ

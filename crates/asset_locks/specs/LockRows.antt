@@ -12,18 +12,18 @@ use Rattle.asset_locks.specs.LockMaps.{LockKey, lock_cmp, Locks}
 abbrev pub key_of : Lock → LockKey
 key_of lock = (lock.who, lock.id, lock.unlocker)
 
-abbrev pub row_of : Lock → LockKey × ℕ
-row_of lock = (key_of lock, lock.amount)
+abbrev pub lock_row_of : Lock → LockKey × ℕ
+lock_row_of lock = (key_of lock, lock.amount)
 
 abbrev pub locks_in : List Lock → Locks
-locks_in locks = from_entries (map row_of locks)
+locks_in locks = from_entries (map lock_row_of locks)
 
-abbrev pub amount_in : List Lock → LockKey → ℕ
-amount_in locks key = amount (locks_in locks) key
+abbrev pub locked_amount_in : List Lock → LockKey → ℕ
+locked_amount_in locks key = amount (locks_in locks) key
 
-pub record AreInOrder (locks : List Lock) : Type 0 where
-  pub rising : T (is_sorted lock_cmp (map row_of locks))
-  pub positive : IsPositive (map row_of locks)
+pub record AreSortedLocks (locks : List Lock) : Type 0 where
+  pub rising : T (is_sorted lock_cmp (map lock_row_of locks))
+  pub positive : IsPositive (map lock_row_of locks)
 
 -- the lock of the key stands at the place
 pub record IsAt (locks : List Lock) (key : LockKey) (place : ℕ) : Type 0 where

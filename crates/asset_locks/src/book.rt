@@ -21,13 +21,13 @@ pub struct LockBook {
 
 impl Model for LockBook {
     ghost use Rattle.asset_locks.specs.LockMaps.{LocksAndNotes};
-    ghost use Rattle.asset_locks.specs.LockCode.{book_code};
-    ghost use Rattle.asset_locks.specs.LockRows.{locks_in, AreInOrder};
+    ghost use Rattle.asset_locks.specs.LockCode.{locks_and_notes_code};
+    ghost use Rattle.asset_locks.specs.LockRows.{locks_in, AreSortedLocks};
     ghost use Rattle.asset_locks.specs.NoteRows.{notes_in};
 
     ghost Value = { LocksAndNotes };
 
-    ghost coded = { book_code };
+    ghost coded = { locks_and_notes_code };
 
     ghost view = { λ b. record {
       locks = locks_in b.locks.items;
@@ -35,7 +35,7 @@ impl Model for LockBook {
           b.notes.entries;
     } };
 
-    ghost invariant = { λ b. AreInOrder b.locks.items };
+    ghost invariant = { λ b. AreSortedLocks b.locks.items };
 }
 
 impl LockBook {

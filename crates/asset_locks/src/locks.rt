@@ -1,7 +1,7 @@
 //! The locks of a chain, one at a time.
 ghost use Rattle.std.specs.Prelude.{◌≡◌, ◌<◌, ◌≤◌, max, OnOk, OnErr};
 ghost use Rattle.amounts.specs.Amounts.{with_amount};
-ghost use Rattle.asset_locks.specs.LockRows.{locks_in, amount_in, AreInOrder};
+ghost use Rattle.asset_locks.specs.LockRows.{locks_in, locked_amount_in, AreSortedLocks};
 
 use crate::Lock;
 use crate::places::place_of;
@@ -10,8 +10,8 @@ use std::alloc::AllocError;
 
 /// A lock, 0 where there is none.
 pub(crate) fn lock_in(locks: &[Lock], who: &[u8; 32], id: &Location, unlocker: &Location) -> u128
-    requires order { AreInOrder locks.now }
-    ensures { result ≡ amount_in locks.now (who.now, id.now, unlocker.now) }
+    requires order { AreSortedLocks locks.now }
+    ensures { result ≡ locked_amount_in locks.now (who.now, id.now, unlocker.now) }
 {
     match place_of(locks, who, id, unlocker) {
         Ok(place) => locks[place].amount,
@@ -27,13 +27,13 @@ pub(crate) fn raise_lock(
     unlocker: &Location,
     amount: u128,
 ) -> Result<(), AllocError>
-    requires order { AreInOrder locks.old.items }
+    requires order { AreSortedLocks locks.old.items }
     requires some { 0 < amount }
-    ensures order { AreInOrder locks.new.items }
+    ensures order { AreSortedLocks locks.new.items }
     ensures raised { OnOk result
         (locks_in locks.new.items ≡ with_amount (locks_in locks.old.items)
         (who.now, id.now, unlocker.now)
-        (max (amount_in locks.old.items (who.now, id.now, unlocker.now)) amount)) }
+        (max (locked_amount_in locks.old.items (who.now, id.now, unlocker.now)) amount)) }
     ensures kept { OnErr result (locks_in locks.new.items ≡ locks_in locks.old.items) }
 {
     match place_of(locks.as_slice(), who, id, unlocker) {
@@ -62,9 +62,9 @@ pub(crate) fn lower_lock(
     unlocker: &Location,
     amount: u128,
 )
-    requires order { AreInOrder locks.old.items }
-    requires most { amount ≤ amount_in locks.old.items (who.now, id.now, unlocker.now) }
-    ensures order { AreInOrder locks.new.items }
+    requires order { AreSortedLocks locks.old.items }
+    requires most { amount ≤ locked_amount_in locks.old.items (who.now, id.now, unlocker.now) }
+    ensures order { AreSortedLocks locks.new.items }
     ensures lowered { locks_in locks.new.items ≡ with_amount (locks_in locks.old.items)
         (who.now, id.now, unlocker.now) amount }
 {

@@ -2,7 +2,7 @@
 ghost use Rattle.std.specs.Prelude.{◌≡◌, map, IfOk, IfErr};
 ghost use Rattle.asset_locks.specs.Greatest.{greatest_in};
 ghost use Rattle.asset_locks.specs.LockMaps.{locked_asset_cmp, lock_cmp, is_lock_of};
-ghost use Rattle.asset_locks.specs.LockRows.{key_of, row_of, AreInOrder, IsAt, IsGapFor};
+ghost use Rattle.asset_locks.specs.LockRows.{key_of, lock_row_of, AreSortedLocks, IsAt, IsGapFor};
 
 use crate::Lock;
 use locations::Location;
@@ -29,7 +29,7 @@ pub(crate) fn place_of(
     id: &Location,
     unlocker: &Location,
 ) -> Result<usize, usize>
-    requires order { AreInOrder locks.now }
+    requires order { AreSortedLocks locks.now }
     ensures found { IfOk result (IsAt locks.now (who.now, id.now, unlocker.now)) }
     ensures gap { IfErr result (IsGapFor locks.now (who.now, id.now, unlocker.now)) }
 {
@@ -39,8 +39,8 @@ pub(crate) fn place_of(
 /// The greatest lock of an account and an asset, 0 where it has none. It takes no memory, and its time grows with the
 /// locks of that account and asset alone.
 pub(crate) fn greatest_of(locks: &[Lock], who: &[u8; 32], id: &Location) -> u128
-    requires order { AreInOrder locks.now }
-    ensures greatest { result ≡ greatest_in (is_lock_of (who.now, id.now)) (map row_of locks.now) }
+    requires order { AreSortedLocks locks.now }
+    ensures greatest { result ≡ greatest_in (is_lock_of (who.now, id.now)) (map lock_row_of locks.now) }
 {
     let first = locks.partition_point(|lock| compare_asset(lock, who, id).is_lt());
     let mut most = 0;

@@ -1,6 +1,6 @@
 -- Reading the parts of an asset from left to right: a list of forms for each enum, in the order of the index.
 use Rattle.std.specs.Prelude.{ℕ, ◌^◌, List, [], ◌∷◌, not, nat_eq, nat_le}
-use Rattle.scale_codec.specs.Reading.{Reader, below_at, take_at, done, made1, made2, made3, guarded_at, indexed_at, counted_at}
+use Rattle.scale_codec.specs.Reading.{Reader, below_at, take_at, pure_reader, made1, made2, made3, guarded_at, indexed_at, counted_at}
 use Rattle.location_wire.specs.Reading.{location_at}
 use Rattle.asset_lists.specs.declared.units.AssetId.{AssetId}
 use Rattle.asset_lists.specs.declared.units.AssetId.TheVariants.{Concrete, Abstract}
@@ -16,8 +16,8 @@ use Rattle.asset_lists.specs.declared.filters.Wild.TheVariants.{All, AllOf, AllC
 use Rattle.asset_lists.specs.declared.filters.Filter.{Filter}
 use Rattle.asset_lists.specs.declared.filters.Filter.TheVariants as filters
 use Rattle.asset_lists.specs.Lists.{is_asset_list}
-use Rattle.message_parts.specs.declared.version.Version.{Version}
-use Rattle.message_parts.specs.declared.version.Version.TheVariants.{V3, V4}
+use Rattle.operands.specs.declared.version.Version.{Version}
+use Rattle.operands.specs.declared.version.Version.TheVariants.{V3, V4}
 
 abbrev pub asset_id_forms : List (Reader AssetId)
 asset_id_forms = made1 location_at Concrete ∷ made1 (take_at 32) Abstract ∷ []
@@ -27,7 +27,7 @@ asset_id_at V3 = indexed_at asset_id_forms
 asset_id_at V4 = made1 location_at Concrete
 
 abbrev pub instance_forms : List (Reader Instance)
-instance_forms = done Undefined
+instance_forms = pure_reader Undefined
     ∷ made1 (below_at (2 ^ 128)) Index
     ∷ made1 (take_at 4) Array4
     ∷ made1 (take_at 8) Array8
@@ -39,11 +39,11 @@ unfoldable pub instance_at : Reader Instance
 instance_at = indexed_at instance_forms
 
 -- not 0
-abbrev pub amount_at : Reader ℕ
-amount_at = guarded_at (λ n. not (nat_eq n 0)) (below_at (2 ^ 128))
+abbrev pub positive_amount_at : Reader ℕ
+positive_amount_at = guarded_at (λ n. not (nat_eq n 0)) (below_at (2 ^ 128))
 
 abbrev pub fun_forms : List (Reader Fun)
-fun_forms = made1 amount_at Fungible ∷ made1 instance_at NonFungible ∷ []
+fun_forms = made1 positive_amount_at Fungible ∷ made1 instance_at NonFungible ∷ []
 
 unfoldable pub fun_at : Reader Fun
 fun_at = indexed_at fun_forms
@@ -59,13 +59,13 @@ unfoldable pub assets_at : Version → Reader (List Asset)
 assets_at v = guarded_at is_asset_list (counted_at asset_count_at (asset_at v))
 
 abbrev pub wild_fun_forms : List (Reader WildFun)
-wild_fun_forms = done kinds.Fungible ∷ done kinds.NonFungible ∷ []
+wild_fun_forms = pure_reader kinds.Fungible ∷ pure_reader kinds.NonFungible ∷ []
 
 unfoldable pub wild_fun_at : Reader WildFun
 wild_fun_at = indexed_at wild_fun_forms
 
 abbrev pub wild_forms : Version → List (Reader Wild)
-wild_forms v = done All
+wild_forms v = pure_reader All
     ∷ made2 (asset_id_at v) wild_fun_at AllOf
     ∷ made1 (below_at (2 ^ 32)) AllCounted
     ∷ made3 (asset_id_at v) wild_fun_at (below_at (2 ^ 32)) AllOfCounted

@@ -8,8 +8,8 @@ ghost use Rattle.asset_lists.specs.declared.filters.Filter.{Filter};
 ghost use Rattle.asset_lists.specs.declared.units.Asset.{Asset};
 ghost use Rattle.asset_lists.specs.declared.units.AssetId.{AssetId};
 ghost use Rattle.asset_lists.specs.declared.units.AssetId.TheVariants.{Abstract};
-ghost use Rattle.message_parts.specs.declared.version.Version.{Version};
-ghost use Rattle.message_parts.specs.declared.version.Version.TheVariants.{V3, V4};
+ghost use Rattle.operands.specs.declared.version.Version.{Version};
+ghost use Rattle.operands.specs.declared.version.Version.TheVariants.{V3, V4};
 ghost use Rattle.asset_wire.specs.Spelling.{asset_id, FitsId, instance, FitsInstance, asset, FitsAsset, assets, FitsAssets, filter, FitsFilter, IsNamed, IsWritableAsset, AreNamed, IsFilterNamed};
 ghost use Rattle.asset_wire.specs.Reading.{asset_id_at, instance_at, asset_at, assets_at, filter_at};
 

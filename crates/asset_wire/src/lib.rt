@@ -9,7 +9,7 @@ mod writing;
 pub use laws::{
     law_of_no_prefix, law_of_one_spelling, law_of_readers, law_of_versions, law_of_writable,
 };
-pub use message_parts::Version;
+pub use operands::Version;
 pub use parts::{
     blank_id, fill_asset_id, take_asset, take_asset_id, take_assets, take_filter, take_instance,
 };

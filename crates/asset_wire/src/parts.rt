@@ -6,7 +6,7 @@ ghost use Rattle.scale_codec.specs.Answers.{Got, Filled, GotOrFails};
 ghost use Rattle.location_wire.specs.Reading.{location_at};
 ghost use Rattle.asset_lists.specs.declared.units.AssetId.TheVariants.{Concrete, Abstract};
 ghost use Rattle.asset_wire.specs.Blanks.{IsBlank};
-ghost use Rattle.asset_wire.specs.Reading.{asset_id_at, instance_at, amount_at, fun_at, asset_at, assets_at, wild_fun_at, wild_at, filter_at};
+ghost use Rattle.asset_wire.specs.Reading.{asset_id_at, instance_at, positive_amount_at, fun_at, asset_at, assets_at, wild_fun_at, wild_at, filter_at};
 
 // As in location_wire: places and amounts are read in line, bytes and instances aren't.
 
@@ -93,7 +93,7 @@ pub fn take_instance(c: &mut Cursor<'_>) -> Result<Instance, NoSpelling>
 
 /// An amount, which is not 0.
 fn take_amount(c: &mut Cursor<'_>) -> Result<u128, NoSpelling>
-    ensures { Got result (amount_at c.old) c.new }
+    ensures { Got result (positive_amount_at c.old) c.new }
 {
     let amount = c.compact_u128()?;
     if amount == 0 {

@@ -13,7 +13,7 @@ use std::alloc::Global;
 
 /// The instance at the front of what is left, which both versions spell alike. `NoSpelling` comes exactly where no prefix spells
 /// one; the cursor is then where it was.
-#[tactic(auto, using(scale_codec::specs::Laws::ReadLaws::is_read, crate::specs::Laws::FieldLaws::instance_reads))]
+#[tactic(auto, using(scale_codec::proofs::Lemmas::ReadLaws::is_read, crate::proofs::Lemmas::FieldLaws::instance_reads))]
 pub fn read_instance(c: &mut Cursor<'_>) -> Result<Instance, NoSpelling>
     ensures read { Gives result (instance_at c.old) c.old c.new }
     ensures spelling { IsRead instance FitsInstance result c.old c.new }
@@ -58,7 +58,7 @@ pub fn read_assets(alloc: Global, c: &mut Cursor<'_>, v: Version) -> Result<Asse
 
 /// The filter at the front of what is left, as the version spells it. `NoSpelling` comes exactly where no prefix spells one. After a
 /// refusal the cursor is where it was.
-#[tactic(auto, using(scale_codec::specs::Laws::ReadLaws::is_read_or_fails, crate::specs::Laws::FieldLaws::filter_reads))]
+#[tactic(auto, using(scale_codec::proofs::Lemmas::ReadLaws::is_read_or_fails, crate::proofs::Lemmas::FieldLaws::filter_reads))]
 pub fn read_filter(alloc: Global, c: &mut Cursor<'_>, v: Version) -> Result<Filter, WireFault>
     ensures read { GivesOrFails result (filter_at v c.old) c.old c.new }
     ensures spelling { IsReadOrFails (filter v) (FitsFilter v) result c.old c.new }

@@ -6,10 +6,10 @@ use Rattle.std.proofs.lemmas.Option.{cond_some}
 use Rattle.std.specs.Bool.{if◌then◌else◌}
 use Rattle.std.specs.List.{slice_get}
 use Rattle.std.specs.Option.{option_map_or}
-use Rattle.message_parts.specs.declared.weight.Weight.{Weight}
-use Rattle.message_parts.specs.declared.weight.WeightLimit.{WeightLimit}
+use Rattle.operands.specs.declared.weight.Weight.{Weight}
+use Rattle.operands.specs.declared.weight.WeightLimit.{WeightLimit}
 use Rattle.xcm_program.specs.declared.instruction.Instruction.{Instruction, out-Instruction, roll-Instruction, roll-out-Instruction}
-use Rattle.barriers.specs.Barriers.{is_paid, purchase_index, with_limit, limited, with_limit_at}
+use Rattle.barriers.specs.Barriers.{is_paid_execution, purchase_index, with_limit, limited, with_limit_at}
 
 -- the instruction with its new limit, put in the place of the old one
 pub limit_set : (limit : WeightLimit) (p : List Instruction) (k : ℕ) (old between new : Instruction) → Some old ≡ slice_get p k → out-Instruction new ≡ with_limit limit (out-Instruction old)
@@ -20,5 +20,5 @@ limit_set limit p k old between new at layer =
     ∙ ap (λ o. option_map_or (λ i. set p k (limited limit i)) o p) at
 
 -- a purchase is found only where the paid barrier allows
-pub paid-some : (weight : Weight) (read p : List Instruction) (k : ℕ) → read ≡ p → Some k ≡ (if is_paid weight read then Some (purchase_index read) else None) → true ≡ is_paid weight p
-paid-some weight read p k same found = sym (cond_some (is_paid weight read) (purchase_index read) k (sym found)).0 ∙ ap (is_paid weight) same
+pub paid-some : (weight : Weight) (read p : List Instruction) (k : ℕ) → read ≡ p → Some k ≡ (if is_paid_execution weight read then Some (purchase_index read) else None) → true ≡ is_paid_execution weight p
+paid-some weight read p k same found = sym (cond_some (is_paid_execution weight read) (purchase_index read) k (sym found)).0 ∙ ap (is_paid_execution weight) same

@@ -11,18 +11,18 @@ use Rattle.std.specs.Option.{IsSomeAnd, is_some, option_map_or}
 use Rattle.std.specs.Ordering.{eq_by_cmp}
 use Rattle.locations.specs.declared.relative.Location.{Location}
 use Rattle.locations.specs.Order.{location_cmp}
-use Rattle.locations.specs.OrderLaws.{location_decides}
-use Rattle.message_parts.specs.declared.query.OpenQuery.{OpenQuery}
-use Rattle.message_parts.specs.declared.weight.Weight.{Weight}
-use Rattle.message_parts.specs.declared.weight.WeightLimit.{WeightLimit}
-use Rattle.message_parts.specs.declared.weight.WeightLimit.TheVariants.{Unlimited, Limited}
+use Rattle.locations.proofs.Lemmas.OrderLaws.{location_decides}
+use Rattle.operands.specs.declared.query.OpenQuery.{OpenQuery}
+use Rattle.operands.specs.declared.weight.Weight.{Weight}
+use Rattle.operands.specs.declared.weight.WeightLimit.{WeightLimit}
+use Rattle.operands.specs.declared.weight.WeightLimit.TheVariants.{Unlimited, Limited}
 use Rattle.xcm_program.specs.declared.instruction.Instruction.{Instruction, out-Instruction, out-roll-Instruction}
 use Rattle.xcm_program.specs.declared.instruction.Instruction.TheOpen.{Instruction-F}
 use Rattle.barriers.specs.declared.barrier.Barrier.{Barrier}
 use Rattle.barriers.specs.declared.barrier.Barrier.TheVariants.{Credit, Paid, Explicit, Unpaid, Responses}
-use Rattle.message_parts.specs.Weights.{is_within}
-use Rattle.barriers.specs.Barriers.{fits, is_listed, brings_few, clears_origin, buys, purchase_index, is_paid, with_limit, limited, with_limit_at, asks_unpaid, is_query, responds, is_response, allows, left_by, decided, admission}
-use Rattle.barriers.specs.Meaning.{IsWithin, Fits, HoldsAt, BringsFew, ClearsOrigin, Buys, PaysAt, AsksUnpaid, IsQuery, Responds, Allows, IsLimited, SetsLimit, Leaves}
+use Rattle.operands.specs.Weights.{is_within}
+use Rattle.barriers.specs.Barriers.{is_within_limit, is_listed_origin, brings_few, clears_origin, buys, purchase_index, is_paid_execution, with_limit, limited, with_limit_at, asks_unpaid, is_query_of_origin, responds, is_response, allows, left_by, decided, admission}
+use Rattle.barriers.specs.Meaning.{IsWeightWithin, IsWithinLimit, HoldsAt, BringsFew, ClearsOrigin, Buys, PaysAt, AsksUnpaid, IsQuery, Responds, Allows, IsLimited, SetsLimit, Leaves}
 
 -- ---- tests in words
 
@@ -32,10 +32,10 @@ le_says a b = (leb-true a b, le-leb a b)
 never : Decides false ⊥
 never = (λ e. absurd cc, λ e. absurd e)
 
-within_says : (weight most : Weight) → Decides (is_within weight most) (IsWithin weight most)
+within_says : (weight most : Weight) → Decides (is_within weight most) (IsWeightWithin weight most)
 within_says weight most = Decides-and _ _ (le_says weight.ref_time most.ref_time) (le_says weight.proof_size most.proof_size)
 
-fits_says : (weight : Weight) (limit : WeightLimit) → Decides (fits weight limit) (Fits weight limit)
+fits_says : (weight : Weight) (limit : WeightLimit) → Decides (is_within_limit weight limit) (IsWithinLimit weight limit)
 fits_says weight Unlimited = (λ e. tt, λ e. refl)
 fits_says weight (Limited most) = within_says weight most
 
@@ -45,7 +45,7 @@ any_says p P says xs = (
   λ some. list_any-from_Any p xs (some.0, some.1, some.2, some.3, (says some.1).1 some.4),
 )
 
-listed_says : (origins : List Location) (origin : Location) → Decides (is_listed origins origin) (Contains origins origin)
+listed_says : (origins : List Location) (origin : Location) → Decides (is_listed_origin origins origin) (Contains origins origin)
 listed_says origins origin =
     let some = any_says (λ listed. eq_by_cmp location_cmp listed origin) (λ listed. listed ≡ origin) (λ listed. location_decides listed origin) origins in (
       λ e. let h = some.0 e in (h.0, h.2, subst (λ listed. get_or origins h.0 listed ≡ listed) h.4 h.3),
@@ -76,11 +76,11 @@ asks_says : {X : Type 0} (weight : Weight) (l : Instruction-F X) → Decides (as
 asks_says weight (Instruction-F.UnpaidExecution limit _) = fits_says weight limit
 asks_says weight _ = never
 
-query_says : (id : ℕ) (origin : Location) (query : OpenQuery) → Decides (is_query id origin query) (IsQuery id origin query)
+query_says : (id : ℕ) (origin : Location) (query : OpenQuery) → Decides (is_query_of_origin id origin query) (IsQuery id origin query)
 query_says id origin query = Decides-and _ _ (Decides-eqb query.id id) (location_decides query.from origin)
 
 responds_says : {X : Type 0} (queries : List OpenQuery) (origin : Location) (l : Instruction-F X) → Decides (responds queries origin l) (Responds queries origin l)
-responds_says queries origin (Instruction-F.QueryResponse id _ _ _) = any_says (is_query id origin) (IsQuery id origin) (query_says id origin) queries
+responds_says queries origin (Instruction-F.QueryResponse id _ _ _) = any_says (is_query_of_origin id origin) (IsQuery id origin) (query_says id origin) queries
 responds_says queries origin _ = never
 
 response_says : (queries : List OpenQuery) (origin : Location) (program : List Instruction) → Decides (is_response queries origin program) ((length program ≡ 1) × HoldsAt (Responds queries origin) program 0)
@@ -126,17 +126,17 @@ purchase_index-is weight (i ∷ rest) (suc m) pays =
     let count = prefix_len_is clears rest m i (omega arith) before here in
     omega arith
 
-paid_parts : (weight : Weight) (program : List Instruction) → Decides (is_paid weight program) ((HoldsAt BringsFew program 0 × (purchase_index program ≤ 4)) × HoldsAt (Buys weight) program (purchase_index program))
+paid_parts : (weight : Weight) (program : List Instruction) → Decides (is_paid_execution weight program) ((HoldsAt BringsFew program 0 × (purchase_index program ≤ 4)) × HoldsAt (Buys weight) program (purchase_index program))
 paid_parts weight program =
     Decides-and _ _ (Decides-and _ _ (at_says brings_few BringsFew brings_says (slice_get program 0)) (le_says (purchase_index program) 4))
     (at_says (buys weight) (Buys weight) (buys_says weight) (slice_get program (purchase_index program)))
 
-pub pays_at : (weight : Weight) (program : List Instruction) → is_paid weight program ≡ true → PaysAt weight program (purchase_index program)
+pub pays_at : (weight : Weight) (program : List Instruction) → is_paid_execution weight program ≡ true → PaysAt weight program (purchase_index program)
 pays_at weight program e =
     let parts = (paid_parts weight program).0 e in
     record { brings = parts.0.0; cleared = cleared program; behind = omega arith; near = parts.0.1; buys = parts.1 }
 
-paid_says : (weight : Weight) (program : List Instruction) → Decides (is_paid weight program) ((index : ℕ) × PaysAt weight program index)
+paid_says : (weight : Weight) (program : List Instruction) → Decides (is_paid_execution weight program) ((index : ℕ) × PaysAt weight program index)
 paid_says weight program = (
   λ e. (purchase_index program, pays_at weight program e),
   λ some.

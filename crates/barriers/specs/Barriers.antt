@@ -8,22 +8,22 @@ use Rattle.std.specs.Option.{option_map_or}
 use Rattle.std.specs.Ordering.{eq_by_cmp}
 use Rattle.locations.specs.declared.relative.Location.{Location}
 use Rattle.locations.specs.Order.{location_cmp}
-use Rattle.message_parts.specs.declared.query.OpenQuery.{OpenQuery}
-use Rattle.message_parts.specs.Weights.{is_within}
-use Rattle.message_parts.specs.declared.weight.Weight.{Weight}
-use Rattle.message_parts.specs.declared.weight.WeightLimit.{WeightLimit}
-use Rattle.message_parts.specs.declared.weight.WeightLimit.TheVariants.{Unlimited, Limited}
+use Rattle.operands.specs.declared.query.OpenQuery.{OpenQuery}
+use Rattle.operands.specs.Weights.{is_within}
+use Rattle.operands.specs.declared.weight.Weight.{Weight}
+use Rattle.operands.specs.declared.weight.WeightLimit.{WeightLimit}
+use Rattle.operands.specs.declared.weight.WeightLimit.TheVariants.{Unlimited, Limited}
 use Rattle.xcm_program.specs.declared.instruction.Instruction.{Instruction, out-Instruction, roll-Instruction}
 use Rattle.xcm_program.specs.declared.instruction.Instruction.TheOpen.{Instruction-F}
 use Rattle.barriers.specs.declared.barrier.Barrier.{Barrier}
 use Rattle.barriers.specs.declared.barrier.Barrier.TheVariants.{Credit, Paid, Explicit, Unpaid, Responses}
 
-abbrev pub fits : Weight → WeightLimit → Bool
-fits weight Unlimited = true
-fits weight (Limited most) = is_within weight most
+abbrev pub is_within_limit : Weight → WeightLimit → Bool
+is_within_limit weight Unlimited = true
+is_within_limit weight (Limited most) = is_within weight most
 
-abbrev pub is_listed : List Location → Location → Bool
-is_listed origins origin = list_any (λ listed. eq_by_cmp location_cmp listed origin) origins
+abbrev pub is_listed_origin : List Location → Location → Bool
+is_listed_origin origins origin = list_any (λ listed. eq_by_cmp location_cmp listed origin) origins
 
 -- there is an instruction at the index, and it passes
 abbrev pub holds_at : (Instruction-F Instruction → Bool) → List Instruction → ℕ → Bool
@@ -45,7 +45,7 @@ clears_origin _ = false
 
 -- buys as much weight, or more
 abbrev pub buys : {X : Type 0} → Weight → Instruction-F X → Bool
-buys weight (Instruction-F.BuyExecution _ limit) = fits weight limit
+buys weight (Instruction-F.BuyExecution _ limit) = is_within_limit weight limit
 buys weight _ = false
 
 -- how many ClearOrigins stand first
@@ -56,8 +56,8 @@ leading_clears program = prefix_len (λ i. clears_origin (out-Instruction i)) pr
 abbrev pub purchase_index : List Instruction → ℕ
 purchase_index program = 1 + leading_clears (drop 1 program)
 
-abbrev pub is_paid : Weight → List Instruction → Bool
-is_paid weight program =
+abbrev pub is_paid_execution : Weight → List Instruction → Bool
+is_paid_execution weight program =
     holds_at brings_few program 0 && nat_le (purchase_index program) 4 && holds_at (buys weight) program (purchase_index program)
 
 -- a BuyExecution with this limit in place of its own
@@ -73,22 +73,22 @@ abbrev pub with_limit_at : WeightLimit → ℕ → List Instruction → List Ins
 with_limit_at limit index program = option_map_or (λ i. slice_set program index (limited limit i)) (slice_get program index) program
 
 -- the purchase buys this weight and no more
-abbrev pub with_purchase : Weight → List Instruction → List Instruction
-with_purchase weight program = with_limit_at (Limited weight) (purchase_index program) program
+abbrev pub with_exact_purchase : Weight → List Instruction → List Instruction
+with_exact_purchase weight program = with_limit_at (Limited weight) (purchase_index program) program
 
 -- ---- explicit: the program asks to be executed without paying
 
 abbrev pub asks_unpaid : {X : Type 0} → Weight → Instruction-F X → Bool
-asks_unpaid weight (Instruction-F.UnpaidExecution limit _) = fits weight limit
+asks_unpaid weight (Instruction-F.UnpaidExecution limit _) = is_within_limit weight limit
 asks_unpaid weight _ = false
 
 -- ---- responses: the program is one response to an open query, from where it was asked
 
-abbrev pub is_query : ℕ → Location → OpenQuery → Bool
-is_query id origin query = query.id == id && eq_by_cmp location_cmp query.from origin
+abbrev pub is_query_of_origin : ℕ → Location → OpenQuery → Bool
+is_query_of_origin id origin query = query.id == id && eq_by_cmp location_cmp query.from origin
 
 abbrev pub is_open : ℕ → Location → List OpenQuery → Bool
-is_open id origin queries = list_any (is_query id origin) queries
+is_open id origin queries = list_any (is_query_of_origin id origin) queries
 
 -- the querier that the response names plays no part
 abbrev pub responds : {X : Type 0} → List OpenQuery → Location → Instruction-F X → Bool
@@ -105,14 +105,14 @@ module _ (origin : Location) (weight credit : Weight) (queries : List OpenQuery)
   -- whether a barrier allows a program of this weight from this origin
   abbrev pub allows : List Instruction → Barrier → Bool
   allows program Credit = is_within weight credit
-  allows program Paid = is_paid weight program
-  allows program (Explicit origins) = is_listed origins origin && holds_at (asks_unpaid weight) program 0
-  allows program (Unpaid origins) = is_listed origins origin
+  allows program Paid = is_paid_execution weight program
+  allows program (Explicit origins) = is_listed_origin origins origin && holds_at (asks_unpaid weight) program 0
+  allows program (Unpaid origins) = is_listed_origin origins origin
   allows program Responses = is_response queries origin program
 
 -- what a barrier that allows a program leaves of it
 abbrev pub left_by : Weight → List Instruction → Barrier → List Instruction
-left_by weight program Paid = with_purchase weight program
+left_by weight program Paid = with_exact_purchase weight program
 left_by weight program _ = program
 
 -- the answer by the barrier that decides, where there is one, and the program after it

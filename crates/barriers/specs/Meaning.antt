@@ -2,21 +2,21 @@
 use Rattle.std.specs.Prelude.{◌≡◌, ◌≢◌, ◌<◌, ◌≤◌, ℕ, ⊤, List, length, slice_get, IsSomeAnd, Any, Contains}
 use Rattle.locations.specs.declared.relative.Location.{Location}
 use Rattle.asset_lists.specs.declared.units.Asset.{Asset}
-use Rattle.message_parts.specs.declared.query.OpenQuery.{OpenQuery}
-use Rattle.message_parts.specs.declared.weight.Weight.{Weight}
-use Rattle.message_parts.specs.declared.weight.WeightLimit.{WeightLimit}
-use Rattle.message_parts.specs.declared.weight.WeightLimit.TheVariants.{Unlimited, Limited}
+use Rattle.operands.specs.declared.query.OpenQuery.{OpenQuery}
+use Rattle.operands.specs.declared.weight.Weight.{Weight}
+use Rattle.operands.specs.declared.weight.WeightLimit.{WeightLimit}
+use Rattle.operands.specs.declared.weight.WeightLimit.TheVariants.{Unlimited, Limited}
 use Rattle.xcm_program.specs.declared.instruction.Instruction.{Instruction, out-Instruction}
 use Rattle.xcm_program.specs.declared.instruction.Instruction.TheOpen.{Instruction-F}
 use Rattle.barriers.specs.declared.barrier.Barrier.{Barrier}
 use Rattle.barriers.specs.declared.barrier.Barrier.TheVariants.{Credit, Paid, Explicit, Unpaid, Responses}
 
-abbrev pub IsWithin : Weight → Weight → Type 0
-IsWithin weight most = (weight.ref_time ≤ most.ref_time) × (weight.proof_size ≤ most.proof_size)
+abbrev pub IsWeightWithin : Weight → Weight → Type 0
+IsWeightWithin weight most = (weight.ref_time ≤ most.ref_time) × (weight.proof_size ≤ most.proof_size)
 
-abbrev pub Fits : Weight → WeightLimit → Type 0
-Fits weight Unlimited = ⊤
-Fits weight (Limited most) = IsWithin weight most
+abbrev pub IsWithinLimit : Weight → WeightLimit → Type 0
+IsWithinLimit weight Unlimited = ⊤
+IsWithinLimit weight (Limited most) = IsWeightWithin weight most
 
 -- at the index stands an instruction of which this holds
 abbrev pub HoldsAt : (Instruction-F Instruction → Type 0) → List Instruction → ℕ → Type 0
@@ -34,7 +34,7 @@ ClearsOrigin Instruction-F.ClearOrigin = ⊤
 ClearsOrigin _ = ⊥
 
 abbrev pub Buys : {X : Type 0} → Weight → Instruction-F X → Type 0
-Buys weight (Instruction-F.BuyExecution _ limit) = Fits weight limit
+Buys weight (Instruction-F.BuyExecution _ limit) = IsWithinLimit weight limit
 Buys weight _ = ⊥
 
 -- the program pays for its weight by the BuyExecution at this index
@@ -46,7 +46,7 @@ pub record PaysAt (weight : Weight) (program : List Instruction) (index : ℕ) :
   pub buys : HoldsAt (Buys weight) program index
 
 abbrev pub AsksUnpaid : {X : Type 0} → Weight → Instruction-F X → Type 0
-AsksUnpaid weight (Instruction-F.UnpaidExecution limit _) = Fits weight limit
+AsksUnpaid weight (Instruction-F.UnpaidExecution limit _) = IsWithinLimit weight limit
 AsksUnpaid weight _ = ⊥
 
 abbrev pub IsQuery : ℕ → Location → OpenQuery → Type 0
@@ -58,7 +58,7 @@ Responds queries origin _ = ⊥
 
 -- the barrier allows the program
 abbrev pub Allows : Location → Weight → Weight → List OpenQuery → List Instruction → Barrier → Type 0
-Allows origin weight credit queries program Credit = IsWithin weight credit
+Allows origin weight credit queries program Credit = IsWeightWithin weight credit
 Allows origin weight credit queries program Paid = (index : ℕ) × PaysAt weight program index
 Allows origin weight credit queries program (Explicit origins) = Contains origins origin × HoldsAt (AsksUnpaid weight) program 0
 Allows origin weight credit queries program (Unpaid origins) = Contains origins origin

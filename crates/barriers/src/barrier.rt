@@ -4,7 +4,7 @@ ghost use Rattle.barriers.specs.Barriers.{admission, allows, holds_at, left_by};
 
 use crate::paid::{fits, purchase, set_limit};
 use locations::Location;
-use message_parts::{OpenQuery, Weight};
+use operands::{OpenQuery, Weight};
 use plain_lists::Listed;
 use std::alloc::{AllocError, Global};
 use xcm_program::{Instruction, Program};
@@ -102,8 +102,8 @@ fn admits(
 
 /// Whether the paid barrier allows; where it does, the limit is set.
 fn pays(program: &mut Program, weight: Weight) -> bool
-    ensures answer { result ≡ barriers.is_paid weight program.old }
-    ensures left { program.new ≡ (if result then barriers.with_purchase weight program.old
+    ensures answer { result ≡ barriers.is_paid_execution weight program.old }
+    ensures left { program.new ≡ (if result then barriers.with_exact_purchase weight program.old
         else program.old) }
 {
     match purchase(program.items(), weight) {
@@ -117,7 +117,7 @@ fn pays(program: &mut Program, weight: Weight) -> bool
 
 /// Whether the origin is one of these.
 fn is_listed(origins: &[Location], origin: &Location) -> bool
-    ensures { result ≡ barriers.is_listed origins.now origin.now }
+    ensures { result ≡ barriers.is_listed_origin origins.now origin.now }
 {
     origins.iter().any(|listed| listed == origin)
 }

@@ -2,8 +2,8 @@
 
 ghost use Rattle.std.specs.Prelude.{◌≡◌, ℕ, ◌⊎◌, ◌↔◌, ◌++◌, ◌∷◌, true, List, All, Any, IsTrue, IsFalse};
 ghost use Rattle.locations.specs.declared.relative.Location.{Location};
-ghost use Rattle.message_parts.specs.declared.query.OpenQuery.{OpenQuery};
-ghost use Rattle.message_parts.specs.declared.weight.Weight.{Weight};
+ghost use Rattle.operands.specs.declared.query.OpenQuery.{OpenQuery};
+ghost use Rattle.operands.specs.declared.weight.Weight.{Weight};
 ghost use Rattle.xcm_program.specs.declared.instruction.Instruction.{Instruction};
 ghost use Rattle.barriers.specs.declared.barrier.Barrier.{Barrier};
 ghost use Rattle.barriers.specs.Barriers.{admission, allows, left_by};

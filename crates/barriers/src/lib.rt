@@ -7,5 +7,5 @@ mod paid;
 
 pub use barrier::{Barrier, Origins, allow};
 pub use laws::law_of_barriers;
-pub use message_parts::{OpenQuery, Weight};
+pub use operands::{OpenQuery, Weight};
 pub use xcm_program::Program;

@@ -2,9 +2,9 @@
 ghost use Rattle.std.specs.Prelude.{◌≡◌, ◌<◌, if◌then◌else◌, length, Some, None, IfSome};
 ghost use Rattle.xcm_program.specs.declared.instruction.Instruction.{out-Instruction};
 ghost use Rattle.barriers.specs.Barriers as barriers;
-ghost use Rattle.barriers.specs.Barriers.{holds_at, is_paid, purchase_index, with_limit};
+ghost use Rattle.barriers.specs.Barriers.{holds_at, is_paid_execution, purchase_index, with_limit};
 
-use message_parts::{Weight, WeightLimit};
+use operands::{Weight, WeightLimit};
 use xcm_program::{Instruction, Program};
 
 /// The most assets that a program which pays may bring.
@@ -15,7 +15,7 @@ const LAST_INDEX: usize = 4;
 
 /// Whether a limit leaves room for a weight.
 pub(crate) fn fits(weight: Weight, limit: WeightLimit) -> bool
-    ensures { result ≡ barriers.fits weight limit }
+    ensures { result ≡ barriers.is_within_limit weight limit }
 {
     match limit {
         WeightLimit::Unlimited => true,
@@ -25,7 +25,7 @@ pub(crate) fn fits(weight: Weight, limit: WeightLimit) -> bool
 
 /// The index of the BuyExecution by which a program pays for its weight.
 pub(crate) fn purchase(program: &[Instruction], weight: Weight) -> Option<usize>
-    ensures place { result ≡ (if is_paid weight program.now then Some (purchase_index program.now)
+    ensures place { result ≡ (if is_paid_execution weight program.now then Some (purchase_index program.now)
         else None) }
     ensures within { IfSome result (λ index. index < length program.now) }
 {

@@ -7,9 +7,9 @@ use Rattle.call_dispatch.specs.declared.faults.ShiftFault.{ShiftFault}
 use Rattle.call_dispatch.specs.Spelling.{Item}
 use Rattle.call_dispatch.specs.Shifts.{RowAmounts, Floors, shift_fault, shifted, AreKept}
 use Rattle.call_dispatch.specs.Dispatches.{Done, moved_unless, dispatch_item, next_or, dispatch_items, HasDoneFront}
-use Rattle.call_dispatch.specs.Laws.ShiftLaws.{accepted, enough_held, restored, undoable}
+use Rattle.call_dispatch.proofs.Lemmas.ShiftLaws.{accepted, enough_held, restored, undoable}
 use Rattle.call_dispatch.specs.TakingBack.{taken_back, CanTakeBack, HadNumber}
-use Rattle.call_dispatch.specs.Laws.DispatchLaws.{items_fail, item_fails}
+use Rattle.call_dispatch.proofs.Lemmas.DispatchLaws.{items_fail, item_fails}
 
 -- what stands after an error is what stood at first
 swapped : RowAmounts → Done → Done

@@ -6,6 +6,6 @@ use Rattle.call_dispatch.specs.declared.faults.CallFault.TheVariants.{NotACall, 
 use Rattle.call_dispatch.specs.Spelling.{AnyCall, call, FitsCall}
 
 -- no call is spelled so
-abbrev pub IsCause : List ℕ → CallFault → Type 0
-IsCause bytes NotACall = (c : AnyCall) → Spells call FitsCall c bytes → ⊥
-IsCause bytes Memory = ⊤
+abbrev pub IsCallCause : List ℕ → CallFault → Type 0
+IsCallCause bytes NotACall = (c : AnyCall) → Spells call FitsCall c bytes → ⊥
+IsCallCause bytes Memory = ⊤

@@ -1,5 +1,2 @@
--- Lemmas for proofs, of this crate and of others; a reader of the definitions skips this file and the folder beside it.
-pub mod FieldLaws
-pub mod CallLaws
+-- The laws of calls and of the moves of amounts that they ask for: what they are stated by.
 pub mod ShiftLaws
-pub mod DispatchLaws

@@ -31,8 +31,8 @@ RowAmounts = Amounts account_row_cmp
 abbrev pub Floors : Type 0
 Floors = AccountRow → ℕ
 
-abbrev pub is_row : List ℕ → ℕ → Bool
-is_row rows row = list_any (λ (r : ℕ). r == row) rows
+abbrev pub is_listed_row : List ℕ → ℕ → Bool
+is_listed_row rows row = list_any (λ (r : ℕ). r == row) rows
 
 abbrev pub is_same_account : List ℕ → List ℕ → Bool
 is_same_account a b = eq_by_cmp (slice_cmp nat_cmp) a b
@@ -43,7 +43,7 @@ spare m floors k = amount m k - floors k
 unfoldable pub shift_fault : RowAmounts → Floors → List ℕ → ℕ → List ℕ → List ℕ → ℕ
     → Option ShiftFault
 shift_fault m floors rows row from to n =
-    if is_row rows row
+    if is_listed_row rows row
     then (if nat_le n (spare m floors (from, row))
     then (if is_same_account from to || nat_le (amount m (to, row) + n) (2 ^ 128 - 1) then None
     else Some (Overflow (amount m (to, row))))

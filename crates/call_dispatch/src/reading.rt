@@ -4,7 +4,7 @@ ghost use Rattle.std.specs.Prelude.{◌≡◌, ◌⊎◌, Err, MatchResult};
 ghost use Rattle.scale_codec.specs.Spelling.{Spells};
 ghost use Rattle.call_dispatch.specs.Spelling.{AnyCall, call, FitsCall};
 ghost use Rattle.call_dispatch.specs.Reading.{call_of};
-ghost use Rattle.call_dispatch.specs.Answers.{IsCause};
+ghost use Rattle.call_dispatch.specs.Answers.{IsCallCause};
 
 use crate::parts::take_call;
 use crate::{Call, CallFault};
@@ -12,11 +12,11 @@ use scale_codec::{Cursor, WireFault};
 use std::alloc::Global;
 
 /// The call that the bytes are. `NotACall` comes exactly where they aren't one call with nothing behind it.
-#[tactic(auto, using(crate::specs::Laws::CallLaws::is_answer))]
+#[tactic(auto, using(crate::proofs::Lemmas::CallLaws::is_answer))]
 pub fn read_call(alloc: Global, bytes: &[u8]) -> Result<Call, CallFault>
     ensures read { (result ≡ Err CallFault.Memory) ⊎ (result ≡ call_of bytes.now) }
     ensures spelling { MatchResult result (λ c. Spells call FitsCall c bytes.now)
-        (IsCause bytes.now) }
+        (IsCallCause bytes.now) }
 {
     read_alone(alloc, bytes)
 }

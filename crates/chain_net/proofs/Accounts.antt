@@ -7,6 +7,7 @@ use Rattle.std.proofs.lemmas.Nat.{from_le_bytes-to_le_bytes_4}
 use Rattle.std.proofs.lemmas.Slice.Eq.{bytes_eq-Decides}
 use Rattle.trust_tables.specs.Accounts.{IsSovereign, child_account, sibling_account, parent_account}
 use Rattle.network_steps.specs.Steps.{is_sovereign}
+use Rattle.plain_lists.proofs.Lemmas.Facts.{either_first as either_left, either_second as either_right, one_of_either as one_of}
 
 abbrev number_in : List ℕ → ℕ
 number_in account = from_le_bytes w32 (take 4 (drop 4 account))
@@ -14,17 +15,6 @@ number_in account = from_le_bytes w32 (take 4 (drop 4 account))
 -- an account is itself
 equal_told : (xs ys : List ℕ) → xs ≡ ys → bytes_eq xs ys ≡ true
 equal_told xs ys same = (bytes_eq-Decides xs ys).1 same
-
-either_left : (a b : Bool) → a ≡ true → (a || b) ≡ true
-either_left a b h = ap (λ x. x || b) h
-
-either_right : (a b : Bool) → b ≡ true → (a || b) ≡ true
-either_right true b h = refl
-either_right false b h = h
-
-one_of : (a b : Bool) → (a || b) ≡ true → (a ≡ true) ⊎ (b ≡ true)
-one_of true b h = inl refl
-one_of false b h = inr h
 
 small_drop : (n : ℕ) (xs : List ℕ) → ((i : ℕ) → get_or xs i 0 < 256) → (i : ℕ) → get_or (drop n xs) i 0 < 256
 small_drop zero xs small i = small i

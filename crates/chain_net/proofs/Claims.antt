@@ -4,7 +4,7 @@ use Rattle.std.specs.Prelude.{if◌then◌else◌, is_some, slice_get, slice_set
 use Rattle.std.specs.Option.{option_map_or}
 use Rattle.trust_tables.specs.Trust.{listing}
 use Rattle.chain_ids.specs.declared.chain.ChainId.{ChainId}
-use Rattle.message_parts.specs.declared.error.XcmError.{XcmError}
+use Rattle.operands.specs.declared.error.XcmError.{XcmError}
 use Rattle.xcm_program.specs.declared.instruction.Instruction.{Instruction}
 use Rattle.versioned_xcm.specs.declared.faults.MessageFault.{MessageFault}
 use Rattle.versioned_xcm.specs.Reading.{message_of}
@@ -14,14 +14,14 @@ use Rattle.channel_parts.specs.Channels.{Outgoing, with_waiting}
 use Rattle.chain_queues.specs.Queues.{leads_to}
 use Rattle.exec_base.specs.declared.faults.HostFault.{HostFault}
 use Rattle.exec_base.specs.declared.faults.HostFault.TheVariants.{Xcm, Memory}
-use Rattle.exec_base.specs.Answers.{Answers}
+use Rattle.exec_base.specs.Answers.{AnswersOrRefuses}
 use Rattle.exec_base.specs.Part.{ChainPart}
 use Rattle.exec_base.specs.Sending.{channel_refusal}
-use Rattle.exec_admission.specs.declared.rules.ChainRules.{ChainRules}
+use Rattle.exec_rules.specs.declared.rules.ChainRules.{ChainRules}
 use Rattle.network_steps.specs.declared.step_result.StepResult.{StepResult}
 use Rattle.network_steps.specs.Worlds.{Member, World, with_part, unchanged}
 use Rattle.network_steps.specs.Fixed.{fixed_of}
-use Rattle.network_steps.specs.FixedLaws.{channels_kept}
+use Rattle.network_steps.proofs.Lemmas.FixedLaws.{channels_kept}
 use Rattle.network_steps.specs.Steps.{is_claim, posted, posting, claim_by, claim_on}
 use Rattle.chain_state.specs.declared.state.ChainState.{ChainState}
 use Rattle.chain_state.specs.PartOf.{part_of}
@@ -66,7 +66,7 @@ between_posted to program p h = record {
   apart = same_leads p (posted to program p) (ap (λ (cs : List Channel). record (fixed_of p) { channels = cs }) (channels_kept (leads_to to) (with_waiting program Nothing) (λ c. refl) p.channels)) ∙ h.apart;
 }
 
-pub answer_chain : (refusal : Option XcmError) (number : ℕ) (to : ChainId) (program : List Instruction) (p now : ChainPart) (r : Result ℕ HostFault) → Answers refusal number (posted to program p) p r now → now.site.chain ≡ p.site.chain
+pub answer_chain : (refusal : Option XcmError) (number : ℕ) (to : ChainId) (program : List Instruction) (p now : ChainPart) (r : Result ℕ HostFault) → AnswersOrRefuses refusal number (posted to program p) p r now → now.site.chain ≡ p.site.chain
 answer_chain refusal number to program p now (Ok n) h = ap (λ (x : ChainPart). x.site.chain) h.2
 answer_chain refusal number to program p now (Err (Xcm e)) h = ap (λ (x : ChainPart). x.site.chain) h.1
 answer_chain refusal number to program p now (Err Memory) h = ap (λ (x : ChainPart). x.site.chain) h
@@ -84,9 +84,9 @@ same_world rs ss i r s new at_r at_s same =
 pub changed_world : (rs : List ChainRules) (ss : List ChainState) (i : ℕ) (r : ChainRules) (s new : ChainState) (p : ChainPart) → slice_get rs i ≡ Some r → part_of new ≡ p → world_in rs (slice_set ss i new) ≡ slice_set (world_in rs ss) i (with_part p (member_in r s))
 changed_world rs ss i r s new p at_r same = set_member rs ss i r new at_r ∙ ap (λ (q : ChainPart). slice_set (world_in rs ss) i (record { rules = r; part = q })) same
 
-pub xcm_told : (refusal : Option XcmError) (number : ℕ) (to : ChainId) (program : List Instruction) (p now : ChainPart) (r : Result ℕ HostFault) (f : HostFault) (e : XcmError) → Answers refusal number (posted to program p) p r now → r ≡ Err f → f ≡ Xcm e
+pub xcm_told : (refusal : Option XcmError) (number : ℕ) (to : ChainId) (program : List Instruction) (p now : ChainPart) (r : Result ℕ HostFault) (f : HostFault) (e : XcmError) → AnswersOrRefuses refusal number (posted to program p) p r now → r ≡ Err f → f ≡ Xcm e
     → (refusal ≡ Some e) × (now ≡ p)
-xcm_told refusal number to program p now r f e h is fault = subst (λ (q : Result ℕ HostFault). Answers refusal number (posted to program p) p q now) (is ∙ ap Err fault) h
+xcm_told refusal number to program p now r f e h is fault = subst (λ (q : Result ℕ HostFault). AnswersOrRefuses refusal number (posted to program p) p q now) (is ∙ ap Err fault) h
 
-pub memory_told : (refusal : Option XcmError) (number : ℕ) (to : ChainId) (program : List Instruction) (p now : ChainPart) (r : Result ℕ HostFault) (f : HostFault) → Answers refusal number (posted to program p) p r now → r ≡ Err f → f ≡ Memory → now ≡ p
-memory_told refusal number to program p now r f h is fault = subst (λ (q : Result ℕ HostFault). Answers refusal number (posted to program p) p q now) (is ∙ ap Err fault) h
+pub memory_told : (refusal : Option XcmError) (number : ℕ) (to : ChainId) (program : List Instruction) (p now : ChainPart) (r : Result ℕ HostFault) (f : HostFault) → AnswersOrRefuses refusal number (posted to program p) p r now → r ≡ Err f → f ≡ Memory → now ≡ p
+memory_told refusal number to program p now r f h is fault = subst (λ (q : Result ℕ HostFault). AnswersOrRefuses refusal number (posted to program p) p q now) (is ∙ ap Err fault) h

@@ -15,11 +15,11 @@ use Rattle.channel_parts.specs.Channels.{Waiting, Outgoing}
 use Rattle.chain_queues.specs.Queues.{first_of, leads_to, channel_to, oldest, oldest_to, without_oldest}
 use Rattle.exec_base.specs.Part.{ChainPart}
 use Rattle.exec_base.specs.Host.{burned_lines}
-use Rattle.exec_admission.specs.declared.rules.ChainRules.{ChainRules}
+use Rattle.exec_rules.specs.declared.rules.ChainRules.{ChainRules}
 use Rattle.network_steps.specs.declared.step_result.StepResult.{StepResult}
 use Rattle.network_steps.specs.Worlds.{Member, chain_of, World, place_of, with_part, Stepped, unchanged}
 use Rattle.network_steps.specs.Fixed.{fixed_of}
-use Rattle.network_steps.specs.FixedLaws.{channels_kept}
+use Rattle.network_steps.proofs.Lemmas.FixedLaws.{channels_kept}
 use Rattle.network_steps.specs.Acting.{Acted, lost_of, booking_lost, lost_lines}
 use Rattle.network_steps.specs.Steps.{without_message, run_for, sender_after, receiver_after, delivered, delivery_of, deliver}
 use Rattle.chain_state.specs.declared.state.ChainState.{ChainState}
@@ -27,8 +27,8 @@ use Rattle.chain_state.specs.PartOf.{part_of}
 use Rattle.chain_net.specs.Chains.{member_in, world_in, names_of}
 use Rattle.chain_net.specs.Nets.{told_at}
 use Rattle.chain_net.specs.Sound.{IsListedCargo, AreListedIn, IsBetweenSteps, AreBetweenSteps}
-use Rattle.net_laws.specs.Stops.{DeliverStops, IsStoppedThere}
-use Rattle.chain_net.specs.Passing.{IsOther, IsCarried, AreChanged, run_at, IsPassed, IsPassStopped}
+use Rattle.law_nets.specs.Stops.{DeliverStops, IsStoppedThere}
+use Rattle.chain_net.specs.Passing.{IsOtherChain, IsCarried, AreChanged, run_at, IsPassed, IsPassStopped}
 use Rattle.chain_net.proofs.Shipments.{changed_listed}
 use Rattle.chain_net.proofs.Runs.{same_leads}
 use Rattle.chain_net.proofs.Members.{member_at, set_member, got_set, got_other, set_many, set_names, set_between}
@@ -218,7 +218,7 @@ apart_places w i j s to at to_j none some same =
     cc
 
 pub other_chain : (rs : List ChainRules) (xs : List ChainState) (i j : ℕ) (rules : ChainRules) (taken : ChainState) (from to : ChainId) → (i ≡ j → ⊥) → slice_get rs j ≡ Some rules → place_of (world_in rs xs) from ≡ Some i → place_of (world_in rs xs) to ≡ Some j
-    → IsOther (slice_set xs i taken) j from
+    → IsOtherChain (slice_set xs i taken) j from
 other_chain rs xs i j rules taken from to apart rules_j from_i to_j state at named =
     let here = sym (got_other xs i j taken (λ e. apart (sym e))) ∙ at in
     let is_to = place_says (world_in rs xs) to j (member_in rules state) to_j (member_at rs xs j rules state rules_j here) in

@@ -8,11 +8,11 @@ use Rattle.chain_queues.specs.Queues.{channel_to, oldest}
 use Rattle.network_steps.specs.Worlds.{Member, chain_of, World, place_of}
 use Rattle.network_steps.specs.Sends.{deliveries_left}
 use Rattle.network_steps.specs.Steps.{deliver, Link, waiting, waits, next_channel, deliveries, world_behind}
-use Rattle.exec_admission.specs.declared.rules.ChainRules.{ChainRules}
+use Rattle.exec_rules.specs.declared.rules.ChainRules.{ChainRules}
 use Rattle.chain_state.specs.declared.state.ChainState.{ChainState}
 use Rattle.chain_state.specs.PartOf.{part_of}
 use Rattle.chain_net.specs.Chains.{member_in, world_in}
-use Rattle.message_shapes.specs.Shapes.{AllShaped}
+use Rattle.law_steps.specs.Shapes.{AllShaped}
 use Rattle.chain_net.specs.Sound.{AreBetweenSteps}
 use Rattle.chain_net.proofs.Members.{member_at, something, members_within}
 use Rattle.chain_net.proofs.Pairs.{between_nowhere, between_to_nowhere, between_at, place_says}

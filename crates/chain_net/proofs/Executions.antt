@@ -15,14 +15,14 @@ use Rattle.exec_base.specs.Part.{ChainPart}
 use Rattle.network_steps.specs.declared.step_result.StepResult.{StepResult}
 use Rattle.network_steps.specs.Worlds.{Member, World, place_of, with_part, unchanged}
 use Rattle.network_steps.specs.Acting.{begun, Acted, acted, caller}
-use Rattle.exec_admission.specs.declared.rules.ChainRules.{ChainRules}
+use Rattle.exec_rules.specs.declared.rules.ChainRules.{ChainRules}
 use Rattle.chain_state.specs.declared.state.ChainState.{ChainState}
 use Rattle.chain_state.specs.PartOf.{part_of}
 use Rattle.chain_net.specs.Chains.{member_in, world_in}
 use Rattle.chain_net.specs.Nets.{told_at}
-use Rattle.net_laws.specs.Stops.{IsStoppedHere, ExecStops}
+use Rattle.law_nets.specs.Stops.{IsStoppedHere, ExecStops}
 use Rattle.chain_net.proofs.Members.{member_at, set_member, got_set}
-use Rattle.chain_pools.specs.Exchanges.{is_pool_account}
+use Rattle.asset_pools.specs.Exchanges.{is_pool_account}
 use Rattle.network_steps.specs.Steps.{is_sovereign, exec_read, exec_by, exec_at, exec}
 
 module _ (w : World) (chain : ChainId) (account bytes : List ℕ) where

@@ -2,13 +2,14 @@
 use Rattle.std.proofs.Common.{◌≡◌, ℕ, List, [], refl, sym, ap, ◌∙◌, map}
 use Rattle.amounts.specs.Rows.{rows_at}
 use Rattle.amounts.specs.Amounts.{empty, rows, from_rows, plus_all, map_keys}
-use Rattle.amounts.specs.Laws.{rows-from_rows}
+use Rattle.amounts.proofs.Lemmas.{rows-from_rows}
 use Rattle.asset_lists.specs.Units.{Unit, unit_cmp}
 use Rattle.asset_lists.specs.Listed.{listed_of}
-use Rattle.asset_bundles.specs.Bundles.{Bundle, unit_keys, assets_at, held_assets}
+use Rattle.asset_bundles.specs.Bundles.{Bundle, assets_of_rows, held_assets}
+use Rattle.asset_bundles.proofs.Lemmas.Bundles.{unit_keys}
 use Rattle.asset_bundles.specs.Books.{Book, Booked, burned_for}
 use Rattle.asset_bundles.specs.Losing.{book_after_loss}
-use Rattle.asset_bundles.specs.Laws.{booked_nothing}
+use Rattle.asset_bundles.proofs.Lemmas.{booked_nothing}
 use Rattle.asset_bundles.specs.declared.book.Cause.{Cause}
 use Rattle.asset_bundles.specs.declared.shipment.Way.{Way}
 use Rattle.asset_bundles.specs.declared.shipment.Shipment.{Shipment}
@@ -34,7 +35,7 @@ nothing_booked p =
 
 pub nothing_told : (p : ChainPart) → [] ≡ lost_lines empty p
 unfolding burned_lines held_assets
-nothing_told p = sym (ap (λ (es : List (Unit × ℕ)). map (burned_line p (λ unit. Cause.LostTeleport)) (assets_at es)) rows_nothing)
+nothing_told p = sym (ap (λ (es : List (Unit × ℕ)). map (burned_line p (λ unit. Cause.LostTeleport)) (assets_of_rows es)) rows_nothing)
 
 pub lost_shipment : (p : ChainPart) (way : Way) (units : Bundle) → record p { burns = (book_after_loss way units (book_of p)).burns } ≡ booking_lost (lost_by way units) p
 lost_shipment p Way.Withdrawal units = nothing_booked p

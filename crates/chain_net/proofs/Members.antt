@@ -7,17 +7,14 @@ use Rattle.std.proofs.lemmas.Grind.{common_steps}
 use Rattle.std.proofs.lemmas.Bool.Decides.{nat_tests}
 use Rattle.chain_ids.specs.declared.chain.ChainId.{ChainId}
 use Rattle.chain_ids.specs.Chains.{same_chain}
-use Rattle.exec_admission.specs.declared.rules.ChainRules.{ChainRules}
+use Rattle.exec_rules.specs.declared.rules.ChainRules.{ChainRules}
 use Rattle.chain_state.specs.declared.state.ChainState.{ChainState}
 use Rattle.chain_state.specs.PartOf.{part_of}
 use Rattle.network_steps.specs.Worlds.{Member, chain_of, place_of, parts_of}
 use Rattle.chain_net.specs.Nets.{told_at}
 use Rattle.chain_net.specs.Sound.{IsBetweenSteps, AreBetweenSteps}
 use Rattle.chain_net.specs.Chains.{member_in, world_in, name_of, names_of}
-
--- one value
-pub same_some : {X : Type 0} (x y : X) → Some x ≡ Some y → x ≡ y
-same_some x y e = cc
+use Rattle.plain_lists.proofs.Lemmas.Facts.{same_some}
 
 nothing_some : {X : Type 0} (x : X) → ◌≡◌ {A = Option X} None (Some x) → ⊥
 nothing_some x e = cc

@@ -5,7 +5,7 @@ use Rattle.std.specs.Prelude.{IsTrue, ◌&&◌, if◌then◌else◌, is_some, fi
 use Rattle.std.specs.List.{All, AllByRecursion}
 use Rattle.chain_ids.specs.declared.chain.ChainId.{ChainId}
 use Rattle.chain_ids.specs.Chains.{same_chain}
-use Rattle.chain_ids.specs.Laws.{same_chain_itself, different_chains}
+use Rattle.chain_ids.proofs.Lemmas.{same_chain_itself, different_chains}
 use Rattle.asset_lists.specs.Listed.{Listed}
 use Rattle.trust_tables.specs.Trust.{listing}
 use Rattle.weight_trader.specs.declared.rate.Rate.{Rate}
@@ -16,18 +16,18 @@ use Rattle.chain_queues.specs.Queues.{leads_to, channel_to}
 use Rattle.network_spec.specs.declared.chain.ChainSpec.{ChainSpec}
 use Rattle.network_spec.specs.declared.network.ChannelSpec.{ChannelSpec}
 use Rattle.network_spec.specs.declared.network.NetworkSpec.{NetworkSpec}
-use Rattle.network_genesis.specs.Tests.{comes_before, rises, is_in_order, is_rate_listed, are_rates_listed}
-use Rattle.network_genesis.specs.Genesis.{channels_from, rules_of, part_at, member_of}
-use Rattle.network_genesis.specs.Openable.{IsOpenable, IsOpenableChain}
+use Rattle.network_steps.specs.Tests.{comes_before, rises, is_in_order, is_rate_listed, are_rates_listed}
+use Rattle.network_steps.specs.Genesis.{channels_from, rules_of, part_at, member_of}
+use Rattle.network_steps.specs.Openable.{IsOpenable, IsOpenableChain}
 use Rattle.exec_base.specs.Part.{ChainPart}
-use Rattle.exec_admission.specs.declared.rules.ChainRules.{ChainRules}
+use Rattle.exec_rules.specs.declared.rules.ChainRules.{ChainRules}
 use Rattle.chain_state.specs.declared.state.ChainState.{ChainState}
 use Rattle.chain_state.specs.PartOf.{part_of}
 use Rattle.chain_net.specs.Order.{rise, are_in_order}
 use Rattle.chain_net.specs.Chains.{world_in, name_of, names_of}
 use Rattle.chain_net.specs.Sound.{AreListedIn, IsBetweenSteps, AreBetweenSteps}
 use Rattle.chain_net.proofs.Searches.{number, above, both}
-use Rattle.chain_net.proofs.Members.{same_some}
+use Rattle.plain_lists.proofs.Lemmas.Facts.{same_some}
 
 abbrev chain_named : ChainSpec → ChainId
 chain_named c = c.chain

@@ -6,23 +6,23 @@ use Rattle.std.proofs.lemmas.List.Quantifiers.{position-Some}
 use Rattle.std.proofs.lemmas.Option.{get_or_from_slice_get}
 use Rattle.chain_ids.specs.declared.chain.ChainId.{ChainId}
 use Rattle.chain_ids.specs.Chains.{same_chain}
-use Rattle.chain_ids.specs.Laws.{same_chain_told}
+use Rattle.chain_ids.proofs.Lemmas.{same_chain_told}
 use Rattle.channel_parts.specs.Channels.{Outgoing}
 use Rattle.chain_queues.specs.Queues.{channel_to}
 use Rattle.network_steps.specs.declared.step_result.StepResult.{StepResult}
 use Rattle.network_steps.specs.Worlds.{Member, chain_of, World, place_of, unchanged}
-use Rattle.network_steps.specs.Steps.{between, delivery_of, deliver, claim_on, claim}
+use Rattle.network_steps.specs.Steps.{with_both_members, delivery_of, deliver, claim_on, claim}
 
 module _ {A : Type 0} (w : World) (from to : ChainId) (none : A) (f : ℕ → ℕ → Member → Member → A) where
-  pub between_nowhere : place_of w from ≡ None → between w from to none f ≡ none
+  pub between_nowhere : place_of w from ≡ None → with_both_members w from to none f ≡ none
   between_nowhere at = ap (λ o. option_map_or (λ (i : ℕ). option_map_or (λ (j : ℕ). option_map_or (λ (s : Member). option_map_or (λ (r : Member). f i j s r) (slice_get w j) none) (slice_get w i) none) (place_of w to) none) o none) at
 
-  pub between_to_nowhere : (i : ℕ) → place_of w from ≡ Some i → place_of w to ≡ None → between w from to none f ≡ none
+  pub between_to_nowhere : (i : ℕ) → place_of w from ≡ Some i → place_of w to ≡ None → with_both_members w from to none f ≡ none
   between_to_nowhere i at_i at =
       ap (λ o. option_map_or (λ (i : ℕ). option_map_or (λ (j : ℕ). option_map_or (λ (s : Member). option_map_or (λ (r : Member). f i j s r) (slice_get w j) none) (slice_get w i) none) (place_of w to) none) o none) at_i
       ∙ ap (λ o. option_map_or (λ (j : ℕ). option_map_or (λ (s : Member). option_map_or (λ (r : Member). f i j s r) (slice_get w j) none) (slice_get w i) none) o none) at
 
-  pub between_at : (i j : ℕ) (s r : Member) → place_of w from ≡ Some i → place_of w to ≡ Some j → slice_get w i ≡ Some s → slice_get w j ≡ Some r → between w from to none f ≡ f i j s r
+  pub between_at : (i j : ℕ) (s r : Member) → place_of w from ≡ Some i → place_of w to ≡ Some j → slice_get w i ≡ Some s → slice_get w j ≡ Some r → with_both_members w from to none f ≡ f i j s r
   between_at i j s r at_i at_j is_s is_r =
       ap (λ o. option_map_or (λ (i : ℕ). option_map_or (λ (j : ℕ). option_map_or (λ (s : Member). option_map_or (λ (r : Member). f i j s r) (slice_get w j) none) (slice_get w i) none) (place_of w to) none) o none) at_i
       ∙ ap (λ o. option_map_or (λ (j : ℕ). option_map_or (λ (s : Member). option_map_or (λ (r : Member). f i j s r) (slice_get w j) none) (slice_get w i) none) o none) at_j

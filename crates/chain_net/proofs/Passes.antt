@@ -9,17 +9,18 @@ use Rattle.channel_parts.specs.declared.cargo.Cargo.{Cargo}
 use Rattle.channel_parts.specs.Channels.{Waiting}
 use Rattle.exec_base.specs.declared.event.Event.{Event}
 use Rattle.exec_base.specs.Part.{ChainPart}
-use Rattle.exec_admission.specs.declared.rules.ChainRules.{ChainRules}
-use Rattle.exec_admission.specs.Execution.{executed}
+use Rattle.exec_rules.specs.declared.rules.ChainRules.{ChainRules}
+use Rattle.exec_rules.specs.Execution.{executed}
 use Rattle.network_steps.specs.Acting.{lost_of, booking_lost, lost_lines}
 use Rattle.network_steps.specs.Steps.{name_at}
 use Rattle.chain_state.specs.declared.state.ChainState.{ChainState}
 use Rattle.chain_state.specs.PartOf.{part_of}
 use Rattle.chain_net.specs.Sound.{IsBetweenSteps}
-use Rattle.net_laws.specs.Stops.{arrived, IsStoppedThere}
+use Rattle.law_nets.specs.Stops.{arrived, IsStoppedThere}
 use Rattle.chain_net.specs.Answers.{IsActed}
 use Rattle.chain_net.specs.Passing.{AreChanged, run_at, IsPassed, IsPassStopped}
-use Rattle.chain_net.proofs.Members.{same_some, at_place, got_set, got_other, set_many}
+use Rattle.chain_net.proofs.Members.{at_place, got_set, got_other, set_many}
+use Rattle.plain_lists.proofs.Lemmas.Facts.{same_some}
 
 -- ---- places that are written one after the other
 module _ {X : Type 0} where

@@ -5,7 +5,7 @@ use Rattle.std.specs.declared.alloc.AllocError.{AllocError}
 use Rattle.xcm_program.specs.declared.outcome.Outcome.{Outcome}
 use Rattle.std.specs.Prelude.{◌⊎◌, IfOk, OnOk, OnErr, is_some, if◌then◌else◌, find}
 use Rattle.locations.specs.declared.relative.Location.{Location}
-use Rattle.message_parts.specs.declared.weight.Weight.{Weight}
+use Rattle.operands.specs.declared.weight.Weight.{Weight}
 use Rattle.chain_ids.specs.declared.chain.ChainId.{ChainId}
 use Rattle.chain_ids.specs.Chains.{same_chain}
 use Rattle.asset_lists.specs.Listed.{Listed}
@@ -27,12 +27,12 @@ use Rattle.exec_base.specs.declared.event.Event.TheVariants as events
 use Rattle.exec_base.specs.Part.{ChainPart}
 use Rattle.exec_base.specs.Host.{told}
 use Rattle.exec_rules.specs.Readiness.{IsAtRest}
-use Rattle.exec_admission.specs.declared.rules.ChainRules.{ChainRules}
-use Rattle.exec_admission.specs.Execution.{executed}
+use Rattle.exec_rules.specs.declared.rules.ChainRules.{ChainRules}
+use Rattle.exec_rules.specs.Execution.{executed}
 use Rattle.network_steps.specs.Acting.{begun, ended, acted, caller}
 use Rattle.network_steps.specs.Steps.{nowhere, name_at}
 use Rattle.network_steps.specs.Fixed.{Fixed, fixed_of}
-use Rattle.net_laws.specs.Stops.{IsStoppedHere, arrived, StandsAt, IsStoppedThere}
+use Rattle.law_nets.specs.Stops.{IsStoppedHere, arrived, StandsAt, IsStoppedThere}
 use Rattle.chain_net.specs.Answers.{IsActed, IsUnread}
 use Rattle.chain_net.specs.Sound.{IsListedCargo, IsBetweenSteps}
 use Rattle.chain_net.proofs.Shipments.{IsCarrying, executed_ships, executed_lands, executed_said, executed_quiet, abandoned_lands, abandoned_site}
@@ -56,8 +56,8 @@ same_leads p q said =
     leads_by q.site.chain q.channels ∙ ap (λ (x : Fixed). leads x.site.chain x.channels) said ∙ sym (leads_by p.site.chain p.channels)
 
 -- ---- the beginning and the end of a step
-pub begun_is : (p : ChainPart) (sender : ChainId) (cargo : Cargo) → p.kept_back ≡ [] → record p { cargo = record { sender = sender; cargo = cargo }; events = [] } ≡ begun sender cargo p
-begun_is p sender cargo quiet = λ i. record p { cargo = record { sender = sender; cargo = cargo }; events = []; kept_back = quiet i }
+pub begun_is : (p : ChainPart) (sender : ChainId) (cargo : Cargo) → p.pending_events ≡ [] → record p { cargo = record { sender = sender; cargo = cargo }; events = [] } ≡ begun sender cargo p
+begun_is p sender cargo quiet = λ i. record p { cargo = record { sender = sender; cargo = cargo }; events = []; pending_events = quiet i }
 
 pub rest_begun : (p : ChainPart) (sender : ChainId) (cargo : Cargo) → IsAtRest p → IsAtRest (begun sender cargo p)
 rest_begun p sender cargo rest = record { order = record { traps = rest.order.traps; rates = rest.order.rates; paid = rest.order.paid; pools = rest.order.pools; unparked = rest.order.unparked }; slot = rest.slot }
@@ -81,7 +81,7 @@ carrying_told far p e h = record {
 }
 
 -- a run from a chain that carries something ends between two steps
-pub between_after : (rules : ChainRules) (origin : Location) (credit : Weight) (program : List Instruction) (p : ChainPart) (far : List Listed) → IsCarrying far p → p.kept_back ≡ []
+pub between_after : (rules : ChainRules) (origin : Location) (credit : Weight) (program : List Instruction) (p : ChainPart) (far : List Listed) → IsCarrying far p → p.pending_events ≡ []
     → is_some (channel_to p.site.chain p.channels) ≡ false → IsAtRest (executed rules origin credit program p).1 → IsBetweenSteps (ended (executed rules origin credit program p).1)
 between_after rules origin credit program p far h quiet apart rest = record {
   rest = rest_ended (executed rules origin credit program p).1 rest;
@@ -109,7 +109,7 @@ pub same_run : (P : Location → List Instruction → ChainPart → Type 0) (l m
 same_run P l m program other p q same_place same_program same_part h =
     subst (λ (r : ChainPart). P m other r) same_part (subst (λ (x : List Instruction). P m x p) same_program (subst (λ (k : Location). P k program p) same_place h))
 
-pub started_is : (p q : ChainPart) (site : Site) (cargo : Cargo) → q ≡ record p { cargo = record { sender = site.chain; cargo = cargo }; events = [] } → site ≡ p.site → p.kept_back ≡ [] → q ≡ begun p.site.chain cargo p
+pub started_is : (p q : ChainPart) (site : Site) (cargo : Cargo) → q ≡ record p { cargo = record { sender = site.chain; cargo = cargo }; events = [] } → site ≡ p.site → p.pending_events ≡ [] → q ≡ begun p.site.chain cargo p
 started_is p q site cargo is same quiet = is ∙ ap (λ (s : Site). record p { cargo = record { sender = s.chain; cargo = cargo }; events = [] }) same ∙ begun_is p p.site.chain cargo quiet
 
 pub here_stopped_site : (rules : ChainRules) (account : List ℕ) (program : List Instruction) (p now : ChainPart) → IsBetweenSteps p → IsStoppedHere rules account program p now → now.site ≡ p.site
@@ -150,11 +150,11 @@ arrived_site from p message = refl
 pub carrying_arrived : (far : List Listed) (from : ChainId) (p : ChainPart) (message : Waiting) → IsBetweenSteps p → IsListedCargo far message.cargo → IsCarrying far (arrived from p message)
 carrying_arrived far from p message h listed = carrying_told far (begun from message.cargo p) (events.Message from p.site.chain message.number) (carrying_begun far p from message.cargo h listed)
 
-quiet_told : (p : ChainPart) (e : Event) → (told p e).kept_back ≡ []
+quiet_told : (p : ChainPart) (e : Event) → (told p e).pending_events ≡ []
 unfolding told
 quiet_told p e = refl
 
-pub quiet_arrived : (from : ChainId) (p : ChainPart) (message : Waiting) → (arrived from p message).kept_back ≡ []
+pub quiet_arrived : (from : ChainId) (p : ChainPart) (message : Waiting) → (arrived from p message).pending_events ≡ []
 quiet_arrived from p message = quiet_told (begun from message.cargo p) (events.Message from p.site.chain message.number)
 
 pub apart_arrived : (from : ChainId) (p : ChainPart) (message : Waiting) → is_some (channel_to p.site.chain p.channels) ≡ false → is_some (channel_to (arrived from p message).site.chain (arrived from p message).channels) ≡ false

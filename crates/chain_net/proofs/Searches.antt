@@ -12,9 +12,9 @@ use Rattle.std.proofs.lemmas.Grind.{common_steps}
 use Rattle.chain_ids.specs.declared.chain.ChainId.{ChainId}
 use Rattle.chain_ids.specs.declared.chain.ChainId.TheVariants.{Relay, Para}
 use Rattle.chain_ids.specs.Chains.{same_chain}
-use Rattle.chain_ids.specs.Laws.{same_chain_itself, different_chains}
+use Rattle.chain_ids.proofs.Lemmas.{same_chain_itself, different_chains}
 use Rattle.chain_ids.specs.contracts.chain.ChainIdOrd.TheImpl as derived
-use Rattle.network_genesis.specs.Tests.{comes_before}
+use Rattle.network_steps.specs.Tests.{comes_before}
 use Rattle.chain_net.specs.Order.{rise, are_in_order}
 
 -- a number that rises with the order

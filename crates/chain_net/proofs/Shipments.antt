@@ -5,9 +5,9 @@ use Rattle.std.specs.List.{AllByRecursion}
 use Rattle.std.specs.Option.{option_map_or}
 use Rattle.amounts.specs.Amounts.{rows}
 use Rattle.locations.specs.declared.relative.Location.{Location}
-use Rattle.message_parts.specs.declared.weight.Weight.{Weight}
-use Rattle.message_parts.specs.declared.query.QueryInfo.{QueryInfo}
-use Rattle.message_parts.specs.declared.query.Response.{Response}
+use Rattle.operands.specs.declared.weight.Weight.{Weight}
+use Rattle.operands.specs.declared.query.QueryInfo.{QueryInfo}
+use Rattle.operands.specs.declared.query.Response.{Response}
 use Rattle.asset_lists.specs.declared.units.Asset.{Asset}
 use Rattle.asset_lists.specs.Listed.{Listed}
 use Rattle.asset_bundles.specs.Bundles.{Bundle, held_assets}
@@ -22,23 +22,23 @@ use Rattle.channel_parts.specs.declared.cargo.Cargo.TheVariants.{Nothing, Deposi
 use Rattle.channel_parts.specs.Channels.{Waiting, Outgoing, with_waiting, away}
 use Rattle.exec_base.specs.declared.event.Event.{Event}
 use Rattle.exec_base.specs.declared.registers.Registers.{Registers}
-use Rattle.exec_base.specs.Part.{ChainPart, Taken}
+use Rattle.exec_base.specs.Part.{ChainPart, DeliveredCargo}
 use Rattle.exec_base.specs.Sending as sending_to
 use Rattle.exec_base.specs.Sending.{sent, named_sent}
 use Rattle.exec_base.specs.Host.{withdrawn, received, deposited, transferred, transferred_out, deposited_out, raised_for, shipped, querier_seen, report_program, responded, trapped, settled, told, Arrival, ByWithdrawal, arrival_of, cargo_after, is_cargo, lock_key, with_lock, note_program, asset_locked, request_key, with_less_noted, unlock_program, asset_requested}
 use Rattle.exec_rules.specs.Outcome.{owner_of, end_event, end_told, refunded_last}
 use Rattle.exec_rules.specs.Instructions.{xcm}
 use Rattle.exec_rules.specs.Readiness.{IsAtRest}
-use Rattle.exec_admission.specs.declared.rules.ChainRules.{ChainRules}
-use Rattle.exec_admission.specs.declared.admission.Admitted.{Admitted}
-use Rattle.exec_admission.specs.Admission.{admitted}
-use Rattle.exec_admission.specs.Execution.{first_machine, last_machine, executed_by, executed, IsAbandoned}
-use Rattle.exec_calls.specs.Calls.{MachineWithGoods, between, MachineCall, why_not, after}
-use Rattle.exec_calls.specs.ListingLaws.{nothing_listed, HasListed, listed_after}
-use Rattle.exec_admission.specs.Kept.{IsKeptByCalls}
-use Rattle.exec_admission.specs.KeptLaws.{any_kind, keeps_executed, keeps_abandoned}
+use Rattle.exec_rules.specs.declared.rules.ChainRules.{ChainRules}
+use Rattle.exec_rules.specs.declared.admission.Admitted.{Admitted}
+use Rattle.exec_rules.specs.Admission.{admitted}
+use Rattle.exec_rules.specs.Execution.{first_machine, last_machine, executed_by, executed, IsAbandoned}
+use Rattle.exec_rules.specs.HostCalls.{MachineWithGoods, between, MachineCall, why_not, after}
+use Rattle.exec_rules.proofs.Lemmas.ListingLaws.{nothing_listed, HasListed, listed_after}
+use Rattle.exec_rules.specs.Kept.{IsKeptByCalls}
+use Rattle.exec_rules.proofs.Lemmas.KeptLaws.{any_kind, keeps_executed, keeps_abandoned}
 use Rattle.network_steps.specs.Fixed.{Fixed, fixed_of}
-use Rattle.network_steps.specs.FixedLaws.{fixed_is_kept, executed_fixed}
+use Rattle.network_steps.proofs.Lemmas.FixedLaws.{fixed_is_kept, executed_fixed}
 use Rattle.chain_net.specs.Sound.{IsListedCargo, AreListedIn}
 
 -- ---- queues
@@ -65,10 +65,10 @@ module _ (listed : List Listed) where
 
   sent_listed : (p : ChainPart) (dest : Location) (program : List Instruction) (cargo : Cargo) → IsListedCargo listed cargo → AreListedIn listed p.channels → AreListedIn listed (sent p dest program cargo).channels
   unfolding sent
-  sent_listed p dest program cargo h all = changed_listed (sending_to.leads_to p dest) (with_waiting program cargo) (waiting_listed program cargo h) p.channels all
+  sent_listed p dest program cargo h all = changed_listed (sending_to.leads_to_location p dest) (with_waiting program cargo) (waiting_listed program cargo h) p.channels all
 
 -- ---- what a call keeps of the cargo that is being delivered: it may have ended it
-ended_or_not : (listed : List Listed) (b : Bool) (old : Taken) → IsListedCargo listed old.cargo → IsListedCargo listed (if b then (record { sender = old.sender; cargo = Nothing }) else old).cargo
+ended_or_not : (listed : List Listed) (b : Bool) (old : DeliveredCargo) → IsListedCargo listed old.cargo → IsListedCargo listed (if b then (record { sender = old.sender; cargo = Nothing }) else old).cargo
 ended_or_not listed true old h = tt
 ended_or_not listed false old h = h
 
@@ -179,24 +179,24 @@ module _ (far : List Listed) (rules : ChainRules) (origin : Location) where
   abandoned_site credit program p q h e = ap (λ (x : Fixed). x.site) (abandoned_said rules origin credit program p q e)
 
 -- ---- what is kept back is told at the end
-rest_quiet : (r : Registers) (p : ChainPart) (b : Bool) → p.kept_back ≡ [] → (if b then p else trapped p r.holding (owner_of r)).kept_back ≡ []
+rest_quiet : (r : Registers) (p : ChainPart) (b : Bool) → p.pending_events ≡ [] → (if b then p else trapped p r.holding (owner_of r)).pending_events ≡ []
 unfolding trapped
 rest_quiet r p true h = h
 rest_quiet r p false h = h
 
-settled_quiet : (p : ChainPart) → p.kept_back ≡ [] → (settled p).kept_back ≡ []
+settled_quiet : (p : ChainPart) → p.pending_events ≡ [] → (settled p).pending_events ≡ []
 unfolding settled
 settled_quiet p h = h
 
-told_quiet : (p : ChainPart) (e : Event) → (told p e).kept_back ≡ []
+told_quiet : (p : ChainPart) (e : Event) → (told p e).pending_events ≡ []
 unfolding told
 told_quiet p e = refl
 
-executed_by_quiet : (rules : ChainRules) (origin : Location) (r : Result Admitted Outcome) (p : ChainPart) → p.kept_back ≡ [] → (executed_by rules origin r p).1.kept_back ≡ []
+executed_by_quiet : (rules : ChainRules) (origin : Location) (r : Result Admitted Outcome) (p : ChainPart) → p.pending_events ≡ [] → (executed_by rules origin r p).1.pending_events ≡ []
 executed_by_quiet rules origin (Err outcome) p h = h
 executed_by_quiet rules origin (Ok a) p h =
     let last = refunded_last xcm (last_machine rules origin a p) in
     rest_quiet last.regs (settled (end_told last)) (nat_eq (length (rows last.regs.holding)) 0) (settled_quiet (end_told last) (told_quiet last.part (end_event last.regs)))
 
-pub executed_quiet : (rules : ChainRules) (origin : Location) (credit : Weight) (program : List Instruction) (p : ChainPart) → p.kept_back ≡ [] → (executed rules origin credit program p).1.kept_back ≡ []
+pub executed_quiet : (rules : ChainRules) (origin : Location) (credit : Weight) (program : List Instruction) (p : ChainPart) → p.pending_events ≡ [] → (executed rules origin credit program p).1.pending_events ≡ []
 executed_quiet rules origin credit program p h = executed_by_quiet rules origin (admitted rules origin credit p.queries program) p h

@@ -6,23 +6,24 @@ use Rattle.std.specs.List.{position, position_or_len, filter_map, cons_option}
 use Rattle.std.proofs.lemmas.List.{length-map}
 use Rattle.std.proofs.lemmas.List.Folds.{find_at}
 use Rattle.std.proofs.lemmas.Option.{slice_get-map, option_and_then_some}
-use Rattle.plain_lists.specs.Firsts.{found_nowhere}
+use Rattle.plain_lists.proofs.Lemmas.Firsts.{found_nowhere}
 use Rattle.chain_ids.specs.declared.chain.ChainId.{ChainId}
 use Rattle.chain_ids.specs.Chains.{same_chain}
 use Rattle.channel_parts.specs.declared.channel.Channel.{Channel}
 use Rattle.channel_parts.specs.Channels.{Outgoing}
 use Rattle.chain_queues.specs.Queues.{leads_to, channel_to, oldest}
 use Rattle.network_spec.specs.declared.network.ChannelSpec.{ChannelSpec}
-use Rattle.exec_admission.specs.declared.rules.ChainRules.{ChainRules}
+use Rattle.exec_rules.specs.declared.rules.ChainRules.{ChainRules}
 use Rattle.network_steps.specs.Worlds.{World, place_of}
 use Rattle.network_steps.specs.Steps.{waits}
 use Rattle.chain_state.specs.declared.state.ChainState.{ChainState}
 use Rattle.chain_state.specs.PartOf.{part_of}
 use Rattle.chain_net.specs.Chains.{member_in, world_in, names_of}
 use Rattle.chain_net.specs.declared.links.Link.{Link}
-use Rattle.chain_net.specs.Links.{channels_from, place_among, place_towards, link_at, link_of, links_of, waits_at}
-use Rattle.chain_net.proofs.Members.{same_some, member_at, something, somebody, members_within, place_named}
+use Rattle.chain_net.specs.Links.{channels_of_state, place_among, place_towards, link_at, link_of, found_links, waits_at}
+use Rattle.chain_net.proofs.Members.{member_at, something, somebody, members_within, place_named}
 use Rattle.chain_net.proofs.Drains.{waits_nowhere, waits_to_nowhere, waiting_at}
+use Rattle.plain_lists.proofs.Lemmas.Facts.{same_some}
 
 -- ---- places in lists
 module _ {X Y : Type 0} (f : X → Y) (p : Y → Bool) where
@@ -77,13 +78,13 @@ through : {X Y Z : Type 0} (g : X → Y) (f : Y → Option Z) (o : Option X) →
 through g f None = refl
 through g f (Some x) = refl
 
-link_is_by : (names : List ChainId) (xs : List ChainState) (entry : ChannelSpec) → link_of names xs entry ≡ link_by names (map channels_from xs) entry
+link_is_by : (names : List ChainId) (xs : List ChainState) (entry : ChannelSpec) → link_of names xs entry ≡ link_by names (map channels_of_state xs) entry
 link_is_by names xs entry = λ k. option_and_then (λ (sender : ℕ). option_and_then (λ (receiver : ℕ). there sender k) (place_among names entry.channel.to)) (place_among names entry.from)
   where
-    there : (sender : ℕ) → option_and_then (λ (state : ChainState). link_at entry sender (channels_from state)) (slice_get xs sender) ≡ option_and_then (link_at entry sender) (slice_get (map channels_from xs) sender)
-    there sender = through channels_from (link_at entry sender) (slice_get xs sender) ∙ ap (option_and_then (link_at entry sender)) (sym (slice_get-map channels_from xs sender))
+    there : (sender : ℕ) → option_and_then (λ (state : ChainState). link_at entry sender (channels_of_state state)) (slice_get xs sender) ≡ option_and_then (link_at entry sender) (slice_get (map channels_of_state xs) sender)
+    there sender = through channels_of_state (link_at entry sender) (slice_get xs sender) ∙ ap (option_and_then (link_at entry sender)) (sym (slice_get-map channels_of_state xs sender))
 
-pub links_stay : (names : List ChainId) (xs ys : List ChainState) (entries : List ChannelSpec) → map channels_from ys ≡ map channels_from xs → links_of names ys entries ≡ links_of names xs entries
+pub links_stay : (names : List ChainId) (xs ys : List ChainState) (entries : List ChannelSpec) → map channels_of_state ys ≡ map channels_of_state xs → found_links names ys entries ≡ found_links names xs entries
 links_stay names xs ys [] same = refl
 links_stay names xs ys (e ∷ es) same =
     let one : link_of names ys e ≡ link_of names xs e = link_is_by names ys e ∙ ap (λ lists. link_by names lists e) same ∙ sym (link_is_by names xs e) in
@@ -122,11 +123,11 @@ module _ (rs : List ChainRules) (xs : List ChainState) (names : List ChainId) (r
         ∙ seen_oldest (slice_get (part_of s).channels k)
         ∙ ap (λ o. option_map_or (λ (t : ChainState). option_map_or (λ (c : Outgoing). is_some (oldest c)) (slice_get (part_of t).channels k) false) o false) (sym is)
 
-    at_sender : (i : ℕ) (s : ChainState) → slice_get xs i ≡ Some s → is_some (option_and_then oldest (channel_to to (part_of s).channels)) ≡ option_map_or (waits_at xs) (link_at entry i (channels_from s)) false
+    at_sender : (i : ℕ) (s : ChainState) → slice_get xs i ≡ Some s → is_some (option_and_then oldest (channel_to to (part_of s).channels)) ≡ option_map_or (waits_at xs) (link_at entry i (channels_of_state s)) false
     at_sender i s is =
-        at_place i s is (place_towards to (channels_from s)) (sym (place_mapped (λ (c : Outgoing). c.channel) (λ (c : Channel). same_chain c.to to) (part_of s).channels))
+        at_place i s is (place_towards to (channels_of_state s)) (sym (place_mapped (λ (c : Outgoing). c.channel) (λ (c : Channel). same_chain c.to to) (part_of s).channels))
 
-    at_both : (i j : ℕ) → place_of w entry.from ≡ Some i → place_of w to ≡ Some j → waits w (entry.from, to) ≡ option_map_or (waits_at xs) (option_and_then (λ (t : ChainState). link_at entry i (channels_from t)) (slice_get xs i)) false
+    at_both : (i j : ℕ) → place_of w entry.from ≡ Some i → place_of w to ≡ Some j → waits w (entry.from, to) ≡ option_map_or (waits_at xs) (option_and_then (λ (t : ChainState). link_at entry i (channels_of_state t)) (slice_get xs i)) false
     at_both i j at_i at_j =
         let within = members_within rs xs ruled entry.from i at_i in
         let r = something rs i (omega (arith, within, ruled)) in
@@ -134,12 +135,12 @@ module _ (rs : List ChainRules) (xs : List ChainState) (names : List ChainId) (r
         let there = somebody rs xs j ruled (members_within rs xs ruled to j at_j) in
         ap is_some (waiting_at w entry.from to i j (member_in r.0 s.0) there.0 at_i at_j (member_at rs xs i r.0 s.0 r.1 s.1) there.1)
         ∙ at_sender i s.0 s.1
-        ∙ ap (λ o. option_map_or (waits_at xs) (option_and_then (λ (t : ChainState). link_at entry i (channels_from t)) o) false) (sym s.1)
+        ∙ ap (λ o. option_map_or (waits_at xs) (option_and_then (λ (t : ChainState). link_at entry i (channels_of_state t)) o) false) (sym s.1)
 
     at_from : (i : ℕ) → place_of w entry.from ≡ Some i
-        → waits w (entry.from, to) ≡ option_map_or (waits_at xs) (option_and_then (λ (receiver : ℕ). option_and_then (λ (t : ChainState). link_at entry i (channels_from t)) (slice_get xs i)) (place_among names to)) false
+        → waits w (entry.from, to) ≡ option_map_or (waits_at xs) (option_and_then (λ (receiver : ℕ). option_and_then (λ (t : ChainState). link_at entry i (channels_of_state t)) (slice_get xs i)) (place_among names to)) false
     at_from i at_i =
-        elim (place_among names to) as (λ o. place_among names to ≡ o → waits w (entry.from, to) ≡ option_map_or (waits_at xs) (option_and_then (λ (receiver : ℕ). option_and_then (λ (t : ChainState). link_at entry i (channels_from t)) (slice_get xs i)) o) false) [
+        elim (place_among names to) as (λ o. place_among names to ≡ o → waits w (entry.from, to) ≡ option_map_or (waits_at xs) (option_and_then (λ (receiver : ℕ). option_and_then (λ (t : ChainState). link_at entry i (channels_of_state t)) (slice_get xs i)) o) false) [
           | None ↦ λ e. sym (waits_to_nowhere w entry.from to i at_i (sym (place_is to) ∙ e))
           | Some j ↦ λ e. at_both i j at_i (sym (place_is to) ∙ e)
         ] refl
@@ -147,7 +148,7 @@ module _ (rs : List ChainRules) (xs : List ChainState) (names : List ChainId) (r
     waits_by : waits w (entry.from, to) ≡ option_map_or (waits_at xs) (link_of names xs entry) false
     waits_by =
         elim (place_among names entry.from) as (λ o. place_among names entry.from ≡ o → waits w (entry.from, to)
-        ≡ option_map_or (waits_at xs) (option_and_then (λ (sender : ℕ). option_and_then (λ (receiver : ℕ). option_and_then (λ (t : ChainState). link_at entry sender (channels_from t)) (slice_get xs sender)) (place_among names to)) o) false) [
+        ≡ option_map_or (waits_at xs) (option_and_then (λ (sender : ℕ). option_and_then (λ (receiver : ℕ). option_and_then (λ (t : ChainState). link_at entry sender (channels_of_state t)) (slice_get xs sender)) (place_among names to)) o) false) [
           | None ↦ λ e. sym (waits_nowhere w entry.from to (sym (place_is entry.from) ∙ e))
           | Some i ↦ λ e. at_from i (sym (place_is entry.from) ∙ e)
         ] refl
@@ -158,21 +159,21 @@ module _ (rs : List ChainRules) (xs : List ChainState) (names : List ChainId) (r
 
     ends_are : (l : Link) → link_of names xs entry ≡ Some l → ends_of l ≡ (entry.from, to)
     ends_are l e =
-        option_and_then_some (λ (sender : ℕ). option_and_then (λ (receiver : ℕ). option_and_then (λ (t : ChainState). link_at entry sender (channels_from t)) (slice_get xs sender)) (place_among names to)) (place_among names entry.from) l e (λ i at_i e1.
-        option_and_then_some (λ (receiver : ℕ). option_and_then (λ (t : ChainState). link_at entry i (channels_from t)) (slice_get xs i)) (place_among names to) l e1 (λ j at_j e2.
-        option_and_then_some (λ (t : ChainState). link_at entry i (channels_from t)) (slice_get xs i) l e2 (λ s at_s e3. ends_by i (place_towards to (channels_from s)) l e3)))
+        option_and_then_some (λ (sender : ℕ). option_and_then (λ (receiver : ℕ). option_and_then (λ (t : ChainState). link_at entry sender (channels_of_state t)) (slice_get xs sender)) (place_among names to)) (place_among names entry.from) l e (λ i at_i e1.
+        option_and_then_some (λ (receiver : ℕ). option_and_then (λ (t : ChainState). link_at entry i (channels_of_state t)) (slice_get xs i)) (place_among names to) l e1 (λ j at_j e2.
+        option_and_then_some (λ (t : ChainState). link_at entry i (channels_of_state t)) (slice_get xs i) l e2 (λ s at_s e3. ends_by i (place_towards to (channels_of_state s)) l e3)))
 
   -- the first of the links is the next channel
-  pub found_link : (cs : List ChannelSpec) → find (waits w) (map (λ (c : ChannelSpec). (c.from, c.channel.to)) cs) ≡ option_map (λ (x : Link). (x.from, x.to)) (find (waits_at xs) (links_of names xs cs))
+  pub found_link : (cs : List ChannelSpec) → find (waits w) (map (λ (c : ChannelSpec). (c.from, c.channel.to)) cs) ≡ option_map (λ (x : Link). (x.from, x.to)) (find (waits_at xs) (found_links names xs cs))
   found_link [] = refl
   found_link (c ∷ cs) =
       elim (link_of names xs c) as (λ o. link_of names xs c ≡ o → (if waits w (c.from, c.channel.to) then Some (c.from, c.channel.to) else find (waits w) (map (λ (c : ChannelSpec). (c.from, c.channel.to)) cs))
-      ≡ option_map (λ (x : Link). (x.from, x.to)) (find (waits_at xs) (cons_option o (links_of names xs cs)))) [
+      ≡ option_map (λ (x : Link). (x.from, x.to)) (find (waits_at xs) (cons_option o (found_links names xs cs)))) [
         | None ↦ λ e.
             let none : waits w (c.from, c.channel.to) ≡ false = waits_by c ∙ ap (λ o. option_map_or (waits_at xs) o false) e in
             ap (λ (b : Bool). if b then Some (c.from, c.channel.to) else find (waits w) (map (λ (c : ChannelSpec). (c.from, c.channel.to)) cs)) none ∙ found_link cs
         | Some l ↦ λ e.
             let same : waits w (c.from, c.channel.to) ≡ waits_at xs l = waits_by c ∙ ap (λ o. option_map_or (waits_at xs) o false) e in
             ap (λ (b : Bool). if b then Some (c.from, c.channel.to) else find (waits w) (map (λ (c : ChannelSpec). (c.from, c.channel.to)) cs)) same
-            ∙ found_more (waits_at xs l) l (c.from, c.channel.to) (find (waits w) (map (λ (c : ChannelSpec). (c.from, c.channel.to)) cs)) (find (waits_at xs) (links_of names xs cs)) (ends_are c l e) (found_link cs)
+            ∙ found_more (waits_at xs l) l (c.from, c.channel.to) (find (waits w) (map (λ (c : ChannelSpec). (c.from, c.channel.to)) cs)) (find (waits_at xs) (found_links names xs cs)) (ends_are c l e) (found_link cs)
       ] refl

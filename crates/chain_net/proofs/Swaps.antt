@@ -1,8 +1,8 @@
 -- Two calls in both orders. A reader may skip this file.
 use Rattle.std.proofs.Common.{◌≡◌, ◌∙◌, sym, ap}
 use Rattle.network_steps.specs.Worlds.{World}
-use Rattle.independence.specs.Acts.{Act, stepped_by}
-use Rattle.independence.specs.Freedom.{AreFree}
+use Rattle.law_independence.specs.Acts.{Act, stepped_by}
+use Rattle.law_independence.specs.Freedom.{AreFree}
 use Rattle.chain_net.specs.declared.net.Net.{Net}
 use Rattle.chain_net.specs.Nets.{world_of}
 use Rattle.chain_net.specs.Calls.{AreCalled, AreSwapped}

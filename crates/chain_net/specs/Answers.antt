@@ -6,8 +6,8 @@ use Rattle.xcm_program.specs.declared.instruction.Instruction.{Instruction}
 use Rattle.xcm_program.specs.declared.outcome.Outcome.{Outcome}
 use Rattle.channel_parts.specs.declared.cargo.Cargo.{Cargo}
 use Rattle.exec_base.specs.Part.{ChainPart}
-use Rattle.exec_admission.specs.declared.rules.ChainRules.{ChainRules}
-use Rattle.exec_admission.specs.Execution.{IsAbandoned}
+use Rattle.exec_rules.specs.declared.rules.ChainRules.{ChainRules}
+use Rattle.exec_rules.specs.Execution.{IsAbandoned}
 use Rattle.network_steps.specs.declared.step_result.StepResult.{StepResult}
 use Rattle.network_steps.specs.Acting.{Acted}
 
@@ -22,6 +22,6 @@ IsUnread rules origin program before told_of now = (now ≡ before) ⊎ IsAbando
 -- ---- messages that wait
 
 -- an answer that doesn't say that bytes are no message: each message that waits is one
-abbrev pub IsReadable : StepResult → Type 0
-IsReadable (StepResult.Message fault) = ⊥
-IsReadable answer = ⊤
+abbrev pub HasNoMessageFault : StepResult → Type 0
+HasNoMessageFault (StepResult.Message fault) = ⊥
+HasNoMessageFault answer = ⊤

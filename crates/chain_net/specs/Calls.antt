@@ -1,7 +1,7 @@
 -- Calls of a network, one behind another. This project's own rule.
 use Rattle.std.specs.Prelude.{◌≡◌}
 use Rattle.network_steps.specs.declared.step_result.StepResult.{StepResult}
-use Rattle.independence.specs.Acts.{Act, stepped_by}
+use Rattle.law_independence.specs.Acts.{Act, stepped_by}
 use Rattle.chain_net.specs.declared.net.Net.{Net}
 use Rattle.chain_net.specs.Nets.{world_of, trace_of}
 

@@ -1,7 +1,7 @@
 -- The world that chains and their rules stand for. This project's own.
 use Rattle.std.specs.Prelude.{List, [], ◌∷◌, map}
 use Rattle.chain_ids.specs.declared.chain.ChainId.{ChainId}
-use Rattle.exec_admission.specs.declared.rules.ChainRules.{ChainRules}
+use Rattle.exec_rules.specs.declared.rules.ChainRules.{ChainRules}
 use Rattle.chain_state.specs.declared.state.ChainState.{ChainState}
 use Rattle.chain_state.specs.PartOf.{part_of}
 use Rattle.network_steps.specs.Worlds.{Member, World}

@@ -14,8 +14,8 @@ use Rattle.chain_state.specs.PartOf.{part_of}
 use Rattle.chain_net.specs.declared.links.Link.{Link}
 
 -- the channels that lead from a chain, without what waits in them
-abbrev pub channels_from : ChainState → List Channel
-channels_from state = map (λ (c : Outgoing). c.channel) (part_of state).channels
+abbrev pub channels_of_state : ChainState → List Channel
+channels_of_state state = map (λ (c : Outgoing). c.channel) (part_of state).channels
 
 -- the place of a chain among these
 abbrev pub place_among : List ChainId → ChainId → Option ℕ
@@ -33,12 +33,12 @@ link_at entry sender channels =
 -- where it stands; None where it doesn't lead from one of these chains to another
 abbrev pub link_of : List ChainId → List ChainState → ChannelSpec → Option Link
 link_of names states entry =
-    option_and_then (λ (sender : ℕ). option_and_then (λ (receiver : ℕ). option_and_then (λ (state : ChainState). link_at entry sender (channels_from state))
+    option_and_then (λ (sender : ℕ). option_and_then (λ (receiver : ℕ). option_and_then (λ (state : ChainState). link_at entry sender (channels_of_state state))
     (slice_get states sender)) (place_among names entry.channel.to)) (place_among names entry.from)
 
 -- where they stand, but for those that don't
-abbrev pub links_of : List ChainId → List ChainState → List ChannelSpec → List Link
-links_of names states entries = filter_map (link_of names states) entries
+abbrev pub found_links : List ChainId → List ChainState → List ChannelSpec → List Link
+found_links names states entries = filter_map (link_of names states) entries
 
 -- whether a message waits where the channel stands
 abbrev pub waits_at : List ChainState → Link → Bool

@@ -1,7 +1,7 @@
 -- The order of the chains of a network. This project's own rule.
 use Rattle.std.specs.Prelude.{Bool, true, ◌&&◌, List, [], ◌∷◌}
 use Rattle.chain_ids.specs.declared.chain.ChainId.{ChainId}
-use Rattle.network_genesis.specs.Tests.{comes_before}
+use Rattle.network_steps.specs.Tests.{comes_before}
 
 -- each chain behind the one before it
 abbrev pub rise : ChainId → List ChainId → Bool

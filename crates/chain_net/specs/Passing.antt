@@ -7,18 +7,18 @@ use Rattle.chain_ids.specs.declared.chain.ChainId.{ChainId}
 use Rattle.channel_parts.specs.declared.cargo.Cargo.{Cargo}
 use Rattle.channel_parts.specs.Channels.{Waiting}
 use Rattle.exec_base.specs.Part.{ChainPart}
-use Rattle.exec_admission.specs.declared.rules.ChainRules.{ChainRules}
+use Rattle.exec_rules.specs.declared.rules.ChainRules.{ChainRules}
 use Rattle.network_steps.specs.Acting.{Acted, acted, lost_of, booking_lost}
 use Rattle.network_steps.specs.Steps.{name_at, receiver_after}
 use Rattle.chain_state.specs.declared.state.ChainState.{ChainState}
 use Rattle.chain_state.specs.PartOf.{part_of}
 use Rattle.chain_net.specs.Chains.{name_of}
 use Rattle.chain_net.specs.Sound.{IsListedCargo, IsBetweenSteps}
-use Rattle.net_laws.specs.Stops.{arrived, IsStoppedThere}
+use Rattle.law_nets.specs.Stops.{arrived, IsStoppedThere}
 
 -- the chain of a place is another one
-abbrev pub IsOther : List ChainState → ℕ → ChainId → Type 0
-IsOther states place chain = (state : ChainState) → slice_get states place ≡ Some state → name_of state ≡ chain → ⊥
+abbrev pub IsOtherChain : List ChainState → ℕ → ChainId → Type 0
+IsOtherChain states place chain = (state : ChainState) → slice_get states place ≡ Some state → name_of state ≡ chain → ⊥
 
 -- the chain of a place lists what the cargo ships
 abbrev pub IsCarried : List ChainState → ℕ → Cargo → Type 0

@@ -11,7 +11,7 @@ use Rattle.asset_lists.specs.declared.units.AssetId.TheVariants.{Concrete}
 use Rattle.asset_lists.specs.Units.{Unit}
 use Rattle.asset_lists.specs.Listed.{Listed, listed_of, lists}
 use Rattle.asset_bundles.specs.Bundles.{Bundle}
-use Rattle.trap_store.specs.declared.trap.Trap.{Trap}
+use Rattle.asset_bundles.specs.declared.trap.Trap.{Trap}
 use Rattle.weight_trader.specs.Purchases.{Line}
 use Rattle.channel_parts.specs.contracts.cargo.Cargo.{the_row as cargo_row}
 use Rattle.exec_base.specs.contracts.event.Event.{the_row as event_row}
@@ -21,13 +21,13 @@ use Rattle.channel_parts.specs.declared.cargo.Cargo.{Cargo}
 use Rattle.channel_parts.specs.declared.cargo.Cargo.TheVariants.{Nothing, Deposit, Away}
 use Rattle.channel_parts.specs.Channels.{Waiting, Outgoing}
 use Rattle.chain_queues.specs.Queues.{channel_to}
-use Rattle.chain_pools.specs.declared.pool.Pool.{Pool}
-use Rattle.chain_pools.specs.Exchanges.{coin}
+use Rattle.asset_pools.specs.declared.pool.Pool.{Pool}
+use Rattle.asset_pools.specs.Exchanges.{coin}
 use Rattle.exec_base.specs.Part.{ChainPart}
 use Rattle.exec_rules.specs.Readiness.{IsInOrder, IsAtRest}
 use Rattle.network_steps.specs.Worlds.{World}
 use Rattle.network_spec.specs.declared.network.NetworkSpec.{NetworkSpec}
-use Rattle.net_laws.specs.Runs.{HasSomePast}
+use Rattle.law_nets.specs.Runs.{HasSomePast}
 use Rattle.chain_state.specs.declared.state.ChainState.{ChainState}
 use Rattle.chain_state.specs.PartOf.{part_of}
 
@@ -46,7 +46,7 @@ AreListedIn listed channels = AllByRecursion (λ (c : Outgoing). AllByRecursion 
 pub record IsBetweenSteps (p : ChainPart) : Type 0 where
   pub rest : IsAtRest p
   pub landed : p.cargo.cargo ≡ Nothing
-  pub told : p.kept_back ≡ []
+  pub told : p.pending_events ≡ []
   pub shipped : AreListedIn (listing p.rows) p.channels
   pub apart : is_some (channel_to p.site.chain p.channels) ≡ false
 
@@ -92,7 +92,7 @@ IsBetweenSteps-prop : (p : ChainPart) → IsProp (IsBetweenSteps p)
 IsBetweenSteps-prop p a b = λ i. record {
   rest = IsAtRest-prop p a.rest b.rest i;
   landed = Coded-set cargo_row.coded p.cargo.cargo Nothing a.landed b.landed i;
-  told = Coded-set (coded_list event_row.coded) p.kept_back [] a.told b.told i;
+  told = Coded-set (coded_list event_row.coded) p.pending_events [] a.told b.told i;
   shipped = AreListedIn-prop (listing p.rows) p.channels a.shipped b.shipped i;
   apart = Coded-set coded_bool (is_some (channel_to p.site.chain p.channels)) false a.apart b.apart i;
 }

@@ -4,18 +4,18 @@ ghost use Rattle.network_steps.specs.Steps as steps;
 ghost use Rattle.network_steps.specs.Steps.{claim, Claim};
 ghost use Rattle.chain_net.specs.Nets.{world_of, spec_of, is_stopped, trace_of, stepped};
 ghost use Rattle.chain_net.specs.Sound.{AreBetweenSteps};
-ghost use Rattle.message_shapes.specs.Shapes.{AllShaped};
-ghost use Rattle.conserved_networks.specs.Kept.{IsCoherent};
-ghost use Rattle.net_laws.specs.Promises.{KeepsAssets, PaysInFull};
-ghost use Rattle.authority.specs.Speakers.{HasAuthority};
+ghost use Rattle.law_steps.specs.Shapes.{AllShaped};
+ghost use Rattle.law_steps.specs.Kept.{IsCoherent};
+ghost use Rattle.law_nets.specs.Promises.{KeepsAssets, PaysInFull};
+ghost use Rattle.law_authority.specs.Speakers.{HasAuthority};
 
 use crate::Net;
-use crate::delivering::waits_for;
+use crate::delivering::has_waiting;
 use crate::executing::answer_to;
 use crate::laws::law_of_reached_nets;
 use chain_ids::ChainId;
 use exec_base::HostFault;
-use net_laws::{law_of_nets, law_of_pasts, law_of_stopped_messages};
+use law_nets::{law_of_networks_with_pasts, law_of_pasts_through_steps, law_of_stopped_messages};
 use network_steps::{StepResult, law_of_decoded_programs};
 use std::alloc::AllocError;
 use versioned_xcm::decode_message;
@@ -65,9 +65,9 @@ impl Net {
             → PaysInFull (spec_of self.old) (world_of self.new)) }
     {
         // For the prover alone.
-        law_of_pasts();
+        law_of_pasts_through_steps();
         law_of_reached_nets();
-        law_of_nets();
+        law_of_networks_with_pasts();
         law_of_stopped_messages();
         self.stopped = true;
         self.acted = None;
@@ -100,7 +100,7 @@ impl Net {
         let Some(_) = self.place(to) else {
             return Ok(StepResult::NoSuchChain);
         };
-        let Some(_) = waits_for(&self.chains[sender], to) else {
+        let Some(_) = has_waiting(&self.chains[sender], to) else {
             return Ok(StepResult::NoSuchChannel);
         };
         let alloc = *self.chains.allocator();

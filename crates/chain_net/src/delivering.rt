@@ -9,13 +9,13 @@ ghost use Rattle.chain_state.specs.PartOf.{part_of};
 ghost use Rattle.chain_net.specs.Chains.{name_of};
 ghost use Rattle.chain_net.specs.Nets.{world_of, spec_of, is_stopped, trace_of, stepped};
 ghost use Rattle.chain_net.specs.Sound.{AreBetweenSteps};
-ghost use Rattle.message_shapes.specs.Shapes.{AllShaped};
-ghost use Rattle.conserved_networks.specs.Kept.{IsCoherent};
-ghost use Rattle.net_laws.specs.Promises.{KeepsAssets, PaysInFull};
-ghost use Rattle.authority.specs.Speakers.{HasAuthority};
-ghost use Rattle.net_laws.specs.Stops.{DeliverStops};
-ghost use Rattle.chain_net.specs.Answers.{IsReadable};
-ghost use Rattle.chain_net.specs.Passing.{IsOther, IsCarried, IsPassed, IsPassStopped};
+ghost use Rattle.law_steps.specs.Shapes.{AllShaped};
+ghost use Rattle.law_steps.specs.Kept.{IsCoherent};
+ghost use Rattle.law_nets.specs.Promises.{KeepsAssets, PaysInFull};
+ghost use Rattle.law_authority.specs.Speakers.{HasAuthority};
+ghost use Rattle.law_nets.specs.Stops.{DeliverStops};
+ghost use Rattle.chain_net.specs.Answers.{HasNoMessageFault};
+ghost use Rattle.chain_net.specs.Passing.{IsOtherChain, IsCarried, IsPassed, IsPassStopped};
 
 use crate::Net;
 use crate::laws::law_of_reached_nets;
@@ -24,8 +24,11 @@ use crate::running::run_message;
 use chain_ids::ChainId;
 use chain_queues::Queued;
 use chain_state::ChainState;
-use exec_admission::ChainRules;
-use net_laws::{law_of_nets, law_of_pasts, law_of_stopped_messages, law_of_stopped_nets};
+use exec_rules::ChainRules;
+use law_nets::{
+    law_of_networks_with_pasts, law_of_pasts_through_steps, law_of_stopped_messages,
+    law_of_stopped_nets,
+};
 use network_steps::StepResult;
 use std::alloc::{AllocError, Global};
 use xcm_program::Outcome;
@@ -44,7 +47,7 @@ fn pass(
     requires sender { sender < length chains.old.items }
     requires receiver { receiver < length chains.old.items }
     requires between { AreBetweenSteps chains.old.items }
-    requires other { IsOther chains.old.items receiver from }
+    requires other { IsOtherChain chains.old.items receiver from }
     requires carried { IsCarried chains.old.items sender queued.cargo }
     ensures passed { IfOk result (λ outcome. IsPassed rules.now from (waiting_of queued) sender
         receiver outcome chains.old.items chains.new.items) }
@@ -60,7 +63,7 @@ fn pass(
 }
 
 /// Whether a message waits at the chain for that one; `None` where no channel leads there.
-pub(crate) fn waits_for(chain: &ChainState, to: ChainId) -> Option<bool>
+pub(crate) fn has_waiting(chain: &ChainState, to: ChainId) -> Option<bool>
     ensures { result ≡ option_map (λ (c : Outgoing). is_some (oldest c))
         (channel_to to (part_of chain.now).channels) }
 {
@@ -80,7 +83,7 @@ impl Net {
             ≡ (deliver (world_of self.old) from to).world) }
         ensures trace { OnOk result (trace_of self.new
             ≡ (deliver (world_of self.old) from to).trace) }
-        ensures read { IfOk result (λ answer. IsReadable answer) }
+        ensures read { IfOk result (λ answer. HasNoMessageFault answer) }
         ensures running { OnOk result (is_stopped self.new ≡ false) }
         ensures stopped { OnErr result (is_stopped self.new ≡ true) }
         ensures stops { OnErr result (DeliverStops (world_of self.old) from to
@@ -99,9 +102,9 @@ impl Net {
             → PaysInFull (spec_of self.old) (world_of self.new)) }
     {
         // For the prover alone.
-        law_of_pasts();
+        law_of_pasts_through_steps();
         law_of_reached_nets();
-        law_of_nets();
+        law_of_networks_with_pasts();
         law_of_stopped_nets();
         law_of_stopped_messages();
         self.stopped = true;
@@ -118,7 +121,7 @@ impl Net {
         requires between { AreBetweenSteps self.old.chains.items }
         ensures step { IfOk result (λ answer. deliver (world_of self.old) from to
             ≡ stepped answer self.new) }
-        ensures read { IfOk result (λ answer. IsReadable answer) }
+        ensures read { IfOk result (λ answer. HasNoMessageFault answer) }
         ensures between { OnOk result (AreBetweenSteps self.new.chains.items) }
         ensures stops { OnErr result (DeliverStops (world_of self.old) from to
             (world_of self.new)) }
@@ -131,7 +134,7 @@ impl Net {
         let Some(receiver) = self.place(to) else {
             return Ok(StepResult::NoSuchChain);
         };
-        let Some(waits) = waits_for(&self.chains[sender], to) else {
+        let Some(waits) = has_waiting(&self.chains[sender], to) else {
             return Ok(StepResult::NoSuchChannel);
         };
         if !waits {

@@ -3,21 +3,21 @@ ghost use Rattle.std.specs.Prelude.{◌≡◌, ◌≤◌, ◌^◌, ◌-◌, min,
 ghost use Rattle.std.specs.Option.{option_copied};
 ghost use Rattle.network_steps.specs.Sends.{deliveries_left};
 ghost use Rattle.network_steps.specs.Steps.{next_channel, drain, world_behind};
-ghost use Rattle.network_genesis.specs.Genesis.{order_of};
+ghost use Rattle.network_steps.specs.Genesis.{order_of};
 ghost use Rattle.chain_net.specs.Nets.{world_of, spec_of, is_stopped};
 ghost use Rattle.chain_net.specs.Links.{waits_at};
-ghost use Rattle.message_shapes.specs.Shapes.{AllShaped};
-ghost use Rattle.conserved_networks.specs.Kept.{IsCoherent};
-ghost use Rattle.net_laws.specs.Promises.{KeepsAssets, PaysInFull, StopsWithAuthority};
-ghost use Rattle.authority.specs.Speakers.{HaveAuthority};
-ghost use Rattle.net_laws.specs.Stops.{DrainStops};
+ghost use Rattle.law_steps.specs.Shapes.{AllShaped};
+ghost use Rattle.law_steps.specs.Kept.{IsCoherent};
+ghost use Rattle.law_nets.specs.Promises.{KeepsAssets, PaysInFull, StopsWithAuthority};
+ghost use Rattle.law_authority.specs.Speakers.{HaveAuthority};
+ghost use Rattle.law_nets.specs.Stops.{DrainStops};
 
 use crate::Net;
 use crate::laws::law_of_reached_nets;
 use crate::links::Link;
 use chain_ids::ChainId;
-use message_shapes::law_of_drains;
-use net_laws::{law_of_nets, law_of_stopped_messages};
+use law_nets::{law_of_networks_with_pasts, law_of_stopped_messages};
+use law_steps::law_of_drains_that_end;
 use std::alloc::AllocError;
 
 impl Net {
@@ -83,9 +83,9 @@ impl Net {
             → PaysInFull (spec_of self.old) (world_of self.new)) }
     {
         // For the prover alone.
-        law_of_drains();
+        law_of_drains_that_end();
         law_of_reached_nets();
-        law_of_nets();
+        law_of_networks_with_pasts();
         law_of_stopped_messages();
         let mut count: u64 = 0;
         'deliveries: while let Some((from, to)) = self.next_channel() {

@@ -6,24 +6,27 @@ ghost use Rattle.network_steps.specs.Steps as steps;
 ghost use Rattle.network_steps.specs.Steps.{exec, Exec};
 ghost use Rattle.chain_net.specs.Nets.{world_of, spec_of, is_stopped, trace_of, stepped};
 ghost use Rattle.chain_net.specs.Sound.{AreBetweenSteps};
-ghost use Rattle.message_shapes.specs.Shapes.{AllShaped};
-ghost use Rattle.conserved_networks.specs.Kept.{IsCoherent};
-ghost use Rattle.net_laws.specs.Promises.{KeepsAssets, PaysInFull};
-ghost use Rattle.authority.specs.Speakers.{HasAuthority};
-ghost use Rattle.net_laws.specs.Stops.{ExecStops};
+ghost use Rattle.law_steps.specs.Shapes.{AllShaped};
+ghost use Rattle.law_steps.specs.Kept.{IsCoherent};
+ghost use Rattle.law_nets.specs.Promises.{KeepsAssets, PaysInFull};
+ghost use Rattle.law_authority.specs.Speakers.{HasAuthority};
+ghost use Rattle.law_nets.specs.Stops.{ExecStops};
 
 use crate::Net;
 use crate::laws::law_of_reached_nets;
 use crate::running::run_here;
 use chain_ids::ChainId;
-use net_laws::{law_of_nets, law_of_pasts, law_of_stopped_messages, law_of_stopped_nets};
+use law_nets::{
+    law_of_networks_with_pasts, law_of_pasts_through_steps, law_of_stopped_messages,
+    law_of_stopped_nets,
+};
 use network_steps::{StepResult, law_of_decoded_programs};
 use std::alloc::AllocError;
 use trust_tables::is_sovereign;
 use versioned_xcm::{MessageFault, decode_message};
 
 /// Whether the account is that of a whole chain.
-fn is_whole(account: &[u8; 32]) -> bool
+fn is_chain_account(account: &[u8; 32]) -> bool
     ensures { result ≡ steps.is_sovereign account.now }
 {
     is_sovereign(account)
@@ -78,9 +81,9 @@ impl Net {
             → PaysInFull (spec_of self.old) (world_of self.new)) }
     {
         // For the prover alone.
-        law_of_pasts();
+        law_of_pasts_through_steps();
         law_of_reached_nets();
-        law_of_nets();
+        law_of_networks_with_pasts();
         law_of_stopped_nets();
         law_of_stopped_messages();
         self.stopped = true;
@@ -112,7 +115,7 @@ impl Net {
         let Some(place) = self.place(chain) else {
             return Ok(StepResult::NoSuchChain);
         };
-        if is_whole(account) {
+        if is_chain_account(account) {
             return Ok(StepResult::SovereignCaller);
         }
         let rules = &self.rules[place];

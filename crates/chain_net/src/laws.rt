@@ -1,24 +1,24 @@
 //! What led to a network, and which of its calls may change places: laws, as the contracts of functions that do nothing.
 ghost use Rattle.std.specs.Prelude.{◌≡◌, false};
-ghost use Rattle.independence.specs.Acts.{Act, acts_at};
-ghost use Rattle.independence.specs.Freedom.{TakesFreely};
+ghost use Rattle.law_independence.specs.Acts.{Act, acts_at};
+ghost use Rattle.law_independence.specs.Freedom.{TakesFreely};
 ghost use Rattle.chain_net.specs.declared.net.Net.{Net};
-ghost use Rattle.message_shapes.specs.Shapes.{AllShaped};
-ghost use Rattle.net_laws.specs.Runs.{HasPast};
+ghost use Rattle.law_steps.specs.Shapes.{AllShaped};
+ghost use Rattle.law_nets.specs.Runs.{HasPast};
 ghost use Rattle.chain_net.specs.Nets.{world_of, spec_of, is_stopped};
 ghost use Rattle.chain_net.specs.Calls.{AreCalled, AreSwapped};
 
-use independence::law_of_independence;
-use net_laws::{law_of_nets, law_of_pasts};
+use law_independence::law_of_independence;
+use law_nets::{law_of_networks_with_pasts, law_of_pasts_through_steps};
 
-/// To every network that isn't stopped, whoever hands it over, steps led from the first world of its document (`reached`): so what `net_laws` says
+/// To every network that isn't stopped, whoever hands it over, steps led from the first world of its document (`reached`): so what `law_nets` says
 /// holds of it, and each message that waits has one of the seven shapes (`shaped`).
 pub fn law_of_reached_nets()
     ensures reached { (n : Net) → is_stopped n ≡ false → HasPast (spec_of n) (world_of n) }
     ensures shaped { (n : Net) → is_stopped n ≡ false → AllShaped (world_of n) }
 {
-    law_of_pasts();
-    law_of_nets();
+    law_of_pasts_through_steps();
+    law_of_networks_with_pasts();
 }
 
 /// Two calls of `exec`, `deliver` or `claim` that act at different chains may change places: from networks that stand for one world, both orders

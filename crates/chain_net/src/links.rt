@@ -34,7 +34,7 @@ fn place_to(queues: &[Queue], to: ChainId) -> Option<usize>
 
 /// The place of the first channel that leads from the chain to that one.
 fn place_towards(chain: &ChainState, to: ChainId) -> Option<usize>
-    ensures { result ≡ links.place_towards to (links.channels_from chain.now) }
+    ensures { result ≡ links.place_towards to (links.channels_of_state chain.now) }
 {
     place_to(chain.queues().channels(), to)
 }
@@ -66,7 +66,7 @@ pub(crate) fn all_links(
     entries: &[ChannelSpec],
 ) -> Result<Vec<Link>, AllocError>
     requires order { IsTrue (are_in_order names.now) }
-    ensures { IfOk result (λ all. all.items ≡ links.links_of names.now chains.now entries.now) }
+    ensures { IfOk result (λ all. all.items ≡ links.found_links names.now chains.now entries.now) }
 {
     let mut all = Vec::with_capacity(alloc, entries.len())?;
     for entry in entries {

@@ -2,14 +2,14 @@
 ghost use Rattle.std.specs.Prelude.{◌≡◌, IsTrue, length, false};
 ghost use Rattle.chain_net.specs.Order.{are_in_order};
 ghost use Rattle.chain_net.specs.Chains.{names_of, world_in};
-ghost use Rattle.chain_net.specs.Links.{links_of};
+ghost use Rattle.chain_net.specs.Links.{found_links};
 ghost use Rattle.chain_net.specs.Sound.{AreBetweenSteps, AreBetweenSteps-prop, HasSomePast-prop};
-ghost use Rattle.net_laws.specs.Runs.{HasSomePast};
+ghost use Rattle.law_nets.specs.Runs.{HasSomePast};
 
 use crate::links::Link;
 use chain_ids::ChainId;
 use chain_state::ChainState;
-use exec_admission::ChainRules;
+use exec_rules::ChainRules;
 use network_spec::NetworkSpec;
 
 /// A network of chains: what its document says, and each chain's state, in the order of the document, with how it runs programs. The
@@ -27,8 +27,10 @@ pub struct Net {
     ghost order: { IsTrue (are_in_order names.items) },
     ghost ruled: { length rules.items ≡ length chains.items },
     ghost named: { names_of chains.items ≡ names.items },
-    ghost linked: { links.items ≡ links_of names.items chains.items spec.channels },
+    ghost linked: { links.items ≡ found_links names.items chains.items spec.channels },
     ghost between: { stopped ≡ false
         → AreBetweenSteps chains.items } by { AreBetweenSteps-prop stopped chains.items },
-    ghost reached: { stopped ≡ false → HasSomePast spec (world_in rules.items chains.items) } by { HasSomePast-prop stopped spec (world_in rules.items chains.items) },
+    ghost reached: { stopped ≡ false → HasSomePast spec
+        (world_in rules.items chains.items) } by { HasSomePast-prop stopped spec
+            (world_in rules.items chains.items) },
 }

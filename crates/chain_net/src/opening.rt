@@ -1,22 +1,22 @@
 //! A network as it opens.
 ghost use Rattle.std.specs.Prelude.{◌≡◌, false, map, [], IfOk};
 ghost use Rattle.network_spec.specs.declared.chain.ChainSpec.{ChainSpec};
-ghost use Rattle.network_genesis.specs.Genesis as genesis;
-ghost use Rattle.network_genesis.specs.Genesis.{part_at, first_world};
-ghost use Rattle.network_genesis.specs.Openable.{IsOpenable};
+ghost use Rattle.network_steps.specs.Genesis as genesis;
+ghost use Rattle.network_steps.specs.Genesis.{part_at, first_world};
+ghost use Rattle.network_steps.specs.Openable.{IsOpenable};
 ghost use Rattle.chain_state.specs.PartOf.{part_of};
 ghost use Rattle.chain_net.specs.Nets.{world_of, spec_of, is_stopped, trace_of};
-ghost use Rattle.message_shapes.specs.Shapes.{AllShaped};
-ghost use Rattle.conserved_networks.specs.Kept.{IsCoherent};
-ghost use Rattle.net_laws.specs.Promises.{KeepsAssets, PaysInFull};
+ghost use Rattle.law_steps.specs.Shapes.{AllShaped};
+ghost use Rattle.law_steps.specs.Kept.{IsCoherent};
+ghost use Rattle.law_nets.specs.Promises.{KeepsAssets, PaysInFull};
 
 use crate::Net;
 use crate::links::all_links;
 use barriers::Barrier;
 use chain_ids::ChainId;
 use chain_state::ChainState;
-use exec_admission::ChainRules;
-use net_laws::{law_of_nets, law_of_pasts};
+use exec_rules::ChainRules;
+use law_nets::{law_of_networks_with_pasts, law_of_pasts_through_steps};
 use network_spec::{ChainSpec, NetworkSpec};
 use plain_lists::Listed;
 use std::alloc::{AllocError, Global};
@@ -95,8 +95,8 @@ impl Net {
         ensures paid { IfOk result (λ net. IsCoherent spec → PaysInFull spec (world_of net)) }
     {
         // For the prover alone.
-        law_of_pasts();
-        law_of_nets();
+        law_of_pasts_through_steps();
+        law_of_networks_with_pasts();
         let names = names(alloc, spec.chains.items())?;
         let rules = all_rules(alloc, spec.chains.items())?;
         let chains = all_states(alloc, &spec)?;

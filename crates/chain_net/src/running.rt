@@ -10,34 +10,28 @@ ghost use Rattle.exec_base.specs.Host.{told};
 ghost use Rattle.exec_base.specs.declared.event.Event.TheVariants as events;
 ghost use Rattle.channel_parts.specs.declared.cargo.Cargo.TheVariants.{Nothing};
 ghost use Rattle.exec_rules.specs.Readiness.{IsAtRest};
-ghost use Rattle.exec_admission.specs.Execution.{executed, IsAbandoned};
+ghost use Rattle.exec_rules.specs.Execution.{executed, IsAbandoned};
 ghost use Rattle.network_steps.specs.Acting as acting;
 ghost use Rattle.network_steps.specs.Acting.{begun, acted};
 ghost use Rattle.network_steps.specs.Steps.{name_at};
 ghost use Rattle.chain_state.specs.PartOf.{part_of};
 ghost use Rattle.chain_net.specs.Sound.{IsBetweenSteps, IsListedCargo};
-ghost use Rattle.net_laws.specs.Stops.{IsStoppedHere, arrived, IsStoppedThere};
+ghost use Rattle.law_nets.specs.Stops.{IsStoppedHere, arrived, IsStoppedThere};
 ghost use Rattle.chain_net.specs.Answers.{IsActed, IsUnread};
 
 use chain_ids::ChainId;
 use chain_queues::{Cargo, Queued};
 use chain_state::ChainState;
-use exec_admission::ChainRules;
 use exec_base::{Event, Host};
+use exec_rules::ChainRules;
 use locations::{Junction, Junctions, Location};
-use message_parts::Weight;
 use network_steps::law_of_decoded_programs;
+use operands::Weight;
 use std::alloc::{AllocError, Global};
 use trust_tables::location_of;
 use versioned_xcm::{MessageFault, decode_message};
 use xcm_executor::execute;
 use xcm_program::{Outcome, Program};
-
-/// No weight at all.
-const NOTHING: Weight = Weight {
-    ref_time: 0,
-    proof_size: 0,
-};
 
 /// The location of a local caller.
 fn caller(account: &[u8; 32]) -> Location
@@ -131,7 +125,7 @@ fn run_bytes(
         &location_of(here, from),
         program,
         rules,
-        NOTHING,
+        Weight::ZERO,
         there,
     )?;
     Ok(outcome)

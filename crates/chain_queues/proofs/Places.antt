@@ -3,7 +3,8 @@ use Rattle.std.proofs.Common.{◌≡◌, ℕ, zero, suc, ◌+◌, ◌<◌, true,
 use Rattle.std.specs.Prelude.{◌≤◌, ◌==◌, nat_lt, not, if◌then◌else◌}
 use Rattle.std.specs.List.{position, position_or_len}
 use Rattle.std.proofs.lemmas.List.{length-map, map-set}
-use Rattle.plain_lists.specs.Firsts.{change_first, found_at, found_nowhere, changed_at, changed_nowhere}
+use Rattle.plain_lists.specs.Firsts.{change_first}
+use Rattle.plain_lists.proofs.Lemmas.Firsts.{found_at, found_nowhere, changed_at, changed_nowhere}
 use Rattle.chain_ids.specs.declared.chain.ChainId.{ChainId}
 use Rattle.channel_parts.specs.Channels.{Outgoing}
 use Rattle.chain_queues.specs.declared.faults.PushFault.TheVariants.{TooLarge, Full}

@@ -1,6 +1,6 @@
 -- What the bytes of a message that waits mean. Source: the XCM format (versioned programs).
 use Rattle.std.specs.Prelude.{ℕ, ◌==◌, List, [], ◌∷◌, Bool, false, is_ok, Result, Ok, Err}
-use Rattle.message_parts.specs.declared.version.Version.{Version}
+use Rattle.operands.specs.declared.version.Version.{Version}
 use Rattle.xcm_program.specs.declared.instruction.Instruction.{Instruction}
 use Rattle.xcm_format.specs.Messages.{version_byte}
 use Rattle.versioned_xcm.specs.declared.faults.MessageFault.{MessageFault}

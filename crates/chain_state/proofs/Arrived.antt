@@ -6,7 +6,7 @@ use Rattle.locations.specs.declared.relative.Location.{Location}
 use Rattle.chain_ids.specs.declared.chain.ChainId.{ChainId}
 use Rattle.asset_lists.specs.declared.units.Asset.{Asset}
 use Rattle.asset_lists.specs.Units.{assets_cmp}
-use Rattle.asset_lists.specs.UnitLaws.{assets_decide}
+use Rattle.asset_lists.proofs.Lemmas.UnitLaws.{assets_decide}
 use Rattle.asset_lists.specs.Moves.{reanchored_list}
 use Rattle.channel_parts.specs.declared.cargo.Cargo.{Cargo}
 use Rattle.channel_parts.specs.declared.cargo.Cargo.TheVariants.{Nothing, Deposit, Away}
@@ -16,6 +16,7 @@ use Rattle.exec_base.specs.Arrivals.{arrived_list, is_this_list}
 use Rattle.exec_base.specs.Part.{ChainPart}
 use Rattle.exec_base.specs.Host.{Arrival, arrives_by_deposit, fits_call, cargo_list, is_cargo, cargo_after, given}
 use Rattle.chain_state.specs.Arrivals.{is_away}
+use Rattle.plain_lists.proofs.Lemmas.Facts.{and_false as never, both_true}
 
 -- a chain that has no name for this one sent nothing
 pub from_nowhere : (site : Site) (sender : ChainId) (xs : List Asset) → location_of sender site.chain ≡ None → arrived_list site sender xs ≡ None
@@ -27,10 +28,6 @@ pub from_sender : (site : Site) (sender : ChainId) (target : Location) (xs : Lis
 unfolding arrived_list
 from_sender site sender target xs at =
     ap (λ o. option_and_then (λ (target : Location). reanchored_list target (path_of_site (record { network = site.network; chain = sender })) xs) o) at
-
-never : (b : Bool) → (b && false) ≡ false
-never true = refl
-never false = refl
 
 pub not_fitting : (p : ChainPart) (arrival : Arrival) (list : List Asset) → fits_call arrival p.cargo.cargo ≡ false → is_cargo p arrival list ≡ false
 unfolding is_cargo
@@ -46,10 +43,6 @@ unfolding is_cargo
 arrived p arrival list seen fits at = λ i. fits i && is_this_list list (at i)
 
 -- ---- what a call takes
-both_true : (a b : Bool) → (a && b) ≡ true → (a ≡ true) × (b ≡ true)
-both_true true b e = (refl, e)
-both_true false b e = absurd (cc)
-
 list_named : (o : Option (List Asset)) (list : List Asset) → is_this_list list o ≡ true → o ≡ Some list
 list_named None list e = absurd (cc)
 list_named (Some seen) list e = ap Some ((assets_decide seen list).0 e)

@@ -8,8 +8,9 @@ use Rattle.std.specs.declared.cmp.Ordering.{Ordering}
 use Rattle.std.specs.declared.cmp.Ordering.TheVariants.{Less, Equal, Greater}
 use Rattle.std.proofs.lemmas.List.Sums.{sum_by_more}
 use Rattle.amounts.specs.Rows.{amount_if, sum_where}
-use Rattle.amounts.specs.Amounts.{amount, total_alike, amount-total}
-use Rattle.amounts.specs.Laws.{total-from_rows, total_none, amount-from_rows}
+use Rattle.amounts.specs.Amounts.{amount}
+use Rattle.amounts.proofs.Lemmas.AmountLaws.{total_alike, amount-total}
+use Rattle.amounts.proofs.Lemmas.{total-from_rows, total_none, amount-from_rows}
 use Rattle.locations.specs.declared.relative.Location.{Location}
 use Rattle.asset_lists.specs.declared.units.AssetId.{AssetId}
 use Rattle.asset_lists.specs.declared.units.AssetId.TheVariants.{Concrete, Abstract}
@@ -18,16 +19,15 @@ use Rattle.asset_lists.specs.declared.units.Kind.{Kind}
 use Rattle.asset_lists.specs.declared.units.Kind.TheVariants.{Fungible, Class}
 use Rattle.asset_lists.specs.Units.{Unit, unit_cmp, asset_id_cmp}
 use Rattle.asset_lists.specs.Listed.{Listed, listed_of, lists}
-use Rattle.fee_rows.specs.Fees.{Fee, kept_goods, HaveRows}
-use Rattle.asset_bundles.specs.Bundles.{Bundle, unit_keys, is_asset}
+use Rattle.chain_state.specs.Fees.{Fee, kept_goods, HaveRows}
+use Rattle.asset_bundles.specs.Bundles.{Bundle, is_asset}
+use Rattle.asset_bundles.proofs.Lemmas.Bundles.{unit_keys}
 use Rattle.asset_bundles.specs.Books.{most_burned}
 use Rattle.weight_trader.specs.Purchases.{Line, coin_of, paid_goods}
 use Rattle.chain_state.specs.Aside.{asset_in, parked_total}
+use Rattle.plain_lists.proofs.Lemmas.Facts.{and_false as not_both, equal_then_equal as tie_id, saturates_once as more_min}
 
 -- ---- a sum that saturates
-pub more_min : (a b m : ℕ) → min (min a m + b) m ≡ min (a + b) m
-more_min a b m = omega arith
-
 pub aside_sum : (a b c d m v w x y k : ℕ) → v ≡ min a m → w ≡ min (v + b) m → x ≡ min (w + c) m → k ≡ d → y ≡ min (x + k) m → y ≡ min (a + b + c + d) m
 aside_sum a b c d m v w x y k first second third kept fourth = omega arith
 
@@ -40,15 +40,6 @@ one_more_parked id kind parked i goods sum next inside at step so_far =
     ∙ ap (λ n. min n most_burned) (sym all)
 
 -- ---- the amount of one unit
-tie_id : (r : Ordering) → (is_eq r && true) ≡ is_eq (ordering_then r Equal)
-tie_id Less = refl
-tie_id Equal = refl
-tie_id Greater = refl
-
-not_both : (b : Bool) → (b && false) ≡ false
-not_both true = refl
-not_both false = refl
-
 same_test : (id other : AssetId) (x : Option Instance) → is_asset id Fungible (other, x) ≡ eq_by_cmp unit_cmp (id, None) (other, x)
 same_test id other None = tie_id (asset_id_cmp id other)
 same_test id other (Some instance) = not_both (is_eq (asset_id_cmp id other))

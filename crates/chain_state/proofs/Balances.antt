@@ -10,28 +10,31 @@ use Rattle.std.proofs.lemmas.Slice.Eq.{bytes_eq-Decides}
 use Rattle.std.proofs.lemmas.List.{take_more}
 use Rattle.std.proofs.lemmas.List.Elements.{All-from_recursion}
 use Rattle.amounts.specs.Rows.{amount_if}
-use Rattle.amounts.specs.Amounts.{amount, total, empty, total-empty, amount-total}
-use Rattle.amounts.specs.Laws.{total-merge, key_same}
+use Rattle.amounts.specs.Amounts.{amount, total, empty}
+use Rattle.amounts.proofs.Lemmas.AmountLaws.{total-empty, amount-total}
+use Rattle.amounts.proofs.Lemmas.{total-merge, key_same}
 use Rattle.asset_lists.specs.declared.units.Asset.{Asset}
 use Rattle.asset_lists.specs.declared.units.AssetId.{AssetId}
 use Rattle.asset_lists.specs.declared.units.Fun.{Fun}
 use Rattle.asset_lists.specs.declared.units.Instance.{Instance}
 use Rattle.asset_lists.specs.Units.{Unit, unit_of, unit_cmp, asset_id_cmp, instance_cmp, instance_in, amount_in, amount_of, is_zero}
-use Rattle.asset_lists.specs.UnitLaws.{asset_id_decides, instance_total}
+use Rattle.asset_lists.specs.UnitLaws.{instance_total}
+use Rattle.asset_lists.proofs.Lemmas.UnitLaws.{asset_id_decides}
 use Rattle.asset_lists.specs.Listed.{listed_of, lists}
-use Rattle.asset_bundles.specs.Bundles.{bundle_of, held_assets, unit_keys}
-use Rattle.asset_bundles.specs.BundleLaws.{total-bundle_of, held_assets-holding}
+use Rattle.asset_bundles.specs.Bundles.{bundle_of, held_assets}
+use Rattle.asset_bundles.proofs.Lemmas.Bundles.{unit_keys}
+use Rattle.asset_bundles.proofs.Lemmas.BundleLaws.{total-bundle_of, held_assets-holding}
 use Rattle.trust_tables.specs.declared.rows.AssetRow.{AssetRow}
 use Rattle.trust_tables.specs.Trust.{is_row_of, listing}
-use Rattle.trust_tables.specs.TrustLaws.{listing_says}
+use Rattle.trust_tables.proofs.Lemmas.TrustLaws.{listing_says}
 use Rattle.ledgers.specs.declared.faults.DepositFault.{DepositFault}
 use Rattle.ledgers.specs.Ledgers.{Holder, Held, holder_cmp, held_by, owners_of, is_barred_fun, is_barred, barred}
 use Rattle.ledgers.specs.LedgerFaults.{IsBarred, IsDepositFault}
-use Rattle.ledgers.specs.Laws.{holder_keys, held_by_total}
+use Rattle.ledgers.proofs.Lemmas.{holder_keys, held_by_total}
 use Rattle.network_spec.specs.declared.chain.Balance.{Balance}
 use Rattle.network_spec.specs.Networks.{same_fun, same_holding}
-use Rattle.network_genesis.specs.Tests.{past_amounts, is_placeable, is_balance}
-use Rattle.network_genesis.specs.Genesis.{with_balance, with_balances}
+use Rattle.network_steps.specs.Tests.{past_amounts, is_placeable, is_balance}
+use Rattle.network_steps.specs.Genesis.{with_balance, with_balances}
 
 -- ---- balances, one after another
 pub one_more_balance : (held : Held) (bs : List Balance) (b : Balance) → with_balances held (bs ++ b ∷ []) ≡ with_balance (with_balances held bs) b

@@ -5,12 +5,14 @@ use Rattle.std.specs.Ordering.{eq_by_cmp}
 use Rattle.std.specs.List.{list_all}
 use Rattle.std.proofs.lemmas.Bool.{and_from}
 use Rattle.amounts.specs.Rows.{IsPositive, sum_where, amount_if}
-use Rattle.amounts.specs.Amounts.{amount, rows, rows_positive, total-rows, amount-total}
-use Rattle.amounts.specs.Laws.{same_key}
+use Rattle.amounts.specs.Amounts.{amount, rows}
+use Rattle.amounts.proofs.Lemmas.AmountLaws.{rows_positive, total-rows, amount-total}
+use Rattle.amounts.proofs.Lemmas.{same_key}
 use Rattle.asset_lists.specs.declared.units.Instance.{Instance}
 use Rattle.asset_lists.specs.Units.{Unit, unit_of, unit_cmp, instance_in}
 use Rattle.asset_lists.specs.Listed.{Listed, listed_of, lists}
-use Rattle.asset_bundles.specs.Bundles.{Bundle, unit_keys, fun_of, assets_at, held_assets}
+use Rattle.asset_bundles.specs.Bundles.{Bundle, fun_of, assets_of_rows, held_assets}
+use Rattle.asset_bundles.proofs.Lemmas.Bundles.{unit_keys}
 use Rattle.asset_bundles.specs.Books.{AreListed}
 
 same_instance : (x : Option Instance) (n : ℕ) → instance_in (fun_of x n) ≡ x
@@ -22,7 +24,7 @@ one_here true n m h le t some = omega (arith, le, some)
 one_here false n m h le t some = absurd (true≢false (sym t))
 
 listed_rows : (listed : List Listed) (goods : Bundle) (es : List (Unit × ℕ)) → AreListed listed goods → IsPositive es → ((u : Unit) → sum_where (eq_by_cmp unit_cmp u) es ≤ amount goods u)
-    → list_all (λ a. lists listed (listed_of (unit_of a))) (assets_at es) ≡ true
+    → list_all (λ a. lists listed (listed_of (unit_of a))) (assets_of_rows es) ≡ true
 listed_rows listed goods [] are positive within = refl
 listed_rows listed goods (e ∷ es) are positive within =
     let some : 0 < amount goods e.0 = one_here (eq_by_cmp unit_cmp e.0 e.0) e.1 _ _ (within e.0) (same_key unit_keys e.0) positive.0 in

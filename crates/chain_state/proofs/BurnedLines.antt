@@ -13,14 +13,15 @@ use Rattle.asset_lists.specs.declared.units.Asset.{Asset}
 use Rattle.asset_lists.specs.Units.{Unit, unit_of}
 use Rattle.asset_lists.specs.Listed.{Listed, listed_of, lists}
 use Rattle.asset_bundles.specs.Books.{Book}
-use Rattle.trap_store.specs.Traps.{number_after, traps_of}
+use Rattle.asset_bundles.specs.Traps.{number_after, traps_of}
 use Rattle.trust_tables.specs.declared.rows.AssetRow.{AssetRow}
 use Rattle.trust_tables.specs.Trust.{listing, row_of}
-use Rattle.trust_tables.specs.TrustLaws.{listing_says, row_found}
+use Rattle.trust_tables.proofs.Lemmas.TrustLaws.{listing_says, row_found}
 use Rattle.exec_base.specs.declared.event.Event.{Event}
 use Rattle.exec_base.specs.Host.{total_of, trapped_lines}
-use Rattle.network_genesis.specs.Tests.{has_path, have_paths}
-use Rattle.chain_state.specs.Lines.{numbered}
+use Rattle.network_steps.specs.Tests.{has_path, have_paths}
+use Rattle.chain_state.specs.Lines.{trap_events_from}
+use Rattle.plain_lists.proofs.Lemmas.Facts.{all_at}
 
 less_whole : (n m : ℕ) → n < m → n % m ≡ n
 less_whole n m small = grind (arith, small)
@@ -31,12 +32,6 @@ less_none n m small = grind (arith, small)
 -- an amount as a total
 pub small_total : (n : ℕ) → n < 2 ^ 128 → total_of n ≡ record { low = n; high = 0 }
 small_total n small = λ i. record { low = less_whole n (2 ^ 128) small i; high = ap (λ k. min k (2 ^ 32 - 1)) (less_none n (2 ^ 128) small) i }
-
--- what all pass, each passes
-pub all_at : {A : Type 0} (p : A → Bool) (xs : List A) (i : ℕ) (a : A) → list_all p xs ≡ true → i < length xs → a ≡ get_or xs i a → p a ≡ true
-all_at p [] i a all inside at = absurd (omega (arith, inside))
-all_at p (x ∷ xs) zero a all inside at = ap p at ∙ (and_parts (p x) (list_all p xs) all).0
-all_at p (x ∷ xs) (suc i) a all inside at = all_at p xs i a (and_parts (p x) (list_all p xs) all).1 (omega (arith, inside)) at
 
 -- ---- paths
 path_of_row : (context : List Junction) (rows : List AssetRow) (i : ℕ) (row : AssetRow) → have_paths context rows ≡ true → slice_get rows i ≡ Some row → has_path context row ≡ true
@@ -80,11 +75,11 @@ pub not_bytes : (id : AssetId) (l : Location) (bytes : List ℕ) → id ≡ Conc
 not_bytes id l bytes first second = (let both = sym first ∙ second in absurd (cc))
 
 -- ---- traps
-pub numbered_step : (n i x : ℕ) → i < n → numbered (n - i) x ≡ Event.Trapped x ∷ numbered (n - (i + 1)) (number_after x)
-numbered_step n i x inside = (let e : n - i ≡ suc (n - (i + 1)) = omega (arith, inside) in ap (λ k. numbered k x) e)
+pub numbered_step : (n i x : ℕ) → i < n → trap_events_from (n - i) x ≡ Event.Trapped x ∷ trap_events_from (n - (i + 1)) (number_after x)
+numbered_step n i x inside = (let e : n - i ≡ suc (n - (i + 1)) = omega (arith, inside) in ap (λ k. trap_events_from k x) e)
 
 -- the lines of the traps that a bundle makes
-pub lines_numbered : (count number : ℕ) (origin : Location) (units : List (Unit × ℕ)) → trapped_lines (traps_of count number origin units) ≡ numbered count number
+pub lines_numbered : (count number : ℕ) (origin : Location) (units : List (Unit × ℕ)) → trapped_lines (traps_of count number origin units) ≡ trap_events_from count number
 lines_numbered zero number origin units = refl
 lines_numbered (suc count) number origin units = ap (λ ls. Event.Trapped number ∷ ls) (lines_numbered count (number_after number) origin (drop 20 units))
 

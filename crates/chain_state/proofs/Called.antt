@@ -7,9 +7,9 @@ use Rattle.call_dispatch.specs.declared.end.CallEnd.{CallEnd}
 use Rattle.call_dispatch.specs.Spelling.{AnyCall}
 use Rattle.call_dispatch.specs.Shifts.{RowAmounts}
 use Rattle.call_dispatch.specs.Dispatches.{Done, dispatch_items, items_of, IsInterrupted}
-use Rattle.row_accounts.specs.RowAccounts.{fungible_rows, row_amounts, held_aside, with_row_amounts}
-use Rattle.row_accounts.specs.Laws.{held_again, known_by_rows}
-use Rattle.row_accounts.specs.Calls.{called, held_called}
+use Rattle.row_ledger.specs.RowAccounts.{fungible_rows, row_amounts, held_aside, with_row_amounts}
+use Rattle.row_ledger.proofs.Lemmas.AccountLaws.{held_again, known_by_rows}
+use Rattle.row_ledger.specs.Calls.{called, held_called}
 use Rattle.exec_base.specs.declared.event.Event.{Event}
 use Rattle.exec_base.specs.Part.{ChainPart}
 use Rattle.exec_base.specs.Calls.{floors_of, call_index, is_success, held_dispatched, dispatch_end, call_line, dispatched, IsDispatchedInPart, Dispatches}
@@ -69,27 +69,27 @@ pub stopped_at : (p : ChainPart) (who : List ℕ) (c : AnyCall) (result : Result
 stopped_at p who c result now is h = subst (λ (r : Result CallEnd AllocError). Dispatches true p who c r now) (sym is) h
 
 -- before the first move
-pub before_all : (p : ChainPart) (lines : List Event) (who : List ℕ) (c : AnyCall) → lines ≡ p.kept_back → IsDispatchedInPart p who c (record p { kept_back = lines })
+pub before_all : (p : ChainPart) (lines : List Event) (who : List ℕ) (c : AnyCall) → lines ≡ p.pending_events → IsDispatchedInPart p who c (record p { pending_events = lines })
 unfolding nothing_in_part
-before_all p lines who c same = record { held = p.held; in_part = (nothing_in_part p who c).in_part; is = λ i. record p { kept_back = same i } }
+before_all p lines who c same = record { held = p.held; in_part = (nothing_in_part p who c).in_part; is = λ i. record p { pending_events = same i } }
 
 -- on the way
-pub on_the_way : (p : ChainPart) (lines : List Event) (q : ChainPart) (who : List ℕ) (c : AnyCall) → lines ≡ p.kept_back → beside_calls q ≡ beside_calls (record p { kept_back = lines })
+pub on_the_way : (p : ChainPart) (lines : List Event) (q : ChainPart) (who : List ℕ) (c : AnyCall) → lines ≡ p.pending_events → beside_calls q ≡ beside_calls (record p { pending_events = lines })
     → IsInterrupted (row_amounts p.rows p.held) (floors_of p) (fungible_rows p.rows) who c (row_amounts q.rows q.held) → IsDispatchedInPart p who c q
 on_the_way p lines q who c same beside h =
-    let p1 : ChainPart = record p { kept_back = lines } in
-    let back : p1 ≡ p = λ i. record p { kept_back = same i } in
+    let p1 : ChainPart = record p { pending_events = lines } in
+    let back : p1 ≡ p = λ i. record p { pending_events = same i } in
     subst (λ (x : ChainPart). IsDispatchedInPart x who c q) back (part_in_part p1 q beside who c h)
 
 -- all was done, and the line is kept back
-pub all_done : (p : ChainPart) (lines : List Event) (q : ChainPart) (told : List Event) (who : List ℕ) (c : AnyCall) (end : CallEnd) → lines ≡ p.kept_back → beside_calls q ≡ beside_calls (record p { kept_back = lines })
-    → (row_amounts q.rows q.held, end) ≡ called p.rows p.held (floors_of p) who c → told ≡ q.kept_back ++ Event.Called (call_index c) (is_success end) ∷ []
-    → (end ≡ dispatch_end p who c) × (record q { kept_back = told } ≡ dispatched p who c)
+pub all_done : (p : ChainPart) (lines : List Event) (q : ChainPart) (told : List Event) (who : List ℕ) (c : AnyCall) (end : CallEnd) → lines ≡ p.pending_events → beside_calls q ≡ beside_calls (record p { pending_events = lines })
+    → (row_amounts q.rows q.held, end) ≡ called p.rows p.held (floors_of p) who c → told ≡ q.pending_events ++ Event.Called (call_index c) (is_success end) ∷ []
+    → (end ≡ dispatch_end p who c) × (record q { pending_events = told } ≡ dispatched p who c)
 unfolding dispatched dispatch_end
 all_done p lines q told who c end same beside done is =
-    let p1 : ChainPart = record p { kept_back = lines } in
+    let p1 : ChainPart = record p { pending_events = lines } in
     let ends : end ≡ dispatch_end p who c = end_after p1 q beside who c end done in
-    let kept : q.kept_back ≡ p.kept_back = ap (λ (r : ChainPart). r.kept_back) beside ∙ same in
-    let line : told ≡ p.kept_back ++ call_line p who c ∷ [] =
-    is ∙ ap (λ (es : List Event). es ++ Event.Called (call_index c) (is_success end) ∷ []) kept ∙ ap (λ (e : CallEnd). p.kept_back ++ Event.Called (call_index c) (is_success e) ∷ []) ends in
-    (ends, λ i. record (part_after p1 q beside who c end done i) { kept_back = line i })
+    let kept : q.pending_events ≡ p.pending_events = ap (λ (r : ChainPart). r.pending_events) beside ∙ same in
+    let line : told ≡ p.pending_events ++ call_line p who c ∷ [] =
+    is ∙ ap (λ (es : List Event). es ++ Event.Called (call_index c) (is_success end) ∷ []) kept ∙ ap (λ (e : CallEnd). p.pending_events ++ Event.Called (call_index c) (is_success e) ∷ []) ends in
+    (ends, λ i. record (part_after p1 q beside who c end done i) { pending_events = line i })

@@ -7,22 +7,24 @@ use Rattle.std.specs.Cmp.Lexicographic.{slice_cmp}
 use Rattle.std.specs.List.{list_any, position_or_len}
 use Rattle.std.specs.Option.{option_map_or}
 use Rattle.std.proofs.lemmas.Bool.{and_parts, and_from, cases_Bool}
-use Rattle.amounts.specs.Rows.{IsKeyOrder}
-use Rattle.amounts.specs.Keys.{number_keys, list_keys, pair_keys}
+use Rattle.amounts.proofs.Lemmas.Rows.{IsKeyOrder}
+use Rattle.amounts.proofs.Lemmas.Keys.{number_keys, list_keys, pair_keys}
 use Rattle.amounts.specs.Amounts.{rows, from_rows}
-use Rattle.amounts.specs.Laws.{same_key, key_same, from_rows-rows}
+use Rattle.amounts.proofs.Lemmas.{same_key, key_same, from_rows-rows}
 use Rattle.locations.specs.declared.relative.Location.{Location}
 use Rattle.locations.specs.Order.{location_cmp}
-use Rattle.locations.specs.OrderLaws.{location_decides}
+use Rattle.locations.proofs.Lemmas.OrderLaws.{location_decides}
 use Rattle.asset_lists.specs.declared.units.Asset.{Asset}
 use Rattle.asset_lists.specs.Units.{Unit, unit_cmp}
-use Rattle.asset_bundles.specs.Bundles.{Bundle, unit_keys, bundle_of}
-use Rattle.trap_store.specs.declared.trap.Trap.{Trap}
-use Rattle.trap_store.specs.Traps.{Store, Fits, NoneFits, IsClaimed}
-use Rattle.message_parts.specs.declared.error.XcmError.TheVariants as error
+use Rattle.asset_bundles.specs.Bundles.{Bundle, bundle_of}
+use Rattle.asset_bundles.proofs.Lemmas.Bundles.{unit_keys}
+use Rattle.asset_bundles.specs.declared.trap.Trap.{Trap}
+use Rattle.asset_bundles.specs.Traps.{Store, Fits, NoneFits, IsClaimed}
+use Rattle.operands.specs.declared.error.XcmError.TheVariants as error
 use Rattle.exec_base.specs.Part.{ChainPart}
 use Rattle.exec_base.specs.Sending.{unless}
 use Rattle.exec_base.specs.Host.{bundle_cmp, is_trap, claim_refusal, claimed}
+use Rattle.plain_lists.proofs.Lemmas.Facts.{zero_below as first_below}
 
 rows_cmp : List (Unit × ℕ) → List (Unit × ℕ) → Ordering
 rows_cmp = slice_cmp (then_cmp (on (λ (r : Unit × ℕ). r.0) unit_cmp) (on (λ (r : Unit × ℕ). r.1) nat_cmp))
@@ -76,9 +78,6 @@ place_there list origin [] t back none fits = ap (λ b. cond {A = ℕ} (not b) (
 place_there list origin (f ∷ front) t back none fits =
     ap (λ b. cond {A = ℕ} (not b) (1 + position_or_len (is_trap list origin) (front ++ t ∷ back)) 0) (no_trap list origin f none.0)
     ∙ ap (λ n. 1 + n) (place_there list origin front t back none.1 fits) ∙ plus_one (length front)
-
-first_below : (n : ℕ) → nat_lt 0 (suc n) ≡ true
-first_below n = grind arith
 
 below_more : (n m : ℕ) → nat_lt (suc n) (suc m) ≡ nat_lt n m
 below_more n m = grind arith

@@ -6,18 +6,18 @@ use Rattle.std.proofs.lemmas.Bool.{and_parts, and_from}
 use Rattle.std.proofs.lemmas.List.Elements.{recursion_from_All}
 use Rattle.chain_ids.specs.declared.chain.ChainId.{ChainId}
 use Rattle.chain_ids.specs.Chains.{same_chain}
-use Rattle.chain_ids.specs.Laws.{same_chain_told, same_chain_itself}
+use Rattle.chain_ids.proofs.Lemmas.{same_chain_told, same_chain_itself}
 use Rattle.asset_lists.specs.declared.units.Asset.{Asset}
 use Rattle.trust_tables.specs.declared.rows.AssetRow.{AssetRow}
 use Rattle.trust_tables.specs.Trust.{is_row_of, listing}
-use Rattle.trust_tables.specs.TrustLaws.{listing_says}
+use Rattle.trust_tables.proofs.Lemmas.TrustLaws.{listing_says}
 use Rattle.channel_parts.specs.Channels.{opened}
 use Rattle.network_spec.specs.declared.chain.ChainSpec.{ChainSpec}
 use Rattle.network_spec.specs.declared.network.ChannelSpec.{ChannelSpec}
-use Rattle.network_genesis.specs.Tests.{row_checking, may_check, may_have_checkings, have_prices, lists_fee}
-use Rattle.network_genesis.specs.Genesis.{channels_from}
-use Rattle.network_genesis.specs.Openable.{IsOpenableChannel}
-use Rattle.chain_lists.specs.Checked.{are_checked}
+use Rattle.network_steps.specs.Tests.{row_checking, may_check, may_have_checkings, have_prices, lists_fee}
+use Rattle.network_steps.specs.Genesis.{channels_from}
+use Rattle.network_steps.specs.Openable.{IsOpenableChannel}
+use Rattle.chain_state.specs.Checked.{are_checked}
 use Rattle.chain_state.specs.ListedFees.{is_asset_listed, are_fees_listed}
 use Rattle.chain_state.proofs.Balances.{any_found}
 

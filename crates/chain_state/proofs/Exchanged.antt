@@ -2,20 +2,20 @@
 use Rattle.std.proofs.Common.{◌≡◌, Bool, List, Option, Some, None, Result, Ok, Err, sym, ap, ◌∙◌, subst}
 use Rattle.std.specs.Prelude.{is_some}
 use Rattle.std.specs.Option.{option_map_or}
-use Rattle.message_parts.specs.declared.error.XcmError.TheVariants as error
+use Rattle.operands.specs.declared.error.XcmError.TheVariants as error
 use Rattle.asset_lists.specs.declared.units.Asset.{Asset}
 use Rattle.asset_bundles.specs.Bundles.{Bundle, held_assets}
 use Rattle.asset_locks.specs.LockMaps.{LocksAndNotes}
 use Rattle.ledgers.specs.Ledgers.{Held, Accounts}
-use Rattle.chain_pools.specs.declared.pool.Pool.{Pool}
-use Rattle.chain_pools.specs.declared.exchanges.Exchange.{Exchange}
-use Rattle.chain_pools.specs.declared.faults.ExchangeFault.{ExchangeFault}
-use Rattle.chain_pools.specs.declared.faults.ExchangeFault.TheVariants.{NoDeal, Memory}
-use Rattle.chain_pools.specs.Exchanges.{exchange_of, held_after, goods_after}
-use Rattle.chain_pools.specs.Making.{MakesExchange}
-use Rattle.chain_pools.specs.Keeping.{exchange_says}
-use Rattle.account_floors.specs.Floors.{HasFloors, NoPoolLocks}
-use Rattle.account_floors.specs.Laws.{exchange_floors}
+use Rattle.asset_pools.specs.declared.pool.Pool.{Pool}
+use Rattle.asset_pools.specs.declared.exchanges.Exchange.{Exchange}
+use Rattle.asset_pools.specs.declared.faults.ExchangeFault.{ExchangeFault}
+use Rattle.asset_pools.specs.declared.faults.ExchangeFault.TheVariants.{NoDeal, Memory}
+use Rattle.asset_pools.specs.Exchanges.{exchange_of, held_after, goods_after}
+use Rattle.asset_pools.specs.Making.{MakesExchange}
+use Rattle.asset_pools.proofs.Lemmas.Keeping.{exchange_says}
+use Rattle.law_hosts.specs.Floors.{HasFloors, NoPoolLocks}
+use Rattle.law_hosts.proofs.Lemmas.{exchange_floors}
 use Rattle.exec_base.specs.Part.{ChainPart}
 use Rattle.exec_base.specs.Sending.{unless}
 use Rattle.exec_base.specs.Pools.{exchange_at, exchange_refusal, exchanged, exchange_goods}

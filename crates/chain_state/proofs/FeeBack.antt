@@ -5,23 +5,23 @@ use Rattle.std.specs.Ordering.{eq_by_cmp}
 use Rattle.std.proofs.lemmas.Bool.Decides.{nat_tests}
 use Rattle.amounts.specs.Rows.{amount_if}
 use Rattle.amounts.specs.Amounts.{amount, difference}
-use Rattle.amounts.specs.Laws.{same_key, amount-map_keys, amount-difference}
+use Rattle.amounts.proofs.Lemmas.{same_key, amount-map_keys, amount-difference}
 use Rattle.locations.specs.declared.relative.Location.{Location}
-use Rattle.message_parts.specs.declared.error.XcmError.{XcmError}
-use Rattle.message_parts.specs.declared.error.XcmError.TheVariants as error
+use Rattle.operands.specs.declared.error.XcmError.{XcmError}
+use Rattle.operands.specs.declared.error.XcmError.TheVariants as error
 use Rattle.asset_lists.specs.declared.units.AssetId.{AssetId}
 use Rattle.asset_lists.specs.declared.units.Asset.{Asset}
 use Rattle.asset_lists.specs.declared.units.Fun.{Fun}
 use Rattle.asset_lists.specs.Units.{Unit, unit_of, unit_cmp, amount_of}
 use Rattle.asset_bundles.specs.Bundles.{bundle_of}
-use Rattle.asset_bundles.specs.BundleLaws.{total-bundle_of}
+use Rattle.asset_bundles.proofs.Lemmas.BundleLaws.{total-bundle_of}
 use Rattle.trust_tables.specs.Accounts.{account_of}
 use Rattle.trust_tables.specs.Trust.{row_of}
 use Rattle.ledgers.specs.Ledgers.{holder_cmp, held_by, is_barred, is_barred_fun, owners_of, Withdrawn}
-use Rattle.ledgers.specs.Laws.{holder_keys}
+use Rattle.ledgers.proofs.Lemmas.{holder_keys}
 use Rattle.exec_base.specs.Part.{ChainPart, accounts_of}
 use Rattle.exec_base.specs.Sending.{unless, or_else}
-use Rattle.exec_base.specs.Host.{first_fault, floor_of, with_account, give_fault, take_fault, is_price, IsPrice, deposit_refusal}
+use Rattle.exec_base.specs.Host.{first_fault, floor_of, with_account, debit_fault, credit_fault, is_price, IsPrice, deposit_refusal}
 use Rattle.chain_state.proofs.Trading.{one_held}
 
 same_sum : (n : ℕ) → amount_if true n + 0 ≡ n
@@ -52,7 +52,7 @@ fee_back p fee who account price at row enough small =
     let left : amount held (account, unit_of fee) ≡ amount p.held (account, unit_of fee) - amount_of fee =
     amount-difference holder_keys p.held (held_by account (bundle_of (fee ∷ []))) (account, unit_of fee) ∙ ap (λ n. amount p.held (account, unit_of fee) - n) (fee_amount account fee) in
     let free : is_barred held account fee ≡ false = no_bar fee.fun (amount held (account, unit_of fee)) (owners_of (unit_of fee) held) (amount_of fee) price (omega (arith, left, enough, small)) refl in
-    ap (first_fault (take_fault (record p { held = held }) (account_of who p.site))) (one_held fee (some_amount fee.fun fee.id price))
+    ap (first_fault (credit_fault (record p { held = held }) (account_of who p.site))) (one_held fee (some_amount fee.fun fee.id price))
     ∙ ap (λ o. or_else (unless (is_some (row_of p.rows fee)) error.AssetNotFound (with_account o (λ w. unless (not (is_barred held w fee)) error.FailedToTransactAsset None))) None) at
     ∙ ap (λ b. or_else (unless b error.AssetNotFound (unless (not (is_barred held account fee)) error.FailedToTransactAsset None)) None) row
     ∙ ap (λ b. or_else (unless (not b) error.FailedToTransactAsset None) None) free
@@ -66,7 +66,7 @@ within : (n f m : ℕ) → nat_le (n + f) m ≡ true → n ≤ m
 within n f m h = grind (arith, nat_tests, h)
 
 -- an account that can give: there is a row, and it has enough
-pub gives : (p : ChainPart) (who : List ℕ) (a : Asset) → give_fault p (Some who) a ≡ None → (is_some (row_of p.rows a) ≡ true) × (amount_of a ≤ amount p.held (who, unit_of a))
+pub gives : (p : ChainPart) (who : List ℕ) (a : Asset) → debit_fault p (Some who) a ≡ None → (is_some (row_of p.rows a) ≡ true) × (amount_of a ≤ amount p.held (who, unit_of a))
 gives p who a h =
     let row = passes (is_some (row_of p.rows a)) error.AssetNotFound _ h in
     let has = passes (nat_le (amount_of a + floor_of p who (unit_of a)) (amount p.held (who, unit_of a))) error.FailedToTransactAsset None row.1 in

@@ -4,21 +4,23 @@ use Rattle.std.specs.Prelude.{Option, None, Some, option_and_then, is_none}
 use Rattle.std.specs.Ordering.{eq_by_cmp}
 use Rattle.std.proofs.lemmas.Bool.{and_from}
 use Rattle.amounts.specs.Rows.{amount_if}
-use Rattle.amounts.specs.Amounts.{amount, empty, amount-empty}
-use Rattle.amounts.specs.Laws.{key_same}
+use Rattle.amounts.specs.Amounts.{amount, empty}
+use Rattle.amounts.proofs.Lemmas.AmountLaws.{amount-empty}
+use Rattle.amounts.proofs.Lemmas.{key_same}
 use Rattle.asset_lists.specs.declared.units.Asset.{Asset}
 use Rattle.asset_lists.specs.declared.units.Fun.{Fun}
 use Rattle.asset_lists.specs.Units.{unit_of, unit_cmp, amount_of, instance_in}
 use Rattle.asset_lists.specs.Listed.{listed_of, lists}
-use Rattle.asset_bundles.specs.Bundles.{Bundle, unit_keys}
-use Rattle.asset_bundles.specs.BundleLaws.{amount-bundle_of}
+use Rattle.asset_bundles.specs.Bundles.{Bundle}
+use Rattle.asset_bundles.proofs.Lemmas.Bundles.{unit_keys}
+use Rattle.asset_bundles.proofs.Lemmas.BundleLaws.{amount-bundle_of}
 use Rattle.trust_tables.specs.Trust.{listing}
 use Rattle.channel_parts.specs.Channels.{Outgoing}
-use Rattle.fee_rows.specs.Fees.{Fee, is_coin, HaveRows, HaveRowsFor}
+use Rattle.chain_state.specs.Fees.{Fee, is_coin, HaveRows, HaveRowsFor}
 use Rattle.exec_base.specs.Part.{ChainPart}
-use Rattle.exec_base.specs.Sending.{channel_to, leads_to}
+use Rattle.exec_base.specs.Sending.{channel_to_location, leads_to_location}
 use Rattle.exec_base.specs.Host.{is_price, IsFeeOf, IsFeeOrNothing}
-use Rattle.network_genesis.specs.Tests.{fee_is_price, has_price, have_prices}
+use Rattle.network_steps.specs.Tests.{fee_is_price, has_price, have_prices}
 use Rattle.chain_state.specs.ListedFees.{is_asset_listed, is_fee_listed, are_fees_listed}
 use Rattle.chain_state.proofs.Found.{all_found}
 
@@ -42,9 +44,9 @@ fee_rowed : (p : ChainPart) (fees : List Fee) (goods : Bundle) → HaveRows (lis
 fee_rowed p fees goods rows listed prices is u some =
     let dest = is.0 in
     let fee = is.1 in
-    let with = channel_with (channel_to p dest) fee is.2 in
-    let priced : is_price fee.fun ≡ true = ap fee_is_price (sym with.2) ∙ all_found has_price (leads_to p dest) p.channels with.0 prices with.1 in
-    let there : lists (listing p.rows) (listed_of (unit_of fee)) ≡ true = ap (is_asset_listed (listing p.rows)) (sym with.2) ∙ all_found (is_fee_listed (listing p.rows)) (leads_to p dest) p.channels with.0 listed with.1 in
+    let with = channel_with (channel_to_location p dest) fee is.2 in
+    let priced : is_price fee.fun ≡ true = ap fee_is_price (sym with.2) ∙ all_found has_price (leads_to_location p dest) p.channels with.0 prices with.1 in
+    let there : lists (listing p.rows) (listed_of (unit_of fee)) ≡ true = ap (is_asset_listed (listing p.rows)) (sym with.2) ∙ all_found (is_fee_listed (listing p.rows)) (leads_to_location p dest) p.channels with.0 listed with.1 in
     let here : u ≡ unit_of fee = key_same unit_keys u (unit_of fee) (at_unit (eq_by_cmp unit_cmp u (unit_of fee)) (amount_of fee) (subst (λ n. 0 < n) (ap (λ b. amount b u) is.3 ∙ amount-bundle_of (fee ∷ []) u) some)) in
     rows u ∙ ap (is_coin (listing p.rows)) here ∙ and_from _ _ (no_instance fee.fun priced) there
 

@@ -1,7 +1,7 @@
 -- The first refusal.
 use Rattle.std.proofs.Common.{◌≡◌, refl, ap}
 use Rattle.std.specs.Prelude.{Option, None, Some}
-use Rattle.message_parts.specs.declared.error.XcmError.{XcmError}
+use Rattle.operands.specs.declared.error.XcmError.{XcmError}
 use Rattle.exec_base.specs.Sending.{or_else}
 
 pub refused_first : (x rest : Option XcmError) (e : XcmError) → x ≡ Some e → or_else x rest ≡ Some e

@@ -16,16 +16,17 @@ use Rattle.ledgers.specs.Ledgers.{Held, Accounts, held_by, Deposited}
 use Rattle.call_dispatch.specs.declared.faults.ShiftFault.{ShiftFault}
 use Rattle.call_dispatch.specs.declared.faults.ShiftFault.TheVariants.{NoRow, NotEnough, Overflow, Memory}
 use Rattle.call_dispatch.specs.Shifts.{is_same_account, spare, shift_fault, shifted, Shifts}
-use Rattle.row_accounts.specs.RowAccounts.{unit_of_row, unit_at, is_fungible_row, fungible_rows, row_amounts, held_aside, no_floors}
-use Rattle.row_accounts.specs.Laws.{amount_of_row, fungible_there, known_by_rows, held_again}
+use Rattle.row_ledger.specs.RowAccounts.{unit_of_row, unit_at, is_fungible_row, fungible_rows, row_amounts, held_aside, no_floors}
+use Rattle.row_ledger.proofs.Lemmas.AccountLaws.{amount_of_row, fungible_there, known_by_rows, held_again}
 use Rattle.row_ledger.specs.Nothing.{Nothing}
-use Rattle.row_ledger.specs.Laws.{is_fungible_at, number_is}
+use Rattle.row_ledger.proofs.Lemmas.{is_fungible_at, number_is}
 use Rattle.exec_base.specs.Part.{ChainPart}
 use Rattle.exec_base.specs.Host.{floor_of}
 use Rattle.exec_base.specs.Calls.{floors_of}
-use Rattle.account_floors.specs.Floors.{HasFloors, HoldsFloors}
-use Rattle.account_floors.specs.Laws.{none_kept, more_floors, merged_more, shifted_floors}
+use Rattle.law_hosts.specs.Floors.{HasFloors, HoldsFloors}
+use Rattle.law_hosts.proofs.Lemmas.{none_kept, more_floors, merged_more, shifted_floors}
 use Rattle.chain_state.specs.Calls.{shortage_above_floor}
+use Rattle.plain_lists.proofs.Lemmas.Facts.{told_at_most as within}
 
 -- what a change leaves, or what was there
 pub after_either : {A E X : Type 0} (P : X → Type 0) (old after new : X) (r : Result A E) → OnOk r (new ≡ after) → OnErr r (new ≡ old) → P old → P after → P new
@@ -57,9 +58,6 @@ moved_tests false enough may_give fault e free = absurd cc
 
 less_is_enough : (n a f : ℕ) → nat_le n (a - f) ≡ true → nat_le n (a - 0) ≡ true
 less_is_enough n a f h = grind (arith, nat_tests, h)
-
-within : (n a : ℕ) → nat_le n a ≡ true → n ≤ a
-within n a h = grind (arith, nat_tests, h)
 
 -- what such a call says, where no account must keep anything
 abbrev pub ShiftsFreely : List AssetRow → Held → ℕ → List ℕ → List ℕ → ℕ → Result Nothing ShiftFault → Held → Type 0

@@ -4,15 +4,7 @@ use Rattle.std.specs.Prelude.{Some}
 use Rattle.std.specs.List.{find, list_all}
 use Rattle.std.specs.Option.{option_map}
 use Rattle.std.proofs.lemmas.Bool.{and_parts}
-
--- what a map passes on
-pub find_map : {A B : Type 0} (f : A → B) (p : B → Bool) (xs : List A) → find p (map f xs) ≡ option_map f (find (λ x. p (f x)) xs)
-find_map f p [] = refl
-find_map {A} {B} f p (x ∷ xs) =
-    elim (p (f x)) as (λ b. (if b then Some (f x) else find p (map f xs)) ≡ option_map f (if b then Some x else find (λ y. p (f y)) xs)) [
-      | true ↦ refl
-      | false ↦ find_map f p xs
-    ]
+use Rattle.plain_lists.proofs.Lemmas.Facts.{find_mapped as find_map}
 
 pub found_passes : {A : Type 0} (p : A → Bool) (xs : List A) (x : A) → find p xs ≡ Some x → p x ≡ true
 found_passes p [] x is = absurd (cc)

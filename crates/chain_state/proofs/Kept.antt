@@ -7,9 +7,9 @@ use Rattle.asset_bundles.specs.declared.shipment.Way.{Way}
 use Rattle.asset_bundles.specs.Bundles.{Bundle}
 use Rattle.asset_bundles.specs.Books.{Book, burned_for}
 use Rattle.asset_bundles.specs.Losing.{book_after_loss}
-use Rattle.asset_bundles.specs.Laws.{listed-Booked}
+use Rattle.asset_bundles.proofs.Lemmas.{listed-Booked}
 use Rattle.asset_lists.specs.Listed.{Listed}
-use Rattle.network_genesis.specs.Tests.{has_price, have_prices}
+use Rattle.network_steps.specs.Tests.{has_price, have_prices}
 use Rattle.chain_state.specs.ListedFees.{is_fee_listed, are_fees_listed}
 
 -- a channel that changes keeps its fee

@@ -1,4 +1,5 @@
-pub mod Rows
+pub mod Lemmas
+pub mod ChainRows
 pub mod BurnedLines
 pub mod Transacting
 pub mod Transacted
@@ -30,3 +31,11 @@ pub mod Called
 pub mod Locked
 pub mod Floored
 pub mod Exchanged
+pub mod QueryLists
+pub mod ListRows
+pub mod NamedLists
+pub mod Listings
+pub mod CheckingRows
+mod Mapped
+mod Openings
+mod ReadingFacts

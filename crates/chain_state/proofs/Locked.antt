@@ -5,21 +5,21 @@ use Rattle.std.specs.Option.{option_map, option_map_or}
 use Rattle.std.proofs.lemmas.Bool.Decides.{nat_tests}
 use Rattle.locations.specs.declared.relative.Location.{Location}
 use Rattle.chain_ids.specs.declared.chain.ChainId.{ChainId}
-use Rattle.message_parts.specs.declared.error.XcmError.{XcmError}
-use Rattle.message_parts.specs.declared.error.XcmError.TheVariants as error
+use Rattle.operands.specs.declared.error.XcmError.{XcmError}
+use Rattle.operands.specs.declared.error.XcmError.TheVariants as error
 use Rattle.asset_lists.specs.declared.units.Asset.{Asset}
 use Rattle.asset_lists.specs.declared.units.AssetId.{AssetId}
 use Rattle.asset_lists.specs.declared.units.Fun.{Fun}
 use Rattle.asset_lists.specs.Units.{amount_of, amount_in, is_zero}
-use Rattle.asset_lists.specs.Moves.{moved_id, moved}
+use Rattle.asset_lists.specs.Moves.{reanchored_id, moved}
 use Rattle.locations.specs.declared.grammar.Junction.{Junction}
 use Rattle.asset_locks.specs.LockMaps.{LockKey, NoteKey, LocksAndNotes, noted, Locked, Reduced}
 use Rattle.xcm_program.specs.declared.instruction.Instruction.{Instruction, roll-Instruction, out-roll-Instruction}
 use Rattle.xcm_program.specs.declared.instruction.Instruction.TheOpen.{Instruction-F}
 use Rattle.xcm_program.specs.Everywhere.{AllInside}
 use Rattle.xcm_program.specs.Measure.{inner, deep_count_one}
-use Rattle.xcm_program.specs.Conversions.{names_places, is_place, is_convertible_one, HasAmount, HasAmounts}
-use Rattle.xcm_program.specs.Laws.{deep_count_inside, deep_count_one-is, convertible_inside, is_convertible_one-is, amounts_open, amounts_here}
+use Rattle.xcm_program.specs.Conversions.{names_concrete_ids, is_concrete_id, is_convertible_one, HasAmount, HasAmounts}
+use Rattle.xcm_program.proofs.Lemmas.{deep_count_inside, deep_count_one-is, convertible_inside, is_convertible_one-is, amounts_open, amounts_here}
 use Rattle.channel_parts.specs.Channels.{Outgoing}
 use Rattle.channel_parts.specs.declared.cargo.Cargo.{Cargo}
 use Rattle.versioned_xcm.specs.Reading.{message_of}
@@ -32,8 +32,8 @@ use Rattle.exec_base.specs.Sending.{unless, named_refusal, named_sent, IsForward
 use Rattle.exec_base.specs.Host.{lock_key, is_lockable, note_program, with_lock, lock_refusal, asset_locked, request_key, unlock_program, with_less_noted, request_refusal, asset_requested}
 use Rattle.exec_base.specs.declared.faults.HostFault.{HostFault}
 use Rattle.exec_base.specs.declared.faults.HostFault.TheVariants.{Xcm, Memory}
-use Rattle.exec_base.specs.Answers.{Answers}
-use Rattle.chain_state.specs.Sends.{IsTaken, IsSendFault}
+use Rattle.exec_base.specs.Answers.{AnswersOrRefuses}
+use Rattle.chain_state.specs.Sends.{IsAcceptedByChannel, IsSendFault}
 use Rattle.chain_state.specs.Locks.{MayLock, MayRequest, IsTold}
 use Rattle.chain_state.proofs.Led.{sent_is}
 use Rattle.chain_state.proofs.Sendable.{unrefused_by}
@@ -62,13 +62,13 @@ told_goes p dest o to bytes t = ap (named_refusal p dest) t.is ∙ unrefused_by 
 
 -- ---- what stands then
 abbrev pub posted_at : ChainId → List ℕ → ℕ → ChainPart → ChainPart
-posted_at to bytes n q = record q { channels = pushed to (program_read (message_of bytes)) Cargo.Nothing q.channels; kept_back = q.kept_back ++ Event.Sent q.site.chain to n ∷ [] }
+posted_at to bytes n q = record q { channels = pushed to (program_read (message_of bytes)) Cargo.Nothing q.channels; pending_events = q.pending_events ++ Event.Sent q.site.chain to n ∷ [] }
 
 pub told_sent : (p : ChainPart) (locked : LocksAndNotes) (dest : Location) (o : Option (List Instruction)) (to : ChainId) (bytes : List ℕ) (n : ℕ) → IsTold p dest o to bytes
     → option_map (λ (c : Outgoing). c.next) (queues.channel_to to p.channels) ≡ Some n → posted_at to bytes n (record p { locked = locked }) ≡ named_sent (record p { locked = locked }) dest o
 told_sent p locked dest o to bytes n t number =
     let q : ChainPart = record p { locked = locked } in
-    let there : IsTaken q dest t.program to bytes = record { channel = t.taken.channel; found = t.taken.found; accepted = t.taken.accepted } in
+    let there : IsAcceptedByChannel q dest t.program to bytes = record { channel = t.taken.channel; found = t.taken.found; accepted = t.taken.accepted } in
     sent_is q dest t.program to bytes Cargo.Nothing n there number ∙ sym (ap (named_sent q dest) t.is)
 
 pub lock_leaves : (p : ChainPart) (a : Asset) (owner unlocker : Location) (key : LockKey) (to : ChainId) (bytes : List ℕ) (n : ℕ) → MayLock p a owner unlocker key → IsTold p unlocker (note_program p a owner unlocker) to bytes
@@ -89,8 +89,8 @@ request_leaves p a owner locker key to bytes n m t number =
 one_count : (l : Instruction-F Instruction) → deep_count_one (roll-Instruction l) ≡ 1 + deep_count_inside (inner l)
 one_count l = deep_count_one-is (roll-Instruction l) ∙ ap (λ (x : Instruction-F Instruction). 1 + deep_count_inside (inner x)) (out-roll-Instruction l)
 
-one_convertible : (l : Instruction-F Instruction) → is_convertible_one (roll-Instruction l) ≡ (names_places l && convertible_inside (inner l))
-one_convertible l = is_convertible_one-is (roll-Instruction l) ∙ ap (λ (x : Instruction-F Instruction). names_places x && convertible_inside (inner x)) (out-roll-Instruction l)
+one_convertible : (l : Instruction-F Instruction) → is_convertible_one (roll-Instruction l) ≡ (names_concrete_ids l && convertible_inside (inner l))
+one_convertible l = is_convertible_one-is (roll-Instruction l) ∙ ap (λ (x : Instruction-F Instruction). names_concrete_ids x && convertible_inside (inner x)) (out-roll-Instruction l)
 
 -- the amount of a sound instruction
 pub amount_here : (l : Instruction-F Instruction) → IsForwardable (roll-Instruction l ∷ []) → HasAmount Instruction l
@@ -103,7 +103,7 @@ some_amount a h = by_fun a.fun h
     by_fun f h = grind (arith, nat_tests, h)
 
 -- one instruction without a program inside
-pub one_forwardable : (l : Instruction-F Instruction) → inner l ≡ None → names_places l ≡ true → HasAmount Instruction l → IsForwardable (roll-Instruction l ∷ [])
+pub one_forwardable : (l : Instruction-F Instruction) → inner l ≡ None → names_concrete_ids l ≡ true → HasAmount Instruction l → IsForwardable (roll-Instruction l ∷ [])
 one_forwardable l flat places some = record {
   few = (let a = one_count l in let n = ap deep_count_inside flat in omega (arith, a, n));
   named = ap (λ b. b && true) (one_convertible l ∙ ap (λ b. b && convertible_inside (inner l)) places ∙ ap convertible_inside flat);
@@ -111,20 +111,20 @@ one_forwardable l flat places some = record {
 }
 
 -- an asset as the receiver names it has a place, and its amount
-moved_by : (a b : Asset) (o : Option AssetId) → ((id : AssetId) → o ≡ Some id → is_place id ≡ true) → option_map (λ id. record { id = id; fun = a.fun }) o ≡ Some b → (is_place b.id ≡ true) × (is_zero b ≡ is_zero a)
+moved_by : (a b : Asset) (o : Option AssetId) → ((id : AssetId) → o ≡ Some id → is_concrete_id id ≡ true) → option_map (λ id. record { id = id; fun = a.fun }) o ≡ Some b → (is_concrete_id b.id ≡ true) × (is_zero b ≡ is_zero a)
 moved_by a b None places e = absurd cc
 moved_by a b (Some id) places e = (
-  ap (λ (x : Asset). is_place x.id) (sym (same_asset (record { id = id; fun = a.fun }) b e)) ∙ places id refl,
+  ap (λ (x : Asset). is_concrete_id x.id) (sym (same_asset (record { id = id; fun = a.fun }) b e)) ∙ places id refl,
   ap (λ (x : Asset). is_zero x) (sym (same_asset (record { id = id; fun = a.fun }) b e)),
 )
   where
     same_asset : (x y : Asset) → Some x ≡ Some y → x ≡ y
     same_asset x y e = cc
 
-pub moved_asset : (target : Location) (context : List Junction) (a b : Asset) → moved target context a ≡ Some b → (is_place b.id ≡ true) × (is_zero b ≡ is_zero a)
-moved_asset target context a b e = moved_by a b (moved_id target context a.id) (λ id at. moved_place target context a.id id at) e
+pub moved_asset : (target : Location) (context : List Junction) (a b : Asset) → moved target context a ≡ Some b → (is_concrete_id b.id ≡ true) × (is_zero b ≡ is_zero a)
+moved_asset target context a b e = moved_by a b (reanchored_id target context a.id) (λ id at. moved_place target context a.id id at) e
 
 -- a fault of sending is the call's, where the rule goes on to sending; all is as it was
-pub fault_of : (refusal named : Option XcmError) (number : ℕ) (after p : ChainPart) (fault : HostFault) → refusal ≡ named → IsSendFault named fault → Answers refusal number after p (Err fault) p
+pub fault_of : (refusal named : Option XcmError) (number : ℕ) (after p : ChainPart) (fault : HostFault) → refusal ≡ named → IsSendFault named fault → AnswersOrRefuses refusal number after p (Err fault) p
 fault_of refusal named number after p (Xcm e) goes h = (goes ∙ h, refl)
 fault_of refusal named number after p Memory goes h = refl

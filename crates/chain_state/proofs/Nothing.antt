@@ -3,9 +3,10 @@ use Rattle.std.proofs.Common.{◌≡◌, ℕ, List, [], ap}
 use Rattle.std.specs.declared.cmp.Ordering.{Ordering}
 use Rattle.amounts.specs.Rows.{rows_at}
 use Rattle.amounts.specs.Amounts.{empty, rows, from_rows, plus_all, map_keys}
-use Rattle.amounts.specs.Laws.{rows-from_rows}
+use Rattle.amounts.proofs.Lemmas.{rows-from_rows}
 use Rattle.asset_lists.specs.Units.{Unit, unit_cmp}
-use Rattle.asset_bundles.specs.Bundles.{unit_keys, assets_at, held_assets}
+use Rattle.asset_bundles.specs.Bundles.{assets_of_rows, held_assets}
+use Rattle.asset_bundles.proofs.Lemmas.Bundles.{unit_keys}
 use Rattle.asset_bundles.specs.Changed.{rows_with, with_amounts}
 
 -- the rows of nothing
@@ -23,4 +24,4 @@ with_amounts-nothing f = ap (λ es. from_rows {R = unit_cmp} (rows_with f es)) r
 
 pub held_nothing : held_assets empty ≡ []
 unfolding held_assets
-held_nothing = ap (λ (es : List (Unit × ℕ)). assets_at es) rows-nothing
+held_nothing = ap (λ (es : List (Unit × ℕ)). assets_of_rows es) rows-nothing

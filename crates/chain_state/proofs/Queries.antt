@@ -2,12 +2,7 @@
 use Rattle.std.proofs.Common.{◌≡◌, ℕ, suc, ◌+◌, Bool, true, false, ◌||◌, cond, not, List, [], ◌∷◌, length, refl, sym, ◌∙◌, subst, arith}
 use Rattle.std.specs.Prelude.{Option, None, Some, is_some, nat_lt, position, MatchOption}
 use Rattle.std.specs.List.{list_any, position_or_len}
-
-pub first_below : (n : ℕ) → true ≡ nat_lt 0 (suc n)
-first_below n = grind arith
-
-pub below_more : (n m : ℕ) → nat_lt (1 + n) (suc m) ≡ nat_lt n m
-below_more n m = grind arith
+use Rattle.plain_lists.proofs.Lemmas.Facts.{at_none, below_by_one as below_more, below_zero_back as first_below, none_if}
 
 any_below : {A : Type 0} (p : A → Bool) (xs : List A) → list_any p xs ≡ nat_lt (position_or_len p xs) (length xs)
 any_below p [] = refl
@@ -23,14 +18,6 @@ some_if false n = refl
 -- one passes exactly where there is a first that does
 pub any_at : {A : Type 0} (p : A → Bool) (xs : List A) → list_any p xs ≡ is_some (position p xs)
 any_at p xs = any_below p xs ∙ sym (some_if (nat_lt (position_or_len p xs) (length xs)) (position_or_len p xs))
-
-pub none_if : {A : Type 0} (o : Option A) → ((x : A) → o ≡ Some x → ⊥) → o ≡ None
-none_if None h = refl
-none_if (Some x) h = absurd (h x refl)
-
-pub at_none : {A : Type 0} {P : Type 0} (Q : A → Type 0) (o : Option A) → ((x : A) → o ≡ Some x → ⊥) → MatchOption o P Q → P
-at_none Q None h p = p
-at_none Q (Some x) h p = absurd (h x refl)
 
 pub at_some : {A : Type 0} (P : Type 0) (Q : A → Type 0) (o : Option A) (x : A) → o ≡ Some x → MatchOption o P Q → Q x
 at_some P Q o x is p = subst (λ r. MatchOption r P Q) is p

@@ -9,10 +9,11 @@ use Rattle.std.specs.declared.cmp.Ordering.TheVariants.{Less, Equal}
 use Rattle.std.proofs.Math.Numerals.{one-add}
 use Rattle.std.proofs.lemmas.Bool.{and_parts}
 use Rattle.std.proofs.lemmas.Cmp.{tied_itself}
-use Rattle.amounts.specs.Rows.{keys_rising}
-use Rattle.amounts.specs.Amounts.{rows, rows_sorted}
-use Rattle.message_parts.specs.declared.error.XcmError.{XcmError}
-use Rattle.message_parts.specs.declared.error.XcmError.TheVariants as error
+use Rattle.amounts.proofs.Lemmas.Rows.{keys_rising}
+use Rattle.amounts.specs.Amounts.{rows}
+use Rattle.amounts.proofs.Lemmas.AmountLaws.{rows_sorted}
+use Rattle.operands.specs.declared.error.XcmError.{XcmError}
+use Rattle.operands.specs.declared.error.XcmError.TheVariants as error
 use Rattle.asset_lists.specs.declared.units.Asset.{Asset}
 use Rattle.asset_lists.specs.declared.units.AssetId.TheVariants.{Concrete}
 use Rattle.asset_lists.specs.declared.units.Instance.{Instance}
@@ -21,18 +22,18 @@ use Rattle.asset_lists.specs.declared.units.Kind.TheVariants.{Fungible, Class}
 use Rattle.asset_lists.specs.Units.{Unit, unit_of, unit_cmp, amount_of}
 use Rattle.asset_lists.specs.UnitLaws.{unit_total}
 use Rattle.asset_lists.specs.Listed.{kind_of}
-use Rattle.asset_bundles.specs.Bundles.{Bundle, fun_of, assets_at, held_assets}
+use Rattle.asset_bundles.specs.Bundles.{Bundle, fun_of, assets_of_rows, held_assets}
 use Rattle.trust_tables.specs.declared.rows.AssetRow.{AssetRow}
 use Rattle.trust_tables.specs.Trust.{is_row_of}
-use Rattle.trust_tables.specs.TrustLaws.{is_row_of_says}
+use Rattle.trust_tables.proofs.Lemmas.TrustLaws.{is_row_of_says}
 use Rattle.exec_base.specs.Part.{ChainPart}
 use Rattle.exec_base.specs.Sending.{unless}
 use Rattle.exec_base.specs.Host.{first_fault, checking_of, raise_fault, changed_rows, changed_all}
-use Rattle.network_genesis.specs.Tests.{may_check}
-use Rattle.chain_lists.specs.Checked.{are_checked, change_by}
+use Rattle.network_steps.specs.Tests.{may_check}
+use Rattle.chain_state.specs.Checked.{are_checked, change_by}
 use Rattle.chain_state.proofs.First.{both_none}
 use Rattle.chain_state.proofs.Forwarding.{same_instance}
-use Rattle.chain_state.proofs.Queries.{first_below, below_more}
+use Rattle.plain_lists.proofs.Lemmas.Facts.{below_by_one as below_more, below_zero_back as first_below}
 
 -- ---- the checking account of the asset's row, row by row
 checking_at : Asset → List AssetRow → List (Option ℕ) → Option ℕ
@@ -162,7 +163,7 @@ AllAgree : (ℕ → ℕ → ℕ) → (ℕ → ℕ → ℕ) → List AssetRow →
 AllAgree f g rows cs list = AllByRecursion (λ (a : Asset). AgreeAt f g (amount_of a) (checking_at a rows cs)) list
 
 others_agree : (f g h : ℕ → ℕ → ℕ) (e : Unit × ℕ) (rows : List AssetRow) (cs : List (Option ℕ)) (es : List (Unit × ℕ)) → are_checked rows cs ≡ true → AllByRecursion (λ u. unit_cmp e.0 u ≡ Less) (keys_of es)
-    → AllAgree f g rows cs (assets_at es) → AllAgree f g rows (changed_rows h (asset_at e) rows cs) (assets_at es)
+    → AllAgree f g rows cs (assets_of_rows es) → AllAgree f g rows (changed_rows h (asset_at e) rows cs) (assets_of_rows es)
 unfolding AllAgree asset_at
 others_agree f g h e rows cs [] checked less agree = tt
 others_agree f g h e rows cs (d ∷ es) checked less agree =
@@ -172,12 +173,12 @@ others_agree f g h e rows cs (d ∷ es) checked less agree =
     )
 
 all_agree : (f g : ℕ → ℕ → ℕ) (table : List AssetRow) (cs : List (Option ℕ)) (es : List (Unit × ℕ)) → IsStrictlySortedBy unit_cmp (keys_of es) → are_checked table cs ≡ true
-    → AllAgree f g table cs (assets_at es) → changed_all f (assets_at es) table cs ≡ changed_all g (assets_at es) table cs
+    → AllAgree f g table cs (assets_of_rows es) → changed_all f (assets_of_rows es) table cs ≡ changed_all g (assets_of_rows es) table cs
 unfolding AllAgree asset_at IsStrictlySortedBy
 all_agree f g table cs [] rising checked agree = refl
 all_agree f g table cs (e ∷ es) rising checked agree =
     let a = asset_at e in
-    ap (changed_all f (assets_at es) table) (agree_at f g a table cs agree.0)
+    ap (changed_all f (assets_of_rows es) table) (agree_at f g a table cs agree.0)
     ∙ all_agree f g table (changed_rows g a table cs) es rising.1 (kept_checked g a table cs ∙ checked) (others_agree f g g e table cs es checked rising.0 agree.1)
 
 -- ---- no account is raised past the end

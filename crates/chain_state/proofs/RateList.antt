@@ -2,14 +2,14 @@
 use Rattle.std.proofs.Common.{◌≡◌, Bool, true, false, ◌&&◌, if◌then◌else◌, List, [], ◌∷◌, refl, ap, ◌∙◌}
 use Rattle.std.specs.Prelude.{Result, Ok, Err, OnOk, OnErr}
 use Rattle.std.proofs.lemmas.Bool.{and_parts, and_from}
-use Rattle.message_parts.specs.declared.weight.Weight.{Weight}
+use Rattle.operands.specs.declared.weight.Weight.{Weight}
 use Rattle.asset_lists.specs.Listed.{Listed}
 use Rattle.plain_lists.specs.Firsts.{change_first}
 use Rattle.asset_bundles.specs.Bundles.{Bundle}
 use Rattle.weight_trader.specs.Purchases.{Line, new_line, is_covered, with_purchase, AreRatesListed, Bought}
 use Rattle.weight_trader.specs.Refunds.{is_refunded, without_refund, Refunded, Closed}
-use Rattle.weight_trader.specs.ListedLaws.{bought_listed, refunded_listed, rate_kept}
-use Rattle.network_genesis.specs.Tests.{is_rate_listed, are_rates_listed}
+use Rattle.weight_trader.proofs.Lemmas.ListedLaws.{bought_listed, refunded_listed, rate_kept}
+use Rattle.network_steps.specs.Tests.{is_rate_listed, are_rates_listed}
 
 pub each : (listed : List Listed) (lines : List Line) → are_rates_listed listed lines ≡ true → AreRatesListed listed lines
 each listed [] h = tt

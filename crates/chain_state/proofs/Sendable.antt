@@ -4,15 +4,15 @@ use Rattle.std.specs.Prelude.{Option, None, Some, Result, Ok, Err, nat_le, nat_l
 use Rattle.std.proofs.lemmas.List.{length-map}
 use Rattle.locations.specs.declared.relative.Location.{Location}
 use Rattle.chain_ids.specs.declared.chain.ChainId.{ChainId}
-use Rattle.message_parts.specs.declared.error.XcmError.{XcmError}
-use Rattle.message_parts.specs.declared.error.XcmError.TheVariants as error
-use Rattle.message_parts.specs.declared.version.Version.{Version}
-use Rattle.message_parts.specs.declared.version.Version.TheVariants.{V3, V4}
+use Rattle.operands.specs.declared.error.XcmError.{XcmError}
+use Rattle.operands.specs.declared.error.XcmError.TheVariants as error
+use Rattle.operands.specs.declared.version.Version.{Version}
+use Rattle.operands.specs.declared.version.Version.TheVariants.{V3, V4}
 use Rattle.xcm_program.specs.declared.instruction.Instruction.{Instruction}
 use Rattle.xcm_program.specs.Measure.{deep_count, depth}
 use Rattle.xcm_format.specs.Messages.{message, IsMessageIn}
 use Rattle.xcm_format.specs.Writable.{IsWritable}
-use Rattle.xcm_format.specs.Laws.{named_in}
+use Rattle.xcm_format.proofs.Lemmas.{named_in}
 use Rattle.channel_parts.specs.Channels.{Outgoing}
 use Rattle.versioned_xcm.specs.declared.faults.EncodeFault.TheVariants.{ExceedsLimits}
 use Rattle.versioned_xcm.specs.Message.{IsEncodeCause}
@@ -25,15 +25,13 @@ use Rattle.exec_base.specs.Part.{ChainPart}
 use Rattle.asset_lists.specs.declared.units.Asset.{Asset}
 use Rattle.asset_lists.specs.declared.faults.ListFault.{ListFault}
 use Rattle.asset_lists.specs.Lists.{has_zero, is_rising, IsListFault}
-use Rattle.exec_base.specs.Sending.{unless, channel_to, channel_refusal, send_refusal, listed_refusal, listed_program, IsForwardable}
-use Rattle.chain_state.specs.Sends.{IsAccepted, IsTaken, IsSendFault}
+use Rattle.exec_base.specs.Sending.{unless, channel_to_location, channel_refusal, send_refusal, listed_refusal, listed_program, IsForwardable}
+use Rattle.chain_state.specs.Sends.{IsAccepted, IsAcceptedByChannel, IsSendFault}
+use Rattle.plain_lists.proofs.Lemmas.Facts.{and_false as never, at_most_told as within}
 
 -- by the length of the message and what waits
 abbrev pub by_size : Queue → ℕ → Option XcmError
 by_size q size = unless (nat_le size q.channel.max_size) error.ExceedsMaxMessageSize (unless (nat_lt (length q.waiting.items) q.channel.capacity) error.Transport None)
-
-within : (n m : ℕ) → n ≤ m → nat_le n m ≡ true
-within n m le = grind (arith, le)
 
 beyond : (n m : ℕ) → m < n → nat_le n m ≡ false
 beyond n m lt = grind (arith, lt)
@@ -55,10 +53,6 @@ size_decides q bytes program is =
     ∙ ap (λ (text : List ℕ). refusal_with q (nat_le (length text) (min 65536 q.channel.max_size))) (sym is.text)
     ∙ ap (refusal_with q) (least (length bytes) q.channel.max_size is.short)
     ∙ ap (λ (n : ℕ). unless (nat_le (length bytes) q.channel.max_size) error.ExceedsMaxMessageSize (unless (nat_lt n q.channel.capacity) error.Transport None)) (length-map q.waiting.items waiting_of)
-
-never : (b : Bool) → (b && false) ≡ false
-never true = refl
-never false = refl
 
 pub limits_refuse : (q : Queue) (program : List Instruction) → IsEncodeCause q.channel.version program ExceedsLimits → channel_refusal (Some (outgoing_of q)) true program ≡ Some error.ExceedsMaxMessageSize
 unfolding refusal_with
@@ -93,17 +87,17 @@ pub accepts : (q : Queue) (bytes : List ℕ) (program : List Instruction) → Is
 accepts q bytes program is meaning none = record { leads = refl; meaning = meaning; spelled = ap (is_spelled_in q.channel.version) is.text ∙ begun q.channel.version program; unrefused = size_decides q bytes program is ∙ none; free = is_free q (length bytes) none }
 
 -- ---- the channel to a location
-pub unrouted : (p : ChainPart) (dest : Location) (few : Bool) (program : List Instruction) → channel_to p dest ≡ None → send_refusal p dest few program ≡ Some error.Unroutable
+pub unrouted : (p : ChainPart) (dest : Location) (few : Bool) (program : List Instruction) → channel_to_location p dest ≡ None → send_refusal p dest few program ≡ Some error.Unroutable
 unfolding send_refusal
 unrouted p dest few program none = ap (λ c. channel_refusal c few program) none
 
-pub routed : (p : ChainPart) (dest : Location) (few : Bool) (program : List Instruction) (c : Outgoing) → channel_to p dest ≡ Some c → send_refusal p dest few program ≡ channel_refusal (Some c) few program
+pub routed : (p : ChainPart) (dest : Location) (few : Bool) (program : List Instruction) (c : Outgoing) → channel_to_location p dest ≡ Some c → send_refusal p dest few program ≡ channel_refusal (Some c) few program
 unfolding send_refusal
 routed p dest few program c at = ap (λ o. channel_refusal o few program) at
 
-pub taken_by : (p : ChainPart) (dest : Location) (program : List Instruction) (c : Outgoing) (r : Result (ChainId × Vec ℕ Global) HostFault) → channel_to p dest ≡ Some c
+pub taken_by : (p : ChainPart) (dest : Location) (program : List Instruction) (c : Outgoing) (r : Result (ChainId × Vec ℕ Global) HostFault) → channel_to_location p dest ≡ Some c
     → MatchResult r (λ ready. IsAccepted c program ready.0 ready.1.items) (IsSendFault (channel_refusal (Some c) true program))
-    → MatchResult r (λ ready. IsTaken p dest program ready.0 ready.1.items) (IsSendFault (send_refusal p dest true program))
+    → MatchResult r (λ ready. IsAcceptedByChannel p dest program ready.0 ready.1.items) (IsSendFault (send_refusal p dest true program))
 taken_by p dest program c (Ok ready) at h = record { channel = c; found = at; accepted = h }
 taken_by p dest program c (Err fault) at h = subst (λ r. IsSendFault r fault) (sym (routed p dest true program c at)) h
 
@@ -117,27 +111,27 @@ too_many xs ListFault.Zero h some rising = absurd (true≢false (sym h.1 ∙ som
 too_many xs ListFault.OutOfOrder h some rising = absurd (true≢false (sym rising ∙ h.2))
 too_many xs ListFault.Memory h some rising = absurd h
 
-pub too_many_sent : (p : ChainPart) (dest : Location) (n : ℕ) (program : List Instruction) (c : Outgoing) → channel_to p dest ≡ Some c → nat_le n 20 ≡ false → send_refusal p dest (nat_le n 20) program ≡ Some error.ExceedsMaxMessageSize
+pub too_many_sent : (p : ChainPart) (dest : Location) (n : ℕ) (program : List Instruction) (c : Outgoing) → channel_to_location p dest ≡ Some c → nat_le n 20 ≡ false → send_refusal p dest (nat_le n 20) program ≡ Some error.ExceedsMaxMessageSize
 too_many_sent p dest n program c at many = routed p dest (nat_le n 20) program c at ∙ ap (λ b. channel_refusal (Some c) b program) many
 
 pub not_many : (n : ℕ) → nat_le n 20 ≡ false → n ≤ 20 → ⊥
 not_many n many few = true≢false (sym (within n 20 few) ∙ many)
 
 pub with_few : (p : ChainPart) (dest : Location) (n : ℕ) (program : List Instruction) (r : Result (ChainId × Vec ℕ Global) HostFault) → n ≤ 20
-    → MatchResult r (λ ready. IsTaken p dest program ready.0 ready.1.items) (IsSendFault (send_refusal p dest true program))
-    → MatchResult r (λ ready. IsTaken p dest program ready.0 ready.1.items × (n ≤ 20)) (IsSendFault (send_refusal p dest (nat_le n 20) program))
+    → MatchResult r (λ ready. IsAcceptedByChannel p dest program ready.0 ready.1.items) (IsSendFault (send_refusal p dest true program))
+    → MatchResult r (λ ready. IsAcceptedByChannel p dest program ready.0 ready.1.items × (n ≤ 20)) (IsSendFault (send_refusal p dest (nat_le n 20) program))
 with_few p dest n program (Ok ready) few h = (h, few)
 with_few p dest n program (Err fault) few h = subst (λ b. IsSendFault (send_refusal p dest b program) fault) (sym (within n 20 few)) h
 
-pub unrefused_by : (p : ChainPart) (dest : Location) (program : List Instruction) (to : ChainId) (bytes : List ℕ) → IsTaken p dest program to bytes → send_refusal p dest true program ≡ None
+pub unrefused_by : (p : ChainPart) (dest : Location) (program : List Instruction) (to : ChainId) (bytes : List ℕ) → IsAcceptedByChannel p dest program to bytes → send_refusal p dest true program ≡ None
 unrefused_by p dest program to bytes t = routed p dest true program t.channel t.found ∙ t.accepted.unrefused
 
 -- the same of the list before it was named
 pub around_by : (p : ChainPart) (dest : Location) (program : List Asset → List Instruction) (o : Option (List Asset)) (seen : List Asset) (n : ℕ) (r : Result (ChainId × Vec ℕ Global) HostFault) → o ≡ Some seen → length seen ≡ n
-    → MatchResult r (λ ready. IsTaken p dest (program seen) ready.0 ready.1.items × (length seen ≤ 20)) (IsSendFault (send_refusal p dest (nat_le (length seen) 20) (program seen)))
-    → MatchResult r (λ ready. IsTaken p dest (listed_program program o) ready.0 ready.1.items × (listed_refusal p dest program o ≡ None) × (n ≤ 20)) (IsSendFault (listed_refusal p dest program o))
+    → MatchResult r (λ ready. IsAcceptedByChannel p dest (program seen) ready.0 ready.1.items × (length seen ≤ 20)) (IsSendFault (send_refusal p dest (nat_le (length seen) 20) (program seen)))
+    → MatchResult r (λ ready. IsAcceptedByChannel p dest (listed_program program o) ready.0 ready.1.items × (listed_refusal p dest program o ≡ None) × (n ≤ 20)) (IsSendFault (listed_refusal p dest program o))
 around_by p dest program o seen n (Ok ready) at many h = (
-  subst (λ x. IsTaken p dest (listed_program program x) ready.0 ready.1.items) (sym at) h.0,
+  subst (λ x. IsAcceptedByChannel p dest (listed_program program x) ready.0 ready.1.items) (sym at) h.0,
   ap (listed_refusal p dest program) at ∙ ap (λ b. send_refusal p dest b (program seen)) (within (length seen) 20 h.1) ∙ unrefused_by p dest (program seen) ready.0 ready.1.items h.0,
   subst (λ m. m ≤ 20) many h.1,
 )

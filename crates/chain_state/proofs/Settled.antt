@@ -7,9 +7,11 @@ use Rattle.std.specs.Map.{keys_of}
 use Rattle.std.specs.List.Sorted.{IsStrictlySortedBy}
 use Rattle.std.proofs.lemmas.Bool.{and_parts, and_from}
 use Rattle.std.proofs.lemmas.List.{drop_all, append-nil}
-use Rattle.amounts.specs.Rows.{IsPositive, amount_if, sum_where, sum_where-find, keys_rising}
-use Rattle.amounts.specs.Amounts.{amount, empty, amount-empty, rows, from_rows, rows_sorted, rows_positive, find-rows}
-use Rattle.amounts.specs.Laws.{same_key, key_same, amount-from_rows, amount-merge, amount-difference, from_rows-rows, amount-rows}
+use Rattle.amounts.specs.Rows.{IsPositive, amount_if, sum_where}
+use Rattle.amounts.proofs.Lemmas.Rows.{sum_where-find, keys_rising}
+use Rattle.amounts.specs.Amounts.{amount, empty, rows, from_rows}
+use Rattle.amounts.proofs.Lemmas.AmountLaws.{amount-empty, rows_sorted, rows_positive, find-rows}
+use Rattle.amounts.proofs.Lemmas.{same_key, key_same, amount-from_rows, amount-merge, amount-difference, from_rows-rows, amount-rows}
 use Rattle.asset_lists.specs.declared.units.AssetId.{AssetId}
 use Rattle.asset_lists.specs.declared.units.AssetId.TheVariants.{Abstract}
 use Rattle.asset_lists.specs.declared.units.Asset.{Asset}
@@ -17,19 +19,23 @@ use Rattle.asset_lists.specs.declared.units.Fun.{Fun}
 use Rattle.asset_lists.specs.Units.{Unit, unit_of, unit_cmp, amount_of}
 use Rattle.asset_lists.specs.Lists.{has_zero}
 use Rattle.asset_lists.specs.Listed.{Listed, listed_of, lists}
-use Rattle.asset_bundles.specs.Bundles.{Bundle, unit_keys, rows_of, bundle_of, IsHolding}
+use Rattle.asset_bundles.specs.Bundles.{Bundle, rows_of, bundle_of, IsHolding}
+use Rattle.asset_bundles.proofs.Lemmas.Bundles.{unit_keys}
 use Rattle.asset_bundles.specs.Books.{AreListed}
-use Rattle.asset_bundles.specs.BundleLaws.{amount-bundle_of}
-use Rattle.asset_bundles.specs.Changed.{rows_with, with_amounts, is_sorted-rows_with}
+use Rattle.asset_bundles.proofs.Lemmas.BundleLaws.{amount-bundle_of}
+use Rattle.asset_bundles.specs.Changed.{rows_with, with_amounts}
+use Rattle.asset_bundles.proofs.Lemmas.Changed.{is_sorted-rows_with}
 use Rattle.trust_tables.specs.Trust.{listing}
 use Rattle.ledgers.specs.Ledgers.{Held, Accounts, Deposited, is_barred, barred}
 use Rattle.weight_trader.specs.Purchases.{Line, coin_of, paid_goods}
-use Rattle.fee_rows.specs.Fees.{Fee, kept_goods, has_row, is_coin, HaveRows, HaveRowsFor, some_row, some_rows}
-use Rattle.fee_rows.specs.Laws.{rows_are}
+use Rattle.chain_state.specs.Fees.{Fee, kept_goods, has_row, is_coin, HaveRows, HaveRowsFor, some_row}
+use Rattle.chain_state.proofs.Lemmas.Fees.{some_rows}
+use Rattle.chain_state.proofs.Lemmas.{rows_are}
 use Rattle.exec_base.specs.Part.{ChainPart}
 use Rattle.exec_base.specs.Host.{all_fees, fees_above, fees_within}
-use Rattle.network_genesis.specs.Tests.{is_rate_listed, are_rates_listed}
+use Rattle.network_steps.specs.Tests.{is_rate_listed, are_rates_listed}
 use Rattle.chain_state.specs.Settling.{are_units_listed, some_coins}
+use Rattle.plain_lists.proofs.Lemmas.Facts.{positive_not_zero as not_zero, positive_sum as either}
 
 -- ---- amounts that are changed, at one unit
 module _ (f : Unit → ℕ → ℕ) (u : Unit) where
@@ -119,10 +125,6 @@ found_row (e ∷ es) u some =
 kept_row : (fees : List Fee) (u : Unit) → 0 < amount (kept_goods fees) u → has_row fees u ≡ true
 unfolding kept_goods
 kept_row fees u some = found_row fees u (subst (λ n. 0 < n) (amount-from_rows unit_keys fees u) some)
-
-either : (P : Type 0) (m n : ℕ) → (0 < m → P) → (0 < n → P) → 0 < m + n → P
-either P zero n first second some = second (omega (arith, some))
-either P (suc m) n first second some = first (omega arith)
 
 -- where all fees have rows, so has what fits and what would pass the end
 module _ (p : ChainPart) (fees : List Fee) (rowed : HaveRowsFor fees (all_fees p)) where
@@ -264,9 +266,6 @@ rows_holding xs goods is = record {
 pub rows_bundle : (xs : List Asset) (goods : Bundle) → rows_of xs ≡ rows goods → bundle_of xs ≡ goods
 unfolding bundle_of
 rows_bundle xs goods is = ap from_rows is ∙ from_rows-rows unit_keys goods
-
-not_zero : (n : ℕ) → 0 < n → nat_eq n 0 ≡ false
-not_zero n some = grind (arith, some)
 
 pub no_zero : (xs : List Asset) → IsPositive (rows_of xs) → has_zero xs ≡ false
 no_zero [] positive = refl

@@ -3,7 +3,7 @@ use Rattle.std.proofs.Common.{◌≡◌, ℕ, ◌≤◌, Vec, Global, List, leng
 use Rattle.std.specs.Prelude.{Option, None, Some, Result, MatchResult}
 use Rattle.locations.specs.declared.relative.Location.{Location}
 use Rattle.chain_ids.specs.declared.chain.ChainId.{ChainId}
-use Rattle.message_parts.specs.declared.error.XcmError.{XcmError}
+use Rattle.operands.specs.declared.error.XcmError.{XcmError}
 use Rattle.asset_lists.specs.declared.units.Asset.{Asset}
 use Rattle.asset_bundles.specs.declared.shipment.Way.{Way}
 use Rattle.xcm_program.specs.declared.instruction.Instruction.{Instruction}
@@ -11,8 +11,8 @@ use Rattle.exec_base.specs.declared.faults.HostFault.{HostFault}
 use Rattle.exec_base.specs.Part.{ChainPart}
 use Rattle.exec_base.specs.Sending.{or_else, away_program, listed_refusal, listed_program}
 use Rattle.exec_base.specs.Host.{seen_from}
-use Rattle.chain_state.specs.declared.arrivals.ArrivalCall.{ArrivalCall}
-use Rattle.chain_state.specs.Sends.{IsTaken, IsSendFault, program_by, call_by}
+use Rattle.chain_state.specs.declared.send.arrivals.ArrivalKind.{ArrivalKind}
+use Rattle.chain_state.specs.Sends.{IsAcceptedByChannel, IsSendFault, program_by, call_by}
 
 -- the first of three refusals
 pub first_of_three : (x y z : Option XcmError) → or_else (or_else x y) z ≡ or_else x (or_else y z)
@@ -26,13 +26,13 @@ away_is Way.Teleport xcm list = refl
 -- what is encoded around the goods, as the rule of shipments says it
 IsReady : ChainPart → Location → (List Asset → List Instruction) → List Asset → Result (ChainId × Vec ℕ Global) HostFault → Type 0
 IsReady p dest program list r =
-    MatchResult r (λ ready. IsTaken p dest (listed_program program (seen_from p dest list)) ready.0 ready.1.items × (listed_refusal p dest program (seen_from p dest list) ≡ None) × (length list ≤ 20))
+    MatchResult r (λ ready. IsAcceptedByChannel p dest (listed_program program (seen_from p dest list)) ready.0 ready.1.items × (listed_refusal p dest program (seen_from p dest list) ≡ None) × (length list ≤ 20))
     (IsSendFault (listed_refusal p dest program (seen_from p dest list)))
 
-pub ready_away : (p : ChainPart) (dest : Location) (way : Way) (call : ArrivalCall) (xcm : List Instruction) (list goods : List Asset) (r : Result (ChainId × Vec ℕ Global) HostFault) → call ≡ call_by way → list ≡ goods
-    → MatchResult r (λ ready. IsTaken p dest (listed_program (program_by call xcm) (seen_from p dest list)) ready.0 ready.1.items × (listed_refusal p dest (program_by call xcm) (seen_from p dest list) ≡ None) × (length list ≤ 20))
+pub ready_away : (p : ChainPart) (dest : Location) (way : Way) (call : ArrivalKind) (xcm : List Instruction) (list goods : List Asset) (r : Result (ChainId × Vec ℕ Global) HostFault) → call ≡ call_by way → list ≡ goods
+    → MatchResult r (λ ready. IsAcceptedByChannel p dest (listed_program (program_by call xcm) (seen_from p dest list)) ready.0 ready.1.items × (listed_refusal p dest (program_by call xcm) (seen_from p dest list) ≡ None) × (length list ≤ 20))
     (IsSendFault (listed_refusal p dest (program_by call xcm) (seen_from p dest list)))
-    → MatchResult r (λ ready. IsTaken p dest (listed_program (λ a. away_program way a xcm) (seen_from p dest goods)) ready.0 ready.1.items × (listed_refusal p dest (λ a. away_program way a xcm) (seen_from p dest goods) ≡ None) × (length goods ≤ 20))
+    → MatchResult r (λ ready. IsAcceptedByChannel p dest (listed_program (λ a. away_program way a xcm) (seen_from p dest goods)) ready.0 ready.1.items × (listed_refusal p dest (λ a. away_program way a xcm) (seen_from p dest goods) ≡ None) × (length goods ≤ 20))
     (IsSendFault (listed_refusal p dest (λ a. away_program way a xcm) (seen_from p dest goods)))
 unfolding IsReady
 ready_away p dest way call xcm list goods r calls same h =

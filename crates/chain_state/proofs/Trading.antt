@@ -5,10 +5,11 @@ use Rattle.std.specs.List.{find, AllByRecursion}
 use Rattle.std.specs.List.Sorted.{IsStrictlySortedBy}
 use Rattle.std.specs.Ordering.{eq_by_cmp}
 use Rattle.amounts.specs.Rows.{amount_if}
-use Rattle.amounts.specs.Amounts.{amount, empty, single, amount-empty, same_amounts}
-use Rattle.amounts.specs.Laws.{amount-single, amount-map_keys, single-zero}
+use Rattle.amounts.specs.Amounts.{amount, empty, single}
+use Rattle.amounts.proofs.Lemmas.AmountLaws.{amount-empty, same_amounts}
+use Rattle.amounts.proofs.Lemmas.{amount-single, amount-map_keys, single-zero}
 use Rattle.locations.specs.declared.relative.Location.{Location}
-use Rattle.message_parts.specs.declared.weight.Weight.{Weight}
+use Rattle.operands.specs.declared.weight.Weight.{Weight}
 use Rattle.asset_lists.specs.declared.units.AssetId.{AssetId}
 use Rattle.asset_lists.specs.declared.units.AssetId.TheVariants.{Concrete}
 use Rattle.asset_lists.specs.declared.units.Asset.{Asset}
@@ -17,10 +18,11 @@ use Rattle.asset_lists.specs.declared.units.Kind.{Kind}
 use Rattle.asset_lists.specs.Units.{Unit, unit_cmp, amount_of}
 use Rattle.asset_lists.specs.Listed.{Listed, listed_of}
 use Rattle.asset_bundles.specs.declared.book.Cause.{Cause}
-use Rattle.asset_bundles.specs.Bundles.{Bundle, unit_keys, bundle_of, held_assets}
-use Rattle.asset_bundles.specs.BundleLaws.{same_bundles, amount-bundle_of, total-bundle_of, held_assets-holding}
+use Rattle.asset_bundles.specs.Bundles.{Bundle, bundle_of, held_assets}
+use Rattle.asset_bundles.proofs.Lemmas.Bundles.{unit_keys}
+use Rattle.asset_bundles.proofs.Lemmas.BundleLaws.{same_bundles, amount-bundle_of, total-bundle_of, held_assets-holding}
 use Rattle.asset_bundles.specs.Books.{Burn, burn_cmp, Book, Booked, burned_for}
-use Rattle.asset_bundles.specs.Laws.{burn_keys, booked_nothing}
+use Rattle.asset_bundles.proofs.Lemmas.{burn_keys, booked_nothing}
 use Rattle.weight_trader.specs.Purchases.{Line, coin_of, paying, some_amount, excess_at, excess, with_saturated, IsTooExpensive}
 use Rattle.weight_trader.specs.Prices.{price}
 use Rattle.exec_base.specs.Part.{ChainPart}

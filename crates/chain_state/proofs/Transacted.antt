@@ -6,17 +6,17 @@ use Rattle.std.specs.List.{list_all}
 use Rattle.std.specs.Ordering.{eq_by_cmp}
 use Rattle.std.proofs.lemmas.Bool.{and_from, and_parts}
 use Rattle.amounts.specs.Amounts.{amount}
-use Rattle.amounts.specs.Laws.{same_key}
+use Rattle.amounts.proofs.Lemmas.{same_key}
 use Rattle.locations.specs.declared.relative.Location.{Location}
-use Rattle.message_parts.specs.declared.error.XcmError.{XcmError}
-use Rattle.message_parts.specs.declared.error.XcmError.TheVariants as error
+use Rattle.operands.specs.declared.error.XcmError.{XcmError}
+use Rattle.operands.specs.declared.error.XcmError.TheVariants as error
 use Rattle.asset_lists.specs.declared.units.Asset.{Asset}
 use Rattle.asset_lists.specs.declared.units.Kind.{Kind}
 use Rattle.asset_lists.specs.Units.{unit_of}
 use Rattle.asset_lists.specs.Listed.{Listed, listed_cmp, lists, same_kind}
 use Rattle.asset_locks.specs.LockMaps.{LocksAndNotes}
 use Rattle.asset_bundles.specs.Bundles.{Bundle, bundle_of}
-use Rattle.asset_bundles.specs.Laws.{listed_keys}
+use Rattle.asset_bundles.proofs.Lemmas.{listed_keys}
 use Rattle.trust_tables.specs.declared.chains.Site.{Site}
 use Rattle.trust_tables.specs.declared.rows.AssetRow.{AssetRow}
 use Rattle.trust_tables.specs.Trust.{listing, listed_row}
@@ -24,24 +24,26 @@ use Rattle.trust_tables.specs.Accounts.{account_of}
 use Rattle.ledgers.specs.Ledgers.{Held, Accounts, Withdrawn, Deposited}
 use Rattle.transactors.specs.declared.faults.MoveFault.{MoveFault}
 use Rattle.transactors.specs.declared.faults.MoveFault.TheVariants.{Memory}
-use Rattle.transactors.specs.Floors.{UnitFloors, no_floors, locked_floors, higher_floors}
+use Rattle.transactors.specs.Floors.{UnitFloors, no_unit_floors, locked_floors, higher_floors}
 use Rattle.transactors.specs.Floors as floors
 use Rattle.transactors.specs.Checks.{rows_of_kind}
 use Rattle.transactors.specs.Moves as moves
 use Rattle.transactors.specs.Moves.{are_listed, withdraw_fault, deposit_fault, transfer_fault, Moves, MovesIn}
 use Rattle.exec_base.specs.declared.faults.HostFault.{HostFault}
 use Rattle.std.specs.declared.alloc.AllocError.{AllocError}
-use Rattle.exec_base.specs.Answers.{Answers, Gives}
+use Rattle.exec_base.specs.Answers.{AnswersOrRefuses, AnswersWithinMemory}
 use Rattle.exec_base.specs.Part.{ChainPart, accounts_of}
-use Rattle.exec_base.specs.Host.{IsPrice, first_fault, at_account, give_fault, given, withdraw_refusal, deposit_refusal}
+use Rattle.exec_base.specs.Host.{IsPrice, first_fault, at_account, debit_fault, given, withdraw_refusal, deposit_refusal}
 use Rattle.chain_state.specs.declared.state.ChainState.{ChainState}
 use Rattle.chain_state.specs.PartOf.{part_of}
-use Rattle.chain_state.specs.Facts.{KeepsFloors, keeps_floors}
+use Rattle.chain_state.specs.Facts.{KeepsLockFloors}
+use Rattle.chain_state.proofs.Lemmas.Facts.{keeps_floors}
 use Rattle.chain_state.specs.Known.{floors_there, pools_free}
 use Rattle.chain_state.specs.Transacting.{error_of, fault_of, handled_rows, kept_floors}
 use Rattle.chain_state.proofs.First.{both_none}
 use Rattle.chain_state.proofs.FeeBack.{fee_back, gives}
 use Rattle.chain_state.proofs.Floored.{after_either}
+use Rattle.plain_lists.proofs.Lemmas.Facts.{either_second as or_true}
 
 -- the ledger is the chain's accounts over its listing
 ledger_is : (f : ChainState) → f.ledger ≡ accounts_of (part_of f)
@@ -66,18 +68,18 @@ after_move_in P fault goods after before (Err (back, Memory)) now m was is = sub
 after_move_in P fault goods after before (Err (back, e)) now m was is = subst P (sym m.2) was
 
 -- the listing
-same_listing : (o : Option (List ℕ)) (change : List ℕ → Accounts) (l : Accounts) → ((who : List ℕ) → (change who).listed ≡ l.listed) → (moves.at_account o change l).listed ≡ l.listed
+same_listing : (o : Option (List ℕ)) (change : List ℕ → Accounts) (l : Accounts) → ((who : List ℕ) → (change who).listed ≡ l.listed) → (moves.ledger_at_account o change l).listed ≡ l.listed
 same_listing None change l same = refl
 same_listing (Some who) change l same = same who
 
-pub withdrawn_lists : (site : Site) (list : List Asset) (who : Location) (l : Accounts) → (moves.withdrawn site list who l).listed ≡ l.listed
+pub withdrawn_lists : (site : Site) (list : List Asset) (who : Location) (l : Accounts) → (moves.after_withdrawal site list who l).listed ≡ l.listed
 withdrawn_lists site list who l = same_listing (account_of who site) (λ account. Withdrawn account list l) l (λ account. refl)
 
-pub deposited_lists : (site : Site) (goods : Bundle) (who : Location) (l : Accounts) → (moves.deposited site goods who l).listed ≡ l.listed
+pub deposited_lists : (site : Site) (goods : Bundle) (who : Location) (l : Accounts) → (moves.after_deposit site goods who l).listed ≡ l.listed
 deposited_lists site goods who l = same_listing (account_of who site) (λ account. Deposited account goods l) l (λ account. refl)
 
-pub transferred_lists : (site : Site) (list : List Asset) (from to : Location) (l : Accounts) → (moves.transferred site list from to l).listed ≡ l.listed
-transferred_lists site list from to l = deposited_lists site (bundle_of list) to (moves.withdrawn site list from l) ∙ withdrawn_lists site list from l
+pub transferred_lists : (site : Site) (list : List Asset) (from to : Location) (l : Accounts) → (moves.after_transfer site list from to l).listed ≡ l.listed
+transferred_lists site list from to l = deposited_lists site (bundle_of list) to (moves.after_withdrawal site list from l) ∙ withdrawn_lists site list from l
 
 -- floors: those of the locks, as a transactor has them
 not_less : (n m : ℕ) → n ≤ m → max 0 n ≤ m
@@ -87,10 +89,6 @@ less : (n m : ℕ) → max 0 n ≤ m → n ≤ m
 less n m h = grind (arith, h)
 
 -- ---- each row that is handled is listed
-or_true : (b c : Bool) → c ≡ true → (b || c) ≡ true
-or_true true c h = refl
-or_true false c h = h
-
 listed_in : (all : List Listed) (rows : List AssetRow) → ((k : Listed) → lists (listing rows) k ≡ true → lists all k ≡ true) → list_all (λ (row : AssetRow). lists all (listed_row row)) rows ≡ true
 listed_in all [] sub = refl
 listed_in all (row ∷ rows) sub =
@@ -120,22 +118,22 @@ passed : (b : Bool) (e f : XcmError) → (if b then Some f else Some e) ≡ None
 passed true e f h = absurd (cc)
 passed false e f h = absurd (cc)
 
-nobody : (p : ChainPart) (fee : Asset) → give_fault p None fee ≡ None → ⊥
+nobody : (p : ChainPart) (fee : Asset) → debit_fault p None fee ≡ None → ⊥
 nobody p fee h = passed _ error.AssetNotFound error.FailedToTransactAsset h
 
 drawn_back : (p : ChainPart) (fee : Asset) (who : Location) (o : Option (List ℕ)) → account_of who p.site ≡ o → IsPrice fee
     → ((account : List ℕ) → account_of who p.site ≡ Some account → amount p.held (account, unit_of fee) < 2 ^ 128)
-    → give_fault p o fee ≡ None
+    → debit_fault p o fee ≡ None
     → deposit_refusal (record p { held = at_account o (λ account. (Withdrawn account (fee ∷ []) (accounts_of p)).held) p.held }) (bundle_of (fee ∷ [])) who ≡ None
 drawn_back p fee who (Some account) at price small free = (let has = gives p account fee free in fee_back p fee who account price at has.0 has.1 (small account at))
 drawn_back p fee who None at price small free = absurd (nobody p fee free)
 
 pub fee_returns : (p : ChainPart) (fee : Asset) (who : Location) (list : List Asset) (r : Result Bundle HostFault) (now : ChainPart) → list ≡ fee ∷ [] → IsPrice fee
     → ((account : List ℕ) → account_of who p.site ≡ Some account → amount p.held (account, unit_of fee) < 2 ^ 128)
-    → Answers (withdraw_refusal p list who) (bundle_of list) (given p list who) p r now → OnOk r (deposit_refusal now (bundle_of (fee ∷ [])) who ≡ None)
+    → AnswersOrRefuses (withdraw_refusal p list who) (bundle_of list) (given p list who) p r now → OnOk r (deposit_refusal now (bundle_of (fee ∷ [])) who ≡ None)
 unfolding withdraw_refusal
 fee_returns p fee who list (Ok out) now is price small m =
-    let free = (both_none _ _ (ap (λ xs. first_fault (give_fault p (account_of who p.site)) xs) (sym is) ∙ m.0)).0 in
+    let free = (both_none _ _ (ap (λ xs. first_fault (debit_fault p (account_of who p.site)) xs) (sym is) ∙ m.0)).0 in
     ap (λ (q : ChainPart). deposit_refusal q (bundle_of (fee ∷ [])) who) (m.2 ∙ ap (λ xs. given p xs who) is)
     ∙ drawn_back p fee who (account_of who p.site) refl price small free
 fee_returns p fee who list (Err e) now is price small m = tt
@@ -152,21 +150,21 @@ Move = record {
 abbrev pub withdrawal : List Asset → Location → Move
 withdrawal list who = record {
   fault = λ rows site floors l. withdraw_fault rows site floors l list who;
-  leaves = λ site l. moves.withdrawn site list who l;
+  leaves = λ site l. moves.after_withdrawal site list who l;
   lists = λ site l. withdrawn_lists site list who l;
 }
 
 abbrev pub deposit : Bundle → Location → Move
 deposit goods who = record {
   fault = λ rows site floors l. deposit_fault rows site l goods who;
-  leaves = λ site l. moves.deposited site goods who l;
+  leaves = λ site l. moves.after_deposit site goods who l;
   lists = λ site l. deposited_lists site goods who l;
 }
 
 abbrev pub transfer : List Asset → Location → Location → Move
 transfer list from to = record {
   fault = λ rows site floors l. transfer_fault rows site floors l list from to;
-  leaves = λ site l. moves.transferred site list from to l;
+  leaves = λ site l. moves.after_transfer site list from to l;
   lists = λ site l. transferred_lists site list from to l;
 }
 
@@ -185,13 +183,13 @@ module _ (f : ChainState) {one two : List AssetRow} {site other : Site} {kept : 
   handled = rows_of_kind Kind.Fungible one ++ rows_of_kind Kind.Class two
 
   abbrev floored : UnitFloors
-  floored = higher_floors no_floors (locked_floors kept)
+  floored = higher_floors no_unit_floors (locked_floors kept)
 
   pub rows_listed : are_listed f.ledger.listed handled ≡ true
   rows_listed = (λ i. are_listed (f.ledger_lists i) (rows_of_kind Kind.Fungible (are.first_rows i) ++ rows_of_kind Kind.Class (are.second_rows i))) ∙ handled_listed f.settings.rows
 
   -- where each account keeps the transactors' floors, it keeps the chain's
-  floors_stay : (after : Held) → (floors.KeepsFloors floored f.ledger.held → floors.KeepsFloors floored after) → KeepsFloors f.settings.pools f.locked after
+  floors_stay : (after : Held) → (floors.KeepsFloors floored f.ledger.held → floors.KeepsFloors floored after) → KeepsLockFloors f.settings.pools f.locked after
   floors_stay after keeps =
       let had : floors.KeepsFloors floored f.ledger.held =
       λ who unit. not_less (locked_floors kept who unit) (amount f.ledger.held (who, unit)) (subst (λ (l : LocksAndNotes). locked_floors l who unit ≤ amount f.ledger.held (who, unit)) (sym are.locks) (floors_there f who unit)) in
@@ -219,7 +217,7 @@ module _ (f : ChainState) {one two : List AssetRow} {site other : Site} {kept : 
     pub refuses : (refusal : Option XcmError) → IsTold refusal → refusal ≡ option_map error_of fault
     refuses refusal told =
         told
-        ∙ (λ i. option_map error_of (move.fault (rows_of_kind Kind.Fungible (sym are.first_rows i) ++ rows_of_kind Kind.Class (sym are.second_rows i)) (sym are.first_site i) (higher_floors no_floors (locked_floors (sym are.locks i))) (sym (ledger_is f) i)))
+        ∙ (λ i. option_map error_of (move.fault (rows_of_kind Kind.Fungible (sym are.first_rows i) ++ rows_of_kind Kind.Class (sym are.second_rows i)) (sym are.first_site i) (higher_floors no_unit_floors (locked_floors (sym are.locks i))) (sym (ledger_is f) i)))
 
     pub is_free : (refusal : Option XcmError) → IsTold refusal → refusal ≡ None → fault ≡ None
     is_free refusal told free = none_mapped fault (sym (refuses refusal told) ∙ free)
@@ -228,48 +226,48 @@ module _ (f : ChainState) {one two : List AssetRow} {site other : Site} {kept : 
     leaves : (left : ChainPart) → IsLeft left → record (part_of f) { held = after.held } ≡ left
     leaves left is = (λ i. record (part_of f) { held = (move.leaves (are.first_site i) (ledger_is f i)).held }) ∙ sym is
 
-    floors_left : KeepThem → fault ≡ None → KeepsFloors f.settings.pools f.locked after.held
+    floors_left : KeepThem → fault ≡ None → KeepsLockFloors f.settings.pools f.locked after.held
     floors_left law free = floors_stay after.held (law handled site floored free)
 
     listing_left : after.listed ≡ listing f.settings.rows
     listing_left = move.lists site f.ledger ∙ f.ledger_lists
 
     module _ {A : Type 0} (answer : A) (r : Result A MoveFault) (now : Accounts) (m : Moves fault answer after f.ledger r now) where
-      pub floors_moved : KeepThem → KeepsFloors f.settings.pools f.locked now.held
-      floors_moved law = after_move (λ (l : Accounts). KeepsFloors f.settings.pools f.locked l.held) fault answer after f.ledger r now m f.floors (floors_left law)
+      pub floors_moved : KeepThem → KeepsLockFloors f.settings.pools f.locked now.held
+      floors_moved law = after_move (λ (l : Accounts). KeepsLockFloors f.settings.pools f.locked l.held) fault answer after f.ledger r now m f.floors (floors_left law)
 
       pub listing_moved : now.listed ≡ listing f.settings.rows
       listing_moved = after_move (λ (l : Accounts). l.listed ≡ listing f.settings.rows) fault answer after f.ledger r now m f.ledger_lists (λ free. listing_left)
 
     module _ (goods : Bundle) (r : Result (Prim.Unit {0}) (Bundle × MoveFault)) (now : Accounts) (m : MovesIn fault goods after f.ledger r now) where
-      pub floors_moved_in : KeepThem → KeepsFloors f.settings.pools f.locked now.held
-      floors_moved_in law = after_move_in (λ (l : Accounts). KeepsFloors f.settings.pools f.locked l.held) fault goods after f.ledger r now m f.floors (floors_left law)
+      pub floors_moved_in : KeepThem → KeepsLockFloors f.settings.pools f.locked now.held
+      floors_moved_in law = after_move_in (λ (l : Accounts). KeepsLockFloors f.settings.pools f.locked l.held) fault goods after f.ledger r now m f.floors (floors_left law)
 
       pub listing_moved_in : now.listed ≡ listing f.settings.rows
       listing_moved_in = after_move_in (λ (l : Accounts). l.listed ≡ listing f.settings.rows) fault goods after f.ledger r now m f.ledger_lists (λ free. listing_left)
 
     -- where only memory could refuse it
     module _ {A E : Type 0} (r : Result A E) (now : Accounts) (made : OnOk r (now ≡ after)) (same : OnErr r (now ≡ f.ledger)) where
-      pub floors_checked : KeepThem → fault ≡ None → KeepsFloors f.settings.pools f.locked now.held
-      floors_checked law free = after_either (λ (l : Accounts). KeepsFloors f.settings.pools f.locked l.held) f.ledger after now r made same f.floors (floors_left law free)
+      pub floors_checked : KeepThem → fault ≡ None → KeepsLockFloors f.settings.pools f.locked now.held
+      floors_checked law free = after_either (λ (l : Accounts). KeepsLockFloors f.settings.pools f.locked l.held) f.ledger after now r made same f.floors (floors_left law free)
 
       pub listing_checked : now.listed ≡ listing f.settings.rows
       listing_checked = after_either (λ (l : Accounts). l.listed ≡ listing f.settings.rows) f.ledger after now r made same f.ledger_lists listing_left
 
     -- what the host answers
     module _ (refusal : Option XcmError) (told : IsTold refusal) (left : ChainPart) (is : IsLeft left) {A : Type 0} (answer : A) (now : Accounts) where
-      pub accepted : (out : A) → Moves fault answer after f.ledger (Ok out) now → Answers refusal answer left (part_of f) (Ok out) (record (part_of f) { held = now.held })
+      pub accepted : (out : A) → Moves fault answer after f.ledger (Ok out) now → AnswersOrRefuses refusal answer left (part_of f) (Ok out) (record (part_of f) { held = now.held })
       accepted out m = (refuses refusal told ∙ ap (option_map error_of) m.0, m.1, ap (λ (l : Accounts). record (part_of f) { held = l.held }) m.2 ∙ leaves left is)
 
-      pub refused : (e : MoveFault) (h : HostFault) → h ≡ fault_of e → Moves fault answer after f.ledger (Err e) now → Answers refusal answer left (part_of f) (Err h) (record (part_of f) { held = now.held })
+      pub refused : (e : MoveFault) (h : HostFault) → h ≡ fault_of e → Moves fault answer after f.ledger (Err e) now → AnswersOrRefuses refusal answer left (part_of f) (Err h) (record (part_of f) { held = now.held })
       refused Memory h same m =
-          subst (λ (x : HostFault). Answers refusal answer left (part_of f) (Err x) (record (part_of f) { held = now.held })) (sym same)
+          subst (λ (x : HostFault). AnswersOrRefuses refusal answer left (part_of f) (Err x) (record (part_of f) { held = now.held })) (sym same)
           (ap (λ (l : Accounts). record (part_of f) { held = l.held }) m)
       refused e h same m =
-          subst (λ (x : HostFault). Answers refusal answer left (part_of f) (Err x) (record (part_of f) { held = now.held })) (sym same)
+          subst (λ (x : HostFault). AnswersOrRefuses refusal answer left (part_of f) (Err x) (record (part_of f) { held = now.held })) (sym same)
           (refuses refusal told ∙ ap (option_map error_of) m.0, ap (λ (l : Accounts). record (part_of f) { held = l.held }) m.1)
 
     pub checked_gives : (left : ChainPart) → IsLeft left → (r : Result (Prim.Unit {0}) AllocError) (now : Accounts) → OnOk r (now ≡ after) → OnErr r (now ≡ f.ledger)
-        → Gives tt left (part_of f) r (record (part_of f) { held = now.held })
+        → AnswersWithinMemory tt left (part_of f) r (record (part_of f) { held = now.held })
     checked_gives left is (Ok done) now made same = (refl, ap (λ (l : Accounts). record (part_of f) { held = l.held }) made ∙ leaves left is)
     checked_gives left is (Err e) now made same = ap (λ (l : Accounts). record (part_of f) { held = l.held }) same

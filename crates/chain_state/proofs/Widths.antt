@@ -4,11 +4,12 @@ use Rattle.std.specs.Ordering.{eq_by_cmp}
 use Rattle.std.proofs.lemmas.Nat.{div-mul-add, mod-mul-add}
 use Rattle.std.proofs.lemmas.List.{drop_all}
 use Rattle.amounts.specs.Rows.{amount_if, rows_at}
-use Rattle.amounts.specs.Amounts.{single, merge, from_rows, plus_all, empty, same_amounts}
-use Rattle.amounts.specs.Laws.{amount-single, amount-merge, amount-from_rows, single-zero}
+use Rattle.amounts.specs.Amounts.{single, merge, from_rows, plus_all, empty}
+use Rattle.amounts.proofs.Lemmas.AmountLaws.{same_amounts}
+use Rattle.amounts.proofs.Lemmas.{amount-single, amount-merge, amount-from_rows, single-zero}
 use Rattle.asset_lists.specs.Units.{Unit}
 use Rattle.asset_bundles.specs.Books.{Burn, burn_cmp, Burns, Book, Booked}
-use Rattle.asset_bundles.specs.Laws.{burn_keys, booked_again, booked_nothing, listed-Booked}
+use Rattle.asset_bundles.proofs.Lemmas.{burn_keys, booked_again, booked_nothing, listed-Booked}
 use Rattle.exec_base.specs.Host.{total_of}
 
 -- the total that a line tells

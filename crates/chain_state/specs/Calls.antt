@@ -1,7 +1,7 @@
 -- What no call of the chain changes, and what an account lacks for it. This project's own.
 use Rattle.std.specs.Prelude.{ℕ, nat_le, if◌then◌else◌, List, Option, Some, None, slice_get}
 use Rattle.call_dispatch.specs.Shifts.{spare}
-use Rattle.row_accounts.specs.RowAccounts.{is_fungible_row, row_amounts, held_aside}
+use Rattle.row_ledger.specs.RowAccounts.{is_fungible_row, row_amounts, held_aside}
 use Rattle.exec_base.specs.Part.{ChainPart}
 use Rattle.exec_base.specs.Calls.{floors_of}
 

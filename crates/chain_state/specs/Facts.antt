@@ -1,4 +1,5 @@
 -- What always holds of a chain: of its settings, of what is locked there, and of its channels' fees. Each is one fact of a few parts. This project's own rules; that a location has at most 8 junctions is the XCM format's.
+-- ---- the settings
 use Rattle.std.specs.Prelude.{ℕ, ◌≡◌, ◌≤◌, true, List, length}
 use Rattle.std.specs.Coded.{Coded-set, coded_bool, coded_ℕ, Π_prop, le_prop}
 use Rattle.locations.specs.declared.grammar.Junction.{Junction}
@@ -10,15 +11,13 @@ use Rattle.asset_lists.specs.Units.{Unit}
 use Rattle.asset_locks.specs.LockMaps.{LocksAndNotes, LockKey, lock_at}
 use Rattle.ledgers.specs.Ledgers.{Held}
 use Rattle.trust_tables.specs.declared.rows.AssetRow.{AssetRow}
-use Rattle.message_parts.specs.declared.pallet.PalletInfo.{PalletInfo}
+use Rattle.operands.specs.declared.pallet.PalletInfo.{PalletInfo}
 use Rattle.channel_parts.specs.Channels.{Outgoing}
-use Rattle.chain_pools.specs.declared.pool.Pool.{Pool}
-use Rattle.chain_pools.specs.Exchanges.{is_pool_account}
-use Rattle.account_floors.specs.Floors.{HasFloors, NoPoolLocks}
-use Rattle.network_genesis.specs.Tests.{have_paths, have_prices}
+use Rattle.asset_pools.specs.declared.pool.Pool.{Pool}
+use Rattle.asset_pools.specs.Exchanges.{is_pool_account}
+use Rattle.law_hosts.specs.Floors.{HasFloors, NoPoolLocks}
+use Rattle.network_steps.specs.Tests.{have_paths, have_prices}
 use Rattle.chain_state.specs.ListedFees.{are_fees_listed}
-
--- ---- the settings
 
 -- no two rows list one asset, the id of each has a path of at most 8 junctions, and there are at most 64 pallets and 16 pools
 unfoldable pub IsSetUp : List Junction → List AssetRow → List PalletInfo → List Pool → Type 0
@@ -35,29 +34,18 @@ IsSetUp-prop context rows pallets pools a b = λ i. (
   le_prop a.3 b.3 i,
 )
 
-pub is_set_up : (context : List Junction) (rows : List AssetRow) (pallets : List PalletInfo) (pools : List Pool)
-    → IsDistinct (eq_by_cmp listed_cmp) (listing rows) → have_paths context rows ≡ true → length pallets ≤ 64 → length pools ≤ 16
-    → IsSetUp context rows pallets pools
-unfolding IsSetUp
-is_set_up context rows pallets pools apart paths few_pallets few_pools = (apart, paths, few_pallets, few_pools)
-
 -- ---- what is locked
 
 -- each account has what is locked on it, and nothing is locked on an account of a pool
-unfoldable pub KeepsFloors : List Pool → LocksAndNotes → Held → Type 0
-KeepsFloors pools locked held = (HasFloors locked held) × (NoPoolLocks pools locked)
+unfoldable pub KeepsLockFloors : List Pool → LocksAndNotes → Held → Type 0
+KeepsLockFloors pools locked held = (HasFloors locked held) × (NoPoolLocks pools locked)
 
-pub KeepsFloors-prop : (pools : List Pool) (locked : LocksAndNotes) (held : Held) → IsProp (KeepsFloors pools locked held)
-unfolding KeepsFloors
-KeepsFloors-prop pools locked held a b = λ i. (
+pub KeepsLockFloors-prop : (pools : List Pool) (locked : LocksAndNotes) (held : Held) → IsProp (KeepsLockFloors pools locked held)
+unfolding KeepsLockFloors
+KeepsLockFloors-prop pools locked held a b = λ i. (
   Π_prop (λ (who : List ℕ). Π_prop (λ (unit : Unit). le_prop)) a.0 b.0 i,
   Π_prop (λ (key : LockKey). Π_prop (λ (pool : is_pool_account pools key.0 ≡ true). Coded-set coded_ℕ (lock_at key locked) 0)) a.1 b.1 i,
 )
-
-pub keeps_floors : (pools : List Pool) (locked : LocksAndNotes) (held : Held)
-    → HasFloors locked held → NoPoolLocks pools locked → KeepsFloors pools locked held
-unfolding KeepsFloors
-keeps_floors pools locked held floors free = (floors, free)
 
 -- ---- fees of channels
 
@@ -71,8 +59,3 @@ ArePayable-prop listed channels a b = λ i. (
   Coded-set coded_bool (have_prices channels) true a.0 b.0 i,
   Coded-set coded_bool (are_fees_listed listed channels) true a.1 b.1 i,
 )
-
-pub are_payable : (listed : List Listed) (channels : List Outgoing)
-    → have_prices channels ≡ true → are_fees_listed listed channels ≡ true → ArePayable listed channels
-unfolding ArePayable
-are_payable listed channels prices fees = (prices, fees)

@@ -11,3 +11,5 @@ pub mod Aside
 pub mod Calls
 pub mod Locks
 pub mod Transacting
+pub mod Checked
+pub mod Fees

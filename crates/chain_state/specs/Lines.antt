@@ -3,7 +3,7 @@ use Rattle.std.specs.Prelude.{ℕ, zero, suc, List, [], ◌∷◌, Option, None,
 use Rattle.asset_lists.specs.Units.{Unit}
 use Rattle.asset_bundles.specs.declared.book.Cause.{Cause}
 use Rattle.asset_bundles.specs.Books.{excess_cause}
-use Rattle.trap_store.specs.Traps.{number_after}
+use Rattle.asset_bundles.specs.Traps.{number_after}
 use Rattle.locations.specs.declared.relative.Location.{Location}
 use Rattle.asset_lists.specs.declared.units.AssetId.TheVariants.{Concrete}
 use Rattle.asset_lists.specs.declared.units.Fun.{Fun}
@@ -16,9 +16,9 @@ cause_by None unit = excess_cause unit.1
 cause_by (Some cause) unit = cause
 
 -- the lines of so many traps, from a number on
-abbrev pub numbered : ℕ → ℕ → List Event
-numbered zero number = []
-numbered (suc count) number = Event.Trapped number ∷ numbered count (number_after number)
+abbrev pub trap_events_from : ℕ → ℕ → List Event
+trap_events_from zero number = []
+trap_events_from (suc count) number = Event.Trapped number ∷ trap_events_from count (number_after number)
 
 -- the line of what a purchase books as saturated
 abbrev pub excess_lines : ChainPart → Option (Location × ℕ) → List Event

@@ -3,8 +3,8 @@ use Rattle.std.specs.Prelude.{◌≡◌, ℕ, true, false, List, Option, Some, n
 use Rattle.std.specs.Option.{option_map_or}
 use Rattle.locations.specs.declared.relative.Location.{Location}
 use Rattle.chain_ids.specs.declared.chain.ChainId.{ChainId}
-use Rattle.message_parts.specs.declared.error.XcmError.{XcmError}
-use Rattle.message_parts.specs.declared.error.XcmError.TheVariants as error
+use Rattle.operands.specs.declared.error.XcmError.{XcmError}
+use Rattle.operands.specs.declared.error.XcmError.TheVariants as error
 use Rattle.asset_lists.specs.declared.units.Asset.{Asset}
 use Rattle.asset_lists.specs.Units.{amount_of}
 use Rattle.asset_locks.specs.LockMaps.{LockKey, NoteKey, noted}
@@ -12,7 +12,7 @@ use Rattle.xcm_program.specs.declared.instruction.Instruction.{Instruction}
 use Rattle.exec_base.specs.Part.{ChainPart}
 use Rattle.exec_base.specs.Sending.{unless}
 use Rattle.exec_base.specs.Host.{where_locks, lock_key, is_lockable, request_key}
-use Rattle.chain_state.specs.Sends.{IsTaken}
+use Rattle.chain_state.specs.Sends.{IsAcceptedByChannel}
 
 -- the asset may be locked under the key; or it may not, whatever comes behind
 pub record MayLock (p : ChainPart) (a : Asset) (owner unlocker : Location) (key : LockKey) : Type 0 where
@@ -38,4 +38,4 @@ MayNotRequest p a owner locker =
 pub record IsTold (p : ChainPart) (dest : Location) (o : Option (List Instruction)) (to : ChainId) (bytes : List ℕ) : Type 0 where
   pub program : List Instruction
   pub is : o ≡ Some program
-  pub taken : IsTaken p dest program to bytes
+  pub taken : IsAcceptedByChannel p dest program to bytes

@@ -1,5 +1,5 @@
 -- The chain's part of the world, from what it keeps. This project's own.
-use Rattle.fee_rows.specs.Fees.{kept_goods}
+use Rattle.chain_state.specs.Fees.{kept_goods}
 use Rattle.exec_base.specs.Part.{ChainPart}
 use Rattle.chain_queues.specs.Queues.{channels_of}
 use Rattle.chain_state.specs.declared.state.ChainState.{ChainState}
@@ -20,5 +20,5 @@ part_of s = record {
   channels = channels_of s.queues;
   cargo = record { sender = s.sender; cargo = s.cargo };
   events = s.events.items;
-  kept_back = s.kept_back.items;
+  pending_events = s.pending_events.items;
 }

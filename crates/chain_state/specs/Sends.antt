@@ -2,7 +2,7 @@
 use Rattle.std.specs.Prelude.{◌≡◌, ℕ, true, List, length, Option, Some, None, Ok, ⊤}
 use Rattle.locations.specs.declared.relative.Location.{Location}
 use Rattle.chain_ids.specs.declared.chain.ChainId.{ChainId}
-use Rattle.message_parts.specs.declared.error.XcmError.{XcmError}
+use Rattle.operands.specs.declared.error.XcmError.{XcmError}
 use Rattle.asset_lists.specs.declared.units.Asset.{Asset}
 use Rattle.asset_bundles.specs.declared.shipment.Way.{Way}
 use Rattle.xcm_program.specs.declared.instruction.Instruction.{Instruction}
@@ -14,8 +14,8 @@ use Rattle.chain_queues.specs.Queues.{push_refusal}
 use Rattle.exec_base.specs.declared.faults.HostFault.{HostFault}
 use Rattle.exec_base.specs.declared.faults.HostFault.TheVariants.{Xcm, Memory}
 use Rattle.exec_base.specs.Part.{ChainPart}
-use Rattle.exec_base.specs.Sending.{channel_to, channel_refusal, led_by}
-use Rattle.chain_state.specs.declared.arrivals.ArrivalCall.{ArrivalCall}
+use Rattle.exec_base.specs.Sending.{channel_to_location, channel_refusal, led_by}
+use Rattle.chain_state.specs.declared.send.arrivals.ArrivalKind.{ArrivalKind}
 
 -- the bytes mean the program and are of the channel's version, the rule doesn't refuse it, and the channel takes them
 pub record IsAccepted (channel : Outgoing) (program : List Instruction) (to : ChainId) (bytes : List ℕ) : Type 0 where
@@ -26,9 +26,9 @@ pub record IsAccepted (channel : Outgoing) (program : List Instruction) (to : Ch
   pub free : push_refusal (length bytes) (Some channel) ≡ None
 
 -- the channel that leads there accepts them
-pub record IsTaken (p : ChainPart) (dest : Location) (program : List Instruction) (to : ChainId) (bytes : List ℕ) : Type 0 where
+pub record IsAcceptedByChannel (p : ChainPart) (dest : Location) (program : List Instruction) (to : ChainId) (bytes : List ℕ) : Type 0 where
   pub channel : Outgoing
-  pub found : channel_to p dest ≡ Some channel
+  pub found : channel_to_location p dest ≡ Some channel
   pub accepted : IsAccepted channel program to bytes
 
 -- the rule refuses with the error; memory may be refused always
@@ -39,14 +39,14 @@ IsSendFault refusal Memory = ⊤
 -- ---- the program around assets
 
 -- the instruction by which they arrive
-abbrev pub first_by : ArrivalCall → List Asset → Instruction-F Instruction
-first_by ArrivalCall.Withdrawal list = Instruction-F.WithdrawAsset list
-first_by ArrivalCall.Deposit list = Instruction-F.ReserveAssetDeposited list
-first_by ArrivalCall.Teleport list = Instruction-F.ReceiveTeleportedAsset list
+abbrev pub first_by : ArrivalKind → List Asset → Instruction-F Instruction
+first_by ArrivalKind.Withdrawal list = Instruction-F.WithdrawAsset list
+first_by ArrivalKind.Deposit list = Instruction-F.ReserveAssetDeposited list
+first_by ArrivalKind.Teleport list = Instruction-F.ReceiveTeleportedAsset list
 
-abbrev pub program_by : ArrivalCall → List Instruction → List Asset → List Instruction
+abbrev pub program_by : ArrivalKind → List Instruction → List Asset → List Instruction
 program_by call xcm list = led_by (first_by call list) xcm
 
-abbrev pub call_by : Way → ArrivalCall
-call_by Way.Withdrawal = ArrivalCall.Withdrawal
-call_by Way.Teleport = ArrivalCall.Teleport
+abbrev pub call_by : Way → ArrivalKind
+call_by Way.Withdrawal = ArrivalKind.Withdrawal
+call_by Way.Teleport = ArrivalKind.Teleport

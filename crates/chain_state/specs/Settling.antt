@@ -7,7 +7,7 @@ use Rattle.asset_lists.specs.declared.units.Asset.{Asset}
 use Rattle.asset_lists.specs.Units.{Unit}
 use Rattle.asset_lists.specs.Listed.{Listed, listed_of, lists}
 use Rattle.asset_bundles.specs.Bundles.{fun_of}
-use Rattle.chain_state.specs.declared.wide.Wide.{Wide}
+use Rattle.chain_state.specs.declared.fees.wide.Wide.{Wide}
 
 abbrev pub wide_value : Wide → ℕ
 wide_value w = w.high * 2 ^ 128 + w.low
@@ -17,8 +17,8 @@ abbrev pub are_units_listed : List Listed → List (Unit × ℕ) → Bool
 are_units_listed listed units = list_all (λ (r : Unit × ℕ). lists listed (listed_of r.0)) units
 
 -- so much of a unit, as an asset
-abbrev pub asset_at : Unit × ℕ → Asset
-asset_at r = record { id = r.0.0; fun = fun_of r.0.1 r.1 }
+abbrev pub asset_of_amount : Unit × ℕ → Asset
+asset_of_amount r = record { id = r.0.0; fun = fun_of r.0.1 r.1 }
 
 -- so much of a fungible asset, if it isn't 0
 abbrev pub some_coins : AssetId → ℕ → List Asset

@@ -6,12 +6,12 @@
 --     kept_floors      what each account must keep of each unit
 use Rattle.std.specs.Prelude.{List, ◌++◌}
 use Rattle.asset_lists.specs.declared.units.Kind.{Kind}
-use Rattle.message_parts.specs.declared.error.XcmError.{XcmError}
-use Rattle.message_parts.specs.declared.error.XcmError.TheVariants as error
+use Rattle.operands.specs.declared.error.XcmError.{XcmError}
+use Rattle.operands.specs.declared.error.XcmError.TheVariants as error
 use Rattle.trust_tables.specs.declared.rows.AssetRow.{AssetRow}
 use Rattle.transactors.specs.declared.faults.MoveFault.{MoveFault}
 use Rattle.transactors.specs.declared.faults.MoveFault.TheVariants.{NotHandled, NoAccount, Refused, Memory}
-use Rattle.transactors.specs.Floors.{UnitFloors, no_floors, locked_floors, higher_floors}
+use Rattle.transactors.specs.Floors.{UnitFloors, no_unit_floors, locked_floors, higher_floors}
 use Rattle.transactors.specs.Checks.{rows_of_kind}
 use Rattle.exec_base.specs.declared.faults.HostFault.{HostFault}
 use Rattle.exec_base.specs.declared.faults.HostFault.TheVariants as host
@@ -32,4 +32,4 @@ abbrev pub handled_rows : ChainPart → List AssetRow
 handled_rows p = rows_of_kind Kind.Fungible p.rows ++ rows_of_kind Kind.Class p.rows
 
 abbrev pub kept_floors : ChainPart → UnitFloors
-kept_floors p = higher_floors no_floors (locked_floors p.locked)
+kept_floors p = higher_floors no_unit_floors (locked_floors p.locked)

@@ -5,7 +5,7 @@ use asset_lists::{Asset, Assets};
 use call_dispatch::{Call, CallEnd};
 use exec_base::{Event, Host, HostFault};
 use locations::Location;
-use message_parts::{OpenQuery, PalletInfo, QueryInfo, Response, Weight};
+use operands::{OpenQuery, PalletInfo, QueryInfo, Response, Weight};
 use std::alloc::AllocError;
 use trust_tables::Site;
 use xcm_program::Program;
@@ -36,11 +36,11 @@ impl Host for ChainState {
         goods: AssetBundle,
         who: &Location,
     ) -> Result<(), (AssetBundle, HostFault)> {
-        self.put_in(goods, who)
+        self.deposit_goods(goods, who)
     }
 
     fn transfer(&mut self, a: &Assets, from: &Location, to: &Location) -> Result<(), HostFault> {
-        self.move_over(a, from, to)
+        self.transfer_list(a, from, to)
     }
 
     fn receive(
@@ -155,7 +155,7 @@ impl Host for ChainState {
     }
 
     fn draw_fee(&mut self, fee: &Asset, who: &Location) -> Result<AssetBundle, HostFault> {
-        self.take_fee_out(fee, who)
+        self.withdraw_fee(fee, who)
     }
 
     fn calls(&self) -> bool {

@@ -10,7 +10,7 @@ ghost use Rattle.exec_base.specs.Part.{ChainPart, accounts_of};
 ghost use Rattle.exec_base.specs.Host.{withdraw_refusal, deposit_refusal, transfer_refusal, given, deposited, transferred};
 ghost use Rattle.chain_state.specs.Transacting.{error_of, handled_rows, kept_floors};
 
-use transactors::law_of_kinds;
+use transactors::law_of_kinds_covering_rows;
 
 /// A host refuses a move just where its chain's transactors do, and an accepted move leaves what they leave. The
 /// transactors handle the chain's rows, and leave each account what is locked on it.
@@ -28,13 +28,13 @@ pub fn law_of_transactors()
         (transfer_fault (handled_rows p) p.site (kept_floors p) (accounts_of p) list from to) }
     ensures withdrawn { (p : ChainPart) (list : List Asset) (who : Location)
         → given p list who
-        ≡ record p { held = (moves.withdrawn p.site list who (accounts_of p)).held } }
+        ≡ record p { held = (moves.after_withdrawal p.site list who (accounts_of p)).held } }
     ensures deposited { (p : ChainPart) (goods : Bundle) (who : Location)
         → deposited p goods who
-        ≡ record p { held = (moves.deposited p.site goods who (accounts_of p)).held } }
+        ≡ record p { held = (moves.after_deposit p.site goods who (accounts_of p)).held } }
     ensures transferred { (p : ChainPart) (list : List Asset) (from to : Location)
         → transferred p list from to
-        ≡ record p { held = (moves.transferred p.site list from to (accounts_of p)).held } }
+        ≡ record p { held = (moves.after_transfer p.site list from to (accounts_of p)).held } }
 {
-    law_of_kinds();
+    law_of_kinds_covering_rows();
 }

@@ -1,18 +1,18 @@
 //! What the chain keeps, read.
 ghost use Rattle.std.specs.Prelude.{◌≡◌, ◌≤◌, length};
 ghost use Rattle.exec_base.specs.Part.{accounts_of, book_of};
-ghost use Rattle.chain_pools.specs.Exchanges.{is_pool_account};
+ghost use Rattle.asset_pools.specs.Exchanges.{is_pool_account};
 ghost use Rattle.chain_queues.specs.Queues.{channels_of};
 ghost use Rattle.chain_state.specs.PartOf.{part_of};
 
 use crate::ChainState;
 use asset_bundles::{BurnBook, Units};
 use asset_locks::LockBook;
-use chain_pools::is_pool_account;
+use asset_pools::is_pool_account;
 use chain_queues::Queues;
 use exec_base::Event;
 use ledgers::{Ledger, TrapStore};
-use message_parts::{OpenQuery, PalletInfo};
+use operands::{OpenQuery, PalletInfo};
 use trust_tables::{AssetRow, Site};
 
 impl ChainState {

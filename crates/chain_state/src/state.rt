@@ -2,24 +2,24 @@
 ghost use Rattle.std.specs.Prelude.{◌≡◌, ◌≤◌, vec_capacity, IsTrue};
 ghost use Rattle.trust_tables.specs.Chains.{path_of_site};
 ghost use Rattle.trust_tables.specs.Trust.{listing};
-ghost use Rattle.network_genesis.specs.Tests.{are_rates_listed};
+ghost use Rattle.network_steps.specs.Tests.{are_rates_listed};
 ghost use Rattle.chain_queues.specs.Queues.{channels_of};
 ghost use Rattle.weight_trader.specs.Refunds.{Closed};
-ghost use Rattle.fee_rows.specs.Fees.{HaveRows, HaveRowsFor};
-ghost use Rattle.chain_lists.specs.Checked.{are_checked};
-ghost use Rattle.chain_state.specs.Facts.{IsSetUp, KeepsFloors, ArePayable};
+ghost use Rattle.chain_state.specs.Fees.{HaveRows, HaveRowsFor};
+ghost use Rattle.chain_state.specs.Checked.{are_checked};
+ghost use Rattle.chain_state.specs.Facts.{IsSetUp, KeepsLockFloors, ArePayable};
 ghost use Rattle.chain_state.specs.Facts.{IsSetUp-prop};
-ghost use Rattle.chain_state.specs.Facts.{KeepsFloors-prop};
+ghost use Rattle.chain_state.specs.Facts.{KeepsLockFloors-prop};
 ghost use Rattle.chain_state.specs.Facts.{ArePayable-prop};
 
+use crate::fees::rows::FeeRows;
 use asset_bundles::{BurnBook, Units};
 use asset_locks::LockBook;
 use chain_ids::ChainId;
 use chain_queues::{Cargo, Queues};
 use exec_base::{Event, Settings};
-use fee_rows::FeeRows;
 use ledgers::{Ledger, TrapStore};
-use message_parts::OpenQuery;
+use operands::OpenQuery;
 use weight_trader::Trader;
 
 /// A chain of the network: what its document says, what stands at it, what it sends, and what is told. No two rows list one asset, the
@@ -47,15 +47,18 @@ pub struct ChainState {
     pub(crate) sender: ChainId,
     pub(crate) cargo: Cargo,
     pub(crate) events: Vec<Event>,
-    pub(crate) kept_back: Vec<Event>,
+    pub(crate) pending_events: Vec<Event>,
     ghost set_up: { IsSetUp (path_of_site settings.site) settings.rows settings.pallets
         settings.pools } by { IsSetUp-prop (path_of_site settings.site) settings.rows
             settings.pallets settings.pools },
-    ghost floors: { KeepsFloors settings.pools locked ledger.held } by { KeepsFloors-prop settings.pools locked ledger.held },
+    ghost floors: { KeepsLockFloors settings.pools locked
+        ledger.held } by { KeepsLockFloors-prop settings.pools locked ledger.held },
     ghost ledger_lists: { ledger.listed ≡ listing settings.rows },
     ghost book_lists: { book.listed ≡ listing settings.rows },
     ghost rates: { IsTrue (are_rates_listed (listing settings.rows) trader) },
-    ghost payable: { ArePayable (listing settings.rows) (channels_of queues) } by { ArePayable-prop (listing settings.rows) (channels_of queues) },
+    ghost payable: { ArePayable (listing settings.rows)
+        (channels_of queues) } by { ArePayable-prop (listing settings.rows)
+            (channels_of queues) },
     ghost fee_rows: { HaveRows (listing settings.rows) fees },
     ghost slot_rows: { HaveRowsFor fees fee_slot },
     ghost spare_lines: { Closed spare ≡ Closed trader },

@@ -15,13 +15,14 @@ use Rattle.locations.specs.declared.grammar.NetworkId.TheVariants.{ByGenesis, By
 use Rattle.locations.specs.declared.grammar.Junction.{Junction}
 use Rattle.locations.specs.declared.grammar.Junction.TheVariants.{Parachain, AccountId32, AccountIndex64, AccountKey20, PalletInstance, GeneralIndex, GeneralKey, OnlyChild, Plurality, GlobalConsensus}
 use Rattle.locations.specs.declared.relative.Location.{Location}
-use Rattle.locations.specs.OrderLaws.{junction_decides}
+use Rattle.locations.proofs.Lemmas.OrderLaws.{junction_decides}
 use Rattle.location_wire.specs.Spelling.{junction, FitsJunction}
 use Rattle.location_wire.specs.Reading.{junction_at}
-use Rattle.location_wire.specs.Laws.FieldLaws.{junction_reads}
+use Rattle.location_wire.proofs.Lemmas.FieldLaws.{junction_reads}
 use Rattle.location_wire.specs.Texts.{hex_text, junction_text, location_text, IsJunction, IsTextOf}
-use Rattle.document_entries.specs.LocationTexts.{inside, number_inside, bytes_or_none, hex_bytes, spelled_one, candidates, is_again, is_junction, junction_of, before, junctions_of, placed, location_of_parts, is_text_of, where_text, location_of}
+use Rattle.document_entries.specs.LocationTexts.{inside, number_inside, bytes_or_none, hex_bytes, spelled_one, candidates, is_again, is_junction, junction_of, before, junctions_of, location_with_parents, location_of_parts, is_text_of, where_text, parsed_location}
 use Rattle.document_entries.proofs.Slashes.{decode_spelled, location_parts}
+use Rattle.plain_lists.proofs.Lemmas.Facts.{bytes_themselves as same_bytes}
 
 -- ---- the first of a list that passes
 
@@ -77,9 +78,6 @@ pub junction_fits : (j : Junction) → is_junction j ≡ true → IsJunction j
 junction_fits j t =
     let p = and_parts (is_again j (junction_at (junction j))) (list_all (λ b. nat_lt b 256) (junction j)) t in
     (again_fits j (junction_at (junction j)) refl p.0, are_below (junction j) p.1)
-
-same_bytes : (xs : List ℕ) → bytes_eq xs xs ≡ true
-same_bytes xs = (bytes_eq-Decides xs xs).1 refl
 
 abbrev pub passes : List ℕ → Junction → Bool
 passes part j = is_junction j && bytes_eq (junction_text j) part
@@ -197,14 +195,14 @@ text_passes text l h =
     few n l = grind (arith, nat_tests)
 
 -- the location of a text is found
-pub location_found : OneLocation → (text : List ℕ) (l : Location) → IsTextOf l text → location_of text ≡ Some l
-unfolding location_of
+pub location_found : OneLocation → (text : List ℕ) (l : Location) → IsTextOf l text → parsed_location text ≡ Some l
+unfolding parsed_location
 location_found one text l h =
     let parts : slice_split (λ b. eqb b 47) text ≡ decimal l.parents ∷ map junction_text l.interior = ap (slice_split (λ b. eqb b 47)) h.1 ∙ location_parts l h.0 in
     let parents : digits_value 10 (decimal l.parents) ≡ l.parents = (decimal_is_IsNumeral_wide l.parents (omega (arith, h.0.0))).1 in
     rw (parts, junctions_are one l.interior h.0.2, parents, text_passes text l h) refl
 
-placed_fits : (parents : ℕ) (r : Option (List Junction)) (l : Location) → ((js : List Junction) → r ≡ Some js → AllByRecursion IsJunction js) → placed parents r ≡ Some l → AllByRecursion IsJunction l.interior
+placed_fits : (parents : ℕ) (r : Option (List Junction)) (l : Location) → ((js : List Junction) → r ≡ Some js → AllByRecursion IsJunction js) → location_with_parents parents r ≡ Some l → AllByRecursion IsJunction l.interior
 placed_fits parents None l f e = none_some l e
 placed_fits parents (Some js) l f e = let same : js ≡ l.interior = cc e in subst (λ (xs : List Junction). AllByRecursion IsJunction xs) same (f js refl)
 
@@ -221,8 +219,8 @@ where_fits text (Some m) l e =
     ] refl e
 
 -- and what is found is the location of the text
-pub location_is : (text : List ℕ) (l : Location) → location_of text ≡ Some l → IsTextOf l text
-unfolding location_of
+pub location_is : (text : List ℕ) (l : Location) → parsed_location text ≡ Some l → IsTextOf l text
+unfolding parsed_location
 location_is text l e =
     let found = where_fits text (location_of_parts (slice_split (λ b. eqb b 47) text)) l e in
     let p = and_parts (nat_lt l.parents 256) (nat_le (length l.interior) 8 && bytes_eq (location_text l) text) found.1 in
@@ -233,9 +231,9 @@ location_is text l e =
     few n t = grind (arith, nat_tests)
 
 -- a text of no location gives none
-pub location_none : (text : List ℕ) → ((l : Location) → IsTextOf l text → ⊥) → location_of text ≡ None
-location_none text none = by (location_of text) refl
+pub location_none : (text : List ℕ) → ((l : Location) → IsTextOf l text → ⊥) → parsed_location text ≡ None
+location_none text none = by (parsed_location text) refl
   where
-    by : (o : Option Location) → location_of text ≡ o → o ≡ None
+    by : (o : Option Location) → parsed_location text ≡ o → o ≡ None
     by None e = refl
     by (Some l) e = absurd (none l (location_is text l e))

@@ -16,7 +16,8 @@ use Rattle.locations.specs.declared.grammar.Junction.{Junction}
 use Rattle.locations.specs.declared.grammar.Junction.TheVariants.{Parachain, AccountId32, AccountIndex64, AccountKey20, PalletInstance, GeneralIndex, GeneralKey, OnlyChild, Plurality, GlobalConsensus}
 use Rattle.location_wire.specs.Spelling.{junction}
 use Rattle.locations.specs.declared.relative.Location.{Location}
-use Rattle.location_wire.specs.Texts.{hex_text, shown, junction_text, step_text, location_text, lacks, IsJunction, IsLocation}
+use Rattle.location_wire.specs.Texts.{hex_text, shown, junction_text, path_step_text, location_text, lacks, IsJunction, IsLocation}
+use Rattle.plain_lists.proofs.Lemmas.Facts.{other_byte as not_byte}
 
 -- ---- bytes that a text lacks
 
@@ -82,19 +83,16 @@ lacks-junction_text (GlobalConsensus BitcoinCash) h = lacks-spelled (GlobalConse
 
 -- ---- the parts between the slashes
 
-not_byte : (c x : ℕ) → not (eqb x c) ≡ true → eqb x c ≡ false
-not_byte c x h = grind arith
-
 lacking : (c : ℕ) (xs : List ℕ) → lacks c xs ≡ true → AllByRecursion (λ x. eqb x c ≡ false) xs
 lacking c [] h = tt
 lacking c (x ∷ xs) h = let p = and_parts (not (eqb x c)) (lacks c xs) h in (not_byte c x p.0, lacking c xs p.1)
 
 pub split_steps : (xs : List ℕ) (js : List Junction) → lacks 47 xs ≡ true → AllByRecursion IsJunction js
-    → slice_split (λ b. eqb b 47) (xs ++ joined (map step_text js)) ≡ xs ∷ map junction_text js
+    → slice_split (λ b. eqb b 47) (xs ++ joined (map path_step_text js)) ≡ xs ∷ map junction_text js
 split_steps xs [] h all =
     ap (slice_split (λ b. eqb b 47)) (append-nil xs) ∙ slice_split_none (λ b. eqb b 47) xs (All-from_recursion (λ x. eqb x 47 ≡ false) xs (lacking 47 xs h))
 split_steps xs (j ∷ js) h all =
-    slice_split_at (λ b. eqb b 47) xs 47 (junction_text j ++ joined (map step_text js)) (All-from_recursion (λ x. eqb x 47 ≡ false) xs (lacking 47 xs h)) refl
+    slice_split_at (λ b. eqb b 47) xs 47 (junction_text j ++ joined (map path_step_text js)) (All-from_recursion (λ x. eqb x 47 ≡ false) xs (lacking 47 xs h)) refl
     ∙ ap (λ (ps : List (List ℕ)). xs ∷ ps) (split_steps (junction_text j) js (lacks-junction_text j all.0) all.1)
 
 pub bytes_at : (xs : List ℕ) → AreBytes xs → IsBytes xs

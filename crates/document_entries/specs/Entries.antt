@@ -16,23 +16,23 @@ use Rattle.asset_lists.specs.declared.units.Instance.{Instance}
 use Rattle.asset_lists.specs.declared.units.Kind.{Kind}
 use Rattle.asset_lists.specs.declared.units.Kind.TheVariants as kinds
 use Rattle.asset_wire.specs.Reading.{instance_at}
-use Rattle.message_parts.specs.declared.version.Version.{Version}
-use Rattle.message_parts.specs.declared.version.Version.TheVariants.{V3, V4}
+use Rattle.operands.specs.declared.version.Version.{Version}
+use Rattle.operands.specs.declared.version.Version.TheVariants.{V3, V4}
 use Rattle.barriers.specs.declared.barrier.Barrier.{Barrier}
 use Rattle.barriers.specs.declared.barrier.Barrier.TheVariants.{Credit, Paid, Explicit, Unpaid, Responses}
 use Rattle.weight_trader.specs.declared.rate.Rate.{Rate}
-use Rattle.chain_pools.specs.declared.pool.Pool.{Pool}
+use Rattle.asset_pools.specs.declared.pool.Pool.{Pool}
 use Rattle.trust_tables.specs.declared.rows.AssetRole.{AssetRole}
 use Rattle.trust_tables.specs.declared.rows.AssetRole.TheVariants.{Native, Derivative}
 use Rattle.trust_tables.specs.declared.rows.AssetRow.{AssetRow}
-use Rattle.message_parts.specs.declared.pallet.PalletInfo.{PalletInfo}
+use Rattle.operands.specs.declared.pallet.PalletInfo.{PalletInfo}
 use Rattle.network_spec.specs.declared.chain.Balance.{Balance}
 use Rattle.network_spec.specs.declared.network.ChannelSpec.{ChannelSpec}
-use Rattle.document_forms.specs.declared.fault.NetworkFault.{NetworkFault}
-use Rattle.document_forms.specs.declared.fault.NetworkFault.TheVariants.{NotJson, MissingField, WrongKind, UnknownField, BadValue, Repeated, LimitPassed, Memory}
-use Rattle.document_forms.specs.declared.fault.Place.{Place}
-use Rattle.document_forms.specs.Forms.{Form, ◌>>=◌, ◌>>◌, or_fault, where_true, fields, needed, defaulted, optional, number_within, whole, text, decimal_below, behind_0x, bytes, chain, each, is_text, is_chain_kind}
-use Rattle.document_entries.specs.LocationTexts.{location_of}
+use Rattle.document_entries.specs.declared.fault.NetworkFault.{NetworkFault}
+use Rattle.document_entries.specs.declared.fault.NetworkFault.TheVariants.{NotJson, MissingField, WrongKind, UnknownField, BadValue, Repeated, LimitPassed, Memory}
+use Rattle.document_entries.specs.declared.fault.Place.{Place}
+use Rattle.document_entries.specs.Forms.{Form, ◌>>=◌, ◌>>◌, or_fault, where_true, fields, needed, defaulted, optional_field, number_within, whole_number, text, decimal_below, behind_0x, bytes32_form, chain, each, is_text, is_chain_kind}
+use Rattle.document_entries.specs.LocationTexts.{parsed_location}
 
 -- ---- two fields of which there has to be just one
 
@@ -85,13 +85,13 @@ made f form place value = do
 
 -- ---- locations, instances and amounts
 
-unfoldable pub location : Form Location
-location place value = do
+unfoldable pub location_form : Form Location
+location_form place value = do
   s ← text place value
-  or_fault (BadValue place) (location_of s)
+  or_fault (BadValue place) (parsed_location s)
 
 unfoldable pub locations : Form (List Location)
-locations place value = each is_text location place value
+locations place value = each is_text location_form place value
 
 abbrev pub whole_instance : Option (Instance × List ℕ) → Option Instance
 whole_instance None = None
@@ -99,10 +99,10 @@ whole_instance (Some read) = if length read.1 == 0 then Some read.0 else None
 
 -- `0x` and the hex digits, of either case, of an instance's spelling
 abbrev pub instance_of : List ℕ → Option Instance
-instance_of s = option_and_then (λ bytes. whole_instance (instance_at bytes)) (option_and_then (λ digits. result_ok (decode_of digits)) (behind_0x s))
+instance_of s = option_and_then (λ bytes32_form. whole_instance (instance_at bytes32_form)) (option_and_then (λ digits. result_ok (decode_of digits)) (behind_0x s))
 
-unfoldable pub instance : Form Instance
-instance place value = do
+unfoldable pub instance_form : Form Instance
+instance_form place value = do
   s ← text place value
   or_fault (BadValue place) (instance_of s)
 
@@ -115,8 +115,8 @@ unfoldable pub amount_limit : ℕ
 amount_limit = 2 ^ 127
 
 -- an amount above 0
-unfoldable pub amount : Form ℕ
-amount place value = do
+unfoldable pub positive_amount_form : Form ℕ
+positive_amount_form place value = do
   n ← decimal_below amount_limit place value
   where_true (BadValue place) (not (n == 0)) n
 
@@ -147,7 +147,7 @@ barrier place value = named_or (as_str value) place value
 unfoldable pub rate : Form Rate
 rate place value = do
   fields (codes "asset" ∷ codes "per_second" ∷ codes "per_mb" ∷ []) place value
-  asset ← needed (codes "asset") location place value
+  asset ← needed (codes "asset") location_form place value
   per_second ← needed (codes "per_second") (decimal_below rate_limit) place value
   per_mb ← needed (codes "per_mb") (decimal_below rate_limit) place value
   Ok (record { asset = asset; per_second = per_second; per_mb = per_mb })
@@ -173,10 +173,10 @@ with_checking place kinds.Class (Some checking) role = Err (BadValue place)
 unfoldable pub asset_row : Form AssetRow
 asset_row place value = do
   fields (codes "id" ∷ codes "kind" ∷ codes "native" ∷ codes "reserve" ∷ codes "checking" ∷ []) place value
-  id ← needed (codes "id") location place value
+  id ← needed (codes "id") location_form place value
   kind ← defaulted (codes "kind") kinds.Fungible kind place value
   role ← either (codes "native") (made native (each is_chain_kind chain)) (codes "reserve") (made Derivative chain) place value
-  checking ← optional (codes "checking") (decimal_below amount_limit) place value
+  checking ← optional_field (codes "checking") (decimal_below amount_limit) place value
   role ← with_checking place kind checking role
   Ok (record { id = id; kind = kind; role = role })
 
@@ -185,9 +185,9 @@ asset_row place value = do
 unfoldable pub account : Form Balance
 account place value = do
   fields (codes "who" ∷ codes "asset" ∷ codes "amount" ∷ codes "instance" ∷ []) place value
-  who ← needed (codes "who") bytes place value
-  id ← needed (codes "asset") location place value
-  fun ← either (codes "amount") (made Fungible amount) (codes "instance") (made NonFungible instance) place value
+  who ← needed (codes "who") bytes32_form place value
+  id ← needed (codes "asset") location_form place value
+  fun ← either (codes "amount") (made Fungible positive_amount_form) (codes "instance") (made NonFungible instance_form) place value
   Ok (record { who = who; asset = record { id = Concrete id; fun = fun } })
 
 -- ---- pallets
@@ -217,7 +217,7 @@ pallet place value = do
 unfoldable pub query : Form (ℕ × ChainId)
 query place value = do
   fields (codes "id" ∷ codes "from" ∷ []) place value
-  id ← needed (codes "id") whole place value
+  id ← needed (codes "id") whole_number place value
   from ← needed (codes "from") chain place value
   Ok (id, from)
 
@@ -227,8 +227,8 @@ query place value = do
 unfoldable pub pool : Form Pool
 pool place value = do
   fields (codes "first" ∷ codes "second" ∷ codes "fee" ∷ []) place value
-  first ← needed (codes "first") location place value
-  second ← needed (codes "second") location place value
+  first ← needed (codes "first") location_form place value
+  second ← needed (codes "second") location_form place value
   fee ← needed (codes "fee") (number_within 0 999) place value
   Ok (record { first = first; second = second; fee = fee })
 
@@ -250,9 +250,9 @@ abbrev pub fee : Place → Option Data → Option Data → Result (Option Asset)
 fee place None None = Ok None
 fee place None (Some amount_value) = Err (MissingField place)
 fee place (Some asset_value) amount_value = do
-  id ← location place asset_value
+  id ← location_form place asset_value
   value ← or_fault (MissingField place) amount_value
-  n ← amount place value
+  n ← positive_amount_form place value
   Ok (Some (record { id = Concrete id; fun = Fungible n }))
 
 unfoldable pub channel_entry : Bool → Form ChannelSpec

@@ -71,13 +71,13 @@ unfoldable pub junctions_of : List (List ℕ) → Option (List Junction)
 junctions_of [] = Some []
 junctions_of (part ∷ parts) = before (junction_of part) (junctions_of parts)
 
-abbrev pub placed : ℕ → Option (List Junction) → Option Location
-placed parents None = None
-placed parents (Some js) = Some (record { parents = parents; interior = js })
+abbrev pub location_with_parents : ℕ → Option (List Junction) → Option Location
+location_with_parents parents None = None
+location_with_parents parents (Some js) = Some (record { parents = parents; interior = js })
 
 abbrev pub location_of_parts : List (List ℕ) → Option Location
 location_of_parts [] = None
-location_of_parts (first ∷ parts) = placed (digits_value 10 first) (junctions_of parts)
+location_of_parts (first ∷ parts) = location_with_parents (digits_value 10 first) (junctions_of parts)
 
 -- whether the text is that of the location
 abbrev pub is_text_of : List ℕ → Location → Bool
@@ -88,5 +88,5 @@ where_text text None = None
 where_text text (Some l) = if is_text_of text l then Some l else None
 
 -- the location whose text it is
-unfoldable pub location_of : List ℕ → Option Location
-location_of text = where_text text (location_of_parts (slice_split (λ b. b == 47) text))
+unfoldable pub parsed_location : List ℕ → Option Location
+parsed_location text = where_text text (location_of_parts (slice_split (λ b. b == 47) text))

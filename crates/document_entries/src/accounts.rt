@@ -1,22 +1,24 @@
 //! What accounts hold.
 ghost use Rattle.std.specs.Prelude.{codes};
 ghost use Rattle.serde_json.specs.View.{view};
-ghost use Rattle.document_forms.specs.Answers.{Answers};
-ghost use Rattle.document_entries.specs.Entries.{account, either, made, amount, instance};
+ghost use Rattle.document_entries.specs.Answers.{Answers};
+ghost use Rattle.document_entries.specs.Entries.{account, either, made, positive_amount_form, instance_form};
 ghost use Rattle.asset_lists.specs.declared.units.Fun.TheVariants.{Fungible, NonFungible};
 
 use crate::alternatives::both_there;
-use crate::{amount_of, instance_of, location_of};
+use crate::fields::needed;
+use crate::places::{instance_of, location_of};
+use crate::rates::amount_of;
+use crate::{NetworkFault, Place, Stop, bytes_of, check_fields};
 use asset_lists::{Asset, AssetId, Fun};
-use document_forms::{NetworkFault, Place, Stop, bytes_of, check_fields, needed};
 use network_spec::Balance;
 use serde_json::Value;
 use std::alloc::Global;
 
 /// An amount, or an instance.
 fn fun_of(alloc: Global, place: Place, value: &Value) -> Result<Fun, Stop>
-    ensures { Answers result (either (codes "amount") (made Fungible amount) (codes "instance")
-        (made NonFungible instance) place (view value.now)) }
+    ensures { Answers result (either (codes "amount") (made Fungible positive_amount_form) (codes "instance")
+        (made NonFungible instance_form) place (view value.now)) }
 {
     match value.get("amount") {
         Some(amount) => match value.get("instance") {
@@ -35,7 +37,7 @@ fn fun_of(alloc: Global, place: Place, value: &Value) -> Result<Fun, Stop>
 }
 
 /// What an account holds.
-#[tactic(auto, unfolding(crate::specs::Entries::account, document_forms::specs::Forms::fields, document_forms::specs::Forms::field))]
+#[tactic(auto, unfolding(crate::specs::Entries::account, crate::specs::Forms::fields, crate::specs::Forms::required_field))]
 pub fn account_of(alloc: Global, place: Place, value: &Value) -> Result<Balance, Stop>
     ensures { Answers result (account place (view value.now)) }
 {

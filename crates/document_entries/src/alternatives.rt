@@ -1,11 +1,11 @@
 //! Two fields of which there has to be just one.
 ghost use Rattle.std.specs.Prelude.{Result, IfOk};
-ghost use Rattle.document_forms.specs.declared.fault.NetworkFault.{NetworkFault};
-ghost use Rattle.document_forms.specs.Answers.{Answers};
+ghost use Rattle.document_entries.specs.declared.fault.NetworkFault.{NetworkFault};
+ghost use Rattle.document_entries.specs.Answers.{Answers};
 ghost use Rattle.document_entries.specs.Entries.{both_fault};
-ghost use Rattle.document_entries.specs.Alternatives.{Refuses, AreCausesOf};
+ghost use Rattle.document_entries.specs.Alternatives.{IsFaultOf, AreCausesOf};
 
-use document_forms::{NetworkFault, Place, Stop};
+use crate::{NetworkFault, Place, Stop};
 use std::alloc::AllocError;
 
 /// Which of the causes that come first a field is refused for.
@@ -42,7 +42,7 @@ pub(crate) fn both_there<X: Drop, Y: Drop>(
     other: Result<Y, Stop>,
 ) -> Stop
     ensures { (x : Result X NetworkFault) (y : Result Y NetworkFault)
-        → Answers one x → Answers other y → Refuses result (both_fault place x y) }
+        → Answers one x → Answers other y → IsFaultOf result (both_fault place x y) }
 {
     let Ok(first) = causes_of(one) else {
         return Stop::Memory;

@@ -1,8 +1,8 @@
 //! The assets that a chain lists.
 ghost use Rattle.std.specs.Prelude.{Option};
 ghost use Rattle.serde_json.specs.View.{view};
-ghost use Rattle.document_forms.specs.Answers.{Answers};
-ghost use Rattle.document_forms.specs.Forms.{defaulted, optional, decimal_below, chain, each, is_chain_kind};
+ghost use Rattle.document_entries.specs.Answers.{Answers};
+ghost use Rattle.document_entries.specs.Forms.{defaulted, optional_field, decimal_below, chain, each, is_chain_kind};
 ghost use Rattle.document_entries.specs.Entries as entries;
 ghost use Rattle.document_entries.specs.Entries.{asset_row, kind, native, either, made, with_checking, amount_limit};
 ghost use Rattle.std.specs.Prelude.{codes};
@@ -10,12 +10,13 @@ ghost use Rattle.asset_lists.specs.declared.units.Kind.TheVariants as kinds;
 ghost use Rattle.trust_tables.specs.declared.rows.AssetRole.TheVariants.{Derivative};
 
 use crate::alternatives::both_there;
-use crate::location_of;
+use crate::entries::chains_of;
+use crate::fields::needed;
+use crate::names::chain_of;
+use crate::places::location_of;
 use crate::rates::balance_of;
+use crate::{NetworkFault, Place, Stop, check_fields, text_of};
 use asset_lists::Kind;
-use document_forms::{
-    NetworkFault, Place, Stop, chain_of, chains_of, check_fields, needed, text_of,
-};
 use serde_json::Value;
 use std::alloc::Global;
 use trust_tables::{AssetRole, AssetRow};
@@ -70,7 +71,7 @@ fn role_of(alloc: Global, place: Place, value: &Value) -> Result<AssetRole, Stop
 
 /// What the checking account begins with, if there is one.
 fn checking_field(place: Place, value: &Value) -> Result<Option<u128>, Stop>
-    ensures { Answers result (optional (codes "checking") (decimal_below amount_limit) place
+    ensures { Answers result (optional_field (codes "checking") (decimal_below amount_limit) place
         (view value.now)) }
 {
     match value.get("checking") {
@@ -100,7 +101,7 @@ fn with_checking(
 }
 
 /// An asset that a chain lists.
-#[tactic(auto, unfolding(crate::specs::Entries::asset_row, document_forms::specs::Forms::fields, document_forms::specs::Forms::field))]
+#[tactic(auto, unfolding(crate::specs::Entries::asset_row, crate::specs::Forms::fields, crate::specs::Forms::required_field))]
 pub fn asset_row_of(alloc: Global, place: Place, value: &Value) -> Result<AssetRow, Stop>
     ensures { Answers result (asset_row place (view value.now)) }
 {

@@ -1,12 +1,12 @@
 //! Barriers.
 ghost use Rattle.serde_json.specs.View.{view};
-ghost use Rattle.document_forms.specs.Answers.{Answers};
+ghost use Rattle.document_entries.specs.Answers.{Answers};
 ghost use Rattle.document_entries.specs.Entries.{barrier, barrier_of_object, named_barrier};
 
 use crate::alternatives::both_there;
-use crate::locations_of;
+use crate::places::locations_of;
+use crate::{NetworkFault, Place, Stop, check_fields};
 use barriers::Barrier;
-use document_forms::{NetworkFault, Place, Stop, check_fields};
 use serde_json::Value;
 use std::alloc::Global;
 

@@ -3,16 +3,19 @@ ghost use Rattle.std.specs.Prelude.{codes, Option, ◌≤◌, IfOk};
 ghost use Rattle.std.specs.Option.{option_map};
 ghost use Rattle.serde_json.specs.Find.{get};
 ghost use Rattle.serde_json.specs.View.{view};
-ghost use Rattle.document_forms.specs.Answers.{Answers};
-ghost use Rattle.document_forms.specs.Forms.{defaulted, number_within, fields};
+ghost use Rattle.document_entries.specs.Answers.{Answers};
+ghost use Rattle.document_entries.specs.Forms.{defaulted, number_within, fields};
 ghost use Rattle.document_entries.specs.Entries.{channel_entry, channel_fields, version, fee};
-ghost use Rattle.message_parts.specs.declared.version.Version.TheVariants.{V4};
+ghost use Rattle.operands.specs.declared.version.Version.TheVariants.{V4};
 
-use crate::{amount_of, location_of};
+use crate::fields::needed;
+use crate::names::chain_of;
+use crate::places::location_of;
+use crate::rates::amount_of;
+use crate::{NetworkFault, Place, Stop, check_fields, number_of};
 use asset_lists::{Asset, AssetId, Fun};
 use asset_wire::Version;
 use channel_parts::Channel;
-use document_forms::{NetworkFault, Place, Stop, chain_of, check_fields, needed, number_of};
 use network_spec::ChannelSpec;
 use serde_json::Value;
 use std::alloc::Global;
@@ -103,7 +106,7 @@ fn check_channel(place: Place, fees: bool, value: &Value) -> Result<(), Stop>
 }
 
 /// A channel; `fees` says whether the format has fees.
-#[tactic(auto, unfolding(crate::specs::Entries::channel_entry, document_forms::specs::Forms::fields, document_forms::specs::Forms::field))]
+#[tactic(auto, unfolding(crate::specs::Entries::channel_entry, crate::specs::Forms::fields, crate::specs::Forms::required_field))]
 pub fn channel_of(
     alloc: Global,
     place: Place,

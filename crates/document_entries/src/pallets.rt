@@ -1,14 +1,15 @@
 //! Pallets, and open queries.
 ghost use Rattle.serde_json.specs.View.{view};
-ghost use Rattle.document_forms.specs.Answers.{Answers};
-ghost use Rattle.document_forms.specs.Forms.{needed};
+ghost use Rattle.document_entries.specs.Answers.{Answers};
+ghost use Rattle.document_entries.specs.Forms.{needed};
 ghost use Rattle.document_entries.specs.Entries.{pallet, pallet_name, query, u32};
 
+use crate::fields::needed;
+use crate::names::chain_of;
+use crate::numbers::whole_of;
+use crate::{NetworkFault, Place, Stop, check_fields, number_of, text_of};
 use chain_ids::ChainId;
-use document_forms::{
-    NetworkFault, Place, Stop, chain_of, check_fields, needed, number_of, text_of, whole_of,
-};
-use message_parts::{PalletInfo, PalletName};
+use operands::{PalletInfo, PalletName};
 use serde_json::Value;
 use std::alloc::Global;
 
@@ -33,7 +34,7 @@ fn name_of(alloc: Global, place: Place, value: &Value) -> Result<PalletName, Sto
 }
 
 /// A pallet.
-#[tactic(auto, unfolding(crate::specs::Entries::pallet, document_forms::specs::Forms::fields, document_forms::specs::Forms::field))]
+#[tactic(auto, unfolding(crate::specs::Entries::pallet, crate::specs::Forms::fields, crate::specs::Forms::required_field))]
 pub fn pallet_of(alloc: Global, place: Place, value: &Value) -> Result<PalletInfo, Stop>
     ensures { Answers result (pallet place (view value.now)) }
 {
@@ -59,7 +60,7 @@ pub fn pallet_of(alloc: Global, place: Place, value: &Value) -> Result<PalletInf
 }
 
 /// An open query: its number, and the chain that may answer it.
-#[tactic(auto, unfolding(crate::specs::Entries::query, document_forms::specs::Forms::fields, document_forms::specs::Forms::field))]
+#[tactic(auto, unfolding(crate::specs::Entries::query, crate::specs::Forms::fields, crate::specs::Forms::required_field))]
 pub fn query_of(place: Place, value: &Value) -> Result<(u64, ChainId), Stop>
     ensures { Answers result (query place (view value.now)) }
 {

@@ -1,15 +1,15 @@
 //! Locations and instances.
 ghost use Rattle.std.specs.Prelude.{◌≡◌, IfOk};
 ghost use Rattle.serde_json.specs.View.{view};
-ghost use Rattle.document_forms.specs.Answers.{Answers};
-ghost use Rattle.document_entries.specs.Entries.{location, locations, instance, instance_of, whole_instance};
+ghost use Rattle.document_entries.specs.Answers.{Answers};
+ghost use Rattle.document_entries.specs.Entries.{location_form, locations, instance_form, instance_of, whole_instance};
 ghost use Rattle.asset_wire.specs.Reading.{instance_at};
 
+use crate::entries::texts_of;
+use crate::names::behind_0x;
+use crate::{Entry, NetworkFault, Place, Stop, read_entries, text_of};
 use asset_lists::Instance;
 use asset_wire::read_instance;
-use document_forms::{
-    Entry, NetworkFault, Place, Stop, behind_0x, read_entries, text_of, texts_of,
-};
 use hex::FromHexError;
 use location_wire::{TextFault, law_of_one_location, read_location_text};
 use locations::Location;
@@ -19,9 +19,9 @@ use serde_json::Value;
 use std::alloc::{AllocError, Global};
 
 /// A location, as its text.
-#[tactic(auto, unfolding(crate::specs::Entries::location))]
-pub fn location_of(alloc: Global, place: Place, value: &Value) -> Result<Location, Stop>
-    ensures { Answers result (location place (view value.now)) }
+#[tactic(auto, unfolding(crate::specs::Entries::location_form))]
+pub(crate) fn location_of(alloc: Global, place: Place, value: &Value) -> Result<Location, Stop>
+    ensures { Answers result (location_form place (view value.now)) }
 {
     law_of_one_location();
     let text = text_of(place, value)?;
@@ -40,9 +40,9 @@ struct LocationsAt {
 }
 
 impl Entry<Location> for LocationsAt {
-    ghost use Rattle.document_entries.specs.Entries.{location};
+    ghost use Rattle.document_entries.specs.Entries.{location_form};
 
-    ghost form = { λ at _ value. location at.place value };
+    ghost form = { λ at _ value. location_form at.place value };
 
     fn read(&self, alloc: Global, _index: u32, value: &Value) -> Result<Location, Stop> {
         location_of(alloc, self.place, value)
@@ -51,7 +51,11 @@ impl Entry<Location> for LocationsAt {
 
 /// A list of locations.
 #[tactic(auto, unfolding(crate::specs::Entries::locations))]
-pub fn locations_of(alloc: Global, place: Place, value: &Value) -> Result<Listed<Location>, Stop>
+pub(crate) fn locations_of(
+    alloc: Global,
+    place: Place,
+    value: &Value,
+) -> Result<Listed<Location>, Stop>
     ensures { Answers result (locations place (view value.now)) }
 {
     let items = texts_of(place, value)?;
@@ -85,9 +89,9 @@ fn spelled_instance(alloc: Global, text: &[u8]) -> Result<Option<Instance>, Allo
 }
 
 /// An instance, as `0x` and the hex digits, of either case, of its spelling.
-#[tactic(auto, unfolding(crate::specs::Entries::instance))]
-pub fn instance_of(alloc: Global, place: Place, value: &Value) -> Result<Instance, Stop>
-    ensures { Answers result (instance place (view value.now)) }
+#[tactic(auto, unfolding(crate::specs::Entries::instance_form))]
+pub(crate) fn instance_of(alloc: Global, place: Place, value: &Value) -> Result<Instance, Stop>
+    ensures { Answers result (instance_form place (view value.now)) }
 {
     let text = text_of(place, value)?;
     match spelled_instance(alloc, text.as_bytes())? {

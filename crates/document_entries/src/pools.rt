@@ -1,16 +1,17 @@
 //! Pools of two assets.
 ghost use Rattle.serde_json.specs.View.{view};
-ghost use Rattle.document_forms.specs.Answers.{Answers};
+ghost use Rattle.document_entries.specs.Answers.{Answers};
 ghost use Rattle.document_entries.specs.Entries.{pool};
 
-use crate::location_of;
-use chain_pools::Pool;
-use document_forms::{Place, Stop, check_fields, needed, number_of};
+use crate::fields::needed;
+use crate::places::location_of;
+use crate::{Place, Stop, check_fields, number_of};
+use asset_pools::Pool;
 use serde_json::Value;
 use std::alloc::Global;
 
 /// A pool: its two assets, and its fee in thousandths of what is given, from 0 to 999.
-#[tactic(auto, unfolding(crate::specs::Entries::pool, document_forms::specs::Forms::fields, document_forms::specs::Forms::field))]
+#[tactic(auto, unfolding(crate::specs::Entries::pool, crate::specs::Forms::fields, crate::specs::Forms::required_field))]
 pub fn pool_of(alloc: Global, place: Place, value: &Value) -> Result<Pool, Stop>
     ensures { Answers result (pool place (view value.now)) }
 {

@@ -1,12 +1,14 @@
 //! What weight costs, and amounts.
 ghost use Rattle.std.specs.Prelude.{◌<◌, ◌^◌, IfOk};
 ghost use Rattle.serde_json.specs.View.{view};
-ghost use Rattle.document_forms.specs.Answers.{Answers};
-ghost use Rattle.document_forms.specs.Forms.{decimal_below};
-ghost use Rattle.document_entries.specs.Entries.{rate, rate_limit, amount, amount_limit};
+ghost use Rattle.document_entries.specs.Answers.{Answers};
+ghost use Rattle.document_entries.specs.Forms.{decimal_below};
+ghost use Rattle.document_entries.specs.Entries.{rate, rate_limit, positive_amount_form, amount_limit};
 
-use crate::location_of;
-use document_forms::{NetworkFault, Place, Stop, check_fields, decimal_of, needed};
+use crate::fields::needed;
+use crate::numbers::decimal_of;
+use crate::places::location_of;
+use crate::{NetworkFault, Place, Stop, check_fields};
 use serde_json::Value;
 use std::alloc::Global;
 use weight_trader::Rate;
@@ -33,9 +35,9 @@ pub(crate) fn balance_of(place: Place, value: &Value) -> Result<u128, Stop>
 }
 
 /// An amount above 0 and below 2^127.
-#[tactic(auto, unfolding(crate::specs::Entries::amount))]
-pub fn amount_of(place: Place, value: &Value) -> Result<u128, Stop>
-    ensures { Answers result (amount place (view value.now)) }
+#[tactic(auto, unfolding(crate::specs::Entries::positive_amount_form))]
+pub(crate) fn amount_of(place: Place, value: &Value) -> Result<u128, Stop>
+    ensures { Answers result (positive_amount_form place (view value.now)) }
 {
     let number = balance_of(place, value)?;
     if number == 0 {
@@ -45,7 +47,7 @@ pub fn amount_of(place: Place, value: &Value) -> Result<u128, Stop>
 }
 
 /// What weight costs in an asset.
-#[tactic(auto, unfolding(crate::specs::Entries::rate, document_forms::specs::Forms::fields, document_forms::specs::Forms::field))]
+#[tactic(auto, unfolding(crate::specs::Entries::rate, crate::specs::Forms::fields, crate::specs::Forms::required_field))]
 pub fn rate_of(alloc: Global, place: Place, value: &Value) -> Result<Rate, Stop>
     ensures { Answers result (rate place (view value.now)) }
 {

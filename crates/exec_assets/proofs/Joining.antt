@@ -7,33 +7,35 @@ use Rattle.std.specs.Ordering.{eq_by_cmp}
 use Rattle.std.proofs.lemmas.Bool.{and_parts, and_from, leb-true, le-leb}
 use Rattle.amounts.specs.Rows.{amount_if, sum_where}
 use Rattle.amounts.specs.Amounts.{amount, difference, IsWithin}
-use Rattle.amounts.specs.Laws.{same_key, key_same}
+use Rattle.amounts.proofs.Lemmas.{same_key, key_same}
 use Rattle.locations.specs.declared.relative.Location.{Location}
-use Rattle.message_parts.specs.declared.error.XcmError.TheVariants as error
-use Rattle.message_parts.specs.declared.weight.Weight.{Weight}
-use Rattle.message_parts.specs.declared.weight.WeightLimit.{WeightLimit}
-use Rattle.message_parts.specs.declared.weight.WeightLimit.TheVariants.{Limited}
+use Rattle.operands.specs.declared.error.XcmError.TheVariants as error
+use Rattle.operands.specs.declared.weight.Weight.{Weight}
+use Rattle.operands.specs.declared.weight.WeightLimit.{WeightLimit}
+use Rattle.operands.specs.declared.weight.WeightLimit.TheVariants.{Limited}
 use Rattle.asset_lists.specs.declared.units.Asset.{Asset}
 use Rattle.asset_lists.specs.declared.filters.Filter.{Filter}
 use Rattle.asset_lists.specs.Units.{Unit, unit_of, amount_of, unit_cmp, is_zero}
-use Rattle.asset_bundles.specs.Bundles.{Bundle, unit_keys, rows_of, bundle_of, found, IsHolding}
+use Rattle.asset_bundles.specs.Bundles.{Bundle, rows_of, bundle_of, found, IsHolding}
+use Rattle.asset_bundles.proofs.Lemmas.Bundles.{unit_keys}
 use Rattle.asset_bundles.specs.Filters.{Left}
-use Rattle.asset_bundles.specs.BundleLaws.{found-holding, amount-bundle_of}
+use Rattle.asset_bundles.proofs.Lemmas.BundleLaws.{found-holding, amount-bundle_of}
 use Rattle.xcm_program.specs.declared.instruction.Instruction.{Instruction, roll-Instruction, out-roll-Instruction}
 use Rattle.xcm_program.specs.declared.instruction.Instruction.TheOpen.{Instruction-F}
 use Rattle.xcm_program.specs.Conversions.{HasAmount}
-use Rattle.xcm_program.specs.Laws.{amounts_open}
+use Rattle.xcm_program.proofs.Lemmas.{amounts_open}
 use Rattle.exec_base.specs.Part.{ChainPart}
 use Rattle.exec_base.specs.Sending.{unless}
 use Rattle.exec_base.specs.Host.{withdraw_refusal, withdrawn, receive_refusal, received, claim_refusal, claimed, buy_refusal, bought, unspent, refunded, refund_goods}
 use Rattle.exec_base.specs.Pools.{exchange_refusal, exchanged, exchange_goods}
 use Rattle.exec_rules.specs.Machine.{Machine}
 use Rattle.exec_rules.specs.Holdings.{with_origin, at_origin, has_room, with_room, holds_asset, holds_list, holding_more, taken_of, holding_left, holding_paid, payment_of, is_ticket, not_refunded, refund_now, refund_refusal, refund_done, refund_joined}
-use Rattle.exec_rules.specs.AnswerLaws.{withdrawn_is_listed, received_is_listed}
+use Rattle.exec_rules.proofs.Lemmas.AnswerLaws.{withdrawn_is_listed, received_is_listed}
 use Rattle.exec_rules.specs.Instructions.{refused, done, refusal_of, xcm}
-use Rattle.exec_rules.specs.Readiness.{IsSteady, IsSound}
+use Rattle.exec_rules.specs.Readiness.{IsSteady, IsSoundInstruction}
 use Rattle.exec_holding.specs.Holding.{IsJoinable}
-use Rattle.exec_holding.specs.Laws.{joinable, joinable_before, joinable_at}
+use Rattle.exec_holding.proofs.Lemmas.{joinable, joinable_before, joinable_at}
+use Rattle.plain_lists.proofs.Lemmas.Facts.{same_bools as same_test}
 
 -- ---- withdrawals and arrivals
 withdrawn_joins : (m : Machine) (list : List Asset) (who : Location) → IsSteady m → withdraw_refusal m.part list who ≡ None → IsJoinable m.regs.holding (withdrawn m.part list who) (bundle_of list)
@@ -123,7 +125,7 @@ refunded_joinable law m p given goods steady some ok same now =
     same now
 
 -- the fees of a sound purchase are no amount of 0
-pub fees_some : (fees : Asset) (limit : WeightLimit) → IsSound (roll-Instruction (Instruction-F.BuyExecution fees limit)) → is_zero fees ≡ false
+pub fees_some : (fees : Asset) (limit : WeightLimit) → IsSoundInstruction (roll-Instruction (Instruction-F.BuyExecution fees limit)) → is_zero fees ≡ false
 fees_some fees limit sound =
     subst (λ (k : Instruction-F Instruction). HasAmount Instruction k) (out-roll-Instruction (Instruction-F.BuyExecution fees limit))
     (amounts_open (roll-Instruction (Instruction-F.BuyExecution fees limit)) sound.amounts.0).0
@@ -155,11 +157,6 @@ held_up_to most (a ∷ list) within =
 
 all_by : (b : Bundle) (list : List Asset) → IsWithin (bundle_of list) b → list_all (λ a. nat_le (amount_of a) (amount b (unit_of a))) list ≡ true
 all_by b list within = held_up_to (amount b) list (λ u. let le = within u in let there = amount-bundle_of list u in omega (arith, le, there))
-
-same_test : (b c : Bool) → (b ≡ true → c ≡ true) → (c ≡ true → b ≡ true) → b ≡ c
-same_test true c to from = sym (to refl)
-same_test false true to from = from refl
-same_test false false to from = refl
 
 -- whether the bundle has all of the list is whether each asset is held
 pub contains_is : (m : Machine) (list : List Asset) (b : Bool) → IsHolding list → (b ≡ true) ↔ IsWithin (bundle_of list) m.regs.holding → b ≡ holds_list m list

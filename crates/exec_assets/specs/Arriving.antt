@@ -5,5 +5,5 @@ use Rattle.xcm_program.specs.declared.instruction.Instruction.{Instruction}
 use Rattle.xcm_program.specs.declared.instruction.Instruction.TheOpen.{Instruction-F}
 
 -- teleported here, or deposited there in this chain's account
-abbrev pub arriving : Bool → List Asset → Instruction-F Instruction
-arriving teleport list = if teleport then Instruction-F.ReceiveTeleportedAsset list else Instruction-F.ReserveAssetDeposited list
+abbrev pub arrival_instruction : Bool → List Asset → Instruction-F Instruction
+arrival_instruction teleport list = if teleport then Instruction-F.ReceiveTeleportedAsset list else Instruction-F.ReserveAssetDeposited list

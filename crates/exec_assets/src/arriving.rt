@@ -3,16 +3,16 @@ ghost use Rattle.std.specs.Prelude.{◌≡◌, OnErr, IfOk};
 ghost use Rattle.xcm_program.specs.declared.instruction.Instruction.TheOpen.{Instruction-F};
 ghost use Rattle.exec_rules.specs.Machine.{machine};
 ghost use Rattle.exec_rules.specs.Functions.{Ran, IsReadyFor};
-ghost use Rattle.exec_rules.specs.Stopping.{Spilled};
+ghost use Rattle.exec_rules.specs.Stopping.{LeftOnOom};
 ghost use Rattle.exec_rules.specs.Holdings.{is_ticket};
-ghost use Rattle.exec_assets.specs.Arriving.{arriving};
+ghost use Rattle.exec_assets.specs.Arriving.{arrival_instruction};
 
 use asset_lists::Assets;
 use exec_base::{Host, Registers};
-use exec_calls::law_of_readiness;
 use exec_holding::{answer_of, has_room, hold};
+use exec_rules::law_of_readiness;
 use locations::{Junction, Location};
-use message_parts::XcmError;
+use operands::XcmError;
 use std::alloc::AllocError;
 
 /// 0 WithdrawAsset: takes the assets out of the origin's account.
@@ -25,7 +25,7 @@ pub fn withdraw_asset<H: Host>(
         (machine r.old (H.part h.old)) }
     ensures ok { IfOk result (λ answer. Ran (Instruction-F.WithdrawAsset assets.now)
         (machine r.old (H.part h.old)) answer (machine r.new (H.part h.new))) }
-    ensures err { OnErr result (Spilled (Instruction-F.WithdrawAsset assets.now)
+    ensures err { OnErr result (LeftOnOom (Instruction-F.WithdrawAsset assets.now)
         (machine r.old (H.part h.old)) (machine r.new (H.part h.new))) }
 {
     let Some(who) = &r.origin else {
@@ -50,10 +50,10 @@ fn receive<H: Host>(
     assets: &Assets,
     teleport: bool,
 ) -> Result<Result<(), XcmError>, AllocError>
-    requires ready { IsReadyFor (arriving teleport assets.now) (machine r.old (H.part h.old)) }
-    ensures ok { IfOk result (λ answer. Ran (arriving teleport assets.now)
+    requires ready { IsReadyFor (arrival_instruction teleport assets.now) (machine r.old (H.part h.old)) }
+    ensures ok { IfOk result (λ answer. Ran (arrival_instruction teleport assets.now)
         (machine r.old (H.part h.old)) answer (machine r.new (H.part h.new))) }
-    ensures err { OnErr result (Spilled (arriving teleport assets.now)
+    ensures err { OnErr result (LeftOnOom (arrival_instruction teleport assets.now)
         (machine r.old (H.part h.old)) (machine r.new (H.part h.new))) }
 {
     let Some(who) = &r.origin else {
@@ -81,7 +81,7 @@ pub fn reserve_asset_deposited<H: Host>(
         (machine r.old (H.part h.old)) }
     ensures ok { IfOk result (λ answer. Ran (Instruction-F.ReserveAssetDeposited assets.now)
         (machine r.old (H.part h.old)) answer (machine r.new (H.part h.new))) }
-    ensures err { OnErr result (Spilled (Instruction-F.ReserveAssetDeposited assets.now)
+    ensures err { OnErr result (LeftOnOom (Instruction-F.ReserveAssetDeposited assets.now)
         (machine r.old (H.part h.old)) (machine r.new (H.part h.new))) }
 {
     receive(r, h, assets, false)
@@ -97,7 +97,7 @@ pub fn receive_teleported_asset<H: Host>(
         (machine r.old (H.part h.old)) }
     ensures ok { IfOk result (λ answer. Ran (Instruction-F.ReceiveTeleportedAsset assets.now)
         (machine r.old (H.part h.old)) answer (machine r.new (H.part h.new))) }
-    ensures err { OnErr result (Spilled (Instruction-F.ReceiveTeleportedAsset assets.now)
+    ensures err { OnErr result (LeftOnOom (Instruction-F.ReceiveTeleportedAsset assets.now)
         (machine r.old (H.part h.old)) (machine r.new (H.part h.new))) }
 {
     receive(r, h, assets, true)
@@ -128,7 +128,7 @@ pub fn claim_asset<H: Host>(
         (machine r.old (H.part h.old)) }
     ensures ok { IfOk result (λ answer. Ran (Instruction-F.ClaimAsset assets.now ticket.now)
         (machine r.old (H.part h.old)) answer (machine r.new (H.part h.new))) }
-    ensures err { OnErr result (Spilled (Instruction-F.ClaimAsset assets.now ticket.now)
+    ensures err { OnErr result (LeftOnOom (Instruction-F.ClaimAsset assets.now ticket.now)
         (machine r.old (H.part h.old)) (machine r.new (H.part h.new))) }
 {
     let Some(who) = &r.origin else {

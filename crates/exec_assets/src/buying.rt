@@ -5,15 +5,15 @@ ghost use Rattle.asset_lists.specs.declared.units.AssetId.TheVariants.{Concrete}
 ghost use Rattle.xcm_program.specs.declared.instruction.Instruction.TheOpen.{Instruction-F};
 ghost use Rattle.exec_rules.specs.Machine.{machine};
 ghost use Rattle.exec_rules.specs.Functions.{Ran, IsReadyFor};
-ghost use Rattle.exec_rules.specs.Stopping.{Spilled};
+ghost use Rattle.exec_rules.specs.Stopping.{LeftOnOom};
 ghost use Rattle.weight_trader.specs.Refunds.{weight_minus};
 
 use asset_lists::{Asset, AssetId};
 use exec_base::{Host, Registers};
-use exec_calls::law_of_readiness;
 use exec_holding::{answer_of, has_room, hold, put_back, take_asset};
+use exec_rules::law_of_readiness;
 use locations::Location;
-use message_parts::{Weight, WeightLimit, XcmError};
+use operands::{Weight, WeightLimit, XcmError};
 use std::alloc::{AllocError, Global};
 
 /// 19 BuyExecution: pays for the weight with the fees, which are held in full; what is unspent goes back.
@@ -28,7 +28,7 @@ pub fn buy_execution<H: Host>(
         (machine r.old (H.part h.old)) }
     ensures ok { IfOk result (λ answer. Ran (Instruction-F.BuyExecution fees.now limit)
         (machine r.old (H.part h.old)) answer (machine r.new (H.part h.new))) }
-    ensures err { OnErr result (Spilled (Instruction-F.BuyExecution fees.now limit)
+    ensures err { OnErr result (LeftOnOom (Instruction-F.BuyExecution fees.now limit)
         (machine r.old (H.part h.old)) (machine r.new (H.part h.new))) }
 {
     let WeightLimit::Limited(weight) = limit else {
@@ -77,7 +77,7 @@ pub fn refund_surplus<H: Host>(
     requires ready { IsReadyFor Instruction-F.RefundSurplus (machine r.old (H.part h.old)) }
     ensures ok { IfOk result (λ answer. Ran Instruction-F.RefundSurplus
         (machine r.old (H.part h.old)) answer (machine r.new (H.part h.new))) }
-    ensures err { OnErr result (Spilled Instruction-F.RefundSurplus (machine r.old (H.part h.old))
+    ensures err { OnErr result (LeftOnOom Instruction-F.RefundSurplus (machine r.old (H.part h.old))
         (machine r.new (H.part h.new))) }
 {
     let weight = not_refunded(r);

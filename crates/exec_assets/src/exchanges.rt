@@ -3,13 +3,13 @@ ghost use Rattle.std.specs.Prelude.{◌≡◌, OnErr, IfOk};
 ghost use Rattle.xcm_program.specs.declared.instruction.Instruction.TheOpen.{Instruction-F};
 ghost use Rattle.exec_rules.specs.Machine.{machine};
 ghost use Rattle.exec_rules.specs.Functions.{Ran, IsReadyFor};
-ghost use Rattle.exec_rules.specs.Stopping.{Spilled};
+ghost use Rattle.exec_rules.specs.Stopping.{LeftOnOom};
 
 use asset_lists::{Assets, Filter};
 use exec_base::{Host, Registers};
-use exec_calls::law_of_readiness;
 use exec_holding::{answer_of, has_room, hold, put_back};
-use message_parts::XcmError;
+use exec_rules::law_of_readiness;
+use operands::XcmError;
 use std::alloc::AllocError;
 
 /// 15 ExchangeAsset: exchanges what the filter takes for what is wanted, with a pool of the chain.
@@ -24,7 +24,7 @@ pub fn exchange_asset<H: Host>(
         (machine r.old (H.part h.old)) }
     ensures ok { IfOk result (λ answer. Ran (Instruction-F.ExchangeAsset give.now want.now maximal)
         (machine r.old (H.part h.old)) answer (machine r.new (H.part h.new))) }
-    ensures err { OnErr result (Spilled (Instruction-F.ExchangeAsset give.now want.now maximal)
+    ensures err { OnErr result (LeftOnOom (Instruction-F.ExchangeAsset give.now want.now maximal)
         (machine r.old (H.part h.old)) (machine r.new (H.part h.new))) }
 {
     if !has_room(&r.holding, r.max_holding, want.items().len()) {

@@ -3,13 +3,13 @@ ghost use Rattle.std.specs.Prelude.{◌≡◌, OnErr, IfOk};
 ghost use Rattle.xcm_program.specs.declared.instruction.Instruction.TheOpen.{Instruction-F};
 ghost use Rattle.exec_rules.specs.Machine.{machine};
 ghost use Rattle.exec_rules.specs.Functions.{Ran, IsReadyFor};
-ghost use Rattle.exec_rules.specs.Stopping.{Spilled};
+ghost use Rattle.exec_rules.specs.Stopping.{LeftOnOom};
 
 use asset_lists::{Assets, Filter};
 use exec_base::{Host, Registers};
 use exec_holding::{answer_of, put_back};
 use locations::Location;
-use message_parts::XcmError;
+use operands::XcmError;
 use std::alloc::AllocError;
 
 /// 4 TransferAsset: moves the assets from the origin's account to the beneficiary's.
@@ -23,7 +23,7 @@ pub fn transfer_asset<H: Host>(
         (machine r.old (H.part h.old)) }
     ensures ok { IfOk result (λ answer. Ran (Instruction-F.TransferAsset assets.now beneficiary.now)
         (machine r.old (H.part h.old)) answer (machine r.new (H.part h.new))) }
-    ensures err { OnErr result (Spilled (Instruction-F.TransferAsset assets.now beneficiary.now)
+    ensures err { OnErr result (LeftOnOom (Instruction-F.TransferAsset assets.now beneficiary.now)
         (machine r.old (H.part h.old)) (machine r.new (H.part h.new))) }
 {
     let Some(who) = &r.origin else {
@@ -46,7 +46,7 @@ pub fn deposit_asset<H: Host>(
         (machine r.old (H.part h.old)) }
     ensures ok { IfOk result (λ answer. Ran (Instruction-F.DepositAsset assets.now beneficiary.now)
         (machine r.old (H.part h.old)) answer (machine r.new (H.part h.new))) }
-    ensures err { OnErr result (Spilled (Instruction-F.DepositAsset assets.now beneficiary.now)
+    ensures err { OnErr result (LeftOnOom (Instruction-F.DepositAsset assets.now beneficiary.now)
         (machine r.old (H.part h.old)) (machine r.new (H.part h.new))) }
 {
     let goods = r.holding.take(assets)?;
@@ -60,7 +60,7 @@ pub fn deposit_asset<H: Host>(
 }
 
 /// 28 BurnAsset: burns the assets as far as they are held, and books them.
-#[tactic(auto, using(asset_bundles::specs::Laws::listed_taken))]
+#[tactic(auto, using(asset_bundles::proofs::Lemmas::listed_taken))]
 pub fn burn_asset<H: Host>(
     r: &mut Registers,
     h: &mut H,
@@ -70,7 +70,7 @@ pub fn burn_asset<H: Host>(
         (machine r.old (H.part h.old)) }
     ensures ok { IfOk result (λ answer. Ran (Instruction-F.BurnAsset assets.now)
         (machine r.old (H.part h.old)) answer (machine r.new (H.part h.new))) }
-    ensures err { OnErr result (Spilled (Instruction-F.BurnAsset assets.now)
+    ensures err { OnErr result (LeftOnOom (Instruction-F.BurnAsset assets.now)
         (machine r.old (H.part h.old)) (machine r.new (H.part h.new))) }
 {
     let goods = r.holding.take_listed(assets)?;

@@ -7,8 +7,8 @@ use Rattle.call_dispatch.specs.declared.end.CallEnd.{CallEnd}
 use Rattle.call_dispatch.specs.declared.end.CallEnd.TheVariants.{Success, Error}
 use Rattle.call_dispatch.specs.Spelling.{AnyCall}
 use Rattle.call_dispatch.specs.Shifts.{Floors}
-use Rattle.row_accounts.specs.RowAccounts.{is_fungible_row, unit_at}
-use Rattle.row_accounts.specs.Calls.{call_end, held_called, IsHeldInPart}
+use Rattle.row_ledger.specs.RowAccounts.{is_fungible_row, unit_at}
+use Rattle.row_ledger.specs.Calls.{call_end, held_called, IsHeldInPart}
 use Rattle.exec_base.specs.declared.event.Event.{Event}
 use Rattle.exec_base.specs.Part.{ChainPart}
 use Rattle.exec_base.specs.Host.{floor_of}
@@ -43,7 +43,7 @@ call_line p who c = Event.Called (call_index c) (is_success (dispatch_end p who 
 unfoldable pub dispatched : ChainPart → List ℕ → AnyCall → ChainPart
 dispatched p who c = record p {
   held = held_dispatched p who c;
-  kept_back = p.kept_back ++ call_line p who c ∷ [];
+  pending_events = p.pending_events ++ call_line p who c ∷ [];
 }
 
 -- where memory was refused: a front of a batch was done, and no line is kept back

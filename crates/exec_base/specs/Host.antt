@@ -13,12 +13,12 @@ use Rattle.locations.specs.Chains.{path_of}
 use Rattle.locations.specs.declared.grammar.Junction.{Junction}
 use Rattle.locations.specs.declared.grammar.Junction.TheVariants.{AccountId32}
 use Rattle.locations.specs.Reanchoring.{reanchored}
-use Rattle.message_parts.specs.declared.error.XcmError.{XcmError}
-use Rattle.message_parts.specs.declared.error.XcmError.TheVariants as error
-use Rattle.message_parts.specs.declared.weight.Weight.{Weight}
-use Rattle.message_parts.specs.declared.query.QueryInfo.{QueryInfo}
-use Rattle.message_parts.specs.declared.query.Response.{Response}
-use Rattle.message_parts.specs.declared.query.OpenQuery.{OpenQuery}
+use Rattle.operands.specs.declared.error.XcmError.{XcmError}
+use Rattle.operands.specs.declared.error.XcmError.TheVariants as error
+use Rattle.operands.specs.declared.weight.Weight.{Weight}
+use Rattle.operands.specs.declared.query.QueryInfo.{QueryInfo}
+use Rattle.operands.specs.declared.query.Response.{Response}
+use Rattle.operands.specs.declared.query.OpenQuery.{OpenQuery}
 use Rattle.asset_lists.specs.declared.units.Asset.{Asset}
 use Rattle.asset_lists.specs.declared.units.AssetId.{AssetId}
 use Rattle.asset_lists.specs.declared.units.Fun.{Fun}
@@ -38,8 +38,8 @@ use Rattle.trust_tables.specs.Trust.{row_of, is_row_of, is_reserve, is_partner}
 use Rattle.trust_tables.specs.Accounts.{account_of}
 use Rattle.trust_tables.specs.Chains.{path_of_site}
 use Rattle.ledgers.specs.Ledgers.{Held, Withdrawn, Deposited, is_barred}
-use Rattle.trap_store.specs.Traps.{with_trapped, pieces_of}
-use Rattle.trap_store.specs.declared.trap.Trap.{Trap}
+use Rattle.asset_bundles.specs.Traps.{with_trapped, pieces_of}
+use Rattle.asset_bundles.specs.declared.trap.Trap.{Trap}
 use Rattle.channel_parts.specs.declared.cargo.Cargo.{Cargo}
 use Rattle.channel_parts.specs.declared.cargo.Cargo.TheVariants.{Nothing, Deposit, Away}
 use Rattle.channel_parts.specs.Channels.{Outgoing, away}
@@ -47,11 +47,11 @@ use Rattle.weight_trader.specs.Purchases.{Line, coin_of, paying, unspent_at, exc
 use Rattle.weight_trader.specs.Refunds.{refund_of, goods_of, Refunded, Closed}
 use Rattle.xcm_program.specs.declared.instruction.Instruction.{Instruction, roll-Instruction}
 use Rattle.xcm_program.specs.declared.instruction.Instruction.TheOpen.{Instruction-F}
-use Rattle.chain_pools.specs.Exchanges.{is_pool_account}
+use Rattle.asset_pools.specs.Exchanges.{is_pool_account}
 use Rattle.exec_base.specs.declared.event.Event.{Event}
-use Rattle.exec_base.specs.Part.{Taken, ChainPart, accounts_of, book_of}
+use Rattle.exec_base.specs.Part.{DeliveredCargo, ChainPart, accounts_of, book_of}
 use Rattle.exec_base.specs.Arrivals.{arrived_list, is_this_list}
-use Rattle.exec_base.specs.Sending.{unless, or_else, channel_to, send_refusal, sent, deposit_program, away_program, listed_refusal, listed_program, named_refusal, named_sent}
+use Rattle.exec_base.specs.Sending.{unless, or_else, channel_to_location, send_refusal, sent, deposit_program, away_program, listed_refusal, listed_program, named_refusal, named_sent}
 use Rattle.asset_locks.specs.UnitFloors.{floor_at}
 use Rattle.asset_locks.specs.LockMaps.{LockKey, NoteKey, LocksAndNotes, lock_at, noted, Locked, Unlocked, Noted, Reduced}
 
@@ -71,15 +71,15 @@ at_account None change held = held
 at_account (Some who) change held = change who
 
 -- ---- burns and their lines
-abbrev pub path_in : ChainPart → AssetId → List Junction
-path_in p (AssetId.Concrete l) = path_of (path_of_site p.site) l
-path_in p (AssetId.Abstract bytes) = []
+abbrev pub asset_path_in : ChainPart → AssetId → List Junction
+asset_path_in p (AssetId.Concrete l) = path_of (path_of_site p.site) l
+asset_path_in p (AssetId.Abstract bytes) = []
 
 abbrev pub total_of : ℕ → Total
 total_of n = record { low = n % 2 ^ 128; high = min (n / 2 ^ 128) (2 ^ 32 - 1) }
 
 abbrev pub burned_line : ChainPart → (Unit → Cause) → Asset → Event
-burned_line p cause a = Event.Burned (kind_of (instance_in a.fun)) (path_in p a.id) (total_of (amount_of a)) (cause (unit_of a))
+burned_line p cause a = Event.Burned (kind_of (instance_in a.fun)) (asset_path_in p a.id) (total_of (amount_of a)) (cause (unit_of a))
 
 -- a line for each asset that is burned, an instance as 1, in the order in which a bundle holds them
 unfoldable pub burned_lines : ChainPart → (Unit → Cause) → Bundle → List Event
@@ -87,7 +87,7 @@ burned_lines p cause goods = map (burned_line p cause) (held_assets goods)
 
 -- the burns are booked, and the lines are kept back
 unfoldable pub booked : ChainPart → Burns → List Event → ChainPart
-booked p burns lines = record p { burns = (Booked (book_of p) burns).burns; kept_back = p.kept_back ++ lines }
+booked p burns lines = record p { burns = (Booked (book_of p) burns).burns; pending_events = p.pending_events ++ lines }
 
 -- ---- the cargo that is being delivered
 pub data Arrival : Type 0 where
@@ -119,7 +119,7 @@ unfoldable pub is_cargo : ChainPart → Arrival → List Asset → Bool
 is_cargo p arrival list = fits_call arrival p.cargo.cargo && is_this_list list (arrived_list p.site p.cargo.sender (cargo_list p.cargo.cargo))
 
 -- a call that the cargo matches ends it
-unfoldable pub cargo_after : ChainPart → Arrival → List Asset → Taken
+unfoldable pub cargo_after : ChainPart → Arrival → List Asset → DeliveredCargo
 cargo_after p arrival list = if is_cargo p arrival list then (record { sender = p.cargo.sender; cargo = Nothing }) else p.cargo
 
 -- ---- moves
@@ -127,13 +127,13 @@ cargo_after p arrival list = if is_cargo p arrival list then (record { sender = 
 abbrev pub floor_of : ChainPart → List ℕ → Unit → ℕ
 floor_of p who unit = floor_at p.locked who unit.0 unit.1
 
-abbrev pub give_fault : ChainPart → Option (List ℕ) → Asset → Option XcmError
-give_fault p account a =
+abbrev pub debit_fault : ChainPart → Option (List ℕ) → Asset → Option XcmError
+debit_fault p account a =
     unless (is_some (row_of p.rows a)) error.AssetNotFound
     (with_account account (λ who. unless (nat_le (amount_of a + floor_of p who (unit_of a)) (amount p.held (who, unit_of a))) error.FailedToTransactAsset None))
 
-abbrev pub take_fault : ChainPart → Option (List ℕ) → Asset → Option XcmError
-take_fault p account a =
+abbrev pub credit_fault : ChainPart → Option (List ℕ) → Asset → Option XcmError
+credit_fault p account a =
     unless (is_some (row_of p.rows a)) error.AssetNotFound
     (with_account account (λ who. unless (not (is_barred p.held who a)) error.FailedToTransactAsset None))
 
@@ -144,20 +144,20 @@ abbrev pub got : ChainPart → Bundle → Location → ChainPart
 got p goods who = record p { held = at_account (account_of who p.site) (λ account. (Deposited account goods (accounts_of p)).held) p.held }
 
 unfoldable pub withdraw_refusal : ChainPart → List Asset → Location → Option XcmError
-withdraw_refusal p list who = first_fault (give_fault p (account_of who p.site)) list
+withdraw_refusal p list who = first_fault (debit_fault p (account_of who p.site)) list
 
 unfoldable pub withdrawn : ChainPart → List Asset → Location → ChainPart
 withdrawn p list who = record (given p list who) { cargo = cargo_after p ByWithdrawal list }
 
 unfoldable pub deposit_refusal : ChainPart → Bundle → Location → Option XcmError
-deposit_refusal p goods who = first_fault (take_fault p (account_of who p.site)) (held_assets goods)
+deposit_refusal p goods who = first_fault (credit_fault p (account_of who p.site)) (held_assets goods)
 
 unfoldable pub deposited : ChainPart → Bundle → Location → ChainPart
 deposited p goods who = got p goods who
 
 unfoldable pub transfer_refusal : ChainPart → List Asset → Location → Location → Option XcmError
 transfer_refusal p list from to =
-    or_else (first_fault (give_fault p (account_of from p.site)) list) (first_fault (take_fault (given p list from) (account_of to p.site)) list)
+    or_else (first_fault (debit_fault p (account_of from p.site)) list) (first_fault (credit_fault (given p list from) (account_of to p.site)) list)
 
 unfoldable pub transferred : ChainPart → List Asset → Location → Location → ChainPart
 transferred p list from to = got (given p list from) (bundle_of list) to
@@ -261,13 +261,13 @@ responded p info response querier =
 abbrev pub is_query : ℕ → Location → OpenQuery → Bool
 is_query id from q = (q.id == id) && eq_by_cmp location_cmp q.from from
 
-unfoldable pub is_open : ChainPart → Location → ℕ → Bool
-is_open p from query = list_any (is_query query from) p.queries
+unfoldable pub has_open_query : ChainPart → Location → ℕ → Bool
+has_open_query p from query = list_any (is_query query from) p.queries
 
 unfoldable pub answered : ChainPart → Location → ℕ → ChainPart
 answered p from query =
-    option_map_or (λ (place : ℕ). record p { queries = remove p.queries place; kept_back = p.kept_back ++ Event.Answered query ∷ [] })
-    (position (is_query query from) p.queries) (record p { kept_back = p.kept_back ++ Event.Ignored query ∷ [] })
+    option_map_or (λ (place : ℕ). record p { queries = remove p.queries place; pending_events = p.pending_events ++ Event.Answered query ∷ [] })
+    (position (is_query query from) p.queries) (record p { pending_events = p.pending_events ++ Event.Ignored query ∷ [] })
 
 -- ---- weight
 abbrev pub no_line_refusal : Option Line → Option XcmError
@@ -298,8 +298,8 @@ unfoldable pub refunded : ChainPart → Weight → ChainPart
 refunded p w = record p { lines = Refunded w p.lines }
 
 -- ---- bundles
-unfoldable pub joined : ChainPart → Bundle → Bundle → ChainPart
-joined p into goods = booked p (given_up into goods) (burned_lines p (λ (unit : Unit). excess_cause unit.1) (Excess into goods))
+unfoldable pub bundles_joined : ChainPart → Bundle → Bundle → ChainPart
+bundles_joined p into goods = booked p (given_up into goods) (burned_lines p (λ (unit : Unit). excess_cause unit.1) (Excess into goods))
 
 unfoldable pub burnt : ChainPart → Bundle → ChainPart
 burnt p goods = booked p (burned_for Cause.BurnAsset goods) (burned_lines p (λ unit. Cause.BurnAsset) goods)
@@ -358,7 +358,7 @@ settled p = record p {
 }
 
 abbrev pub fee_to : ChainPart → Location → Option Asset
-fee_to p dest = option_and_then (λ (c : Outgoing). c.channel.fee) (channel_to p dest)
+fee_to p dest = option_and_then (λ (c : Outgoing). c.channel.fee) (channel_to_location p dest)
 
 -- an amount above 0 of a fungible asset
 abbrev pub is_price : Fun → Bool
@@ -493,4 +493,4 @@ asset_requested p a owner locker = named_sent (with_less_noted p a (request_key 
 
 -- ---- events
 unfoldable pub told : ChainPart → Event → ChainPart
-told p e = record p { events = p.events ++ (e ∷ []) ++ p.kept_back; kept_back = [] }
+told p e = record p { events = p.events ++ (e ∷ []) ++ p.pending_events; pending_events = [] }

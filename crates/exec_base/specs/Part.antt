@@ -1,14 +1,14 @@
 -- A chain's part of the world, as contracts see it: what it lists, what stands where, what it sends, and what is told.
 use Rattle.std.specs.Prelude.{ℕ, Bool, List, Option}
 use Rattle.chain_ids.specs.declared.chain.ChainId.{ChainId}
-use Rattle.message_parts.specs.declared.pallet.PalletInfo.{PalletInfo}
-use Rattle.message_parts.specs.declared.query.OpenQuery.{OpenQuery}
+use Rattle.operands.specs.declared.pallet.PalletInfo.{PalletInfo}
+use Rattle.operands.specs.declared.query.OpenQuery.{OpenQuery}
 use Rattle.trust_tables.specs.declared.chains.Site.{Site}
 use Rattle.trust_tables.specs.declared.rows.AssetRow.{AssetRow}
 use Rattle.asset_bundles.specs.Bundles.{Bundle}
 use Rattle.asset_bundles.specs.Books.{Burns, Book}
 use Rattle.ledgers.specs.Ledgers.{Held, Accounts}
-use Rattle.trap_store.specs.Traps.{Store}
+use Rattle.asset_bundles.specs.Traps.{Store}
 use Rattle.asset_locks.specs.LockMaps.{LocksAndNotes}
 use Rattle.trust_tables.specs.Trust.{listing}
 use Rattle.channel_parts.specs.declared.cargo.Cargo.{Cargo}
@@ -20,7 +20,7 @@ use Rattle.exec_base.specs.declared.settings.Settings.{Settings}
 -- ---- deliveries
 
 -- the cargo of the message that is being delivered, and the chain that sent it
-pub record Taken : Type 0 where
+pub record DeliveredCargo : Type 0 where
   pub sender : ChainId
   pub cargo : Cargo
 
@@ -44,10 +44,10 @@ pub record ChainPart : Type 0 where
   -- messages
   pub queries : List OpenQuery
   pub channels : List Outgoing
-  pub cargo : Taken
+  pub cargo : DeliveredCargo
   -- what is told
   pub events : List Event
-  pub kept_back : List Event
+  pub pending_events : List Event
 
 -- the ledger and the book over the chain's listing
 abbrev pub accounts_of : ChainPart → Accounts

@@ -1,12 +1,12 @@
 -- What an exchange with the chain's pools refuses, what it leaves of the chain, and what comes of the goods. This project's own rule.
 use Rattle.std.specs.Prelude.{Bool, is_some, List, Option, None}
 use Rattle.std.specs.Option.{option_map_or}
-use Rattle.message_parts.specs.declared.error.XcmError.{XcmError}
-use Rattle.message_parts.specs.declared.error.XcmError.TheVariants as error
+use Rattle.operands.specs.declared.error.XcmError.{XcmError}
+use Rattle.operands.specs.declared.error.XcmError.TheVariants as error
 use Rattle.asset_lists.specs.declared.units.Asset.{Asset}
 use Rattle.asset_bundles.specs.Bundles.{Bundle, held_assets}
-use Rattle.chain_pools.specs.declared.exchanges.Exchange.{Exchange}
-use Rattle.chain_pools.specs.Exchanges.{exchange_of, held_after, goods_after}
+use Rattle.asset_pools.specs.declared.exchanges.Exchange.{Exchange}
+use Rattle.asset_pools.specs.Exchanges.{exchange_of, held_after, goods_after}
 use Rattle.exec_base.specs.Part.{ChainPart}
 use Rattle.exec_base.specs.Sending.{unless}
 

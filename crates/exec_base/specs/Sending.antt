@@ -4,8 +4,8 @@ use Rattle.std.specs.List.{AllByRecursion}
 use Rattle.std.specs.Option.{option_map_or}
 use Rattle.xcm_program.specs.Conversions.{is_convertible, HasAmounts}
 use Rattle.locations.specs.declared.relative.Location.{Location}
-use Rattle.message_parts.specs.declared.error.XcmError.{XcmError}
-use Rattle.message_parts.specs.declared.error.XcmError.TheVariants as error
+use Rattle.operands.specs.declared.error.XcmError.{XcmError}
+use Rattle.operands.specs.declared.error.XcmError.TheVariants as error
 use Rattle.asset_lists.specs.declared.units.Asset.{Asset}
 use Rattle.asset_bundles.specs.declared.shipment.Way.{Way}
 use Rattle.xcm_program.specs.declared.instruction.Instruction.{Instruction, roll-Instruction}
@@ -29,11 +29,11 @@ or_else None next = next
 or_else (Some e) next = Some e
 
 -- ---- the channel
-abbrev pub leads_to : ChainPart → Location → Outgoing → Bool
-leads_to p dest c = is_location_of p.site.chain c.channel.to dest
+abbrev pub leads_to_location : ChainPart → Location → Outgoing → Bool
+leads_to_location p dest c = is_location_of p.site.chain c.channel.to dest
 
-abbrev pub channel_to : ChainPart → Location → Option Outgoing
-channel_to p dest = find (leads_to p dest) p.channels
+abbrev pub channel_to_location : ChainPart → Location → Option Outgoing
+channel_to_location p dest = find (leads_to_location p dest) p.channels
 
 -- within all limits of a message, spelled in the channel's version
 abbrev pub is_sendable : Outgoing → List Instruction → Bool
@@ -45,11 +45,11 @@ channel_refusal (Some c) few program = unless (few && is_sendable c program) err
 
 -- why a program isn't sent. `few`: no list in it has more than 20 assets
 unfoldable pub send_refusal : ChainPart → Location → Bool → List Instruction → Option XcmError
-send_refusal p dest few program = channel_refusal (channel_to p dest) few program
+send_refusal p dest few program = channel_refusal (channel_to_location p dest) few program
 
 -- the number that the next message gets; it saturates at 2^64-1
 unfoldable pub number_to : ChainPart → Location → ℕ
-number_to p dest = option_map_or (λ (c : Outgoing). c.next) (channel_to p dest) 0
+number_to p dest = option_map_or (λ (c : Outgoing). c.next) (channel_to_location p dest) 0
 
 abbrev pub sent_event : ChainPart → Option Outgoing → List Event
 sent_event p None = []
@@ -58,7 +58,7 @@ sent_event p (Some c) = Event.Sent p.site.chain c.channel.to c.next ∷ []
 -- the message stands last in its channel
 unfoldable pub sent : ChainPart → Location → List Instruction → Cargo → ChainPart
 sent p dest program cargo =
-    record p { channels = change_first (leads_to p dest) (with_waiting program cargo) p.channels; kept_back = p.kept_back ++ sent_event p (channel_to p dest) }
+    record p { channels = change_first (leads_to_location p dest) (with_waiting program cargo) p.channels; pending_events = p.pending_events ++ sent_event p (channel_to_location p dest) }
 
 -- ---- the programs
 

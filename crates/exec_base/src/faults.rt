@@ -1,5 +1,5 @@
 //! Why a call of a host is refused.
-use message_parts::XcmError;
+use operands::XcmError;
 use std::alloc::AllocError;
 
 /// Why a call of a host is refused.

@@ -5,7 +5,7 @@ use asset_bundles::{AssetBundle, Way};
 use asset_lists::{Asset, Assets};
 use call_dispatch::{Call, CallEnd};
 use locations::Location;
-use message_parts::{OpenQuery, PalletInfo, QueryInfo, Response, Weight};
+use operands::{OpenQuery, PalletInfo, QueryInfo, Response, Weight};
 use std::alloc::AllocError;
 use trust_tables::Site;
 use xcm_program::Program;
@@ -23,11 +23,11 @@ pub trait Host {
     ghost use Rattle.xcm_program.specs.declared.instruction.Instruction.{roll-Instruction};
     ghost use Rattle.xcm_program.specs.declared.instruction.Instruction.TheOpen.{Instruction-F};
     ghost use Rattle.exec_base.specs.Part.{ChainPart};
-    ghost use Rattle.exec_base.specs.Answers.{Answers, TakesIn, Keeps, Gives, JoinedInto};
-    ghost use Rattle.exec_base.specs.Sending.{channel_to, number_to, IsForwardable};
+    ghost use Rattle.exec_base.specs.Answers.{AnswersOrRefuses, TakesGoodsOrRefuses, Keeps, AnswersWithinMemory, JoinedInto};
+    ghost use Rattle.exec_base.specs.Sending.{channel_to_location, number_to, IsForwardable};
     ghost use Rattle.exec_base.specs.Calls.{Dispatches};
     ghost use Rattle.exec_base.specs.Pools.{exchange_refusal, exchanged, exchange_goods};
-    ghost use Rattle.exec_base.specs.Host.{withdraw_refusal, withdrawn, deposit_refusal, deposited, transfer_refusal, transferred, receive_refusal, received, transfer_out_refusal, transferred_out, deposit_out_refusal, deposited_out, ship_refusal, shipped, respond_refusal, responded, report_program, IsPrice, IsFeeOrNothing, is_open, answered, buy_refusal, unspent, bought, refund_goods, refunded, joined, burnt, claim_refusal, claimed, lock_refusal, asset_locked, unlock_refusal, asset_unlocked, note_refusal, asset_noted, request_refusal, asset_requested, trapped, parked, settled, fee_to, fee_held, fee_taken, fee_kept, fee_drawn, told};
+    ghost use Rattle.exec_base.specs.Host.{withdraw_refusal, withdrawn, deposit_refusal, deposited, transfer_refusal, transferred, receive_refusal, received, transfer_out_refusal, transferred_out, deposit_out_refusal, deposited_out, ship_refusal, shipped, respond_refusal, responded, report_program, IsPrice, IsFeeOrNothing, has_open_query, answered, buy_refusal, unspent, bought, refund_goods, refunded, bundles_joined, burnt, claim_refusal, claimed, lock_refusal, asset_locked, unlock_refusal, asset_unlocked, note_refusal, asset_noted, request_refusal, asset_requested, trapped, parked, settled, fee_to, fee_held, fee_taken, fee_kept, fee_drawn, told};
 
     /// The chain's part of the world.
     ghost part: { Self → ChainPart };
@@ -47,7 +47,7 @@ pub trait Host {
 
     /// Takes assets out of an account.
     fn withdraw(&mut self, a: &Assets, who: &Location) -> Result<AssetBundle, HostFault>
-        ensures step { Answers (withdraw_refusal (part self.old) a.now who.now) (bundle_of a.now)
+        ensures step { AnswersOrRefuses (withdraw_refusal (part self.old) a.now who.now) (bundle_of a.now)
             (withdrawn (part self.old) a.now who.now) (part self.old) result (part self.new) };
 
     /// Puts goods into an account.
@@ -56,12 +56,12 @@ pub trait Host {
         goods: AssetBundle,
         who: &Location,
     ) -> Result<(), (AssetBundle, HostFault)>
-        ensures step { TakesIn (deposit_refusal (part self.old) goods who.now) goods tt
+        ensures step { TakesGoodsOrRefuses (deposit_refusal (part self.old) goods who.now) goods tt
             (deposited (part self.old) goods who.now) (part self.old) result (part self.new) };
 
     /// Moves assets between accounts.
     fn transfer(&mut self, a: &Assets, from: &Location, to: &Location) -> Result<(), HostFault>
-        ensures step { Answers (transfer_refusal (part self.old) a.now from.now to.now) tt
+        ensures step { AnswersOrRefuses (transfer_refusal (part self.old) a.now from.now to.now) tt
             (transferred (part self.old) a.now from.now to.now) (part self.old) result
             (part self.new) };
 
@@ -72,7 +72,7 @@ pub trait Host {
         from: &Location,
         teleport: bool,
     ) -> Result<AssetBundle, HostFault>
-        ensures step { Answers (receive_refusal (part self.old) a.now from.now teleport)
+        ensures step { AnswersOrRefuses (receive_refusal (part self.old) a.now from.now teleport)
             (bundle_of a.now) (received (part self.old) a.now teleport) (part self.old) result
             (part self.new) };
 
@@ -85,7 +85,7 @@ pub trait Host {
         xcm: &Program,
     ) -> Result<u64, HostFault>
         requires forwardable { IsForwardable xcm.now }
-        ensures step { Answers (transfer_out_refusal (part self.old) a.now from.now dest.now
+        ensures step { AnswersOrRefuses (transfer_out_refusal (part self.old) a.now from.now dest.now
             xcm.now) (number_to (part self.old) dest.now)
             (transferred_out (part self.old) a.now from.now dest.now xcm.now) (part self.old) result
             (part self.new) };
@@ -98,7 +98,7 @@ pub trait Host {
         xcm: &Program,
     ) -> Result<u64, (AssetBundle, HostFault)>
         requires forwardable { IsForwardable xcm.now }
-        ensures step { TakesIn (deposit_out_refusal (part self.old) goods dest.now xcm.now) goods
+        ensures step { TakesGoodsOrRefuses (deposit_out_refusal (part self.old) goods dest.now xcm.now) goods
             (number_to (part self.old) dest.now)
             (deposited_out (part self.old) goods dest.now xcm.now) (part self.old) result
             (part self.new) };
@@ -112,7 +112,7 @@ pub trait Host {
         xcm: &Program,
     ) -> Result<u64, (AssetBundle, HostFault)>
         requires forwardable { IsForwardable xcm.now }
-        ensures step { TakesIn (ship_refusal (part self.old) goods way dest.now xcm.now) goods
+        ensures step { TakesGoodsOrRefuses (ship_refusal (part self.old) goods way dest.now xcm.now) goods
             (number_to (part self.old) dest.now)
             (shipped (part self.old) goods way dest.now xcm.now) (part self.old) result
             (part self.new) };
@@ -126,18 +126,18 @@ pub trait Host {
     ) -> Result<u64, HostFault>
         requires forwardable { IsForwardable
             (report_program to.now response (option_copied querier)) }
-        ensures step { Answers (respond_refusal (part self.old) to.now response
+        ensures step { AnswersOrRefuses (respond_refusal (part self.old) to.now response
             (option_copied querier.entry)) (number_to (part self.old) to.now.destination)
             (responded (part self.old) to.now response (option_copied querier.entry))
             (part self.old) result (part self.new) };
 
     /// Whether a channel leads to just that location.
     fn routes(&self, dest: &Location) -> bool
-        ensures { result ≡ is_some (channel_to (part self.now) dest.now) };
+        ensures { result ≡ is_some (channel_to_location (part self.now) dest.now) };
 
     /// Closes the query, where it is open from that location.
     fn answer(&mut self, from: &Location, query: u64) -> Result<bool, AllocError>
-        ensures step { Gives (is_open (part self.old) from.now query)
+        ensures step { AnswersWithinMemory (has_open_query (part self.old) from.now query)
             (answered (part self.old) from.now query) (part self.old) result (part self.new) };
 
     /// Buys weight, and hands back what is unspent.
@@ -146,7 +146,7 @@ pub trait Host {
         w: Weight,
         payment: AssetBundle,
     ) -> Result<AssetBundle, (AssetBundle, HostFault)>
-        ensures step { TakesIn (buy_refusal (part self.old) w payment) payment
+        ensures step { TakesGoodsOrRefuses (buy_refusal (part self.old) w payment) payment
             (unspent (part self.old) w payment) (bought (part self.old) w payment) (part self.old)
             result (part self.new) };
 
@@ -156,13 +156,13 @@ pub trait Host {
 
     /// Gives back what was paid for the weight.
     fn refund(&mut self, w: Weight) -> Result<AssetBundle, AllocError>
-        ensures step { Gives (refund_goods (part self.old) w) (refunded (part self.old) w)
+        ensures step { AnswersWithinMemory (refund_goods (part self.old) w) (refunded (part self.old) w)
             (part self.old) result (part self.new) };
 
     /// Joins goods into a bundle, and books what it can't hold.
     fn join(&mut self, into: &mut AssetBundle, goods: AssetBundle) -> Result<(), AssetBundle>
         requires listed { AreListed (listing (part self.old).rows) (Excess into.old goods) }
-        ensures step { Keeps goods (joined (part self.old) into.old goods) (part self.old) result
+        ensures step { Keeps goods (bundles_joined (part self.old) into.old goods) (part self.old) result
             (part self.new) }
         ensures into { JoinedInto goods into.old result into.new };
 
@@ -174,7 +174,7 @@ pub trait Host {
 
     /// Takes a trap that has this origin and this list.
     fn claim(&mut self, a: &Assets, origin: &Location) -> Result<AssetBundle, HostFault>
-        ensures step { Answers (claim_refusal (part self.old) a.now origin.now) (bundle_of a.now)
+        ensures step { AnswersOrRefuses (claim_refusal (part self.old) a.now origin.now) (bundle_of a.now)
             (claimed (part self.old) a.now origin.now) (part self.old) result (part self.new) };
 
     /// Traps goods, which aren't empty.
@@ -185,7 +185,7 @@ pub trait Host {
 
     /// Puts paid fees into the fee account.
     fn settle(&mut self) -> Result<(), AllocError>
-        ensures step { Gives tt (settled (part self.old)) (part self.old) result (part self.new) };
+        ensures step { AnswersWithinMemory tt (settled (part self.old)) (part self.old) result (part self.new) };
 
     /// Keeps a bundle, without memory.
     fn park(&mut self, goods: AssetBundle)
@@ -215,7 +215,7 @@ pub trait Host {
     /// Takes a fee out of an account, which can take it back; it ends no cargo.
     fn draw_fee(&mut self, fee: &Asset, who: &Location) -> Result<AssetBundle, HostFault>
         requires price { IsPrice fee.now }
-        ensures step { Answers (withdraw_refusal (part self.old) (fee.now ∷ []) who.now)
+        ensures step { AnswersOrRefuses (withdraw_refusal (part self.old) (fee.now ∷ []) who.now)
             (bundle_of (fee.now ∷ [])) (fee_drawn (part self.old) (fee.now ∷ []) who.now)
             (part self.old) result (part self.new) }
         ensures back { OnOk result (deposit_refusal (part self.new) (bundle_of (fee.now ∷ []))
@@ -244,14 +244,14 @@ pub trait Host {
     ) -> Result<u64, HostFault>
         requires forwardable { IsForwardable
             (roll-Instruction (Instruction-F.LockAsset asset.now unlocker.now) ∷ []) }
-        ensures step { Answers (lock_refusal (part self.old) asset.now owner.now unlocker.now)
+        ensures step { AnswersOrRefuses (lock_refusal (part self.old) asset.now owner.now unlocker.now)
             (number_to (part self.old) unlocker.now)
             (asset_locked (part self.old) asset.now owner.now unlocker.now) (part self.old) result
             (part self.new) };
 
     /// Lets a lock fall, of which `from` is the unlocker.
     fn unlock(&mut self, asset: &Asset, target: &Location, from: &Location) -> Result<(), HostFault>
-        ensures step { Answers (unlock_refusal (part self.old) asset.now target.now from.now) tt
+        ensures step { AnswersOrRefuses (unlock_refusal (part self.old) asset.now target.now from.now) tt
             (asset_unlocked (part self.old) asset.now target.now from.now) (part self.old) result
             (part self.new) };
 
@@ -259,7 +259,7 @@ pub trait Host {
     fn note(&mut self, asset: &Asset, owner: &Location, from: &Location) -> Result<(), HostFault>
         requires forwardable { IsForwardable
             (roll-Instruction (Instruction-F.NoteUnlockable asset.now owner.now) ∷ []) }
-        ensures step { Answers (note_refusal (part self.old) asset.now owner.now from.now) tt
+        ensures step { AnswersOrRefuses (note_refusal (part self.old) asset.now owner.now from.now) tt
             (asset_noted (part self.old) asset.now owner.now from.now) (part self.old) result
             (part self.new) };
 
@@ -272,7 +272,7 @@ pub trait Host {
     ) -> Result<u64, HostFault>
         requires forwardable { IsForwardable
             (roll-Instruction (Instruction-F.RequestUnlock asset.now locker.now) ∷ []) }
-        ensures step { Answers (request_refusal (part self.old) asset.now owner.now locker.now)
+        ensures step { AnswersOrRefuses (request_refusal (part self.old) asset.now owner.now locker.now)
             (number_to (part self.old) locker.now)
             (asset_requested (part self.old) asset.now owner.now locker.now) (part self.old) result
             (part self.new) };
@@ -285,12 +285,12 @@ pub trait Host {
         want: &Assets,
         maximal: bool,
     ) -> Result<AssetBundle, (AssetBundle, HostFault)>
-        ensures step { TakesIn (exchange_refusal (part self.old) give want.now maximal) give
+        ensures step { TakesGoodsOrRefuses (exchange_refusal (part self.old) give want.now maximal) give
             (exchange_goods (part self.old) give want.now maximal)
             (exchanged (part self.old) give want.now maximal) (part self.old) result
             (part self.new) };
 
     /// Tells an event, and behind it what is kept back.
     fn event(&mut self, e: Event) -> Result<(), AllocError>
-        ensures step { Gives tt (told (part self.old) e) (part self.old) result (part self.new) };
+        ensures step { AnswersWithinMemory tt (told (part self.old) e) (part self.old) result (part self.new) };
 }

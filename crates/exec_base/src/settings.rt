@@ -1,6 +1,6 @@
 //! What the network document says of a chain.
-use chain_pools::Pool;
-use message_parts::PalletInfo;
+use asset_pools::Pool;
+use operands::PalletInfo;
 use plain_lists::Listed;
 use trust_tables::{AssetRow, Site};
 

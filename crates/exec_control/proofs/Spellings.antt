@@ -5,12 +5,13 @@ use Rattle.std.specs.Str.{bytes_eq}
 use Rattle.std.proofs.lemmas.Bool.Decides.{same_from_decides, nat_tests}
 use Rattle.std.proofs.lemmas.Slice.Eq.{bytes_eq-Decides}
 use Rattle.scale_codec.specs.Spelling.{IsPrefixFree, fixed}
-use Rattle.scale_codec.specs.Laws.ReadLaws.{prefix_free}
-use Rattle.message_parts.specs.declared.error.XcmError.{XcmError}
-use Rattle.message_parts.specs.declared.error.XcmError.TheVariants.{Trap}
+use Rattle.scale_codec.proofs.Lemmas.ReadLaws.{prefix_free}
+use Rattle.operands.specs.declared.error.XcmError.{XcmError}
+use Rattle.operands.specs.declared.error.XcmError.TheVariants.{Trap}
 use Rattle.xcm_format.specs.Parts.{xcm_error, failure, FitsFailure, bytes, FitsBytes}
-use Rattle.part_wire.specs.Laws.FieldLaws.{failure_reads, bytes_reads_most}
+use Rattle.xcm_format.proofs.Lemmas.OperandLaws.FieldLaws.{failure_reads, bytes_reads_most}
 use Rattle.exec_control.specs.Numbers.{error_number, trap_code, is_same_error}
+use Rattle.plain_lists.proofs.Lemmas.Facts.{both_are, both_true}
 
 same_value : {X : Type 0} (t : X → List ℕ) (F : X → Type 0) → IsPrefixFree t F → (x y : X) → F x → F y → t x ≡ t y → x ≡ y
 same_value t F free x y p q e = (free x y (t x) (t y) [] [] (p, refl) (q, refl) (ap (λ (w : List ℕ). w ++ []) e)).0
@@ -23,10 +24,6 @@ spelled_by_number : (e : XcmError) → xcm_error e ≡ numbered (error_number e)
 unfolding numbered
 spelled_by_number (Trap code) = refl
 spelled_by_number _ = refl
-
-both_true : (a b : Bool) → (a && b) ≡ true → (a ≡ true) × (b ≡ true)
-both_true true b h = (refl, h)
-both_true false b h = absurd cc
 
 test_true : (n m : ℕ) → nat_eq n m ≡ true → n ≡ m
 test_true n m h = grind (arith, nat_tests, h)
@@ -41,10 +38,6 @@ same_errors a b h =
     ∙ ap (λ (n : ℕ). numbered n (trap_code a)) (test_true (error_number a) (error_number b) t.1)
     ∙ ap (λ (n : ℕ). numbered (error_number b) n) (test_true (trap_code a) (trap_code b) t.0)
     ∙ sym (spelled_by_number b)
-
-both_are : (a b : Bool) → a ≡ true → b ≡ true → (a && b) ≡ true
-both_are true b h k = k
-both_are false b h k = absurd cc
 
 errors_same : (a b : XcmError) → a ≡ b → is_same_error a b ≡ true
 errors_same a b e = both_are _ _ (test_same _ _ (ap trap_code e)) (test_same _ _ (ap error_number e))

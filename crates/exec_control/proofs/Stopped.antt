@@ -2,8 +2,8 @@
 use Rattle.std.proofs.Common.{◌≡◌, ◌⊎◌, inl, inr, ℕ, Bool, true, List, Option, Some, Result, Ok, Err, refl, sym, ap, ◌∙◌, subst}
 use Rattle.std.specs.Prelude.{OnErr}
 use Rattle.locations.specs.declared.relative.Location.{Location}
-use Rattle.message_parts.specs.declared.origin.OriginKind.{OriginKind}
-use Rattle.message_parts.specs.declared.weight.Weight.{Weight}
+use Rattle.operands.specs.declared.origin.OriginKind.{OriginKind}
+use Rattle.operands.specs.declared.weight.Weight.{Weight}
 use Rattle.xcm_program.specs.declared.instruction.Instruction.TheOpen.{Instruction-F}
 use Rattle.std.specs.declared.alloc.AllocError.{AllocError}
 use Rattle.call_dispatch.specs.declared.end.CallEnd.{CallEnd}
@@ -14,7 +14,7 @@ use Rattle.exec_base.specs.Part.{ChainPart}
 use Rattle.exec_base.specs.Calls.{IsDispatchedInPart, Dispatches}
 use Rattle.exec_rules.specs.Machine.{Machine, machine}
 use Rattle.exec_rules.specs.Calls.{read_of, call_in, caller_in, CallStops, CallStopsAt}
-use Rattle.exec_rules.specs.Stopping.{Spilled}
+use Rattle.exec_rules.specs.Stopping.{LeftOnOom}
 
 pub was_read : (c : AnyCall) (bytes : List ℕ) → (Ok c ≡ Err Memory) ⊎ (Ok c ≡ call_of bytes) → call_of bytes ≡ Ok c
 was_read c bytes (inl is) = absurd cc
@@ -28,7 +28,7 @@ stopped_by p who c result now serves h is =
 -- by the origin, that calls are served, the call, the account and what was done in part
 pub stopped : (m : Machine) (kind : OriginKind) (most : Weight) (bytes : List ℕ) (who : Location) (c : AnyCall) (account : List ℕ) (p : ChainPart)
     → m.regs.origin ≡ Some who → m.part.calls ≡ true → call_of bytes ≡ Ok c → caller_in m kind who ≡ Some account
-    → IsDispatchedInPart m.part account c p → Spilled (Instruction-F.Transact kind most bytes) m (machine m.regs p)
+    → IsDispatchedInPart m.part account c p → LeftOnOom (Instruction-F.Transact kind most bytes) m (machine m.regs p)
 stopped m kind most bytes who c account p origin serves read called in_part =
     let call : call_in m.part.calls bytes ≡ Some c = ap (λ (b : Bool). call_in b bytes) serves ∙ ap read_of read in
     inr (subst (λ (o : Option Location). CallStopsAt m kind bytes o (machine m.regs p)) (sym origin)

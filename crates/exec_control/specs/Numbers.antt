@@ -1,16 +1,16 @@
 -- Errors by their numbers, so that they are compared without memory. Source: the XCM format's `Error`.
 use Rattle.std.specs.Prelude.{ℕ, ◌==◌, ◌&&◌, Bool, List, [], ◌∷◌}
-use Rattle.message_parts.specs.declared.error.XcmError.{XcmError}
-use Rattle.message_parts.specs.declared.error.XcmError.TheVariants.{Trap}
+use Rattle.operands.specs.declared.error.XcmError.{XcmError}
+use Rattle.operands.specs.declared.error.XcmError.TheVariants.{Trap}
 use Rattle.xcm_format.specs.Parts.{xcm_error}
 
-abbrev pub first_of : List ℕ → ℕ
-first_of [] = 0
-first_of (n ∷ rest) = n
+abbrev pub first_number : List ℕ → ℕ
+first_number [] = 0
+first_number (n ∷ rest) = n
 
 -- the number that an error's spelling begins with
 abbrev pub error_number : XcmError → ℕ
-error_number e = first_of (xcm_error e)
+error_number e = first_number (xcm_error e)
 
 -- only a Trap has a code
 abbrev pub trap_code : XcmError → ℕ

@@ -1,18 +1,18 @@
 //! Calls of the chain that are dispatched.
 ghost use Rattle.std.specs.Prelude.{◌≡◌, ◌<◌, [], if◌then◌else◌, Some, None, IfOk, OnErr, vec_capacity};
-ghost use Rattle.message_parts.specs.Weights.{is_within};
+ghost use Rattle.operands.specs.Weights.{is_within};
 ghost use Rattle.trust_tables.specs.Accounts.{account_of};
 ghost use Rattle.xcm_program.specs.declared.instruction.Instruction.TheOpen.{Instruction-F};
 ghost use Rattle.exec_rules.specs.Machine.{machine};
 ghost use Rattle.exec_rules.specs.Calls.{account_by, call_weight, spare_weight, status_of};
 ghost use Rattle.exec_rules.specs.Functions.{Ran, IsReadyFor};
-ghost use Rattle.exec_rules.specs.Stopping.{Spilled};
+ghost use Rattle.exec_rules.specs.Stopping.{LeftOnOom};
 
 use crate::programs::added;
 use call_dispatch::{Call, CallEnd, CallFault, call_units, read_call};
 use exec_base::{Host, Registers};
 use locations::Location;
-use message_parts::{BoundedVec, LongBytes, MaybeError, OriginKind, Weight, XcmError};
+use operands::{BoundedVec, LongBytes, MaybeError, OriginKind, Weight, XcmError};
 use std::alloc::{AllocError, Global};
 use trust_tables::{Site, account_of};
 use xcm_program::WeightRule;
@@ -74,7 +74,7 @@ pub fn transact<H: Host>(
     ensures ok { IfOk result
         (λ answer. Ran (Instruction-F.Transact origin_kind require_weight_at_most call.now)
         (machine r.old (H.part h.old)) answer (machine r.new (H.part h.new))) }
-    ensures err { OnErr result (Spilled (Instruction-F.Transact origin_kind require_weight_at_most
+    ensures err { OnErr result (LeftOnOom (Instruction-F.Transact origin_kind require_weight_at_most
         call.now)
         (machine r.old (H.part h.old)) (machine r.new (H.part h.new))) }
 {

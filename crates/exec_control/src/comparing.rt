@@ -10,7 +10,7 @@ ghost use Rattle.exec_rules.specs.Expectations as expectations;
 
 use exec_base::Registers;
 use locations::{Junction, Location};
-use message_parts::{ErrorBytes, LongBytes, MaybeError, PalletInfo, XcmError};
+use operands::{ErrorBytes, LongBytes, MaybeError, PalletInfo, XcmError};
 use trust_tables::Site;
 
 /// Whether two origins are the same, both empty or both the same location.

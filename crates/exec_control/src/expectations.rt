@@ -3,12 +3,12 @@ ghost use Rattle.std.specs.Prelude.{IfOk, OnErr};
 ghost use Rattle.xcm_program.specs.declared.instruction.Instruction.TheOpen.{Instruction-F};
 ghost use Rattle.exec_rules.specs.Machine.{machine};
 ghost use Rattle.exec_rules.specs.Functions.{Ran, IsReadyFor};
-ghost use Rattle.exec_rules.specs.Stopping.{Spilled};
+ghost use Rattle.exec_rules.specs.Stopping.{LeftOnOom};
 
 use crate::comparing::{has_names, has_version, pallet_at, same_failure, same_origin, same_status};
 use exec_base::{Host, Registers};
 use locations::Location;
-use message_parts::{LongBytes, MaybeError, WeightLimit, XcmError};
+use operands::{LongBytes, MaybeError, WeightLimit, XcmError};
 use std::alloc::AllocError;
 
 /// 30 ExpectOrigin: fails unless the origin register is this.
@@ -21,7 +21,7 @@ pub fn expect_origin<H: Host>(
         (machine r.old (H.part h.old)) }
     ensures ok { IfOk result (λ answer. Ran (Instruction-F.ExpectOrigin origin.now)
         (machine r.old (H.part h.old)) answer (machine r.new (H.part h.new))) }
-    ensures err { OnErr result (Spilled (Instruction-F.ExpectOrigin origin.now)
+    ensures err { OnErr result (LeftOnOom (Instruction-F.ExpectOrigin origin.now)
         (machine r.old (H.part h.old)) (machine r.new (H.part h.new))) }
 {
     if !same_origin(&r.origin, origin) {
@@ -40,7 +40,7 @@ pub fn expect_error<H: Host>(
         (machine r.old (H.part h.old)) }
     ensures ok { IfOk result (λ answer. Ran (Instruction-F.ExpectError error.now)
         (machine r.old (H.part h.old)) answer (machine r.new (H.part h.new))) }
-    ensures err { OnErr result (Spilled (Instruction-F.ExpectError error.now)
+    ensures err { OnErr result (LeftOnOom (Instruction-F.ExpectError error.now)
         (machine r.old (H.part h.old)) (machine r.new (H.part h.new))) }
 {
     if !same_failure(&r.error, error) {
@@ -59,7 +59,7 @@ pub fn expect_transact_status<H: Host>(
         (machine r.old (H.part h.old)) }
     ensures ok { IfOk result (λ answer. Ran (Instruction-F.ExpectTransactStatus status.now)
         (machine r.old (H.part h.old)) answer (machine r.new (H.part h.new))) }
-    ensures err { OnErr result (Spilled (Instruction-F.ExpectTransactStatus status.now)
+    ensures err { OnErr result (LeftOnOom (Instruction-F.ExpectTransactStatus status.now)
         (machine r.old (H.part h.old)) (machine r.new (H.part h.new))) }
 {
     if !same_status(&r.status, status) {
@@ -84,7 +84,7 @@ pub fn expect_pallet<H: Host>(
         (λ answer. Ran (Instruction-F.ExpectPallet index name.now module_name.now crate_major
         min_crate_minor) (machine r.old (H.part h.old)) answer
         (machine r.new (H.part h.new))) }
-    ensures err { OnErr result (Spilled (Instruction-F.ExpectPallet index name.now module_name.now
+    ensures err { OnErr result (LeftOnOom (Instruction-F.ExpectPallet index name.now module_name.now
         crate_major min_crate_minor) (machine r.old (H.part h.old))
         (machine r.new (H.part h.new))) }
 {
@@ -111,7 +111,7 @@ pub fn unpaid_execution<H: Host>(
         (machine r.old (H.part h.old)) }
     ensures ok { IfOk result (λ answer. Ran (Instruction-F.UnpaidExecution limit check_origin.now)
         (machine r.old (H.part h.old)) answer (machine r.new (H.part h.new))) }
-    ensures err { OnErr result (Spilled (Instruction-F.UnpaidExecution limit check_origin.now)
+    ensures err { OnErr result (LeftOnOom (Instruction-F.UnpaidExecution limit check_origin.now)
         (machine r.old (H.part h.old)) (machine r.new (H.part h.new))) }
 {
     if check_origin.is_some() && !same_origin(&r.origin, check_origin) {

@@ -3,12 +3,12 @@ ghost use Rattle.std.specs.Prelude.{IfOk, OnErr};
 ghost use Rattle.xcm_program.specs.declared.instruction.Instruction.TheOpen.{Instruction-F};
 ghost use Rattle.exec_rules.specs.Machine.{machine};
 ghost use Rattle.exec_rules.specs.Functions.{Ran, IsReadyFor};
-ghost use Rattle.exec_rules.specs.Stopping.{Spilled};
+ghost use Rattle.exec_rules.specs.Stopping.{LeftOnOom};
 
 use asset_lists::Asset;
 use exec_base::{Host, HostFault, Registers};
 use locations::Location;
-use message_parts::XcmError;
+use operands::XcmError;
 use std::alloc::AllocError;
 
 /// 40 UnlockAsset: lets a lock on the target's account fall, of which the origin is the unlocker.
@@ -22,7 +22,7 @@ pub fn unlock_asset<H: Host>(
         (machine r.old (H.part h.old)) }
     ensures ok { IfOk result (λ answer. Ran (Instruction-F.UnlockAsset asset.now target.now)
         (machine r.old (H.part h.old)) answer (machine r.new (H.part h.new))) }
-    ensures err { OnErr result (Spilled (Instruction-F.UnlockAsset asset.now target.now)
+    ensures err { OnErr result (LeftOnOom (Instruction-F.UnlockAsset asset.now target.now)
         (machine r.old (H.part h.old)) (machine r.new (H.part h.new))) }
 {
     let Some(who) = &r.origin else {
@@ -46,7 +46,7 @@ pub fn note_unlockable<H: Host>(
         (machine r.old (H.part h.old)) }
     ensures ok { IfOk result (λ answer. Ran (Instruction-F.NoteUnlockable asset.now owner.now)
         (machine r.old (H.part h.old)) answer (machine r.new (H.part h.new))) }
-    ensures err { OnErr result (Spilled (Instruction-F.NoteUnlockable asset.now owner.now)
+    ensures err { OnErr result (LeftOnOom (Instruction-F.NoteUnlockable asset.now owner.now)
         (machine r.old (H.part h.old)) (machine r.new (H.part h.new))) }
 {
     let Some(who) = &r.origin else {

@@ -3,12 +3,12 @@ ghost use Rattle.std.specs.Prelude.{◌≡◌, true, false, MatchOption, IfOk, O
 ghost use Rattle.xcm_program.specs.declared.instruction.Instruction.TheOpen.{Instruction-F};
 ghost use Rattle.exec_rules.specs.Machine.{machine};
 ghost use Rattle.exec_rules.specs.Functions.{Ran, IsReadyFor};
-ghost use Rattle.exec_rules.specs.Stopping.{Spilled};
+ghost use Rattle.exec_rules.specs.Stopping.{LeftOnOom};
 ghost use Rattle.exec_rules.specs.Origins.{fits_below, descended};
 
 use exec_base::{Host, Registers};
 use locations::{Junctions, Location};
-use message_parts::XcmError;
+use operands::XcmError;
 use std::alloc::AllocError;
 
 /// 10 ClearOrigin: the origin register becomes empty.
@@ -19,7 +19,7 @@ pub fn clear_origin<H: Host>(
     requires ready { IsReadyFor Instruction-F.ClearOrigin (machine r.old (H.part h.old)) }
     ensures ok { IfOk result (λ answer. Ran Instruction-F.ClearOrigin (machine r.old (H.part h.old))
         answer (machine r.new (H.part h.new))) }
-    ensures err { OnErr result (Spilled Instruction-F.ClearOrigin (machine r.old (H.part h.old))
+    ensures err { OnErr result (LeftOnOom Instruction-F.ClearOrigin (machine r.old (H.part h.old))
         (machine r.new (H.part h.new))) }
 {
     r.origin = None;
@@ -36,7 +36,7 @@ pub fn descend_origin<H: Host>(
         (machine r.old (H.part h.old)) }
     ensures ok { IfOk result (λ answer. Ran (Instruction-F.DescendOrigin interior.now)
         (machine r.old (H.part h.old)) answer (machine r.new (H.part h.new))) }
-    ensures err { OnErr result (Spilled (Instruction-F.DescendOrigin interior.now)
+    ensures err { OnErr result (LeftOnOom (Instruction-F.DescendOrigin interior.now)
         (machine r.old (H.part h.old)) (machine r.new (H.part h.new))) }
 {
     let Some(who) = &r.origin else {

@@ -3,13 +3,13 @@ ghost use Rattle.std.specs.Prelude.{◌≡◌, ◌+◌, ◌<◌, ◌^◌, Some, 
 ghost use Rattle.xcm_program.specs.declared.instruction.Instruction.TheOpen.{Instruction-F};
 ghost use Rattle.exec_rules.specs.Machine.{machine};
 ghost use Rattle.exec_rules.specs.Functions.{Ran, IsReadyFor};
-ghost use Rattle.exec_rules.specs.Stopping.{Spilled};
+ghost use Rattle.exec_rules.specs.Stopping.{LeftOnOom};
 ghost use Rattle.weight_trader.specs.Sums.{weight_sum};
 ghost use Rattle.exec_rules.specs.Machine.{weight_added};
 ghost use Rattle.exec_rules.specs.Accounts.{HasWeight};
 
 use exec_base::{Host, Registers};
-use message_parts::{Weight, XcmError};
+use operands::{Weight, XcmError};
 use std::alloc::AllocError;
 use weight_trader::weigh;
 use xcm_program::{Program, WeightRule};
@@ -46,7 +46,7 @@ pub fn set_error_handler<H: Host>(
     requires ready { IsReadyFor (Instruction-F.SetErrorHandler xcm) (machine r.old (H.part h.old)) }
     ensures ok { IfOk result (λ answer. Ran (Instruction-F.SetErrorHandler xcm)
         (machine r.old (H.part h.old)) answer (machine r.new (H.part h.new))) }
-    ensures err { OnErr result (Spilled (Instruction-F.SetErrorHandler xcm)
+    ensures err { OnErr result (LeftOnOom (Instruction-F.SetErrorHandler xcm)
         (machine r.old (H.part h.old)) (machine r.new (H.part h.new))) }
 {
     let weight = weight_of(&xcm, r.rule);
@@ -65,7 +65,7 @@ pub fn set_appendix<H: Host>(
     requires ready { IsReadyFor (Instruction-F.SetAppendix xcm) (machine r.old (H.part h.old)) }
     ensures ok { IfOk result (λ answer. Ran (Instruction-F.SetAppendix xcm)
         (machine r.old (H.part h.old)) answer (machine r.new (H.part h.new))) }
-    ensures err { OnErr result (Spilled (Instruction-F.SetAppendix xcm)
+    ensures err { OnErr result (LeftOnOom (Instruction-F.SetAppendix xcm)
         (machine r.old (H.part h.old)) (machine r.new (H.part h.new))) }
 {
     let weight = weight_of(&xcm, r.rule);

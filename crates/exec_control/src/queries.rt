@@ -3,11 +3,11 @@ ghost use Rattle.std.specs.Prelude.{IfOk, OnErr};
 ghost use Rattle.xcm_program.specs.declared.instruction.Instruction.TheOpen.{Instruction-F};
 ghost use Rattle.exec_rules.specs.Machine.{machine};
 ghost use Rattle.exec_rules.specs.Functions.{Ran, IsReadyFor};
-ghost use Rattle.exec_rules.specs.Stopping.{Spilled};
+ghost use Rattle.exec_rules.specs.Stopping.{LeftOnOom};
 
 use exec_base::{Host, Registers};
 use locations::Location;
-use message_parts::{Response, Weight, XcmError};
+use operands::{Response, Weight, XcmError};
 use std::alloc::AllocError;
 
 /// 3 QueryResponse: a query with this number that is open for the origin is closed and told as answered; another is told as ignored.
@@ -25,7 +25,7 @@ pub fn query_response<H: Host>(
     ensures ok { IfOk result
         (λ answer. Ran (Instruction-F.QueryResponse query_id response.now max_weight querier.now)
         (machine r.old (H.part h.old)) answer (machine r.new (H.part h.new))) }
-    ensures err { OnErr result (Spilled (Instruction-F.QueryResponse query_id response.now
+    ensures err { OnErr result (LeftOnOom (Instruction-F.QueryResponse query_id response.now
         max_weight querier.now) (machine r.old (H.part h.old))
         (machine r.new (H.part h.new))) }
 {

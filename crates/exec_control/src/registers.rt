@@ -3,10 +3,10 @@ ghost use Rattle.std.specs.Prelude.{IfOk, OnErr};
 ghost use Rattle.xcm_program.specs.declared.instruction.Instruction.TheOpen.{Instruction-F};
 ghost use Rattle.exec_rules.specs.Machine.{machine};
 ghost use Rattle.exec_rules.specs.Functions.{Ran, IsReadyFor};
-ghost use Rattle.exec_rules.specs.Stopping.{Spilled};
+ghost use Rattle.exec_rules.specs.Stopping.{LeftOnOom};
 
 use exec_base::{Host, Registers};
-use message_parts::{MaybeError, XcmError};
+use operands::{MaybeError, XcmError};
 use std::alloc::AllocError;
 
 /// 23 ClearError: the error register becomes empty.
@@ -17,7 +17,7 @@ pub fn clear_error<H: Host>(
     requires ready { IsReadyFor Instruction-F.ClearError (machine r.old (H.part h.old)) }
     ensures ok { IfOk result (λ answer. Ran Instruction-F.ClearError (machine r.old (H.part h.old))
         answer (machine r.new (H.part h.new))) }
-    ensures err { OnErr result (Spilled Instruction-F.ClearError (machine r.old (H.part h.old))
+    ensures err { OnErr result (LeftOnOom Instruction-F.ClearError (machine r.old (H.part h.old))
         (machine r.new (H.part h.new))) }
 {
     r.error = None;
@@ -32,7 +32,7 @@ pub fn clear_transact_status<H: Host>(
     requires ready { IsReadyFor Instruction-F.ClearTransactStatus (machine r.old (H.part h.old)) }
     ensures ok { IfOk result (λ answer. Ran Instruction-F.ClearTransactStatus
         (machine r.old (H.part h.old)) answer (machine r.new (H.part h.new))) }
-    ensures err { OnErr result (Spilled Instruction-F.ClearTransactStatus
+    ensures err { OnErr result (LeftOnOom Instruction-F.ClearTransactStatus
         (machine r.old (H.part h.old)) (machine r.new (H.part h.new))) }
 {
     r.status = MaybeError::Success;
@@ -49,7 +49,7 @@ pub fn set_fees_mode<H: Host>(
         (machine r.old (H.part h.old)) }
     ensures ok { IfOk result (λ answer. Ran (Instruction-F.SetFeesMode jit_withdraw)
         (machine r.old (H.part h.old)) answer (machine r.new (H.part h.new))) }
-    ensures err { OnErr result (Spilled (Instruction-F.SetFeesMode jit_withdraw)
+    ensures err { OnErr result (LeftOnOom (Instruction-F.SetFeesMode jit_withdraw)
         (machine r.old (H.part h.old)) (machine r.new (H.part h.new))) }
 {
     r.fees_mode = jit_withdraw;
@@ -65,7 +65,7 @@ pub fn set_topic<H: Host>(
     requires ready { IsReadyFor (Instruction-F.SetTopic topic.now) (machine r.old (H.part h.old)) }
     ensures ok { IfOk result (λ answer. Ran (Instruction-F.SetTopic topic.now)
         (machine r.old (H.part h.old)) answer (machine r.new (H.part h.new))) }
-    ensures err { OnErr result (Spilled (Instruction-F.SetTopic topic.now)
+    ensures err { OnErr result (LeftOnOom (Instruction-F.SetTopic topic.now)
         (machine r.old (H.part h.old)) (machine r.new (H.part h.new))) }
 {
     r.topic = Some(*topic);
@@ -80,7 +80,7 @@ pub fn clear_topic<H: Host>(
     requires ready { IsReadyFor Instruction-F.ClearTopic (machine r.old (H.part h.old)) }
     ensures ok { IfOk result (λ answer. Ran Instruction-F.ClearTopic (machine r.old (H.part h.old))
         answer (machine r.new (H.part h.new))) }
-    ensures err { OnErr result (Spilled Instruction-F.ClearTopic (machine r.old (H.part h.old))
+    ensures err { OnErr result (LeftOnOom Instruction-F.ClearTopic (machine r.old (H.part h.old))
         (machine r.new (H.part h.new))) }
 {
     r.topic = None;
@@ -96,7 +96,7 @@ pub fn trap<H: Host>(
     requires ready { IsReadyFor (Instruction-F.Trap code) (machine r.old (H.part h.old)) }
     ensures ok { IfOk result (λ answer. Ran (Instruction-F.Trap code) (machine r.old (H.part h.old))
         answer (machine r.new (H.part h.new))) }
-    ensures err { OnErr result (Spilled (Instruction-F.Trap code) (machine r.old (H.part h.old))
+    ensures err { OnErr result (LeftOnOom (Instruction-F.Trap code) (machine r.old (H.part h.old))
         (machine r.new (H.part h.new))) }
 {
     Ok(Err(XcmError::Trap(code)))

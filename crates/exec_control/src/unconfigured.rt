@@ -3,12 +3,12 @@ ghost use Rattle.std.specs.Prelude.{IfOk, OnErr};
 ghost use Rattle.xcm_program.specs.declared.instruction.Instruction.TheOpen.{Instruction-F};
 ghost use Rattle.exec_rules.specs.Machine.{machine};
 ghost use Rattle.exec_rules.specs.Functions.{Ran, IsReadyFor};
-ghost use Rattle.exec_rules.specs.Stopping.{Spilled};
+ghost use Rattle.exec_rules.specs.Stopping.{LeftOnOom};
 
 use crate::comparing::{is_original, is_own_network};
 use exec_base::{Host, Registers};
 use locations::{Junction, Junctions, Location, NetworkId};
-use message_parts::{Weight, XcmError};
+use operands::{Weight, XcmError};
 use std::alloc::AllocError;
 use xcm_program::Program;
 
@@ -26,7 +26,7 @@ pub fn hrmp_new_channel_open_request<H: Host>(
         (λ answer. Ran (Instruction-F.HrmpNewChannelOpenRequest sender max_message_size
         max_capacity) (machine r.old (H.part h.old)) answer
         (machine r.new (H.part h.new))) }
-    ensures err { OnErr result (Spilled (Instruction-F.HrmpNewChannelOpenRequest sender
+    ensures err { OnErr result (LeftOnOom (Instruction-F.HrmpNewChannelOpenRequest sender
         max_message_size max_capacity) (machine r.old (H.part h.old))
         (machine r.new (H.part h.new))) }
 {
@@ -43,7 +43,7 @@ pub fn hrmp_channel_accepted<H: Host>(
         (machine r.old (H.part h.old)) }
     ensures ok { IfOk result (λ answer. Ran (Instruction-F.HrmpChannelAccepted recipient)
         (machine r.old (H.part h.old)) answer (machine r.new (H.part h.new))) }
-    ensures err { OnErr result (Spilled (Instruction-F.HrmpChannelAccepted recipient)
+    ensures err { OnErr result (LeftOnOom (Instruction-F.HrmpChannelAccepted recipient)
         (machine r.old (H.part h.old)) (machine r.new (H.part h.new))) }
 {
     Ok(Err(XcmError::Unimplemented))
@@ -62,7 +62,7 @@ pub fn hrmp_channel_closing<H: Host>(
     ensures ok { IfOk result
         (λ answer. Ran (Instruction-F.HrmpChannelClosing initiator sender recipient)
         (machine r.old (H.part h.old)) answer (machine r.new (H.part h.new))) }
-    ensures err { OnErr result (Spilled (Instruction-F.HrmpChannelClosing initiator sender
+    ensures err { OnErr result (LeftOnOom (Instruction-F.HrmpChannelClosing initiator sender
         recipient) (machine r.old (H.part h.old)) (machine r.new (H.part h.new))) }
 {
     Ok(Err(XcmError::Unimplemented))
@@ -80,7 +80,7 @@ pub fn subscribe_version<H: Host>(
     ensures ok { IfOk result
         (λ answer. Ran (Instruction-F.SubscribeVersion query_id max_response_weight)
         (machine r.old (H.part h.old)) answer (machine r.new (H.part h.new))) }
-    ensures err { OnErr result (Spilled (Instruction-F.SubscribeVersion query_id
+    ensures err { OnErr result (LeftOnOom (Instruction-F.SubscribeVersion query_id
         max_response_weight) (machine r.old (H.part h.old))
         (machine r.new (H.part h.new))) }
 {
@@ -98,7 +98,7 @@ pub fn unsubscribe_version<H: Host>(
     requires ready { IsReadyFor Instruction-F.UnsubscribeVersion (machine r.old (H.part h.old)) }
     ensures ok { IfOk result (λ answer. Ran Instruction-F.UnsubscribeVersion
         (machine r.old (H.part h.old)) answer (machine r.new (H.part h.new))) }
-    ensures err { OnErr result (Spilled Instruction-F.UnsubscribeVersion
+    ensures err { OnErr result (LeftOnOom Instruction-F.UnsubscribeVersion
         (machine r.old (H.part h.old)) (machine r.new (H.part h.new))) }
 {
     if !is_original(r) {
@@ -117,7 +117,7 @@ pub fn universal_origin<H: Host>(
         (machine r.old (H.part h.old)) }
     ensures ok { IfOk result (λ answer. Ran (Instruction-F.UniversalOrigin junction.now)
         (machine r.old (H.part h.old)) answer (machine r.new (H.part h.new))) }
-    ensures err { OnErr result (Spilled (Instruction-F.UniversalOrigin junction.now)
+    ensures err { OnErr result (LeftOnOom (Instruction-F.UniversalOrigin junction.now)
         (machine r.old (H.part h.old)) (machine r.new (H.part h.new))) }
 {
     if is_own_network(h.site(), junction) {
@@ -141,7 +141,7 @@ pub fn export_message<H: Host>(
         (machine r.old (H.part h.old)) }
     ensures ok { IfOk result (λ answer. Ran (Instruction-F.ExportMessage network.now destination.now
         xcm.now) (machine r.old (H.part h.old)) answer (machine r.new (H.part h.new))) }
-    ensures err { OnErr result (Spilled (Instruction-F.ExportMessage network.now destination.now
+    ensures err { OnErr result (LeftOnOom (Instruction-F.ExportMessage network.now destination.now
         xcm.now) (machine r.old (H.part h.old)) (machine r.new (H.part h.new))) }
 {
     if r.origin.is_none() {
@@ -160,7 +160,7 @@ pub fn alias_origin<H: Host>(
         (machine r.old (H.part h.old)) }
     ensures ok { IfOk result (λ answer. Ran (Instruction-F.AliasOrigin target.now)
         (machine r.old (H.part h.old)) answer (machine r.new (H.part h.new))) }
-    ensures err { OnErr result (Spilled (Instruction-F.AliasOrigin target.now)
+    ensures err { OnErr result (LeftOnOom (Instruction-F.AliasOrigin target.now)
         (machine r.old (H.part h.old)) (machine r.new (H.part h.new))) }
 {
     if r.origin.is_none() {

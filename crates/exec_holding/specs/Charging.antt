@@ -4,7 +4,7 @@ use Rattle.std.specs.Prelude.{◌≡◌, ◌<◌, Bool, true, false, is_some, le
 use Rattle.std.specs.declared.alloc.AllocError.{AllocError}
 use Rattle.amounts.specs.Amounts.{merge}
 use Rattle.locations.specs.declared.relative.Location.{Location}
-use Rattle.message_parts.specs.declared.error.XcmError.{XcmError}
+use Rattle.operands.specs.declared.error.XcmError.{XcmError}
 use Rattle.asset_lists.specs.declared.units.Asset.{Asset}
 use Rattle.asset_bundles.specs.Joins.{IsWithinMost}
 use Rattle.exec_base.specs.Host.{deposit_refusal, deposited, fee_taken, fee_drawn}

@@ -2,7 +2,7 @@
 use Rattle.std.specs.Prelude.{◌≡◌, ◌<◌, true, false, nat_le, length, Option, Some, None, Result, Ok, Err, alloc_error}
 use Rattle.std.specs.declared.alloc.AllocError.{AllocError}
 use Rattle.amounts.specs.Amounts.{amount, merge, difference}
-use Rattle.message_parts.specs.declared.error.XcmError.{XcmError}
+use Rattle.operands.specs.declared.error.XcmError.{XcmError}
 use Rattle.asset_lists.specs.declared.units.Asset.{Asset}
 use Rattle.asset_lists.specs.Units.{unit_of, amount_of}
 use Rattle.asset_bundles.specs.Bundles.{Bundle}
@@ -36,7 +36,7 @@ pub record IsReturnable (holding : Bundle) (p : ChainPart) (goods : Bundle) : Ty
   pub few : length p.parked < 4
 
 -- one asset was taken out in full, and fits back
-pub record IsTaken (a : Asset) (old taken new : Bundle) : Type 0 where
+pub record IsPaymentTaken (a : Asset) (old taken new : Bundle) : Type 0 where
   pub held : nat_le (amount_of a) (amount old (unit_of a)) ≡ true
   pub goods : taken ≡ payment_of a
   pub left : new ≡ difference old (payment_of a)
@@ -46,4 +46,4 @@ pub record IsTaken (a : Asset) (old taken new : Bundle) : Type 0 where
 -- it was, or isn't held
 abbrev pub TakesAsset : Asset → Bundle → Option Bundle → Bundle → Type 0
 TakesAsset a old None new = (nat_le (amount_of a) (amount old (unit_of a)) ≡ false) × (new ≡ old)
-TakesAsset a old (Some goods) new = IsTaken a old goods new
+TakesAsset a old (Some goods) new = IsPaymentTaken a old goods new

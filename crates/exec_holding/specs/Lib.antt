@@ -1,3 +1,2 @@
 pub mod Holding
 pub mod Charging
-pub mod Laws

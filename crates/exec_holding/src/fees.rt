@@ -11,7 +11,7 @@ use crate::holding::{answer_of, put_back, take_asset};
 use asset_lists::Asset;
 use exec_base::{Host, HostFault, Registers};
 use locations::Location;
-use message_parts::XcmError;
+use operands::XcmError;
 use std::alloc::{AllocError, Global};
 
 /// Takes a delivery fee into the slot: out of the origin's account in fees mode, else out of the holding.

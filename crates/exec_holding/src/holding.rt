@@ -3,13 +3,13 @@ ghost use Rattle.std.specs.Prelude.{◌≡◌, ◌+◌, ◌*◌, nat_le, length,
 ghost use Rattle.amounts.specs.Amounts.{merge, rows};
 ghost use Rattle.asset_lists.specs.Units.{is_zero};
 ghost use Rattle.asset_bundles.specs.Joins.{Joined};
-ghost use Rattle.exec_base.specs.Host.{joined, parked};
+ghost use Rattle.exec_base.specs.Host.{bundles_joined, parked};
 ghost use Rattle.exec_holding.specs.Holding.{IsAnswerTo, IsJoinable, IsReturnable, TakesAsset};
 
 use asset_bundles::{AssetBundle, TakeFault};
 use asset_lists::{Asset, Assets};
 use exec_base::{Host, HostFault};
-use message_parts::XcmError;
+use operands::XcmError;
 use std::alloc::{AllocError, Global};
 
 /// Joins goods from outside to what is held, or parks them where memory is refused.
@@ -20,7 +20,7 @@ pub fn hold<H: Host>(
 ) -> Result<(), AllocError>
     requires joinable { IsJoinable holding.old (H.part h.old) goods }
     ensures ok { OnOk result (holding.new ≡ Joined holding.old goods) }
-    ensures ok_part { OnOk result (H.part h.new ≡ joined (H.part h.old) holding.old goods) }
+    ensures ok_part { OnOk result (H.part h.new ≡ bundles_joined (H.part h.old) holding.old goods) }
     ensures err { OnErr result (holding.new ≡ holding.old) }
     ensures err_part { OnErr result (H.part h.new ≡ parked (H.part h.old) goods) }
 {
@@ -72,7 +72,7 @@ pub fn has_room(holding: &AssetBundle, max_holding: u32, more: usize) -> bool
 }
 
 /// Takes one asset in full, which is no amount of 0; none where it isn't held.
-#[tactic(auto, using(crate::specs::Laws::one_is_held, crate::specs::Laws::one_not_held))]
+#[tactic(auto, using(crate::proofs::Lemmas::one_is_held, crate::proofs::Lemmas::one_not_held))]
 pub fn take_asset(
     alloc: Global,
     holding: &mut AssetBundle,

@@ -1,7 +1,7 @@
 -- What a refused instruction leaves.
 use Rattle.std.proofs.Common.{◌≡◌, ℕ, List, [], ◌∷◌, Option, Some, refl, sym, ap, subst}
-use Rattle.message_parts.specs.declared.error.XcmError.{XcmError}
-use Rattle.message_parts.specs.declared.weight.Weight.{Weight}
+use Rattle.operands.specs.declared.error.XcmError.{XcmError}
+use Rattle.operands.specs.declared.weight.Weight.{Weight}
 use Rattle.weight_trader.specs.Purchases.{no_weight}
 use Rattle.xcm_program.specs.declared.instruction.Instruction.{Instruction}
 use Rattle.exec_base.specs.declared.event.Part.{Part}
@@ -11,7 +11,7 @@ use Rattle.exec_base.specs.Host.{told}
 use Rattle.exec_rules.specs.Machine.{Machine, Rules}
 use Rattle.exec_rules.specs.Run.{At, failed, to_appendix, to_handler, traced, by_answer, next, machine_of, without_appendix}
 use Rattle.exec_rules.specs.Keeping.{LeavesAll}
-use Rattle.exec_rules.specs.KeepingLaws.{begin_machine}
+use Rattle.exec_rules.proofs.Lemmas.KeepingLaws.{begin_machine}
 use Rattle.exec_base.specs.declared.event.Part.TheVariants.{Appendix}
 
 -- what is told changes the lines alone

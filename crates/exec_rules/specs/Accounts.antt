@@ -1,7 +1,7 @@
 -- What a run has of weight, and where it goes. Source: xcm-executor's documentation of surplus and refunds.
 use Rattle.std.specs.Prelude.{◌≡◌, ℕ, ◌+◌, ◌^◌, ◌<◌, ◌≤◌, List, [], ◌∷◌, Option, Some, None, ⊤}
-use Rattle.message_parts.specs.declared.weight.Weight.{Weight}
-use Rattle.message_parts.specs.Weights.{IsWithin}
+use Rattle.operands.specs.declared.weight.Weight.{Weight}
+use Rattle.operands.specs.Weights.{IsWithin}
 use Rattle.weight_trader.specs.Sums.{weight_sum}
 use Rattle.xcm_program.specs.declared.rule.WeightRule.{WeightRule}
 use Rattle.xcm_program.specs.declared.instruction.Instruction.{Instruction, out-Instruction}
@@ -41,8 +41,8 @@ IsBalanced most (At part place x behind m) = Balances most (x ∷ behind) (contr
 IsBalanced most (Ended m) = Balances most [] (control_of m.regs)
 
 -- a program may be run: the weight that was admitted for it is accounted for
-abbrev pub IsAccounted : List Instruction → Registers → Type 0
-IsAccounted program r = (most : Weight) × Balances most program (control_of r)
+abbrev pub IsWeightAccounted : List Instruction → Registers → Type 0
+IsWeightAccounted program r = (most : Weight) × Balances most program (control_of r)
 
 -- what an instruction adds to the surplus at most
 abbrev pub freed : {X : Type 0} → Instruction-F X → Control → Weight

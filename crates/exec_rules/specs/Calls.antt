@@ -2,14 +2,14 @@
 -- xcm-executor's documentation of surplus. The set of calls, what they weigh and the order of refusals are this project's own rule.
 use Rattle.std.specs.Prelude.{◌≡◌, ℕ, ◌*◌, Bool, true, false, List, [], ◌∷◌, Option, Some, None, Result, Ok, Err}
 use Rattle.locations.specs.declared.relative.Location.{Location}
-use Rattle.message_parts.specs.declared.error.XcmError.{XcmError}
-use Rattle.message_parts.specs.declared.error.XcmError.TheVariants as error
-use Rattle.message_parts.specs.declared.origin.OriginKind.{OriginKind}
-use Rattle.message_parts.specs.declared.origin.OriginKind.TheVariants.{SovereignAccount}
-use Rattle.message_parts.specs.declared.status.MaybeError.{MaybeError}
-use Rattle.message_parts.specs.declared.status.MaybeError.TheVariants as status
-use Rattle.message_parts.specs.declared.weight.Weight.{Weight}
-use Rattle.message_parts.specs.Weights.{is_within}
+use Rattle.operands.specs.declared.error.XcmError.{XcmError}
+use Rattle.operands.specs.declared.error.XcmError.TheVariants as error
+use Rattle.operands.specs.declared.origin.OriginKind.{OriginKind}
+use Rattle.operands.specs.declared.origin.OriginKind.TheVariants.{SovereignAccount}
+use Rattle.operands.specs.declared.status.MaybeError.{MaybeError}
+use Rattle.operands.specs.declared.status.MaybeError.TheVariants as status
+use Rattle.operands.specs.declared.weight.Weight.{Weight}
+use Rattle.operands.specs.Weights.{is_within}
 use Rattle.trust_tables.specs.Accounts.{account_of}
 use Rattle.weight_trader.specs.Refunds.{weight_minus}
 use Rattle.xcm_program.specs.declared.rule.WeightRule.{WeightRule}

@@ -3,10 +3,10 @@
 use Rattle.std.specs.Prelude.{ℕ, ◌==◌, ◌&&◌, nat_le, Bool, List, find, Option, Some, None}
 use Rattle.std.specs.Str.{bytes_eq}
 use Rattle.scale_codec.specs.Spelling.{optional}
-use Rattle.message_parts.specs.declared.error.XcmError.{XcmError}
-use Rattle.message_parts.specs.declared.error.XcmError.TheVariants as error
-use Rattle.message_parts.specs.declared.pallet.PalletInfo.{PalletInfo}
-use Rattle.message_parts.specs.declared.status.MaybeError.{MaybeError}
+use Rattle.operands.specs.declared.error.XcmError.{XcmError}
+use Rattle.operands.specs.declared.error.XcmError.TheVariants as error
+use Rattle.operands.specs.declared.pallet.PalletInfo.{PalletInfo}
+use Rattle.operands.specs.declared.status.MaybeError.{MaybeError}
 use Rattle.xcm_format.specs.Parts.{failure, maybe_error}
 use Rattle.exec_base.specs.Sending.{unless}
 use Rattle.exec_rules.specs.Machine.{Machine}

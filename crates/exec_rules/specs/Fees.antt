@@ -1,9 +1,9 @@
--- The delivery fee of the eight instructions that send: one rule around each of them. This project's own rule; the fee in the holding
+-- The delivery fee of the ten instructions that send: one rule around each of them. This project's own rule; the fee in the holding
 -- register and the fees mode are the XCM format's.
 use Rattle.std.specs.Prelude.{if◌then◌else◌, [], ◌∷◌, Option, Some, None}
 use Rattle.locations.specs.declared.relative.Location.{Location}
-use Rattle.message_parts.specs.declared.error.XcmError.{XcmError}
-use Rattle.message_parts.specs.declared.error.XcmError.TheVariants as error
+use Rattle.operands.specs.declared.error.XcmError.{XcmError}
+use Rattle.operands.specs.declared.error.XcmError.TheVariants as error
 use Rattle.asset_lists.specs.declared.units.Asset.{Asset}
 use Rattle.exec_base.specs.Sending.{unless, or_else}
 use Rattle.exec_base.specs.Host.{withdraw_refusal, fee_to, fee_held, fee_kept, fee_drawn}

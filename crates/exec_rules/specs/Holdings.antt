@@ -7,11 +7,11 @@ use Rattle.amounts.specs.Amounts.{amount, rows, difference}
 use Rattle.locations.specs.declared.grammar.Junction.{Junction}
 use Rattle.locations.specs.declared.grammar.Junction.TheVariants.{GeneralIndex}
 use Rattle.locations.specs.declared.relative.Location.{Location}
-use Rattle.message_parts.specs.declared.error.XcmError.{XcmError}
-use Rattle.message_parts.specs.declared.error.XcmError.TheVariants as error
-use Rattle.message_parts.specs.declared.weight.Weight.{Weight}
-use Rattle.message_parts.specs.declared.weight.WeightLimit.{WeightLimit}
-use Rattle.message_parts.specs.declared.weight.WeightLimit.TheVariants.{Unlimited, Limited}
+use Rattle.operands.specs.declared.error.XcmError.{XcmError}
+use Rattle.operands.specs.declared.error.XcmError.TheVariants as error
+use Rattle.operands.specs.declared.weight.Weight.{Weight}
+use Rattle.operands.specs.declared.weight.WeightLimit.{WeightLimit}
+use Rattle.operands.specs.declared.weight.WeightLimit.TheVariants.{Unlimited, Limited}
 use Rattle.asset_lists.specs.declared.units.Asset.{Asset}
 use Rattle.asset_lists.specs.declared.units.AssetId.TheVariants.{Concrete}
 use Rattle.asset_lists.specs.declared.filters.Filter.{Filter}
@@ -23,7 +23,7 @@ use Rattle.weight_trader.specs.Refunds.{weight_minus, refund_of}
 use Rattle.exec_base.specs.declared.registers.Registers.{Registers}
 use Rattle.exec_base.specs.Part.{ChainPart}
 use Rattle.exec_base.specs.Sending.{unless}
-use Rattle.exec_base.specs.Host.{joined, buy_refusal, unspent, bought, refund_goods, refunded}
+use Rattle.exec_base.specs.Host.{bundles_joined, buy_refusal, unspent, bought, refund_goods, refunded}
 use Rattle.exec_rules.specs.Machine.{Machine, machine}
 
 -- ---- the origin register
@@ -60,7 +60,7 @@ holds_list m list = list_all (holds_asset m) list
 
 -- goods from outside are joined to what is held
 abbrev pub holding_more : Machine → ChainPart → Bundle → Machine
-holding_more m p goods = machine (with_holding m.regs (Joined m.regs.holding goods)) (joined p m.regs.holding goods)
+holding_more m p goods = machine (with_holding m.regs (Joined m.regs.holding goods)) (bundles_joined p m.regs.holding goods)
 
 -- what a filter takes of the holding
 abbrev pub taken_of : Machine → Filter → Bundle

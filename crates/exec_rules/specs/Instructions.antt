@@ -2,10 +2,10 @@
 -- instruction set and xcm-executor's documentation; what isn't configured answers as if nothing were there. The orders of refusals are this
 -- project's own rule; this crate's README says which.
 use Rattle.std.specs.Prelude.{not, true, false, length, Option, Some, None}
-use Rattle.message_parts.specs.declared.error.XcmError.{XcmError}
-use Rattle.message_parts.specs.declared.error.XcmError.TheVariants as error
-use Rattle.message_parts.specs.declared.query.Response.TheVariants as response
-use Rattle.message_parts.specs.declared.status.MaybeError.TheVariants.{Success}
+use Rattle.operands.specs.declared.error.XcmError.{XcmError}
+use Rattle.operands.specs.declared.error.XcmError.TheVariants as error
+use Rattle.operands.specs.declared.query.Response.TheVariants as response
+use Rattle.operands.specs.declared.status.MaybeError.TheVariants.{Success}
 use Rattle.asset_lists.specs.declared.filters.Filter.TheVariants.{Definite}
 use Rattle.asset_bundles.specs.Bundles.{bundle_of}
 use Rattle.asset_bundles.specs.declared.shipment.Way.{Way}

@@ -1,6 +1,6 @@
 -- What every run keeps: a relation between machines that each of its steps keeps; and what a refused instruction leaves.
 use Rattle.std.specs.Prelude.{◌≡◌, ℕ, List, [], ◌∷◌, None}
-use Rattle.message_parts.specs.declared.error.XcmError.{XcmError}
+use Rattle.operands.specs.declared.error.XcmError.{XcmError}
 use Rattle.std.specs.List.{AllByRecursion}
 use Rattle.xcm_program.specs.declared.instruction.Instruction.{Instruction, out-Instruction}
 use Rattle.xcm_program.specs.Everywhere.{AllInside}
@@ -22,7 +22,7 @@ pub record LeavesAll (m n : Machine) : Type 0 where
     appendix = n.regs.appendix;
     appendix_weight = n.regs.appendix_weight;
   }
-  pub chain : n.part ≡ record m.part { events = n.part.events; kept_back = n.part.kept_back }
+  pub chain : n.part ≡ record m.part { events = n.part.events; pending_events = n.part.pending_events }
 
 -- a fact of every instruction that may still run
 pub record AllAhead (Q : Instruction → Type 0) (ahead : List Instruction) (c : Control) : Type 0 where

@@ -7,8 +7,6 @@ pub mod Expectations
 pub mod Calls
 pub mod Instructions
 pub mod Stopping
-pub mod AnswerLaws
-pub mod HoldingLaws
 pub mod Readiness
 pub mod Functions
 pub mod Machine
@@ -16,6 +14,8 @@ pub mod Run
 pub mod Accounts
 pub mod Outcome
 pub mod Keeping
-pub mod BalanceLaws
-pub mod RunLaws
-pub mod KeepingLaws
+pub mod HostCalls
+pub mod Reasons
+pub mod Admission
+pub mod Execution
+pub mod Kept

@@ -1,9 +1,9 @@
 -- What a run works on, and what its instructions mean there. The registers are the XCM format's; a machine is this project's own word
 -- for them with the chain beside them.
 use Rattle.std.specs.Prelude.{◌≡◌, ◌+◌, ◌⊎◌, List, Option, Some, None, Result, Ok, Err}
-use Rattle.message_parts.specs.declared.error.XcmError.{XcmError}
-use Rattle.message_parts.specs.declared.weight.Weight.{Weight}
-use Rattle.message_parts.specs.Weights.{IsWithin}
+use Rattle.operands.specs.declared.error.XcmError.{XcmError}
+use Rattle.operands.specs.declared.weight.Weight.{Weight}
+use Rattle.operands.specs.Weights.{IsWithin}
 use Rattle.weight_trader.specs.Sums.{weight_sum}
 use Rattle.xcm_program.specs.declared.rule.WeightRule.{WeightRule}
 use Rattle.xcm_program.specs.declared.instruction.Instruction.{Instruction, out-Instruction}

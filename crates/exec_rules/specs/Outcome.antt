@@ -3,8 +3,8 @@
 use Rattle.std.specs.Prelude.{◌≡◌, ◌⊎◌, ℕ, nat_eq, if◌then◌else◌, length, Option, Some, None}
 use Rattle.amounts.specs.Amounts.{rows}
 use Rattle.locations.specs.declared.relative.Location.{Location}
-use Rattle.message_parts.specs.declared.error.XcmError.{XcmError}
-use Rattle.message_parts.specs.declared.weight.Weight.{Weight}
+use Rattle.operands.specs.declared.error.XcmError.{XcmError}
+use Rattle.operands.specs.declared.weight.Weight.{Weight}
 use Rattle.weight_trader.specs.Refunds.{weight_minus}
 use Rattle.xcm_program.specs.declared.instruction.Instruction.{Instruction, roll-Instruction}
 use Rattle.xcm_program.specs.declared.instruction.Instruction.TheOpen.{Instruction-F}
@@ -65,9 +65,9 @@ module _ (rules : Rules) where
 
   -- out of memory at the end: in the last refund, in the line of the end, in settlement, or in trapping
   abbrev pub HaltedAtEnd : (Instruction → Machine → Machine → Type 0) → Machine → ChainPart → Type 0
-  HaltedAtEnd spills m now =
+  HaltedAtEnd leaves_on_oom m now =
       let last = refunded_last m in
-      ((spilt : Machine) × spills refund_surplus m spilt × (now ≡ abandoned spilt.regs spilt.part))
+      ((spilt : Machine) × leaves_on_oom refund_surplus m spilt × (now ≡ abandoned spilt.regs spilt.part))
       ⊎ (now ≡ abandoned last.regs last.part)
       ⊎ (now ≡ abandoned last.regs (end_told last))
       ⊎ (now ≡ abandoned last.regs (settled (end_told last)))

@@ -5,8 +5,8 @@ use Rattle.amounts.specs.Amounts.{empty}
 use Rattle.asset_lists.specs.Listed.{Listed}
 use Rattle.asset_bundles.specs.Books.{AreListed}
 use Rattle.trust_tables.specs.Trust.{listing}
-use Rattle.trap_store.specs.declared.trap.Trap.{Trap}
-use Rattle.chain_pools.specs.Spending.{ArePoolsListed}
+use Rattle.asset_bundles.specs.declared.trap.Trap.{Trap}
+use Rattle.asset_pools.specs.Spending.{ArePoolsListed}
 use Rattle.weight_trader.specs.Purchases.{AreRatesListed, AreWithinEnd}
 use Rattle.xcm_program.specs.declared.instruction.Instruction.{Instruction}
 use Rattle.exec_base.specs.Part.{ChainPart}
@@ -38,11 +38,11 @@ pub record IsSteady (m : Machine) : Type 0 where
   pub holding : AreListed (listing m.part.rows) m.regs.holding
 
 -- the instruction, with what is inside it, has no id by bytes and no amount 0, and isn't too large to be counted
-abbrev pub IsSound : Instruction → Type 0
-IsSound x = IsForwardable (x ∷ [])
+abbrev pub IsSoundInstruction : Instruction → Type 0
+IsSoundInstruction x = IsForwardable (x ∷ [])
 
 -- what every instruction may rely on
 pub record IsReady (x : Instruction) (m : Machine) : Type 0 where
   pub steady : IsSteady m
-  pub sound : IsSound x
+  pub sound : IsSoundInstruction x
   pub affordable : IsAffordable x m.regs

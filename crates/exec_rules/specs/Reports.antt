@@ -5,12 +5,12 @@ use Rattle.std.specs.List.{filter}
 use Rattle.std.specs.Str.{bytes_eq}
 use Rattle.locations.specs.declared.grammar.Junction.{Junction}
 use Rattle.locations.specs.declared.relative.Location.{Location}
-use Rattle.message_parts.specs.declared.error.XcmError.{XcmError}
-use Rattle.message_parts.specs.declared.error.XcmError.TheVariants as error
-use Rattle.message_parts.specs.declared.pallet.PalletInfo.{PalletInfo}
-use Rattle.message_parts.specs.declared.query.QueryInfo.{QueryInfo}
-use Rattle.message_parts.specs.declared.query.Response.{Response}
-use Rattle.message_parts.specs.declared.query.Response.TheVariants as response
+use Rattle.operands.specs.declared.error.XcmError.{XcmError}
+use Rattle.operands.specs.declared.error.XcmError.TheVariants as error
+use Rattle.operands.specs.declared.pallet.PalletInfo.{PalletInfo}
+use Rattle.operands.specs.declared.query.QueryInfo.{QueryInfo}
+use Rattle.operands.specs.declared.query.Response.{Response}
+use Rattle.operands.specs.declared.query.Response.TheVariants as response
 use Rattle.asset_lists.specs.declared.units.Asset.{Asset}
 use Rattle.asset_lists.specs.declared.filters.Filter.{Filter}
 use Rattle.asset_lists.specs.Lists.{is_rising, in_order}
@@ -18,7 +18,7 @@ use Rattle.asset_lists.specs.Moves.{moved, list_if}
 use Rattle.asset_bundles.specs.Bundles.{held_assets}
 use Rattle.trust_tables.specs.Chains.{path_of_site}
 use Rattle.exec_base.specs.Part.{ChainPart}
-use Rattle.exec_base.specs.Sending.{unless, channel_to}
+use Rattle.exec_base.specs.Sending.{unless, channel_to_location}
 use Rattle.exec_base.specs.Host.{querier_seen, respond_refusal, responded}
 use Rattle.exec_rules.specs.Machine.{Machine, machine}
 use Rattle.exec_rules.specs.Holdings.{taken_of}
@@ -59,7 +59,7 @@ reported_list m info wanted = named_list info.destination (path_of_site m.part.s
 abbrev pub too_many_refused : Machine → QueryInfo → Option XcmError
 too_many_refused m info =
     unless (is_some (querier_seen m.part info.destination m.regs.origin)) error.ReanchorFailed
-    (unless (is_some (channel_to m.part info.destination)) error.Unroutable (Some error.ExceedsMaxMessageSize))
+    (unless (is_some (channel_to_location m.part info.destination)) error.Unroutable (Some error.ExceedsMaxMessageSize))
 
 abbrev pub holding_report_refused : Machine → QueryInfo → Option (List Asset) → Option XcmError
 holding_report_refused m info None = Some error.ReanchorFailed

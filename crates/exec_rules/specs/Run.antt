@@ -5,8 +5,8 @@
 --   run        as many taken as there may be
 --   reaches    a run comes from one stage to another
 use Rattle.std.specs.Prelude.{◌≡◌, ◌⊎◌, ⊤, ℕ, zero, suc, ◌+◌, Bool, true, false, List, [], ◌∷◌, Option, Some, None, Result}
-use Rattle.message_parts.specs.declared.error.XcmError.{XcmError}
-use Rattle.message_parts.specs.declared.weight.Weight.{Weight}
+use Rattle.operands.specs.declared.error.XcmError.{XcmError}
+use Rattle.operands.specs.declared.weight.Weight.{Weight}
 use Rattle.weight_trader.specs.Purchases.{no_weight}
 use Rattle.weight_trader.specs.Sums.{weight_sum}
 use Rattle.xcm_program.specs.declared.instruction.Instruction.{Instruction, out-Instruction}
@@ -139,16 +139,16 @@ module _ (rules : Rules) where
   begins_well [] m = false
   begins_well (x ∷ behind) m = is_accepted (rules.refusal_of x m)
 
-  -- out of memory as an instruction was taken: `spills` says what an instruction may then leave; or it ran and couldn't be told of
+  -- out of memory as an instruction was taken: `leaves_on_oom` says what an instruction may then leave; or it ran and couldn't be told of
   abbrev pub Halted : (Instruction → Machine → Machine → Type 0) → Instruction → Machine → Machine → Type 0
-  Halted spills x before now = spills x before now ⊎ ((answer : Result (Unit {0}) XcmError) × Performed rules x before answer now)
+  Halted leaves_on_oom x before now = leaves_on_oom x before now ⊎ ((answer : Result (Unit {0}) XcmError) × Performed rules x before answer now)
 
   -- out of memory in a run: it had come to an instruction, which wasn't taken to its end
-  pub record StoppedIn (spills : Instruction → Machine → Machine → Type 0) (start : Stage) (now : Machine) : Type 0 where
+  pub record StoppedIn (leaves_on_oom : Instruction → Machine → Machine → Type 0) (start : Stage) (now : Machine) : Type 0 where
     pub part : Part
     pub place : ℕ
     pub which : Instruction
     pub behind : List Instruction
     pub before : Machine
     pub reached : Reaches start (At part place which behind before)
-    pub halted : Halted spills which before now
+    pub halted : Halted leaves_on_oom which before now

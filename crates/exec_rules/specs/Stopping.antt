@@ -2,8 +2,8 @@
 -- that it changes nothing before all is done. This project's own rule.
 use Rattle.std.specs.Prelude.{◌≡◌, ◌⊎◌, Bool, true, false, List, Option, Some, None}
 use Rattle.locations.specs.declared.relative.Location.{Location}
-use Rattle.message_parts.specs.declared.weight.WeightLimit.{WeightLimit}
-use Rattle.message_parts.specs.declared.weight.WeightLimit.TheVariants.{Unlimited, Limited}
+use Rattle.operands.specs.declared.weight.WeightLimit.{WeightLimit}
+use Rattle.operands.specs.declared.weight.WeightLimit.TheVariants.{Unlimited, Limited}
 use Rattle.asset_lists.specs.declared.units.Asset.{Asset}
 use Rattle.asset_lists.specs.declared.filters.Filter.{Filter}
 use Rattle.asset_lists.specs.declared.filters.Filter.TheVariants.{Definite}
@@ -24,8 +24,8 @@ abbrev pub parking : Machine → ChainPart → Bundle → Machine
 parking m p goods = machine m.regs (parked p goods)
 
 -- goods had come from outside, and weren't joined to what is held
-abbrev pub NotJoined : Instruction-F Instruction → Machine → (Location → ChainPart) → Bundle → Machine → Type 0
-NotJoined l m change goods now = (refused l m ≡ None) × (now ≡ at_origin m.regs.origin (λ who. parking m (change who) goods) m)
+abbrev pub UnjoinedOnOom : Instruction-F Instruction → Machine → (Location → ChainPart) → Bundle → Machine → Type 0
+UnjoinedOnOom l m change goods now = (refused l m ≡ None) × (now ≡ at_origin m.regs.origin (λ who. parking m (change who) goods) m)
 
 -- what a filter took weren't put back
 abbrev pub NotPutBack : Machine → Filter → Machine → Type 0
@@ -65,69 +65,69 @@ abbrev pub StopsSending : Machine → Location → (Machine → Machine → Type
 StopsSending m dest inside now = StopsAround (fee_to m.part dest) m inside now
 
 -- ---- the table
-abbrev pub Stops : Instruction-F Instruction → Machine → Machine → Type 0
+abbrev pub PartwayOnOom : Instruction-F Instruction → Machine → Machine → Type 0
 -- assets into the holding register and out of it
-Stops (Instruction-F.WithdrawAsset list) m now = NotJoined (Instruction-F.WithdrawAsset list) m (λ who. withdrawn m.part list who) (bundle_of list) now
-Stops (Instruction-F.ReserveAssetDeposited list) m now = NotJoined (Instruction-F.ReserveAssetDeposited list) m (λ who. received m.part list false) (bundle_of list) now
-Stops (Instruction-F.ReceiveTeleportedAsset list) m now = NotJoined (Instruction-F.ReceiveTeleportedAsset list) m (λ who. received m.part list true) (bundle_of list) now
-Stops (Instruction-F.ClaimAsset list ticket) m now = NotJoined (Instruction-F.ClaimAsset list ticket) m (λ who. claimed m.part list who) (bundle_of list) now
-Stops (Instruction-F.DepositAsset filter who) m now = NotPutBack m filter now
-Stops (Instruction-F.BurnAsset list) m now = NotPutBack m (Definite list) now
-Stops (Instruction-F.BuyExecution fees limit) m now = BuyingStops m fees limit now
-Stops Instruction-F.RefundSurplus m now = RefundStops m now
-Stops (Instruction-F.ExchangeAsset filter list maximal) m now = ExchangeStops m filter list maximal now
+PartwayOnOom (Instruction-F.WithdrawAsset list) m now = UnjoinedOnOom (Instruction-F.WithdrawAsset list) m (λ who. withdrawn m.part list who) (bundle_of list) now
+PartwayOnOom (Instruction-F.ReserveAssetDeposited list) m now = UnjoinedOnOom (Instruction-F.ReserveAssetDeposited list) m (λ who. received m.part list false) (bundle_of list) now
+PartwayOnOom (Instruction-F.ReceiveTeleportedAsset list) m now = UnjoinedOnOom (Instruction-F.ReceiveTeleportedAsset list) m (λ who. received m.part list true) (bundle_of list) now
+PartwayOnOom (Instruction-F.ClaimAsset list ticket) m now = UnjoinedOnOom (Instruction-F.ClaimAsset list ticket) m (λ who. claimed m.part list who) (bundle_of list) now
+PartwayOnOom (Instruction-F.DepositAsset filter who) m now = NotPutBack m filter now
+PartwayOnOom (Instruction-F.BurnAsset list) m now = NotPutBack m (Definite list) now
+PartwayOnOom (Instruction-F.BuyExecution fees limit) m now = BuyingStops m fees limit now
+PartwayOnOom Instruction-F.RefundSurplus m now = RefundStops m now
+PartwayOnOom (Instruction-F.ExchangeAsset filter list maximal) m now = ExchangeStops m filter list maximal now
 -- transfers
-Stops (Instruction-F.TransferAsset list who) m now = ⊥
-Stops (Instruction-F.TransferReserveAsset list dest xcm) m now = StopsSending m dest (λ n left. ⊥) now
-Stops (Instruction-F.DepositReserveAsset filter dest xcm) m now = StopsSending m dest (λ n left. NotPutBack n filter left) now
-Stops (Instruction-F.InitiateReserveWithdraw filter dest xcm) m now = StopsSending m dest (λ n left. NotPutBack n filter left) now
-Stops (Instruction-F.InitiateTeleport filter dest xcm) m now = StopsSending m dest (λ n left. NotPutBack n filter left) now
+PartwayOnOom (Instruction-F.TransferAsset list who) m now = ⊥
+PartwayOnOom (Instruction-F.TransferReserveAsset list dest xcm) m now = StopsSending m dest (λ n left. ⊥) now
+PartwayOnOom (Instruction-F.DepositReserveAsset filter dest xcm) m now = StopsSending m dest (λ n left. NotPutBack n filter left) now
+PartwayOnOom (Instruction-F.InitiateReserveWithdraw filter dest xcm) m now = StopsSending m dest (λ n left. NotPutBack n filter left) now
+PartwayOnOom (Instruction-F.InitiateTeleport filter dest xcm) m now = StopsSending m dest (λ n left. NotPutBack n filter left) now
 -- reports
-Stops (Instruction-F.ReportError info) m now = StopsSending m info.destination (λ n left. ⊥) now
-Stops (Instruction-F.ReportHolding info filter) m now = StopsSending m info.destination (λ n left. ⊥) now
-Stops (Instruction-F.QueryPallet name info) m now = StopsSending m info.destination (λ n left. ⊥) now
-Stops (Instruction-F.ReportTransactStatus info) m now = StopsSending m info.destination (λ n left. ⊥) now
+PartwayOnOom (Instruction-F.ReportError info) m now = StopsSending m info.destination (λ n left. ⊥) now
+PartwayOnOom (Instruction-F.ReportHolding info filter) m now = StopsSending m info.destination (λ n left. ⊥) now
+PartwayOnOom (Instruction-F.QueryPallet name info) m now = StopsSending m info.destination (λ n left. ⊥) now
+PartwayOnOom (Instruction-F.ReportTransactStatus info) m now = StopsSending m info.destination (λ n left. ⊥) now
 -- queries
-Stops (Instruction-F.QueryResponse query answer weight querier) m now = ⊥
+PartwayOnOom (Instruction-F.QueryResponse query answer weight querier) m now = ⊥
 -- calls
-Stops (Instruction-F.Transact kind most bytes) m now = CallStopsAt m kind bytes m.regs.origin now
+PartwayOnOom (Instruction-F.Transact kind most bytes) m now = CallStopsAt m kind bytes m.regs.origin now
 -- locks
-Stops (Instruction-F.LockAsset asset unlocker) m now = (m.part.locks ≡ true) × StopsSending m unlocker (λ n left. ⊥) now
-Stops (Instruction-F.UnlockAsset asset target) m now = ⊥
-Stops (Instruction-F.NoteUnlockable asset owner) m now = ⊥
-Stops (Instruction-F.RequestUnlock asset locker) m now = (m.part.locks ≡ true) × StopsSending m locker (λ n left. ⊥) now
+PartwayOnOom (Instruction-F.LockAsset asset unlocker) m now = (m.part.locks ≡ true) × StopsSending m unlocker (λ n left. ⊥) now
+PartwayOnOom (Instruction-F.UnlockAsset asset target) m now = ⊥
+PartwayOnOom (Instruction-F.NoteUnlockable asset owner) m now = ⊥
+PartwayOnOom (Instruction-F.RequestUnlock asset locker) m now = (m.part.locks ≡ true) × StopsSending m locker (λ n left. ⊥) now
 -- the origin register
-Stops Instruction-F.ClearOrigin m now = ⊥
-Stops (Instruction-F.DescendOrigin path) m now = ⊥
+PartwayOnOom Instruction-F.ClearOrigin m now = ⊥
+PartwayOnOom (Instruction-F.DescendOrigin path) m now = ⊥
 -- programs of the run, and registers
-Stops (Instruction-F.SetErrorHandler xcm) m now = ⊥
-Stops (Instruction-F.SetAppendix xcm) m now = ⊥
-Stops Instruction-F.ClearError m now = ⊥
-Stops Instruction-F.ClearTransactStatus m now = ⊥
-Stops (Instruction-F.SetFeesMode mode) m now = ⊥
-Stops (Instruction-F.SetTopic topic) m now = ⊥
-Stops Instruction-F.ClearTopic m now = ⊥
-Stops (Instruction-F.Trap code) m now = ⊥
+PartwayOnOom (Instruction-F.SetErrorHandler xcm) m now = ⊥
+PartwayOnOom (Instruction-F.SetAppendix xcm) m now = ⊥
+PartwayOnOom Instruction-F.ClearError m now = ⊥
+PartwayOnOom Instruction-F.ClearTransactStatus m now = ⊥
+PartwayOnOom (Instruction-F.SetFeesMode mode) m now = ⊥
+PartwayOnOom (Instruction-F.SetTopic topic) m now = ⊥
+PartwayOnOom Instruction-F.ClearTopic m now = ⊥
+PartwayOnOom (Instruction-F.Trap code) m now = ⊥
 -- expectations
-Stops (Instruction-F.ExpectAsset list) m now = ⊥
-Stops (Instruction-F.ExpectOrigin origin) m now = ⊥
-Stops (Instruction-F.ExpectError failure) m now = ⊥
-Stops (Instruction-F.ExpectTransactStatus status) m now = ⊥
-Stops (Instruction-F.ExpectPallet place name module_name major least_minor) m now = ⊥
-Stops (Instruction-F.UnpaidExecution limit origin) m now = ⊥
+PartwayOnOom (Instruction-F.ExpectAsset list) m now = ⊥
+PartwayOnOom (Instruction-F.ExpectOrigin origin) m now = ⊥
+PartwayOnOom (Instruction-F.ExpectError failure) m now = ⊥
+PartwayOnOom (Instruction-F.ExpectTransactStatus status) m now = ⊥
+PartwayOnOom (Instruction-F.ExpectPallet place name module_name major least_minor) m now = ⊥
+PartwayOnOom (Instruction-F.UnpaidExecution limit origin) m now = ⊥
 -- unconfigured
-Stops (Instruction-F.HrmpNewChannelOpenRequest sender size capacity) m now = ⊥
-Stops (Instruction-F.HrmpChannelAccepted recipient) m now = ⊥
-Stops (Instruction-F.HrmpChannelClosing initiator sender recipient) m now = ⊥
-Stops (Instruction-F.SubscribeVersion query weight) m now = ⊥
-Stops Instruction-F.UnsubscribeVersion m now = ⊥
-Stops (Instruction-F.UniversalOrigin junction) m now = ⊥
-Stops (Instruction-F.ExportMessage network path xcm) m now = ⊥
-Stops (Instruction-F.AliasOrigin target) m now = ⊥
+PartwayOnOom (Instruction-F.HrmpNewChannelOpenRequest sender size capacity) m now = ⊥
+PartwayOnOom (Instruction-F.HrmpChannelAccepted recipient) m now = ⊥
+PartwayOnOom (Instruction-F.HrmpChannelClosing initiator sender recipient) m now = ⊥
+PartwayOnOom (Instruction-F.SubscribeVersion query weight) m now = ⊥
+PartwayOnOom Instruction-F.UnsubscribeVersion m now = ⊥
+PartwayOnOom (Instruction-F.UniversalOrigin junction) m now = ⊥
+PartwayOnOom (Instruction-F.ExportMessage network path xcm) m now = ⊥
+PartwayOnOom (Instruction-F.AliasOrigin target) m now = ⊥
 
 -- what an instruction may leave where memory was refused: all as it was, or one of these
-abbrev pub Spilled : Instruction-F Instruction → Machine → Machine → Type 0
-Spilled l before now = (now ≡ before) ⊎ Stops l before now
+abbrev pub LeftOnOom : Instruction-F Instruction → Machine → Machine → Type 0
+LeftOnOom l before now = (now ≡ before) ⊎ PartwayOnOom l before now
 
-abbrev pub spills : Instruction → Machine → Machine → Type 0
-spills x before now = Spilled (out-Instruction x) before now
+abbrev pub leaves_on_oom : Instruction → Machine → Machine → Type 0
+leaves_on_oom x before now = LeftOnOom (out-Instruction x) before now

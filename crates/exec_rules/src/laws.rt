@@ -1,6 +1,6 @@
 //! What holds of all instructions: a law, as the contract of a function that does nothing.
 ghost use Rattle.std.specs.Prelude.{◌≡◌, Some, None, IsTrue};
-ghost use Rattle.message_parts.specs.declared.error.XcmError.TheVariants.{BadOrigin};
+ghost use Rattle.operands.specs.declared.error.XcmError.TheVariants.{BadOrigin};
 ghost use Rattle.xcm_program.specs.declared.instruction.Instruction.{Instruction, out-Instruction};
 ghost use Rattle.exec_rules.specs.Machine.{Machine};
 ghost use Rattle.exec_rules.specs.Origins.{needs_origin};

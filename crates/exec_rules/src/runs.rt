@@ -1,7 +1,7 @@
 //! What holds of every run: laws, as the contracts of functions that do nothing.
 ghost use Rattle.std.specs.Prelude.{◌≡◌, ◌+◌, ◌≤◌, ℕ, List, Some};
-ghost use Rattle.message_parts.specs.declared.error.XcmError.{XcmError};
-ghost use Rattle.message_parts.specs.declared.weight.Weight.{Weight};
+ghost use Rattle.operands.specs.declared.error.XcmError.{XcmError};
+ghost use Rattle.operands.specs.declared.weight.Weight.{Weight};
 ghost use Rattle.xcm_program.specs.declared.instruction.Instruction.{Instruction};
 ghost use Rattle.exec_base.specs.declared.event.Part.{Part};
 ghost use Rattle.exec_rules.specs.Machine.{Machine, Rules, IsOrderly};
@@ -13,7 +13,7 @@ ghost use Rattle.exec_rules.specs.Keeping.{LeavesAll, IsAheadOf};
 /// that it reaches is the same run. Wherever it stands, the surplus is at most the weight that was admitted, what was refunded is at most
 /// the surplus, and the next instruction may be taken. A refused instruction changes no
 /// register but the error, the surplus and those of the handler and the appendix, and nothing of the chain but what is told.
-pub fn law_of_runs()
+pub fn law_of_orderly_runs()
     ensures once { (rules : Rules) (g : Stage)
         → IsOrderly rules → IsUnderWay g → 1 + still_to_run (next rules g) ≤ still_to_run g }
     ensures ends { (rules : Rules) (g : Stage) → IsOrderly rules → IsEnd (run rules g) }

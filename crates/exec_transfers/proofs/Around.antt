@@ -3,7 +3,7 @@ use Rattle.std.proofs.Common.{◌≡◌, Bool, true, false, [], ◌∷◌, Optio
 use Rattle.std.specs.Prelude.{◌⊎◌, if◌then◌else◌, IfOk, OnErr}
 use Rattle.std.specs.declared.alloc.AllocError.{AllocError}
 use Rattle.locations.specs.declared.relative.Location.{Location}
-use Rattle.message_parts.specs.declared.error.XcmError.{XcmError}
+use Rattle.operands.specs.declared.error.XcmError.{XcmError}
 use Rattle.asset_lists.specs.declared.units.Asset.{Asset}
 use Rattle.xcm_program.specs.declared.instruction.Instruction.{Instruction}
 use Rattle.xcm_program.specs.declared.instruction.Instruction.TheOpen.{Instruction-F}
@@ -12,24 +12,24 @@ use Rattle.exec_rules.specs.Machine.{Machine, machine}
 use Rattle.exec_rules.specs.Holdings.{at_origin, holding_paid, payment_of}
 use Rattle.exec_rules.specs.Instructions.{refused, done}
 use Rattle.exec_rules.specs.Fees.{refused_around, done_around}
-use Rattle.exec_rules.specs.Stopping.{StopsAround, Stops, Spilled}
+use Rattle.exec_rules.specs.Stopping.{StopsAround, PartwayOnOom, LeftOnOom}
 use Rattle.exec_rules.specs.Functions.{Ran}
 use Rattle.exec_rules.specs.Readiness.{IsSteady}
 use Rattle.exec_holding.specs.Holding.{RanTo}
 use Rattle.exec_holding.specs.Charging.{charged_for, Begins, CanEnd, Ends}
-use Rattle.exec_holding.specs.Laws.{not_begun, can_end, ended, stopped_inside, stopped_ending}
+use Rattle.exec_holding.proofs.Lemmas.{not_begun, can_end, ended, stopped_inside, stopped_ending}
 
 pub record IsInside (l : Instruction-F Instruction) (m : Machine) (fee : Option Asset) (rule : Machine → Option XcmError) (change : Machine → Machine) (inside : Machine → Machine → Type 0) : Type 0 where
   pub refused : refused l m ≡ refused_around fee m rule
   pub done : done l m ≡ done_around fee m change
-  pub stops : (now : Machine) → StopsAround fee m inside now → Stops l m now
+  pub stops : (now : Machine) → StopsAround fee m inside now → PartwayOnOom l m now
 
 ran_by : (l : Instruction-F Instruction) (m now : Machine) (refusal : Option XcmError) (after : Machine) (answer : Result (Unit {0}) XcmError)
     → refused l m ≡ refusal → done l m ≡ after → RanTo refusal after m answer now → Ran l m answer now
 ran_by l m now refusal after (Ok u) is leaves ran = (is ∙ ran.0, ran.1 ∙ sym leaves)
 ran_by l m now refusal after (Err e) is leaves ran = (is ∙ ran.0, ran.1)
 
-spilled_by : (l : Instruction-F Instruction) (m now : Machine) (fee : Option Asset) (inside : Machine → Machine → Type 0) → ((x : Machine) → StopsAround fee m inside x → Stops l m x) → (now ≡ m) ⊎ StopsAround fee m inside now → Spilled l m now
+spilled_by : (l : Instruction-F Instruction) (m now : Machine) (fee : Option Asset) (inside : Machine → Machine → Type 0) → ((x : Machine) → StopsAround fee m inside x → PartwayOnOom l m x) → (now ≡ m) ⊎ StopsAround fee m inside now → LeftOnOom l m now
 spilled_by l m now fee inside stops (inl same) = inl same
 spilled_by l m now fee inside stops (inr left) = inr (stops now left)
 
@@ -54,7 +54,7 @@ module _ (l : Instruction-F Instruction) (m : Machine) (fee : Option Asset) (rul
   begin_refused now e begun = ran_by l m now _ _ (Err e) is.refused is.done (not_begun fee m now rule change e begun)
 
   -- out of memory stopped what is inside
-  pub inside_spilled : (n now : Machine) (charged : Bool) → Begins fee m (Ok charged) n → (now ≡ n) ⊎ inside n now → Spilled l m now
+  pub inside_spilled : (n now : Machine) (charged : Bool) → Begins fee m (Ok charged) n → (now ≡ n) ⊎ inside n now → LeftOnOom l m now
   inside_spilled n now charged begun stopped = spilled_by l m now fee inside is.stops (stopped_inside fee m n now charged inside begun stopped)
 
   -- it can end
@@ -69,6 +69,6 @@ module _ (l : Instruction-F Instruction) (m : Machine) (fee : Option Asset) (rul
 
   -- or out of memory stopped the end
   pub end_spilled : (n k now : Machine) (charged : Bool) (answer : Result (Unit {0}) XcmError) (result : Result (Result (Unit {0}) XcmError) AllocError)
-      → Begins fee m (Ok charged) n → RanTo (rule n) (change n) n answer k → Ends charged answer k result now → OnErr result (Spilled l m now)
+      → Begins fee m (Ok charged) n → RanTo (rule n) (change n) n answer k → Ends charged answer k result now → OnErr result (LeftOnOom l m now)
   end_spilled n k now charged answer (Ok a) begun ran ends = tt
   end_spilled n k now charged answer (Err e) begun ran ends = spilled_by l m now fee inside is.stops (stopped_ending fee m n k now rule change charged answer e inside begun ran ends)

@@ -1,10 +1,10 @@
 -- Each instruction that sends is a rule and a change inside a delivery fee.
 use Rattle.std.proofs.Common.{◌≡◌, ℕ, Bool, true, List, Option, Some, refl, ap, ◌∙◌}
 use Rattle.locations.specs.declared.relative.Location.{Location}
-use Rattle.message_parts.specs.declared.error.XcmError.{XcmError}
-use Rattle.message_parts.specs.declared.error.XcmError.TheVariants as error
-use Rattle.message_parts.specs.declared.query.QueryInfo.{QueryInfo}
-use Rattle.message_parts.specs.declared.query.Response.TheVariants as response
+use Rattle.operands.specs.declared.error.XcmError.{XcmError}
+use Rattle.operands.specs.declared.error.XcmError.TheVariants as error
+use Rattle.operands.specs.declared.query.QueryInfo.{QueryInfo}
+use Rattle.operands.specs.declared.query.Response.TheVariants as response
 use Rattle.asset_lists.specs.declared.units.Asset.{Asset}
 use Rattle.asset_lists.specs.declared.filters.Filter.{Filter}
 use Rattle.asset_bundles.specs.declared.shipment.Way.{Way}

@@ -8,7 +8,8 @@ use Rattle.std.proofs.lemmas.Bool.{and_from, cases_Bool}
 use Rattle.std.proofs.lemmas.Bool.Decides.{nat_tests}
 use Rattle.std.proofs.lemmas.List.Sorted.{IsPermutation-sym, IsPermutation-trans, list_any-IsPermutation}
 use Rattle.amounts.specs.Rows.{IsPositive}
-use Rattle.amounts.specs.Amounts.{rows, rows_positive}
+use Rattle.amounts.specs.Amounts.{rows}
+use Rattle.amounts.proofs.Lemmas.AmountLaws.{rows_positive}
 use Rattle.locations.specs.declared.grammar.Junction.{Junction}
 use Rattle.locations.specs.declared.relative.Location.{Location}
 use Rattle.locations.specs.declared.faults.LocationFault.{LocationFault}
@@ -19,12 +20,13 @@ use Rattle.asset_lists.specs.declared.units.AssetId.TheVariants.{Concrete, Abstr
 use Rattle.asset_lists.specs.declared.units.Instance.{Instance}
 use Rattle.asset_lists.specs.Units.{Unit, asset_cmp, is_zero}
 use Rattle.asset_lists.specs.Lists.{has_zero, is_rising, in_order}
-use Rattle.asset_lists.specs.Moves.{id_of_result, moved_id, moved, list_if}
-use Rattle.asset_lists.specs.Laws.{once_in, twice_in, one_in_order, in_order_moves, in_order_rises}
-use Rattle.asset_bundles.specs.Bundles.{Bundle, fun_of, assets_at, held_assets}
-use Rattle.xcm_program.specs.Conversions.{is_place, are_places}
+use Rattle.asset_lists.specs.Moves.{id_of_result, reanchored_id, moved, list_if}
+use Rattle.asset_lists.proofs.Lemmas.{once_in, twice_in, one_in_order, in_order_moves, in_order_rises}
+use Rattle.asset_bundles.specs.Bundles.{Bundle, fun_of, assets_of_rows, held_assets}
+use Rattle.xcm_program.specs.Conversions.{is_concrete_id, have_concrete_ids}
 use Rattle.exec_rules.specs.Reports.{with_named, named_assets, named_list}
 use Rattle.exec_transfers.specs.Naming.{IsTellable}
+use Rattle.plain_lists.proofs.Lemmas.Facts.{first_false, not_false_true as place_of_not}
 
 -- ---- one after the other
 behind_named : (target : Location) (context : List Junction) (a : Asset) (rest named : List Asset) (o : Option Asset) → moved target context a ≡ o
@@ -76,7 +78,7 @@ or_false : (a b : Bool) → a ≡ false → b ≡ false → (a || b) ≡ false
 or_false true b h k = absurd cc
 or_false false b h k = k
 
-no_zero_at : (es : List (Unit × ℕ)) → IsPositive es → has_zero (assets_at es) ≡ false
+no_zero_at : (es : List (Unit × ℕ)) → IsPositive es → has_zero (assets_of_rows es) ≡ false
 no_zero_at [] positive = refl
 no_zero_at (e ∷ es) positive = or_false _ _ (some_at e.0.1 e.1 e.0.0 positive.0) (no_zero_at es positive.1)
 
@@ -89,51 +91,43 @@ not_zero_by : (a : Asset) (o : Option AssetId) (others : List Asset) → is_zero
 not_zero_by a None others h k = k
 not_zero_by a (Some id) others h k = or_false _ _ h k
 
-first_false : (a b : Bool) → (a || b) ≡ false → a ≡ false
-first_false true b h = h
-first_false false b h = refl
-
 second_false : (a b : Bool) → (a || b) ≡ false → b ≡ false
 second_false true b h = absurd cc
 second_false false b h = h
 
 pub no_zero_named : (target : Location) (context : List Junction) (xs : List Asset) → has_zero xs ≡ false → has_zero (named_assets target context xs) ≡ false
 no_zero_named target context [] h = refl
-no_zero_named target context (a ∷ rest) h = not_zero_by a (moved_id target context a.id) (named_assets target context rest) (first_false _ _ h) (no_zero_named target context rest (second_false (is_zero a) _ h))
+no_zero_named target context (a ∷ rest) h = not_zero_by a (reanchored_id target context a.id) (named_assets target context rest) (first_false _ _ h) (no_zero_named target context rest (second_false (is_zero a) _ h))
 
 pub no_zero_moves : (all new : List Asset) → IsPermutation all new → has_zero all ≡ false → has_zero new ≡ false
 no_zero_moves all new moves h = sym (list_any-IsPermutation is_zero all new moves) ∙ h
 
 abbrev is_bytes : Asset → Bool
-is_bytes a = not (is_place a.id)
+is_bytes a = not (is_concrete_id a.id)
 
-seen_place : (r : Result Location LocationFault) (new : AssetId) → id_of_result r ≡ Some new → is_place new ≡ true
+seen_place : (r : Result Location LocationFault) (new : AssetId) → id_of_result r ≡ Some new → is_concrete_id new ≡ true
 seen_place r (Concrete l) e = refl
 seen_place (Ok l) (Abstract b) e = absurd cc
 seen_place (Err f) (Abstract b) e = absurd cc
 
-named_place : (target : Location) (context : List Junction) (id new : AssetId) → moved_id target context id ≡ Some new → is_place new ≡ true
+named_place : (target : Location) (context : List Junction) (id new : AssetId) → reanchored_id target context id ≡ Some new → is_concrete_id new ≡ true
 named_place target context (Concrete l) new e = seen_place (reanchored l target context) new e
 named_place target context (Abstract b) new e = absurd cc
 
-place_by : (a : Asset) (o : Option AssetId) (others : List Asset) → ((new : AssetId) → o ≡ Some new → is_place new ≡ true) → list_any is_bytes others ≡ false
+place_by : (a : Asset) (o : Option AssetId) (others : List Asset) → ((new : AssetId) → o ≡ Some new → is_concrete_id new ≡ true) → list_any is_bytes others ≡ false
     → list_any is_bytes (with_named (option_map (λ (id : AssetId). record { id = id; fun = a.fun }) o) others) ≡ false
 place_by a None others h k = k
 place_by a (Some id) others h k = or_false _ _ (ap not (h id refl)) k
 
 pub no_bytes_named : (target : Location) (context : List Junction) (xs : List Asset) → list_any is_bytes (named_assets target context xs) ≡ false
 no_bytes_named target context [] = refl
-no_bytes_named target context (a ∷ rest) = place_by a (moved_id target context a.id) (named_assets target context rest) (λ new e. named_place target context a.id new e) (no_bytes_named target context rest)
+no_bytes_named target context (a ∷ rest) = place_by a (reanchored_id target context a.id) (named_assets target context rest) (λ new e. named_place target context a.id new e) (no_bytes_named target context rest)
 
-place_of_not : (b : Bool) → not b ≡ false → b ≡ true
-place_of_not true h = refl
-place_of_not false h = absurd cc
-
-all_places : (xs : List Asset) → list_any is_bytes xs ≡ false → are_places xs ≡ true
+all_places : (xs : List Asset) → list_any is_bytes xs ≡ false → have_concrete_ids xs ≡ true
 all_places [] h = refl
-all_places (a ∷ rest) h = and_from (is_place a.id) (are_places rest) (place_of_not _ (first_false _ _ h)) (all_places rest (second_false (is_bytes a) _ h))
+all_places (a ∷ rest) h = and_from (is_concrete_id a.id) (have_concrete_ids rest) (place_of_not _ (first_false _ _ h)) (all_places rest (second_false (is_bytes a) _ h))
 
-pub places_moved : (target : Location) (context : List Junction) (xs new : List Asset) → IsPermutation (named_assets target context xs) new → are_places new ≡ true
+pub places_moved : (target : Location) (context : List Junction) (xs new : List Asset) → IsPermutation (named_assets target context xs) new → have_concrete_ids new ≡ true
 places_moved target context xs new moves = all_places new (sym (list_any-IsPermutation is_bytes (named_assets target context xs) new moves) ∙ no_bytes_named target context xs)
 
 -- ---- the list that is told, or none

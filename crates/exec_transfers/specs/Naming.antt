@@ -2,16 +2,16 @@
 use Rattle.std.specs.Prelude.{◌≡◌, ℕ, true, false, List, Option, Some, None}
 use Rattle.std.specs.List.{filter}
 use Rattle.std.specs.Str.{bytes_eq}
-use Rattle.message_parts.specs.declared.pallet.PalletInfo.{PalletInfo}
+use Rattle.operands.specs.declared.pallet.PalletInfo.{PalletInfo}
 use Rattle.asset_lists.specs.declared.units.Asset.{Asset}
 use Rattle.asset_lists.specs.Lists.{has_zero, is_rising}
-use Rattle.xcm_program.specs.Conversions.{are_places}
+use Rattle.xcm_program.specs.Conversions.{have_concrete_ids}
 
 -- assets in order, with no amount 0 and no id by bytes
 pub record IsTellable (list : List Asset) : Type 0 where
   pub rising : is_rising list ≡ true
   pub some : has_zero list ≡ false
-  pub places : are_places list ≡ true
+  pub places : have_concrete_ids list ≡ true
 
 -- what is told of a list that is expected, or that there is none
 abbrev pub TellsList : Option (List Asset) → Option (List Asset) → Type 0

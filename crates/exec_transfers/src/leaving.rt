@@ -3,7 +3,7 @@ ghost use Rattle.std.specs.Prelude.{◌≡◌, ◌⊎◌, [], OnErr, IfOk};
 ghost use Rattle.xcm_program.specs.declared.instruction.Instruction.TheOpen.{Instruction-F};
 ghost use Rattle.exec_rules.specs.Machine.{machine};
 ghost use Rattle.exec_rules.specs.Functions.{Ran, IsReadyFor};
-ghost use Rattle.exec_rules.specs.Stopping.{Spilled};
+ghost use Rattle.exec_rules.specs.Stopping.{LeftOnOom};
 ghost use Rattle.asset_bundles.specs.Filters.{Taken};
 ghost use Rattle.exec_base.specs.Sending.{IsForwardable};
 ghost use Rattle.exec_base.specs.Host.{transfer_out_refusal, transferred_out, deposit_out_refusal, deposited_out, ship_refusal, shipped};
@@ -17,7 +17,7 @@ use asset_lists::{Assets, Filter};
 use exec_base::{Host, Registers};
 use exec_holding::{answer_of, begin_sending, end_sending, put_back};
 use locations::Location;
-use message_parts::XcmError;
+use operands::XcmError;
 use std::alloc::{AllocError, Global};
 use xcm_program::Program;
 
@@ -56,7 +56,7 @@ pub fn transfer_reserve_asset<H: Host>(
         (machine r.old (H.part h.old)) }
     ensures ok { IfOk result (λ answer. Ran (Instruction-F.TransferReserveAsset assets.now dest.now
         xcm.now) (machine r.old (H.part h.old)) answer (machine r.new (H.part h.new))) }
-    ensures err { OnErr result (Spilled (Instruction-F.TransferReserveAsset assets.now dest.now
+    ensures err { OnErr result (LeftOnOom (Instruction-F.TransferReserveAsset assets.now dest.now
         xcm.now) (machine r.old (H.part h.old)) (machine r.new (H.part h.new))) }
 {
     let Some(who) = &r.origin else {
@@ -114,7 +114,7 @@ pub fn deposit_reserve_asset<H: Host>(
     ensures ok { IfOk result
         (λ answer. Ran (Instruction-F.DepositReserveAsset assets.now dest.now xcm.now)
         (machine r.old (H.part h.old)) answer (machine r.new (H.part h.new))) }
-    ensures err { OnErr result (Spilled (Instruction-F.DepositReserveAsset assets.now dest.now
+    ensures err { OnErr result (LeftOnOom (Instruction-F.DepositReserveAsset assets.now dest.now
         xcm.now) (machine r.old (H.part h.old)) (machine r.new (H.part h.new))) }
 {
     match begin_sending(alloc, r, h, dest)? {
@@ -169,7 +169,7 @@ fn send_away<H: Host>(
         (machine r.old (H.part h.old)) }
     ensures ok { IfOk result (λ answer. Ran (leaving way assets.now dest.now xcm.now)
         (machine r.old (H.part h.old)) answer (machine r.new (H.part h.new))) }
-    ensures err { OnErr result (Spilled (leaving way assets.now dest.now xcm.now)
+    ensures err { OnErr result (LeftOnOom (leaving way assets.now dest.now xcm.now)
         (machine r.old (H.part h.old)) (machine r.new (H.part h.new))) }
 {
     match begin_sending(alloc, r, h, dest)? {
@@ -195,7 +195,7 @@ pub fn initiate_reserve_withdraw<H: Host>(
     ensures ok { IfOk result
         (λ answer. Ran (Instruction-F.InitiateReserveWithdraw assets.now reserve.now xcm.now)
         (machine r.old (H.part h.old)) answer (machine r.new (H.part h.new))) }
-    ensures err { OnErr result (Spilled (Instruction-F.InitiateReserveWithdraw assets.now
+    ensures err { OnErr result (LeftOnOom (Instruction-F.InitiateReserveWithdraw assets.now
         reserve.now xcm.now) (machine r.old (H.part h.old))
         (machine r.new (H.part h.new))) }
 {
@@ -216,7 +216,7 @@ pub fn initiate_teleport<H: Host>(
     ensures ok { IfOk result
         (λ answer. Ran (Instruction-F.InitiateTeleport assets.now dest.now xcm.now)
         (machine r.old (H.part h.old)) answer (machine r.new (H.part h.new))) }
-    ensures err { OnErr result (Spilled (Instruction-F.InitiateTeleport assets.now dest.now xcm.now)
+    ensures err { OnErr result (LeftOnOom (Instruction-F.InitiateTeleport assets.now dest.now xcm.now)
         (machine r.old (H.part h.old)) (machine r.new (H.part h.new))) }
 {
     send_away(alloc, r, h, Way::Teleport, assets, dest, xcm)

@@ -4,7 +4,7 @@ ghost use Rattle.xcm_program.specs.declared.instruction.Instruction.{roll-Instru
 ghost use Rattle.xcm_program.specs.declared.instruction.Instruction.TheOpen.{Instruction-F};
 ghost use Rattle.exec_rules.specs.Machine.{machine};
 ghost use Rattle.exec_rules.specs.Functions.{Ran, IsReadyFor};
-ghost use Rattle.exec_rules.specs.Stopping.{Spilled};
+ghost use Rattle.exec_rules.specs.Stopping.{LeftOnOom};
 ghost use Rattle.exec_base.specs.Sending.{IsForwardable};
 ghost use Rattle.exec_base.specs.Host.{lock_refusal, asset_locked, request_refusal, asset_requested};
 ghost use Rattle.exec_holding.specs.Holding.{RanTo};
@@ -13,7 +13,7 @@ use asset_lists::Asset;
 use exec_base::{Host, Registers};
 use exec_holding::{answer_of, begin_sending, end_sending};
 use locations::Location;
-use message_parts::XcmError;
+use operands::XcmError;
 use std::alloc::{AllocError, Global};
 
 /// Locks the asset on the owner's account, and tells the unlocker.
@@ -50,7 +50,7 @@ pub fn lock_asset<H: Host>(
         (machine r.old (H.part h.old)) }
     ensures ok { IfOk result (λ answer. Ran (Instruction-F.LockAsset asset.now unlocker.now)
         (machine r.old (H.part h.old)) answer (machine r.new (H.part h.new))) }
-    ensures err { OnErr result (Spilled (Instruction-F.LockAsset asset.now unlocker.now)
+    ensures err { OnErr result (LeftOnOom (Instruction-F.LockAsset asset.now unlocker.now)
         (machine r.old (H.part h.old)) (machine r.new (H.part h.new))) }
 {
     let Some(who) = &r.origin else {
@@ -103,7 +103,7 @@ pub fn request_unlock<H: Host>(
         (machine r.old (H.part h.old)) }
     ensures ok { IfOk result (λ answer. Ran (Instruction-F.RequestUnlock asset.now locker.now)
         (machine r.old (H.part h.old)) answer (machine r.new (H.part h.new))) }
-    ensures err { OnErr result (Spilled (Instruction-F.RequestUnlock asset.now locker.now)
+    ensures err { OnErr result (LeftOnOom (Instruction-F.RequestUnlock asset.now locker.now)
         (machine r.old (H.part h.old)) (machine r.new (H.part h.new))) }
 {
     let Some(who) = &r.origin else {

@@ -4,7 +4,7 @@ ghost use Rattle.exec_rules.specs.Reports.{pallets_of};
 ghost use Rattle.exec_transfers.specs.Naming.{pallets_named};
 
 use exec_base::Host;
-use message_parts::{BoundedVec, LongBytes, PalletInfo, PalletInfos};
+use operands::{BoundedVec, LongBytes, PalletInfo, PalletInfos};
 use std::alloc::{AllocError, Global};
 
 /// The pallets with that module name, in the order given.

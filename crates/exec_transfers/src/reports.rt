@@ -4,7 +4,7 @@ ghost use Rattle.std.specs.Option.{option_map};
 ghost use Rattle.xcm_program.specs.declared.instruction.Instruction.TheOpen.{Instruction-F};
 ghost use Rattle.exec_rules.specs.Machine.{machine};
 ghost use Rattle.exec_rules.specs.Functions.{Ran, IsReadyFor};
-ghost use Rattle.exec_rules.specs.Stopping.{Spilled};
+ghost use Rattle.exec_rules.specs.Stopping.{LeftOnOom};
 ghost use Rattle.exec_base.specs.Sending.{IsForwardable};
 ghost use Rattle.exec_base.specs.Host.{report_program};
 ghost use Rattle.exec_rules.specs.Reports.{report_refused, report_done, reported_list, too_many_refused, holding_report_refused, holding_report_done};
@@ -16,7 +16,7 @@ use crate::pallets::told_pallets;
 use asset_lists::{Asset, Assets, Filter, MAX_ASSETS};
 use exec_base::{Host, Registers};
 use exec_holding::{answer_of, begin_sending, end_sending};
-use message_parts::{LongBytes, QueryInfo, Response, XcmError};
+use operands::{LongBytes, QueryInfo, Response, XcmError};
 use std::alloc::{AllocError, Global};
 
 /// Sends a response to where the query's info says, for the origin register.
@@ -50,7 +50,7 @@ pub fn report_error<H: Host>(
         (machine r.old (H.part h.old)) }
     ensures ok { IfOk result (λ answer. Ran (Instruction-F.ReportError info.now)
         (machine r.old (H.part h.old)) answer (machine r.new (H.part h.new))) }
-    ensures err { OnErr result (Spilled (Instruction-F.ReportError info.now)
+    ensures err { OnErr result (LeftOnOom (Instruction-F.ReportError info.now)
         (machine r.old (H.part h.old)) (machine r.new (H.part h.new))) }
 {
     match begin_sending(alloc, r, h, &info.destination)? {
@@ -74,7 +74,7 @@ pub fn report_transact_status<H: Host>(
         (machine r.old (H.part h.old)) }
     ensures ok { IfOk result (λ answer. Ran (Instruction-F.ReportTransactStatus info.now)
         (machine r.old (H.part h.old)) answer (machine r.new (H.part h.new))) }
-    ensures err { OnErr result (Spilled (Instruction-F.ReportTransactStatus info.now)
+    ensures err { OnErr result (LeftOnOom (Instruction-F.ReportTransactStatus info.now)
         (machine r.old (H.part h.old)) (machine r.new (H.part h.new))) }
 {
     match begin_sending(alloc, r, h, &info.destination)? {
@@ -175,7 +175,7 @@ pub fn report_holding<H: Host>(
         (machine r.old (H.part h.old)) }
     ensures ok { IfOk result (λ answer. Ran (Instruction-F.ReportHolding info.now assets.now)
         (machine r.old (H.part h.old)) answer (machine r.new (H.part h.new))) }
-    ensures err { OnErr result (Spilled (Instruction-F.ReportHolding info.now assets.now)
+    ensures err { OnErr result (LeftOnOom (Instruction-F.ReportHolding info.now assets.now)
         (machine r.old (H.part h.old)) (machine r.new (H.part h.new))) }
 {
     match begin_sending(alloc, r, h, &info.destination)? {
@@ -199,7 +199,7 @@ pub fn query_pallet<H: Host>(
         (machine r.old (H.part h.old)) }
     ensures ok { IfOk result (λ answer. Ran (Instruction-F.QueryPallet module_name.now info.now)
         (machine r.old (H.part h.old)) answer (machine r.new (H.part h.new))) }
-    ensures err { OnErr result (Spilled (Instruction-F.QueryPallet module_name.now info.now)
+    ensures err { OnErr result (LeftOnOom (Instruction-F.QueryPallet module_name.now info.now)
         (machine r.old (H.part h.old)) (machine r.new (H.part h.new))) }
 {
     match begin_sending(alloc, r, h, &info.destination)? {

@@ -6,7 +6,7 @@ use Rattle.network_steps.specs.declared.step_result.StepResult.{StepResult}
 use Rattle.network_steps.specs.declared.step_result.StepResult.TheVariants.{Ran, Empty, NoSuchChain, NoSuchChannel, SovereignCaller, Message, NotAClaim, Sent, Unsent}
 use Rattle.xcm_program.specs.declared.outcome.Outcome.TheVariants.{Complete, Incomplete, Error}
 use Rattle.network_steps.specs.Worlds.{World}
-use Rattle.network_steps.specs.Steps.{Step, Link, after, last_world}
+use Rattle.network_steps.specs.Steps.{Step, Link, next_world, last_world}
 use Rattle.generator.specs.declared.counts.Counts.{Counts}
 use Rattle.generator.specs.declared.turns.Turn.{Turn}
 use Rattle.generator.specs.Turns.{drawn, step_of_turn, steps_from}
@@ -64,9 +64,9 @@ one_more p a rest whole before now e f = omega (arith, e, f, sum_by-cons (λ x. 
 
 -- one more step
 goes_step : (order : List Link) (start : World) (steps : List Step) (c d : Counts) (now : World) (step : Step) (rest : List Step) → Goes order start steps c now (step ∷ rest)
-    → Counted (answer_to_step now step) c d → Goes order start steps d (after order now step) rest
+    → Counted (answer_to_step now step) c d → Goes order start steps d (next_world order now step) rest
 goes_step order start steps c d now step rest g k =
-    let behind = answers order (after order now step) rest in
+    let behind = answers order (next_world order now step) rest in
     record {
       complete = one_more is_complete (answer_to_step now step) behind _ _ _ g.complete k.complete;
       incomplete = one_more is_incomplete (answer_to_step now step) behind _ _ _ g.incomplete k.incomplete;
@@ -81,7 +81,7 @@ unfolding steps_from
 one_drawn left more x e = ap (λ n. steps_from n x) e
 
 goes_on : (order : List Link) (start : World) (steps : List Step) (c d : Counts) (now : World) (left more x : ℕ) → left ≡ suc more → Goes order start steps c now (steps_from left x)
-    → Counted (answer_to_step now (step_of_turn (drawn x).1)) c d → Goes order start steps d (after order now (step_of_turn (drawn x).1)) (steps_from more (drawn x).0)
+    → Counted (answer_to_step now (step_of_turn (drawn x).1)) c d → Goes order start steps d (next_world order now (step_of_turn (drawn x).1)) (steps_from more (drawn x).0)
 goes_on order start steps c d now left more x e g k =
     goes_step order start steps c d now _ _ (subst (λ rest. Goes order start steps c now rest) (one_drawn left more x e) g) k
 
@@ -90,14 +90,14 @@ pub record Taken (order : List Link) (now next : World) (x y : ℕ) (turn : Turn
   pub drew : turn ≡ (drawn x).1
   pub state : y ≡ (drawn x).0
   pub told : answer ≡ answer_to_step now (step_of_turn turn)
-  pub world : next ≡ after order now (step_of_turn turn)
+  pub world : next ≡ next_world order now (step_of_turn turn)
 
 pub goes_taken : (order : List Link) (start : World) (steps : List Step) (c d : Counts) (now next : World) (all done x y : ℕ) (turn : Turn) (answer : StepResult) → done < all
     → Goes order start steps c now (steps_from (all - done) x) → Taken order now next x y turn answer → Counted answer c d → Goes order start steps d next (steps_from (all - (done + 1)) y)
 goes_taken order start steps c d now next all done x y turn answer lt g t k =
     let left : all - done ≡ suc (all - (done + 1)) = omega (arith, lt) in
     let same : answer ≡ answer_to_step now (step_of_turn (drawn x).1) = t.told ∙ ap (λ m. answer_to_step now (step_of_turn m)) t.drew in
-    let there : next ≡ after order now (step_of_turn (drawn x).1) = t.world ∙ ap (λ m. after order now (step_of_turn m)) t.drew in
+    let there : next ≡ next_world order now (step_of_turn (drawn x).1) = t.world ∙ ap (λ m. next_world order now (step_of_turn m)) t.drew in
     let on = goes_on order start steps c d now _ (all - (done + 1)) x left g (subst (λ a. Counted a c d) same k) in
     subst (λ z. Goes order start steps d next (steps_from (all - (done + 1)) z)) (sym t.state) (subst (λ w. Goes order start steps d w (steps_from (all - (done + 1)) (drawn x).0)) (sym there) on)
 
@@ -133,7 +133,7 @@ four a rest =
 all_counted : (order : List Link) (w : World) (steps : List Step) → all_steps (counts_of (answers order w steps)) ≡ length steps
 all_counted order w [] = refl
 all_counted order w (step ∷ steps) =
-    omega (arith, four (answer_to_step w step) (answers order (after order w step) steps), all_counted order (after order w step) steps)
+    omega (arith, four (answer_to_step w step) (answers order (next_world order w step) steps), all_counted order (next_world order w step) steps)
 
 so_many : (count x : ℕ) → length (steps_from count x) ≡ count
 unfolding steps_from

@@ -1,2 +1,3 @@
 mod Going
-mod Supplies
+mod Reading
+mod Coherence

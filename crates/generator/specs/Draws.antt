@@ -2,8 +2,8 @@
 use Rattle.std.specs.Prelude.{ℕ, ◌+◌, ◌*◌, ◌/◌, ◌%◌, ◌^◌}
 
 -- the number that follows another
-abbrev pub next : ℕ → ℕ
-next x = (x * 6364136223846793005 + 1442695040888963407) % 2 ^ 64
+abbrev pub next_draw : ℕ → ℕ
+next_draw x = (x * 6364136223846793005 + 1442695040888963407) % 2 ^ 64
 
 -- a number below the limit, from the high bits of the one that was drawn
 abbrev pub below : ℕ → ℕ → ℕ

@@ -5,12 +5,12 @@
 --   generated    the report of a run in the network of the generator's document
 use Rattle.std.specs.Prelude.{ℕ, ◌+◌, List, [], ◌∷◌, ◌++◌, codes, decimal, count_by}
 use Rattle.network_spec.specs.declared.network.NetworkSpec.{NetworkSpec}
-use Rattle.network_genesis.specs.Genesis.{order_of, first_world}
+use Rattle.network_steps.specs.Genesis.{order_of, first_world}
 use Rattle.network_steps.specs.declared.step_result.StepResult.{StepResult}
-use Rattle.network_steps.specs.Worlds.{World}
-use Rattle.network_steps.specs.Steps.{Step, Exec, Deliver, Claim, Drain, Balances, Traps, Queues, Supply, Link, exec, deliver, claim, after, last_world}
-use Rattle.report_blocks.specs.Reads.{supply_block}
-use Rattle.generator_network.specs.Network.{network}
+use Rattle.network_steps.specs.Worlds.{World, parts_of}
+use Rattle.network_steps.specs.Steps.{Step, Exec, Deliver, Claim, Drain, Balances, Traps, Queues, Supply, Link, exec, deliver, claim, next_world, last_world}
+use Rattle.report_text.specs.Block.{supply_block}
+use Rattle.generator.specs.Network.{described_network}
 use Rattle.generator.specs.declared.counts.Counts.{Counts}
 use Rattle.generator.specs.Turns.{steps_from}
 use Rattle.generator.specs.Results.{is_complete, is_incomplete, is_error, is_empty}
@@ -29,7 +29,7 @@ answer_to_step w Supply = StepResult.Empty
 -- what the steps answer, one behind another, each in the world behind the one before it
 abbrev pub answers : List Link → World → List Step → List StepResult
 answers order w [] = []
-answers order w (step ∷ steps) = answer_to_step w step ∷ answers order (after order w step) steps
+answers order w (step ∷ steps) = answer_to_step w step ∷ answers order (next_world order w step) steps
 
 -- what was asked for
 abbrev pub asked_line : ℕ → ℕ → List ℕ
@@ -59,8 +59,8 @@ unfoldable pub summary : NetworkSpec → ℕ → ℕ → List ℕ
 summary spec number steps =
     asked_line number steps
     ++ (counts_line (counts_of (answers (order_of spec) (first_world spec) (steps_from steps number)))
-    ++ supply_block (last_world (order_of spec) (first_world spec) (steps_from steps number)))
+    ++ supply_block (parts_of (last_world (order_of spec) (first_world spec) (steps_from steps number))))
 
 -- the report of the run in the generator's network
 unfoldable pub generated : ℕ → ℕ → List ℕ
-generated number steps = summary network number steps
+generated number steps = summary described_network number steps

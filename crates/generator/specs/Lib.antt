@@ -3,3 +3,4 @@ pub mod Messages
 pub mod Turns
 pub mod Results
 pub mod Generated
+pub mod Network

@@ -4,20 +4,20 @@ use Rattle.chain_ids.specs.declared.chain.ChainId.TheVariants.{Relay, Para}
 use Rattle.network_steps.specs.Steps.{Step, Exec, Deliver}
 use Rattle.generator.specs.declared.turns.Turn.{Turn}
 use Rattle.generator.specs.declared.turns.Turn.TheVariants.{Send, Return, Down, Up}
-use Rattle.generator.specs.Draws.{next, below}
+use Rattle.generator.specs.Draws.{next_draw, below}
 use Rattle.generator.specs.Messages.{send_message, return_message}
 
 -- a turn of this kind with this parachain, whose value, where it has one, is drawn behind the number; and the number that was drawn last
 abbrev pub turn_of_kind : ℕ → ℕ → ℕ → ℕ × Turn
 turn_of_kind kind para x =
-    if kind == 0 then (next x, Send (1 + below 1000 (next x)) para)
-    else if kind == 1 then (next x, Return (1 + below 1000 (next x)) para)
+    if kind == 0 then (next_draw x, Send (1 + below 1000 (next_draw x)) para)
+    else if kind == 1 then (next_draw x, Return (1 + below 1000 (next_draw x)) para)
     else if kind == 2 then (x, Down para)
     else (x, Up para)
 
 -- the turn that is drawn behind a number, its kind first and then its parachain; and the number that was drawn last
 unfoldable pub drawn : ℕ → ℕ × Turn
-drawn x = turn_of_kind (below 4 (next x)) (2000 + below 2 (next (next x))) (next (next x))
+drawn x = turn_of_kind (below 4 (next_draw x)) (2000 + below 2 (next_draw (next_draw x))) (next_draw (next_draw x))
 
 -- the step of the network that a turn is
 abbrev pub step_of_turn : Turn → Step

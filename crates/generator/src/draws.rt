@@ -1,6 +1,6 @@
 //! Numbers that are drawn, each from the one before.
 ghost use Rattle.std.specs.Prelude.{◌≡◌, ◌<◌};
-ghost use Rattle.generator.specs.Draws.{next, below};
+ghost use Rattle.generator.specs.Draws.{next_draw, below};
 
 /// A sequence of numbers that looks like chance.
 #[derive(Debug, Drop)]
@@ -13,8 +13,8 @@ impl Draws {
     /// Draws the next number, and gives one below the limit from its high bits.
     pub(crate) fn below(&mut self, limit: u32) -> u32
         requires some { 0 < limit }
-        ensures state { self.new.state ≡ next self.old.state }
-        ensures drawn { result ≡ below limit (next self.old.state) }
+        ensures state { self.new.state ≡ next_draw self.old.state }
+        ensures drawn { result ≡ below limit (next_draw self.old.state) }
         ensures less { result < limit }
     {
         self.state = next(self.state);
@@ -24,7 +24,7 @@ impl Draws {
 
 /// The number that follows another, modulo 2^64.
 fn next(number: u64) -> u64
-    ensures { result ≡ next number }
+    ensures { result ≡ next_draw number }
 {
     number
         .wrapping_mul(6_364_136_223_846_793_005)

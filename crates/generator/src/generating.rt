@@ -1,16 +1,20 @@
 //! The whole run, and its report.
 ghost use Rattle.std.specs.Prelude.{◌≡◌, ◌++◌, false, IfOk, string_bytes};
-ghost use Rattle.network_genesis.specs.Genesis.{first_world};
+ghost use Rattle.network_steps.specs.Genesis.{first_world};
 ghost use Rattle.chain_net.specs.Nets.{world_of, spec_of, is_stopped};
-ghost use Rattle.report_blocks.specs.Reads as reads;
+ghost use Rattle.network_steps.specs.Worlds.{parts_of};
+ghost use Rattle.report_text.specs.Block as supply;
 ghost use Rattle.generator.specs.Generated as generated;
 ghost use Rattle.generator.specs.Generated.{asked_line, counts_line, generated};
 
 use crate::counts::Counts;
+use crate::document::document_bytes;
+use crate::network_laws::law_of_document;
 use crate::running::run_steps;
 use chain_net::Net;
-use generator_network::{document_bytes, law_of_document};
-use report_blocks::open_network;
+use document_entries::NetworkFault;
+use network_config::read_network;
+use network_validity::law_of_valid_networks;
 use std::alloc::{AllocError, Global};
 
 /// What was asked for.
@@ -33,7 +37,8 @@ fn counts_line(alloc: Global, counts: &Counts) -> Result<String, AllocError>
 
 /// What the network has of each asset that is native somewhere, and what backs each derivative.
 fn supply_block(alloc: Global, net: &Net) -> Result<String, AllocError>
-    ensures { IfOk result (λ text. string_bytes text ≡ reads.supply_block (world_of net.now)) }
+    ensures { IfOk result (λ text. string_bytes text
+        ≡ supply.supply_block (parts_of (world_of net.now))) }
 {
     report_text::supply_block(alloc, net.chains())
 }
@@ -61,9 +66,15 @@ fn summary(alloc: Global, net: &mut Net, number: u64, steps: u64) -> Result<Stri
 pub fn generate(alloc: Global, number: u64, steps: u64) -> Result<String, AllocError>
     ensures report { IfOk result (λ text. string_bytes text ≡ generated number steps) }
 {
-    law_of_document(); // For the prover alone: the document is accepted.
-    match open_network(alloc, document_bytes())? {
-        Ok(mut net) => summary(alloc, &mut net, number, steps),
+    // For the prover alone: the document is accepted, and a network that was read can open.
+    law_of_document();
+    law_of_valid_networks();
+    match read_network(alloc, document_bytes()) {
+        Ok(spec) => {
+            let mut net = Net::open(alloc, spec)?;
+            summary(alloc, &mut net, number, steps)
+        }
+        Err(NetworkFault::Memory) => Err(AllocError),
         Err(_) => unreachable!(),
     }
 }

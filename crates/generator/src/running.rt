@@ -1,7 +1,7 @@
 //! Steps that are drawn and run.
 ghost use Rattle.std.specs.Prelude.{◌≡◌, IfOk, OnOk, false};
-ghost use Rattle.network_genesis.specs.Genesis.{order_of};
-ghost use Rattle.network_steps.specs.Steps.{after, last_world};
+ghost use Rattle.network_steps.specs.Genesis.{order_of};
+ghost use Rattle.network_steps.specs.Steps.{next_world, last_world};
 ghost use Rattle.chain_net.specs.Nets.{world_of, spec_of, is_stopped};
 ghost use Rattle.generator.specs.Turns.{step_of_turn, steps_from};
 ghost use Rattle.generator.specs.Generated.{answer_to_step, answers, counts_of};
@@ -27,7 +27,7 @@ fn perform(alloc: Global, net: &mut Net, turn: Turn) -> Result<StepResult, Alloc
     ensures answer { IfOk result (λ answer. answer
         ≡ answer_to_step (world_of net.old) (step_of_turn turn)) }
     ensures world { OnOk result (world_of net.new
-        ≡ after (order_of (spec_of net.old)) (world_of net.old) (step_of_turn turn)) }
+        ≡ next_world (order_of (spec_of net.old)) (world_of net.old) (step_of_turn turn)) }
     ensures running { OnOk result (is_stopped net.new ≡ false) }
     ensures spec { spec_of net.new ≡ spec_of net.old }
 {

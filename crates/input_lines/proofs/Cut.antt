@@ -4,7 +4,7 @@ use Rattle.std.proofs.lemmas.Bool.{cases_eq}
 use Rattle.std.specs.List.{concat}
 use Rattle.input_lines.specs.Lines.{lines_of, onto, HasNoFeed}
 use Rattle.input_lines.specs.Meaning.{IsEnded, AreLines}
-use Rattle.input_lines.specs.Laws.{at_feed, past_other, no_lines, only_line}
+use Rattle.input_lines.proofs.Lemmas.{at_feed, past_other, no_lines, only_line}
 
 no_feed_cons : (b : ℕ) (bytes : List ℕ) → (b ≡ 10 → ⊥) → HasNoFeed bytes → HasNoFeed (b ∷ bytes)
 no_feed_cons b bytes n none zero l e = n e

@@ -10,9 +10,7 @@ use Rattle.std.specs.Str.Parse.{digits_value, ParsesUnsigned}
 use Rattle.std.specs.Result.{OkIff, result_ok}
 use Rattle.std.specs.Prelude.{nat_lt}
 use Rattle.input_lines.specs.Numbers.{read_number}
-
-pub own : IsNumeralModel (λ ds. all_ascii_digits ds ≡ true) (digits_value 10)
-own = numerals_by_value (λ ds. all_ascii_digits ds ≡ true) tells_all_ascii_digits
+use Rattle.plain_lists.proofs.Lemmas.Facts.{decimal_numerals as own, first_true as and_front, second_true as and_back}
 
 third_false : (a b c d : Bool) (n : ℕ) → c ≡ false → cond (a && b && c && d) (Some n) None ≡ None
 third_false true true true d n e = cc
@@ -51,14 +49,6 @@ zero_none text l e = third_false (all_ascii_digits text) (nat_lt 0 (length text)
 
 digit_below : (c : ℕ) → is_ascii_digit c ≡ true → c < 128
 digit_below c e = grind (arith, nat_tests)
-
-and_front : (a b : Bool) → (a && b) ≡ true → a ≡ true
-and_front true b e = refl
-and_front false b e = e
-
-and_back : (a b : Bool) → (a && b) ≡ true → b ≡ true
-and_back true b e = e
-and_back false b e = cc
 
 is_ascii : (text : List ℕ) → all_ascii_digits text ≡ true → IsAscii text
 is_ascii [] e i = omega arith

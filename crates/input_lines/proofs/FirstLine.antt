@@ -1,7 +1,7 @@
 -- The first line of some bytes: where it ends.
 use Rattle.std.proofs.Common.{◌≡◌, ◌∙◌, ℕ, zero, suc, ◌+◌, ◌<◌, List, [], ◌∷◌, ◌++◌, length, take, drop, get_or, ap, arith, add-one}
 use Rattle.input_lines.specs.Lines.{lines_of, onto}
-use Rattle.input_lines.specs.Laws.{at_feed, past_other}
+use Rattle.input_lines.proofs.Lemmas.{at_feed, past_other}
 
 -- the first feed ends the first line, whatever comes behind
 pub first_line_suc : (bytes more : List ℕ) (i : ℕ) → i < length bytes → get_or bytes i 0 ≡ 10

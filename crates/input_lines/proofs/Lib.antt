@@ -1,3 +1,4 @@
+pub mod Lemmas
 pub mod FirstLine
 pub mod Decimals
 pub mod FirstWord

@@ -19,7 +19,8 @@ use Rattle.chain_ids.specs.declared.chain.ChainId.{ChainId}
 use Rattle.chain_ids.specs.declared.chain.ChainId.TheVariants.{Relay, Para}
 use Rattle.input_lines.specs.declared.line.Line.TheVariants.{Exec, Deliver, Claim}
 use Rattle.input_lines.proofs.FirstWord.{at_space, past_other}
-use Rattle.input_lines.proofs.Decimals.{own, number_is}
+use Rattle.input_lines.proofs.Decimals.{number_is}
+use Rattle.plain_lists.proofs.Lemmas.Facts.{false_where_not_true as false_from, decimal_numerals as own}
 
 abbrev NoSpace : List ℕ → Type 0
 NoSpace [] = Unit {0}
@@ -58,10 +59,6 @@ not_relay : (ds : List ℕ) → all_ascii_digits ds ≡ true → bytes_eq ds (co
 not_relay ds h e =
     let same : ds ≡ codes "relay" = (bytes_eq-Decides ds (codes "relay")).0 e in
     let wrong : all_ascii_digits (codes "relay") ≡ true = rw same at h in cc
-
-false_from : (b : Bool) → (b ≡ true → ⊥) → b ≡ false
-false_from true n = absurd (n refl)
-false_from false n = refl
 
 chain_back : (chain : ChainId) → ChainFits chain → chain_word (chain_text chain) ≡ Some chain
 chain_back Relay f = refl

@@ -2,4 +2,3 @@ pub mod Lines
 pub mod Numbers
 pub mod Step
 pub mod Meaning
-pub mod Laws

@@ -15,16 +15,16 @@ lines_of (b ∷ rest) = if b == 10 then (b ∷ []) ∷ lines_of rest else onto b
 abbrev pub ends_with : ℕ → List ℕ → Bool
 ends_with c bytes = nat_lt 0 (length bytes) && slice_index bytes (length bytes - 1) == c
 
-abbrev pub without_last : List ℕ → List ℕ
-without_last bytes = take (length bytes - 1) bytes
+abbrev pub without_last_byte : List ℕ → List ℕ
+without_last_byte bytes = take (length bytes - 1) bytes
 
 -- the line without its line feed
 abbrev pub without_feed : List ℕ → List ℕ
-without_feed line = if ends_with 10 line then without_last line else line
+without_feed line = if ends_with 10 line then without_last_byte line else line
 
 -- what a line says: its line feed is dropped, and one carriage return before it
 unfoldable pub text_of : List ℕ → List ℕ
-text_of line = if ends_with 10 line then (if ends_with 13 (without_last line) then without_last (without_last line) else without_last line) else line
+text_of line = if ends_with 10 line then (if ends_with 13 (without_last_byte line) then without_last_byte (without_last_byte line) else without_last_byte line) else line
 
 -- the line ends the network part
 abbrev pub ends_network : List ℕ → Bool

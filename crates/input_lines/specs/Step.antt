@@ -99,5 +99,5 @@ read_line text =
     else (if starts_with nat_eq text (codes "claim ") then claim_words (split_word (drop 6 text)) else lone_word text)))
 
 -- a split as a call answers it
-abbrev pub seen : Option (Bor (List ℕ) × Bor (List ℕ)) → Option (List ℕ × List ℕ)
-seen o = option_map (λ x. (x.0.now, x.1.now)) o
+abbrev pub split_values : Option (Bor (List ℕ) × Bor (List ℕ)) → Option (List ℕ × List ℕ)
+split_values o = option_map (λ x. (x.0.now, x.1.now)) o

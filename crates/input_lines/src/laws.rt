@@ -11,7 +11,7 @@ ghost use Rattle.chain_ids.specs.declared.chain.ChainId.{ChainId};
 use crate::line::Line;
 
 /// The lines of some bytes are the one way to cut them behind each line feed.
-pub fn law_of_lines()
+pub fn law_of_unique_lines()
     ensures lines { (bytes : List ℕ) → AreLines (lines_of bytes) }
     ensures whole { (bytes : List ℕ) → concat (lines_of bytes) ≡ bytes }
     ensures only { (lines : List (List ℕ)) → AreLines lines → lines_of (concat lines) ≡ lines }

@@ -7,7 +7,7 @@ mod lines;
 mod number;
 mod words;
 
-pub use laws::{law_of_lines, law_of_step_lines};
+pub use laws::{law_of_step_lines, law_of_unique_lines};
 pub use line::{Line, read_line};
 pub use lines::{ends_network, line_len, text_of, without_feed};
 pub use words::message_word;

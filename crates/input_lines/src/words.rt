@@ -2,7 +2,7 @@
 
 ghost use Rattle.std.specs.Prelude.{◌≡◌, IfOk};
 ghost use Rattle.std.specs.Option.{option_map};
-ghost use Rattle.input_lines.specs.Step.{split_word, without_prefix, chain_word, account_word, message_word, seen};
+ghost use Rattle.input_lines.specs.Step.{split_word, without_prefix, chain_word, account_word, message_word, split_values};
 
 use crate::number::read_number;
 use chain_ids::ChainId;
@@ -11,7 +11,7 @@ use std::alloc::{AllocError, Global};
 
 /// The bytes before the first space, and those behind it.
 pub(crate) fn split_word(words: &[u8]) -> Option<(&[u8], &[u8])>
-    ensures { seen result ≡ split_word words.now }
+    ensures { split_values result ≡ split_word words.now }
 {
     for (at, byte) in words.iter().enumerate() {
         if *byte == b' ' {

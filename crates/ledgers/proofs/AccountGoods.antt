@@ -7,9 +7,11 @@ use Rattle.std.specs.Map.{keys_of, lookup}
 use Rattle.std.specs.List.Sorted.{IsStrictlySortedBy}
 use Rattle.std.proofs.lemmas.Bool.{and_parts, and_from, cases_Bool}
 use Rattle.std.proofs.lemmas.List.Sums.{sum_by-append}
-use Rattle.amounts.specs.Rows.{sum_where, amount_if, amount_if-zero}
-use Rattle.amounts.specs.Amounts.{amount, restriction, merge, from_rows, amount-restriction, total-restriction}
-use Rattle.amounts.specs.Laws.{same_key, key_same, amount-map_keys, from_rows-append, merge-restriction}
+use Rattle.amounts.specs.Rows.{sum_where, amount_if}
+use Rattle.amounts.proofs.Lemmas.Rows.{amount_if-zero}
+use Rattle.amounts.specs.Amounts.{amount, restriction, merge, from_rows}
+use Rattle.amounts.proofs.Lemmas.AmountLaws.{amount-restriction, total-restriction}
+use Rattle.amounts.proofs.Lemmas.{same_key, key_same, amount-map_keys, from_rows-append, merge-restriction}
 use Rattle.asset_lists.specs.declared.units.AssetId.{AssetId}
 use Rattle.asset_lists.specs.declared.units.Instance.{Instance}
 use Rattle.asset_lists.specs.declared.units.Kind.{Kind}
@@ -18,18 +20,20 @@ use Rattle.asset_lists.specs.declared.units.Fun.{Fun}
 use Rattle.asset_lists.specs.Units.{Unit, unit_of, amount_of, unit_cmp}
 use Rattle.asset_lists.specs.Lists.{has_zero, is_of}
 use Rattle.asset_lists.specs.Moves.{occurrences}
-use Rattle.asset_bundles.specs.Bundles.{Bundle, rows_of, bundle_of, unit_keys}
-use Rattle.asset_bundles.specs.BundleLaws.{same_bundles, amount-bundle_of}
+use Rattle.asset_bundles.specs.Bundles.{Bundle, rows_of, bundle_of}
+use Rattle.asset_bundles.proofs.Lemmas.Bundles.{unit_keys}
+use Rattle.asset_bundles.proofs.Lemmas.BundleLaws.{same_bundles, amount-bundle_of}
 use Rattle.asset_lists.specs.Listed.{Listed}
 use Rattle.ledgers.specs.Ledgers.{Holder, account_cmp, holder_cmp, Held, is_account, account_goods, number_in}
 use Rattle.ledgers.specs.LedgerRows.{AmountKey, OwnerKey, owner_key_cmp, amount_in_row, owner_at, owned, held_in, IsOnce}
-use Rattle.ledgers.specs.AccountGoods.{IsUnsortedListOf, is_amount, fungible_of, fungible_held_at, instance_of, instance_held_at}
-use Rattle.ledgers.specs.Laws.{holder_keys, account_keys}
-use Rattle.ledgers.proofs.RowLookups.{owner_keys, not_true, none_behind, same_owner_row}
+use Rattle.ledgers.specs.AccountGoods.{IsUnsortedListOf, is_amount, fungible_of, fungible_held_at, owned_instance, instance_held_at}
+use Rattle.ledgers.proofs.Lemmas.{holder_keys, account_keys}
+use Rattle.ledgers.proofs.RowLookups.{owner_keys, none_behind, same_owner_row}
 use Rattle.ledgers.proofs.RowAmounts.{held-fungible, held-no_fungible, held-instance, held-no_instance}
 use Rattle.ledgers.proofs.Numbers.{number_at, no_number}
 use Rattle.ledgers.proofs.Totals.{total_one}
 use Rattle.ledgers.proofs.AccountMoves.{none_zero, counted_first}
+use Rattle.plain_lists.proofs.Lemmas.Facts.{positive_not_zero as above_zero, false_where_not_true as not_true}
 
 -- ---- what an account holds of a unit
 pub amount-account_goods : (who : List ℕ) (held : Held) (u : Unit) → amount (account_goods who held) u ≡ amount held (who, u)
@@ -89,9 +93,6 @@ sum_offered u (Some a) rest = refl
 IsAbove : Option Asset → Type 0
 IsAbove None = ⊤
 IsAbove (Some a) = 0 < amount_of a
-
-above_zero : (n : ℕ) → 0 < n → nat_eq n 0 ≡ false
-above_zero n h = grind (arith, h)
 
 no_zero_offered : (o : Option Asset) (rest : List Asset) → IsAbove o → has_zero rest ≡ false → has_zero (offered o rest) ≡ false
 unfolding offered IsAbove
@@ -269,7 +270,7 @@ module _ (listed : List Listed) (who : List ℕ) where
   one_of : (n : ℕ) → n ≤ 1 → 0 < n → 1 ≡ n
   one_of n few some = omega (arith, few, some)
 
-  newly_class : (u : Unit) (id : AssetId) (i : Instance) (o : Option (List ℕ)) → newly u (instance_of id Kind.Class i (owned who o)) ≡ amount_if (eq_by_cmp unit_cmp u (id, Some i)) (owned who o)
+  newly_class : (u : Unit) (id : AssetId) (i : Instance) (o : Option (List ℕ)) → newly u (owned_instance id Kind.Class i (owned who o)) ≡ amount_if (eq_by_cmp unit_cmp u (id, Some i)) (owned who o)
   newly_class u id i o = newly_if u (owned who o) (record { id = id; fun = Fun.NonFungible i }) (λ some. one_of (owned who o) (owned_most o) some)
 
   no_instance : (u : Unit) (o : Option Listed) (i : Instance) (owner : Option (List ℕ)) → ((id : AssetId) → o ≡ Some (id, Kind.Class) → u ≡ (id, Some i) → ⊥) → newly u (instance_held_at o i (owned who owner)) ≡ 0

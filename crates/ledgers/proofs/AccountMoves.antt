@@ -6,26 +6,30 @@ use Rattle.std.specs.List.{list_any, position_or_len}
 use Rattle.std.proofs.lemmas.Bool.{and_parts, cases_Bool}
 use Rattle.std.proofs.lemmas.Option.{slice_get-get_or}
 use Rattle.std.proofs.lemmas.List.Sums.{sum_by-cons}
-use Rattle.amounts.specs.Rows.{sum_where, amount_if, sum_where-rows_at}
-use Rattle.amounts.specs.Amounts.{amount, plus, minus, plus_all, minus_all, from_rows, merge, difference, same_amounts}
-use Rattle.amounts.specs.Laws.{same_key, key_same, amount-from_rows, amount-map_keys, amount-plus, amount-minus, plus_all-from_rows, minus_all-from_rows}
+use Rattle.amounts.specs.Rows.{sum_where, amount_if}
+use Rattle.amounts.proofs.Lemmas.Rows.{sum_where-rows_at}
+use Rattle.amounts.specs.Amounts.{amount, plus, minus, plus_all, minus_all, from_rows, merge, difference}
+use Rattle.amounts.proofs.Lemmas.AmountLaws.{same_amounts}
+use Rattle.amounts.proofs.Lemmas.{same_key, key_same, amount-from_rows, amount-map_keys, amount-plus, amount-minus, plus_all-from_rows, minus_all-from_rows}
 use Rattle.asset_lists.specs.declared.units.Fun.{Fun}
 use Rattle.asset_lists.specs.declared.units.Asset.{Asset}
 use Rattle.asset_lists.specs.Units.{Unit, unit_of, amount_of, unit_cmp, instance_in, is_zero}
 use Rattle.asset_lists.specs.Lists.{has_zero, is_rising, stands_before, is_of}
 use Rattle.asset_lists.specs.Moves.{occurrences}
-use Rattle.asset_lists.specs.Laws.{once_each}
-use Rattle.asset_bundles.specs.Bundles.{rows_of, bundle_of, unit_keys}
-use Rattle.asset_bundles.specs.BundleLaws.{total-bundle_of}
+use Rattle.asset_lists.proofs.Lemmas.{once_each}
+use Rattle.asset_bundles.specs.Bundles.{rows_of, bundle_of}
+use Rattle.asset_bundles.proofs.Lemmas.Bundles.{unit_keys}
+use Rattle.asset_bundles.proofs.Lemmas.BundleLaws.{total-bundle_of}
 use Rattle.asset_lists.specs.declared.units.Instance.{Instance}
 use Rattle.asset_lists.specs.Listed.{Listed, listed_cmp, listed_of, lists}
 use Rattle.ledgers.specs.declared.rows.Rows.{Rows}
 use Rattle.ledgers.specs.Ledgers.{Holder, holder_cmp, Held, held_by, shortage, number_in}
 use Rattle.ledgers.specs.LedgerRows.{HasInstanceRow}
-use Rattle.ledgers.specs.RowState.{may_take, HasRoom, KeepsRows}
+use Rattle.ledgers.specs.RowState.{may_take, HasDepositRows, KeepsRows}
 use Rattle.ledgers.specs.AccountRows.{account_rows, HasAll, MayTakeAll}
-use Rattle.ledgers.specs.Laws.{holder_keys}
+use Rattle.ledgers.proofs.Lemmas.{holder_keys}
 use Rattle.ledgers.proofs.RowLookups.{apart}
+use Rattle.plain_lists.proofs.Lemmas.Facts.{neither_true as neither, not_zero_positive as nat_zero}
 
 -- ---- a list at one place
 pub at_place : (xs : List Asset) (i : ℕ) (a : Asset) → i < length xs → a ≡ get_or xs i a → drop i xs ≡ a ∷ drop (i + 1) xs
@@ -49,13 +53,6 @@ pub short_later : (held : Held) (who : List ℕ) (a : Asset) (rest : List Asset)
 short_later held who a rest h = grind (arith, h)
 
 -- ---- what is taken, asset by asset
-nat_zero : (n : ℕ) → nat_eq n 0 ≡ false → 0 < n
-nat_zero n h = grind (arith, h)
-
-neither : (a b : Bool) → (a || b) ≡ false → (a ≡ false) × (b ≡ false)
-neither true b h = absurd (true≢false h)
-neither false b h = (refl, h)
-
 pub none_zero : (a : Asset) (rest : List Asset) → has_zero (a ∷ rest) ≡ false → (0 < amount_of a) × (has_zero rest ≡ false)
 none_zero a rest h = let both = neither (is_zero a) (has_zero rest) h in (nat_zero (amount_of a) both.0, both.1)
 
@@ -194,7 +191,7 @@ instance_stays : (old new : Rows) → KeepsRows old new → (n : ℕ) (x : Optio
 instance_stays old new keeps n None h = h
 instance_stays old new keeps n (Some i) h = keeps.owners (n, i) h
 
-pub room_stays : (old new : Rows) → KeepsRows old new → (who : List ℕ) (a : Asset) → HasRoom old who a → HasRoom new who a
+pub room_stays : (old new : Rows) → KeepsRows old new → (who : List ℕ) (a : Asset) → HasDepositRows old who a → HasDepositRows new who a
 room_stays old new keeps who a room n is =
     let rows = room n (ap (λ l. number_in l (listed_of (unit_of a))) (sym keeps.assets) ∙ is) in
     (keeps.amounts (n, who) rows.0, instance_stays old new keeps n (instance_in a.fun) rows.1)
@@ -226,11 +223,11 @@ earlier : (k i : ℕ) → k < i + 1 → (k < i) ⊎ (k ≡ i)
 earlier k i h = grind (arith, h)
 
 -- room for one more
-pub more_room : (old new : Rows) (who : List ℕ) (xs : List Asset) (i : ℕ) (a : Asset) → KeepsRows old new → slice_get xs i ≡ Some a → HasRoom new who a
-    → ((k : ℕ) (b : Asset) → k < i → slice_get xs k ≡ Some b → HasRoom old who b) → (k : ℕ) (b : Asset) → k < i + 1 → slice_get xs k ≡ Some b → HasRoom new who b
+pub more_room : (old new : Rows) (who : List ℕ) (xs : List Asset) (i : ℕ) (a : Asset) → KeepsRows old new → slice_get xs i ≡ Some a → HasDepositRows new who a
+    → ((k : ℕ) (b : Asset) → k < i → slice_get xs k ≡ Some b → HasDepositRows old who b) → (k : ℕ) (b : Asset) → k < i + 1 → slice_get xs k ≡ Some b → HasDepositRows new who b
 more_room old new who xs i a keeps at room before k b h is =
     elim (earlier k i h) [
       | inl lt ↦ room_stays old new keeps who b (before k b lt is)
       | inr same ↦ (let e : Some a ≡ Some b = sym at ∙ ap (slice_get xs) (sym same) ∙ is in
-          let equal : a ≡ b = cc in subst (HasRoom new who) equal room)
+          let equal : a ≡ b = cc in subst (HasDepositRows new who) equal room)
     ]

@@ -11,7 +11,7 @@ use Rattle.std.specs.Ordering.{eq_by_cmp}
 use Rattle.asset_lists.specs.Listed.{Listed}
 use Rattle.ledgers.specs.Ledgers.{Holder, is_account, is_holding_of, account_sum_of}
 use Rattle.ledgers.specs.LedgerRows.{AmountKey, OwnerKey, fungible_row, amount_row, amount_rows, instance_row, owner_row, owner_rows, held_in, AreSmall}
-use Rattle.ledgers.specs.Laws.{holder_keys}
+use Rattle.ledgers.proofs.Lemmas.{holder_keys}
 use Rattle.ledgers.proofs.Soundness.{total-at_most}
 
 one_at_most : (b : Bool) (n : ℕ) → amount_if b n ≤ n

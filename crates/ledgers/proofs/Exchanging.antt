@@ -5,7 +5,7 @@ use Rattle.std.specs.Ordering.{eq_by_cmp}
 use Rattle.std.specs.Map.{lookup}
 use Rattle.amounts.specs.Rows.{amount_if}
 use Rattle.amounts.specs.Amounts.{amount, minus}
-use Rattle.amounts.specs.Laws.{amount-minus}
+use Rattle.amounts.proofs.Lemmas.{amount-minus}
 use Rattle.asset_lists.specs.declared.units.AssetId.{AssetId}
 use Rattle.asset_lists.specs.declared.units.Kind.{Kind}
 use Rattle.asset_lists.specs.Listed.{Listed}
@@ -13,7 +13,7 @@ use Rattle.ledgers.specs.declared.rows.Rows.{Rows}
 use Rattle.ledgers.specs.Ledgers.{Holder, holder_cmp, Held, number_in}
 use Rattle.ledgers.specs.LedgerRows.{amount_key_cmp, amount_in_row, HasAmountRow}
 use Rattle.ledgers.specs.RowState.{rows_held, AreSound, KeepsRows}
-use Rattle.ledgers.specs.Laws.{holder_keys}
+use Rattle.ledgers.proofs.Lemmas.{holder_keys}
 use Rattle.ledgers.proofs.RowChanges.{held_listed, held_fungible}
 
 some_unless : (o : Option ℕ) → (o ≡ None → ⊥) → IsSome o

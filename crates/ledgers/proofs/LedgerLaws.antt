@@ -2,13 +2,13 @@
 use Rattle.std.proofs.Common.{◌≡◌, ℕ, ◌+◌, Bool, List, ◌∙◌, arith}
 use Rattle.std.specs.Prelude.{None}
 use Rattle.amounts.specs.Amounts.{amount, total}
-use Rattle.amounts.specs.Laws.{total-merge, total-difference}
+use Rattle.amounts.proofs.Lemmas.{total-merge, total-difference}
 use Rattle.asset_lists.specs.declared.units.Asset.{Asset}
 use Rattle.asset_lists.specs.Lists.{IsAssetList}
 use Rattle.asset_lists.specs.Listed.{Listed}
 use Rattle.asset_bundles.specs.Bundles.{Bundle, bundle_of}
 use Rattle.ledgers.specs.Ledgers.{Accounts, Holder, IsOther, held_by, is_holding_of, sum_of, shortage, Withdrawn, Deposited, Transferred}
-use Rattle.ledgers.specs.Laws.{holder_keys, held_by_total, less_other, more_other}
+use Rattle.ledgers.proofs.Lemmas.{holder_keys, held_by_total, less_other, more_other}
 use Rattle.ledgers.proofs.AccountMoves.{has_all}
 use Rattle.ledgers.proofs.Transferring.{has_held_by}
 

@@ -1,3 +1,4 @@
+pub mod Lemmas
 pub mod Holding
 pub mod RowLookups
 pub mod RowAmounts
@@ -19,3 +20,4 @@ pub mod AccountOrders
 pub mod AccountGoods
 pub mod NextAccounts
 pub mod NextRows
+pub mod NextListed

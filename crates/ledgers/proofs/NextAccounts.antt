@@ -5,15 +5,16 @@ use Rattle.std.specs.Ordering.{eq_by_cmp, is_eq}
 use Rattle.std.specs.declared.cmp.Ordering.TheVariants.{Less}
 use Rattle.std.specs.Map.{lookup}
 use Rattle.std.proofs.lemmas.Bool.{and_parts}
-use Rattle.amounts.specs.Amounts.{amount, total_at_most}
-use Rattle.amounts.specs.Laws.{key_same}
+use Rattle.amounts.specs.Amounts.{amount}
+use Rattle.amounts.proofs.Lemmas.AmountLaws.{total_at_most}
+use Rattle.amounts.proofs.Lemmas.{key_same}
 use Rattle.asset_lists.specs.declared.units.AssetId.{AssetId}
 use Rattle.asset_lists.specs.declared.units.Instance.{Instance}
 use Rattle.asset_lists.specs.Listed.{Listed, listed_of}
 use Rattle.ledgers.specs.declared.sums.Sum.{Sum}
 use Rattle.ledgers.specs.Ledgers.{account_cmp, is_account, is_holding_of, holding_of, number_in, IsAfter, IsNext}
 use Rattle.ledgers.specs.LedgerRows.{AmountKey, amount_key_cmp, OwnerKey, amount_in_row, held_in, IsSound, IsBefore, IsNextRow}
-use Rattle.ledgers.specs.Laws.{holder_keys, account_keys}
+use Rattle.ledgers.proofs.Lemmas.{holder_keys, account_keys}
 use Rattle.ledgers.proofs.RowLookups.{amount_keys, same_as}
 use Rattle.ledgers.proofs.Numbers.{number_at, at_number}
 use Rattle.ledgers.proofs.RowChanges.{held_listed, row_at_least}

@@ -13,21 +13,16 @@ use Rattle.std.proofs.lemmas.Bool.{and_from}
 use Rattle.std.proofs.lemmas.List.Kept.{IsStrictlySortedBy-filter}
 use Rattle.std.proofs.lemmas.Map.Entries.{lookup-filter-keys}
 use Rattle.std.proofs.lemmas.Map.Keys.{le_from_not_gt}
-use Rattle.amounts.specs.Rows.{eq_true}
-use Rattle.amounts.specs.Keys.{number_keys}
-use Rattle.amounts.specs.Laws.{same_key, key_same}
+use Rattle.amounts.proofs.Lemmas.Keys.{number_keys}
+use Rattle.amounts.proofs.Lemmas.{same_key, key_same}
 use Rattle.ledgers.specs.Ledgers.{account_cmp}
 use Rattle.ledgers.specs.LedgerRows.{AmountKey, amount_key_cmp, amount_in_row, IsBefore, IsNextOf}
-use Rattle.ledgers.specs.Laws.{account_keys}
+use Rattle.ledgers.proofs.Lemmas.{account_keys}
 use Rattle.ledgers.proofs.RowLookups.{amount_keys}
 use Rattle.ledgers.proofs.NextAccounts.{nothing, row_passed, not_before_itself, before_both}
+use Rattle.plain_lists.proofs.Lemmas.Facts.{first_not_greater as first_le, less_told as less_is, equal_told as eq_true}
 
 -- ---- keys by number, then by account
-first_le : (o p : Ordering) → is_gt (ordering_then o p) ≡ false → is_gt o ≡ false
-first_le Less p h = refl
-first_le Equal p h = refl
-first_le Greater p h = h
-
 numbers_le : (n m : ℕ) (a b : List ℕ) → is_gt (amount_key_cmp (n, a) (m, b)) ≡ false → n ≤ m
 numbers_le n m a b h = le_from_not_gt n m (first_le (nat_cmp n m) (account_cmp a b) h)
 
@@ -36,11 +31,6 @@ equal_numbers n = eq_true (nat_cmp n n) (same_key number_keys n)
 
 of_accounts : (n : ℕ) (a b : List ℕ) → amount_key_cmp (n, a) (n, b) ≡ account_cmp a b
 of_accounts n a b = ap (λ o. ordering_then o (account_cmp a b)) (equal_numbers n)
-
-pub less_is : (o : Ordering) → is_lt o ≡ true → o ≡ Less
-less_is Less h = refl
-less_is Equal h = absurd (cc)
-less_is Greater h = absurd (cc)
 
 -- a row that is found is one of those that come later
 later_row : (k q : AmountKey) (rest : List (AmountKey × ℕ)) → AllByRecursion (λ p. amount_key_cmp k p ≡ Less) (keys_of rest) → 0 < amount_in_row rest q → amount_key_cmp k q ≡ Less

@@ -5,11 +5,12 @@ use Rattle.std.specs.Ordering.{eq_by_cmp}
 use Rattle.std.specs.List.{position_or_len}
 use Rattle.std.proofs.lemmas.List.Quantifiers.{position-Some}
 use Rattle.std.proofs.lemmas.Option.{slice_get-get_or}
-use Rattle.amounts.specs.Laws.{same_key, key_same}
+use Rattle.amounts.proofs.Lemmas.{same_key, key_same}
 use Rattle.asset_lists.specs.Listed.{Listed, listed_cmp}
-use Rattle.asset_bundles.specs.Laws.{listed_keys}
+use Rattle.asset_bundles.proofs.Lemmas.{listed_keys}
 use Rattle.ledgers.specs.Ledgers.{number_in}
 use Rattle.ledgers.specs.LedgerRows.{IsOnce}
+use Rattle.plain_lists.proofs.Lemmas.Facts.{at_none, found_some, none_if}
 
 pub number_at : (listed : List Listed) (k : Listed) (n : ℕ) → number_in listed k ≡ Some n → slice_get listed n ≡ Some k
 number_at listed k n is =
@@ -25,9 +26,6 @@ stands_within p (x ∷ xs) (suc n) k at passes =
     let rest = stands_within p xs n k at passes in
     elim (p x) as (λ b. cond {A = ℕ} (not b) (1 + position_or_len p xs) 0 < suc (length xs)) [ true ↦ omega arith | false ↦ omega (arith, rest) ]
 
-found_some : (n m : ℕ) → n < m → cond (nat_lt n m) (Some n) None ≡ Some n
-found_some n m h = grind (arith, h)
-
 pub no_number : (listed : List Listed) (k : Listed) → number_in listed k ≡ None → (n : ℕ) → slice_get listed n ≡ Some k → ⊥
 no_number listed k none n at =
     let found = found_some _ (length listed) (stands_within (eq_by_cmp listed_cmp k) listed n k at (same_key listed_keys k)) in
@@ -42,11 +40,3 @@ at_number listed once k n at =
 
 -- ---- what a test leaves
 -- none, where it isn't some
-pub none_if : {A : Type 0} (o : Option A) → ((x : A) → o ≡ Some x → ⊥) → o ≡ None
-none_if None h = refl
-none_if (Some x) h = absurd (h x refl)
-
--- what is known at none
-pub at_none : {A : Type 0} {P : Type 0} (Q : A → Type 0) (o : Option A) → ((x : A) → o ≡ Some x → ⊥) → MatchOption o P Q → P
-at_none Q None h p = p
-at_none Q (Some x) h p = absurd (h x refl)

@@ -7,16 +7,18 @@ use Rattle.std.specs.List.Sorted.{IsStrictlySortedBy}
 use Rattle.std.proofs.lemmas.Bool.{and_from}
 use Rattle.std.proofs.lemmas.Map.Keys.{any_passes_from_place}
 use Rattle.amounts.specs.Rows.{IsPositive, sum_where, amount_if}
-use Rattle.amounts.specs.Amounts.{amount, total, empty, rows, rows_positive, total-empty, total-rows, amount-total}
+use Rattle.amounts.specs.Amounts.{amount, total, empty, rows}
+use Rattle.amounts.proofs.Lemmas.AmountLaws.{rows_positive, total-empty, total-rows, amount-total}
 use Rattle.amounts.specs.Entries.{from_entries}
-use Rattle.amounts.specs.Laws.{same_key, amount_at_most}
+use Rattle.amounts.proofs.Lemmas.{same_key, amount_at_most}
 use Rattle.asset_lists.specs.declared.units.Kind.{Kind}
 use Rattle.asset_lists.specs.declared.units.Fun.{Fun}
 use Rattle.asset_lists.specs.declared.units.Asset.{Asset}
 use Rattle.asset_lists.specs.Units.{Unit, unit_of, unit_cmp}
-use Rattle.asset_bundles.specs.Bundles.{Bundle, unit_keys, assets_at, held_assets}
+use Rattle.asset_bundles.specs.Bundles.{Bundle, assets_of_rows, held_assets}
+use Rattle.asset_bundles.proofs.Lemmas.Bundles.{unit_keys}
 use Rattle.asset_lists.specs.Listed.{Listed, listed_cmp, listed_of, lists}
-use Rattle.asset_bundles.specs.Laws.{listed_keys}
+use Rattle.asset_bundles.proofs.Lemmas.{listed_keys}
 use Rattle.ledgers.specs.declared.sums.Sum.{Sum}
 use Rattle.ledgers.specs.Sums.{sum_value}
 use Rattle.asset_bundles.specs.Books.{AreListed}
@@ -24,7 +26,7 @@ use Rattle.ledgers.specs.Ledgers.{Holder, Held, is_account, is_holding_of, owner
 use Rattle.ledgers.specs.LedgerRows.{owner_key_cmp, held_in, IsSound}
 use Rattle.ledgers.specs.RowState.{may_take}
 use Rattle.ledgers.specs.AccountRows.{MayTakeAll}
-use Rattle.ledgers.specs.Laws.{holder_keys}
+use Rattle.ledgers.proofs.Lemmas.{holder_keys}
 use Rattle.ledgers.proofs.Numbers.{number_at}
 use Rattle.ledgers.proofs.Holding.{unit_back}
 
@@ -67,7 +69,7 @@ one_here true n m h le t some = omega (arith, le, some)
 one_here false n m h le t some = absurd (true≢false (sym t))
 
 listed_rows : (listed : List Listed) (goods : Bundle) (es : List (Unit × ℕ)) → AreListed listed goods → IsPositive es → ((u : Unit) → sum_where (eq_by_cmp unit_cmp u) es ≤ amount goods u)
-    → list_all (λ a. lists listed (listed_of (unit_of a))) (assets_at es) ≡ true
+    → list_all (λ a. lists listed (listed_of (unit_of a))) (assets_of_rows es) ≡ true
 listed_rows listed goods [] are positive within = refl
 listed_rows listed goods (e ∷ es) are positive within =
     let some : 0 < amount goods e.0 = one_here (eq_by_cmp unit_cmp e.0 e.0) e.1 _ _ (within e.0) (same_key unit_keys e.0) positive.0 in

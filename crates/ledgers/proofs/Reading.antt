@@ -5,12 +5,12 @@ use Rattle.std.specs.Ordering.{eq_by_cmp}
 use Rattle.std.proofs.lemmas.Bool.{and_parts, and_from}
 use Rattle.std.proofs.lemmas.Option.{slice_get-get_or}
 use Rattle.amounts.specs.Amounts.{amount}
-use Rattle.amounts.specs.Laws.{same_key, key_same}
+use Rattle.amounts.proofs.Lemmas.{same_key, key_same}
 use Rattle.asset_lists.specs.declared.units.AssetId.{AssetId}
 use Rattle.asset_lists.specs.declared.units.Instance.{Instance}
 use Rattle.asset_lists.specs.declared.units.Kind.{Kind}
 use Rattle.asset_lists.specs.Units.{Unit, unit_cmp}
-use Rattle.asset_bundles.specs.Bundles.{unit_keys}
+use Rattle.asset_bundles.proofs.Lemmas.Bundles.{unit_keys}
 use Rattle.asset_lists.specs.Listed.{Listed, listed_of}
 use Rattle.ledgers.specs.declared.sums.Sum.{Sum}
 use Rattle.ledgers.specs.declared.faults.DepositFault.{DepositFault}
@@ -19,13 +19,13 @@ use Rattle.ledgers.specs.Ledgers.{Holder, account_cmp, holder_cmp, Held, is_acco
 use Rattle.ledgers.specs.LedgerFaults.{IsBarred}
 use Rattle.asset_lists.specs.declared.units.Asset.{Asset}
 use Rattle.ledgers.specs.LedgerRows.{AmountKey, OwnerKey, amount_in_row, owner_at, owned, held_in, IsSound}
-use Rattle.ledgers.specs.Laws.{holder_keys, account_keys}
-use Rattle.ledgers.proofs.RowLookups.{not_true}
+use Rattle.ledgers.proofs.Lemmas.{holder_keys, account_keys}
 use Rattle.ledgers.proofs.RowAmounts.{held-fungible, held-instance}
 use Rattle.ledgers.proofs.Numbers.{number_at}
 use Rattle.ledgers.proofs.Soundness.{asset_is, is_its_asset}
 use Rattle.ledgers.proofs.RowChanges.{held_listed}
 use Rattle.ledgers.proofs.Totals.{total_none, total_one}
+use Rattle.plain_lists.proofs.Lemmas.Facts.{false_where_not_true as not_true}
 
 no_instance : (id other : AssetId) (x : Option Instance) → ◌≡◌ {A = Listed} (id, Kind.Fungible) (listed_of (other, x)) → ◌≡◌ {A = Unit} (id, None) (other, x)
 no_instance id other None e = λ i. (ap (λ (k : Listed). k.0) e i, None)

@@ -5,14 +5,14 @@ use Rattle.std.specs.Ordering.{eq_by_cmp}
 use Rattle.std.specs.Map.{lookup, keys_of}
 use Rattle.std.specs.List.Sorted.{IsStrictlySortedBy}
 use Rattle.amounts.specs.Amounts.{amount}
-use Rattle.amounts.specs.Entries.{amount-from_entries}
+use Rattle.amounts.proofs.Lemmas.Entries.{amount-from_entries}
 use Rattle.asset_lists.specs.declared.units.AssetId.{AssetId}
 use Rattle.asset_lists.specs.declared.units.Instance.{Instance}
 use Rattle.asset_lists.specs.declared.units.Kind.{Kind}
 use Rattle.asset_lists.specs.Listed.{Listed}
 use Rattle.ledgers.specs.Ledgers.{Holder, holder_cmp}
 use Rattle.ledgers.specs.LedgerRows.{owned, IsOnce, AmountKey, OwnerKey, owner_key_cmp, amount_in_row, owner_at, amount_rows, owner_rows, held_in}
-use Rattle.ledgers.specs.Laws.{holder_keys}
+use Rattle.ledgers.proofs.Lemmas.{holder_keys}
 use Rattle.ledgers.proofs.RowLookups.{shown, lookup-amounts, lookup-past_amounts, lookup-past_owners, lookup-owners}
 
 module _ (listed : List Listed) (once : IsOnce listed) (amounts : List (AmountKey × ℕ)) (owners : List (OwnerKey × Option (List ℕ))) where

@@ -6,7 +6,7 @@ use Rattle.std.specs.Map.{keys_of, lookup}
 use Rattle.std.specs.List.Sorted.{IsStrictlySortedBy}
 use Rattle.std.proofs.lemmas.Bool.{and_from}
 use Rattle.amounts.specs.Amounts.{amount, with_amount, plus, minus}
-use Rattle.amounts.specs.Laws.{same_key, key_same, amount_at_most}
+use Rattle.amounts.proofs.Lemmas.{same_key, key_same, amount_at_most}
 use Rattle.asset_lists.specs.declared.units.AssetId.{AssetId}
 use Rattle.asset_lists.specs.declared.units.Instance.{Instance}
 use Rattle.asset_lists.specs.declared.units.Kind.{Kind}
@@ -18,17 +18,14 @@ use Rattle.ledgers.specs.Sums.{sum_value}
 use Rattle.ledgers.specs.Ledgers.{account_cmp, is_account, is_holding_of, sum_of, account_sum_of, number_in}
 use Rattle.ledgers.specs.LedgerRows.{AmountKey, amount_key_cmp, OwnerKey, owner_key_cmp, amount_in_row, owner_at, owned, OwnerIs, held_in, AreSmall, IsSumWritten, IsSound, HasAmountRow, HasOwnerRow, HasInstanceRow}
 use Rattle.ledgers.specs.RowState.{may_take}
-use Rattle.ledgers.specs.Laws.{holder_keys, account_keys}
+use Rattle.ledgers.proofs.Lemmas.{holder_keys, account_keys}
 use Rattle.ledgers.proofs.RowLookups.{amount_keys, apart}
 use Rattle.ledgers.proofs.RowAmounts.{held-fungible, held-no_fungible, held-instance, held-no_instance}
 use Rattle.ledgers.proofs.RowMoves.{same_rows, held-with_amount, held-with_owner}
 use Rattle.ledgers.proofs.Numbers.{number_at, no_number}
 use Rattle.ledgers.proofs.Soundness.{is_its_asset, IsWrite, still_sound}
 use Rattle.ledgers.proofs.Bounds.{sum_bound, count_bound}
-
-owned_most : (b : Bool) → (if b then 1 else 0) ≤ 1
-owned_most true = omega arith
-owned_most false = omega arith
+use Rattle.plain_lists.proofs.Lemmas.Facts.{one_at_most as owned_most}
 
 is_owner : (b : Bool) → 1 ≤ (if b then 1 else 0) → b ≡ true
 is_owner true h = refl

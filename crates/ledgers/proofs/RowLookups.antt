@@ -7,20 +7,22 @@ use Rattle.std.specs.declared.cmp.Ordering.TheVariants.{Less}
 use Rattle.std.specs.Map.{lookup, keys_of}
 use Rattle.std.specs.List.{AllByRecursion}
 use Rattle.std.specs.List.Sorted.{IsStrictlySortedBy}
-use Rattle.amounts.specs.Rows.{IsKeyOrder}
-use Rattle.amounts.specs.Keys.{number_keys, pair_keys}
-use Rattle.amounts.specs.Laws.{same_key, key_same}
+use Rattle.amounts.proofs.Lemmas.Rows.{IsKeyOrder}
+use Rattle.amounts.proofs.Lemmas.Keys.{number_keys, pair_keys}
+use Rattle.amounts.proofs.Lemmas.{same_key, key_same}
 use Rattle.asset_lists.specs.declared.units.AssetId.{AssetId}
 use Rattle.asset_lists.specs.declared.units.Instance.{Instance}
 use Rattle.asset_lists.specs.declared.units.Kind.{Kind}
 use Rattle.asset_lists.specs.DerivedOrder.{derived_instance_cmp}
 use Rattle.asset_lists.specs.Units.{instance_cmp}
-use Rattle.asset_lists.specs.UnitLaws.{instance_total, instance_exact}
-use Rattle.asset_lists.specs.Laws.{instances_same}
+use Rattle.asset_lists.specs.UnitLaws.{instance_total}
+use Rattle.asset_lists.proofs.Lemmas.UnitLaws.{instance_exact}
+use Rattle.asset_lists.proofs.Lemmas.{instances_same}
 use Rattle.asset_lists.specs.Listed.{Listed}
 use Rattle.ledgers.specs.Ledgers.{Holder, account_cmp, holder_cmp}
-use Rattle.ledgers.specs.Laws.{account_keys, holder_keys}
+use Rattle.ledgers.proofs.Lemmas.{account_keys, holder_keys}
 use Rattle.ledgers.specs.LedgerRows.{IsOnce, owned, AmountKey, amount_key_cmp, OwnerKey, owner_key_cmp, fungible_row, amount_row, amount_rows, instance_row, owner_row, owner_rows}
+use Rattle.plain_lists.proofs.Lemmas.Facts.{false_where_not_true as not_true, same_bools as both_ways}
 
 pub amount_keys : IsKeyOrder amount_key_cmp
 amount_keys = pair_keys number_keys account_keys
@@ -34,17 +36,8 @@ instance_keys = subst IsKeyOrder (λ i x y. sym (instances_same x y) i) instance
 pub owner_keys : IsKeyOrder owner_key_cmp
 owner_keys = pair_keys number_keys instance_keys
 
-pub not_true : (b : Bool) → (b ≡ true → ⊥) → b ≡ false
-not_true true h = absurd (h refl)
-not_true false h = refl
-
 pub apart : {K : Type 0} {R : K → K → Ordering} (o : IsKeyOrder R) (j k : K) → (j ≡ k → ⊥) → eq_by_cmp R j k ≡ false
 apart {R = R} o j k other = not_true (eq_by_cmp R j k) (λ t. other (key_same o j k t))
-
-pub both_ways : (p q : Bool) → (p ≡ true → q ≡ true) → (q ≡ true → p ≡ true) → p ≡ q
-both_ways true q h g = sym (h refl)
-both_ways false true h g = g refl
-both_ways false false h g = refl
 
 pub same_as : {K : Type 0} {R : K → K → Ordering} (o : IsKeyOrder R) (j k : K) → j ≡ k → eq_by_cmp R j k ≡ true
 same_as {R = R} o j k e = subst (λ x. eq_by_cmp R j x ≡ true) e (same_key o j)

@@ -4,18 +4,20 @@ use Rattle.std.specs.Prelude.{Option, None, Some, slice_get, if◌then◌else◌
 use Rattle.std.specs.Ordering.{eq_by_cmp}
 use Rattle.std.specs.Map.{keys_of}
 use Rattle.std.specs.List.Sorted.{IsStrictlySortedBy}
-use Rattle.amounts.specs.Amounts.{amount, with_amount, same_amounts, amount-with_amount}
-use Rattle.amounts.specs.Laws.{key_same}
+use Rattle.amounts.specs.Amounts.{amount, with_amount}
+use Rattle.amounts.proofs.Lemmas.AmountLaws.{same_amounts, amount-with_amount}
+use Rattle.amounts.proofs.Lemmas.{key_same}
 use Rattle.asset_lists.specs.declared.units.AssetId.{AssetId}
 use Rattle.asset_lists.specs.declared.units.Instance.{Instance}
 use Rattle.asset_lists.specs.declared.units.Kind.{Kind}
 use Rattle.asset_lists.specs.Listed.{Listed}
 use Rattle.ledgers.specs.Ledgers.{Holder, account_cmp, holder_cmp, number_in}
 use Rattle.ledgers.specs.LedgerRows.{owned, IsOnce, AmountKey, amount_key_cmp, OwnerKey, owner_key_cmp, amount_in_row, owner_at, held_in}
-use Rattle.ledgers.specs.Laws.{holder_keys, account_keys}
-use Rattle.ledgers.proofs.RowLookups.{amount_keys, owner_keys, apart, both_ways, same_as, same_instances, same_ids, same_kinds}
+use Rattle.ledgers.proofs.Lemmas.{holder_keys, account_keys}
+use Rattle.ledgers.proofs.RowLookups.{amount_keys, owner_keys, apart, same_as, same_instances, same_ids, same_kinds}
 use Rattle.ledgers.proofs.RowAmounts.{held-fungible, held-no_fungible, held-instance, held-no_instance}
 use Rattle.ledgers.proofs.Numbers.{number_at, no_number}
+use Rattle.plain_lists.proofs.Lemmas.Facts.{same_bools as both_ways}
 
 if_false : {X : Type 0} (b : Bool) (x y : X) → b ≡ false → (if b then x else y) ≡ y
 if_false true x y h = absurd (true≢false h)

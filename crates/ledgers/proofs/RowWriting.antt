@@ -6,8 +6,8 @@ use Rattle.std.specs.declared.cmp.Ordering.{Ordering}
 use Rattle.std.specs.declared.cmp.Ordering.TheVariants.{Less, Equal, Greater}
 use Rattle.std.specs.Map.{lookup, remove_entry, set_value}
 use Rattle.std.specs.BTreeMap.{insert_entry}
-use Rattle.amounts.specs.Rows.{IsKeyOrder}
-use Rattle.amounts.specs.Laws.{key_same}
+use Rattle.amounts.proofs.Lemmas.Rows.{IsKeyOrder}
+use Rattle.amounts.proofs.Lemmas.{key_same}
 use Rattle.ledgers.specs.LedgerRows.{AmountKey, amount_key_cmp, amount_in_row, AreSmall, HasAmountRow}
 
 module _ {K X : Type 0} (R : K → K → Ordering) (k : K) (v : X) (es fs : List (K × X)) (wrote : (q : K) → lookup (eq_by_cmp R q) fs ≡ (if eq_by_cmp R k q then Some v else lookup (eq_by_cmp R q) es)) where

@@ -5,24 +5,28 @@ use Rattle.std.specs.Ordering.{eq_by_cmp, nat_cmp}
 use Rattle.std.specs.Map.{keys_of}
 use Rattle.std.specs.List.Sorted.{IsStrictlySortedBy}
 use Rattle.std.proofs.lemmas.Bool.{and_parts, and_from}
-use Rattle.amounts.specs.Rows.{IsKeyOrder, amount_if, sum_where}
-use Rattle.amounts.specs.Keys.{number_keys}
-use Rattle.amounts.specs.Amounts.{amount, total, with_amount, total-with_amount, total-empty}
+use Rattle.amounts.specs.Rows.{amount_if, sum_where}
+use Rattle.amounts.proofs.Lemmas.Rows.{IsKeyOrder}
+use Rattle.amounts.proofs.Lemmas.Keys.{number_keys}
+use Rattle.amounts.specs.Amounts.{amount, total, with_amount}
+use Rattle.amounts.proofs.Lemmas.AmountLaws.{total-with_amount, total-empty}
 use Rattle.amounts.specs.Entries.{from_entries}
-use Rattle.amounts.specs.Laws.{same_key, key_same}
+use Rattle.amounts.proofs.Lemmas.{same_key, key_same}
 use Rattle.asset_lists.specs.declared.units.AssetId.{AssetId}
 use Rattle.asset_lists.specs.declared.units.Instance.{Instance}
 use Rattle.asset_lists.specs.declared.units.Kind.{Kind}
 use Rattle.asset_lists.specs.Units.{Unit, asset_id_cmp}
-use Rattle.asset_lists.specs.UnitLaws.{asset_id_total, asset_id_exact}
+use Rattle.asset_lists.specs.UnitLaws.{asset_id_total}
+use Rattle.asset_lists.proofs.Lemmas.UnitLaws.{asset_id_exact}
 use Rattle.asset_bundles.specs.Bundles.{is_asset, is_kind}
 use Rattle.asset_lists.specs.Listed.{Listed, kind_of, listed_of}
 use Rattle.ledgers.specs.declared.sums.Sum.{Sum}
 use Rattle.ledgers.specs.Sums.{sum_value}
 use Rattle.ledgers.specs.Ledgers.{Holder, account_cmp, is_account, is_holding_of, sum_of, account_sum_of}
 use Rattle.ledgers.specs.LedgerRows.{AmountKey, amount_key_cmp, OwnerKey, owner_key_cmp, amount_in_row, held_in, IsOnce, AreSmall, IsSound}
-use Rattle.ledgers.specs.Laws.{holder_keys, account_keys}
-use Rattle.ledgers.proofs.RowLookups.{amount_keys, apart, both_ways, same_as}
+use Rattle.ledgers.proofs.Lemmas.{holder_keys, account_keys}
+use Rattle.ledgers.proofs.RowLookups.{amount_keys, apart, same_as}
+use Rattle.plain_lists.proofs.Lemmas.Facts.{same_some as one_value, same_bools as both_ways}
 
 id_keys : IsKeyOrder Rattle.asset_lists.specs.Units.asset_id_cmp
 id_keys = record { total = asset_id_total; exact = asset_id_exact }
@@ -78,9 +82,6 @@ module _ (listed : List Listed) (once : IsOnce listed) (n : ℕ) (who : List ℕ
 if_moved : (b : Bool) (row next part more v had : ℕ) → row ≡ part → next + had ≡ row + v → more + amount_if b had ≡ part + amount_if b v → (if b then next else row) ≡ more
 if_moved true row next part more v had e f g = omega (arith, e, f, g)
 if_moved false row next part more v had e f g = omega (arith, e, g)
-
-one_value : {X : Type 0} (x y : X) → Some x ≡ Some y → x ≡ y
-one_value x y e = cc
 
 slice_get-set : {X : Type 0} (xs : List X) (n m : ℕ) (x y : X) → slice_get (set xs n x) m ≡ Some y → ((n ≡ m) × (x ≡ y)) ⊎ ((n ≡ m → ⊥) × (slice_get xs m ≡ Some y))
 slice_get-set [] n m x y h = absurd (cc)

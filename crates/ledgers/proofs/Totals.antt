@@ -2,8 +2,10 @@
 use Rattle.std.proofs.Common.{◌≡◌, Bool, true, false, ◌&&◌, if◌then◌else◌, refl, sym, ap, ◌∙◌, arith}
 use Rattle.std.specs.Ordering.{eq_by_cmp}
 use Rattle.std.specs.declared.cmp.Ordering.{Ordering}
-use Rattle.amounts.specs.Rows.{IsKeyOrder, amount_if}
-use Rattle.amounts.specs.Amounts.{Amounts, amount, total, empty, restriction, with_amount, same_amounts, amount-empty, total-empty, total_alike, amount-restriction, total-restriction, amount-with_amount, total-with_amount}
+use Rattle.amounts.specs.Rows.{amount_if}
+use Rattle.amounts.proofs.Lemmas.Rows.{IsKeyOrder}
+use Rattle.amounts.specs.Amounts.{Amounts, amount, total, empty, restriction, with_amount}
+use Rattle.amounts.proofs.Lemmas.AmountLaws.{same_amounts, amount-empty, total-empty, total_alike, amount-restriction, total-restriction, amount-with_amount, total-with_amount}
 
 both_same : (b : Bool) → (b && b) ≡ b
 both_same true = refl

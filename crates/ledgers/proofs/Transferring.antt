@@ -6,7 +6,7 @@ use Rattle.std.specs.List.{list_all}
 use Rattle.std.proofs.lemmas.Bool.{and_from, cases_Bool}
 use Rattle.amounts.specs.Rows.{sum_where, amount_if}
 use Rattle.amounts.specs.Amounts.{amount, difference, IsWithin}
-use Rattle.amounts.specs.Laws.{same_key, key_same, total_none, amount-from_rows, amount-difference, merge-difference}
+use Rattle.amounts.proofs.Lemmas.{same_key, key_same, total_none, amount-from_rows, amount-difference, merge-difference}
 use Rattle.asset_lists.specs.declared.units.AssetId.{AssetId}
 use Rattle.asset_lists.specs.declared.units.Instance.{Instance}
 use Rattle.asset_lists.specs.declared.units.Kind.{Kind}
@@ -14,7 +14,8 @@ use Rattle.asset_lists.specs.declared.units.Fun.{Fun}
 use Rattle.asset_lists.specs.declared.units.Asset.{Asset}
 use Rattle.asset_lists.specs.Units.{Unit, unit_of, amount_of, unit_cmp, instance_in, amount_in}
 use Rattle.asset_lists.specs.Lists.{has_zero}
-use Rattle.asset_bundles.specs.Bundles.{bundle_of, unit_keys}
+use Rattle.asset_bundles.specs.Bundles.{bundle_of}
+use Rattle.asset_bundles.proofs.Lemmas.Bundles.{unit_keys}
 use Rattle.asset_lists.specs.Listed.{Listed, listed_of, lists}
 use Rattle.ledgers.specs.declared.sums.Sum.{Sum}
 use Rattle.ledgers.specs.Ledgers.{Holder, account_cmp, holder_cmp, Held, Accounts, held_by, owners_of, number_in, overflow, is_barred, barred, Transferred}
@@ -23,7 +24,7 @@ use Rattle.ledgers.specs.declared.faults.DepositFault.{DepositFault}
 use Rattle.ledgers.specs.declared.faults.TransferFault.{TransferFault}
 use Rattle.ledgers.specs.LedgerRows.{AmountKey, OwnerKey, owner_at, owned, held_in, IsSound}
 use Rattle.ledgers.specs.AccountRows.{account_rows, HasAll}
-use Rattle.ledgers.specs.Laws.{holder_keys, account_keys}
+use Rattle.ledgers.proofs.Lemmas.{holder_keys, account_keys}
 use Rattle.ledgers.proofs.RowLookups.{apart}
 use Rattle.ledgers.proofs.RowAmounts.{held-fungible, held-instance}
 use Rattle.ledgers.proofs.RowWriting.{small_at}
@@ -31,6 +32,7 @@ use Rattle.ledgers.proofs.Numbers.{number_at}
 use Rattle.ledgers.proofs.RowChanges.{held_listed}
 use Rattle.ledgers.proofs.AccountMoves.{none_zero, held_by_rows}
 use Rattle.ledgers.proofs.Opening.{listed_by_number}
+use Rattle.plain_lists.proofs.Lemmas.Facts.{at_least_not_below as not_more}
 
 -- ---- what overflows and what bars
 -- the amount that is told is that of the first asset that bars, or none bars
@@ -47,9 +49,6 @@ told_later : (held : Held) (who : List ℕ) (a : Asset) (b c : Bool) (have : ℕ
 told_later held who a true c have rest found h k later = absurd (true≢false h)
 told_later held who a false true have rest found h k later = absurd (true≢false k)
 told_later held who a false false have rest found h k later = later
-
-not_more : (n m : ℕ) → m ≤ n → nat_lt n m ≡ false
-not_more n m h = grind (arith, h)
 
 -- ---- how much may be held
 owned_one : (who : List ℕ) (o : Option (List ℕ)) → owned who o ≤ 1

@@ -31,10 +31,10 @@ fungible_held_at None amount = None
 fungible_held_at (Some asset) amount = fungible_of asset.0 asset.1 amount
 
 -- an instance of a class, where the account has 1 of it
-abbrev pub instance_of : AssetId → Kind → Instance → ℕ → Option Asset
-instance_of id Kind.Fungible instance amount = None
-instance_of id Kind.Class instance amount = if nat_lt 0 amount then Some (record { id = id; fun = Fun.NonFungible instance }) else None
+abbrev pub owned_instance : AssetId → Kind → Instance → ℕ → Option Asset
+owned_instance id Kind.Fungible instance amount = None
+owned_instance id Kind.Class instance amount = if nat_lt 0 amount then Some (record { id = id; fun = Fun.NonFungible instance }) else None
 
 abbrev pub instance_held_at : Option Listed → Instance → ℕ → Option Asset
 instance_held_at None instance amount = None
-instance_held_at (Some asset) instance amount = instance_of asset.0 asset.1 instance amount
+instance_held_at (Some asset) instance amount = owned_instance asset.0 asset.1 instance amount

@@ -7,7 +7,7 @@ use Rattle.asset_lists.specs.Units.{Unit}
 use Rattle.asset_bundles.specs.Bundles.{rows_of}
 use Rattle.ledgers.specs.declared.rows.Rows.{Rows}
 use Rattle.ledgers.specs.Ledgers.{Holder, Held}
-use Rattle.ledgers.specs.RowState.{HasRoom, MayTake}
+use Rattle.ledgers.specs.RowState.{HasDepositRows, MayTake}
 
 abbrev pub account_rows : List ℕ → List Asset → List (Holder × ℕ)
 account_rows who assets = rows_at (λ (unit : Unit). (who, unit)) (rows_of assets)
@@ -23,4 +23,4 @@ MayTakeAll held who (a ∷ rest) = MayTake held who a × MayTakeAll held who res
 
 -- the rows that a deposit of them writes are there
 abbrev pub HasAllRoom : Rows → List ℕ → List Asset → Type 0
-HasAllRoom rows who assets = (k : ℕ) (a : Asset) → slice_get assets k ≡ Some a → HasRoom rows who a
+HasAllRoom rows who assets = (k : ℕ) (a : Asset) → slice_get assets k ≡ Some a → HasDepositRows rows who a

@@ -1,5 +1,4 @@
 pub mod Ledgers
-pub mod Laws
 pub mod AccountKeys
 pub mod AssetHash
 pub mod AssetTable
@@ -11,3 +10,4 @@ pub mod AccountRows
 pub mod AccountGoods
 pub mod LedgerFaults
 pub mod LedgerCode
+pub mod Holdings

@@ -60,12 +60,12 @@ pub(crate) struct Sought<'a> {
 impl PartialEq for Sought<'_> {
     ghost use Rattle.std.specs.Cmp.{partial_equiv_from_equiv, eq_by_cmp_equiv, on_equiv};
     ghost use Rattle.std.specs.Ordering.{eq_by_cmp};
-    ghost use Rattle.ledgers.specs.AssetTable.{row_cmp, rows_total, asset_at};
+    ghost use Rattle.ledgers.specs.AssetTable.{row_cmp, rows_total, listed_asset_of};
 
-    ghost eq = { λ a b. eq_by_cmp row_cmp (asset_at a.id.now a.kind) (asset_at b.id.now b.kind) };
+    ghost eq = { λ a b. eq_by_cmp row_cmp (listed_asset_of a.id.now a.kind) (listed_asset_of b.id.now b.kind) };
 
     ghost laws = { partial_equiv_from_equiv (on_equiv
-        (λ a. asset_at a.id.now a.kind) (eq_by_cmp_equiv rows_total)) };
+        (λ a. listed_asset_of a.id.now a.kind) (eq_by_cmp_equiv rows_total)) };
 
     fn eq(&self, other: &Self) -> bool {
         *self.id == *other.id && is_same_kind(self.kind, other.kind)
@@ -74,20 +74,20 @@ impl PartialEq for Sought<'_> {
 
 impl Eq for Sought<'_> {
     ghost use Rattle.std.specs.Cmp.{eq_by_cmp_equiv, on_equiv};
-    ghost use Rattle.ledgers.specs.AssetTable.{rows_total, asset_at};
+    ghost use Rattle.ledgers.specs.AssetTable.{rows_total, listed_asset_of};
 
-    ghost laws = { on_equiv (λ a. asset_at a.id.now a.kind) (eq_by_cmp_equiv rows_total) };
+    ghost laws = { on_equiv (λ a. listed_asset_of a.id.now a.kind) (eq_by_cmp_equiv rows_total) };
 }
 
 impl Hash for Sought<'_> {
     ghost use Rattle.ledgers.specs.AssetHash.{location_input};
-    ghost use Rattle.ledgers.specs.AssetTable.{asset_at};
+    ghost use Rattle.ledgers.specs.AssetTable.{listed_asset_of};
     ghost use Rattle.ledgers.specs.AssetKeys.{hashed_alike};
 
     ghost hash_input = { λ a. location_input a.id.now };
 
-    ghost respects_eq = { λ a b. hashed_alike (asset_at a.id.now a.kind)
-        (asset_at b.id.now b.kind) };
+    ghost respects_eq = { λ a b. hashed_alike (listed_asset_of a.id.now a.kind)
+        (listed_asset_of b.id.now b.kind) };
 
     fn hash<H: Hasher>(&self, state: &mut H) {
         hash_location(self.id, state);
@@ -97,14 +97,14 @@ impl Hash for Sought<'_> {
 impl Equivalent<ListedAsset> for Sought<'_> {
     ghost use Rattle.std.specs.Cmp.{eq_by_cmp_equiv};
     ghost use Rattle.std.specs.Ordering.{eq_by_cmp};
-    ghost use Rattle.ledgers.specs.AssetTable.{row_cmp, rows_total, asset_at};
+    ghost use Rattle.ledgers.specs.AssetTable.{row_cmp, rows_total, listed_asset_of};
     ghost use Rattle.ledgers.specs.AssetKeys.{hashed_alike};
 
-    ghost equivalent = { λ q k. eq_by_cmp row_cmp (asset_at q.id.now q.kind) k };
+    ghost equivalent = { λ q k. eq_by_cmp row_cmp (listed_asset_of q.id.now q.kind) k };
 
-    ghost respects_hash = { λ q k. hashed_alike (asset_at q.id.now q.kind) k };
+    ghost respects_hash = { λ q k. hashed_alike (listed_asset_of q.id.now q.kind) k };
 
-    ghost respects_eq = { λ q. (eq_by_cmp_equiv rows_total).congr (asset_at q.id.now q.kind) };
+    ghost respects_eq = { λ q. (eq_by_cmp_equiv rows_total).congr (listed_asset_of q.id.now q.kind) };
 
     fn equivalent(&self, key: &ListedAsset) -> bool {
         *self.id == key.id && is_same_kind(self.kind, key.kind)

@@ -19,7 +19,7 @@ impl Rows {
     ghost use Rattle.ledgers.specs.Sums.{sum_value};
     ghost use Rattle.ledgers.specs.Ledgers.{number_in, account_sum_of, sum_of, owners_of, IsOwner, is_barred};
     ghost use Rattle.ledgers.specs.LedgerFaults.{IsBarred};
-    ghost use Rattle.ledgers.specs.RowState.{rows_held, AreSound, HasRoom, KeepsRows, MayTake};
+    ghost use Rattle.ledgers.specs.RowState.{rows_held, AreSound, HasDepositRows, KeepsRows, MayTake};
 
     /// The number of the asset's row in the list.
     fn number(&self, asset: &Asset) -> Option<u32>
@@ -143,7 +143,7 @@ impl Rows {
         ensures sound { AreSound self.new }
         ensures held { rows_held self.new ≡ rows_held self.old }
         ensures stay { KeepsRows self.old self.new }
-        ensures room { OnOk result (HasRoom self.new who.now asset.now) }
+        ensures room { OnOk result (HasDepositRows self.new who.now asset.now) }
     {
         let Some(number) = self.number(asset) else {
             return Ok(());
@@ -157,7 +157,7 @@ impl Rows {
     pub(crate) fn give(&mut self, who: &[u8; 32], asset: &Asset)
         requires sound { AreSound self.old }
         requires listed { IsSome (number_in self.old.assets (listed_of (unit_of asset.now))) }
-        requires room { HasRoom self.old who.now asset.now }
+        requires room { HasDepositRows self.old who.now asset.now }
         requires may { MayTake (rows_held self.old) who.now asset.now }
         ensures sound { AreSound self.new }
         ensures stay { KeepsRows self.old self.new }

@@ -4,12 +4,12 @@ use Rattle.std.proofs.lemmas.List.{drop-drop}
 use Rattle.std.proofs.KnownBytes.{Appends-nil, Appends-trans}
 use Rattle.xcm_io.specs.Bytes.{IsFront, IsProperFront}
 use Rattle.input_lines.specs.Lines.{lines_of, ends_with}
-use Rattle.input_lines.specs.Laws.{no_lines}
+use Rattle.input_lines.proofs.Lemmas.{no_lines}
 use Rattle.line_serving.specs.declared.status.Status.{Status}
 use Rattle.line_serving.specs.declared.status.Status.TheVariants.{Done, WriteFault, ReadFault, TooLong}
 use Rattle.line_serving.specs.Replies.{Reply, Replies, Rooms, ends, then_on}
 use Rattle.line_serving.specs.Calls.{Advances, Finishes}
-use Rattle.line_serving.specs.Feeding.{Flows, Stops, TakesLines, AllWhole, Ends}
+use Rattle.line_serving.specs.Feeding.{Flows, StopsRun, TakesLines, AllWhole, EndsRun}
 
 -- ---- replies one after the other
 
@@ -72,7 +72,7 @@ module _ {M : Type 0} (replies : M → Replies) (rooms : M → Rooms) where
     pub flows_over : {E F : Type 0} (then : M) (less line : List ℕ) (new : Option (List ℕ)) (result : Result (Option Status) E) (answer : Result (Option Status) F)
         → replies now false [] ≡ ends [] Done → Advances (λ (x : Bool × List (List ℕ)). replies now x.0 (line ∷ x.1)) (λ x. replies then x.0 x.1) (replies now false (line ∷ [])).text mid new result
         → ((status : Status) → answer ≡ Ok (Some status) → result ≡ Ok (Some status))
-        → ((more : List ℕ) → lines_of (rest ++ more) ≡ line ∷ lines_of (less ++ more)) → ends_with 10 line ≡ true → Stops (replies machine) bytes old new answer
+        → ((more : List ℕ) → lines_of (rest ++ more) ≡ line ∷ lines_of (less ++ more)) → ends_with 10 line ≡ true → StopsRun (replies machine) bytes old new answer
     flows_over then less line new result answer r a same next w =
         let at : (at_end : Bool) (more : List ℕ) → replies machine at_end (lines_of (bytes ++ more)) ≡ then_on f.text (replies now at_end (line ∷ lines_of (less ++ more))) =
         λ at_end more. flow_bytes at_end more ∙ ap (λ l. then_on f.text (replies now at_end l)) (next more) in
@@ -101,7 +101,7 @@ module _ {M : Type 0} (replies : M → Replies) (rooms : M → Rooms) where
         }
 
     -- memory was refused behind the lines
-    pub flows_err : {E : Type 0} (refused : E) → Stops (replies machine) bytes old mid (Err refused)
+    pub flows_err : {E : Type 0} (refused : E) → StopsRun (replies machine) bytes old mid (Err refused)
     flows_err refused = record {
       text = f.text;
       appends = f.appends;
@@ -111,7 +111,7 @@ module _ {M : Type 0} (replies : M → Replies) (rooms : M → Rooms) where
       long = λ e. absurd cc;
     }
 
-  pub takes_over : {E : Type 0} (machine now : M) (bytes rest : List ℕ) (old new : Option (List ℕ)) (result : Result (Option Status) E) → result ≢ Ok None → Stops (replies machine) bytes old new result
+  pub takes_over : {E : Type 0} (machine now : M) (bytes rest : List ℕ) (old new : Option (List ℕ)) (result : Result (Option Status) E) → result ≢ Ok None → StopsRun (replies machine) bytes old new result
       → TakesLines replies rooms machine now bytes rest old new result
   takes_over machine now bytes rest old new result n s = record { going = λ e. absurd (n e); over = λ m. s }
 
@@ -136,7 +136,7 @@ line_size bytes at n r l = (omega (arith, length-take {A = ℕ}, length-drop {A 
 -- ---- the end of the input
 
 -- nothing is pending
-pub ends_empty : {E : Type 0} (replies : Replies) (bytes : List ℕ) (old new : Option (List ℕ)) (result : Result Status E) → length bytes ≡ 0 → replies false [] ≡ ends [] Done → Finishes (replies true []) old new result → Ends replies bytes old new result
+pub ends_empty : {E : Type 0} (replies : Replies) (bytes : List ℕ) (old new : Option (List ℕ)) (result : Result Status E) → length bytes ≡ 0 → replies false [] ≡ ends [] Done → Finishes (replies true []) old new result → EndsRun replies bytes old new result
 ends_empty replies bytes old new result z r f =
     let none : lines_of bytes ≡ [] = no_lines bytes z in
     record {
@@ -152,7 +152,7 @@ ends_empty replies bytes old new result z r f =
 module _ (replies then : Replies) (bytes : List ℕ) (old mid : Option (List ℕ)) (line : lines_of bytes ≡ bytes ∷ []) (ready : replies false [] ≡ ends [] Done) where
   -- the last line is taken, and the input ends behind it
   pub ends_behind : {E F : Type 0} (due : List ℕ) (new : Option (List ℕ)) (taken : Result (Option Status) F) (result : Result Status E) → taken ≡ Ok None → then false [] ≡ ends [] Done
-      → Advances (λ (x : Bool × List (List ℕ)). replies x.0 (bytes ∷ x.1)) (λ x. then x.0 x.1) due old mid taken → Finishes (then true []) mid new result → Ends replies bytes old new result
+      → Advances (λ (x : Bool × List (List ℕ)). replies x.0 (bytes ∷ x.1)) (λ x. then x.0 x.1) due old mid taken → Finishes (then true []) mid new result → EndsRun replies bytes old new result
   ends_behind due new taken result t r a f = record {
     text = a.text ++ f.text;
     appends = Appends-trans old mid new a.text f.text a.appends f.appends;
@@ -168,7 +168,7 @@ module _ (replies then : Replies) (bytes : List ℕ) (old mid : Option (List ℕ
 
   -- a call on the last line ended the run
   pub ends_in : {E F : Type 0} (taken : Result (Option Status) F) (answer : Status) → taken ≡ Ok (Some answer) → taken ≢ Ok (Some ReadFault)
-      → Advances (λ (x : Bool × List (List ℕ)). replies x.0 (bytes ∷ x.1)) (λ x. then x.0 x.1) (replies false (bytes ∷ [])).text old mid taken → Ends {E = E} replies bytes old mid (Ok answer)
+      → Advances (λ (x : Bool × List (List ℕ)). replies x.0 (bytes ∷ x.1)) (λ x. then x.0 x.1) (replies false (bytes ∷ [])).text old mid taken → EndsRun {E = E} replies bytes old mid (Ok answer)
   ends_in taken answer t n a = record {
     text = a.text;
     appends = a.appends;
@@ -194,7 +194,7 @@ module _ (replies then : Replies) (bytes : List ℕ) (old mid : Option (List ℕ
 
   -- memory was refused in it
   pub ends_err : {E F : Type 0} (taken : Result (Option Status) F) (refused : E) (due : List ℕ) → Advances (λ (x : Bool × List (List ℕ)). replies x.0 (bytes ∷ x.1)) (λ x. then x.0 x.1) due old mid taken
-      → Ends replies bytes old mid (Err refused)
+      → EndsRun replies bytes old mid (Err refused)
   ends_err taken refused due a = record {
     text = a.text;
     appends = a.appends;

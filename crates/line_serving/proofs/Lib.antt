@@ -1,3 +1,4 @@
+pub mod Lemmas
 mod Flowing
 mod PastLimits
 mod Streams

@@ -4,12 +4,9 @@ use Rattle.std.proofs.lemmas.Bool.{ne_eqb}
 use Rattle.std.proofs.lemmas.Bool.Decides.{nat_tests}
 use Rattle.std.specs.Prelude.{nat_le}
 use Rattle.input_lines.specs.Lines.{lines_of, HasNoFeed, without_feed, ends_with}
-use Rattle.line_serving.specs.Laws.{begins}
+use Rattle.line_serving.proofs.Lemmas.{begins}
 use Rattle.line_serving.specs.Replies.{max_input, max_line, fits_limits}
-
-second_false : (a b : Bool) → b ≡ false → (a && b) ≡ false
-second_false true b e = e
-second_false false b e = refl
+use Rattle.plain_lists.proofs.Lemmas.Facts.{second_false}
 
 first_false : (a b : Bool) → a ≡ false → (a && b) ≡ false
 first_false true b e = cc

@@ -10,13 +10,13 @@ use Rattle.xcm_io.specs.Bytes.{IsFront}
 use Rattle.std.specs.List.{concat}
 use Rattle.input_lines.specs.Lines.{lines_of, ends_with, HasNoFeed}
 use Rattle.std.proofs.lemmas.List.Folds.{concat-append}
-use Rattle.input_lines.specs.Laws.{no_lines, only_line, concat-lines_of}
+use Rattle.input_lines.proofs.Lemmas.{no_lines, only_line, concat-lines_of}
 use Rattle.line_serving.specs.declared.status.Status.{Status}
 use Rattle.line_serving.specs.declared.status.Status.TheVariants.{Done, ReadFault, TooLong}
 use Rattle.line_serving.specs.Replies.{Replies, Rooms, ends, then_on, bytes_reply, whole_lines, so_far}
-use Rattle.line_serving.specs.Feeding.{AllWhole, Flows, Stops, StopsInLine, StopsAtLimit, StopsAtEnd, Ends}
+use Rattle.line_serving.specs.Feeding.{AllWhole, Flows, StopsRun, StopsInLine, StopsAtLimit, StopsAtEnd, EndsRun}
 use Rattle.line_serving.specs.Serving.{Serves, FailedInLine, FailedAtEnd, StoppedAtLimit, ReadInTime}
-use Rattle.line_serving.specs.Laws.{in_time_start}
+use Rattle.line_serving.proofs.Lemmas.{in_time_start}
 use Rattle.line_serving.proofs.Flowing.{then_then, then_front, then_proper, then_ends, then_nothing, all_whole}
 use Rattle.line_serving.proofs.PastLimits.{no_feed_end}
 
@@ -275,7 +275,7 @@ module _ {M : Type 0} (replies : M → Replies) (rooms : M → Rooms) (start : M
 
   -- a call on a piece ended the run
   pub streams_over : {E F : Type 0} (less new : Option (List ℕ)) (piece : List ℕ) (result : Result (Option Status) F) (answer : Status) → Consumes rest less piece → length piece ≤ 65536 → HasNoFeed pending
-      → replies machine false [] ≡ ends [] Done → rooms machine [] (length pending) → Stops (replies machine) (pending ++ piece) now new result → result ≡ Ok (Some answer) → result ≢ Ok (Some ReadFault) → Serves {E = E} (replies start) (rooms start) left less old new (Ok answer)
+      → replies machine false [] ≡ ends [] Done → rooms machine [] (length pending) → StopsRun (replies machine) (pending ++ piece) now new result → result ≡ Ok (Some answer) → result ≢ Ok (Some ReadFault) → Serves {E = E} (replies start) (rooms start) left less old new (Ok answer)
   streams_over less new piece result answer c few n r begun p e k = record {
     taken = s.taken ++ piece;
     consumed = Consumes-trans left rest less s.taken piece s.consumed c;
@@ -294,7 +294,7 @@ module _ {M : Type 0} (replies : M → Replies) (rooms : M → Rooms) (start : M
 
   -- memory was refused in a piece
   pub streams_err : {E F : Type 0} (less new : Option (List ℕ)) (piece : List ℕ) (result : Result (Option Status) F) (refused : E) → Consumes rest less piece → length piece ≤ 65536 → HasNoFeed pending
-      → replies machine false [] ≡ ends [] Done → rooms machine [] (length pending) → Stops (replies machine) (pending ++ piece) now new result → Serves (replies start) (rooms start) left less old new (Err refused)
+      → replies machine false [] ≡ ends [] Done → rooms machine [] (length pending) → StopsRun (replies machine) (pending ++ piece) now new result → Serves (replies start) (rooms start) left less old new (Err refused)
   streams_err less new piece result refused c few n r begun p = record {
     taken = s.taken ++ piece;
     consumed = Consumes-trans left rest less s.taken piece s.consumed c;
@@ -328,7 +328,7 @@ module _ {M : Type 0} (replies : M → Replies) (rooms : M → Rooms) (start : M
       rw (append-nil s.taken) at f
 
   -- the input is at its end
-  pub streams_end : {E : Type 0} (less new : Option (List ℕ)) (result : Result Status E) → Consumes rest less [] → IsAtEnd less → HasNoFeed pending → Ends (replies machine) pending now new result → Serves (replies start) (rooms start) left less old new result
+  pub streams_end : {E : Type 0} (less new : Option (List ℕ)) (result : Result Status E) → Consumes rest less [] → IsAtEnd less → HasNoFeed pending → EndsRun (replies machine) pending now new result → Serves (replies start) (rooms start) left less old new result
   streams_end less new result c a n f =
       let consumed : Consumes left less s.taken = rw (append-nil s.taken) at (Consumes-trans left rest less s.taken [] s.consumed c) in
       record {

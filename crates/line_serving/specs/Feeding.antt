@@ -54,7 +54,7 @@ pub record StopsAtEnd (replies : Replies) (bytes text : List ℕ) : Type 0 where
   pub short : IsProperFront text (replies true (lines_of bytes)).text
 
 -- A call on these bytes that ended the run, or gave up.
-pub record Stops {E : Type 0} (replies : Replies) (bytes : List ℕ) (old new : Option (List ℕ))
+pub record StopsRun {E : Type 0} (replies : Replies) (bytes : List ℕ) (old new : Option (List ℕ))
     (result : Result (Option Status) E) : Type 0 where
   pub text : List ℕ
   pub appends : Appends old new text
@@ -71,10 +71,10 @@ pub record TakesLines {M E : Type 0} (replies : M → Replies) (rooms : M → Ro
     (bytes rest : List ℕ) (old new : Option (List ℕ))
     (result : Result (Option Status) E) : Type 0 where
   pub going : result ≡ Ok None → Flows replies rooms machine now bytes rest old new
-  pub over : result ≢ Ok None → Stops (replies machine) bytes old new result
+  pub over : result ≢ Ok None → StopsRun (replies machine) bytes old new result
 
 -- The run is over at the end of its input, which ends with these bytes.
-pub record Ends {E : Type 0} (replies : Replies) (bytes : List ℕ) (old new : Option (List ℕ))
+pub record EndsRun {E : Type 0} (replies : Replies) (bytes : List ℕ) (old new : Option (List ℕ))
     (result : Result Status E) : Type 0 where
   pub text : List ℕ
   pub appends : Appends old new text

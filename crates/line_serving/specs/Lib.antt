@@ -2,4 +2,3 @@ pub mod Replies
 pub mod Calls
 pub mod Feeding
 pub mod Serving
-pub mod Laws

@@ -5,7 +5,7 @@ ghost use Rattle.xcm_io.specs.Causes.{Rose};
 ghost use Rattle.input_lines.specs.Lines.{lines_of, HasNoFeed};
 ghost use Rattle.line_serving.specs.Replies.{ends, max_input};
 ghost use Rattle.line_serving.specs.Calls.{HasWriteCause};
-ghost use Rattle.line_serving.specs.Feeding.{TakesLines, Ends, IsFed};
+ghost use Rattle.line_serving.specs.Feeding.{TakesLines, EndsRun, IsFed};
 
 use crate::lines::take_lines;
 use crate::machine::LineMachine;
@@ -91,7 +91,7 @@ impl<M: LineMachine> Feeder<M> {
         out: &mut O,
     ) -> Result<Status, AllocError>
         requires fed { IsFed M.is_ready self.old }
-        ensures run { Ends (M.replies self.old.machine) self.old.pending.items
+        ensures run { EndsRun (M.replies self.old.machine) self.old.pending.items
             (O.written out.old) (O.written out.new) result }
         ensures later { O.faults out.old ≤ O.faults out.new }
         ensures cause { result ≡ Ok Status.WriteFault → Rose (O.faults out.old) (O.faults out.new) }

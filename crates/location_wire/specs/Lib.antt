@@ -2,4 +2,3 @@ pub mod Spelling
 pub mod Reading
 pub mod Texts
 pub mod TextFaults
-pub mod Laws

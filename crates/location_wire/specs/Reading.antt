@@ -1,6 +1,6 @@
 -- Reading the parts of a location from left to right: a list of forms for each enum, in the order of the index.
 use Rattle.std.specs.Prelude.{ℕ, ◌^◌, List, [], ◌∷◌, nat_le}
-use Rattle.scale_codec.specs.Reading.{Reader, u8_at, fixed_at, below_at, take_at, done, made1, made2, guarded_at, indexed_at, optional_at, counted_at}
+use Rattle.scale_codec.specs.Reading.{Reader, u8_at, fixed_at, below_at, take_at, pure_reader, made1, made2, guarded_at, indexed_at, optional_at, counted_at}
 use Rattle.locations.specs.declared.grammar.NetworkId.{NetworkId}
 use Rattle.locations.specs.declared.grammar.NetworkId.TheVariants.{ByGenesis, ByFork, Polkadot, Kusama, Westend, Rococo, Wococo, Ethereum, BitcoinCore, BitcoinCash}
 use Rattle.locations.specs.declared.grammar.BodyId.{BodyId}
@@ -14,45 +14,45 @@ use Rattle.locations.specs.declared.relative.Location.{Location}
 abbrev pub network_forms : List (Reader NetworkId)
 network_forms = made1 (take_at 32) ByGenesis
     ∷ made2 (fixed_at 8) (take_at 32) ByFork
-    ∷ done Polkadot
-    ∷ done Kusama
-    ∷ done Westend
-    ∷ done Rococo
-    ∷ done Wococo
+    ∷ pure_reader Polkadot
+    ∷ pure_reader Kusama
+    ∷ pure_reader Westend
+    ∷ pure_reader Rococo
+    ∷ pure_reader Wococo
     ∷ made1 (below_at (2 ^ 64)) Ethereum
-    ∷ done BitcoinCore
-    ∷ done BitcoinCash
+    ∷ pure_reader BitcoinCore
+    ∷ pure_reader BitcoinCash
     ∷ []
 
 unfoldable pub network_at : Reader NetworkId
 network_at = indexed_at network_forms
 
 abbrev pub body_forms : List (Reader BodyId)
-body_forms = done Unit
+body_forms = pure_reader Unit
     ∷ made1 (take_at 4) Moniker
     ∷ made1 (below_at (2 ^ 32)) Index
-    ∷ done Executive
-    ∷ done Technical
-    ∷ done Legislative
-    ∷ done Judicial
-    ∷ done Defense
-    ∷ done Administration
-    ∷ done Treasury
+    ∷ pure_reader Executive
+    ∷ pure_reader Technical
+    ∷ pure_reader Legislative
+    ∷ pure_reader Judicial
+    ∷ pure_reader Defense
+    ∷ pure_reader Administration
+    ∷ pure_reader Treasury
     ∷ []
 
 unfoldable pub body_at : Reader BodyId
 body_at = indexed_at body_forms
 
 abbrev pub part_forms : List (Reader BodyPart)
-part_forms = done Voice
+part_forms = pure_reader Voice
     ∷ made1 (below_at (2 ^ 32)) Members
     ∷ made2 (below_at (2 ^ 32)) (below_at (2 ^ 32)) Fraction
     ∷ made2 (below_at (2 ^ 32)) (below_at (2 ^ 32)) AtLeastProportion
     ∷ made2 (below_at (2 ^ 32)) (below_at (2 ^ 32)) MoreThanProportion
     ∷ []
 
-unfoldable pub part_at : Reader BodyPart
-part_at = indexed_at part_forms
+unfoldable pub body_part_at : Reader BodyPart
+body_part_at = indexed_at part_forms
 
 abbrev pub junction_forms : List (Reader Junction)
 junction_forms = made1 (below_at (2 ^ 32)) Parachain
@@ -62,8 +62,8 @@ junction_forms = made1 (below_at (2 ^ 32)) Parachain
     ∷ made1 u8_at PalletInstance
     ∷ made1 (below_at (2 ^ 128)) GeneralIndex
     ∷ made2 u8_at (take_at 32) GeneralKey
-    ∷ done OnlyChild
-    ∷ made2 body_at part_at Plurality
+    ∷ pure_reader OnlyChild
+    ∷ made2 body_at body_part_at Plurality
     ∷ made1 network_at GlobalConsensus
     ∷ []
 

@@ -43,16 +43,16 @@ unfoldable pub junction_text : Junction → List ℕ
 junction_text j = shown j (named j)
 
 -- each behind a slash
-abbrev pub step_text : Junction → List ℕ
-step_text j = codes "/" ++ junction_text j
+abbrev pub path_step_text : Junction → List ℕ
+path_step_text j = codes "/" ++ junction_text j
 
 abbrev pub path_text : List Junction → List ℕ
 path_text [] = codes "/"
-path_text (j ∷ js) = joined (map step_text (j ∷ js))
+path_text (j ∷ js) = joined (map path_step_text (j ∷ js))
 
 -- the parents, then each junction
 abbrev pub location_text : Location → List ℕ
-location_text l = decimal l.parents ++ joined (map step_text l.interior)
+location_text l = decimal l.parents ++ joined (map path_step_text l.interior)
 
 -- ---- what a value of the types is: its numbers in their ranges, at most 8 junctions, and its bytes below 256
 

@@ -4,7 +4,7 @@ ghost use Rattle.std.specs.Prelude.{◌≡◌, [], ◌≤◌, ◌^◌};
 ghost use Rattle.locations.specs.declared.grammar.Junction.TheVariants.{Parachain, AccountId32, AccountIndex64, AccountKey20, PalletInstance, GeneralIndex, GeneralKey, Plurality, GlobalConsensus};
 ghost use Rattle.scale_codec.specs.Reading.{u8_at, below_at, take_at, made1, made2, optional_at, repeated};
 ghost use Rattle.scale_codec.specs.Answers.{Got, Filled};
-ghost use Rattle.location_wire.specs.Reading.{network_at, body_at, part_at, junction_at, junctions_at, location_at};
+ghost use Rattle.location_wire.specs.Reading.{network_at, body_at, body_part_at, junction_at, junctions_at, location_at};
 
 // What is read most, a few numbers, is compiled into its caller; what is longer and rarer isn't, so that its locals cost nothing there.
 
@@ -72,9 +72,9 @@ fn take_body(c: &mut Cursor<'_>) -> Result<BodyId, NoSpelling>
     }
 }
 
-#[tactic(auto, unfolding(crate::specs::Reading::part_at))]
+#[tactic(auto, unfolding(crate::specs::Reading::body_part_at))]
 fn take_part(c: &mut Cursor<'_>) -> Result<BodyPart, NoSpelling>
-    ensures { Got result (part_at c.old) c.new }
+    ensures { Got result (body_part_at c.old) c.new }
 {
     match c.u8()? {
         0 => Ok(BodyPart::Voice),
@@ -175,7 +175,7 @@ fn fill_general_key(c: &mut Cursor<'_>, slot: &mut Junction) -> Result<(), NoSpe
 /// A body, and the part of it.
 #[inline(never)]
 fn fill_plurality(c: &mut Cursor<'_>, slot: &mut Junction) -> Result<(), NoSpelling>
-    ensures { Filled result (made2 body_at part_at Plurality c.old) slot.new c.new }
+    ensures { Filled result (made2 body_at body_part_at Plurality c.old) slot.new c.new }
 {
     let id = take_body(c)?;
     let part = take_part(c)?;

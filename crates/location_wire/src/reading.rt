@@ -11,7 +11,7 @@ use scale_codec::{Cursor, NoSpelling};
 
 /// The network at the front of what is left. `NoSpelling` comes exactly where no prefix spells one; the cursor is then where it
 /// was.
-#[tactic(auto, using(scale_codec::specs::Laws::ReadLaws::is_read, crate::specs::Laws::FieldLaws::network_reads))]
+#[tactic(auto, using(scale_codec::proofs::Lemmas::ReadLaws::is_read, crate::proofs::Lemmas::FieldLaws::network_reads))]
 pub fn read_network_id(c: &mut Cursor<'_>) -> Result<NetworkId, NoSpelling>
     ensures read { Gives result (network_at c.old) c.old c.new }
     ensures spelling { IsRead network FitsNetwork result c.old c.new }
@@ -23,7 +23,7 @@ pub fn read_network_id(c: &mut Cursor<'_>) -> Result<NetworkId, NoSpelling>
 
 /// The junction at the front of what is left. `NoSpelling` comes exactly where no prefix spells one; the cursor is then where it
 /// was.
-#[tactic(auto, using(scale_codec::specs::Laws::ReadLaws::is_read, crate::specs::Laws::FieldLaws::junction_reads))]
+#[tactic(auto, using(scale_codec::proofs::Lemmas::ReadLaws::is_read, crate::proofs::Lemmas::FieldLaws::junction_reads))]
 pub fn read_junction(c: &mut Cursor<'_>) -> Result<Junction, NoSpelling>
     ensures read { Gives result (junction_at c.old) c.old c.new }
     ensures spelling { IsRead junction FitsJunction result c.old c.new }
@@ -35,7 +35,7 @@ pub fn read_junction(c: &mut Cursor<'_>) -> Result<Junction, NoSpelling>
 
 /// The junctions at the front of what is left, at most eight behind their number. `NoSpelling` comes exactly where no prefix
 /// spells such a list; the cursor is then where it was.
-#[tactic(auto, using(scale_codec::specs::Laws::ReadLaws::is_read, crate::specs::Laws::FieldLaws::junctions_reads))]
+#[tactic(auto, using(scale_codec::proofs::Lemmas::ReadLaws::is_read, crate::proofs::Lemmas::FieldLaws::junctions_reads))]
 pub fn read_junctions(c: &mut Cursor<'_>) -> Result<Junctions, NoSpelling>
     ensures read { Gives result (junctions_at c.old) c.old c.new }
     ensures spelling { IsRead junctions FitsJunctions result c.old c.new }
@@ -47,7 +47,7 @@ pub fn read_junctions(c: &mut Cursor<'_>) -> Result<Junctions, NoSpelling>
 
 /// The location at the front of what is left. `NoSpelling` comes exactly where no prefix spells one; the cursor is then where it
 /// was.
-#[tactic(auto, using(scale_codec::specs::Laws::ReadLaws::is_read, crate::specs::Laws::FieldLaws::location_reads))]
+#[tactic(auto, using(scale_codec::proofs::Lemmas::ReadLaws::is_read, crate::proofs::Lemmas::FieldLaws::location_reads))]
 pub fn read_location(c: &mut Cursor<'_>) -> Result<Location, NoSpelling>
     ensures read { Gives result (location_at c.old) c.old c.new }
     ensures spelling { IsRead location FitsLocation result c.old c.new }

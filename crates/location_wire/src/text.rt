@@ -4,7 +4,7 @@ ghost use Rattle.std.specs.Prelude.{◌≡◌, ◌++◌, OnOk, IfOk, map, codes}
 ghost use Rattle.std.specs.String.{string_bytes};
 ghost use Rattle.scale_codec.specs.Spelling.{joined};
 ghost use Rattle.location_wire.specs.Spelling.{junction};
-ghost use Rattle.location_wire.specs.Texts.{hex_text, junction_text, step_text, path_text, location_text};
+ghost use Rattle.location_wire.specs.Texts.{hex_text, junction_text, path_step_text, path_text, location_text};
 
 use crate::writing::write_junction;
 use locations::{Junction, Junctions, Location, NetworkId};
@@ -82,7 +82,7 @@ fn push_junction(alloc: Global, text: &mut String, step: &Junction) -> Result<()
 /// Appends each junction behind a slash.
 fn push_steps(alloc: Global, text: &mut String, items: &[Junction]) -> Result<(), AllocError>
     ensures { OnOk result (string_bytes text.new
-        ≡ string_bytes text.old ++ joined (map step_text items.now)) }
+        ≡ string_bytes text.old ++ joined (map path_step_text items.now)) }
 {
     for step in items {
         text.push_str("/")?;

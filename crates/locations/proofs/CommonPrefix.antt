@@ -4,8 +4,8 @@ use Rattle.std.proofs.lemmas.Bool.{cases_lt}
 use Rattle.std.proofs.lemmas.List.Sums.{common_prefix_len-drop_yes, common_prefix_len-drop_no}
 use Rattle.locations.specs.declared.grammar.Junction.{Junction}
 use Rattle.locations.specs.Chains.{same_junction}
-use Rattle.locations.specs.OrderLaws.{junction_decides}
-use Rattle.locations.specs.Laws.{together}
+use Rattle.locations.proofs.Lemmas.OrderLaws.{junction_decides}
+use Rattle.locations.proofs.Lemmas.{together}
 
 -- equal junctions pass the test, and others fail it
 pub alike : (x y : Junction) → x ≡ y → same_junction x y ≡ true

@@ -1,3 +1,4 @@
+pub mod Lemmas
 pub mod DerivedOrders
 pub mod CommonPrefix
 pub mod Inversion

@@ -11,7 +11,7 @@ use Rattle.locations.specs.declared.faults.LocationFault.TheVariants.{Full, TooH
 use Rattle.locations.specs.Chains.{last, same_junction}
 use Rattle.locations.specs.Steps.{last_known, inverted, shortened, simplified, cancelled, prepended_parents, prepended_interior, prepended}
 use Rattle.locations.specs.Reanchoring.{raised_parents, way_down, reanchored}
-use Rattle.locations.specs.Laws.{below, not_below, length-last_known, place}
+use Rattle.locations.proofs.Lemmas.{below, not_below, length-last_known, place}
 
 -- the last step on what the second one answered
 abbrev pub then_simplified : List Junction → Result Location LocationFault → Result Location LocationFault

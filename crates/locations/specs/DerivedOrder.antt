@@ -13,21 +13,21 @@ use Rattle.locations.specs.contracts.grammar.BodyPartOrd.TheImpl.Laws.{total-law
 use Rattle.locations.specs.contracts.grammar.JunctionOrd.TheImpl.Laws.{total-law as junctions}
 
 -- the order that a law speaks of
-abbrev pub order_of : {K : Type 0} {R : K → K → Ordering} → IsTotalOrder R → K → K → Ordering
-order_of {R = R} _ = R
+abbrev pub ordering_of : {K : Type 0} {R : K → K → Ordering} → IsTotalOrder R → K → K → Ordering
+ordering_of {R = R} _ = R
 
 -- what `a.cmp(&b)` answers
 abbrev pub derived_network_cmp : NetworkId → NetworkId → Ordering
-derived_network_cmp = order_of networks
+derived_network_cmp = ordering_of networks
 
 abbrev pub derived_body_cmp : BodyId → BodyId → Ordering
-derived_body_cmp = order_of bodies
+derived_body_cmp = ordering_of bodies
 
 abbrev pub derived_part_cmp : BodyPart → BodyPart → Ordering
-derived_part_cmp = order_of parts
+derived_part_cmp = ordering_of parts
 
 abbrev pub derived_junction_cmp : Junction → Junction → Ordering
-derived_junction_cmp = order_of junctions
+derived_junction_cmp = ordering_of junctions
 
 pub record IsDerivedOrder : Type 0 where
   pub networks : (x y : NetworkId) → derived_network_cmp x y ≡ network_cmp x y

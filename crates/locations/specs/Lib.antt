@@ -5,5 +5,4 @@ pub mod Chains
 pub mod Steps
 pub mod Reanchoring
 pub mod PathLaw
-pub mod Laws
 pub mod Lending

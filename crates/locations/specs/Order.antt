@@ -23,8 +23,8 @@ one n = n ∷ []
 abbrev pub number : ℕ → List (List ℕ)
 number n = one n ∷ []
 
-abbrev pub bytes : List ℕ → List (List ℕ)
-bytes b = b ∷ []
+abbrev pub bytes_fields : List ℕ → List (List ℕ)
+bytes_fields b = b ∷ []
 
 -- the index of a network, then its fields
 abbrev pub network_fields : NetworkId → List (List ℕ)
@@ -68,12 +68,12 @@ part_fields (MoreThanProportion nom denom) = one 4 ∷ one nom ∷ one denom ∷
 -- the index of a junction, then its fields
 abbrev pub junction_fields : Junction → List (List (List ℕ))
 junction_fields (Parachain para) = number 0 ∷ number para ∷ []
-junction_fields (AccountId32 network id) = number 1 ∷ any_network_fields network ∷ bytes id ∷ []
+junction_fields (AccountId32 network id) = number 1 ∷ any_network_fields network ∷ bytes_fields id ∷ []
 junction_fields (AccountIndex64 network index) = number 2 ∷ any_network_fields network ∷ number index ∷ []
-junction_fields (AccountKey20 network key) = number 3 ∷ any_network_fields network ∷ bytes key ∷ []
+junction_fields (AccountKey20 network key) = number 3 ∷ any_network_fields network ∷ bytes_fields key ∷ []
 junction_fields (PalletInstance index) = number 4 ∷ number index ∷ []
 junction_fields (GeneralIndex index) = number 5 ∷ number index ∷ []
-junction_fields (GeneralKey len key) = number 6 ∷ number len ∷ bytes key ∷ []
+junction_fields (GeneralKey len key) = number 6 ∷ number len ∷ bytes_fields key ∷ []
 junction_fields OnlyChild = number 7 ∷ []
 junction_fields (Plurality id part) = number 8 ∷ body_fields id ∷ part_fields part ∷ []
 junction_fields (GlobalConsensus network) = number 9 ∷ network_fields network ∷ []

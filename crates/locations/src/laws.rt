@@ -4,7 +4,7 @@ ghost use Rattle.locations.specs.DerivedOrder.{IsDerivedOrder};
 ghost use Rattle.locations.specs.PathLaw.{KeepsPath, KeepsNormal, HasOneName};
 
 /// Each order is total, and ties only equal values.
-pub fn law_of_order()
+pub fn law_of_exact_location_orders()
     ensures networks { IsExactOrder network_cmp }
     ensures bodies { IsExactOrder body_cmp }
     ensures parts { IsExactOrder part_cmp }

@@ -12,6 +12,6 @@ mod relative;
 pub use faults::{Full, LocationFault, PathFault};
 pub use grammar::{BodyId, BodyPart, Junction, NetworkId};
 pub use interior::{Junctions, MAX_JUNCTIONS};
-pub use laws::{law_of_derived_order, law_of_order, law_of_paths};
+pub use laws::{law_of_derived_order, law_of_exact_location_orders, law_of_paths};
 pub use reanchor::invert_target;
 pub use relative::Location;

@@ -7,11 +7,11 @@ use Rattle.asset_lists.specs.declared.filters.Wild.{Wild}
 use Rattle.asset_lists.specs.declared.filters.Wild.TheVariants.{All, AllOf, AllCounted, AllOfCounted}
 use Rattle.asset_lists.specs.declared.filters.Filter.{Filter}
 use Rattle.asset_lists.specs.declared.filters.Filter.TheVariants as filters
-use Rattle.message_parts.specs.Texts.{weight_text}
-use Rattle.message_parts.specs.declared.pallet.PalletInfo.{PalletInfo}
-use Rattle.message_parts.specs.declared.query.QueryInfo.{QueryInfo}
-use Rattle.message_parts.specs.declared.query.Response.{Response}
-use Rattle.message_parts.specs.declared.query.Response.TheVariants.{Null, Assets, ExecutionResult, Version, PalletsInfo, DispatchResult}
+use Rattle.operands.specs.Texts.{weight_text}
+use Rattle.operands.specs.declared.pallet.PalletInfo.{PalletInfo}
+use Rattle.operands.specs.declared.query.QueryInfo.{QueryInfo}
+use Rattle.operands.specs.declared.query.Response.{Response}
+use Rattle.operands.specs.declared.query.Response.TheVariants.{Null, Assets, ExecutionResult, Version, PalletsInfo, DispatchResult}
 use Rattle.message_text.specs.declared.names.FieldName.{FieldName}
 use Rattle.message_text.specs.declared.names.FieldName.TheVariants as names
 use Rattle.message_text.specs.Names.{name_text}

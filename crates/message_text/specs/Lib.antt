@@ -3,4 +3,3 @@ pub mod Lines
 pub mod Words
 pub mod Fields
 pub mod Messages
-pub mod Laws

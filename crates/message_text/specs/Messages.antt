@@ -4,7 +4,7 @@ use Rattle.std.specs.Prelude.{ℕ, ◌+◌, List, [], ◌∷◌, ◌++◌, Optio
 use Rattle.scale_codec.specs.Spelling.{joined}
 use Rattle.locations.specs.declared.relative.Location.{Location}
 use Rattle.location_wire.specs.Texts.{hex_text, location_text, path_text}
-use Rattle.message_parts.specs.Texts.{weight_text}
+use Rattle.operands.specs.Texts.{weight_text}
 use Rattle.xcm_program.specs.Measure.{inner}
 use Rattle.xcm_program.specs.Texts.{instruction_name}
 use Rattle.xcm_program.specs.declared.instruction.Instruction.{Instruction, fold-Instruction}
@@ -13,7 +13,7 @@ use Rattle.message_text.specs.declared.names.FieldName.{FieldName}
 use Rattle.message_text.specs.declared.names.FieldName.TheVariants as names
 use Rattle.message_text.specs.Names.{name_text}
 use Rattle.message_text.specs.Lines.{line, field}
-use Rattle.message_text.specs.Words.{flag_text, origin_kind_text, limit_text, status_text, place_text, failure_text, junction_text, network_text, asset_text}
+use Rattle.message_text.specs.Words.{flag_text, origin_kind_text, limit_text, status_text, place_text, failure_text, junction_path_text, network_text, asset_text}
 use Rattle.message_text.specs.Fields.{assets_field, filter_field, info_field, response_field}
 
 -- ---- fields that many instructions have
@@ -94,7 +94,7 @@ own_fields n (Instruction-F.ExpectPallet place text module_text major minor) =
     ++ (number_field n names.CrateMajor major ++ number_field n names.MinCrateMinor minor)))
 own_fields n (Instruction-F.ReportTransactStatus query) = info_field n query
 own_fields n Instruction-F.ClearTransactStatus = []
-own_fields n (Instruction-F.UniversalOrigin step) = field n names.Junction (junction_text step)
+own_fields n (Instruction-F.UniversalOrigin step) = field n names.Junction (junction_path_text step)
 own_fields n (Instruction-F.ExportMessage net path _) =
     field n names.Network (network_text net) ++ field n names.Destination (path_text path)
 own_fields n (Instruction-F.LockAsset goods place) =

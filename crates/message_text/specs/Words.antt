@@ -14,14 +14,14 @@ use Rattle.asset_lists.specs.declared.units.Fun.TheVariants as funs
 use Rattle.asset_lists.specs.declared.filters.WildFun.{WildFun}
 use Rattle.asset_lists.specs.declared.filters.WildFun.TheVariants as kinds
 use Rattle.asset_wire.specs.Spelling.{instance}
-use Rattle.message_parts.specs.Texts.{error_text, weight_text}
-use Rattle.message_parts.specs.declared.error.XcmError.{XcmError}
-use Rattle.message_parts.specs.declared.origin.OriginKind.{OriginKind}
-use Rattle.message_parts.specs.declared.origin.OriginKind.TheVariants.{Native, SovereignAccount, Superuser, Xcm}
-use Rattle.message_parts.specs.declared.status.MaybeError.{MaybeError}
-use Rattle.message_parts.specs.declared.status.MaybeError.TheVariants as statuses
-use Rattle.message_parts.specs.declared.weight.WeightLimit.{WeightLimit}
-use Rattle.message_parts.specs.declared.weight.WeightLimit.TheVariants.{Unlimited, Limited}
+use Rattle.operands.specs.Texts.{error_text, weight_text}
+use Rattle.operands.specs.declared.error.XcmError.{XcmError}
+use Rattle.operands.specs.declared.origin.OriginKind.{OriginKind}
+use Rattle.operands.specs.declared.origin.OriginKind.TheVariants.{Native, SovereignAccount, Superuser, Xcm}
+use Rattle.operands.specs.declared.status.MaybeError.{MaybeError}
+use Rattle.operands.specs.declared.status.MaybeError.TheVariants as statuses
+use Rattle.operands.specs.declared.weight.WeightLimit.{WeightLimit}
+use Rattle.operands.specs.declared.weight.WeightLimit.TheVariants.{Unlimited, Limited}
 
 unfoldable pub flag_text : Bool → List ℕ
 flag_text true = codes "true"
@@ -54,11 +54,11 @@ failure_text None = codes "none"
 failure_text (Some failed) = decimal failed.0 ++ (codes " " ++ error_text failed.1)
 
 -- a junction as the path that it is alone
-abbrev pub junction_text : Junction → List ℕ
-junction_text j = path_text (j ∷ [])
+abbrev pub junction_path_text : Junction → List ℕ
+junction_path_text j = path_text (j ∷ [])
 
 abbrev pub network_text : NetworkId → List ℕ
-network_text net = junction_text (GlobalConsensus net)
+network_text net = junction_path_text (GlobalConsensus net)
 
 -- ---- assets
 

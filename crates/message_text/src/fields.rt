@@ -4,7 +4,7 @@ ghost use Rattle.message_text.specs.Fields.{asset_lines, assets_field, wild_text
 ghost use Rattle.message_text.specs.Lines.{line, field};
 ghost use Rattle.message_text.specs.Messages.{location_field, number_field, bytes_field};
 ghost use Rattle.message_text.specs.Words.{asset_text, place_text};
-ghost use Rattle.message_parts.specs.Texts.{weight_text};
+ghost use Rattle.operands.specs.Texts.{weight_text};
 
 use crate::lines::{push_field, push_line};
 use crate::names::{FieldName, name_text};
@@ -12,7 +12,7 @@ use crate::words::{asset_text, hex_text, id_text, place_text, wild_fun_text};
 use asset_lists::{Asset, Filter, Wild};
 use location_wire::location_text;
 use locations::Location;
-use message_parts::Weight;
+use operands::Weight;
 use std::alloc::{AllocError, Global};
 
 /// Appends a field that is a location.

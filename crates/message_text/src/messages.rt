@@ -11,7 +11,7 @@ use xcm_program::{Instruction, Program, inner};
 
 /// Appends an instruction: its name, its fields, and the program inside.
 #[cycle(program)]
-#[tactic(auto, using(crate::specs::Laws::none_text, crate::specs::Laws::some_text, xcm_program::specs::Laws::counted_inside))]
+#[tactic(auto, using(crate::proofs::Lemmas::none_text, crate::proofs::Lemmas::some_text, xcm_program::proofs::Lemmas::counted_inside))]
 fn push_instruction(
     alloc: Global,
     text: &mut String,

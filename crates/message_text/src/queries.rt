@@ -7,7 +7,7 @@ use crate::fields::{push_list, push_location, push_number, push_weight};
 use crate::lines::{push_field, push_line};
 use crate::names::{FieldName, name_text};
 use crate::words::{failure_text, hex_text, status_text};
-use message_parts::{PalletInfo, QueryInfo, Response};
+use operands::{PalletInfo, QueryInfo, Response};
 use std::alloc::{AllocError, Global};
 
 /// Appends where a response goes, what it answers, and what it may weigh.

@@ -12,7 +12,7 @@ use crate::names::FieldName;
 use crate::words::limit_text;
 use asset_lists::{Asset, Assets, Filter};
 use locations::Location;
-use message_parts::WeightLimit;
+use operands::WeightLimit;
 use std::alloc::{AllocError, Global};
 
 /// Appends a list of assets, and the place that this name says.

@@ -2,13 +2,13 @@
 ghost use Rattle.std.specs.Prelude.{◌≡◌, IfOk, string_bytes};
 ghost use Rattle.location_wire.specs.Texts.{hex_text};
 ghost use Rattle.asset_wire.specs.Spelling.{instance};
-ghost use Rattle.message_text.specs.Words.{flag_text, origin_kind_text, limit_text, status_text, place_text, failure_text, junction_text, network_text, id_text, fun_text, asset_text, wild_fun_text};
+ghost use Rattle.message_text.specs.Words.{flag_text, origin_kind_text, limit_text, status_text, place_text, failure_text, junction_path_text, network_text, id_text, fun_text, asset_text, wild_fun_text};
 
 use asset_lists::{Asset, AssetId, Fun, Instance, WildFun};
 use asset_wire::write_instance;
 use location_wire::{location_text, path_text};
 use locations::{Junction, Junctions, Location, NetworkId};
-use message_parts::{MaybeError, OriginKind, WeightLimit, XcmError};
+use operands::{MaybeError, OriginKind, WeightLimit, XcmError};
 use scale_codec::Out;
 use std::alloc::{AllocError, Global};
 use std::fmt::Write;
@@ -114,7 +114,7 @@ pub(crate) fn failure_text(
 
 /// A junction.
 pub(crate) fn junction_text(alloc: Global, junction: &Junction) -> Result<String, AllocError>
-    ensures { IfOk result (λ text. string_bytes text ≡ junction_text junction.now) }
+    ensures { IfOk result (λ text. string_bytes text ≡ junction_path_text junction.now) }
 {
     let alone = [*junction];
     path_text(alloc, &Junctions::from_few(alone.as_slice()))

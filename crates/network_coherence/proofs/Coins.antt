@@ -4,7 +4,8 @@ use Rattle.std.specs.List.{list_any}
 use Rattle.std.specs.Option.{option_or}
 use Rattle.std.proofs.Common.{true≢false, ap, sym, ◌∙◌, arith}
 use Rattle.std.proofs.lemmas.Bool.{or_parts, or_from, and_left, and_right, false_from_ne_true, ltb-true, ne_eqb}
-use Rattle.amounts.specs.Amounts.{rows, rows_positive, total, total-rows}
+use Rattle.amounts.specs.Amounts.{rows, total}
+use Rattle.amounts.proofs.Lemmas.AmountLaws.{rows_positive, total-rows}
 use Rattle.locations.specs.declared.grammar.Junction.{Junction}
 use Rattle.asset_lists.specs.declared.units.Instance.{Instance}
 use Rattle.asset_lists.specs.declared.units.Kind.{Kind}
@@ -15,11 +16,12 @@ use Rattle.ledgers.specs.Ledgers.{Holder, is_account}
 use Rattle.chain_ids.specs.declared.chain.ChainId.{ChainId}
 use Rattle.trust_tables.specs.declared.rows.AssetRow.{AssetRow}
 use Rattle.trust_tables.specs.Accounts.{sovereign_account}
-use Rattle.coherence.specs.UniversalAssets.{UniversalAsset, every, just, has_path, is_unit_at}
-use Rattle.coherence.specs.Networks.{context_of, path_of_row, is_native_role}
-use Rattle.coherence.specs.Causes.{ChainEntry, InstanceTwice, chain_of, amount_at, amount_for, any_instance, shares_instance, is_short, when}
+use Rattle.law_coherence.specs.UniversalAssets.{UniversalAsset, every, just, leads_to_path, is_unit_at}
+use Rattle.law_coherence.specs.Networks.{context_of, path_of_row, is_native_role}
+use Rattle.law_coherence.specs.Causes.{ChainEntry, InstanceTwice, chain_of_entry, amount_at, amount_for, any_instance, shares_instance, is_short, when}
 use Rattle.network_coherence.specs.Parts.{first_sharing, row_sharing}
 use Rattle.network_coherence.proofs.Totals.{some_row}
+use Rattle.plain_lists.proofs.Lemmas.Facts.{never_below_zero as never_below}
 
 pub fungible_told : (k : Kind) → same_kind k Fungible ≡ true → k ≡ Fungible
 fungible_told Fungible e = refl
@@ -39,13 +41,10 @@ none_held a e test nothing =
     some_row unit unit (rows e.held) (rows_positive e.held) ∙ ap (nat_lt 0) (total-rows unit e.held ∙ nothing) in
     none_of_both (λ (row : Holder × ℕ). unit row.0) (λ (row : Holder × ℕ). test row.0.1.1) (rows e.held) no_row
 
-never_below : (n : ℕ) → nat_lt n 0 ≡ false
-never_below n = false_from_ne_true (nat_lt n 0) (λ e. let below = ltb-true n 0 e in omega (arith, below))
-
 pub nothing_short : (a : UniversalAsset) (e r : ChainEntry) → amount_at a every e ≡ 0 → is_short a e (Some r) ≡ false
 nothing_short a e r nothing =
-    let kept = amount_for (chain_of e) a every r in
-    let test : Option Instance → Bool = λ instance. nat_eq (amount_for (chain_of e) a (just instance) r) 0 in
+    let kept = amount_for (chain_of_entry e) a every r in
+    let test : Option Instance → Bool = λ instance. nat_eq (amount_for (chain_of_entry e) a (just instance) r) 0 in
     or_from (nat_lt kept (amount_at a every e)) (any_instance a e test) (ap (nat_lt kept) nothing ∙ never_below kept) (none_held a e test nothing)
 
 -- ---- it has amounts
@@ -53,8 +52,8 @@ module _ (path : List Junction) where
   abbrev pub coin : UniversalAsset
   coin = (path, Fungible)
 
-  no_class : (context : List Junction) (u : Unit) (b : Bool) → ((has_path context path u.0 && same_kind Class Fungible) && b) ≡ false
-  no_class context u b = and_left (has_path context path u.0 && false) b (and_right (has_path context path u.0) false refl)
+  no_class : (context : List Junction) (u : Unit) (b : Bool) → ((leads_to_path context path u.0 && same_kind Class Fungible) && b) ≡ false
+  no_class context u b = and_left (leads_to_path context path u.0 && false) b (and_right (leads_to_path context path u.0) false refl)
 
   no_unit : (context : List Junction) (u : Unit) (test : Option Instance → Bool) → test None ≡ false → (is_unit_at context coin every u && test u.1) ≡ false
   no_unit context (id, None) test none = and_right (is_unit_at context coin every (id, None)) (test None) none
@@ -75,15 +74,15 @@ module _ (path : List Junction) where
   just_one context (id, Some instance) = no_class context (id, Some instance) (just None (Some instance)) ∙ sym (no_class context (id, Some instance) true)
 
   one_amount : (chain : ChainId) (r : ChainEntry) → amount_for chain coin (just None) r ≡ amount_for chain coin every r
-  one_amount chain r = λ i. total (λ (h : Holder). is_account (sovereign_account (chain_of r) chain) h && just_one (context_of r.table) h.1 i) r.held
+  one_amount chain r = λ i. total (λ (h : Holder). is_account (sovereign_account (chain_of_entry r) chain) h && just_one (context_of r.table) h.1 i) r.held
 
-  pub all_covered : (e r : ChainEntry) → (amount_for (chain_of e) coin every r ≡ 0 → ⊥) → nat_lt (amount_for (chain_of e) coin every r) (amount_at coin every e) ≡ false
+  pub all_covered : (e r : ChainEntry) → (amount_for (chain_of_entry e) coin every r ≡ 0 → ⊥) → nat_lt (amount_for (chain_of_entry e) coin every r) (amount_at coin every e) ≡ false
       → is_short coin e (Some r) ≡ false
   all_covered e r some enough =
-      let kept = amount_for (chain_of e) coin every r in
-      let test : Option Instance → Bool = λ instance. nat_eq (amount_for (chain_of e) coin (just instance) r) 0 in
+      let kept = amount_for (chain_of_entry e) coin every r in
+      let test : Option Instance → Bool = λ instance. nat_eq (amount_for (chain_of_entry e) coin (just instance) r) 0 in
       or_from (nat_lt kept (amount_at coin every e)) (any_instance coin e test) enough
-      (no_instance e test (ap (λ n. nat_eq n 0) (one_amount (chain_of e) r) ∙ ne_eqb kept 0 some))
+      (no_instance e test (ap (λ n. nat_eq n 0) (one_amount (chain_of_entry e) r) ∙ ne_eqb kept 0 some))
 
   pub none_shared : (e d : ChainEntry) → shares_instance coin e d ≡ false
   none_shared e d = and_right _ _ (no_instance e _ refl)
@@ -93,7 +92,7 @@ none_later : (e : ChainEntry) (x : AssetRow) → x.kind ≡ Fungible → (later 
 none_later e x is [] = refl
 none_later e x is (d ∷ later) =
     let apart : shares_instance (path_of_row e.table x, x.kind) e d ≡ false = ap (λ k. shares_instance (path_of_row e.table x, k) e d) is ∙ none_shared (path_of_row e.table x) e d in
-    ap (λ b. option_or (when b (InstanceTwice, chain_of e, chain_of d)) (first_sharing e x later)) apart ∙ none_later e x is later
+    ap (λ b. option_or (when b (InstanceTwice, chain_of_entry e, chain_of_entry d)) (first_sharing e x later)) apart ∙ none_later e x is later
 
 pub none_sharing : (e : ChainEntry) (later : List ChainEntry) (x : AssetRow) → same_kind x.kind Fungible ≡ true → None ≡ row_sharing e later x
 none_sharing e later x told =

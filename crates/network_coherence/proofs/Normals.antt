@@ -8,8 +8,8 @@ use Rattle.locations.specs.declared.grammar.Junction.{Junction}
 use Rattle.locations.specs.declared.grammar.Junction.TheVariants.{OnlyChild}
 use Rattle.locations.specs.declared.relative.Location.{Location}
 use Rattle.locations.specs.Chains.{same_junction, same_first, turns_back, is_normal, IsNormal, TurnsAway}
-use Rattle.locations.specs.Laws.{normal_told}
-use Rattle.locations.specs.OrderLaws.{junction_decides}
+use Rattle.locations.proofs.Lemmas.{normal_told}
+use Rattle.locations.proofs.Lemmas.OrderLaws.{junction_decides}
 
 not_true : (b : Bool) → (b ≡ true → ⊥) → not b ≡ true
 not_true true no_such = absurd (no_such refl)

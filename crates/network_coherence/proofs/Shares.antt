@@ -6,35 +6,35 @@ use Rattle.std.proofs.lemmas.Bool.{ltb-false}
 use Rattle.locations.specs.declared.grammar.Junction.{Junction}
 use Rattle.locations.specs.Chains.{path_of}
 use Rattle.trust_tables.specs.declared.rows.AssetRow.{AssetRow}
-use Rattle.coherence.specs.UniversalAssets.{UniversalAsset, every, just}
+use Rattle.law_coherence.specs.UniversalAssets.{UniversalAsset, every, just}
 use Rattle.asset_lists.specs.declared.units.Kind.TheVariants.{Fungible}
 use Rattle.asset_lists.specs.Listed.{same_kind}
-use Rattle.coherence.specs.Networks.{context_of, path_of_row, asset_of_row, is_home}
-use Rattle.coherence.specs.Causes.{amount_at, amount_for, any_instance, is_class_instance, shares_instance, is_short}
+use Rattle.law_coherence.specs.Networks.{context_of, path_of_row, asset_of_row, is_home}
+use Rattle.law_coherence.specs.Causes.{amount_at, amount_for, any_instance, is_class_instance, shares_instance, is_short}
 use Rattle.network_spec.specs.declared.chain.Balance.{Balance}
 use Rattle.network_spec.specs.declared.chain.ChainSpec.{ChainSpec}
 use Rattle.network_spec.specs.declared.network.NetworkSpec.{NetworkSpec}
-use Rattle.network_genesis.specs.Genesis.{entry_of}
-use Rattle.network_coherence.specs.Answers.{table_of}
+use Rattle.network_steps.specs.Genesis.{entry_of}
+use Rattle.network_coherence.specs.Answers.{document_table}
 use Rattle.network_coherence.specs.Balances.{some_balance, is_shared, is_uncovered}
 use Rattle.network_coherence.proofs.Totals.{some_held}
 use Rattle.network_coherence.proofs.Coins.{fungible_told, nothing_short, all_covered}
 
-module _ (spec : NetworkSpec) (here : ChainSpec) (row : AssetRow) (context : List Junction) (bs : List Balance) (is_context : context ≡ context_of (table_of spec here)) (is_bs : bs ≡ here.accounts) where
+module _ (spec : NetworkSpec) (here : ChainSpec) (row : AssetRow) (context : List Junction) (bs : List Balance) (is_context : context ≡ context_of (document_table spec here)) (is_bs : bs ≡ here.accounts) where
   abbrev pub named : List Junction → UniversalAsset
   named c = (path_of c row.id, row.kind)
 
   abbrev pub asset : UniversalAsset
-  asset = asset_of_row (table_of spec here) row
+  asset = asset_of_row (document_table spec here) row
 
   -- the chain is a home, and a balance is shared there
-  pub shared_there : (at : ChainSpec) (home : Bool) → home ≡ is_home (named context) (table_of spec at) → home ≡ true
+  pub shared_there : (at : ChainSpec) (home : Bool) → home ≡ is_home (named context) (document_table spec at) → home ≡ true
       → some_balance (is_shared context (named context) (entry_of spec at)) bs ≡ shares_instance asset (entry_of spec here) (entry_of spec at)
   shared_there at home says so =
-      let is_true : true ≡ is_home asset (table_of spec at) = sym so ∙ says ∙ ap (λ c. is_home (named c) (table_of spec at)) is_context in
+      let is_true : true ≡ is_home asset (document_table spec at) = sym so ∙ says ∙ ap (λ c. is_home (named c) (document_table spec at)) is_context in
       let test : Option Instance → Bool = λ instance. is_class_instance instance && nat_lt 0 (amount_at asset (just instance) (entry_of spec at)) in
       (λ i. some_balance (is_shared (is_context i) (named (is_context i)) (entry_of spec at)) (is_bs i))
-      ∙ some_held (is_shared (context_of (table_of spec here)) asset (entry_of spec at)) here.accounts
+      ∙ some_held (is_shared (context_of (document_table spec here)) asset (entry_of spec at)) here.accounts
       ∙ ap (λ b. b && any_instance asset (entry_of spec here) test) is_true
 
   -- the account has enough in all, and a balance's unit may be missing
@@ -46,7 +46,7 @@ module _ (spec : NetworkSpec) (here : ChainSpec) (row : AssetRow) (context : Lis
       sym not_so ∙ says ∙ (λ i. nat_lt (is_kept i) (is_owed i)) ∙ ap (λ c. nat_lt (amount_for here.chain (named c) every (entry_of spec reserve)) (amount_at (named c) every (entry_of spec here))) is_context in
       let test : Option Instance → Bool = λ instance. nat_eq (amount_for here.chain asset (just instance) (entry_of spec reserve)) 0 in
       (λ i. some_balance (is_uncovered (is_context i) (named (is_context i)) here.chain (entry_of spec reserve)) (is_bs i))
-      ∙ some_held (is_uncovered (context_of (table_of spec here)) asset here.chain (entry_of spec reserve)) here.accounts
+      ∙ some_held (is_uncovered (context_of (document_table spec here)) asset here.chain (entry_of spec reserve)) here.accounts
       ∙ ap (λ b. b || any_instance asset (entry_of spec here) test) is_false
 
   -- what stands under the asset as it is named here
@@ -65,7 +65,7 @@ module _ (spec : NetworkSpec) (here : ChainSpec) (row : AssetRow) (context : Lis
       → (owed ≡ 0 → ⊥) → below ≡ nat_lt kept owed → below ≡ false → same_kind row.kind Fungible ≡ true → false ≡ is_short asset (entry_of spec here) (Some (entry_of spec reserve))
   amount_covered reserve kept owed below is_kept is_owed some says not_so told =
       let coins : row.kind ≡ Fungible = fungible_told row.kind told in
-      let path : List Junction = path_of_row (table_of spec here) row in
+      let path : List Junction = path_of_row (document_table spec here) row in
       let there = kept_there reserve kept is_kept ∙ ap (λ k. amount_for here.chain (path, k) every (entry_of spec reserve)) coins in
       let here_is = owed_here owed is_owed ∙ ap (λ k. amount_at (path, k) every (entry_of spec here)) coins in
       let enough : nat_lt kept owed ≡ false = sym says ∙ not_so in

@@ -8,7 +8,7 @@ use Rattle.std.proofs.lemmas.List.{take-append-drop, take-append-le, drop-append
 use Rattle.locations.specs.declared.grammar.Junction.{Junction}
 use Rattle.locations.specs.declared.relative.Location.{Location}
 use Rattle.locations.specs.Order.{junctions_cmp}
-use Rattle.locations.specs.OrderLaws.{junctions_decides}
+use Rattle.locations.proofs.Lemmas.OrderLaws.{junctions_decides}
 use Rattle.locations.specs.Chains.{path_of, without_last}
 
 -- ---- two lists, element by element

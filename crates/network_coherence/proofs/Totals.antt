@@ -5,25 +5,27 @@ use Rattle.std.proofs.Common.{get_or, sym, ap, ◌∙◌, arith, zero-add}
 use Rattle.std.proofs.lemmas.Bool.{lt-ltb}
 use Rattle.std.proofs.lemmas.List.{take_more}
 use Rattle.amounts.specs.Rows.{IsPositive, amount_if, sum_where}
-use Rattle.amounts.specs.Amounts.{empty, rows, total, total-empty, total-rows, rows_positive}
-use Rattle.amounts.specs.Laws.{total-merge, total-from_rows}
+use Rattle.amounts.specs.Amounts.{empty, rows, total}
+use Rattle.amounts.proofs.Lemmas.AmountLaws.{total-empty, total-rows, rows_positive}
+use Rattle.amounts.proofs.Lemmas.{total-merge, total-from_rows}
 use Rattle.asset_lists.specs.declared.units.Asset.{Asset}
 use Rattle.asset_lists.specs.Units.{Unit, unit_of, amount_of}
-use Rattle.asset_bundles.specs.Bundles.{bundle_of, unit_keys, rows_of}
+use Rattle.asset_bundles.specs.Bundles.{bundle_of, rows_of}
+use Rattle.asset_bundles.proofs.Lemmas.Bundles.{unit_keys}
 use Rattle.ledgers.specs.Ledgers.{Holder, Held, held_by, is_account}
-use Rattle.ledgers.specs.Laws.{holder_keys, held_by_total}
+use Rattle.ledgers.proofs.Lemmas.{holder_keys, held_by_total}
 use Rattle.locations.specs.declared.grammar.Junction.{Junction}
 use Rattle.chain_ids.specs.declared.chain.ChainId.{ChainId}
 use Rattle.trust_tables.specs.Accounts.{sovereign_account}
-use Rattle.coherence.specs.UniversalAssets.{UniversalAsset, Choice, is_unit_at}
-use Rattle.coherence.specs.Networks.{context_of}
-use Rattle.coherence.specs.Causes.{amount_at, amount_for}
+use Rattle.law_coherence.specs.UniversalAssets.{UniversalAsset, Choice, is_unit_at}
+use Rattle.law_coherence.specs.Networks.{context_of}
+use Rattle.law_coherence.specs.Causes.{amount_at, amount_for}
 use Rattle.network_spec.specs.declared.chain.Balance.{Balance}
 use Rattle.network_spec.specs.declared.chain.ChainSpec.{ChainSpec}
 use Rattle.network_spec.specs.declared.network.NetworkSpec.{NetworkSpec}
-use Rattle.network_genesis.specs.Genesis.{with_balance, with_balances, entry_of}
-use Rattle.network_coherence.specs.Answers.{table_of}
-use Rattle.network_coherence.specs.Balances.{holder_of, balance_rows, is_unit_of, some_balance}
+use Rattle.network_steps.specs.Genesis.{with_balance, with_balances, entry_of}
+use Rattle.network_coherence.specs.Answers.{document_table}
+use Rattle.network_coherence.specs.Balances.{holder_of, balance_rows, is_held_unit_of, some_balance}
 
 -- ---- totals of what accounts hold
 module _ (p : Holder → Bool) where
@@ -94,23 +96,23 @@ module _ (p : Holder → Bool) where
 
 -- ---- what a chain's accounts hold
 module _ (spec : NetworkSpec) (c : ChainSpec) (a : UniversalAsset) (choice : Choice) where
-  pub amount_there : (context : List Junction) (bs : List Balance) → context ≡ context_of (table_of spec c) → bs ≡ c.accounts
-      → sum_where (is_unit_of None context a choice) (balance_rows bs) ≡ amount_at a choice (entry_of spec c)
+  pub amount_there : (context : List Junction) (bs : List Balance) → context ≡ context_of (document_table spec c) → bs ≡ c.accounts
+      → sum_where (is_held_unit_of None context a choice) (balance_rows bs) ≡ amount_at a choice (entry_of spec c)
   amount_there context bs is_context is_bs =
-      (λ i. sum_where (is_unit_of None (is_context i) a choice) (balance_rows (is_bs i)))
-      ∙ sym (total_balances (λ (h : Holder). is_unit_at (context_of (table_of spec c)) a choice h.1) c.accounts)
+      (λ i. sum_where (is_held_unit_of None (is_context i) a choice) (balance_rows (is_bs i)))
+      ∙ sym (total_balances (λ (h : Holder). is_unit_at (context_of (document_table spec c)) a choice h.1) c.accounts)
 
-  pub amount_for_there : (chain : ChainId) (who : List ℕ) (context : List Junction) (bs : List Balance) → who ≡ sovereign_account c.chain chain → context ≡ context_of (table_of spec c) → bs ≡ c.accounts
-      → sum_where (is_unit_of (Some who) context a choice) (balance_rows bs) ≡ amount_for chain a choice (entry_of spec c)
+  pub amount_for_there : (chain : ChainId) (who : List ℕ) (context : List Junction) (bs : List Balance) → who ≡ sovereign_account c.chain chain → context ≡ context_of (document_table spec c) → bs ≡ c.accounts
+      → sum_where (is_held_unit_of (Some who) context a choice) (balance_rows bs) ≡ amount_for chain a choice (entry_of spec c)
   amount_for_there chain who context bs is_who is_context is_bs =
-      (λ i. sum_where (is_unit_of (Some (is_who i)) (is_context i) a choice) (balance_rows (is_bs i)))
-      ∙ sym (total_balances (λ (h : Holder). is_account (sovereign_account c.chain chain) h && is_unit_at (context_of (table_of spec c)) a choice h.1) c.accounts)
+      (λ i. sum_where (is_held_unit_of (Some (is_who i)) (is_context i) a choice) (balance_rows (is_bs i)))
+      ∙ sym (total_balances (λ (h : Holder). is_account (sovereign_account c.chain chain) h && is_unit_at (context_of (document_table spec c)) a choice h.1) c.accounts)
 
-  pub owner_there : (context : List Junction) (bs : List Balance) → context ≡ context_of (table_of spec c) → bs ≡ c.accounts
-      → some_balance (is_unit_of None context a choice) bs ≡ nat_lt 0 (amount_at a choice (entry_of spec c))
-  owner_there context bs is_context is_bs = some_balance_says (is_unit_of None context a choice) bs ∙ ap (nat_lt 0) (amount_there context bs is_context is_bs)
+  pub owner_there : (context : List Junction) (bs : List Balance) → context ≡ context_of (document_table spec c) → bs ≡ c.accounts
+      → some_balance (is_held_unit_of None context a choice) bs ≡ nat_lt 0 (amount_at a choice (entry_of spec c))
+  owner_there context bs is_context is_bs = some_balance_says (is_held_unit_of None context a choice) bs ∙ ap (nat_lt 0) (amount_there context bs is_context is_bs)
 
-  pub account_there : (chain : ChainId) (who : List ℕ) (context : List Junction) (bs : List Balance) → who ≡ sovereign_account c.chain chain → context ≡ context_of (table_of spec c) → bs ≡ c.accounts
-      → some_balance (is_unit_of (Some who) context a choice) bs ≡ nat_lt 0 (amount_for chain a choice (entry_of spec c))
+  pub account_there : (chain : ChainId) (who : List ℕ) (context : List Junction) (bs : List Balance) → who ≡ sovereign_account c.chain chain → context ≡ context_of (document_table spec c) → bs ≡ c.accounts
+      → some_balance (is_held_unit_of (Some who) context a choice) bs ≡ nat_lt 0 (amount_for chain a choice (entry_of spec c))
   account_there chain who context bs is_who is_context is_bs =
-      some_balance_says (is_unit_of (Some who) context a choice) bs ∙ ap (nat_lt 0) (amount_for_there chain who context bs is_who is_context is_bs)
+      some_balance_says (is_held_unit_of (Some who) context a choice) bs ∙ ap (nat_lt 0) (amount_for_there chain who context bs is_who is_context is_bs)

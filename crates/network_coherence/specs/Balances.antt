@@ -6,9 +6,9 @@ use Rattle.asset_lists.specs.Units.{unit_of, amount_of}
 use Rattle.ledgers.specs.Ledgers.{Holder, is_account}
 use Rattle.chain_ids.specs.declared.chain.ChainId.{ChainId}
 use Rattle.chain_ids.specs.Chains.{same_chain}
-use Rattle.coherence.specs.Networks.{is_home}
-use Rattle.coherence.specs.UniversalAssets.{UniversalAsset, Choice, every, just, is_unit_at}
-use Rattle.coherence.specs.Causes.{ChainEntry, chain_of, amount_at, amount_for, is_class_instance}
+use Rattle.law_coherence.specs.Networks.{is_home}
+use Rattle.law_coherence.specs.UniversalAssets.{UniversalAsset, Choice, every, just, is_unit_at}
+use Rattle.law_coherence.specs.Causes.{ChainEntry, chain_of_entry, amount_at, amount_for, is_class_instance}
 use Rattle.network_spec.specs.declared.chain.Balance.{Balance}
 use Rattle.network_coherence.specs.declared.sums.Sum.{Sum}
 
@@ -27,8 +27,8 @@ is_of_account None h = true
 is_of_account (Some who) h = is_account who h
 
 -- of the account, or any where none is given, and of these units of the asset
-abbrev pub is_unit_of : Option (List ℕ) → List Junction → UniversalAsset → Choice → Holder → Bool
-is_unit_of who context a choice h = is_of_account who h && is_unit_at context a choice h.1
+abbrev pub is_held_unit_of : Option (List ℕ) → List Junction → UniversalAsset → Choice → Holder → Bool
+is_held_unit_of who context a choice h = is_of_account who h && is_unit_at context a choice h.1
 
 -- a balance above 0 whose holder passes
 abbrev pub has_some : (Holder → Bool) → Balance → Bool
@@ -47,8 +47,8 @@ is_uncovered context a chain r h = is_unit_at context a every h.1 && nat_eq (amo
 
 -- what a chain counts for among the other homes of the asset
 abbrev pub share_elsewhere : UniversalAsset → ChainId → ChainEntry → ℕ
-share_elsewhere a chain d = if not (same_chain (chain_of d) chain) && is_home a d.table then amount_at a every d else 0
+share_elsewhere a chain d = if not (same_chain (chain_of_entry d) chain) && is_home a d.table then amount_at a every d else 0
 
 -- what a sum is as a number
-abbrev pub sum_value : Sum → ℕ
-sum_value s = s.high * 2 ^ 128 + s.low
+abbrev pub sum_number : Sum → ℕ
+sum_number s = s.high * 2 ^ 128 + s.low

@@ -5,8 +5,8 @@ use Rattle.std.specs.List.{list_any}
 use Rattle.locations.specs.Chains.{is_normal}
 use Rattle.chain_ids.specs.declared.chain.ChainId.{ChainId}
 use Rattle.trust_tables.specs.declared.rows.AssetRow.{AssetRow}
-use Rattle.coherence.specs.Networks.{Table, context_of, asset_of_row, is_native_role}
-use Rattle.coherence.specs.Causes.{Incoherent, ChainEntry, PathTwice, IdNotNormal, PartnerUnlisted, InstanceTwice, chain_of, first_some, when, has_path_twice, is_twin, has_partner, lists_back, partner_unlisted, reserve_unlisted, shares_instance, not_backed, checking_in, falls_short}
+use Rattle.law_coherence.specs.Networks.{Table, context_of, asset_of_row, is_native_role}
+use Rattle.law_coherence.specs.Causes.{Incoherent, ChainEntry, PathTwice, IdNotNormal, PartnerUnlisted, InstanceTwice, chain_of_entry, first_some, when, has_path_twice, is_twin, has_partner, lists_back, partner_unlisted, reserve_unlisted, shares_instance, not_backed, checking_in, falls_short}
 
 abbrev pub paths_twice : List Table → Option Incoherent
 paths_twice n = first_some (λ (s : Table). when (has_path_twice s s.rows) (PathTwice, s.site.chain, s.site.chain)) n
@@ -44,7 +44,7 @@ reserves_unlisted n chains = first_some (reserves_unlisted_at n) chains
 
 -- of a native row: the first later home that shares an instance
 abbrev pub first_sharing : ChainEntry → AssetRow → List ChainEntry → Option Incoherent
-first_sharing e x later = first_some (λ (d : ChainEntry). when (shares_instance (asset_of_row e.table x) e d) (InstanceTwice, chain_of e, chain_of d)) later
+first_sharing e x later = first_some (λ (d : ChainEntry). when (shares_instance (asset_of_row e.table x) e d) (InstanceTwice, chain_of_entry e, chain_of_entry d)) later
 
 abbrev pub row_sharing : ChainEntry → List ChainEntry → AssetRow → Option Incoherent
 row_sharing e later x = if is_native_role x.role then first_sharing e x later else None

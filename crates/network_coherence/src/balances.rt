@@ -5,12 +5,12 @@ ghost use Rattle.std.specs.Option.{option_cmp};
 ghost use Rattle.amounts.specs.Rows.{amount_if, sum_where};
 ghost use Rattle.locations.specs.Chains.{path_of};
 ghost use Rattle.asset_lists.specs.Units.{instance_in, instance_cmp, unit_of, amount_of};
-ghost use Rattle.coherence.specs.UniversalAssets.{every, just, is_unit_at};
-ghost use Rattle.coherence.specs.Networks.{asset_of_row};
-ghost use Rattle.coherence.specs.Causes as causes;
-ghost use Rattle.network_genesis.specs.Genesis.{entry_of};
-ghost use Rattle.network_coherence.specs.Answers.{table_of};
-ghost use Rattle.network_coherence.specs.Balances.{balance_rows, holder_of, is_of_account, is_unit_of, has_some, some_balance, sum_value};
+ghost use Rattle.law_coherence.specs.UniversalAssets.{every, just, is_unit_at};
+ghost use Rattle.law_coherence.specs.Networks.{asset_of_row};
+ghost use Rattle.law_coherence.specs.Causes as causes;
+ghost use Rattle.network_steps.specs.Genesis.{entry_of};
+ghost use Rattle.network_coherence.specs.Answers.{document_table};
+ghost use Rattle.network_coherence.specs.Balances.{balance_rows, holder_of, is_of_account, is_held_unit_of, has_some, some_balance, sum_number};
 
 use crate::accounts::sovereign_account;
 use crate::paths::{context_of, is_asset};
@@ -61,7 +61,7 @@ fn is_share(
     home: &Junctions,
     row: &AssetRow,
 ) -> bool
-    ensures { result ≡ is_unit_of who context.now (path_of home.now row.now.id, row.now.kind) every
+    ensures { result ≡ is_held_unit_of who context.now (path_of home.now row.now.id, row.now.kind) every
         (holder_of balance.now) }
 {
     is_of_account(who, balance) && is_of(context, &balance.asset, home, row)
@@ -75,7 +75,7 @@ fn share(
     home: &Junctions,
     row: &AssetRow,
 ) -> u128
-    ensures { result ≡ amount_if (is_unit_of who context.now
+    ensures { result ≡ amount_if (is_held_unit_of who context.now
         (path_of home.now row.now.id, row.now.kind) every (holder_of balance.now))
         (amount_of balance.now.asset) }
 {
@@ -93,8 +93,8 @@ fn sum_of(
     home: &Junctions,
     row: &AssetRow,
 ) -> Sum
-    ensures { sum_value result
-        ≡ sum_where (is_unit_of who context.now (path_of home.now row.now.id, row.now.kind) every)
+    ensures { sum_number result
+        ≡ sum_where (is_held_unit_of who context.now (path_of home.now row.now.id, row.now.kind) every)
         (balance_rows balances.now) }
 {
     let mut sum = Sum::zero();
@@ -113,7 +113,7 @@ fn is_unit(
     row: &AssetRow,
     fun: &Fun,
 ) -> bool
-    ensures { result ≡ has_some (is_unit_of who context.now
+    ensures { result ≡ has_some (is_held_unit_of who context.now
         (path_of home.now row.now.id, row.now.kind) (just (instance_in fun.now))) balance.now }
 {
     balance.asset.amount() > 0
@@ -130,7 +130,7 @@ fn has_unit(
     row: &AssetRow,
     fun: &Fun,
 ) -> bool
-    ensures { result ≡ some_balance (is_unit_of who context.now
+    ensures { result ≡ some_balance (is_held_unit_of who context.now
         (path_of home.now row.now.id, row.now.kind) (just (instance_in fun.now))) balances.now }
 {
     balances
@@ -140,7 +140,7 @@ fn has_unit(
 
 /// What all accounts of a chain hold of the asset.
 pub(crate) fn amount_at(spec: &NetworkSpec, home: &Junctions, row: &AssetRow, at: &ChainSpec) -> Sum
-    ensures { sum_value result ≡ causes.amount_at (path_of home.now row.now.id, row.now.kind) every
+    ensures { sum_number result ≡ causes.amount_at (path_of home.now row.now.id, row.now.kind) every
         (entry_of spec.now at.now) }
 {
     let context = context_of(spec, at);
@@ -170,7 +170,7 @@ pub(crate) fn amount_for(
     row: &AssetRow,
     at: &ChainSpec,
 ) -> Sum
-    ensures { sum_value result ≡ causes.amount_for chain (path_of home.now row.now.id, row.now.kind)
+    ensures { sum_number result ≡ causes.amount_for chain (path_of home.now row.now.id, row.now.kind)
         every (entry_of spec.now at.now) }
 {
     let who = sovereign_account(at.chain, chain);

@@ -8,15 +8,15 @@ ghost use Rattle.locations.specs.Chains.{path_of};
 ghost use Rattle.asset_lists.specs.Units.{instance_in};
 ghost use Rattle.asset_lists.specs.Listed.{same_kind};
 ghost use Rattle.chain_ids.specs.Chains.{same_chain};
-ghost use Rattle.coherence.specs.UniversalAssets.{every};
-ghost use Rattle.coherence.specs.Networks as networks;
-ghost use Rattle.coherence.specs.Networks.{asset_of_row, is_native_role};
-ghost use Rattle.coherence.specs.Causes as causes;
-ghost use Rattle.coherence.specs.Causes.{elsewhere, entry_at};
-ghost use Rattle.network_genesis.specs.Genesis.{entry_of, entries_of};
-ghost use Rattle.network_coherence.specs.Answers.{finding_of, table_of, entries_in};
+ghost use Rattle.law_coherence.specs.UniversalAssets.{every};
+ghost use Rattle.law_coherence.specs.Networks as networks;
+ghost use Rattle.law_coherence.specs.Networks.{asset_of_row, is_native_role};
+ghost use Rattle.law_coherence.specs.Causes as causes;
+ghost use Rattle.law_coherence.specs.Causes.{elsewhere, entry_at};
+ghost use Rattle.network_steps.specs.Genesis.{entry_of, entries_of};
+ghost use Rattle.network_coherence.specs.Answers.{finding_of, document_table, entries_in};
 ghost use Rattle.network_coherence.specs.Balances as balances;
-ghost use Rattle.network_coherence.specs.Balances.{has_some, some_balance, sum_value};
+ghost use Rattle.network_coherence.specs.Balances.{has_some, some_balance, sum_number};
 ghost use Rattle.network_coherence.specs.Parts as parts;
 ghost use Rattle.network_coherence.specs.Parts.{chain_sharing, row_sharing, unbacked, checkings_short};
 
@@ -45,7 +45,7 @@ fn is_home_row(context: &Junctions, other: &AssetRow, home: &Junctions, row: &As
 /// Whether the asset is at home at a chain.
 fn is_home(spec: &NetworkSpec, home: &Junctions, row: &AssetRow, at: &ChainSpec) -> bool
     ensures { result ≡ networks.is_home (path_of home.now row.now.id, row.now.kind)
-        (table_of spec.now at.now) }
+        (document_table spec.now at.now) }
 {
     let context = context_of(spec, at);
     let rows = at.assets.items();
@@ -98,7 +98,7 @@ fn has_shared(
 
 /// Whether another chain is a home of a row's asset, where an instance has an owner that has one at the row's chain too.
 fn shares_instance(spec: &NetworkSpec, here: &ChainSpec, row: &AssetRow, at: &ChainSpec) -> bool
-    ensures { result ≡ causes.shares_instance (asset_of_row (table_of spec.now here.now) row.now)
+    ensures { result ≡ causes.shares_instance (asset_of_row (document_table spec.now here.now) row.now)
         (entry_of spec.now here.now) (entry_of spec.now at.now) }
 {
     let home = context_of(spec, here);
@@ -215,7 +215,7 @@ fn has_uncovered(
 /// Whether the chain's account at the reserve has less than the chain's accounts have of the row's asset, or lacks one of its units.
 /// Where they have nothing there is no unit, and what has amounts is one unit.
 fn is_short(spec: &NetworkSpec, here: &ChainSpec, row: &AssetRow, reserve: &ChainSpec) -> bool
-    ensures { result ≡ causes.is_short (asset_of_row (table_of spec.now here.now) row.now)
+    ensures { result ≡ causes.is_short (asset_of_row (document_table spec.now here.now) row.now)
         (entry_of spec.now here.now) (Some (entry_of spec.now reserve.now)) }
 {
     let home = context_of(spec, here);
@@ -243,7 +243,7 @@ fn chain_at(spec: &NetworkSpec, chain: ChainId) -> Option<&ChainSpec>
 
 /// Whether the reserve is there, and keeps too little of the row's asset for the chain.
 fn is_short_at(spec: &NetworkSpec, here: &ChainSpec, row: &AssetRow, reserve: ChainId) -> bool
-    ensures { result ≡ causes.is_short (asset_of_row (table_of spec.now here.now) row.now)
+    ensures { result ≡ causes.is_short (asset_of_row (document_table spec.now here.now) row.now)
         (entry_of spec.now here.now) (entry_at (entries_of spec.now) reserve) }
 {
     match chain_at(spec, reserve) {
@@ -309,7 +309,7 @@ fn share_elsewhere(
     row: &AssetRow,
     at: &ChainSpec,
 ) -> Sum
-    ensures { sum_value result ≡ balances.share_elsewhere
+    ensures { sum_number result ≡ balances.share_elsewhere
         (path_of home.now row.now.id, row.now.kind) here (entry_of spec.now at.now) }
 {
     if !same_chain(at.chain, here) && is_home(spec, home, row, at) {
@@ -320,7 +320,7 @@ fn share_elsewhere(
 
 /// Whether an amount is below what the other homes of a row's asset hold.
 fn is_below_elsewhere(spec: &NetworkSpec, here: &ChainSpec, row: &AssetRow, amount: u128) -> bool
-    ensures { result ≡ nat_lt amount (elsewhere (asset_of_row (table_of spec.now here.now) row.now)
+    ensures { result ≡ nat_lt amount (elsewhere (asset_of_row (document_table spec.now here.now) row.now)
         here.now.chain (entries_of spec.now)) }
 {
     let home = context_of(spec, here);

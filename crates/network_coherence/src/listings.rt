@@ -6,9 +6,9 @@ ghost use Rattle.locations.specs.Order.{junctions_cmp};
 ghost use Rattle.locations.specs.Chains.{path_of};
 ghost use Rattle.asset_lists.specs.Listed.{same_kind};
 ghost use Rattle.chain_ids.specs.Chains as chain_ids;
-ghost use Rattle.coherence.specs.Networks.{is_native_role};
-ghost use Rattle.coherence.specs.Causes as causes;
-ghost use Rattle.network_coherence.specs.Answers.{finding_of, table_of, tables_in};
+ghost use Rattle.law_coherence.specs.Networks.{is_native_role};
+ghost use Rattle.law_coherence.specs.Causes as causes;
+ghost use Rattle.network_coherence.specs.Answers.{finding_of, document_table, tables_in};
 ghost use Rattle.network_coherence.specs.Parts as parts;
 ghost use Rattle.network_coherence.specs.Parts.{paths_twice, ids_not_normal};
 
@@ -23,7 +23,7 @@ use trust_tables::{AssetRole, AssetRow};
 
 /// Whether one of the later rows has the row's path.
 fn is_repeated(spec: &NetworkSpec, chain: &ChainSpec, row: &AssetRow, later: &[AssetRow]) -> bool
-    ensures { result ≡ list_any (causes.same_path (table_of spec.now chain.now) row.now) later.now }
+    ensures { result ≡ list_any (causes.same_path (document_table spec.now chain.now) row.now) later.now }
 {
     let context = context_of(spec, chain);
     later
@@ -33,7 +33,7 @@ fn is_repeated(spec: &NetworkSpec, chain: &ChainSpec, row: &AssetRow, later: &[A
 
 /// Whether two rows of a chain have the same path.
 fn has_path_twice(spec: &NetworkSpec, chain: &ChainSpec) -> bool
-    ensures { result ≡ causes.has_path_twice (table_of spec.now chain.now) chain.now.assets }
+    ensures { result ≡ causes.has_path_twice (document_table spec.now chain.now) chain.now.assets }
 {
     let mut rows = chain.assets.items();
     while let Some((row, later)) = rows.split_first() {
@@ -64,7 +64,7 @@ pub(crate) fn path_twice(spec: &NetworkSpec) -> Option<Incoherent>
 
 /// The first of a chain's rows whose id isn't the shortest name of its place.
 fn chain_not_normal(spec: &NetworkSpec, chain: &ChainSpec) -> Option<Incoherent>
-    ensures { finding_of result ≡ parts.id_not_normal (table_of spec.now chain.now) }
+    ensures { finding_of result ≡ parts.id_not_normal (document_table spec.now chain.now) }
 {
     let context = context_of(spec, chain);
     let rows = chain.assets.items();
@@ -140,8 +140,8 @@ fn is_back(
 
 /// Whether the second chain lists the row's asset as native with the first chain as partner.
 fn has_back(spec: &NetworkSpec, here: &ChainSpec, row: &AssetRow, there: &ChainSpec) -> bool
-    ensures { result ≡ parts.has_back (table_of spec.now here.now) row.now
-        (table_of spec.now there.now) }
+    ensures { result ≡ parts.has_back (document_table spec.now here.now) row.now
+        (document_table spec.now there.now) }
 {
     let home = context_of(spec, here);
     let context = context_of(spec, there);
@@ -158,8 +158,8 @@ fn lists_back(
     chain: ChainId,
     there: &ChainSpec,
 ) -> bool
-    ensures { result ≡ causes.lists_back (table_of spec.now here.now) row.now chain
-        (table_of spec.now there.now) }
+    ensures { result ≡ causes.lists_back (document_table spec.now here.now) row.now chain
+        (document_table spec.now there.now) }
 {
     same_chain(there.chain, chain) && has_back(spec, here, row, there)
 }
@@ -172,8 +172,8 @@ fn some_lists_back(
     chain: ChainId,
     chains: &[ChainSpec],
 ) -> bool
-    ensures { result ≡ list_any (λ there. causes.lists_back (table_of spec.now here.now) row.now
-        chain (table_of spec.now there)) chains.now }
+    ensures { result ≡ list_any (λ there. causes.lists_back (document_table spec.now here.now) row.now
+        chain (document_table spec.now there)) chains.now }
 {
     chains
         .iter()
@@ -182,7 +182,7 @@ fn some_lists_back(
 
 /// Whether the chain is there, and lists the row's asset as native with the row's chain as partner.
 fn is_listed_back(spec: &NetworkSpec, here: &ChainSpec, row: &AssetRow, chain: ChainId) -> bool
-    ensures { result ≡ list_any (causes.lists_back (table_of spec.now here.now) row.now chain)
+    ensures { result ≡ list_any (causes.lists_back (document_table spec.now here.now) row.now chain)
         (tables_in spec.now) }
 {
     some_lists_back(spec, here, row, chain, spec.chains.items())
@@ -196,7 +196,7 @@ fn first_unlisted(
     partners: &[ChainId],
 ) -> Option<Incoherent>
     ensures { finding_of result ≡ parts.first_unlisted (tables_in spec.now)
-        (table_of spec.now here.now) row.now partners.now }
+        (document_table spec.now here.now) row.now partners.now }
 {
     for partner in partners {
         if !is_listed_back(spec, here, row, *partner) {
@@ -213,7 +213,7 @@ fn first_unlisted(
 /// A row's first partner that doesn't list the asset so; a derivative has no partners.
 fn row_partner(spec: &NetworkSpec, here: &ChainSpec, row: &AssetRow) -> Option<Incoherent>
     ensures { finding_of result ≡ causes.partner_unlisted (tables_in spec.now)
-        (table_of spec.now here.now) row.now row.now.role }
+        (document_table spec.now here.now) row.now row.now.role }
 {
     match &row.role {
         AssetRole::Native { partners, .. } => first_unlisted(spec, here, row, partners.items()),
@@ -224,7 +224,7 @@ fn row_partner(spec: &NetworkSpec, here: &ChainSpec, row: &AssetRow) -> Option<I
 /// The first such partner of a chain's rows.
 fn chain_partner(spec: &NetworkSpec, here: &ChainSpec) -> Option<Incoherent>
     ensures { finding_of result ≡ parts.partners_unlisted_at (tables_in spec.now)
-        (table_of spec.now here.now) }
+        (document_table spec.now here.now) }
 {
     let rows = here.assets.items();
     for row in rows {
@@ -260,8 +260,8 @@ fn is_source(home: &Junctions, row: &AssetRow, context: &Junctions, other: &Asse
 
 /// Whether the second chain lists the row's asset as native.
 fn has_source(spec: &NetworkSpec, here: &ChainSpec, row: &AssetRow, there: &ChainSpec) -> bool
-    ensures { result ≡ parts.has_source (table_of spec.now here.now) row.now
-        (table_of spec.now there.now) }
+    ensures { result ≡ parts.has_source (document_table spec.now here.now) row.now
+        (document_table spec.now there.now) }
 {
     let home = context_of(spec, here);
     let context = context_of(spec, there);
@@ -278,8 +278,8 @@ fn lists_native(
     chain: ChainId,
     there: &ChainSpec,
 ) -> bool
-    ensures { result ≡ causes.lists_native (table_of spec.now here.now) row.now chain
-        (table_of spec.now there.now) }
+    ensures { result ≡ causes.lists_native (document_table spec.now here.now) row.now chain
+        (document_table spec.now there.now) }
 {
     same_chain(there.chain, chain) && has_source(spec, here, row, there)
 }
@@ -292,8 +292,8 @@ fn some_lists_native(
     chain: ChainId,
     chains: &[ChainSpec],
 ) -> bool
-    ensures { result ≡ list_any (λ there. causes.lists_native (table_of spec.now here.now) row.now
-        chain (table_of spec.now there)) chains.now }
+    ensures { result ≡ list_any (λ there. causes.lists_native (document_table spec.now here.now) row.now
+        chain (document_table spec.now there)) chains.now }
 {
     chains
         .iter()
@@ -302,7 +302,7 @@ fn some_lists_native(
 
 /// Whether the chain is there, and lists the row's asset as native.
 fn is_native_at(spec: &NetworkSpec, here: &ChainSpec, row: &AssetRow, chain: ChainId) -> bool
-    ensures { result ≡ list_any (causes.lists_native (table_of spec.now here.now) row.now chain)
+    ensures { result ≡ list_any (causes.lists_native (document_table spec.now here.now) row.now chain)
         (tables_in spec.now) }
 {
     some_lists_native(spec, here, row, chain, spec.chains.items())
@@ -311,7 +311,7 @@ fn is_native_at(spec: &NetworkSpec, here: &ChainSpec, row: &AssetRow, chain: Cha
 /// A row's reserve, where it doesn't list the asset as native; a native asset has no reserve.
 fn row_reserve(spec: &NetworkSpec, here: &ChainSpec, row: &AssetRow) -> Option<Incoherent>
     ensures { finding_of result ≡ causes.reserve_unlisted (tables_in spec.now)
-        (table_of spec.now here.now) row.now row.now.role }
+        (document_table spec.now here.now) row.now row.now.role }
 {
     match &row.role {
         AssetRole::Native { .. } => None,
@@ -331,7 +331,7 @@ fn row_reserve(spec: &NetworkSpec, here: &ChainSpec, row: &AssetRow) -> Option<I
 /// The first such reserve of a chain's rows.
 fn chain_reserve(spec: &NetworkSpec, here: &ChainSpec) -> Option<Incoherent>
     ensures { finding_of result ≡ parts.reserves_unlisted_at (tables_in spec.now)
-        (table_of spec.now here.now) }
+        (document_table spec.now here.now) }
 {
     let rows = here.assets.items();
     for row in rows {

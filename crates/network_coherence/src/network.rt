@@ -1,8 +1,8 @@
 //! Whether a network is coherent.
 ghost use Rattle.std.specs.Prelude.{◌≡◌, None, Some, OnOk, IfErr};
 ghost use Rattle.std.specs.Option.{option_or};
-ghost use Rattle.coherence.specs.Causes.{first_cause, table_cause};
-ghost use Rattle.network_genesis.specs.Genesis.{entries_of};
+ghost use Rattle.law_coherence.specs.Causes.{first_cause, table_cause};
+ghost use Rattle.network_steps.specs.Genesis.{entries_of};
 ghost use Rattle.network_coherence.specs.Answers.{finding_of, incoherent_of, tables_in};
 
 use crate::Incoherent;

@@ -7,8 +7,8 @@ ghost use Rattle.locations.specs.Chains as locations;
 ghost use Rattle.locations.specs.Chains.{path_of, without_last};
 ghost use Rattle.asset_lists.specs.Listed.{same_kind};
 ghost use Rattle.chain_ids.specs.Chains.{same_chain};
-ghost use Rattle.coherence.specs.Networks as networks;
-ghost use Rattle.network_coherence.specs.Answers.{table_of};
+ghost use Rattle.law_coherence.specs.Networks as networks;
+ghost use Rattle.network_coherence.specs.Answers.{document_table};
 
 use asset_lists::Kind;
 use chain_ids::ChainId;
@@ -36,7 +36,7 @@ pub(crate) fn same_kind(a: Kind, b: Kind) -> bool
 
 /// The junctions from the root of all networks to a chain of the network.
 pub(crate) fn context_of(spec: &NetworkSpec, chain: &ChainSpec) -> Junctions
-    ensures { result ≡ networks.context_of (table_of spec.now chain.now) }
+    ensures { result ≡ networks.context_of (document_table spec.now chain.now) }
 {
     let site = Site {
         network: spec.network,

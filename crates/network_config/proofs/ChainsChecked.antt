@@ -3,8 +3,8 @@ use Rattle.std.proofs.Common.{◌≡◌, ℕ, ◌+◌, ◌<◌, List, length, ge
 use Rattle.std.proofs.lemmas.List.{drop_more, drop_all, take_more}
 use Rattle.locations.specs.declared.grammar.NetworkId.{NetworkId}
 use Rattle.network_spec.specs.declared.chain.ChainSpec.{ChainSpec}
-use Rattle.document_forms.specs.declared.fault.NetworkFault.{NetworkFault}
-use Rattle.document_forms.specs.Forms.{next_index}
+use Rattle.document_entries.specs.declared.fault.NetworkFault.{NetworkFault}
+use Rattle.document_entries.specs.Forms.{next_index}
 use Rattle.network_config.specs.References.{chain_references, chains_references}
 
 pub chain_checked : (chains : List ChainSpec) (network : NetworkId) (xs : List ChainSpec) (k i : ℕ) (x : ChainSpec) → k < length xs → x ≡ get_or xs k x → chain_references chains network i (take k xs) x ≡ Ok tt

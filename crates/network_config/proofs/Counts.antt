@@ -3,7 +3,7 @@ use Rattle.std.proofs.Common.{◌≡◌, List, [], ◌∷◌, length, ◌||◌, 
 use Rattle.std.specs.List.{list_any}
 use Rattle.serde_json.specs.View.{view, items_view}
 use Rattle.serde_json.specs.declared.value.Value.{Value}
-use Rattle.document_forms.specs.Forms.{count}
+use Rattle.document_entries.specs.Forms.{count}
 use Rattle.network_config.specs.Document.{has_relay, is_relay_entry}
 
 pub count_is : (vs : List Value) → count (items_view vs) ≡ length vs

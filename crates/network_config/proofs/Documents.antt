@@ -5,7 +5,7 @@ use Rattle.std.proofs.lemmas.Str.{IsUtf8-from_is_utf8, is_utf8-from_IsUtf8}
 use Rattle.std.specs.Str.{is_utf8, IsUtf8}
 use Rattle.serde_json.specs.Data.{Data}
 use Rattle.serde_json.specs.Read.{read}
-use Rattle.document_forms.specs.declared.fault.NetworkFault.TheVariants.{NotJson}
+use Rattle.document_entries.specs.declared.fault.NetworkFault.TheVariants.{NotJson}
 use Rattle.network_config.specs.Chains.{top}
 use Rattle.network_config.specs.Network.{network_of, json_of, of_value, network_of_value}
 

@@ -19,30 +19,26 @@ use Rattle.asset_lists.specs.declared.units.Kind.TheVariants as kinds
 use Rattle.asset_lists.specs.DerivedOrder.{derived_instance_cmp}
 use Rattle.asset_lists.specs.Units.{instance_in, asset_id_cmp}
 use Rattle.asset_lists.specs.Listed.{kind_of, same_kind}
-use Rattle.asset_lists.specs.UnitLaws.{asset_id_decides}
-use Rattle.asset_lists.specs.Laws.{instances_same}
+use Rattle.asset_lists.proofs.Lemmas.UnitLaws.{asset_id_decides}
+use Rattle.asset_lists.proofs.Lemmas.{instances_same}
 use Rattle.trust_tables.specs.declared.rows.AssetRow.{AssetRow}
 use Rattle.trust_tables.specs.declared.rows.AssetRole.TheVariants.{Native}
 use Rattle.trust_tables.specs.Trust.{is_id, is_row_of}
-use Rattle.trust_tables.specs.TrustLaws.{is_row_of_says}
+use Rattle.trust_tables.proofs.Lemmas.TrustLaws.{is_row_of_says}
 use Rattle.network_spec.specs.declared.chain.Balance.{Balance}
 use Rattle.network_spec.specs.Networks.{same_fun, same_holding}
-use Rattle.document_forms.specs.declared.fault.NetworkFault.{NetworkFault}
-use Rattle.document_forms.specs.declared.fault.Place.{Place}
-use Rattle.document_forms.specs.declared.stop.Stop.{Stop}
-use Rattle.document_forms.specs.declared.stop.Stop.TheVariants.{Fault, Memory}
-use Rattle.document_forms.specs.Answers.{Stops}
+use Rattle.document_entries.specs.declared.fault.NetworkFault.{NetworkFault}
+use Rattle.document_entries.specs.declared.fault.Place.{Place}
+use Rattle.document_entries.specs.declared.stop.Stop.{Stop}
+use Rattle.document_entries.specs.declared.stop.Stop.TheVariants.{Fault, Memory}
+use Rattle.document_entries.specs.Answers.{FailsWith}
 use Rattle.network_config.specs.References.{flaw_at, account_flaws}
-use Rattle.network_config.specs.Holdings.{HoldingKey, holding_key_cmp, holding_by, holding_of, is_held, flaws_beside, is_of_holding, row_number}
-use Rattle.network_config.proofs.Summing.{then_says, numbers_same}
+use Rattle.network_config.specs.Holdings.{HoldingKey, holding_key_cmp, holding_by, holding_key_of, is_held, flaws_beside, is_of_holding}
+use Rattle.network_config.proofs.Lemmas.Holdings.{row_number}
+use Rattle.network_config.proofs.Summing.{numbers_same}
+use Rattle.plain_lists.proofs.Lemmas.Facts.{and_false, and_true, below_by_one as no_place, same_bools as same_tests, same_some_number as some_same, zero_below as here, equal_then as then_says}
 
 -- ---- rows by their numbers
-
-no_place : (n m : ℕ) → nat_lt (1 + n) (suc m) ≡ nat_lt n m
-no_place n m = grind (arith, nat_tests)
-
-here : (m : ℕ) → nat_lt 0 (suc m) ≡ true
-here m = lt-ltb 0 (suc m) (omega arith)
 
 module _ {X : Type 0} (p : X → Bool) where
   place_found : (xs : List X) → nat_lt (position_or_len p xs) (length xs) ≡ list_any p xs
@@ -70,14 +66,6 @@ kind_in b = kind_of (instance_in b.asset.fun)
 same_rows : (rows : List AssetRow) (a b : Balance) → a.asset.id ≡ b.asset.id → kind_in a ≡ kind_in b → row_number rows a ≡ row_number rows b
 same_rows rows a b ids alike = ap (λ (p : AssetRow → Bool). position p rows) (λ i row. is_id (ids i) row.id && same_kind (alike i) row.kind)
 
-pub same_tests : (a b : Bool) → (a ≡ true → b ≡ true) → (b ≡ true → a ≡ true) → a ≡ b
-same_tests true b h k = sym (h refl)
-same_tests false true h k = k refl
-same_tests false false h k = refl
-
-some_same : (m n : ℕ) → Some m ≡ Some n → m ≡ n
-some_same m n e = ap (λ o. unwrap_or o 0) e
-
 pub itself : (k n : ℕ) → k ≡ n → is_eq (nat_cmp k n) ≡ true
 itself k n e = subst (λ m. is_eq (nat_cmp k m) ≡ true) e (ap is_eq (tied_itself nat_cmp_total k))
 
@@ -93,14 +81,6 @@ one_row rows a b k n ka nb alike =
     (λ t. itself k n (some_same k n (sym ka ∙ same_rows rows a b ((asset_id_decides a.asset.id b.asset.id).0 t) alike ∙ nb)))
 
 -- ---- keys
-
-and_true : (b : Bool) → (b && true) ≡ b
-and_true true = refl
-and_true false = refl
-
-and_false : (b : Bool) → (b && false) ≡ false
-and_false true = refl
-and_false false = refl
 
 same_keys : (k n : ℕ) (who other : List ℕ) (f g : Fun) (ids : Bool) → (kind_of (instance_in f) ≡ kind_of (instance_in g) → is_eq (nat_cmp k n) ≡ ids)
     → eq_by_cmp holding_key_cmp (holding_by k who f) (holding_by n other g) ≡ (ids && same_fun who f other g)
@@ -123,10 +103,10 @@ IsListed rows b = is_some (row_number rows b) ≡ true
 abbrev pub of_holding : List AssetRow → HoldingKey → Balance → Bool
 of_holding rows key b = is_of_holding (row_number rows b) b key
 
-same_at : (rows : List AssetRow) (o b : Balance) (n : ℕ) → row_number rows b ≡ Some n → IsListed rows o → of_holding rows (holding_of n b) o ≡ same_holding o b
+same_at : (rows : List AssetRow) (o b : Balance) (n : ℕ) → row_number rows b ≡ Some n → IsListed rows o → of_holding rows (holding_key_of n b) o ≡ same_holding o b
 same_at rows o b n nb listed = by (row_number rows o) refl listed
   where
-    by : (m : Option ℕ) → row_number rows o ≡ m → is_some m ≡ true → is_of_holding m o (holding_of n b) ≡ same_holding o b
+    by : (m : Option ℕ) → row_number rows o ≡ m → is_some m ≡ true → is_of_holding m o (holding_key_of n b) ≡ same_holding o b
     by None e l = absurd (false≢true l)
     by (Some k) e l = same_keys k n o.who b.who o.asset.fun b.asset.fun (eq_by_cmp asset_id_cmp o.asset.id b.asset.id) (one_row rows o b k n e nb)
 
@@ -166,9 +146,9 @@ flaws_same rows earlier b keys listed held = by (row_number rows b) refl
         let bad : true ≡ not (list_any (is_row_of b.asset) rows) = sym (not_from_false (list_any (is_row_of b.asset) rows) (sym (found_at (is_row_of b.asset) rows) ∙ ap is_some e)) in
         λ i. record { repeated = none i; bad = bad i; past = false }
     by (Some n) e =
-        let same : is_held keys (holding_of n b) ≡ list_any (λ (o : Balance). same_holding o b) earlier =
-        held (holding_of n b) ∙ any_same (of_holding rows (holding_of n b)) (λ (o : Balance). same_holding o b) earlier
-        (all_told (IsListed rows) (λ (o : Balance). of_holding rows (holding_of n b) o ≡ same_holding o b) (λ o l. same_at rows o b n e l) earlier listed) in
+        let same : is_held keys (holding_key_of n b) ≡ list_any (λ (o : Balance). same_holding o b) earlier =
+        held (holding_key_of n b) ∙ any_same (of_holding rows (holding_key_of n b)) (λ (o : Balance). same_holding o b) earlier
+        (all_told (IsListed rows) (λ (o : Balance). of_holding rows (holding_key_of n b) o ≡ same_holding o b) (λ o l. same_at rows o b n e l) earlier listed) in
         let bad : false ≡ not (list_any (is_row_of b.asset) rows) = sym (not_from_true (list_any (is_row_of b.asset) rows) (sym (found_at (is_row_of b.asset) rows) ∙ ap is_some e)) in
         λ i. record { repeated = same i; bad = bad i; past = false }
 
@@ -204,6 +184,6 @@ listed_of rows place keys b e = by (row_number rows b) (ap (λ (r : Result (Unit
     by None h = absurd (false≢true h)
     by (Some n) h = refl
 
-pub stops_with : (stop : Stop) (told answer : Result (Unit {0}) NetworkFault) → Stops stop told → ((fault : NetworkFault) → told ≡ Err fault → answer ≡ Err fault) → Stops stop answer
+pub stops_with : (stop : Stop) (told answer : Result (Unit {0}) NetworkFault) → FailsWith stop told → ((fault : NetworkFault) → told ≡ Err fault → answer ≡ Err fault) → FailsWith stop answer
 stops_with (Fault fault) told answer s k = k fault s
 stops_with Memory told answer s k = tt

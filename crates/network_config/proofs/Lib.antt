@@ -1,3 +1,4 @@
+pub mod Lemmas
 pub mod Counts
 pub mod Checking
 pub mod Paths

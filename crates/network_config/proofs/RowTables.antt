@@ -18,13 +18,15 @@ use Rattle.ledgers.specs.Ledgers.{listed_pair}
 use Rattle.trust_tables.specs.declared.rows.AssetRow.{AssetRow}
 use Rattle.trust_tables.specs.Chains.{path_of_site}
 use Rattle.trust_tables.specs.Trust.{listed_row, listing}
-use Rattle.trust_tables.specs.TrustLaws.{position_listed}
+use Rattle.trust_tables.proofs.Lemmas.TrustLaws.{position_listed}
 use Rattle.network_spec.specs.declared.chain.Balance.{Balance}
 use Rattle.network_spec.specs.declared.chain.ChainSpec.{ChainSpec}
-use Rattle.document_forms.specs.declared.fault.Section.TheVariants.{Assets}
+use Rattle.document_entries.specs.declared.fault.Section.TheVariants.{Assets}
 use Rattle.network_config.specs.References.{same_location, names_others, each_in, asset_flaws}
-use Rattle.network_config.specs.Faultless.{apart, ok_each}
-use Rattle.network_config.specs.Holdings.{row_number, listed_number}
+use Rattle.network_config.proofs.Lemmas.Faultless.{apart, ok_each}
+use Rattle.network_config.specs.Holdings.{listed_number}
+use Rattle.network_config.proofs.Lemmas.Holdings.{row_number}
+use Rattle.plain_lists.proofs.Lemmas.Facts.{first_apart}
 
 -- ---- rows that are listed one by one
 
@@ -41,11 +43,6 @@ one_more list rows i row id l e same so_far =
 
 abbrev same_row : AssetRow → AssetRow → Bool
 same_row a b = same_location a.id b.id
-
-first_apart : (r s : Ordering) → is_eq r ≡ false → is_eq (ordering_then r s) ≡ false
-first_apart Less s h = refl
-first_apart Equal s h = absurd (true≢false h)
-first_apart Greater s h = refl
 
 other_listed : (row : AssetRow) (rows : List AssetRow) → AllByRecursion (λ (y : AssetRow). same_row row y ≡ false) rows → AllByRecursion (λ y. eq_by_cmp listed_cmp (listed_row row) y ≡ false) (listing rows)
 other_listed row [] h = tt

@@ -7,7 +7,7 @@ use Rattle.std.proofs.Common.{◌≡◌, refl, ap, subst, arith}
 use Rattle.std.proofs.lemmas.Bool.{and_parts, and_from, lt-ltb, not-true, eqb-false, false≢true}
 use Rattle.serde_json.specs.Data.{Data}
 use Rattle.serde_json.specs.Find.{get}
-use Rattle.message_parts.specs.declared.version.Version.TheVariants.{V4}
+use Rattle.operands.specs.declared.version.Version.TheVariants.{V4}
 use Rattle.asset_lists.specs.declared.units.Asset.{Asset}
 use Rattle.asset_lists.specs.declared.units.AssetId.TheVariants.{Concrete}
 use Rattle.asset_lists.specs.declared.units.Fun.{Fun}
@@ -18,16 +18,16 @@ use Rattle.trust_tables.specs.declared.rows.AssetRole.{AssetRole}
 use Rattle.trust_tables.specs.declared.rows.AssetRole.TheVariants.{Native, Derivative}
 use Rattle.trust_tables.specs.declared.rows.AssetRow.{AssetRow}
 use Rattle.weight_trader.specs.declared.rate.Rate.{Rate}
-use Rattle.message_parts.specs.declared.pallet.PalletInfo.{PalletInfo}
-use Rattle.chain_pools.specs.declared.pool.Pool.{Pool}
+use Rattle.operands.specs.declared.pallet.PalletInfo.{PalletInfo}
+use Rattle.asset_pools.specs.declared.pool.Pool.{Pool}
 use Rattle.network_spec.specs.declared.chain.Balance.{Balance}
 use Rattle.network_spec.specs.declared.network.ChannelSpec.{ChannelSpec}
-use Rattle.document_forms.specs.declared.fault.NetworkFault.{NetworkFault}
-use Rattle.document_forms.specs.declared.fault.NetworkFault.TheVariants.{MissingField, BadValue, LimitPassed}
-use Rattle.document_forms.specs.declared.fault.Place.{Place}
-use Rattle.document_forms.specs.Forms.{Form, ◌>>=◌, ◌>>◌, or_fault, where_true, fields, is_decimal, field, needed, of_optional, defaulted, some_of, optional, whole, number_within, text, bytes, chain, each, is_chain_kind, decimal_below}
-use Rattle.document_entries.specs.Entries.{both_fault, one_of, either, made, rate_limit, amount_limit, amount, location, instance, rate, kind, native, with_checking, asset_row, account, u32, pallet_name, pallet, pool, fee, version, channel_fields, channel_entry}
-use Rattle.network_config.specs.Valid.{is_within, fits_rate, fits_role, fits_fun, fits_asset, fits_pallet, fits_pool, fits_fee, fits_channel}
+use Rattle.document_entries.specs.declared.fault.NetworkFault.{NetworkFault}
+use Rattle.document_entries.specs.declared.fault.NetworkFault.TheVariants.{MissingField, BadValue, LimitPassed}
+use Rattle.document_entries.specs.declared.fault.Place.{Place}
+use Rattle.document_entries.specs.Forms.{Form, ◌>>=◌, ◌>>◌, or_fault, where_true, fields, is_decimal, required_field, needed, of_optional, defaulted, some_of, optional_field, whole_number, number_within, text, bytes32_form, chain, each, is_chain_kind, decimal_below}
+use Rattle.document_entries.specs.Entries.{both_fault, one_of, either, made, rate_limit, amount_limit, positive_amount_form, location_form, instance_form, rate, kind, native, with_checking, asset_row, account, u32, pallet_name, pallet, pool, fee, version, channel_fields, channel_entry}
+use Rattle.network_config.specs.Valid.{is_between, fits_rate, fits_role, fits_fun, fits_asset, fits_pallet, fits_pool, fits_fee, fits_channel}
 
 -- ---- what is given, where something is
 
@@ -78,7 +78,7 @@ where_gives {P = P} fault false x k = err_gives P fault
 -- ---- fields
 
 pub needed_gives : {X : Type 0} {P : X → Type 0} (name : List ℕ) (form : Form X) (place : Place) (value : Data) → ((v : Data) → Gives P (form place v)) → Gives P (needed name form place value)
-needed_gives name form place value k = one_by_one (field name place value) (form place) (λ v e. k v)
+needed_gives name form place value k = one_by_one (required_field name place value) (form place) (λ v e. k v)
 
 pub optional_gives : {X : Type 0} {P : X → Type 0} (missing : X) (form : Form X) (place : Place) (o : Option Data) → P missing → ((v : Data) → Gives P (form place v)) → Gives P (of_optional missing form place o)
 optional_gives {P = P} missing form place None m k = ok_gives P missing m
@@ -104,9 +104,9 @@ either_gives name form other_name other place value j k = one_gives place form o
 
 -- ---- numbers
 
-pub number_gives : (low high : ℕ) (place : Place) (value : Data) → Gives (λ n. is_within low high n ≡ true) (number_within low high place value)
+pub number_gives : (low high : ℕ) (place : Place) (value : Data) → Gives (λ n. is_between low high n ≡ true) (number_within low high place value)
 unfolding number_within
-number_gives low high place value = one_by_one (whole place value) _ (λ n e. where_gives (BadValue place) (is_within low high n) n (λ t. t))
+number_gives low high place value = one_by_one (whole_number place value) _ (λ n e. where_gives (BadValue place) (is_between low high n) n (λ t. t))
 
 pub decimal_gives : (limit : ℕ) (place : Place) (value : Data) → Gives (λ n. nat_lt n limit ≡ true) (decimal_below limit place value)
 unfolding decimal_below
@@ -123,8 +123,8 @@ not_zero n h = lt-ltb 0 n (above n (eqb-false n 0 (not-true (n == 0) h)))
     above : (n : ℕ) → (n ≡ 0 → ⊥) → 0 < n
     above n e = grind arith
 
-pub amount_gives : (place : Place) (value : Data) → Gives IsAmount (amount place value)
-unfolding amount
+pub amount_gives : (place : Place) (value : Data) → Gives IsAmount (positive_amount_form place value)
+unfolding positive_amount_form
 amount_gives place value =
     with_first (decimal_below amount_limit place value) _ (decimal_gives amount_limit place value) (λ n below.
     where_gives (BadValue place) (not (n == 0)) n (λ t. and_from (nat_lt 0 n) (nat_lt n amount_limit) (not_zero n t) below))
@@ -136,7 +136,7 @@ unfolding rate
 rate_gives place value =
     let number : (name : List ℕ) → Gives (λ n. nat_lt n rate_limit ≡ true) (needed name (decimal_below rate_limit) place value) = λ name. needed_gives name (decimal_below rate_limit) place value (decimal_gives rate_limit place) in
     after (fields (codes "asset" ∷ codes "per_second" ∷ codes "per_mb" ∷ []) place value) _
-    (one_by_one (needed (codes "asset") location place value) _ (λ asset e.
+    (one_by_one (needed (codes "asset") location_form place value) _ (λ asset e.
     with_first (needed (codes "per_second") (decimal_below rate_limit) place value) _ (number (codes "per_second")) (λ per_second p.
     with_first (needed (codes "per_mb") (decimal_below rate_limit) place value) _ (number (codes "per_mb")) (λ per_mb q.
     ok_gives _ (record { asset = asset; per_second = per_second; per_mb = per_mb }) (and_from (nat_lt per_second rate_limit) (nat_lt per_mb rate_limit) p q)))))
@@ -150,7 +150,7 @@ abbrev IsBelow : Option ℕ → Type 0
 IsBelow None = ⊤
 IsBelow (Some n) = nat_lt n amount_limit ≡ true
 
-below_gives : (place : Place) (value : Data) → Gives IsBelow (optional (codes "checking") (decimal_below amount_limit) place value)
+below_gives : (place : Place) (value : Data) → Gives IsBelow (optional_field (codes "checking") (decimal_below amount_limit) place value)
 below_gives place value =
     defaulted_gives (codes "checking") None (some_of (decimal_below amount_limit)) place value tt (λ v.
     with_first (decimal_below amount_limit place v) (λ x. Ok (Some x)) (decimal_gives amount_limit place v) (λ n b. ok_gives IsBelow (Some n) b))
@@ -175,29 +175,29 @@ pub asset_gives : (place : Place) (value : Data) → Gives (λ (row : AssetRow).
 unfolding asset_row
 asset_gives place value =
     after (fields (codes "id" ∷ codes "kind" ∷ codes "native" ∷ codes "reserve" ∷ codes "checking" ∷ []) place value) _
-    (one_by_one (needed (codes "id") location place value) _ (λ id e.
+    (one_by_one (needed (codes "id") location_form place value) _ (λ id e.
     one_by_one (defaulted (codes "kind") kinds.Fungible kind place value) _ (λ asset_kind f.
     with_first (either (codes "native") (made native (each is_chain_kind chain)) (codes "reserve") (made Derivative chain) place value) _
     (either_gives (codes "native") (made native (each is_chain_kind chain)) (codes "reserve") (made Derivative chain) place value (native_gives place) (derivative_gives place)) (λ role fits.
-    with_first (optional (codes "checking") (decimal_below amount_limit) place value) _ (below_gives place value) (λ checking below.
+    with_first (optional_field (codes "checking") (decimal_below amount_limit) place value) _ (below_gives place value) (λ checking below.
     with_first (with_checking place asset_kind checking role) _ (checking_gives place asset_kind checking role (fits asset_kind) below) (λ new_role new_fits.
     ok_gives _ (record { id = id; kind = asset_kind; role = new_role }) new_fits))))))
 
 -- ---- accounts
 
-fun_gives : (place : Place) (value : Data) → Gives (λ (fun : Fun). fits_fun fun ≡ true) (either (codes "amount") (made Fungible amount) (codes "instance") (made NonFungible instance) place value)
+fun_gives : (place : Place) (value : Data) → Gives (λ (fun : Fun). fits_fun fun ≡ true) (either (codes "amount") (made Fungible positive_amount_form) (codes "instance") (made NonFungible instance_form) place value)
 fun_gives place value =
-    either_gives (codes "amount") (made Fungible amount) (codes "instance") (made NonFungible instance) place value
-    (λ v. with_first (amount place v) _ (amount_gives place v) (λ n a. ok_gives _ (Fungible n) a))
-    (λ v. one_by_one (instance place v) _ (λ n e. ok_gives _ (NonFungible n) refl))
+    either_gives (codes "amount") (made Fungible positive_amount_form) (codes "instance") (made NonFungible instance_form) place value
+    (λ v. with_first (positive_amount_form place v) _ (amount_gives place v) (λ n a. ok_gives _ (Fungible n) a))
+    (λ v. one_by_one (instance_form place v) _ (λ n e. ok_gives _ (NonFungible n) refl))
 
 pub account_gives : (place : Place) (value : Data) → Gives (λ (b : Balance). fits_asset b.asset ≡ true) (account place value)
 unfolding account
 account_gives place value =
     after (fields (codes "who" ∷ codes "asset" ∷ codes "amount" ∷ codes "instance" ∷ []) place value) _
-    (one_by_one (needed (codes "who") bytes place value) _ (λ who e.
-    one_by_one (needed (codes "asset") location place value) _ (λ id f.
-    with_first (either (codes "amount") (made Fungible amount) (codes "instance") (made NonFungible instance) place value) _ (fun_gives place value) (λ fun fits.
+    (one_by_one (needed (codes "who") bytes32_form place value) _ (λ who e.
+    one_by_one (needed (codes "asset") location_form place value) _ (λ id f.
+    with_first (either (codes "amount") (made Fungible positive_amount_form) (codes "instance") (made NonFungible instance_form) place value) _ (fun_gives place value) (λ fun fits.
     ok_gives _ (record { who = who; asset = record { id = Concrete id; fun = fun } }) fits))))
 
 -- ---- pallets
@@ -223,8 +223,8 @@ pub pool_gives : (place : Place) (value : Data) → Gives (λ (p : Pool). fits_p
 unfolding pool
 pool_gives place value =
     after (fields (codes "first" ∷ codes "second" ∷ codes "fee" ∷ []) place value) _
-    (one_by_one (needed (codes "first") location place value) _ (λ first e.
-    one_by_one (needed (codes "second") location place value) _ (λ second f.
+    (one_by_one (needed (codes "first") location_form place value) _ (λ first e.
+    one_by_one (needed (codes "second") location_form place value) _ (λ second f.
     with_first (needed (codes "fee") (number_within 0 999) place value) _ (needed_gives (codes "fee") (number_within 0 999) place value (number_gives 0 999 place)) (λ fee n.
     ok_gives _ (record { first = first; second = second; fee = fee }) n))))
 
@@ -237,9 +237,9 @@ fee_gives : (place : Place) (asset amount_value : Option Data) → Gives FitsFee
 fee_gives place None None = ok_gives FitsFee None refl
 fee_gives place None (Some amount_value) = err_gives FitsFee (MissingField place)
 fee_gives place (Some asset_value) amount_value =
-    one_by_one (location place asset_value) _ (λ id e.
+    one_by_one (location_form place asset_value) _ (λ id e.
     one_by_one (or_fault (MissingField place) amount_value) _ (λ value f.
-    with_first (amount place value) _ (amount_gives place value) (λ n a.
+    with_first (positive_amount_form place value) _ (amount_gives place value) (λ n a.
     ok_gives FitsFee (Some (record { id = Concrete id; fun = Fungible n })) (and_from (nat_lt 0 n && nat_lt n amount_limit) true a refl))))
 
 pub channel_gives : (fees : Bool) (place : Place) (value : Data) → Gives (λ (c : ChannelSpec). fits_channel c ≡ true) (channel_entry fees place value)
@@ -255,4 +255,4 @@ channel_gives fees place value =
     (defaulted_gives (codes "max_size") 65536 (number_within 1 65536) place value refl (number_gives 1 65536 place)) (λ max_size m.
     with_first (fee place (get (codes "fee_asset") value) (get (codes "fee") value)) _ (fee_gives place (get (codes "fee_asset") value) (get (codes "fee") value)) (λ channel_fee h.
     ok_gives _ (record { from = from; channel = record { to = to; version = number; capacity = capacity; max_size = max_size; fee = channel_fee } })
-    (and_from (is_within 1 32 capacity) (is_within 1 65536 max_size && fits_fee channel_fee) c (and_from (is_within 1 65536 max_size) (fits_fee channel_fee) m h)))))))))
+    (and_from (is_between 1 32 capacity) (is_between 1 65536 max_size && fits_fee channel_fee) c (and_from (is_between 1 65536 max_size) (fits_fee channel_fee) m h)))))))))

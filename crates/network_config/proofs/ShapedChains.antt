@@ -16,20 +16,20 @@ use Rattle.trust_tables.specs.declared.rows.AssetRow.{AssetRow}
 use Rattle.network_spec.specs.declared.chain.Balance.{Balance}
 use Rattle.network_spec.specs.declared.chain.ChainSpec.{ChainSpec}
 use Rattle.network_spec.specs.declared.network.NetworkSpec.{NetworkSpec}
-use Rattle.document_forms.specs.declared.fault.NetworkFault.{NetworkFault}
-use Rattle.document_forms.specs.declared.fault.NetworkFault.TheVariants.{BadValue, LimitPassed}
-use Rattle.document_forms.specs.declared.fault.Place.{Place}
-use Rattle.document_forms.specs.declared.fault.Section.{Section}
-use Rattle.document_forms.specs.declared.fault.Section.TheVariants.{Rates, Assets, Accounts, Pallets, Queries, Pools}
-use Rattle.document_forms.specs.Forms.{Form, ◌>>=◌, ◌>>◌, or_fault, where_true, fields, of_optional, defaulted, number_within, text, bytes, bytes32, onto, next_index, entries, count, list_field}
+use Rattle.document_entries.specs.declared.fault.NetworkFault.{NetworkFault}
+use Rattle.document_entries.specs.declared.fault.NetworkFault.TheVariants.{BadValue, LimitPassed}
+use Rattle.document_entries.specs.declared.fault.Place.{Place}
+use Rattle.document_entries.specs.declared.fault.Section.{Section}
+use Rattle.document_entries.specs.declared.fault.Section.TheVariants.{Rates, Assets, Accounts, Pallets, Queries, Pools}
+use Rattle.document_entries.specs.Forms.{Form, ◌>>=◌, ◌>>◌, or_fault, where_true, fields, of_optional, defaulted, number_within, text, bytes32_form, bytes32, prepended_result, next_index, entries, count, list_field}
 use Rattle.document_entries.specs.Entries.{made, u32, rate, asset_row, account, pallet, query, pool, channel_entry}
 use Rattle.network_config.specs.declared.head.ChainHead.{ChainHead}
 use Rattle.network_config.specs.declared.head.Served.{Served}
-use Rattle.network_config.specs.Chains.{top, fields_of, in_chain, channel_at, para_field, weight_field, no_account, head, flag, short_list, lists, entries_field, barriers_field, chain_fields, with_head, own_fields, chain_entry}
-use Rattle.network_config.specs.Document.{network_of_text, network, has_fees, is_relay_entry, has_relay, chain_count, chains_list, top_fields, shapes}
-use Rattle.network_config.specs.Valid.{is_within, fits_rate, fits_role, fits_asset, fits_pallet, fits_pool, fits_chain, fits_channel, is_named}
-use Rattle.network_config.specs.Faultless.{ok_both}
-use Rattle.network_config.specs.Arranged.{is_relay}
+use Rattle.network_config.specs.Chains.{top, fields_of, in_chain, channel_at, para_field, weight_field, no_account, chain_head, flag_or_false, short_list, checked_lists, entries_field, barriers_field, chain_fields, with_head, own_chain_fields, chain_entry}
+use Rattle.network_config.specs.Document.{network_of_text, network_id_form, has_fees, is_relay_entry, has_relay, chain_count, chains_list, top_fields, shapes}
+use Rattle.network_config.specs.Valid.{is_between, fits_rate, fits_role, fits_asset, fits_pallet, fits_pool, fits_chain, fits_channel, is_named}
+use Rattle.network_config.proofs.Lemmas.Faultless.{ok_both}
+use Rattle.network_config.proofs.Lemmas.Arranged.{is_relay}
 use Rattle.network_config.proofs.Shaped.{Gives, ok_gives, err_gives, one_by_one, with_first, after, after_ok, weaker, where_gives, defaulted_gives, number_gives, rate_gives, asset_gives, account_gives, pallet_gives, pool_gives, channel_gives}
 
 -- ---- lists of entries
@@ -42,7 +42,7 @@ Match R (item v vs) [] = ⊥
 Match R (item v vs) (x ∷ xs) = R v x × Match R vs xs
 
 module _ {X : Type 0} (R : Data → X → Type 0) where
-  onto_gives : (v : Data) (vs : Items) (x : X) (r : Result (List X) NetworkFault) → R v x → Gives (Match R vs) r → Gives (Match R (item v vs)) (onto x r)
+  onto_gives : (v : Data) (vs : Items) (x : X) (r : Result (List X) NetworkFault) → R v x → Gives (Match R vs) r → Gives (Match R (item v vs)) (prepended_result x r)
   onto_gives v vs x (Ok xs) h g = ok_gives (Match R (item v vs)) (x ∷ xs) (h, g.given xs refl)
   onto_gives v vs x (Err fault) h g = err_gives (Match R (item v vs)) fault
 
@@ -110,20 +110,20 @@ module _ {X : Type 0} (p : X → Bool) (name : List ℕ) (section : Section) (fo
 abbrev IsNamed : Option Data → ChainId → Type 0
 IsNamed o c = IsChain c × (same_chain c Relay ≡ is_none o)
 
-in_32_bits : (n : ℕ) → is_within 0 4294967295 n ≡ true → n < 2 ^ 32
+in_32_bits : (n : ℕ) → is_between 0 4294967295 n ≡ true → n < 2 ^ 32
 in_32_bits n h = let most = leb-true n 4294967295 (and_parts (nat_le 0 n) (nat_le n 4294967295) h).1 in omega (arith, most)
 
 para_gives : (place : Place) (o : Option Data) → Gives (IsNamed o) (of_optional Relay (made Para u32) place o)
 para_gives place None = ok_gives (IsNamed None) Relay (tt, refl)
 para_gives place (Some v) = with_first (u32 place v) _ (number_gives 0 4294967295 place v) (λ n w. ok_gives (IsNamed (Some v)) (Para n) (in_32_bits n w, refl))
 
-pub record FitsHead (o : Option Data) (head : ChainHead) : Type 0 where
-  pub rules : (is_within 1 100 head.rules.max_instructions && is_within 20 64 head.max_holding) ≡ true
-  pub named : IsChain head.chain
-  pub relay : same_chain head.chain Relay ≡ is_none o
+pub record FitsHead (o : Option Data) (chain_head : ChainHead) : Type 0 where
+  pub rules : (is_between 1 100 chain_head.rules.max_instructions && is_between 20 64 chain_head.max_holding) ≡ true
+  pub named : IsChain chain_head.chain
+  pub relay : same_chain chain_head.chain Relay ≡ is_none o
 
-head_gives : (place : Place) (value : Data) → Gives (FitsHead (get (codes "para") value)) (head place value)
-unfolding head
+head_gives : (place : Place) (value : Data) → Gives (FitsHead (get (codes "para") value)) (chain_head place value)
+unfolding chain_head
 head_gives place value =
     with_first (para_field place value) _ (para_gives place (get (codes "para") value)) (λ chain n.
     one_by_one (weight_field (codes "unit_weight") 1000 100 place value) _ (λ unit e.
@@ -132,8 +132,8 @@ head_gives place value =
     (defaulted_gives (codes "max_instructions") 100 (number_within 1 100) place value refl (number_gives 1 100 place)) (λ max_instructions i.
     with_first (defaulted (codes "max_holding") 64 (number_within 20 64) place value) _
     (defaulted_gives (codes "max_holding") 64 (number_within 20 64) place value refl (number_gives 20 64 place)) (λ max_holding h.
-    one_by_one (defaulted (codes "fee_account") no_account bytes place value) _ (λ fee_account g.
-    ok_gives _ _ (record { rules = and_from (is_within 1 100 max_instructions) (is_within 20 64 max_holding) i h; named = n.0; relay = n.1 })))))))
+    one_by_one (defaulted (codes "fee_account") no_account bytes32_form place value) _ (λ fee_account g.
+    ok_gives _ _ (record { rules = and_from (is_between 1 100 max_instructions) (is_between 20 64 max_holding) i h; named = n.0; relay = n.1 })))))))
 
 pub record FitsLists (place : Place) (value : Data) : Type 0 where
   pub assets : Gives (IsShort 128) (list_field (codes "assets") place value)
@@ -142,8 +142,8 @@ pub record FitsLists (place : Place) (value : Data) : Type 0 where
 abbrev HasFewPools : Place → Data → Type 0
 HasFewPools place value = Gives (IsShort 16) (list_field (codes "pools") place value)
 
-lists_give : (place : Place) (value : Data) → is_ok (lists place value) ≡ true → FitsLists place value
-unfolding lists
+lists_give : (place : Place) (value : Data) → is_ok (checked_lists place value) ≡ true → FitsLists place value
+unfolding checked_lists
 lists_give place value h =
     let rest = parts (list_field (codes "barriers") place value) _ h in
     let rest = parts (list_field (codes "rates") place value) _ rest.1 in
@@ -168,14 +168,14 @@ is_object names place (string s) h = absurd (false≢true h)
 is_object names place (array items) h = absurd (false≢true h)
 is_object names place (object ms) h = refl
 
-own_gives : (more : Bool) (place : Place) (value : Data) → Gives (FitsOwn place value) (own_fields more place value)
-unfolding own_fields
+own_gives : (more : Bool) (place : Place) (value : Data) → Gives (FitsOwn place value) (own_chain_fields more place value)
+unfolding own_chain_fields
 own_gives more place value =
     after_ok (fields (chain_fields more) place value) _ (λ o.
-    with_first (head place value) _ (head_gives place value) (λ h fits.
-    after_ok (lists place value) _ (λ l.
-    one_by_one (flag (codes "calls") place value) _ (λ calls c.
-    one_by_one (flag (codes "locks") place value) _ (λ locks k.
+    with_first (chain_head place value) _ (head_gives place value) (λ h fits.
+    after_ok (checked_lists place value) _ (λ l.
+    one_by_one (flag_or_false (codes "calls") place value) _ (λ calls c.
+    one_by_one (flag_or_false (codes "locks") place value) _ (λ locks k.
     after_ok (short_list (codes "pools") 16 place value) _ (λ p.
     ok_gives (FitsOwn place value) (h, record { calls = calls; locks = locks })
     (fits, lists_give place value l, short_gives (codes "pools") 16 place value p, is_object (chain_fields more) place value o)))))))
@@ -190,7 +190,7 @@ pub record FitsChain (value : Data) (c : ChainSpec) : Type 0 where
 pub chain_gives : (more : Bool) (chain : ℕ) (value : Data) → Gives (FitsChain value) (chain_entry more chain value)
 unfolding chain_entry
 chain_gives more chain value =
-    with_first (own_fields more (fields_of chain) value) _ (own_gives more (fields_of chain) value) (λ h own.
+    with_first (own_chain_fields more (fields_of chain) value) _ (own_gives more (fields_of chain) value) (λ h own.
     one_by_one (barriers_field chain value) _ (λ barriers e.
     with_first (entries_field (codes "rates") Rates rate chain value) _ (field_gives fits_rate (codes "rates") Rates rate chain value rate_gives) (λ rates r.
     with_first (entries_field (codes "assets") Assets asset_row chain value) _
@@ -207,7 +207,7 @@ chain_gives more chain value =
     })))))))))
   where
     all_fit : (h : ChainHead) (barriers : List _) (rates : List _) (assets : List _) (accounts : List _) (pallets : List _) (queries : List _) (pools : List _) (served : Served)
-        → (is_within 1 100 h.rules.max_instructions && is_within 20 64 h.max_holding) ≡ true → nat_le (length assets) 128 ≡ true → nat_le (length pallets) 64 ≡ true → nat_le (length pools) 16 ≡ true
+        → (is_between 1 100 h.rules.max_instructions && is_between 20 64 h.max_holding) ≡ true → nat_le (length assets) 128 ≡ true → nat_le (length pallets) 64 ≡ true → nat_le (length pools) 16 ≡ true
         → list_all fits_rate rates ≡ true → list_all (λ (row : AssetRow). fits_role row.kind row.role) assets ≡ true → list_all (λ (b : Balance). fits_asset b.asset) accounts ≡ true → list_all fits_pallet pallets ≡ true
         → list_all fits_pool pools ≡ true → fits_chain (with_head h barriers rates assets accounts pallets queries pools served) ≡ true
     all_fit h barriers rates assets accounts pallets queries pools served l m n o r a b p q =
@@ -246,8 +246,8 @@ named_gives : (fault : NetworkFault) (o : Option NetworkId) → HasName o → Gi
 named_gives fault None h = err_gives _ fault
 named_gives fault (Some n) h = ok_gives _ n h
 
-network_gives : (place : Place) (value : Data) → Gives (λ n. is_named n ≡ true) (network place value)
-unfolding network
+network_gives : (place : Place) (value : Data) → Gives (λ n. is_named n ≡ true) (network_id_form place value)
+unfolding network_id_form
 network_gives place value = one_by_one (text place value) _ (λ s e. named_gives (BadValue place) (network_of_text s) (text_named s))
 
 few_give : (place : Place) (value : Data) → Gives (λ items. nat_le (chain_count items) 64 ≡ true) (chains_list place value)
@@ -268,7 +268,7 @@ pub shapes_give : (value : Data) → Gives Shape (shapes value)
 unfolding shapes
 shapes_give value =
     after (fields top_fields top value) _
-    (with_first (defaulted (codes "network") Polkadot network top value) _ (defaulted_gives (codes "network") Polkadot network top value refl (network_gives top)) (λ id named.
+    (with_first (defaulted (codes "network") Polkadot network_id_form top value) _ (defaulted_gives (codes "network") Polkadot network_id_form top value refl (network_gives top)) (λ id named.
     with_first (chains_list top value) _ (few_give top value) (λ chain_items few.
     with_first (short_list (codes "channels") 256 top value) _ (few_channels top value) (λ channel_items short.
     one_by_one (defaulted (codes "format") false has_fees top value) _ (λ fees f.

@@ -11,31 +11,32 @@ use Rattle.std.proofs.lemmas.Bool.{le-ltb, lt-ltb, ltb-true, ltb-false, and_part
 use Rattle.locations.specs.declared.grammar.NetworkId.{NetworkId}
 use Rattle.locations.specs.declared.grammar.Junction.{Junction}
 use Rattle.locations.specs.Order.{junctions_cmp}
-use Rattle.locations.specs.OrderLaws.{junctions_decides}
+use Rattle.locations.proofs.Lemmas.OrderLaws.{junctions_decides}
 use Rattle.asset_lists.specs.declared.units.Kind.{Kind}
 use Rattle.asset_lists.specs.declared.units.Kind.TheVariants.{Fungible, Class}
 use Rattle.asset_lists.specs.Listed.{kind_number, same_kind}
 use Rattle.trust_tables.specs.Chains.{path_of_site}
 use Rattle.network_spec.specs.declared.chain.Balance.{Balance}
 use Rattle.network_spec.specs.declared.chain.ChainSpec.{ChainSpec}
-use Rattle.document_forms.specs.declared.fault.NetworkFault.{NetworkFault}
-use Rattle.document_forms.specs.declared.fault.NetworkFault.TheVariants.{LimitPassed}
-use Rattle.document_forms.specs.declared.fault.Section.TheVariants.{Accounts}
-use Rattle.document_forms.specs.declared.stop.Stop.{Stop}
-use Rattle.document_forms.specs.declared.stop.Stop.TheVariants as stops
-use Rattle.document_forms.specs.Answers.{Stops}
-use Rattle.document_forms.specs.Forms.{next_index}
+use Rattle.document_entries.specs.declared.fault.NetworkFault.{NetworkFault}
+use Rattle.document_entries.specs.declared.fault.NetworkFault.TheVariants.{LimitPassed}
+use Rattle.document_entries.specs.declared.fault.Section.TheVariants.{Accounts}
+use Rattle.document_entries.specs.declared.stop.Stop.{Stop}
+use Rattle.document_entries.specs.declared.stop.Stop.TheVariants as stops
+use Rattle.document_entries.specs.Answers.{FailsWith}
+use Rattle.document_entries.specs.Forms.{next_index}
 use Rattle.document_entries.specs.Entries.{amount_limit}
 use Rattle.network_config.specs.declared.sums.Share.{Share}
-use Rattle.network_config.specs.References.{place_in}
-use Rattle.network_config.specs.Sums.{share_of, shares_in, shares_of, listed_with, sums_in, total, counted, same_asset}
-use Rattle.network_config.specs.Totals.{TotalKey, total_key_cmp, key_of, total_at, with_share}
+use Rattle.network_config.specs.References.{document_place}
+use Rattle.network_config.specs.Sums.{share_of, shares_in, shares_of, listed_with, sums_in, total_up_to, amount_of_same_asset, same_asset}
+use Rattle.network_config.specs.Totals.{TotalKey, total_key_cmp, total_key_of, total_under_key, with_share}
+use Rattle.plain_lists.proofs.Lemmas.Facts.{equal_then as then_says}
 
-pub within : (xs : List Share) (k : ℕ) (s : Share) → k < length xs → s ≡ get_or xs k s → nat_lt (total (take k xs) s) amount_limit ≡ true → sums_in (take k xs) (drop k xs) ≡ sums_in (take (k + 1) xs) (drop (k + 1) xs)
+pub within : (xs : List Share) (k : ℕ) (s : Share) → k < length xs → s ≡ get_or xs k s → nat_lt (total_up_to (take k xs) s) amount_limit ≡ true → sums_in (take k xs) (drop k xs) ≡ sums_in (take (k + 1) xs) (drop (k + 1) xs)
 unfolding sums_in
 within xs k s l e r = rw (drop_more xs k s l, take_more xs k s l, ← e, r) refl
 
-pub beyond : (xs : List Share) (k : ℕ) (s : Share) → k < length xs → s ≡ get_or xs k s → nat_lt (total (take k xs) s) amount_limit ≡ false → sums_in (take k xs) (drop k xs) ≡ Err (LimitPassed s.place)
+pub beyond : (xs : List Share) (k : ℕ) (s : Share) → k < length xs → s ≡ get_or xs k s → nat_lt (total_up_to (take k xs) s) amount_limit ≡ false → sums_in (take k xs) (drop k xs) ≡ Err (LimitPassed s.place)
 unfolding sums_in
 beyond xs k s l e r = rw (drop_more xs k s l, ← e, r) refl
 
@@ -49,7 +50,7 @@ listed_is : (o : Option Share) (shares : List Share) → listed_with o shares �
 listed_is None shares = refl
 listed_is (Some share) shares = refl
 
-pub share_added : (chain : ℕ) (context : List Junction) (xs : List Balance) (k i : ℕ) (b : Balance) (done : List Share) (o : Option Share) → k < length xs → b ≡ get_or xs k b → o ≡ share_of (place_in (Some chain) Accounts i) context b
+pub share_added : (chain : ℕ) (context : List Junction) (xs : List Balance) (k i : ℕ) (b : Balance) (done : List Share) (o : Option Share) → k < length xs → b ≡ get_or xs k b → o ≡ share_of (document_place (Some chain) Accounts i) context b
     → (done ++ option_to_list o) ++ shares_in chain context (next_index i) (drop (k + 1) xs) ≡ done ++ shares_in chain context i (drop k xs)
 unfolding shares_in
 share_added chain context xs k i b done o l e n = rw (drop_more xs k b l, ← e, ← n, listed_is o (shares_in chain context (next_index i) (drop (k + 1) xs))) (append_assoc done (option_to_list o) (shares_in chain context (next_index i) (drop (k + 1) xs)))
@@ -89,12 +90,7 @@ sum_exact sum t e f = let below = ltb-true sum 170141183460469231731687303715884
 -- ---- totals
 
 abbrev pub counted_at : TotalKey → Share → ℕ
-counted_at key share = if eq_by_cmp total_key_cmp (key_of share) key then share.amount else 0
-
-pub then_says : (r s : Ordering) → is_eq (ordering_then r s) ≡ (is_eq r && is_eq s)
-then_says Less s = refl
-then_says Equal s = refl
-then_says Greater s = refl
+counted_at key share = if eq_by_cmp total_key_cmp (total_key_of share) key then share.amount else 0
 
 number_says : (a b : Kind) → is_eq (nat_cmp (kind_number a) (kind_number b)) ≡ same_kind a b
 number_says Fungible Fungible = refl
@@ -103,15 +99,15 @@ number_says Class Fungible = refl
 number_says Class Class = refl
 
 -- shares of one key are those of one path and kind
-same_keys : (other share : Share) → eq_by_cmp total_key_cmp (key_of other) (key_of share) ≡ same_asset other share
+same_keys : (other share : Share) → eq_by_cmp total_key_cmp (total_key_of other) (total_key_of share) ≡ same_asset other share
 same_keys other share =
     then_says (junctions_cmp other.path share.path) (nat_cmp (kind_number other.kind) (kind_number share.kind)) ∙ ap (λ b. eq_by_cmp junctions_cmp other.path share.path && b) (number_says other.kind share.kind)
 
-counts_same : (share : Share) → counted_at (key_of share) ≡ counted share
+counts_same : (share : Share) → counted_at (total_key_of share) ≡ amount_of_same_asset share
 counts_same share = λ i other. if same_keys other share i then other.amount else 0
 
-pub total_is : (totals : List (TotalKey × ℕ)) (earlier : List Share) (share : Share) → ((q : TotalKey) → total_at totals q ≡ sum_by (counted_at q) earlier) → total_at totals (key_of share) + share.amount ≡ total earlier share
-total_is totals earlier share h = ap (λ n. n + share.amount) (h (key_of share) ∙ ap (λ f. sum_by f earlier) (counts_same share))
+pub total_is : (totals : List (TotalKey × ℕ)) (earlier : List Share) (share : Share) → ((q : TotalKey) → total_under_key totals q ≡ sum_by (counted_at q) earlier) → total_under_key totals (total_key_of share) + share.amount ≡ total_up_to earlier share
+total_is totals earlier share h = ap (λ n. n + share.amount) (h (total_key_of share) ∙ ap (λ f. sum_by f earlier) (counts_same share))
 
 pub numbers_same : (a b : ℕ) → is_eq (nat_cmp a b) ≡ true → a ≡ b
 numbers_same a b h = nat_cmp-IsAntisymmetric a b (tied (nat_cmp a b) h)
@@ -135,12 +131,12 @@ sum_more : (f : Share → ℕ) (xs : List Share) (k : ℕ) (x : Share) → k < l
 sum_more f xs k x l e = rw (take_more xs k x l, ← e) (sum_by-append f (take k xs) (x ∷ []) ∙ ap (λ n. sum_by f (take k xs) + n) (sum_one f x))
 
 -- the totals after one more share
-pub total_more : (old new : List (TotalKey × ℕ)) (xs : List Share) (k : ℕ) (share : Share) → k < length xs → share ≡ get_or xs k share → ((q : TotalKey) → total_at new q ≡ with_share share old q)
-    → ((q : TotalKey) → total_at old q ≡ sum_by (counted_at q) (take k xs)) → (q : TotalKey) → total_at new q ≡ sum_by (counted_at q) (take (k + 1) xs)
+pub total_more : (old new : List (TotalKey × ℕ)) (xs : List Share) (k : ℕ) (share : Share) → k < length xs → share ≡ get_or xs k share → ((q : TotalKey) → total_under_key new q ≡ with_share share old q)
+    → ((q : TotalKey) → total_under_key old q ≡ sum_by (counted_at q) (take k xs)) → (q : TotalKey) → total_under_key new q ≡ sum_by (counted_at q) (take (k + 1) xs)
 total_more old new xs k share l e wrote told q =
-    wrote q ∙ elim (eq_by_cmp total_key_cmp (key_of share) q) as (λ b. eq_by_cmp total_key_cmp (key_of share) q ≡ b
-    → (if b then total_at old (key_of share) + share.amount else total_at old q) ≡ sum_by (counted_at q) (take k xs) + (if b then share.amount else 0)) [
-      | true ↦ λ t. ap (λ n. n + share.amount) (ap (total_at old) (key_same (key_of share) q t) ∙ told q)
+    wrote q ∙ elim (eq_by_cmp total_key_cmp (total_key_of share) q) as (λ b. eq_by_cmp total_key_cmp (total_key_of share) q ≡ b
+    → (if b then total_under_key old (total_key_of share) + share.amount else total_under_key old q) ≡ sum_by (counted_at q) (take k xs) + (if b then share.amount else 0)) [
+      | true ↦ λ t. ap (λ n. n + share.amount) (ap (total_under_key old) (key_same (total_key_of share) q t) ∙ told q)
       | false ↦ λ t. told q ∙ nothing_more (sum_by (counted_at q) (take k xs))
     ] refl
     ∙ sym (sum_more (counted_at q) xs k share l e)
@@ -149,6 +145,6 @@ total_more old new xs k share l e wrote told q =
     nothing_more n = omega arith
 
 -- a refusal at a share, out of memory or by its total
-pub stops_at : (stop : Stop) (shares : List Share) (fault : NetworkFault) → (stop ≡ stops.Memory) ⊎ ((stop ≡ stops.Fault fault) × (sums_in [] shares ≡ Err fault)) → Stops stop (sums_in [] shares)
-stops_at stop shares fault (inl e) = subst (λ s. Stops s (sums_in [] shares)) (sym e) tt
-stops_at stop shares fault (inr e) = subst (λ s. Stops s (sums_in [] shares)) (sym e.0) e.1
+pub stops_at : (stop : Stop) (shares : List Share) (fault : NetworkFault) → (stop ≡ stops.Memory) ⊎ ((stop ≡ stops.Fault fault) × (sums_in [] shares ≡ Err fault)) → FailsWith stop (sums_in [] shares)
+stops_at stop shares fault (inl e) = subst (λ s. FailsWith s (sums_in [] shares)) (sym e) tt
+stops_at stop shares fault (inr e) = subst (λ s. FailsWith s (sums_in [] shares)) (sym e.0) e.1

@@ -4,21 +4,21 @@ use Rattle.serde_json.specs.Data.{Data, Items}
 use Rattle.serde_json.specs.Find.{get, as_bool}
 use Rattle.chain_ids.specs.declared.chain.ChainId.{ChainId}
 use Rattle.chain_ids.specs.declared.chain.ChainId.TheVariants.{Relay, Para}
-use Rattle.message_parts.specs.declared.weight.Weight.{Weight}
+use Rattle.operands.specs.declared.weight.Weight.{Weight}
 use Rattle.barriers.specs.declared.barrier.Barrier.{Barrier}
 use Rattle.barriers.specs.declared.barrier.Barrier.TheVariants.{Credit, Paid, Responses}
-use Rattle.chain_pools.specs.declared.pool.Pool.{Pool}
+use Rattle.asset_pools.specs.declared.pool.Pool.{Pool}
 use Rattle.weight_trader.specs.declared.rate.Rate.{Rate}
 use Rattle.trust_tables.specs.declared.rows.AssetRow.{AssetRow}
-use Rattle.message_parts.specs.declared.pallet.PalletInfo.{PalletInfo}
+use Rattle.operands.specs.declared.pallet.PalletInfo.{PalletInfo}
 use Rattle.network_spec.specs.declared.chain.Balance.{Balance}
 use Rattle.network_spec.specs.declared.chain.ChainSpec.{ChainSpec}
-use Rattle.document_forms.specs.declared.fault.NetworkFault.{NetworkFault}
-use Rattle.document_forms.specs.declared.fault.NetworkFault.TheVariants.{WrongKind, LimitPassed}
-use Rattle.document_forms.specs.declared.fault.Place.{Place}
-use Rattle.document_forms.specs.declared.fault.Section.{Section}
-use Rattle.document_forms.specs.declared.fault.Section.TheVariants.{Top, Fields, Barriers, Rates, Assets, Accounts, Pallets, Queries, Pools, Channels}
-use Rattle.document_forms.specs.Forms.{Form, ◌>>=◌, ◌>>◌, or_fault, where_true, fields, defaulted, number_within, bytes, pair, list_field, entries, count}
+use Rattle.document_entries.specs.declared.fault.NetworkFault.{NetworkFault}
+use Rattle.document_entries.specs.declared.fault.NetworkFault.TheVariants.{WrongKind, LimitPassed}
+use Rattle.document_entries.specs.declared.fault.Place.{Place}
+use Rattle.document_entries.specs.declared.fault.Section.{Section}
+use Rattle.document_entries.specs.declared.fault.Section.TheVariants.{Top, Fields, Barriers, Rates, Assets, Accounts, Pallets, Queries, Pools, Channels}
+use Rattle.document_entries.specs.Forms.{Form, ◌>>=◌, ◌>>◌, or_fault, where_true, fields, defaulted, number_within, bytes32_form, pair, list_field, entries, count}
 use Rattle.document_entries.specs.Entries.{made, u32, barrier, rate, asset_row, account, pallet, query, pool}
 use Rattle.network_config.specs.declared.head.ChainHead.{ChainHead}
 use Rattle.network_config.specs.declared.head.Served.{Served}
@@ -46,24 +46,24 @@ channel_at index = record { chain = None; section = Channels; index = index }
 abbrev pub para_field : Form ChainId
 para_field = defaulted (codes "para") Relay (made Para u32)
 
-abbrev pub weight_of : ℕ × ℕ → Weight
-weight_of (ref_time, proof_size) = record { ref_time = ref_time; proof_size = proof_size }
+abbrev pub weight_of_pair : ℕ × ℕ → Weight
+weight_of_pair (ref_time, proof_size) = record { ref_time = ref_time; proof_size = proof_size }
 
 abbrev pub weight_field : List ℕ → ℕ → ℕ → Form Weight
-weight_field name ref_time proof_size = defaulted name (record { ref_time = ref_time; proof_size = proof_size }) (made weight_of pair)
+weight_field name ref_time proof_size = defaulted name (record { ref_time = ref_time; proof_size = proof_size }) (made weight_of_pair pair)
 
 -- 32 zeros
 abbrev pub no_account : List ℕ
 no_account = 0 ∷ 0 ∷ 0 ∷ 0 ∷ 0 ∷ 0 ∷ 0 ∷ 0 ∷ 0 ∷ 0 ∷ 0 ∷ 0 ∷ 0 ∷ 0 ∷ 0 ∷ 0 ∷ 0 ∷ 0 ∷ 0 ∷ 0 ∷ 0 ∷ 0 ∷ 0 ∷ 0 ∷ 0 ∷ 0 ∷ 0 ∷ 0 ∷ 0 ∷ 0 ∷ 0 ∷ 0 ∷ []
 
-unfoldable pub head : Form ChainHead
-head place value = do
+unfoldable pub chain_head : Form ChainHead
+chain_head place value = do
   chain ← para_field place value
   unit ← weight_field (codes "unit_weight") 1000 100 place value
   limit ← weight_field (codes "max_weight") 1000000000000 5242880 place value
   max_instructions ← defaulted (codes "max_instructions") 100 (number_within 1 100) place value
   max_holding ← defaulted (codes "max_holding") 64 (number_within 20 64) place value
-  fee_account ← defaulted (codes "fee_account") no_account bytes place value
+  fee_account ← defaulted (codes "fee_account") no_account bytes32_form place value
   Ok (record { chain = chain; rules = record { unit = unit; max_instructions = max_instructions }; limit = limit; max_holding = max_holding; fee_account = fee_account })
 
 -- ---- its lists
@@ -75,8 +75,8 @@ short_list name most place value = do
   where_true (LimitPassed place) (nat_le (count items) most) items
 
 -- what is a list is one, and no list is too long
-unfoldable pub lists : Form (Unit {0})
-lists place value = do
+unfoldable pub checked_lists : Form (Unit {0})
+checked_lists place value = do
   list_field (codes "barriers") place value
   list_field (codes "rates") place value
   short_list (codes "assets") 128 place value
@@ -114,18 +114,18 @@ unfoldable pub truth : Form Bool
 truth place value = or_fault (WrongKind place) (as_bool value)
 
 -- false where it isn't there
-abbrev pub flag : List ℕ → Form Bool
-flag name = defaulted name false truth
+abbrev pub flag_or_false : List ℕ → Form Bool
+flag_or_false name = defaulted name false truth
 
 -- a chain with its own fields, its lists and what it serves
 abbrev pub with_head : ChainHead → List Barrier → List Rate → List AssetRow → List Balance → List PalletInfo → List (ℕ × ChainId) → List Pool
     → Served → ChainSpec
-with_head head barriers rates assets accounts pallets queries pools served = record {
-  chain = head.chain;
-  rules = head.rules;
-  limit = head.limit;
-  max_holding = head.max_holding;
-  fee_account = head.fee_account;
+with_head chain_head barriers rates assets accounts pallets queries pools served = record {
+  chain = chain_head.chain;
+  rules = chain_head.rules;
+  limit = chain_head.limit;
+  max_holding = chain_head.max_holding;
+  fee_account = chain_head.fee_account;
   barriers = barriers;
   rates = rates;
   assets = assets;
@@ -138,20 +138,20 @@ with_head head barriers rates assets accounts pallets queries pools served = rec
 }
 
 -- its own fields, and what it serves
-unfoldable pub own_fields : Bool → Form (ChainHead × Served)
-own_fields more place value = do
+unfoldable pub own_chain_fields : Bool → Form (ChainHead × Served)
+own_chain_fields more place value = do
   fields (chain_fields more) place value
-  head ← head place value
-  lists place value
-  calls ← flag (codes "calls") place value
-  locks ← flag (codes "locks") place value
+  chain_head ← chain_head place value
+  checked_lists place value
+  calls ← flag_or_false (codes "calls") place value
+  locks ← flag_or_false (codes "locks") place value
   short_list (codes "pools") 16 place value
-  Ok (head, record { calls = calls; locks = locks })
+  Ok (chain_head, record { calls = calls; locks = locks })
 
 -- the entry of a chain by its index; format 2 has more fields
 unfoldable pub chain_entry : Bool → ℕ → Data → Result ChainSpec NetworkFault
 chain_entry more chain value = do
-  own ← own_fields more (fields_of chain) value
+  own ← own_chain_fields more (fields_of chain) value
   barriers ← barriers_field chain value
   rates ← entries_field (codes "rates") Rates rate chain value
   assets ← entries_field (codes "assets") Assets asset_row chain value

@@ -6,9 +6,9 @@ use Rattle.serde_json.specs.Find.{as_object, get}
 use Rattle.locations.specs.declared.grammar.NetworkId.{NetworkId}
 use Rattle.locations.specs.declared.grammar.NetworkId.TheVariants.{ByGenesis, Polkadot, Kusama, Westend, Rococo, Wococo}
 use Rattle.network_spec.specs.declared.network.NetworkSpec.{NetworkSpec}
-use Rattle.document_forms.specs.declared.fault.NetworkFault.{NetworkFault}
-use Rattle.document_forms.specs.declared.fault.NetworkFault.TheVariants.{BadValue, LimitPassed}
-use Rattle.document_forms.specs.Forms.{Form, ◌>>=◌, ◌>>◌, or_fault, where_true, fields, defaulted, text, bytes32, number_within, list_field, entries, count}
+use Rattle.document_entries.specs.declared.fault.NetworkFault.{NetworkFault}
+use Rattle.document_entries.specs.declared.fault.NetworkFault.TheVariants.{BadValue, LimitPassed}
+use Rattle.document_entries.specs.Forms.{Form, ◌>>=◌, ◌>>◌, or_fault, where_true, fields, defaulted, text, bytes32, number_within, list_field, entries, count}
 use Rattle.document_entries.specs.Entries.{channel_entry}
 use Rattle.network_config.specs.Chains.{top, channel_at, short_list, chain_entry}
 
@@ -22,8 +22,8 @@ network_of_text s =
     else if bytes_eq s (codes "Wococo") then Some Wococo
     else option_map ByGenesis (bytes32 s)
 
-unfoldable pub network : Form NetworkId
-network place value = do
+unfoldable pub network_id_form : Form NetworkId
+network_id_form place value = do
   s ← text place value
   or_fault (BadValue place) (network_of_text s)
 
@@ -57,10 +57,10 @@ top_fields = codes "network" ∷ codes "chains" ∷ codes "channels" ∷ codes "
 unfoldable pub shapes : Data → Result NetworkSpec NetworkFault
 shapes value = do
   fields top_fields top value
-  network ← defaulted (codes "network") Polkadot network top value
+  network_id_form ← defaulted (codes "network") Polkadot network_id_form top value
   chain_items ← chains_list top value
   channel_items ← short_list (codes "channels") 256 top value
   fees ← defaulted (codes "format") false has_fees top value
   chains ← entries (chain_entry fees) 0 chain_items
   channels ← entries (λ index. channel_entry fees (channel_at index)) 0 channel_items
-  Ok (record { network = network; chains = chains; channels = channels })
+  Ok (record { network = network_id_form; chains = chains; channels = channels })

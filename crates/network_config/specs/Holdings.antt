@@ -1,6 +1,6 @@
 -- What earlier entries of accounts are of, as the code keeps it: an asset's row and an account, or an asset's row and an instance.
 use Rattle.std.specs.Prelude.{ℕ, List, Bool, true, false, Option, Some, None}
-use Rattle.std.specs.List.{list_any, position}
+use Rattle.std.specs.List.{list_any}
 use Rattle.std.specs.Option.{option_cmp}
 use Rattle.std.specs.declared.cmp.Ordering.{Ordering}
 use Rattle.std.specs.Ordering.{nat_cmp, on, then_cmp, eq_by_cmp}
@@ -12,8 +12,6 @@ use Rattle.asset_lists.specs.declared.units.Fun.{Fun}
 use Rattle.asset_lists.specs.declared.units.Fun.TheVariants.{Fungible, NonFungible}
 use Rattle.asset_lists.specs.declared.units.Instance.{Instance}
 use Rattle.ledgers.specs.Ledgers.{number_in}
-use Rattle.trust_tables.specs.declared.rows.AssetRow.{AssetRow}
-use Rattle.trust_tables.specs.Trust.{is_row_of}
 use Rattle.network_spec.specs.declared.chain.Balance.{Balance}
 use Rattle.network_config.specs.declared.checks.Flaws.{Flaws}
 
@@ -34,8 +32,8 @@ abbrev pub holding_by : ℕ → List ℕ → Fun → HoldingKey
 holding_by row who (Fungible amount) = ((row, Some who), None)
 holding_by row who (NonFungible instance) = ((row, None), Some instance)
 
-abbrev pub holding_of : ℕ → Balance → HoldingKey
-holding_of row balance = holding_by row balance.who balance.asset.fun
+abbrev pub holding_key_of : ℕ → Balance → HoldingKey
+holding_key_of row balance = holding_by row balance.who balance.asset.fun
 
 abbrev pub is_held : List HoldingKey → HoldingKey → Bool
 is_held keys key = list_any (λ k. eq_by_cmp holding_key_cmp key k) keys
@@ -43,16 +41,12 @@ is_held keys key = list_any (λ k. eq_by_cmp holding_key_cmp key k) keys
 -- the flaws of an entry whose asset has this row, beside these holdings
 abbrev pub flaws_beside : Option ℕ → List HoldingKey → Balance → Flaws
 flaws_beside None keys balance = record { repeated = false; bad = true; past = false }
-flaws_beside (Some row) keys balance = record { repeated = is_held keys (holding_of row balance); bad = false; past = false }
+flaws_beside (Some row) keys balance = record { repeated = is_held keys (holding_key_of row balance); bad = false; past = false }
 
 -- whether an entry whose asset has this row is of the holding
 abbrev pub is_of_holding : Option ℕ → Balance → HoldingKey → Bool
 is_of_holding None balance key = false
-is_of_holding (Some row) balance key = eq_by_cmp holding_key_cmp (holding_of row balance) key
-
--- the row that lists the entry's asset
-abbrev pub row_number : List AssetRow → Balance → Option ℕ
-row_number rows balance = position (is_row_of balance.asset) rows
+is_of_holding (Some row) balance key = eq_by_cmp holding_key_cmp (holding_key_of row balance) key
 
 -- the number of the entry's asset among those listed
 abbrev pub listed_number : List Listed → Balance → Option ℕ

@@ -8,6 +8,3 @@ pub mod Totals
 pub mod Holdings
 pub mod Queries
 pub mod Names
-pub mod Faultless
-pub mod Summed
-pub mod Arranged

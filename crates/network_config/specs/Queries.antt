@@ -8,7 +8,7 @@ use Rattle.chain_ids.specs.declared.chain.ChainId.{ChainId}
 use Rattle.chain_ids.specs.declared.chain.ChainId.TheVariants.{Relay, Para}
 use Rattle.network_spec.specs.declared.chain.ChainSpec.{ChainSpec}
 use Rattle.network_config.specs.declared.checks.Flaws.{Flaws}
-use Rattle.network_config.specs.References.{is_other}
+use Rattle.network_config.specs.References.{is_other_chain}
 
 abbrev pub QueryKey : Type 0
 QueryKey = ℕ × Option ℕ
@@ -17,16 +17,16 @@ abbrev pub query_key_cmp : QueryKey → QueryKey → Ordering
 query_key_cmp = then_cmp (on (λ (k : QueryKey). k.0) nat_cmp) (on (λ (k : QueryKey). k.1) (option_cmp nat_cmp))
 
 -- the relay chain has no number
-abbrev pub number_of : ChainId → Option ℕ
-number_of Relay = None
-number_of (Para number) = Some number
+abbrev pub parachain_number : ChainId → Option ℕ
+parachain_number Relay = None
+parachain_number (Para number) = Some number
 
-abbrev pub key_of : ℕ × ChainId → QueryKey
-key_of query = (query.0, number_of query.1)
+abbrev pub query_key_of : ℕ × ChainId → QueryKey
+query_key_of query = (query.0, parachain_number query.1)
 
 abbrev pub is_asked : List QueryKey → QueryKey → Bool
 is_asked keys key = list_any (λ k. eq_by_cmp query_key_cmp key k) keys
 
 -- the flaws of an entry, beside these queries
-abbrev pub flaws_beside : List ChainSpec → ChainId → List QueryKey → ℕ × ChainId → Flaws
-flaws_beside chains here keys query = record { repeated = is_asked keys (key_of query); bad = not (is_other chains here query.1); past = false }
+abbrev pub query_flaws_beside : List ChainSpec → ChainId → List QueryKey → ℕ × ChainId → Flaws
+query_flaws_beside chains here keys query = record { repeated = is_asked keys (query_key_of query); bad = not (is_other_chain chains here query.1); past = false }

@@ -18,20 +18,20 @@ use Rattle.trust_tables.specs.declared.rows.AssetRole.TheVariants.{Native, Deriv
 use Rattle.trust_tables.specs.declared.rows.AssetRow.{AssetRow}
 use Rattle.trust_tables.specs.Chains.{path_of_site}
 use Rattle.trust_tables.specs.Trust.{is_row_of}
-use Rattle.chain_pools.specs.declared.pool.Pool.{Pool}
+use Rattle.asset_pools.specs.declared.pool.Pool.{Pool}
 use Rattle.weight_trader.specs.declared.rate.Rate.{Rate}
-use Rattle.message_parts.specs.declared.pallet.PalletInfo.{PalletInfo}
+use Rattle.operands.specs.declared.pallet.PalletInfo.{PalletInfo}
 use Rattle.network_spec.specs.declared.chain.Balance.{Balance}
 use Rattle.network_spec.specs.declared.chain.ChainSpec.{ChainSpec}
 use Rattle.network_spec.specs.declared.network.ChannelSpec.{ChannelSpec}
 use Rattle.network_spec.specs.declared.network.NetworkSpec.{NetworkSpec}
 use Rattle.network_spec.specs.Networks.{same_holding}
-use Rattle.document_forms.specs.declared.fault.NetworkFault.{NetworkFault}
-use Rattle.document_forms.specs.declared.fault.NetworkFault.TheVariants.{Repeated, BadValue, LimitPassed}
-use Rattle.document_forms.specs.declared.fault.Place.{Place}
-use Rattle.document_forms.specs.declared.fault.Section.{Section}
-use Rattle.document_forms.specs.declared.fault.Section.TheVariants.{Fields, Rates, Assets, Accounts, Pallets, Queries, Pools, Channels}
-use Rattle.document_forms.specs.Forms.{◌>>◌, next_index}
+use Rattle.document_entries.specs.declared.fault.NetworkFault.{NetworkFault}
+use Rattle.document_entries.specs.declared.fault.NetworkFault.TheVariants.{Repeated, BadValue, LimitPassed}
+use Rattle.document_entries.specs.declared.fault.Place.{Place}
+use Rattle.document_entries.specs.declared.fault.Section.{Section}
+use Rattle.document_entries.specs.declared.fault.Section.TheVariants.{Fields, Rates, Assets, Accounts, Pallets, Queries, Pools, Channels}
+use Rattle.document_entries.specs.Forms.{◌>>◌, next_index}
 use Rattle.network_config.specs.declared.checks.Flaws.{Flaws}
 
 -- the fault of an entry with these flaws
@@ -42,13 +42,13 @@ flaw_at place flaws =
     else if flaws.past then Err (LimitPassed place)
     else Ok tt
 
-abbrev pub place_in : Option ℕ → Section → ℕ → Place
-place_in chain section index = record { chain = chain; section = section; index = index }
+abbrev pub document_place : Option ℕ → Section → ℕ → Place
+document_place chain section index = record { chain = chain; section = section; index = index }
 
 -- each entry, by its flaws beside the earlier ones
 unfoldable pub each_in : {X : Type 0} → (List X → X → Flaws) → Option ℕ → Section → ℕ → List X → List X → Result (Unit {0}) NetworkFault
 each_in flaws chain section i earlier [] = Ok tt
-each_in flaws chain section i earlier (x ∷ xs) = flaw_at (place_in chain section i) (flaws earlier x) >> each_in flaws chain section (next_index i) (earlier ++ x ∷ []) xs
+each_in flaws chain section i earlier (x ∷ xs) = flaw_at (document_place chain section i) (flaws earlier x) >> each_in flaws chain section (next_index i) (earlier ++ x ∷ []) xs
 
 -- ---- chains that are there
 
@@ -57,8 +57,8 @@ abbrev pub is_there : List ChainSpec → ChainId → Bool
 is_there chains chain = same_chain chain Relay || list_any (λ c. same_chain c.chain chain) chains
 
 -- a chain that is there, and another than this
-abbrev pub is_other : List ChainSpec → ChainId → ChainId → Bool
-is_other chains here chain = not (same_chain here chain) && is_there chains chain
+abbrev pub is_other_chain : List ChainSpec → ChainId → ChainId → Bool
+is_other_chain chains here chain = not (same_chain here chain) && is_there chains chain
 
 -- ---- each kind of entry
 
@@ -77,8 +77,8 @@ rate_flaws rows earlier rate = record {
 }
 
 abbrev pub names_others : List ChainSpec → ChainId → AssetRole → Bool
-names_others chains here (Native partners checking) = list_all (is_other chains here) partners
-names_others chains here (Derivative reserve) = is_other chains here reserve
+names_others chains here (Native partners checking) = list_all (is_other_chain chains here) partners
+names_others chains here (Derivative reserve) = is_other_chain chains here reserve
 
 abbrev pub asset_flaws : List ChainSpec → NetworkId → ChainId → List AssetRow → AssetRow → Flaws
 asset_flaws chains network here earlier row = record {
@@ -100,7 +100,7 @@ pallet_flaws earlier pallet = record { repeated = list_any (λ other. other.inde
 abbrev pub query_flaws : List ChainSpec → ChainId → List (ℕ × ChainId) → ℕ × ChainId → Flaws
 query_flaws chains here earlier query = record {
   repeated = list_any (λ other. (other.0 == query.0) && same_chain other.1 query.1) earlier;
-  bad = not (is_other chains here query.1);
+  bad = not (is_other_chain chains here query.1);
   past = false;
 }
 
@@ -124,14 +124,14 @@ pool_flaws rows earlier pool = record {
 }
 
 -- the sender lists the asset of the fee
-abbrev pub lists_fee : List ChainSpec → ChainId → Option Asset → Bool
-lists_fee chains from None = true
-lists_fee chains from (Some fee) = list_any (λ c. same_chain c.chain from && list_any (is_row_of fee) c.assets) chains
+abbrev pub sender_lists_fee : List ChainSpec → ChainId → Option Asset → Bool
+sender_lists_fee chains from None = true
+sender_lists_fee chains from (Some fee) = list_any (λ c. same_chain c.chain from && list_any (is_row_of fee) c.assets) chains
 
 abbrev pub channel_flaws : List ChainSpec → List ChannelSpec → ChannelSpec → Flaws
 channel_flaws chains earlier c = record {
   repeated = list_any (λ other. same_chain other.from c.from && same_chain other.channel.to c.channel.to) earlier;
-  bad = not (is_there chains c.from) || (not (is_other chains c.from c.channel.to) || not (lists_fee chains c.from c.channel.fee));
+  bad = not (is_there chains c.from) || (not (is_other_chain chains c.from c.channel.to) || not (sender_lists_fee chains c.from c.channel.fee));
   past = false;
 }
 
@@ -142,7 +142,7 @@ chain_flaws earlier c = record { repeated = list_any (λ other. same_chain other
 
 unfoldable pub chain_references : List ChainSpec → NetworkId → ℕ → List ChainSpec → ChainSpec → Result (Unit {0}) NetworkFault
 chain_references chains network i earlier c = do
-  flaw_at (place_in (Some i) Fields 0) (chain_flaws earlier c)
+  flaw_at (document_place (Some i) Fields 0) (chain_flaws earlier c)
   each_in (rate_flaws c.assets) (Some i) Rates 0 [] c.rates
   each_in (asset_flaws chains network c.chain) (Some i) Assets 0 [] c.assets
   each_in (account_flaws c.assets) (Some i) Accounts 0 [] c.accounts

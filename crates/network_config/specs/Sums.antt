@@ -15,14 +15,14 @@ use Rattle.trust_tables.specs.Chains.{path_of_site}
 use Rattle.network_spec.specs.declared.chain.Balance.{Balance}
 use Rattle.network_spec.specs.declared.chain.ChainSpec.{ChainSpec}
 use Rattle.network_spec.specs.declared.network.NetworkSpec.{NetworkSpec}
-use Rattle.document_forms.specs.declared.fault.NetworkFault.{NetworkFault}
-use Rattle.document_forms.specs.declared.fault.NetworkFault.TheVariants.{LimitPassed}
-use Rattle.document_forms.specs.declared.fault.Place.{Place}
-use Rattle.document_forms.specs.declared.fault.Section.TheVariants.{Accounts}
-use Rattle.document_forms.specs.Forms.{◌>>◌, where_true, next_index}
+use Rattle.document_entries.specs.declared.fault.NetworkFault.{NetworkFault}
+use Rattle.document_entries.specs.declared.fault.NetworkFault.TheVariants.{LimitPassed}
+use Rattle.document_entries.specs.declared.fault.Place.{Place}
+use Rattle.document_entries.specs.declared.fault.Section.TheVariants.{Accounts}
+use Rattle.document_entries.specs.Forms.{◌>>◌, where_true, next_index}
 use Rattle.document_entries.specs.Entries.{amount_limit}
 use Rattle.network_config.specs.declared.sums.Share.{Share}
-use Rattle.network_config.specs.References.{place_in}
+use Rattle.network_config.specs.References.{document_place}
 
 -- the path of an id, where it has one of at most eight junctions
 abbrev pub path_at : List Junction → Location → Option (List Junction)
@@ -47,7 +47,7 @@ listed_with (Some share) shares = share ∷ shares
 -- those of a chain's accounts, from an index on
 unfoldable pub shares_in : ℕ → List Junction → ℕ → List Balance → List Share
 shares_in chain context i [] = []
-shares_in chain context i (balance ∷ balances) = listed_with (share_of (place_in (Some chain) Accounts i) context balance) (shares_in chain context (next_index i) balances)
+shares_in chain context i (balance ∷ balances) = listed_with (share_of (document_place (Some chain) Accounts i) context balance) (shares_in chain context (next_index i) balances)
 
 -- those of all chains, in the document's order
 unfoldable pub shares_of : NetworkId → ℕ → List ChainSpec → List Share
@@ -59,17 +59,17 @@ abbrev pub same_asset : Share → Share → Bool
 same_asset a b = eq_by_cmp junctions_cmp a.path b.path && same_kind a.kind b.kind
 
 -- what an earlier share counts for beside this one
-abbrev pub counted : Share → Share → ℕ
-counted share other = if same_asset other share then other.amount else 0
+abbrev pub amount_of_same_asset : Share → Share → ℕ
+amount_of_same_asset share other = if same_asset other share then other.amount else 0
 
 -- the sum up to a share, over those of its path and kind
-abbrev pub total : List Share → Share → ℕ
-total earlier share = sum_by (counted share) earlier + share.amount
+abbrev pub total_up_to : List Share → Share → ℕ
+total_up_to earlier share = sum_by (amount_of_same_asset share) earlier + share.amount
 
 -- no sum reaches the limit
 unfoldable pub sums_in : List Share → List Share → Result (Unit {0}) NetworkFault
 sums_in earlier [] = Ok tt
-sums_in earlier (share ∷ shares) = where_true {X = Unit {0}} (LimitPassed share.place) (nat_lt (total earlier share) amount_limit) tt >> sums_in (earlier ++ share ∷ []) shares
+sums_in earlier (share ∷ shares) = where_true {X = Unit {0}} (LimitPassed share.place) (nat_lt (total_up_to earlier share) amount_limit) tt >> sums_in (earlier ++ share ∷ []) shares
 
 unfoldable pub sums : NetworkSpec → Result (Unit {0}) NetworkFault
 sums spec = sums_in [] (shares_of spec.network 0 spec.chains)

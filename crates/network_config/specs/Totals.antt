@@ -15,13 +15,13 @@ abbrev pub total_key_cmp : TotalKey → TotalKey → Ordering
 total_key_cmp = then_cmp (on (λ (k : TotalKey). k.0) junctions_cmp) (on (λ (k : TotalKey). k.1) nat_cmp)
 
 -- a share's path and kind
-abbrev pub key_of : Share → TotalKey
-key_of share = (share.path, kind_number share.kind)
+abbrev pub total_key_of : Share → TotalKey
+total_key_of share = (share.path, kind_number share.kind)
 
 -- the total of a path and kind, 0 where there is none
-abbrev pub total_at : List (TotalKey × ℕ) → TotalKey → ℕ
-total_at totals key = unwrap_or (lookup (eq_by_cmp total_key_cmp key) totals) 0
+abbrev pub total_under_key : List (TotalKey × ℕ) → TotalKey → ℕ
+total_under_key totals key = unwrap_or (lookup (eq_by_cmp total_key_cmp key) totals) 0
 
 -- the totals after a share is added
 abbrev pub with_share : Share → List (TotalKey × ℕ) → TotalKey → ℕ
-with_share share totals key = if eq_by_cmp total_key_cmp (key_of share) key then total_at totals (key_of share) + share.amount else total_at totals key
+with_share share totals key = if eq_by_cmp total_key_cmp (total_key_of share) key then total_under_key totals (total_key_of share) + share.amount else total_under_key totals key

@@ -14,9 +14,9 @@ use Rattle.asset_lists.specs.declared.units.Kind.{Kind}
 use Rattle.asset_lists.specs.declared.units.Kind.TheVariants as kinds
 use Rattle.trust_tables.specs.declared.rows.AssetRole.{AssetRole}
 use Rattle.trust_tables.specs.declared.rows.AssetRole.TheVariants.{Native, Derivative}
-use Rattle.chain_pools.specs.declared.pool.Pool.{Pool}
+use Rattle.asset_pools.specs.declared.pool.Pool.{Pool}
 use Rattle.weight_trader.specs.declared.rate.Rate.{Rate}
-use Rattle.message_parts.specs.declared.pallet.PalletInfo.{PalletInfo}
+use Rattle.operands.specs.declared.pallet.PalletInfo.{PalletInfo}
 use Rattle.network_spec.specs.declared.chain.ChainSpec.{ChainSpec}
 use Rattle.network_spec.specs.declared.network.ChannelSpec.{ChannelSpec}
 use Rattle.network_spec.specs.declared.network.NetworkSpec.{NetworkSpec}
@@ -25,8 +25,8 @@ use Rattle.document_entries.specs.Entries.{rate_limit, amount_limit}
 use Rattle.network_config.specs.References.{references}
 use Rattle.network_config.specs.Sums.{sums}
 
-abbrev pub is_within : ℕ → ℕ → ℕ → Bool
-is_within low high n = nat_le low n && nat_le n high
+abbrev pub is_between : ℕ → ℕ → ℕ → Bool
+is_between low high n = nat_le low n && nat_le n high
 
 abbrev pub fits_rate : Rate → Bool
 fits_rate rate = nat_lt rate.per_second rate_limit && nat_lt rate.per_mb rate_limit
@@ -56,13 +56,13 @@ fits_pallet pallet = is_utf8 pallet.name && is_utf8 pallet.module_name
 
 -- something of what is given counts
 abbrev pub fits_pool : Pool → Bool
-fits_pool pool = is_within 0 999 pool.fee
+fits_pool pool = is_between 0 999 pool.fee
 
 abbrev pub fits_lists : ChainSpec → Bool
 fits_lists c = nat_le (length c.assets) 128 && (nat_le (length c.pallets) 64 && nat_le (length c.pools) 16)
 
 abbrev pub fits_rules : ChainSpec → Bool
-fits_rules c = is_within 1 100 c.rules.max_instructions && is_within 20 64 c.max_holding
+fits_rules c = is_between 1 100 c.rules.max_instructions && is_between 20 64 c.max_holding
 
 abbrev pub fits_entries : ChainSpec → Bool
 fits_entries c = list_all fits_rate c.rates
@@ -73,16 +73,16 @@ fits_entries c = list_all fits_rate c.rates
 abbrev pub fits_chain : ChainSpec → Bool
 fits_chain c = fits_rules c && (fits_lists c && fits_entries c)
 
-abbrev pub is_amount : Fun → Bool
-is_amount (Fungible amount) = true
-is_amount (NonFungible instance) = false
+abbrev pub is_fungible_amount : Fun → Bool
+is_fungible_amount (Fungible amount) = true
+is_fungible_amount (NonFungible instance) = false
 
 abbrev pub fits_fee : Option Asset → Bool
 fits_fee None = true
-fits_fee (Some fee) = fits_asset fee && is_amount fee.fun
+fits_fee (Some fee) = fits_asset fee && is_fungible_amount fee.fun
 
 abbrev pub fits_channel : ChannelSpec → Bool
-fits_channel c = is_within 1 32 c.channel.capacity && (is_within 1 65536 c.channel.max_size && fits_fee c.channel.fee)
+fits_channel c = is_between 1 32 c.channel.capacity && (is_between 1 65536 c.channel.max_size && fits_fee c.channel.fee)
 
 abbrev pub fits : NetworkSpec → Bool
 fits spec = nat_le (length spec.chains) 64 && (nat_le (length spec.channels) 256 && (list_all fits_chain spec.chains && list_all fits_channel spec.channels))

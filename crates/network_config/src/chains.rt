@@ -1,21 +1,21 @@
 //! The chains of a document.
 ghost use Rattle.std.specs.Prelude.{◌≡◌, codes, IfOk};
 ghost use Rattle.serde_json.specs.View.{view};
-ghost use Rattle.document_forms.specs.Answers.{Answers};
+ghost use Rattle.document_entries.specs.Answers.{Answers};
 ghost use Rattle.document_entries.specs.Entries.{rate, asset_row, account, pallet, query, pool};
-ghost use Rattle.document_forms.specs.declared.fault.Section.TheVariants as sections;
+ghost use Rattle.document_entries.specs.declared.fault.Section.TheVariants as sections;
 ghost use Rattle.network_config.specs.Chains.{entries_field, barriers_field, default_barriers, fields_of, in_chain};
 
 use crate::lists::{list_field, own_fields};
+use asset_pools::Pool;
 use barriers::Barrier;
 use chain_ids::ChainId;
-use chain_pools::Pool;
 use document_entries::{
-    account_of, asset_row_of, barrier_of, pallet_of, pool_of, query_of, rate_of,
+    Entry, Place, Section, Stop, account_of, asset_row_of, barrier_of, pallet_of, pool_of,
+    query_of, rate_of, read_entries,
 };
-use document_forms::{Entry, Place, Section, Stop, read_entries};
-use message_parts::PalletInfo;
 use network_spec::{Balance, ChainSpec};
+use operands::PalletInfo;
 use plain_lists::Listed;
 use serde_json::Value;
 use std::alloc::{AllocError, Global};
@@ -52,7 +52,7 @@ impl InChain {
 impl Entry<Barrier> for InChain {
     ghost use Rattle.document_entries.specs.Entries.{barrier};
     ghost use Rattle.network_config.specs.Chains.{in_chain};
-    ghost use Rattle.document_forms.specs.declared.fault.Section.TheVariants as sections;
+    ghost use Rattle.document_entries.specs.declared.fault.Section.TheVariants as sections;
 
     ghost form = { λ at index value. barrier (in_chain at.chain sections.Barriers index) value };
 
@@ -65,7 +65,7 @@ impl Entry<Barrier> for InChain {
 impl Entry<Rate> for InChain {
     ghost use Rattle.document_entries.specs.Entries.{rate};
     ghost use Rattle.network_config.specs.Chains.{in_chain};
-    ghost use Rattle.document_forms.specs.declared.fault.Section.TheVariants as sections;
+    ghost use Rattle.document_entries.specs.declared.fault.Section.TheVariants as sections;
 
     ghost form = { λ at index value. rate (in_chain at.chain sections.Rates index) value };
 
@@ -78,7 +78,7 @@ impl Entry<Rate> for InChain {
 impl Entry<AssetRow> for InChain {
     ghost use Rattle.document_entries.specs.Entries.{asset_row};
     ghost use Rattle.network_config.specs.Chains.{in_chain};
-    ghost use Rattle.document_forms.specs.declared.fault.Section.TheVariants as sections;
+    ghost use Rattle.document_entries.specs.declared.fault.Section.TheVariants as sections;
 
     ghost form = { λ at index value. asset_row (in_chain at.chain sections.Assets index) value };
 
@@ -91,7 +91,7 @@ impl Entry<AssetRow> for InChain {
 impl Entry<Balance> for InChain {
     ghost use Rattle.document_entries.specs.Entries.{account};
     ghost use Rattle.network_config.specs.Chains.{in_chain};
-    ghost use Rattle.document_forms.specs.declared.fault.Section.TheVariants as sections;
+    ghost use Rattle.document_entries.specs.declared.fault.Section.TheVariants as sections;
 
     ghost form = { λ at index value. account (in_chain at.chain sections.Accounts index) value };
 
@@ -104,7 +104,7 @@ impl Entry<Balance> for InChain {
 impl Entry<PalletInfo> for InChain {
     ghost use Rattle.document_entries.specs.Entries.{pallet};
     ghost use Rattle.network_config.specs.Chains.{in_chain};
-    ghost use Rattle.document_forms.specs.declared.fault.Section.TheVariants as sections;
+    ghost use Rattle.document_entries.specs.declared.fault.Section.TheVariants as sections;
 
     ghost form = { λ at index value. pallet (in_chain at.chain sections.Pallets index) value };
 
@@ -117,7 +117,7 @@ impl Entry<PalletInfo> for InChain {
 impl Entry<(u64, ChainId)> for InChain {
     ghost use Rattle.document_entries.specs.Entries.{query};
     ghost use Rattle.network_config.specs.Chains.{in_chain};
-    ghost use Rattle.document_forms.specs.declared.fault.Section.TheVariants as sections;
+    ghost use Rattle.document_entries.specs.declared.fault.Section.TheVariants as sections;
 
     ghost form = { λ at index value. query (in_chain at.chain sections.Queries index) value };
 
@@ -130,7 +130,7 @@ impl Entry<(u64, ChainId)> for InChain {
 impl Entry<Pool> for InChain {
     ghost use Rattle.document_entries.specs.Entries.{pool};
     ghost use Rattle.network_config.specs.Chains.{in_chain};
-    ghost use Rattle.document_forms.specs.declared.fault.Section.TheVariants as sections;
+    ghost use Rattle.document_entries.specs.declared.fault.Section.TheVariants as sections;
 
     ghost form = { λ at index value. pool (in_chain at.chain sections.Pools index) value };
 

@@ -2,7 +2,7 @@
 ghost use Rattle.std.specs.Prelude.{◌≡◌, [], Option};
 ghost use Rattle.network_config.specs.References.{flaw_at, each_in};
 
-use document_forms::{NetworkFault, Place, Section};
+use document_entries::{NetworkFault, Place, Section};
 
 /// What is wrong with an entry, beside the others.
 #[derive(Clone, Copy)]

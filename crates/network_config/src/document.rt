@@ -2,18 +2,17 @@
 ghost use Rattle.std.specs.Prelude.{◌≡◌, option_map};
 ghost use Rattle.std.specs.List.{list_any};
 ghost use Rattle.serde_json.specs.View.{view, items_view};
-ghost use Rattle.document_forms.specs.Answers.{Answers, AnswersAs};
-ghost use Rattle.document_forms.specs.Forms.{defaulted, bytes32};
+ghost use Rattle.document_entries.specs.Answers.{Answers, AnswersAs};
+ghost use Rattle.document_entries.specs.Forms.{defaulted, bytes32};
 ghost use Rattle.std.specs.Prelude.{codes, false};
 ghost use Rattle.locations.specs.declared.grammar.NetworkId.TheVariants.{Polkadot};
-ghost use Rattle.network_config.specs.Document.{network, network_of_text, has_fees, is_relay_entry, chains_list, shapes};
+ghost use Rattle.network_config.specs.Document.{network_id_form, network_of_text, has_fees, is_relay_entry, chains_list, shapes};
 
 use crate::chains::ChainEntries;
 use crate::lists::{list_field, short_list};
-use document_entries::channel_of;
-use document_forms::{
-    Entry, NetworkFault, Place, Section, Stop, bytes32, check_fields, number_of, read_entries,
-    text_of,
+use document_entries::{
+    Entry, NetworkFault, Place, Section, Stop, bytes32, channel_of, check_fields, number_of,
+    read_entries, text_of,
 };
 use locations::NetworkId;
 use network_spec::{ChannelSpec, NetworkSpec};
@@ -42,9 +41,9 @@ fn network_of_text(text: &str) -> Option<NetworkId>
 }
 
 /// The network.
-#[tactic(auto, unfolding(crate::specs::Document::network))]
+#[tactic(auto, unfolding(crate::specs::Document::network_id_form))]
 fn network_of(place: Place, value: &Value) -> Result<NetworkId, Stop>
-    ensures { Answers result (network place (view value.now)) }
+    ensures { Answers result (network_id_form place (view value.now)) }
 {
     match network_of_text(text_of(place, value)?) {
         Some(network) => Ok(network),
@@ -54,7 +53,7 @@ fn network_of(place: Place, value: &Value) -> Result<NetworkId, Stop>
 
 /// The network, which may be absent.
 fn network_field(place: Place, value: &Value) -> Result<NetworkId, Stop>
-    ensures { Answers result (defaulted (codes "network") Polkadot network place (view value.now)) }
+    ensures { Answers result (defaulted (codes "network") Polkadot network_id_form place (view value.now)) }
 {
     match value.get("network") {
         Some(network) => network_of(place, network),
@@ -131,7 +130,7 @@ impl Entry<ChannelSpec> for ChannelEntries {
 }
 
 /// The network that the values mean, its chains in the document's order.
-#[tactic(auto, unfolding(crate::specs::Document::shapes, document_forms::specs::Forms::fields))]
+#[tactic(auto, unfolding(crate::specs::Document::shapes, document_entries::specs::Forms::fields))]
 pub(crate) fn shapes(alloc: Global, value: &Value) -> Result<NetworkSpec, Stop>
     ensures { Answers result (shapes (view value.now)) }
 {

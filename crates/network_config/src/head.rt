@@ -1,13 +1,13 @@
 //! A chain's own fields.
 ghost use Rattle.std.specs.Prelude.{codes};
 ghost use Rattle.serde_json.specs.View.{view};
-ghost use Rattle.document_forms.specs.Answers.{Answers};
-ghost use Rattle.document_forms.specs.Forms.{defaulted, bytes, number_within};
-ghost use Rattle.network_config.specs.Chains.{para_field, weight_field, no_account, head};
+ghost use Rattle.document_entries.specs.Answers.{Answers};
+ghost use Rattle.document_entries.specs.Forms.{defaulted, bytes32_form, number_within};
+ghost use Rattle.network_config.specs.Chains.{para_field, weight_field, no_account, chain_head};
 
 use chain_ids::ChainId;
-use document_forms::{Place, Stop, bytes_of, number_of, pair_of};
-use message_parts::Weight;
+use document_entries::{Place, Stop, bytes_of, number_of, pair_of};
+use operands::Weight;
 use serde_json::Value;
 use xcm_program::WeightRule;
 
@@ -75,7 +75,7 @@ fn number_field(place: Place, name: &str, low: u32, high: u32, value: &Value) ->
 
 /// The account that fees are paid to.
 fn fee_account_field(place: Place, value: &Value) -> Result<[u8; 32], Stop>
-    ensures { Answers result (defaulted (codes "fee_account") no_account bytes place
+    ensures { Answers result (defaulted (codes "fee_account") no_account bytes32_form place
         (view value.now)) }
 {
     match value.get("fee_account") {
@@ -85,9 +85,9 @@ fn fee_account_field(place: Place, value: &Value) -> Result<[u8; 32], Stop>
 }
 
 /// A chain's own fields.
-#[tactic(auto, unfolding(crate::specs::Chains::head))]
+#[tactic(auto, unfolding(crate::specs::Chains::chain_head))]
 pub(crate) fn head_of(place: Place, value: &Value) -> Result<ChainHead, Stop>
-    ensures { Answers result (head place (view value.now)) }
+    ensures { Answers result (chain_head place (view value.now)) }
 {
     let chain = para_field(place, value)?;
     let default_unit = Weight {

@@ -5,14 +5,14 @@ ghost use Rattle.std.specs.List.{IsDistinct};
 ghost use Rattle.asset_lists.specs.Listed.{listed_cmp};
 ghost use Rattle.ledgers.specs.Ledgers.{listed_pair};
 ghost use Rattle.trust_tables.specs.Trust.{listing};
-ghost use Rattle.document_forms.specs.Answers.{Answers};
-ghost use Rattle.document_forms.specs.declared.fault.Section.TheVariants as sections;
+ghost use Rattle.document_entries.specs.Answers.{Answers};
+ghost use Rattle.document_entries.specs.declared.fault.Section.TheVariants as sections;
 ghost use Rattle.network_config.specs.References.{flaw_at, each_in, account_flaws};
 ghost use Rattle.network_config.specs.Holdings.{HoldingKey, holding_key_cmp, is_held, flaws_beside, is_of_holding, listed_number};
 ghost use Rattle.network_config.specs.Holdings as spec;
 
 use asset_lists::{Fun, Instance, Kind};
-use document_forms::{NetworkFault, Place, Section, Stop};
+use document_entries::{NetworkFault, Place, Section, Stop};
 use ledgers::AssetTable;
 use locations::Location;
 use network_spec::Balance;
@@ -25,7 +25,7 @@ type Holding = ((u32, Option<[u8; 32]>), Option<Instance>);
 
 /// What an entry whose asset has this row is of.
 fn holding_of(row: u32, balance: &Balance) -> Holding
-    ensures { result ≡ spec.holding_of row balance.now }
+    ensures { result ≡ spec.holding_key_of row balance.now }
 {
     match balance.asset.fun {
         Fun::Fungible(_) => ((row, Some(balance.who)), None),

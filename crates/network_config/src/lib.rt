@@ -14,7 +14,7 @@ mod queries;
 mod references;
 mod sums;
 
-pub use document_forms::{NetworkFault, Place, Section};
+pub use document_entries::{NetworkFault, Place, Section};
 pub use laws::law_of_documents;
 pub use network::{comes_before, read_network};
 pub use network_spec::{Balance, ChainSpec, ChannelSpec, NetworkSpec, Pool};

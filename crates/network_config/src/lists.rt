@@ -1,16 +1,16 @@
 //! The lists of a document.
 ghost use Rattle.std.specs.Prelude.{◌≡◌, ◌≤◌, codes, length};
 ghost use Rattle.serde_json.specs.View.{view, items_view};
-ghost use Rattle.document_forms.specs.Answers.{Answers, AnswersAs};
-ghost use Rattle.document_forms.specs.Forms.{list_field, fields};
-ghost use Rattle.network_config.specs.Chains.{short_list, lists, chain_fields, truth, flag, own_fields};
+ghost use Rattle.document_entries.specs.Answers.{Answers, AnswersAs};
+ghost use Rattle.document_entries.specs.Forms.{list_field, fields};
+ghost use Rattle.network_config.specs.Chains.{short_list, checked_lists, chain_fields, truth, flag_or_false, own_chain_fields};
 
 use crate::head::{ChainHead, Served, head_of};
-use document_forms::{NetworkFault, Place, Stop, check_fields, list_of};
+use document_entries::{NetworkFault, Place, Stop, check_fields, list_of};
 use serde_json::Value;
 
 /// A list, which is empty where it isn't there.
-#[tactic(auto, unfolding(document_forms::specs::Forms::list_field))]
+#[tactic(auto, unfolding(document_entries::specs::Forms::list_field))]
 pub(crate) fn list_field<'a>(
     place: Place,
     name: &str,
@@ -44,9 +44,9 @@ pub(crate) fn short_list<'a>(
 }
 
 /// Refuses a chain where what is to be a list isn't one, or a list is too long.
-#[tactic(auto, unfolding(crate::specs::Chains::lists))]
+#[tactic(auto, unfolding(crate::specs::Chains::checked_lists))]
 fn check_lists(place: Place, value: &Value) -> Result<(), Stop>
-    ensures { Answers result (lists place (view value.now)) }
+    ensures { Answers result (checked_lists place (view value.now)) }
 {
     let _ = list_field(place, "barriers", value)?;
     let _ = list_field(place, "rates", value)?;
@@ -117,7 +117,7 @@ fn truth_of(place: Place, value: &Value) -> Result<bool, Stop>
 
 /// True or false, and false where it isn't there.
 fn flag_field(place: Place, name: &str, value: &Value) -> Result<bool, Stop>
-    ensures { Answers result (flag name.now place (view value.now)) }
+    ensures { Answers result (flag_or_false name.now place (view value.now)) }
 {
     match value.get(name) {
         Some(flag) => truth_of(place, flag),
@@ -126,13 +126,13 @@ fn flag_field(place: Place, name: &str, value: &Value) -> Result<bool, Stop>
 }
 
 /// A chain's own fields, where the shapes of its lists are right too, and what it serves.
-#[tactic(auto, unfolding(crate::specs::Chains::own_fields, document_forms::specs::Forms::fields))]
+#[tactic(auto, unfolding(crate::specs::Chains::own_chain_fields, document_entries::specs::Forms::fields))]
 pub(crate) fn own_fields(
     place: Place,
     more: bool,
     value: &Value,
 ) -> Result<(ChainHead, Served), Stop>
-    ensures { Answers result (own_fields more place (view value.now)) }
+    ensures { Answers result (own_chain_fields more place (view value.now)) }
 {
     check_chain_fields(place, more, value)?;
     let head = head_of(place, value)?;

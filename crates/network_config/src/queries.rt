@@ -1,16 +1,16 @@
 //! The queries of a chain, looked at beside one another: each of a number and a chain.
 ghost use Rattle.std.specs.Prelude.{◌≡◌, ◌||◌, [], true, OnOk, if◌then◌else◌};
 ghost use Rattle.std.specs.Ordering.{eq_by_cmp};
-ghost use Rattle.document_forms.specs.Answers.{Answers};
-ghost use Rattle.document_forms.specs.declared.fault.Section.TheVariants as sections;
+ghost use Rattle.document_entries.specs.Answers.{Answers};
+ghost use Rattle.document_entries.specs.declared.fault.Section.TheVariants as sections;
 ghost use Rattle.network_config.specs.References.{flaw_at, each_in, query_flaws};
-ghost use Rattle.network_config.specs.Queries.{QueryKey, query_key_cmp, is_asked, flaws_beside};
+ghost use Rattle.network_config.specs.Queries.{QueryKey, query_key_cmp, is_asked, query_flaws_beside};
 ghost use Rattle.network_config.specs.Queries as spec;
 
 use crate::names::NamedChains;
 use crate::references::is_other;
 use chain_ids::ChainId;
-use document_forms::{NetworkFault, Place, Section, Stop};
+use document_entries::{NetworkFault, Place, Section, Stop};
 use std::alloc::{AllocError, Global};
 use std::collections::BTreeSet;
 
@@ -19,7 +19,7 @@ type Query = (u64, Option<u32>);
 
 /// A chain's number, which the relay chain has not.
 fn number_of(chain: ChainId) -> Option<u32>
-    ensures { result ≡ spec.number_of chain }
+    ensures { result ≡ spec.parachain_number chain }
 {
     match chain {
         ChainId::Relay => None,
@@ -29,7 +29,7 @@ fn number_of(chain: ChainId) -> Option<u32>
 
 /// What a query is of.
 fn key_of(query: &(u64, ChainId)) -> Query
-    ensures { result ≡ spec.key_of query.now }
+    ensures { result ≡ spec.query_key_of query.now }
 {
     (query.0, number_of(query.1))
 }
@@ -59,9 +59,9 @@ fn add_query(
     query: &(u64, ChainId),
 ) -> Result<(), Stop>
     ensures flaws { Answers result (flaw_at place
-        (flaws_beside chains.now here asked.old.keys query.now)) }
+        (query_flaws_beside chains.now here asked.old.keys query.now)) }
     ensures added { OnOk result ((q : QueryKey) → is_asked asked.new.keys q
-        ≡ (eq_by_cmp query_key_cmp (spec.key_of query.now) q || is_asked asked.old.keys q)) }
+        ≡ (eq_by_cmp query_key_cmp (spec.query_key_of query.now) q || is_asked asked.old.keys q)) }
 {
     let key = key_of(query);
     if has(asked, &key) {

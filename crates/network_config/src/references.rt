@@ -2,24 +2,24 @@
 ghost use Rattle.std.specs.Prelude.{◌≡◌, ◌≤◌, ◌==◌, ◌&&◌, ◌||◌, not, [], length, nat_lt, take};
 ghost use Rattle.std.specs.List.{list_any, list_all};
 ghost use Rattle.trust_tables.specs.Chains.{path_of_site};
-ghost use Rattle.document_forms.specs.Answers.{Answers};
+ghost use Rattle.document_entries.specs.Answers.{Answers};
 ghost use Rattle.locations.specs.Chains.{path_of};
 ghost use Rattle.trust_tables.specs.Trust.{is_row_of};
 ghost use Rattle.chain_ids.specs.Chains.{same_chain};
 ghost use Rattle.network_config.specs.References as spec;
-ghost use Rattle.network_config.specs.References.{is_there, is_other, lists_fungible, names_others, names_two, same_pair, lists_fee, chain_references, chains_references, references};
+ghost use Rattle.network_config.specs.References.{is_there, is_other_chain, lists_fungible, names_others, names_two, same_pair, sender_lists_fee, chain_references, chains_references, references};
 
 use crate::checks::{Check, Flaws, check_each, check_flaws};
 use crate::holdings::check_accounts;
 use crate::names::NamedChains;
 use crate::queries::check_queries;
 use asset_lists::{Asset, AssetId, Kind};
+use asset_pools::Pool;
 use chain_ids::ChainId;
-use chain_pools::Pool;
-use document_forms::{Place, Section, Stop};
+use document_entries::{Place, Section, Stop};
 use locations::{Location, NetworkId};
-use message_parts::PalletInfo;
 use network_spec::{ChainSpec, ChannelSpec, NetworkSpec};
+use operands::PalletInfo;
 use std::alloc::Global;
 use trust_tables::{AssetRole, AssetRow};
 use weight_trader::Rate;
@@ -51,7 +51,7 @@ pub(crate) fn has_chain(chains: &[ChainSpec], chain: ChainId) -> bool
 
 /// Whether the chain is there, and another than this.
 pub(crate) fn is_other(chains: &NamedChains, here: ChainId, chain: ChainId) -> bool
-    ensures { result ≡ is_other chains.now here chain }
+    ensures { result ≡ is_other_chain chains.now here chain }
 {
     !same_chain(here, chain) && is_there(chains, chain)
 }
@@ -106,7 +106,7 @@ impl Check<Rate> for RateCheck<'_> {
 
 /// Whether the chains are there, and others than this.
 fn are_others(chains: &NamedChains, here: ChainId, named: &[ChainId]) -> bool
-    ensures { result ≡ list_all (λ chain. is_other chains.now here chain) named.now }
+    ensures { result ≡ list_all (λ chain. is_other_chain chains.now here chain) named.now }
 {
     named.iter().all(|chain| is_other(chains, here, *chain))
 }
@@ -290,7 +290,7 @@ fn has_channel(channels: &[ChannelSpec], from: ChainId, to: ChainId) -> bool
 
 /// Whether the sender lists the asset of the fee.
 fn lists_fee(chains: &[ChainSpec], from: ChainId, fee: &Option<Asset>) -> bool
-    ensures { result ≡ lists_fee chains.now from fee.now }
+    ensures { result ≡ sender_lists_fee chains.now from fee.now }
 {
     match fee {
         None => true,

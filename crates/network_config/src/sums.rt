@@ -2,15 +2,15 @@
 ghost use Rattle.std.specs.Prelude.{◌≡◌, ◌+◌, ◌++◌, ◌⊎◌, [], true, false, nat_lt, option_to_list, if◌then◌else◌, IfOk, IfErr, OnOk};
 ghost use Rattle.std.specs.Ordering.{eq_by_cmp};
 ghost use Rattle.asset_lists.specs.Listed.{kind_number};
-ghost use Rattle.document_forms.specs.Answers.{Answers};
-ghost use Rattle.document_forms.specs.declared.stop.Stop.TheVariants as Stop;
-ghost use Rattle.document_forms.specs.declared.fault.NetworkFault.TheVariants as NetworkFault;
+ghost use Rattle.document_entries.specs.Answers.{Answers};
+ghost use Rattle.document_entries.specs.declared.stop.Stop.TheVariants as Stop;
+ghost use Rattle.document_entries.specs.declared.fault.NetworkFault.TheVariants as NetworkFault;
 ghost use Rattle.document_entries.specs.Entries.{amount_limit};
 ghost use Rattle.network_config.specs.Sums.{path_at, share_of, shares_in, shares_of, sums_in, sums};
-ghost use Rattle.network_config.specs.Totals.{TotalKey, total_key_cmp, key_of, total_at, with_share};
+ghost use Rattle.network_config.specs.Totals.{TotalKey, total_key_cmp, total_key_of, total_under_key, with_share};
 
 use asset_lists::{AssetId, Kind};
-use document_forms::{NetworkFault, Place, Section, Stop};
+use document_entries::{NetworkFault, Place, Section, Stop};
 use locations::{Junctions, Location};
 use network_spec::{Balance, ChainSpec, NetworkSpec};
 use std::alloc::{AllocError, Global};
@@ -125,22 +125,22 @@ fn kind_number(kind: Kind) -> u32
 
 /// A share's path and kind.
 fn key_of(share: &Share) -> (Junctions, u32)
-    ensures { result ≡ key_of share.now }
+    ensures { result ≡ total_key_of share.now }
 {
     (share.path.copy(), kind_number(share.kind))
 }
 
 /// The total of a path and kind so far, 0 where there is none.
 fn total_in(totals: &Totals, key: &(Junctions, u32)) -> u128
-    ensures { result ≡ total_at totals.now.entries key.now }
+    ensures { result ≡ total_under_key totals.now.entries key.now }
 {
     totals.get(key).copied().unwrap_or(0)
 }
 
 /// Writes the total of a path and kind.
 fn write_total(totals: &mut Totals, key: (Junctions, u32), total: u128) -> Result<(), AllocError>
-    ensures { OnOk result ((q : TotalKey) → total_at totals.new.entries q
-        ≡ (if eq_by_cmp total_key_cmp key q then total else total_at totals.old.entries q)) }
+    ensures { OnOk result ((q : TotalKey) → total_under_key totals.new.entries q
+        ≡ (if eq_by_cmp total_key_cmp key q then total else total_under_key totals.old.entries q)) }
 {
     totals.insert(key, total)?;
     Ok(())
@@ -156,13 +156,13 @@ fn is_within(sum: u128) -> bool
 
 /// Adds a share to the totals, and refuses it where its total reaches the limit.
 fn add_total(totals: &mut Totals, share: &Share) -> Result<(), Stop>
-    ensures added { OnOk result ((q : TotalKey) → total_at totals.new.entries q
+    ensures added { OnOk result ((q : TotalKey) → total_under_key totals.new.entries q
         ≡ with_share share.now totals.old.entries q) }
-    ensures below { OnOk result (nat_lt (total_at totals.old.entries (key_of share.now)
+    ensures below { OnOk result (nat_lt (total_under_key totals.old.entries (total_key_of share.now)
         + share.now.amount) amount_limit ≡ true) }
     ensures refused { IfErr result (λ stop. (stop ≡ Stop.Memory)
         ⊎ ((stop ≡ Stop.Fault (NetworkFault.LimitPassed share.now.place))
-        × (nat_lt (total_at totals.old.entries (key_of share.now) + share.now.amount)
+        × (nat_lt (total_under_key totals.old.entries (total_key_of share.now) + share.now.amount)
         amount_limit ≡ false))) }
 {
     let key = key_of(share);

@@ -1,9 +1,9 @@
 //! What a chain of a network is when the network opens.
 use asset_lists::Asset;
+use asset_pools::Pool;
 use barriers::Barrier;
 use chain_ids::ChainId;
-use chain_pools::Pool;
-use message_parts::{PalletInfo, Weight};
+use operands::{PalletInfo, Weight};
 use plain_lists::Listed;
 use trust_tables::AssetRow;
 use weight_trader::Rate;

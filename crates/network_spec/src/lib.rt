@@ -4,6 +4,6 @@
 mod chain;
 mod network;
 
+pub use asset_pools::Pool;
 pub use chain::{Balance, ChainSpec};
-pub use chain_pools::Pool;
 pub use network::{ChannelSpec, NetworkSpec};

@@ -4,8 +4,8 @@ use Rattle.std.specs.Prelude.{if◌then◌else◌, slice_get, slice_set}
 use Rattle.std.specs.Option.{option_map_or}
 use Rattle.chain_ids.specs.declared.chain.ChainId.{ChainId}
 use Rattle.locations.specs.declared.relative.Location.{Location}
-use Rattle.message_parts.specs.declared.error.XcmError.{XcmError}
-use Rattle.message_parts.specs.declared.weight.Weight.{Weight}
+use Rattle.operands.specs.declared.error.XcmError.{XcmError}
+use Rattle.operands.specs.declared.weight.Weight.{Weight}
 use Rattle.weight_trader.specs.Purchases.{no_weight}
 use Rattle.xcm_program.specs.declared.instruction.Instruction.{Instruction}
 use Rattle.versioned_xcm.specs.declared.faults.MessageFault.{MessageFault}
@@ -19,16 +19,16 @@ use Rattle.exec_base.specs.declared.event.Event.{Event}
 use Rattle.exec_base.specs.Part.{ChainPart}
 use Rattle.exec_base.specs.Sending.{channel_refusal}
 use Rattle.exec_base.specs.Host.{told}
-use Rattle.exec_admission.specs.declared.rules.ChainRules.{ChainRules}
+use Rattle.exec_rules.specs.declared.rules.ChainRules.{ChainRules}
 use Rattle.network_steps.specs.declared.step_result.StepResult.{StepResult}
 use Rattle.network_steps.specs.Worlds.{Member, chain_of, World, place_of, with_part, unchanged, Stepped}
 use Rattle.network_steps.specs.Acting.{begun, Acted, acted, caller}
 use Rattle.network_steps.specs.Steps.{is_sovereign, exec_read, exec_by, exec_at, exec, name_at, run_for, sender_after, receiver_after, delivered, delivery_of, deliver, is_claim, posted, posting, claim_by, claim_on, claim}
-use Rattle.network_steps.specs.CallerLaws.{by_caller}
-use Rattle.chain_pools.specs.Exchanges.{is_pool_account}
+use Rattle.network_steps.proofs.Lemmas.CallerLaws.{by_caller}
+use Rattle.asset_pools.specs.Exchanges.{is_pool_account}
 use Rattle.network_steps.specs.Fixed.{Fixed, fixed_of, all_settings}
 use Rattle.network_steps.proofs.Stillness.{between_says}
-use Rattle.network_steps.specs.FixedLaws.{channels_kept, executed_fixed}
+use Rattle.network_steps.proofs.Lemmas.FixedLaws.{channels_kept, executed_fixed}
 
 abbrev Said : Type 0
 Said = ChainRules × Fixed

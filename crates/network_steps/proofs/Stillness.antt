@@ -3,7 +3,7 @@ use Rattle.std.proofs.Common.{◌≡◌, ℕ, zero, suc, Bool, true, false, if�
 use Rattle.std.specs.Prelude.{slice_get, slice_set}
 use Rattle.std.specs.Option.{option_map_or}
 use Rattle.chain_ids.specs.declared.chain.ChainId.{ChainId}
-use Rattle.message_parts.specs.declared.error.XcmError.{XcmError}
+use Rattle.operands.specs.declared.error.XcmError.{XcmError}
 use Rattle.xcm_program.specs.declared.instruction.Instruction.{Instruction}
 use Rattle.versioned_xcm.specs.declared.faults.MessageFault.{MessageFault}
 use Rattle.versioned_xcm.specs.Reading.{message_of}
@@ -12,9 +12,9 @@ use Rattle.chain_queues.specs.Queues.{channel_to, oldest}
 use Rattle.exec_base.specs.Sending.{channel_refusal}
 use Rattle.network_steps.specs.declared.step_result.StepResult.{StepResult}
 use Rattle.network_steps.specs.Worlds.{Member, chain_of, World, place_of, Stepped, unchanged}
-use Rattle.network_steps.specs.Steps.{is_sovereign, exec_read, exec_by, exec_at, exec, delivered, delivery_of, between, deliver, is_claim, posting, claim_by, claim_on, claim}
-use Rattle.network_steps.specs.CallerLaws.{by_caller}
-use Rattle.chain_pools.specs.Exchanges.{is_pool_account}
+use Rattle.network_steps.specs.Steps.{is_sovereign, exec_read, exec_by, exec_at, exec, delivered, delivery_of, with_both_members, deliver, is_claim, posting, claim_by, claim_on, claim}
+use Rattle.network_steps.proofs.Lemmas.CallerLaws.{by_caller}
+use Rattle.asset_pools.specs.Exchanges.{is_pool_account}
 use Rattle.network_steps.specs.Still.{IsStill}
 
 -- ---- tools
@@ -36,7 +36,7 @@ set_other (x ∷ xs) (suc c) (suc d) m n = set_other xs c d m (λ e. n (ap suc e
 
 -- what holds of each way through two chains holds of the whole
 pub between_says : {A : Type 0} (w : World) (from to : ChainId) (none : A) (f : ℕ → ℕ → Member → Member → A) (P : A → Type 0) → P none
-    → ((i j : ℕ) (s r : Member) → place_of w from ≡ Some i → place_of w to ≡ Some j → slice_get w i ≡ Some s → slice_get w j ≡ Some r → P (f i j s r)) → P (between w from to none f)
+    → ((i j : ℕ) (s r : Member) → place_of w from ≡ Some i → place_of w to ≡ Some j → slice_get w i ≡ Some s → slice_get w j ≡ Some r → P (f i j s r)) → P (with_both_members w from to none f)
 between_says w from to none f P p h =
     elim (place_of w from) as (λ o. place_of w from ≡ o → P (option_map_or (λ (i : ℕ). option_map_or (λ (j : ℕ). option_map_or (λ (s : Member). option_map_or (λ (r : Member). f i j s r) (slice_get w j) none) (slice_get w i) none) (place_of w to) none) o none)) [
       | None ↦ λ e. p
@@ -54,7 +54,7 @@ between_says w from to none f P p h =
 
 -- two chains that are there
 pub between_at : {A : Type 0} (w : World) (from to : ChainId) (none : A) (f : ℕ → ℕ → Member → Member → A) (i j : ℕ) (s r : Member) → place_of w from ≡ Some i → place_of w to ≡ Some j → slice_get w i ≡ Some s → slice_get w j ≡ Some r
-    → between w from to none f ≡ f i j s r
+    → with_both_members w from to none f ≡ f i j s r
 between_at w from to none f i j s r at_i at_j is_s is_r =
     ap (λ o. option_map_or (λ (i : ℕ). option_map_or (λ (j : ℕ). option_map_or (λ (s : Member). option_map_or (λ (r : Member). f i j s r) (slice_get w j) none) (slice_get w i) none) (place_of w to) none) o none) at_i
     ∙ ap (λ o. option_map_or (λ (j : ℕ). option_map_or (λ (s : Member). option_map_or (λ (r : Member). f i j s r) (slice_get w j) none) (slice_get w i) none) o none) at_j

@@ -10,7 +10,7 @@ use Rattle.asset_lists.specs.Units.{Unit}
 use Rattle.chain_ids.specs.declared.chain.ChainId.{ChainId}
 use Rattle.locations.specs.declared.grammar.Junction.{Junction}
 use Rattle.locations.specs.declared.relative.Location.{Location}
-use Rattle.message_parts.specs.declared.weight.Weight.{Weight}
+use Rattle.operands.specs.declared.weight.Weight.{Weight}
 use Rattle.xcm_program.specs.declared.instruction.Instruction.{Instruction}
 use Rattle.xcm_program.specs.declared.outcome.Outcome.{Outcome}
 use Rattle.channel_parts.specs.declared.cargo.Cargo.{Cargo}
@@ -18,14 +18,14 @@ use Rattle.channel_parts.specs.declared.cargo.Cargo.TheVariants.{Nothing, Deposi
 use Rattle.exec_base.specs.declared.event.Event.{Event}
 use Rattle.exec_base.specs.Part.{ChainPart, book_of}
 use Rattle.exec_base.specs.Host.{burned_lines}
-use Rattle.exec_admission.specs.declared.rules.ChainRules.{ChainRules}
-use Rattle.exec_admission.specs.Execution.{executed}
+use Rattle.exec_rules.specs.declared.rules.ChainRules.{ChainRules}
+use Rattle.exec_rules.specs.Execution.{executed}
 
 -- ---- a program at a chain
 
 -- nothing is told yet, and this is what a delivered message carries
 abbrev pub begun : ChainId → Cargo → ChainPart → ChainPart
-begun sender cargo p = record p { cargo = record { sender = sender; cargo = cargo }; events = []; kept_back = [] }
+begun sender cargo p = record p { cargo = record { sender = sender; cargo = cargo }; events = []; pending_events = [] }
 
 -- no message is being delivered any more
 abbrev pub ended : ChainPart → ChainPart

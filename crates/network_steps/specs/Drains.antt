@@ -4,5 +4,5 @@ use Rattle.std.specs.List.{AllByRecursion}
 use Rattle.network_steps.specs.Steps.{Link}
 
 -- no channel leads from a chain to itself
-abbrev pub AreApart : List Link → Type 0
-AreApart order = AllByRecursion (λ (link : Link). link.0 ≡ link.1 → ⊥) order
+abbrev pub HasNoSelfLink : List Link → Type 0
+HasNoSelfLink order = AllByRecursion (λ (link : Link). link.0 ≡ link.1 → ⊥) order

@@ -4,7 +4,7 @@ use Rattle.channel_parts.specs.declared.channel.Channel.{Channel}
 use Rattle.channel_parts.specs.Channels.{Outgoing}
 use Rattle.exec_base.specs.declared.settings.Settings.{Settings}
 use Rattle.exec_base.specs.Part.{ChainPart}
-use Rattle.exec_admission.specs.declared.rules.ChainRules.{ChainRules}
+use Rattle.exec_rules.specs.declared.rules.ChainRules.{ChainRules}
 use Rattle.network_steps.specs.Worlds.{Member, World}
 
 -- its settings, and its channels without what waits in them

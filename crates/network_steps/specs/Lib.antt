@@ -5,5 +5,6 @@ pub mod Steps
 pub mod Still
 pub mod Drains
 pub mod Fixed
-pub mod FixedLaws
-pub mod CallerLaws
+pub mod Tests
+pub mod Genesis
+pub mod Openable

@@ -6,7 +6,7 @@ use Rattle.std.specs.Int.{from_le_bytes, w32}
 use Rattle.std.specs.Str.{bytes_eq}
 use Rattle.chain_ids.specs.declared.chain.ChainId.{ChainId}
 use Rattle.locations.specs.declared.relative.Location.{Location}
-use Rattle.message_parts.specs.declared.error.XcmError.{XcmError}
+use Rattle.operands.specs.declared.error.XcmError.{XcmError}
 use Rattle.trust_tables.specs.Accounts.{child_account, sibling_account, parent_account}
 use Rattle.trust_tables.specs.Chains.{location_of}
 use Rattle.weight_trader.specs.Purchases.{no_weight}
@@ -17,7 +17,7 @@ use Rattle.versioned_xcm.specs.Reading.{message_of}
 use Rattle.channel_parts.specs.declared.cargo.Cargo.TheVariants.{Nothing}
 use Rattle.channel_parts.specs.Channels.{Waiting, Outgoing}
 use Rattle.chain_queues.specs.Queues.{channel_to, oldest, pushed, popped}
-use Rattle.chain_pools.specs.Exchanges.{is_pool_account}
+use Rattle.asset_pools.specs.Exchanges.{is_pool_account}
 use Rattle.exec_base.specs.declared.event.Event.{Event}
 use Rattle.exec_base.specs.Part.{ChainPart}
 use Rattle.exec_base.specs.Sending.{channel_refusal}
@@ -26,10 +26,6 @@ use Rattle.network_steps.specs.declared.step_result.StepResult.{StepResult}
 use Rattle.network_steps.specs.Worlds.{Member, chain_of, World, place_of, with_part, Stepped, unchanged}
 use Rattle.network_steps.specs.Sends.{deliveries_left}
 use Rattle.network_steps.specs.Acting.{begun, Acted, acted, caller, lost_of, booking_lost, lost_lines}
-
--- a change of the member at a place
-abbrev pub change_at : World → ℕ → (Member → Member) → World
-change_at w place change = option_map_or (λ (m : Member). slice_set w place (change m)) (slice_get w place) w
 
 -- ---- local executions
 
@@ -106,14 +102,14 @@ delivery_of w from to sender receiver None = unchanged StepResult.NoSuchChannel 
 delivery_of w from to sender receiver (Some c) = option_map_or (λ (message : Waiting). delivered w from to sender receiver message) (oldest c) (unchanged StepResult.Empty w)
 
 -- of two chains, where both are there
-abbrev pub between : {A : Type 0} → World → ChainId → ChainId → A → (ℕ → ℕ → Member → Member → A) → A
-between w from to none f =
+abbrev pub with_both_members : {A : Type 0} → World → ChainId → ChainId → A → (ℕ → ℕ → Member → Member → A) → A
+with_both_members w from to none f =
     option_map_or (λ (i : ℕ). option_map_or (λ (j : ℕ). option_map_or (λ (s : Member). option_map_or (λ (r : Member). f i j s r) (slice_get w j) none) (slice_get w i) none) (place_of w to) none)
     (place_of w from) none
 
 -- the oldest message of a channel is taken, and its receiver runs it
 unfoldable pub deliver : World → ChainId → ChainId → Stepped
-deliver w from to = between w from to (unchanged StepResult.NoSuchChain w) (λ i j s r. delivery_of w i j s r (channel_to (chain_of r) s.part.channels))
+deliver w from to = with_both_members w from to (unchanged StepResult.NoSuchChain w) (λ i j s r. delivery_of w i j s r (channel_to (chain_of r) s.part.channels))
 
 -- ---- claims
 
@@ -155,7 +151,7 @@ claim_on w from sender to (Some c) bytes = claim_by w from sender to c (message_
 
 -- a chain sends a claim in its own name
 unfoldable pub claim : World → ChainId → ChainId → List ℕ → Stepped
-claim w from to bytes = between w from to (unchanged StepResult.NoSuchChain w) (λ i j s r. claim_on w i s (chain_of r) (channel_to (chain_of r) s.part.channels) bytes)
+claim w from to bytes = with_both_members w from to (unchanged StepResult.NoSuchChain w) (λ i j s r. claim_on w i s (chain_of r) (channel_to (chain_of r) s.part.channels) bytes)
 
 -- ---- drains
 
@@ -165,7 +161,7 @@ Link = ChainId × ChainId
 
 -- the oldest message that waits there
 abbrev pub waiting : World → ChainId → ChainId → Option Waiting
-waiting w from to = between w from to None (λ i j s r. option_and_then oldest (channel_to (chain_of r) s.part.channels))
+waiting w from to = with_both_members w from to None (λ i j s r. option_and_then oldest (channel_to (chain_of r) s.part.channels))
 
 abbrev pub waits : World → Link → Bool
 waits w link = is_some (waiting w link.0 link.1)
@@ -201,22 +197,22 @@ pub data Step : Type 0 where
   Supply : Step
 
 -- the next world; `order` is the document's order of channels
-abbrev pub after : List Link → World → Step → World
-after order w (Exec chain account bytes) = (exec w chain account bytes).world
-after order w (Deliver from to) = (deliver w from to).world
-after order w (Claim from to bytes) = (claim w from to bytes).world
-after order w Drain = world_behind w (drain order w)
-after order w Balances = w
-after order w Traps = w
-after order w Queues = w
-after order w Supply = w
+abbrev pub next_world : List Link → World → Step → World
+next_world order w (Exec chain account bytes) = (exec w chain account bytes).world
+next_world order w (Deliver from to) = (deliver w from to).world
+next_world order w (Claim from to bytes) = (claim w from to bytes).world
+next_world order w Drain = world_behind w (drain order w)
+next_world order w Balances = w
+next_world order w Traps = w
+next_world order w Queues = w
+next_world order w Supply = w
 
 -- the worlds of a list of steps, from the first on
 abbrev pub worlds : List Link → World → List Step → List World
 worlds order w [] = w ∷ []
-worlds order w (step ∷ steps) = w ∷ worlds order (after order w step) steps
+worlds order w (step ∷ steps) = w ∷ worlds order (next_world order w step) steps
 
 -- the world behind a list of steps
 abbrev pub last_world : List Link → World → List Step → World
 last_world order w [] = w
-last_world order w (step ∷ steps) = last_world order (after order w step) steps
+last_world order w (step ∷ steps) = last_world order (next_world order w step) steps

@@ -9,7 +9,7 @@ use Rattle.chain_ids.specs.declared.chain.ChainId.{ChainId}
 use Rattle.chain_ids.specs.Chains.{same_chain}
 use Rattle.exec_base.specs.declared.event.Event.{Event}
 use Rattle.exec_base.specs.Part.{ChainPart}
-use Rattle.exec_admission.specs.declared.rules.ChainRules.{ChainRules}
+use Rattle.exec_rules.specs.declared.rules.ChainRules.{ChainRules}
 use Rattle.network_steps.specs.declared.step_result.StepResult.{StepResult}
 
 pub record Member : Type 0 where

@@ -9,8 +9,7 @@ ghost use Rattle.network_steps.specs.Steps.{exec, deliver, claim};
 ghost use Rattle.network_steps.specs.Fixed.{all_settings};
 ghost use Rattle.network_steps.specs.Still.{IsStill};
 
-use program_wire::law_of_writable;
-use versioned_xcm::law_of_messages;
+use versioned_xcm::{law_of_messages, law_of_writable};
 
 /// Whatever program bytes decode to can be executed and sent on: no id of it is bytes, no amount is 0, and it isn't too large to be counted.
 pub fn law_of_decoded_programs()
@@ -23,7 +22,7 @@ pub fn law_of_decoded_programs()
 
 /// A step that answers neither that a program ran nor that a claim was sent changes nothing, and tells nothing. An execution changes its
 /// chain alone, a delivery the sender and the receiver, and a claim the sender.
-pub fn law_of_steps()
+pub fn law_of_no_change_elsewhere()
     ensures exec_still { (w : World) (chain : ChainId) (account bytes : List ℕ)
         → IsStill (exec w chain account bytes) w }
     ensures deliver_still { (w : World) (from to : ChainId) → IsStill (deliver w from to) w }
@@ -42,7 +41,7 @@ pub fn law_of_steps()
 
 /// No step changes what the network document says: how each chain runs programs, where it stands, what it lists, its pallets, its fee
 /// account, and its channels.
-pub fn law_of_settings()
+pub fn law_of_constant_settings()
     ensures exec { (w : World) (chain : ChainId) (account bytes : List ℕ)
         → all_settings (exec w chain account bytes).world ≡ all_settings w }
     ensures deliver { (w : World) (from to : ChainId)

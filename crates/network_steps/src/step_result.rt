@@ -1,5 +1,5 @@
 //! What a step answers.
-use message_parts::XcmError;
+use operands::XcmError;
 use versioned_xcm::MessageFault;
 use xcm_program::Outcome;
 

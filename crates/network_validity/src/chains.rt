@@ -7,9 +7,9 @@ ghost use Rattle.network_config.specs.Valid as valid;
 ghost use Rattle.network_config.specs.Valid.{fits_rate, fits_role, fits_fun, fits_asset, fits_pallet, fits_pool, fits_lists, fits_rules, fits_entries, fits_chain, fits_fee, fits_channel};
 
 use asset_lists::{Asset, AssetId, Fun, Kind};
-use chain_pools::Pool;
-use message_parts::PalletInfo;
+use asset_pools::Pool;
 use network_spec::{Balance, ChainSpec, ChannelSpec};
+use operands::PalletInfo;
 use std::str;
 use trust_tables::{AssetRole, AssetRow};
 use weight_trader::Rate;
@@ -118,7 +118,7 @@ fn fits_lists(c: &ChainSpec) -> bool
 }
 
 fn is_within(low: u32, high: u32, number: u32) -> bool
-    ensures { result ≡ valid.is_within low high number }
+    ensures { result ≡ valid.is_between low high number }
 {
     low <= number && number <= high
 }

@@ -6,7 +6,7 @@ ghost use Rattle.network_config.specs.Valid.{fits};
 
 use crate::chains::{fit_chains, fit_channels};
 use chain_ids::ChainId;
-use document_forms::Stop;
+use document_entries::Stop;
 use locations::NetworkId;
 use network_config::{check_references, check_sums, comes_before};
 use network_spec::{ChainSpec, NetworkSpec};

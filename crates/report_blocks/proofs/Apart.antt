@@ -5,7 +5,7 @@ use Rattle.std.specs.Option.{option_and_then, option_map_or}
 use Rattle.chain_ids.specs.declared.chain.ChainId.{ChainId}
 use Rattle.channel_parts.specs.Channels.{Waiting, Outgoing}
 use Rattle.chain_queues.specs.Queues.{channel_to, oldest}
-use Rattle.exec_admission.specs.declared.rules.ChainRules.{ChainRules}
+use Rattle.exec_rules.specs.declared.rules.ChainRules.{ChainRules}
 use Rattle.chain_state.specs.declared.state.ChainState.{ChainState}
 use Rattle.network_steps.specs.Worlds.{Member, chain_of, World, place_of}
 use Rattle.network_steps.specs.Steps.{Link, waits, next_channel}

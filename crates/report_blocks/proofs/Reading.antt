@@ -2,22 +2,22 @@
 use Rattle.std.proofs.Common.{◌≡◌, ◌∙◌, ◌++◌, ℕ, List, [], ◌∷◌, map, Some, None, refl, sym, ap}
 use Rattle.std.specs.Prelude.{flat_map}
 use Rattle.std.specs.Option.{option_map}
-use Rattle.coherence.specs.Causes.{first_cause}
+use Rattle.law_coherence.specs.Causes.{first_cause}
 use Rattle.network_spec.specs.declared.network.NetworkSpec.{NetworkSpec}
 use Rattle.exec_base.specs.Part.{ChainPart}
 use Rattle.network_steps.specs.Worlds.{World, parts_of}
 use Rattle.network_steps.specs.Steps.{Link}
-use Rattle.network_genesis.specs.Genesis.{entries_of}
+use Rattle.network_steps.specs.Genesis.{entries_of}
 use Rattle.network_coherence.specs.declared.faults.Incoherent.{Incoherent}
 use Rattle.network_coherence.specs.declared.faults.IncoherentCause.{IncoherentCause}
 use Rattle.network_coherence.specs.declared.faults.IncoherentCause.TheVariants.{PathTwice, IdNotNormal, PartnerUnlisted, ReserveUnlisted, InstanceTwice, NotBacked, CheckingShort}
 use Rattle.network_coherence.specs.Answers.{cause_of, incoherent_of}
 use Rattle.step_text.specs.Lines.{opening_line}
-use Rattle.step_text.specs.Blocks.{balances_of, traps_of, link_text}
+use Rattle.step_text.specs.Blocks.{balances_of, chain_traps_text, link_text}
 use Rattle.report_text.specs.Block as supply
-use Rattle.report_blocks.specs.Reads.{named, told_of, coherence_line, balances_block, traps_block, queues_block, supply_block}
+use Rattle.report_blocks.specs.Reads.{incoherent_cause, told_of, coherence_line, balances_block, traps_block, queues_block, world_supply_block}
 
-named_cause : (c : IncoherentCause) → named (cause_of c) ≡ c
+named_cause : (c : IncoherentCause) → incoherent_cause (cause_of c) ≡ c
 named_cause PathTwice = refl
 named_cause IdNotNormal = refl
 named_cause PartnerUnlisted = refl
@@ -46,12 +46,12 @@ module _ {A : Type 0} (part : A → ChainPart) (states : List A) (w : World) (sa
   unfolding balances_block
   balances_are = flat_map_map balances_of part states ∙ ap (flat_map balances_of) same
 
-  pub traps_are : flat_map (λ x. traps_of (part x)) states ≡ traps_block w
+  pub traps_are : flat_map (λ x. chain_traps_text (part x)) states ≡ traps_block w
   unfolding traps_block
-  traps_are = flat_map_map traps_of part states ∙ ap (flat_map traps_of) same
+  traps_are = flat_map_map chain_traps_text part states ∙ ap (flat_map chain_traps_text) same
 
-pub supply_is : (parts : List ChainPart) (w : World) → parts ≡ parts_of w → supply.supply_block parts ≡ supply_block w
-unfolding supply_block
+pub supply_is : (parts : List ChainPart) (w : World) → parts ≡ parts_of w → supply.supply_block parts ≡ world_supply_block w
+unfolding world_supply_block
 supply_is parts w same = ap supply.supply_block same
 
 pub queues_are : {A : Type 0} (link : A → Link) (channels : List A) (parts : List ChainPart) (w : World) → parts ≡ parts_of w → flat_map (λ x. link_text parts (link x)) channels ≡ queues_block (map link channels) w

@@ -2,16 +2,16 @@
 use Rattle.std.specs.Prelude.{ℕ, List, [], ◌++◌, length, Bool, if◌then◌else◌, flat_map}
 use Rattle.network_spec.specs.declared.network.NetworkSpec.{NetworkSpec}
 use Rattle.network_steps.specs.Worlds.{World, Stepped}
-use Rattle.network_steps.specs.Steps.{Step, Link, exec, deliver, claim, drain, after}
+use Rattle.network_steps.specs.Steps.{Step, Link, exec, deliver, claim, drain, next_world}
 use Rattle.network_steps.specs.Steps as steps
-use Rattle.network_genesis.specs.Genesis.{order_of, first_world}
+use Rattle.network_steps.specs.Genesis.{order_of, first_world}
 use Rattle.step_text.specs.Steps.{heading, step_text, drained_line}
 use Rattle.report_blocks.specs.Asked.{words_of}
-use Rattle.report_blocks.specs.Reads.{coherence_line, supply_block, balances_block, traps_block, queues_block}
+use Rattle.report_blocks.specs.Reads.{coherence_line, world_supply_block, balances_block, traps_block, queues_block}
 
 -- what is written first: whether the network is coherent, and what its assets sum to
 unfoldable pub opening_text : NetworkSpec → List ℕ
-opening_text spec = coherence_line spec ++ supply_block (first_world spec)
+opening_text spec = coherence_line spec ++ world_supply_block (first_world spec)
 
 -- the lines of a step's trace and answer
 abbrev pub lines_of_step : Stepped → List ℕ
@@ -32,14 +32,14 @@ step_lines spec w steps.Drain = drain_lines (drain (order_of spec) w)
 step_lines spec w steps.Balances = balances_block w
 step_lines spec w steps.Traps = traps_block w
 step_lines spec w steps.Queues = queues_block (order_of spec) w
-step_lines spec w steps.Supply = supply_block w
+step_lines spec w steps.Supply = world_supply_block w
 
 -- where the audit is asked for, what the assets sum to after each step
 abbrev pub audit_lines : Bool → World → List ℕ
-audit_lines audit w = if audit then supply_block w else []
+audit_lines audit w = if audit then world_supply_block w else []
 
 -- a step: its heading, its lines, and the audit of the next world
 unfoldable pub step_block : Bool → NetworkSpec → World → ℕ → Step → List ℕ
 step_block audit spec w number step =
     heading number (words_of step)
-    ++ (step_lines spec w step ++ audit_lines audit (after (order_of spec) w step))
+    ++ (step_lines spec w step ++ audit_lines audit (next_world (order_of spec) w step))

@@ -2,14 +2,14 @@
 use Rattle.std.specs.Prelude.{◌≡◌, ℕ, List, Bool, false, Ok, Err, string_bytes}
 use Rattle.network_spec.specs.declared.network.NetworkSpec.{NetworkSpec}
 use Rattle.network_steps.specs.Worlds.{World}
-use Rattle.network_steps.specs.Steps.{Step, after}
-use Rattle.network_genesis.specs.Genesis.{order_of, first_world}
+use Rattle.network_steps.specs.Steps.{Step, next_world}
+use Rattle.network_steps.specs.Genesis.{order_of, first_world}
 use Rattle.network_config.specs.Network.{network_of}
-use Rattle.document_forms.specs.declared.fault.NetworkFault.{NetworkFault}
+use Rattle.document_entries.specs.declared.fault.NetworkFault.{NetworkFault}
 use Rattle.chain_net.specs.declared.net.Net.{Net}
 use Rattle.chain_net.specs.Nets.{world_of, spec_of, is_stopped}
-use Rattle.report_blocks.specs.declared.served.Served.{Served}
-use Rattle.report_blocks.specs.declared.served.Served.TheVariants as served
+use Rattle.report_blocks.specs.declared.line_outcome.LineOutcome.{LineOutcome}
+use Rattle.report_blocks.specs.declared.line_outcome.LineOutcome.TheVariants as served
 use Rattle.report_blocks.specs.Asked.{Asked, Nothing, Asks, Unknown}
 use Rattle.report_blocks.specs.Blocks.{step_lines, step_block}
 
@@ -24,18 +24,18 @@ abbrev pub IsRefused : List ℕ → NetworkFault → Type 0
 IsRefused bytes fault = network_of bytes ≡ Err fault
 
 -- a step was run, and this is its block; or the line asks for no step
-abbrev pub IsServed : Bool → NetworkSpec → World → ℕ → Asked → Served → World → Type 0
+abbrev pub IsServed : Bool → NetworkSpec → World → ℕ → Asked → LineOutcome → World → Type 0
 IsServed audit spec w number asked served.Nothing now = (asked ≡ Nothing) × (now ≡ w)
 IsServed audit spec w number asked served.Unknown now = (asked ≡ Unknown) × (now ≡ w)
 IsServed audit spec w number asked (served.Block text) now =
     (step : Step) × (asked ≡ Asks step) × (string_bytes text ≡ step_block audit spec w number step)
-    × (now ≡ after (order_of spec) w step)
+    × (now ≡ next_world (order_of spec) w step)
 
 -- the step that was asked for was run, and these are its lines
 abbrev pub IsRun : NetworkSpec → World → Asked → List ℕ → World → Type 0
 IsRun spec w asked text now =
     (step : Step) × (asked ≡ Asks step) × (text ≡ step_lines spec w step)
-    × (now ≡ after (order_of spec) w step)
+    × (now ≡ next_world (order_of spec) w step)
 
 -- a step is asked for
 abbrev pub IsStep : Asked → Type 0

@@ -1,20 +1,20 @@
 -- What the chains of a world list, which no step changes, and what is kept of a world's supply block. This project's own rule.
 use Rattle.std.specs.Prelude.{◌≡◌, ℕ, false, List, Option, IfSome, map, ⊤}
-use Rattle.coherence.specs.Networks.{Table}
+use Rattle.law_coherence.specs.Networks.{Table}
 use Rattle.network_steps.specs.Worlds.{World, parts_of}
-use Rattle.supply_audit.specs.Places.{table_of}
+use Rattle.supply_audit.specs.Places.{chain_table}
 use Rattle.supply_audit.specs.Stale.{is_stale}
 use Rattle.report_text.specs.Plan.{plan_of}
 use Rattle.report_text.specs.Sheets.{IsSheetOf}
 use Rattle.report_blocks.specs.declared.kept_block.KeptBlock.{KeptBlock}
 use Rattle.report_blocks.specs.declared.kept_block.KeptBlock.TheVariants.{Planned, Written}
 
-abbrev pub tables_of : World → List Table
-tables_of w = map table_of (parts_of w)
+abbrev pub world_tables : World → List Table
+world_tables w = map chain_table (parts_of w)
 
 -- the plan is that of the world, or the lines are, but for chains that may have changed
 abbrev pub IsBlockOf : KeptBlock → World → Type 0
-IsBlockOf (Planned plan) w = plan ≡ plan_of (tables_of w)
+IsBlockOf (Planned plan) w = plan ≡ plan_of (world_tables w)
 IsBlockOf (Written sheet) w = IsSheetOf (parts_of w) sheet
 
 -- where something is kept

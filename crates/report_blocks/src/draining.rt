@@ -2,13 +2,13 @@
 ghost use Rattle.std.specs.Prelude.{◌≡◌, IfOk, OnOk, false, string_bytes};
 ghost use Rattle.chain_net.specs.Nets.{world_of, spec_of, is_stopped};
 ghost use Rattle.report_blocks.specs.Blocks.{drain_lines, lines_of_step};
-ghost use Rattle.network_steps.specs.Steps.{drain, after, deliver};
+ghost use Rattle.network_steps.specs.Steps.{drain, next_world, deliver};
 ghost use Rattle.network_steps.specs.Steps as steps;
-ghost use Rattle.network_genesis.specs.Genesis.{order_of};
+ghost use Rattle.network_steps.specs.Genesis.{order_of};
 
 use chain_ids::ChainId;
 use chain_net::{Net, law_of_reached_nets};
-use message_shapes::law_of_drains;
+use law_steps::law_of_drains_that_end;
 use std::alloc::{AllocError, Global};
 use step_text::{drained_line, step_text};
 
@@ -18,12 +18,12 @@ pub(crate) fn drained(alloc: Global, net: &mut Net) -> Result<String, AllocError
     ensures lines { IfOk result (λ text. string_bytes text
         ≡ drain_lines (drain (order_of (spec_of net.old)) (world_of net.old))) }
     ensures world { OnOk result (world_of net.new
-        ≡ after (order_of (spec_of net.old)) (world_of net.old) steps.Drain) }
+        ≡ next_world (order_of (spec_of net.old)) (world_of net.old) steps.Drain) }
     ensures running { OnOk result (is_stopped net.new ≡ false) }
     ensures spec { spec_of net.new ≡ spec_of net.old }
 {
     // For the prover alone.
-    law_of_drains();
+    law_of_drains_that_end();
     law_of_reached_nets();
     let mut text = String::new(alloc);
     let mut count: u64 = 0;

@@ -3,19 +3,19 @@
 
 mod audited;
 mod draining;
+mod heading;
 mod kept_block;
+mod line_headings;
+mod line_outcome;
 mod marked_steps;
 mod marking;
 mod opening;
 mod reads;
-mod served;
 mod serving;
 mod steps;
-mod title;
-mod titles;
 
 pub use audited::AuditedNet;
 pub(crate) use kept_block::KeptBlock;
+pub use line_outcome::LineOutcome;
 pub use opening::{open_audited, open_network, opening_text};
-pub use served::Served;
 pub use serving::serve;

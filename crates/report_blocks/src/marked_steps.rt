@@ -3,16 +3,16 @@ ghost use Rattle.std.specs.Prelude.{◌≡◌, IfOk, OnOk, false, string_bytes};
 ghost use Rattle.chain_net.specs.Nets.{world_of, spec_of, is_stopped};
 ghost use Rattle.report_blocks.specs.Blocks.{drain_lines, lines_of_step};
 ghost use Rattle.report_blocks.specs.Tables.{IsKeptOf};
-ghost use Rattle.network_steps.specs.Steps.{drain, after, exec, deliver, claim};
+ghost use Rattle.network_steps.specs.Steps.{drain, next_world, exec, deliver, claim};
 ghost use Rattle.network_steps.specs.Steps as steps;
-ghost use Rattle.network_genesis.specs.Genesis.{order_of};
+ghost use Rattle.network_steps.specs.Genesis.{order_of};
 
 use crate::KeptBlock;
 use crate::draining::drained;
 use crate::marking::{mark, mark_all};
 use chain_ids::ChainId;
 use chain_net::Net;
-use network_steps::{law_of_settings, law_of_steps};
+use network_steps::{law_of_constant_settings, law_of_no_change_elsewhere};
 use std::alloc::{AllocError, Global};
 use step_text::step_text;
 
@@ -36,8 +36,8 @@ pub(crate) fn exec_step(
     ensures spec { spec_of net.new ≡ spec_of net.old }
 {
     // For the prover alone.
-    law_of_steps();
-    law_of_settings();
+    law_of_no_change_elsewhere();
+    law_of_constant_settings();
     mark(kept, net, chain);
     let answer = net.exec(chain, account, message)?;
     step_text(alloc, net.trace(), &answer)
@@ -61,8 +61,8 @@ pub(crate) fn deliver_step(
     ensures spec { spec_of net.new ≡ spec_of net.old }
 {
     // For the prover alone.
-    law_of_steps();
-    law_of_settings();
+    law_of_no_change_elsewhere();
+    law_of_constant_settings();
     mark(kept, net, from);
     mark(kept, net, to);
     let answer = net.deliver(from, to)?;
@@ -89,8 +89,8 @@ pub(crate) fn claim_step(
     ensures spec { spec_of net.new ≡ spec_of net.old }
 {
     // For the prover alone.
-    law_of_steps();
-    law_of_settings();
+    law_of_no_change_elsewhere();
+    law_of_constant_settings();
     mark(kept, net, from);
     let answer = net.claim(from, to, message)?;
     step_text(alloc, net.trace(), &answer)
@@ -107,12 +107,12 @@ pub(crate) fn drain_step(
     ensures lines { IfOk result (λ text. string_bytes text
         ≡ drain_lines (drain (order_of (spec_of net.old)) (world_of net.old))) }
     ensures world { OnOk result (world_of net.new
-        ≡ after (order_of (spec_of net.old)) (world_of net.old) steps.Drain) }
+        ≡ next_world (order_of (spec_of net.old)) (world_of net.old) steps.Drain) }
     ensures kept { OnOk result (IsKeptOf kept.new (world_of net.new)) }
     ensures running { OnOk result (is_stopped net.new ≡ false) }
     ensures spec { spec_of net.new ≡ spec_of net.old }
 {
-    law_of_settings(); // For the prover alone.
+    law_of_constant_settings(); // For the prover alone.
     mark_all(kept);
     drained(alloc, net)
 }

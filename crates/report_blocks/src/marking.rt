@@ -3,7 +3,7 @@ ghost use Rattle.std.specs.Prelude.{ℕ};
 ghost use Rattle.network_steps.specs.Worlds.{World};
 ghost use Rattle.supply_audit.specs.Covers.{number_of};
 ghost use Rattle.chain_net.specs.Nets.{world_of};
-ghost use Rattle.report_blocks.specs.Tables.{tables_of, IsKeptOf, CountsAsChanged};
+ghost use Rattle.report_blocks.specs.Tables.{world_tables, IsKeptOf, CountsAsChanged};
 
 use crate::KeptBlock;
 use chain_ids::ChainId;
@@ -14,7 +14,7 @@ pub(crate) fn mark(kept: &mut Option<KeptBlock>, net: &Net, chain: ChainId)
     ensures kept { (w : World) → IsKeptOf kept.old w → IsKeptOf kept.new w }
     ensures others { (number : ℕ) → CountsAsChanged kept.old number
         → CountsAsChanged kept.new number }
-    ensures marked { CountsAsChanged kept.new (number_of (tables_of (world_of net.now)) chain) }
+    ensures marked { CountsAsChanged kept.new (number_of (world_tables (world_of net.now)) chain) }
 {
     if let Some(KeptBlock::Written(sheet)) = kept {
         sheet.mark(net.chains(), chain);

@@ -1,6 +1,6 @@
 //! The opening of a network.
 ghost use Rattle.std.specs.Prelude.{◌≡◌, IfOk, MatchResult, string_bytes};
-ghost use Rattle.network_genesis.specs.Genesis.{first_world};
+ghost use Rattle.network_steps.specs.Genesis.{first_world};
 ghost use Rattle.chain_net.specs.Nets.{world_of, spec_of, is_stopped};
 ghost use Rattle.report_blocks.specs.Blocks as blocks;
 ghost use Rattle.report_blocks.specs.Serving.{IsOpened, IsRefused};
@@ -8,9 +8,9 @@ ghost use Rattle.report_blocks.specs.Serving.{IsOpened, IsRefused};
 use crate::AuditedNet;
 use crate::reads::{coherence_line, first_supply_block};
 use chain_net::Net;
-use document_forms::NetworkFault;
+use document_entries::NetworkFault;
 use network_config::read_network;
-use network_laws::law_of_valid_networks;
+use network_validity::law_of_valid_networks;
 use std::alloc::{AllocError, Global};
 
 /// Opens the network that the bytes describe, or says what is wrong with them. `Err` is out of memory alone.
@@ -20,10 +20,7 @@ pub fn open_network(alloc: Global, bytes: &[u8]) -> Result<Result<Net, NetworkFa
 {
     law_of_valid_networks(); // For the prover alone.
     match read_network(alloc, bytes) {
-        Ok(spec) => match Net::open(alloc, spec) {
-            Ok(net) => Ok(Ok(net)),
-            Err(refused) => Err(refused),
-        },
+        Ok(spec) => Ok(Ok(Net::open(alloc, spec)?)),
         Err(NetworkFault::Memory) => Err(AllocError),
         Err(fault) => Ok(Err(fault)),
     }
@@ -37,13 +34,9 @@ pub fn open_audited(
     ensures opened { IfOk result (λ answer. MatchResult answer (IsOpened bytes.now)
         (IsRefused bytes.now)) }
 {
-    match open_network(alloc, bytes) {
-        Ok(Ok(net)) => match AuditedNet::new(alloc, net) {
-            Ok(audited) => Ok(Ok(audited)),
-            Err(refused) => Err(refused),
-        },
-        Ok(Err(fault)) => Ok(Err(fault)),
-        Err(refused) => Err(refused),
+    match open_network(alloc, bytes)? {
+        Ok(net) => Ok(Ok(AuditedNet::new(alloc, net)?)),
+        Err(fault) => Ok(Err(fault)),
     }
 }
 

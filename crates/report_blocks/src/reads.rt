@@ -1,6 +1,6 @@
 //! What is read of a network for its report.
 ghost use Rattle.std.specs.Prelude.{◌≡◌, IfOk, OnOk, Some, List, string_bytes};
-ghost use Rattle.network_genesis.specs.Genesis.{order_of};
+ghost use Rattle.network_steps.specs.Genesis.{order_of};
 ghost use Rattle.chain_net.specs.Nets.{world_of, spec_of};
 ghost use Rattle.exec_base.specs.Part.{ChainPart};
 ghost use Rattle.report_text.specs.Block as supply;
@@ -55,7 +55,7 @@ pub(crate) fn first_supply_block(
     kept: &Option<KeptBlock>,
 ) -> Result<String, AllocError>
     requires { IsKeptOf kept.now (world_of net.now) }
-    ensures { IfOk result (λ text. string_bytes text ≡ reads.supply_block (world_of net.now)) }
+    ensures { IfOk result (λ text. string_bytes text ≡ reads.world_supply_block (world_of net.now)) }
 {
     match kept {
         Some(KeptBlock::Planned(plan)) => plan.block(alloc, net.chains()),
@@ -85,7 +85,7 @@ pub(crate) fn supply_block(
     kept: &mut Option<KeptBlock>,
 ) -> Result<String, AllocError>
     requires { IsKeptOf kept.old (world_of net.now) }
-    ensures text { IfOk result (λ text. string_bytes text ≡ reads.supply_block (world_of net.now)) }
+    ensures text { IfOk result (λ text. string_bytes text ≡ reads.world_supply_block (world_of net.now)) }
     ensures kept { OnOk result (IsKeptOf kept.new (world_of net.now)) }
 {
     match kept.take() {

@@ -4,11 +4,11 @@ ghost use Rattle.chain_net.specs.Nets.{world_of, spec_of, is_stopped};
 ghost use Rattle.report_blocks.specs.Asked.{asked_of};
 ghost use Rattle.report_blocks.specs.Serving.{IsServed};
 
+use crate::heading::Heading;
+use crate::line_headings::heading_of;
 use crate::reads::supply_block;
 use crate::steps::step_lines;
-use crate::title::Title;
-use crate::titles::title_of;
-use crate::{AuditedNet, Served};
+use crate::{AuditedNet, LineOutcome};
 use input_lines::Line;
 use std::alloc::{AllocError, Global};
 use step_text::heading;
@@ -22,7 +22,7 @@ pub fn serve(
     audit: bool,
     number: u64,
     line: &Line,
-) -> Result<Served, AllocError>
+) -> Result<LineOutcome, AllocError>
     requires running { is_stopped net.old ≡ false }
     ensures served { IfOk result
         (λ served. IsServed audit (spec_of net.old) (world_of net.old) number
@@ -30,10 +30,10 @@ pub fn serve(
     ensures running { OnOk result (is_stopped net.new ≡ false) }
     ensures spec { spec_of net.new ≡ spec_of net.old }
 {
-    let words = match title_of(line) {
-        Title::Nothing => return Ok(Served::Nothing),
-        Title::Unknown => return Ok(Served::Unknown),
-        Title::Step(words) => words,
+    let words = match heading_of(line) {
+        Heading::Nothing => return Ok(LineOutcome::Nothing),
+        Heading::Unknown => return Ok(LineOutcome::Unknown),
+        Heading::Step(words) => words,
     };
     let mut text = heading(alloc, number, words)?;
     let mut kept = net.kept.take();
@@ -44,5 +44,5 @@ pub fn serve(
         text.push_str(&sums)?;
     }
     net.kept = kept;
-    Ok(Served::Block(text))
+    Ok(LineOutcome::Block(text))
 }

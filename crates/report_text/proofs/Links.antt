@@ -8,7 +8,7 @@ use Rattle.chain_queues.specs.declared.queues.Queue.{Queue}
 use Rattle.chain_queues.specs.Queues.{channel_to, leads_to, is_led_to, outgoing_of}
 use Rattle.exec_base.specs.Part.{ChainPart}
 use Rattle.step_text.specs.Blocks.{channel_text, is_part_of, link_text}
-use Rattle.report_text.proofs.Found.{find_map}
+use Rattle.plain_lists.proofs.Lemmas.Facts.{find_mapped as find_map}
 
 -- the channel to a chain, found among the queues
 pub queue_is : (qs : List Queue) (cs : List Outgoing) (to : ChainId) (o : Option Queue) → map outgoing_of qs ≡ cs → o ≡ find (is_led_to to) qs → channel_to to cs ≡ option_map outgoing_of o

@@ -4,12 +4,12 @@ use Rattle.std.specs.Prelude.{codes, if◌then◌else◌}
 use Rattle.std.proofs.lemmas.List.Folds.{flat_map-map}
 use Rattle.asset_bundles.specs.Books.{most_burned}
 use Rattle.exec_base.specs.Part.{ChainPart}
-use Rattle.supply_audit.specs.Places.{table_of}
+use Rattle.supply_audit.specs.Places.{chain_table}
 use Rattle.supply_audit.specs.RowPlaces.{placed_over, flight_over, burned_over}
 use Rattle.supply_audit.specs.Covered.{Covered}
 use Rattle.supply_audit.specs.Covers.{of_cover, held_at, owed_at, coming_at, standing_at, own_touched, kept_touched}
 use Rattle.supply_audit.specs.Stale.{are_touched, Agree}
-use Rattle.supply_audit.specs.StaleLaws.{same_placed, same_flight, same_burned, same_held, same_coming, same_standing}
+use Rattle.supply_audit.proofs.Lemmas.StaleLaws.{same_placed, same_flight, same_burned, same_held, same_coming, same_standing}
 use Rattle.report_text.specs.Sums.{sum_text}
 use Rattle.report_text.specs.Block.{supply_block}
 use Rattle.report_text.specs.Planned.{PlannedSupply, PlannedBacking}
@@ -50,7 +50,7 @@ module _ (parts : List ChainPart) where
 
   pub sheet_text_is : (s : Sheet) → IsWrittenOf parts s → sheet_written s ≡ supply_block parts
   sheet_text_is s w =
-      let plan = plan_of (map table_of parts) in
+      let plan = plan_of (map chain_table parts) in
       let supplies : flat_map supply_written s.supplies ≡ flat_map (planned_supply_text parts) plan.supplies =
       ap (flat_map supply_written) w.supplies ∙ flat_map-map supply_written (kept_supply parts) plan.supplies ∙ (λ i. flat_map (λ e. supply_line_is e i) plan.supplies) in
       let backings : flat_map backing_written s.backings ≡ flat_map (planned_backing_text parts) plan.backings =

@@ -7,12 +7,7 @@ use Rattle.asset_bundles.specs.Totals.{total_value}
 use Rattle.asset_bundles.specs.declared.totals.Total.{Total}
 use Rattle.step_text.specs.Texts.{total_text}
 use Rattle.report_text.specs.Sums.{sum_text}
-
-is_less : (n m : ℕ) → n < m → nat_lt n m ≡ true
-is_less n m less = grind (arith, less)
-
-is_more : (n m : ℕ) → m ≤ n → nat_lt n m ≡ false
-is_more n m more = grind (arith, more)
+use Rattle.plain_lists.proofs.Lemmas.Facts.{at_least_not_below as is_more, below_told as is_less}
 
 above_none : (h : ℕ) → (suc h == 0) ≡ false
 above_none h = grind arith

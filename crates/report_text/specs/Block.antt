@@ -5,11 +5,11 @@ use Rattle.location_wire.specs.Texts.{path_text}
 use Rattle.chain_ids.specs.Texts.{chain_text}
 use Rattle.trust_tables.specs.declared.chains.Site.{Site}
 use Rattle.trust_tables.specs.declared.rows.AssetRow.{AssetRow}
-use Rattle.coherence.specs.UniversalAssets.{UniversalAsset}
-use Rattle.coherence.specs.Networks.{is_native_role}
+use Rattle.law_coherence.specs.UniversalAssets.{UniversalAsset}
+use Rattle.law_coherence.specs.Networks.{is_native_role}
 use Rattle.exec_base.specs.Part.{ChainPart}
 use Rattle.step_text.specs.Texts.{kind_name}
-use Rattle.supply_audit.specs.Supply.{home, flight, burned, debt_at, of_debt, held_for, owed_by}
+use Rattle.supply_audit.specs.Supply.{supply_at_homes, teleports_in_flight, burned_at_homes, debt_at, of_debt, held_at_reserve, owed_by}
 use Rattle.report_text.specs.Natives.{path_in, native_assets}
 use Rattle.report_text.specs.Sums.{sum_text}
 
@@ -17,16 +17,16 @@ use Rattle.report_text.specs.Sums.{sum_text}
 unfoldable pub supply_text_of : List ChainPart → UniversalAsset → List ℕ
 supply_text_of parts a =
     codes "  supply " ++ (kind_name a.1
-    ++ (codes " " ++ (path_text a.0 ++ (codes " home " ++ (sum_text (home a parts)
-    ++ (codes " flight " ++ (sum_text (flight a parts)
-    ++ (codes " burned " ++ (sum_text (burned a parts) ++ codes "\n")))))))))
+    ++ (codes " " ++ (path_text a.0 ++ (codes " home " ++ (sum_text (supply_at_homes a parts)
+    ++ (codes " flight " ++ (sum_text (teleports_in_flight a parts)
+    ++ (codes " burned " ++ (sum_text (burned_at_homes a parts) ++ codes "\n")))))))))
 
 -- what the reserve holds for the derivative in a chain's row, and what the chain owes
 unfoldable pub backing_text_of : List ChainPart → Site → ℕ → AssetRow → List ℕ
 backing_text_of parts site place row =
     codes "  backing " ++ (chain_text site.chain
     ++ (codes " " ++ (kind_name row.kind ++ (codes " " ++ (path_text (path_in site row)
-    ++ (codes " held " ++ (sum_text (of_debt held_for (debt_at parts site.chain place))
+    ++ (codes " held " ++ (sum_text (of_debt held_at_reserve (debt_at parts site.chain place))
     ++ (codes " owed " ++ (sum_text (of_debt owed_by (debt_at parts site.chain place))
     ++ codes "\n")))))))))
 

@@ -5,8 +5,8 @@ use Rattle.location_wire.specs.Texts.{path_text}
 use Rattle.chain_ids.specs.Texts.{chain_text}
 use Rattle.trust_tables.specs.declared.chains.Site.{Site}
 use Rattle.trust_tables.specs.declared.rows.AssetRow.{AssetRow}
-use Rattle.coherence.specs.UniversalAssets.{UniversalAsset}
-use Rattle.coherence.specs.Networks.{Table, is_native_role}
+use Rattle.law_coherence.specs.UniversalAssets.{UniversalAsset}
+use Rattle.law_coherence.specs.Networks.{Table, is_native_role}
 use Rattle.exec_base.specs.Part.{ChainPart}
 use Rattle.step_text.specs.Texts.{kind_name}
 use Rattle.supply_audit.specs.RowPlaces.{home_places, placed_over, flight_over, burned_over}

@@ -2,7 +2,7 @@
 use Rattle.std.specs.Prelude.{◌≡◌, ℕ, ◌+◌, min, Bool, if◌then◌else◌, List, ◌++◌, codes, flat_map, map}
 use Rattle.asset_bundles.specs.Books.{most_burned}
 use Rattle.exec_base.specs.Part.{ChainPart}
-use Rattle.supply_audit.specs.Places.{table_of}
+use Rattle.supply_audit.specs.Places.{chain_table}
 use Rattle.supply_audit.specs.RowPlaces.{placed_over, flight_over, burned_over}
 use Rattle.supply_audit.specs.Covers.{of_cover, held_at, coming_at, standing_at, own_touched, kept_touched}
 use Rattle.supply_audit.specs.Stale.{are_touched, Agree}
@@ -48,17 +48,17 @@ kept_backing parts e =
     }
 
 -- the lines are those of the plan, with the figures of these chains
-pub record IsWritten (plan : Plan) (parts : List ChainPart) (s : Sheet) : Type 0 where
+pub record IsFilledSheet (plan : Plan) (parts : List ChainPart) (s : Sheet) : Type 0 where
   pub supplies : s.supplies ≡ map (kept_supply parts) plan.supplies
   pub backings : s.backings ≡ map (kept_backing parts) plan.backings
 
 abbrev pub IsWrittenOf : List ChainPart → Sheet → Type 0
-IsWrittenOf parts s = IsWritten (plan_of (map table_of parts)) parts s
+IsWrittenOf parts s = IsFilledSheet (plan_of (map chain_table parts)) parts s
 
 -- the lines have the figures of chains from which these differ only where a chain counts as changed
 abbrev pub IsSheetOf : List ChainPart → Sheet → Type 0
 IsSheetOf parts s =
-    (before : List ChainPart) × IsWritten (plan_of (map table_of parts)) before s
+    (before : List ChainPart) × IsFilledSheet (plan_of (map chain_table parts)) before s
     × Agree s.stale before parts
 
 -- ---- lines whose figures are read anew where chains may have changed

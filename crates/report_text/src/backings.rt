@@ -2,10 +2,10 @@
 ghost use Rattle.std.specs.Prelude.{◌≡◌, ◌++◌, map, IfOk, OnOk, IsTrue, flat_map, string_bytes};
 ghost use Rattle.std.specs.List.{enumerate_from};
 ghost use Rattle.trust_tables.specs.Chains.{path_of_site};
-ghost use Rattle.network_genesis.specs.Tests.{has_path, have_paths};
+ghost use Rattle.network_steps.specs.Tests.{has_path, have_paths};
 ghost use Rattle.chain_state.specs.PartOf.{part_of};
 ghost use Rattle.supply_audit.specs.AssetPlaces.{ArePlaces};
-ghost use Rattle.supply_audit.specs.Places.{table_of};
+ghost use Rattle.supply_audit.specs.Places.{chain_table};
 ghost use Rattle.report_text.specs.Plan.{backing_beginning, planned_backing, planned_if, planned_backings, planned_backing_text};
 
 use crate::figures::{kind_name, push_sum};
@@ -57,10 +57,10 @@ fn entry_of(
     place: usize,
     row: &AssetRow,
 ) -> Result<BackingEntry, AllocError>
-    requires index { ArePlaces index.now.places.entries (map table_of (map part_of chains.now)) }
+    requires index { ArePlaces index.now.places.entries (map chain_table (map part_of chains.now)) }
     requires path { IsTrue (has_path (path_of_site site.now) row.now) }
     ensures { IfOk result (λ entry. entry
-        ≡ planned_backing (map table_of (map part_of chains.now)) site.now place row.now) }
+        ≡ planned_backing (map chain_table (map part_of chains.now)) site.now place row.now) }
 {
     let beginning = beginning(alloc, site, row)?;
     let cover = Cover::of(alloc, chains, index, site.chain, place)?;
@@ -77,10 +77,10 @@ fn plan_row(
     place: usize,
     row: &AssetRow,
 ) -> Result<(), AllocError>
-    requires index { ArePlaces index.now.places.entries (map table_of (map part_of chains.now)) }
+    requires index { ArePlaces index.now.places.entries (map chain_table (map part_of chains.now)) }
     requires path { IsTrue (has_path (path_of_site site.now) row.now) }
     ensures { OnOk result (entries.new.items
-        ≡ entries.old.items ++ planned_if (map table_of (map part_of chains.now)) site.now
+        ≡ entries.old.items ++ planned_if (map chain_table (map part_of chains.now)) site.now
         (place, row.now)) }
 {
     match &row.role {
@@ -102,11 +102,11 @@ fn plan_rows(
     site: &Site,
     rows: &[AssetRow],
 ) -> Result<(), AllocError>
-    requires index { ArePlaces index.now.places.entries (map table_of (map part_of chains.now)) }
+    requires index { ArePlaces index.now.places.entries (map chain_table (map part_of chains.now)) }
     requires paths { IsTrue (have_paths (path_of_site site.now) rows.now) }
     ensures { OnOk result (entries.new.items
         ≡ entries.old.items ++ flat_map
-        (planned_if (map table_of (map part_of chains.now)) site.now) (enumerate_from 0 rows.now)) }
+        (planned_if (map chain_table (map part_of chains.now)) site.now) (enumerate_from 0 rows.now)) }
 {
     for (place, row) in rows.iter().enumerate() {
         plan_row(alloc, entries, chains, index, site, place, row)?;
@@ -122,10 +122,10 @@ fn plan_chain(
     index: &AssetPlaces,
     chain: &ChainState,
 ) -> Result<(), AllocError>
-    requires { ArePlaces index.now.places.entries (map table_of (map part_of chains.now)) }
+    requires { ArePlaces index.now.places.entries (map chain_table (map part_of chains.now)) }
     ensures { OnOk result (entries.new.items
-        ≡ entries.old.items ++ planned_backings (map table_of (map part_of chains.now))
-        (table_of (part_of chain.now))) }
+        ≡ entries.old.items ++ planned_backings (map chain_table (map part_of chains.now))
+        (chain_table (part_of chain.now))) }
 {
     plan_rows(alloc, entries, chains, index, chain.site(), chain.rows())
 }
@@ -136,8 +136,8 @@ pub(crate) fn plan_backings(
     chains: &[ChainState],
 ) -> Result<Vec<BackingEntry>, AllocError>
     ensures { IfOk result (λ entries. entries.items
-        ≡ flat_map (planned_backings (map table_of (map part_of chains.now)))
-        (map table_of (map part_of chains.now))) }
+        ≡ flat_map (planned_backings (map chain_table (map part_of chains.now)))
+        (map chain_table (map part_of chains.now))) }
 {
     let index = AssetPlaces::of(alloc, chains)?;
     let mut entries = Vec::new(alloc);

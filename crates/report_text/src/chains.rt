@@ -2,7 +2,7 @@
 ghost use Rattle.std.specs.Prelude.{◌≡◌, ◌++◌, flat_map, IfOk, OnOk, string_bytes};
 ghost use Rattle.chain_state.specs.declared.state.ChainState.{ChainState};
 ghost use Rattle.chain_state.specs.PartOf.{part_of};
-ghost use Rattle.step_text.specs.Blocks.{balances_of, traps_of};
+ghost use Rattle.step_text.specs.Blocks.{balances_of, chain_traps_text};
 
 use chain_state::ChainState;
 use std::alloc::{AllocError, Global};
@@ -45,7 +45,7 @@ fn chain_balances(alloc: Global, chain: &ChainState) -> Result<String, AllocErro
 /// What is trapped at all chains: the lines of each trap. An `Err` is out of memory.
 pub fn traps_text(alloc: Global, chains: &[ChainState]) -> Result<String, AllocError>
     ensures { IfOk result (λ text. string_bytes text
-        ≡ flat_map (λ (c : ChainState). traps_of (part_of c)) chains.now) }
+        ≡ flat_map (λ (c : ChainState). chain_traps_text (part_of c)) chains.now) }
 {
     let mut text = String::new(alloc);
     for place in 0..chains.len() {
@@ -57,7 +57,7 @@ pub fn traps_text(alloc: Global, chains: &[ChainState]) -> Result<String, AllocE
 /// Appends those of a chain.
 fn push_traps(alloc: Global, text: &mut String, chain: &ChainState) -> Result<(), AllocError>
     ensures { OnOk result (string_bytes text.new
-        ≡ string_bytes text.old ++ traps_of (part_of chain.now)) }
+        ≡ string_bytes text.old ++ chain_traps_text (part_of chain.now)) }
 {
     let lines = chain_traps(alloc, chain)?;
     text.push_str(&lines)
@@ -65,7 +65,7 @@ fn push_traps(alloc: Global, text: &mut String, chain: &ChainState) -> Result<()
 
 /// What is trapped at a chain.
 fn chain_traps(alloc: Global, chain: &ChainState) -> Result<String, AllocError>
-    ensures { IfOk result (λ text. string_bytes text ≡ traps_of (part_of chain.now)) }
+    ensures { IfOk result (λ text. string_bytes text ≡ chain_traps_text (part_of chain.now)) }
 {
     trapped_text(alloc, chain.site().chain, chain.traps())
 }

@@ -1,7 +1,7 @@
 //! The path of an asset that a chain lists.
 ghost use Rattle.std.specs.Prelude.{◌≡◌, IsTrue};
 ghost use Rattle.trust_tables.specs.Chains.{path_of_site};
-ghost use Rattle.network_genesis.specs.Tests.{has_path};
+ghost use Rattle.network_steps.specs.Tests.{has_path};
 ghost use Rattle.report_text.specs.Natives.{path_in};
 
 use locations::Junctions;

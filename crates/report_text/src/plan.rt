@@ -1,7 +1,7 @@
 //! The plan of a supply block.
 ghost use Rattle.std.specs.Prelude.{◌≡◌, map, IfOk, string_bytes};
 ghost use Rattle.chain_state.specs.PartOf.{part_of};
-ghost use Rattle.supply_audit.specs.Places.{table_of};
+ghost use Rattle.supply_audit.specs.Places.{chain_table};
 ghost use Rattle.report_text.specs.Block.{supply_block};
 ghost use Rattle.report_text.specs.Plan.{plan_of, planned_block};
 
@@ -32,7 +32,7 @@ impl SupplyPlan {
     /// The plan of the supply block of these chains. It takes time in proportion to the rows of all chains and the logarithm of their number,
     /// and for each derivative in proportion to the chains. An `Err` is out of memory.
     pub fn of(alloc: Global, chains: &[ChainState]) -> Result<SupplyPlan, AllocError>
-        ensures { IfOk result (λ plan. plan ≡ plan_of (map table_of (map part_of chains.now))) }
+        ensures { IfOk result (λ plan. plan ≡ plan_of (map chain_table (map part_of chains.now))) }
     {
         let natives = native_assets(alloc, chains)?;
         let supplies = plan_supplies(alloc, chains, &natives)?;
@@ -44,7 +44,7 @@ impl SupplyPlan {
     /// native, by path, fungible first, and then for each chain in order a line for each derivative in listed order. A sum passes 2^128-1
     /// where its line has `over`. No row is searched for.
     pub fn block(&self, alloc: Global, chains: &[ChainState]) -> Result<String, AllocError>
-        requires { self.now ≡ plan_of (map table_of (map part_of chains.now)) }
+        requires { self.now ≡ plan_of (map chain_table (map part_of chains.now)) }
         ensures { IfOk result (λ text. string_bytes text ≡ supply_block (map part_of chains.now)) }
     {
         self.text(alloc, chains)

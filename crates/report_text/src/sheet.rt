@@ -1,7 +1,7 @@
 //! The supply block, kept between steps.
 ghost use Rattle.std.specs.Prelude.{◌≡◌, map, ℕ, true, List, IfOk, OnOk, string_bytes};
 ghost use Rattle.chain_state.specs.PartOf.{part_of};
-ghost use Rattle.supply_audit.specs.Places.{table_of};
+ghost use Rattle.supply_audit.specs.Places.{chain_table};
 ghost use Rattle.supply_audit.specs.Covers.{number_of};
 ghost use Rattle.supply_audit.specs.Stale.{is_stale};
 ghost use Rattle.exec_base.specs.Part.{ChainPart};
@@ -57,7 +57,7 @@ impl SupplySheet {
         plan: SupplyPlan,
         chains: &[ChainState],
     ) -> Result<SupplySheet, AllocError>
-        requires { plan ≡ plan_of (map table_of (map part_of chains.now)) }
+        requires { plan ≡ plan_of (map chain_table (map part_of chains.now)) }
         ensures { IfOk result (λ sheet. IsWrittenOf (map part_of chains.now) sheet) }
     {
         let (supplies, backings) = plan.entries();
@@ -73,7 +73,7 @@ impl SupplySheet {
 
     /// From now on the chain of this name counts as changed.
     pub fn mark(&mut self, chains: &[ChainState], chain: ChainId)
-        ensures { IsMarked (number_of (map table_of (map part_of chains.now)) chain)
+        ensures { IsMarked (number_of (map chain_table (map part_of chains.now)) chain)
             self.old self.new }
     {
         let number = number_of(chains, chain);

@@ -1,7 +1,7 @@
 //! The lines of what there is of each asset that has a home.
 ghost use Rattle.std.specs.Prelude.{◌≡◌, ◌++◌, map, IfOk, OnOk, flat_map, string_bytes};
 ghost use Rattle.chain_state.specs.PartOf.{part_of};
-ghost use Rattle.supply_audit.specs.Places.{table_of};
+ghost use Rattle.supply_audit.specs.Places.{chain_table};
 ghost use Rattle.supply_audit.specs.RowPlaces.{places_in};
 ghost use Rattle.report_text.specs.Plan.{supply_beginning, planned_supply, planned_supply_text};
 
@@ -65,7 +65,7 @@ pub(crate) fn plan_supplies(
     assets: &Natives,
 ) -> Result<Vec<SupplyEntry>, AllocError>
     ensures { IfOk result (λ entries. entries.items
-        ≡ map (planned_supply (map table_of (map part_of chains.now))) assets.now.keys) }
+        ≡ map (planned_supply (map chain_table (map part_of chains.now))) assets.now.keys) }
 {
     let homes = HomePlaces::of(alloc, chains)?;
     let mut entries = Vec::new(alloc);

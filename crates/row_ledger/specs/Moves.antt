@@ -6,7 +6,7 @@ use Rattle.ledgers.specs.Ledgers.{Held, Accounts}
 use Rattle.call_dispatch.specs.declared.faults.ShiftFault.{ShiftFault}
 use Rattle.call_dispatch.specs.declared.faults.ShiftFault.TheVariants.{NoRow, NotEnough, Overflow, Memory}
 use Rattle.call_dispatch.specs.Shifts.{is_same_account}
-use Rattle.row_accounts.specs.Laws.{moved_between}
+use Rattle.row_ledger.specs.AccountLaws.{moved_between}
 use Rattle.row_ledger.specs.Nothing.{Nothing}
 
 unfoldable pub unit_fault : Held → Unit → List ℕ → List ℕ → ℕ → Option ShiftFault

@@ -7,7 +7,7 @@ ghost use Rattle.asset_lists.specs.Listed.{listed_cmp};
 ghost use Rattle.asset_lists.specs.declared.units.AssetId.TheVariants.{Concrete};
 ghost use Rattle.trust_tables.specs.Trust.{listing};
 ghost use Rattle.call_dispatch.specs.Shifts.{shift_fault, shifted, Shifts, IsNumberAt};
-ghost use Rattle.row_accounts.specs.RowAccounts.{fungible_rows, row_amounts, held_aside, no_floors};
+ghost use Rattle.row_ledger.specs.RowAccounts.{fungible_rows, row_amounts, held_aside, no_floors};
 ghost use Rattle.row_ledger.specs.Moves.{unit_fault, moved_unit, MovesUnit};
 
 use asset_lists::{Asset, AssetId, Assets, Fun, Kind};

@@ -16,7 +16,8 @@ use trust_tables::AssetRow;
 pub struct RowLedger {
     rows: Vec<AssetRow>,
     ledger: Ledger,
-    ghost apart: { IsDistinct (eq_by_cmp listed_cmp) (listing rows.items) } by { IsDistinct-prop (eq_by_cmp listed_cmp) (listing rows.items) },
+    ghost apart: { IsDistinct (eq_by_cmp listed_cmp)
+        (listing rows.items) } by { IsDistinct-prop (eq_by_cmp listed_cmp) (listing rows.items) },
 }
 
 impl RowLedger {
@@ -44,7 +45,7 @@ impl Mover for RowLedger {
     ghost use Rattle.trust_tables.specs.declared.rows.AssetRow.{AssetRow};
     ghost use Rattle.asset_lists.specs.Listed.{Listed};
     ghost use Rattle.ledgers.specs.Ledgers.{Held};
-    ghost use Rattle.row_accounts.specs.RowAccounts.{fungible_rows, row_amounts, held_aside, no_floors};
+    ghost use Rattle.row_ledger.specs.RowAccounts.{fungible_rows, row_amounts, held_aside, no_floors};
     ghost use Rattle.row_ledger.specs.Laws.{nothing_kept};
 
     ghost amounts = { λ l. row_amounts l.rows.items l.ledger.held };
@@ -81,8 +82,8 @@ impl Mover for RowLedger {
 
 impl RowLedger {
     ghost use Rattle.std.specs.Prelude.{◌≡◌, IfOk, OnOk, OnErr};
-    ghost use Rattle.row_accounts.specs.RowAccounts.{no_floors};
-    ghost use Rattle.row_accounts.specs.Calls.{call_end, held_called, IsHeldInPart};
+    ghost use Rattle.row_ledger.specs.RowAccounts.{no_floors};
+    ghost use Rattle.row_ledger.specs.Calls.{call_end, held_called, IsHeldInPart};
 
     /// Does a call for an account. Where memory is refused a front of a batch may have been done.
     pub fn call(&mut self, who: &[u8; 32], call: &Call) -> Result<CallEnd, AllocError>

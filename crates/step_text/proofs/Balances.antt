@@ -6,10 +6,10 @@ use Rattle.chain_ids.specs.declared.chain.ChainId.{ChainId}
 use Rattle.asset_lists.specs.declared.units.Asset.{Asset}
 use Rattle.asset_bundles.specs.Bundles.{held_assets}
 use Rattle.ledgers.specs.Ledgers.{Holder, Held, IsNext, account_goods}
-use Rattle.account_holdings.specs.Holdings.{holding_at}
-use Rattle.account_holdings.specs.Shown.{shown, rows_of_account}
-use Rattle.account_holdings.specs.RowLaws.{none_shown}
-use Rattle.account_holdings.specs.Laws.{account_assets, shown_next}
+use Rattle.ledgers.specs.Holdings.{holding_at}
+use Rattle.ledgers.proofs.Lemmas.Shown.{shown, rows_of_account}
+use Rattle.ledgers.proofs.Lemmas.RowLaws.{none_shown}
+use Rattle.ledgers.proofs.Lemmas.HoldingLaws.{account_assets, shown_next}
 use Rattle.step_text.specs.Lines.{balance_line}
 use Rattle.step_text.specs.Blocks.{holder_line}
 

@@ -3,9 +3,9 @@ use Rattle.std.proofs.Common.{◌≡◌, refl}
 use Rattle.xcm_program.specs.Indices.{index}
 use Rattle.xcm_program.specs.Texts.{instruction_name}
 use Rattle.xcm_program.specs.declared.instruction.Instruction.TheOpen.{Instruction-F}
-use Rattle.step_text.specs.Names.{name_at}
+use Rattle.step_text.specs.Names.{instruction_name_at}
 
-pub names_fit : {X : Type 0} (x : Instruction-F X) → name_at (index x) ≡ instruction_name x
-unfolding name_at
+pub names_fit : {X : Type 0} (x : Instruction-F X) → instruction_name_at (index x) ≡ instruction_name x
+unfolding instruction_name_at
 names_fit (Instruction-F.WithdrawAsset _) = refl
 names_fit _ = refl

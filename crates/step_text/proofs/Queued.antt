@@ -1,8 +1,8 @@
 -- The bytes of a message that waits, and the message that they mean.
 use Rattle.std.proofs.Common.{◌≡◌, ◌∙◌, ℕ, List, ◌∷◌, refl, sym, ap, true, true≢false, Result, Ok, Err, IsTrue}
 use Rattle.std.specs.Prelude.{is_ok, MatchResult}
-use Rattle.message_parts.specs.declared.version.Version.{Version}
-use Rattle.message_parts.specs.declared.version.Version.TheVariants.{V3, V4}
+use Rattle.operands.specs.declared.version.Version.{Version}
+use Rattle.operands.specs.declared.version.Version.TheVariants.{V3, V4}
 use Rattle.chain_ids.specs.declared.chain.ChainId.{ChainId}
 use Rattle.xcm_program.specs.declared.instruction.Instruction.{Instruction}
 use Rattle.xcm_format.specs.Messages.{message, version_byte}

@@ -4,13 +4,13 @@ use Rattle.std.specs.Option.{option_and_then, option_map_or}
 use Rattle.amounts.specs.Amounts.{rows}
 use Rattle.chain_ids.specs.Chains.{same_chain}
 use Rattle.chain_ids.specs.declared.chain.ChainId.{ChainId}
-use Rattle.message_parts.specs.declared.version.Version.{Version}
+use Rattle.operands.specs.declared.version.Version.{Version}
 use Rattle.asset_bundles.specs.Bundles.{held_assets}
 use Rattle.trust_tables.specs.declared.rows.AssetRow.{AssetRow}
 use Rattle.asset_locks.specs.LockMaps.{LocksAndNotes, locks_of}
-use Rattle.trap_store.specs.declared.trap.Trap.{Trap}
+use Rattle.asset_bundles.specs.declared.trap.Trap.{Trap}
 use Rattle.ledgers.specs.Ledgers.{Holder, Held}
-use Rattle.account_holdings.specs.Holdings.{asset_held}
+use Rattle.ledgers.specs.Holdings.{asset_held}
 use Rattle.xcm_format.specs.Messages.{message, version_byte}
 use Rattle.channel_parts.specs.Channels.{Waiting, Outgoing}
 use Rattle.chain_queues.specs.declared.queues.Queued.{Queued}
@@ -55,8 +55,8 @@ trap_text chain t = trap_line chain t.number t.origin (held_assets t.goods)
 abbrev pub trapped_text : ChainId → List Trap → List ℕ
 trapped_text chain traps = flat_map (trap_text chain) traps
 
-abbrev pub traps_of : ChainPart → List ℕ
-traps_of p = trapped_text p.site.chain p.traps.traps
+abbrev pub chain_traps_text : ChainPart → List ℕ
+chain_traps_text p = trapped_text p.site.chain p.traps.traps
 
 -- ---- under `queues`
 

@@ -8,8 +8,8 @@ use Rattle.chain_ids.specs.declared.chain.ChainId.{ChainId}
 use Rattle.asset_lists.specs.declared.units.Asset.{Asset}
 use Rattle.asset_lists.specs.declared.units.Kind.{Kind}
 use Rattle.asset_locks.specs.declared.lock.Lock.{Lock}
-use Rattle.document_forms.specs.Texts.{fault_text}
-use Rattle.document_forms.specs.declared.fault.NetworkFault.{NetworkFault}
+use Rattle.document_entries.specs.Texts.{fault_text}
+use Rattle.document_entries.specs.declared.fault.NetworkFault.{NetworkFault}
 use Rattle.network_coherence.specs.declared.faults.Incoherent.{Incoherent}
 use Rattle.network_coherence.specs.Texts.{incoherent_text}
 use Rattle.ledgers.specs.declared.supplies.Supply.{Supply}

@@ -55,5 +55,5 @@ names = codes "WithdrawAsset"
     ∷ []
 
 -- the name of the instruction of this number, empty where there is none
-unfoldable pub name_at : ℕ → List ℕ
-name_at number = get_or names number []
+unfoldable pub instruction_name_at : ℕ → List ℕ
+instruction_name_at number = get_or names number []

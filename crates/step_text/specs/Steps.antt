@@ -3,7 +3,7 @@
 use Rattle.std.specs.Prelude.{ℕ, List, ◌++◌, codes, decimal, flat_map}
 use Rattle.location_wire.specs.Texts.{path_text}
 use Rattle.chain_ids.specs.Texts.{chain_text}
-use Rattle.message_parts.specs.Texts.{weight_text, error_text}
+use Rattle.operands.specs.Texts.{weight_text, error_text}
 use Rattle.xcm_program.specs.Texts.{outcome_error_text}
 use Rattle.xcm_program.specs.declared.outcome.Outcome.{Outcome}
 use Rattle.xcm_program.specs.declared.outcome.Outcome.TheVariants as outcomes
@@ -14,7 +14,7 @@ use Rattle.network_steps.specs.declared.step_result.StepResult.{StepResult}
 use Rattle.network_steps.specs.declared.step_result.StepResult.TheVariants as answers
 use Rattle.step_text.specs.declared.headings.StepWords.{StepWords}
 use Rattle.step_text.specs.declared.headings.StepWords.TheVariants.{Exec, Deliver, Claim, Drain, Balances, Traps, Queues, Supply}
-use Rattle.step_text.specs.Names.{name_at}
+use Rattle.step_text.specs.Names.{instruction_name_at}
 use Rattle.step_text.specs.Texts.{kind_name, cause_name, part_letter, call_name, call_result, result_text, total_text, origin_text, topic_text}
 
 -- ---- the heading
@@ -41,7 +41,7 @@ unfoldable pub event_line : Event → List ℕ
 event_line (events.Message from to number) =
     codes "  message " ++ chain_text from ++ codes " " ++ chain_text to ++ codes " " ++ decimal number ++ codes "\n"
 event_line (events.Ran part place instruction error) =
-    codes "  " ++ part_letter part ++ decimal place ++ codes " " ++ name_at instruction ++ codes " " ++ result_text error ++ codes "\n"
+    codes "  " ++ part_letter part ++ decimal place ++ codes " " ++ instruction_name_at instruction ++ codes " " ++ result_text error ++ codes "\n"
 event_line (events.Sent from to number) =
     codes "  sent " ++ chain_text from ++ codes " " ++ chain_text to ++ codes " " ++ decimal number ++ codes "\n"
 event_line (events.Burned kind path amount cause) =

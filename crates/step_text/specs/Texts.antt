@@ -9,8 +9,8 @@ use Rattle.message_text.specs.Words.{asset_text}
 use Rattle.asset_bundles.specs.declared.book.Cause.{Cause}
 use Rattle.asset_bundles.specs.declared.book.Cause.TheVariants.{BurnAsset, LostTeleport, Merged, Saturated}
 use Rattle.asset_bundles.specs.declared.totals.Total.{Total}
-use Rattle.message_parts.specs.Texts.{error_text}
-use Rattle.message_parts.specs.declared.error.XcmError.{XcmError}
+use Rattle.operands.specs.Texts.{error_text}
+use Rattle.operands.specs.declared.error.XcmError.{XcmError}
 use Rattle.exec_base.specs.declared.event.Part.{Part}
 use Rattle.exec_base.specs.declared.event.Part.TheVariants.{Program, Handler, Appendix}
 

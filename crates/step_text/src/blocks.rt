@@ -10,13 +10,13 @@ ghost use Rattle.step_text.specs.Blocks.{accounts_text, channel_text, checking_i
 
 use crate::laws::law_of_queued;
 use crate::lines::{balance_line, checking_line, locked_line, queue_line, trap_line};
+use asset_bundles::{Trap, TrapStore};
 use asset_lists::Asset;
 use asset_locks::{Lock, LockBook};
 use chain_ids::ChainId;
 use chain_queues::{Queue, Queued};
 use ledgers::Ledger;
 use std::alloc::{AllocError, Global};
-use trap_store::{Trap, TrapStore};
 use trust_tables::AssetRow;
 
 /// The lines of what a chain's accounts hold: accounts by bytes, and each one's assets in holding order.

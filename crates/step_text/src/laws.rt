@@ -2,22 +2,22 @@
 
 ghost use Rattle.std.specs.Prelude.{◌≡◌, IsTrue};
 ghost use Rattle.chain_ids.specs.declared.chain.ChainId.{ChainId};
-ghost use Rattle.message_parts.specs.declared.version.Version.{Version};
+ghost use Rattle.operands.specs.declared.version.Version.{Version};
 ghost use Rattle.chain_queues.specs.Decoded.{decodes};
 ghost use Rattle.chain_queues.specs.Queues.{waiting_of};
 ghost use Rattle.chain_queues.specs.declared.queues.Queued.{Queued};
 ghost use Rattle.xcm_program.specs.Indices.{index};
 ghost use Rattle.xcm_program.specs.Texts.{instruction_name};
 ghost use Rattle.xcm_program.specs.declared.instruction.Instruction.{Instruction, out-Instruction};
-ghost use Rattle.step_text.specs.Names.{name_at};
+ghost use Rattle.step_text.specs.Names.{instruction_name_at};
 ghost use Rattle.step_text.specs.Blocks.{queued_line, waiting_line, IsSpelledIn};
 
 use versioned_xcm::law_of_messages;
 
 /// The name that stands in the line of an instruction that ran, found by its number, is the instruction's own.
-pub fn law_of_names()
+pub fn law_of_names_by_number()
     ensures { (x : Instruction)
-        → name_at (index (out-Instruction x)) ≡ instruction_name (out-Instruction x) }
+        → instruction_name_at (index (out-Instruction x)) ≡ instruction_name (out-Instruction x) }
 {}
 
 /// The line of the bytes of a message that waits is the line of the message that they mean, spelled in the version with which they begin.

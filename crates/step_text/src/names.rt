@@ -1,7 +1,7 @@
 //! The names of instructions.
 
 ghost use Rattle.std.specs.Prelude.{◌≡◌, [], get_or, map};
-ghost use Rattle.step_text.specs.Names.{name_at};
+ghost use Rattle.step_text.specs.Names.{instruction_name_at};
 
 /// In the order of their numbers.
 const NAMES: [&str; 48] = [
@@ -66,9 +66,9 @@ fn text_at(texts: &[&'static str], place: usize) -> &'static str
 }
 
 /// The name of the instruction of this number (XCM format), empty where there is none.
-#[tactic(auto, unfolding(crate::specs::Names::name_at))]
+#[tactic(auto, unfolding(crate::specs::Names::instruction_name_at))]
 pub(crate) fn name_at(number: u8) -> &'static str
-    ensures { result.now ≡ name_at number }
+    ensures { result.now ≡ instruction_name_at number }
 {
     text_at(&NAMES, usize::from(number))
 }

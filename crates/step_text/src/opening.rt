@@ -3,7 +3,7 @@
 ghost use Rattle.std.specs.Prelude.{◌≡◌, IfOk, string_bytes};
 ghost use Rattle.step_text.specs.Lines.{opening_line, network_refused_line, line_refused_line};
 
-use document_forms::NetworkFault;
+use document_entries::NetworkFault;
 use network_coherence::Incoherent;
 use std::alloc::{AllocError, Global};
 use std::fmt::Write;

@@ -6,10 +6,10 @@ use Rattle.std.specs.declared.alloc.Global.{Global}
 use Rattle.std.specs.declared.vec.Vec.{Vec}
 use Rattle.std.proofs.lemmas.List.Elements.{filter-append}
 use Rattle.trust_tables.specs.declared.rows.AssetRow.{AssetRow}
-use Rattle.coherence.specs.UniversalAssets.{UniversalAsset}
-use Rattle.coherence.specs.Networks.{Table}
+use Rattle.law_coherence.specs.UniversalAssets.{UniversalAsset}
+use Rattle.law_coherence.specs.Networks.{Table}
 use Rattle.supply_audit.specs.declared.place.Place.{Place}
-use Rattle.supply_audit.specs.RowPlaces.{is_listed, place_if, chain_places}
+use Rattle.supply_audit.specs.RowPlaces.{is_table_row_of, place_if, chain_places}
 use Rattle.supply_audit.specs.AssetPlaces.{all_places, is_at, ArePlaces, HavePlacesOf}
 
 joined : (b : Bool) (xs ys : List Place) → (if b then xs else []) ++ (if b then ys else []) ≡ (if b then xs ++ ys else [])
@@ -39,7 +39,7 @@ module _ (a : UniversalAsset) where
   rows_at t n i k [] = nothing (nat_eq n i)
   rows_at t n i k (x ∷ rows) =
       let rest = flat_map (place_if true t a n) (enumerate_from (k + 1) rows) in
-      let one = one_at i (is_listed t a x) (record { chain = n; row = k }) in
+      let one = one_at i (is_table_row_of t a x) (record { chain = n; row = k }) in
       let more = rows_at t n i (k + 1) rows in
       filter-append (is_at i) (place_if true t a n (k, x)) rest
       ∙ (λ j. one j ++ more j)

@@ -1,3 +1,4 @@
+pub mod Lemmas
 pub mod Saturating
 pub mod Naming
 pub mod Tables

@@ -9,15 +9,15 @@ use Rattle.asset_lists.specs.declared.units.Kind.{Kind}
 use Rattle.asset_bundles.specs.Books.{most_burned}
 use Rattle.asset_bundles.specs.Totals.{total_value}
 use Rattle.trust_tables.specs.declared.rows.AssetRow.{AssetRow}
-use Rattle.coherence.specs.UniversalAssets.{UniversalAsset}
+use Rattle.law_coherence.specs.UniversalAssets.{UniversalAsset}
 use Rattle.exec_base.specs.Part.{ChainPart}
 use Rattle.ledgers.specs.declared.supplies.Supply.{Supply}
 use Rattle.supply_audit.specs.declared.figures.Figure.{Figure}
 use Rattle.supply_audit.specs.declared.place.Place.{Place}
-use Rattle.supply_audit.specs.Assets.{asset_cmp, listed_at}
-use Rattle.supply_audit.specs.AssetLaws.{asset_tests}
-use Rattle.supply_audit.specs.Places.{table_of, is_row_of, figure}
-use Rattle.supply_audit.specs.RowPlaces.{place_if, place_share, share_in, share_of}
+use Rattle.supply_audit.specs.Assets.{universal_asset_cmp, listed_at}
+use Rattle.supply_audit.proofs.Lemmas.AssetLaws.{asset_tests}
+use Rattle.supply_audit.specs.Places.{chain_table, is_chain_row_of, figure}
+use Rattle.supply_audit.specs.RowPlaces.{place_if, place_share, share_in, figure_of_row}
 use Rattle.supply_audit.specs.Supplies.{HasSums}
 use Rattle.supply_audit.proofs.Tables.{along, same_asset, sum_more, sums_both}
 
@@ -25,9 +25,9 @@ use Rattle.supply_audit.proofs.Tables.{along, same_asset, sum_more, sums_both}
 
 module _ (counts : UniversalAsset → Bool) (p : ChainPart) (row : AssetRow) (place : Place) where
   abbrev here : UniversalAsset → List Place
-  here a = place_if (counts a) (table_of p) a place.chain (place.row, row)
+  here a = place_if (counts a) (chain_table p) a place.chain (place.row, row)
 
-  none_here : (a : UniversalAsset) → is_row_of p a row ≡ false → here a ≡ []
+  none_here : (a : UniversalAsset) → is_chain_row_of p a row ≡ false → here a ≡ []
   none_here a of_other = ap (λ b. if counts a && b then place ∷ [] else []) of_other ∙ either (counts a)
     where
       either : (b : Bool) → ◌≡◌ {A = List Place} (if b && false then place ∷ [] else []) []
@@ -38,24 +38,24 @@ module _ (counts : UniversalAsset → Bool) (p : ChainPart) (row : AssetRow) (pl
   pub put_away : counts (listed_at p.site row) ≡ false → (a : UniversalAsset) → here a ≡ []
   put_away away a =
       let own = listed_at p.site row in
-      elim (is_row_of p a row) as (λ b. is_row_of p a row ≡ b → here a ≡ []) [
+      elim (is_chain_row_of p a row) as (λ b. is_chain_row_of p a row ≡ b → here a ≡ []) [
         | true ↦ λ e.
             let same : own ≡ a = same_asset own a (asset_tests own a ∙ e) in
             let none : counts a ≡ false = ap counts (sym same) ∙ away in
-            λ i. if none i && is_row_of p a row then place ∷ [] else []
+            λ i. if none i && is_chain_row_of p a row then place ∷ [] else []
         | false ↦ none_here a
       ] refl
 
   -- behind those that its asset has
   pub put_more : counts (listed_at p.site row) ≡ true → (old : UniversalAsset → List Place) (a : UniversalAsset)
-      → (if eq_by_cmp asset_cmp (listed_at p.site row) a then old (listed_at p.site row) ++ place ∷ [] else old a) ≡ old a ++ here a
+      → (if eq_by_cmp universal_asset_cmp (listed_at p.site row) a then old (listed_at p.site row) ++ place ∷ [] else old a) ≡ old a ++ here a
   put_more at_home old a =
       let own = listed_at p.site row in
-      let test : eq_by_cmp asset_cmp own a ≡ is_row_of p a row = asset_tests own a in
-      elim (eq_by_cmp asset_cmp own a) as (λ b. eq_by_cmp asset_cmp own a ≡ b → (if b then old own ++ place ∷ [] else old a) ≡ old a ++ here a) [
+      let test : eq_by_cmp universal_asset_cmp own a ≡ is_chain_row_of p a row = asset_tests own a in
+      elim (eq_by_cmp universal_asset_cmp own a) as (λ b. eq_by_cmp universal_asset_cmp own a ≡ b → (if b then old own ++ place ∷ [] else old a) ≡ old a ++ here a) [
         | true ↦ λ e.
             let same : own ≡ a = same_asset own a e in
-            let of_it : is_row_of p a row ≡ true = sym test ∙ e in
+            let of_it : is_chain_row_of p a row ≡ true = sym test ∙ e in
             let home : counts a ≡ true = ap counts (sym same) ∙ at_home in
             ap (λ x. old x ++ place ∷ []) same ∙ sym (λ i. old a ++ (if home i && of_it i then place ∷ [] else []))
         | false ↦ λ e. sym (append-nil (old a)) ∙ sym (ap (λ xs. old a ++ xs) (none_here a (sym test ∙ e)))
@@ -67,7 +67,7 @@ module _ (counts : UniversalAsset → Bool) (p : ChainPart) (row : AssetRow) (pl
 pub nothing_in : (f : Figure) (p : ChainPart) (row : ℕ) → ((id : AssetId) (kind : Kind) → figure f p id kind ≡ 0) → 0 ≡ min (share_in f row (Some p)) most_burned
 nothing_in f p row none = let zero = of_none (slice_get p.rows row) in omega (arith, zero)
   where
-    of_none : (x : Option AssetRow) → share_of (figure f p) x ≡ 0
+    of_none : (x : Option AssetRow) → figure_of_row (figure f p) x ≡ 0
     of_none None = refl
     of_none (Some x) = none _ x.kind
 

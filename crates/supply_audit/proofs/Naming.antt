@@ -6,8 +6,9 @@ use Rattle.std.proofs.Common.{sym, ◌∙◌, subst, arith, cond}
 use Rattle.std.proofs.lemmas.Bool.{and_parts, and_from}
 use Rattle.std.proofs.lemmas.List.Sums.{sum_by-cons}
 use Rattle.amounts.specs.Rows.{sum_where}
-use Rattle.amounts.specs.Amounts.{amount, total_alike, amount-total}
-use Rattle.amounts.specs.Laws.{same_key, key_same, total-from_rows}
+use Rattle.amounts.specs.Amounts.{amount}
+use Rattle.amounts.proofs.Lemmas.AmountLaws.{total_alike, amount-total}
+use Rattle.amounts.proofs.Lemmas.{same_key, key_same, total-from_rows}
 use Rattle.locations.specs.declared.grammar.Junction.{Junction}
 use Rattle.locations.specs.declared.relative.Location.{Location}
 use Rattle.locations.specs.Chains.{path_of}
@@ -16,17 +17,13 @@ use Rattle.asset_lists.specs.declared.units.AssetId.{AssetId}
 use Rattle.asset_lists.specs.declared.units.Instance.{Instance}
 use Rattle.asset_lists.specs.declared.units.Kind.{Kind}
 use Rattle.asset_lists.specs.Units.{asset_id_cmp}
-use Rattle.asset_lists.specs.UnitLaws.{asset_id_decides}
-use Rattle.asset_bundles.specs.Bundles.{bundle_of, unit_keys, rows_of, is_asset, is_kind}
+use Rattle.asset_lists.proofs.Lemmas.UnitLaws.{asset_id_decides}
+use Rattle.asset_bundles.specs.Bundles.{bundle_of, rows_of, is_asset, is_kind}
+use Rattle.asset_bundles.proofs.Lemmas.Bundles.{unit_keys}
 use Rattle.ledgers.specs.Ledgers.{Holder, Held, account_cmp, holder_cmp, is_account, is_holding_of, account_sum_of}
-use Rattle.ledgers.specs.Laws.{account_keys, holder_keys}
-use Rattle.supply_audit.specs.Places.{asset_in, list_share}
-
--- the first that passes, seen as another list
-pub find-map : {X A : Type 0} (g : X → A) (p : A → Bool) (xs : List X) → find p (map g xs) ≡ option_map g (find (λ x. p (g x)) xs)
-find-map g p [] = refl
-find-map g p (x ∷ xs) =
-    elim (p (g x)) as (λ b. cond b (Some (g x)) (find p (map g xs)) ≡ option_map g (cond b (Some x) (find (λ z. p (g z)) xs))) [ true ↦ refl | false ↦ find-map g p xs ]
+use Rattle.ledgers.proofs.Lemmas.{account_keys, holder_keys}
+use Rattle.supply_audit.specs.Places.{asset_amount_in, list_share}
+use Rattle.plain_lists.proofs.Lemmas.Facts.{find_mapped as find-map}
 
 -- a path from the root
 pub from_root : (root interior path : List Junction) → root ≡ [] → interior ≡ path → (let id : Location = record { parents = 0; interior = interior } in path_of root id) ≡ path
@@ -37,7 +34,7 @@ rows_share : (id : AssetId) (kind : Kind) (list : List Asset) → sum_where (is_
 rows_share id kind [] = refl
 rows_share id kind (a ∷ list) = let rest = rows_share id kind list in let all = sum_by-cons (list_share id kind) a list in omega (arith, rest, all)
 
-pub in_list_is : (id : AssetId) (kind : Kind) (list : List Asset) → sum_by (list_share id kind) list ≡ asset_in id kind (bundle_of list)
+pub in_list_is : (id : AssetId) (kind : Kind) (list : List Asset) → sum_by (list_share id kind) list ≡ asset_amount_in id kind (bundle_of list)
 unfolding bundle_of
 in_list_is id kind list = sym (total-from_rows unit_keys (is_asset id kind) (rows_of list) ∙ rows_share id kind list)
 

@@ -3,13 +3,11 @@ use Rattle.std.specs.Prelude.{◌≡◌, ℕ, ◌+◌, ◌<◌, min, List, [], �
 use Rattle.std.proofs.Common.{get_or, sym, ap, ◌∙◌, arith}
 use Rattle.std.proofs.lemmas.List.{take_more}
 use Rattle.std.proofs.lemmas.List.Sums.{sum_by-append}
+use Rattle.plain_lists.proofs.Lemmas.Facts.{saturates_once as one}
 
 -- sums of what saturates saturate as the whole does
 pub both : (a b m : ℕ) → min (min a m + min b m) m ≡ min (a + b) m
 both a b m = omega arith
-
-pub one : (a b m : ℕ) → min (min a m + b) m ≡ min (a + b) m
-one a b m = omega arith
 
 pub three : (a b c m : ℕ) → min (min (min a m + min b m) m + min c m) m ≡ min (a + b + c) m
 three a b c m = omega arith

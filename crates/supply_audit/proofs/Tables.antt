@@ -13,32 +13,28 @@ use Rattle.asset_bundles.specs.Books.{most_burned}
 use Rattle.asset_bundles.specs.Totals.{total_value}
 use Rattle.trust_tables.specs.declared.rows.AssetRow.{AssetRow}
 use Rattle.trust_tables.specs.Chains.{path_of_site}
-use Rattle.coherence.specs.UniversalAssets.{UniversalAsset}
-use Rattle.coherence.specs.Networks.{is_home}
+use Rattle.law_coherence.specs.UniversalAssets.{UniversalAsset}
+use Rattle.law_coherence.specs.Networks.{is_home}
 use Rattle.exec_base.specs.Part.{ChainPart}
-use Rattle.network_genesis.specs.Tests.{has_path}
+use Rattle.network_steps.specs.Tests.{has_path}
 use Rattle.chain_state.specs.declared.state.ChainState.{ChainState}
 use Rattle.chain_state.specs.Known.{paths_there}
 use Rattle.supply_audit.specs.declared.figures.Carried.TheVariants.{Teleports}
 use Rattle.supply_audit.specs.declared.figures.Figure.{Figure}
 use Rattle.supply_audit.specs.declared.figures.Figure.TheVariants.{Placed, Burned, Sent}
 use Rattle.ledgers.specs.declared.supplies.Supply.{Supply}
-use Rattle.supply_audit.specs.Assets.{asset_cmp, listed_at}
-use Rattle.supply_audit.specs.AssetLaws.{asset_exact, asset_tests}
-use Rattle.supply_audit.specs.Places.{table_of, is_row_of, row_share, figure}
+use Rattle.supply_audit.specs.Assets.{universal_asset_cmp, listed_at}
+use Rattle.supply_audit.proofs.Lemmas.AssetLaws.{asset_exact, asset_tests}
+use Rattle.supply_audit.specs.Places.{chain_table, is_chain_row_of, row_share, figure}
 use Rattle.supply_audit.specs.Supply.{at_homes}
 use Rattle.supply_audit.specs.Supplies.{IsSupply, HasSums, Raises, row_part, rows_part, supply_in}
 use Rattle.supply_audit.proofs.Saturating.{both, sum-map_append}
+use Rattle.plain_lists.proofs.Lemmas.Facts.{all_at}
 
 abbrev Entries : Type 0
 Entries = List (UniversalAsset × Supply)
 
 -- ---- rows
-
-all_at : {A : Type 0} (p : A → Bool) (xs : List A) (i : ℕ) (a : A) → list_all p xs ≡ true → i < length xs → a ≡ get_or xs i a → p a ≡ true
-all_at p [] i a all inside at = absurd (omega (arith, inside))
-all_at p (x ∷ xs) zero a all inside at = ap p at ∙ (and_parts (p x) (list_all p xs) all).0
-all_at p (x ∷ xs) (suc i) a all inside at = all_at p xs i a (and_parts (p x) (list_all p xs) all).1 (omega (arith, inside)) at
 
 -- the id of each row has a path
 pub row_has_path : (chain : ChainState) (rows : List AssetRow) (k : ℕ) (row : AssetRow) → rows ≡ chain.settings.rows → k < length rows → row ≡ get_or rows k row
@@ -84,8 +80,8 @@ raises_both old mid new m n k e r s a has h =
 
 -- ---- assets
 
-pub same_asset : (x y : UniversalAsset) → eq_by_cmp asset_cmp x y ≡ true → x ≡ y
-same_asset x y h = asset_exact x y (tied (asset_cmp x y) h)
+pub same_asset : (x y : UniversalAsset) → eq_by_cmp universal_asset_cmp x y ≡ true → x ≡ y
+same_asset x y h = asset_exact x y (tied (universal_asset_cmp x y) h)
   where
     tied : (r : Ordering) → is_eq r ≡ true → r ≡ Equal
     tied Less h = absurd (false≢true h)
@@ -94,14 +90,14 @@ same_asset x y h = asset_exact x y (tied (asset_cmp x y) h)
 
 -- one asset's entry is written anew
 pub raised : (old new : Entries) (asset : UniversalAsset) (found more sum : Supply) → found ≡ supply_in old asset
-    → ((a : UniversalAsset) → supply_in new a ≡ (if eq_by_cmp asset_cmp asset a then sum else supply_in old a))
+    → ((a : UniversalAsset) → supply_in new a ≡ (if eq_by_cmp universal_asset_cmp asset a then sum else supply_in old a))
     → total_value sum.home ≡ min (total_value found.home + total_value more.home) most_burned
     → total_value sum.flight ≡ min (total_value found.flight + total_value more.flight) most_burned
     → total_value sum.burned ≡ min (total_value found.burned + total_value more.burned) most_burned
-    → (has : Figure → ℕ) → HasSums more has → Raises old new (λ a w. if eq_by_cmp asset_cmp asset a then has w else 0)
+    → (has : Figure → ℕ) → HasSums more has → Raises old new (λ a w. if eq_by_cmp universal_asset_cmp asset a then has w else 0)
 raised old new asset found more sum is wrote home flight burned has m a before start =
-    subst (λ (s : Supply). HasSums s (λ w. before w + (if eq_by_cmp asset_cmp asset a then has w else 0))) (sym (wrote a))
-    (elim (eq_by_cmp asset_cmp asset a) as (λ t. eq_by_cmp asset_cmp asset a ≡ t → HasSums (if t then sum else supply_in old a) (λ w. before w + (if t then has w else 0))) [
+    subst (λ (s : Supply). HasSums s (λ w. before w + (if eq_by_cmp universal_asset_cmp asset a then has w else 0))) (sym (wrote a))
+    (elim (eq_by_cmp universal_asset_cmp asset a) as (λ t. eq_by_cmp universal_asset_cmp asset a ≡ t → HasSums (if t then sum else supply_in old a) (λ w. before w + (if t then has w else 0))) [
       | true ↦ λ e.
           let here : supply_in old a ≡ found = ap (supply_in old) (sym (same_asset asset a e)) ∙ sym is in
           sums_both found more sum before has home flight burned (subst (λ (s : Supply). HasSums s before) here start) m
@@ -115,24 +111,24 @@ either_nothing true = refl
 either_nothing false = refl
 
 -- what a row counts for, at each asset, where it is known whether its own is at home
-pub part_is : (p : ChainPart) (row : AssetRow) (home : Bool) → is_home (listed_at p.site row) (table_of p) ≡ home → (a : UniversalAsset) (w : Figure)
-    → (if eq_by_cmp asset_cmp (listed_at p.site row) a then (if home then figure w p (Concrete row.id) row.kind else 0) else 0) ≡ row_part p row a w
+pub part_is : (p : ChainPart) (row : AssetRow) (home : Bool) → is_home (listed_at p.site row) (chain_table p) ≡ home → (a : UniversalAsset) (w : Figure)
+    → (if eq_by_cmp universal_asset_cmp (listed_at p.site row) a then (if home then figure w p (Concrete row.id) row.kind else 0) else 0) ≡ row_part p row a w
 part_is p row home h a w =
     let has = figure w p (Concrete row.id) row.kind in
     let own = listed_at p.site row in
-    let test : eq_by_cmp asset_cmp own a ≡ is_row_of p a row = asset_tests own a in
-    elim (eq_by_cmp asset_cmp own a) as (λ t. eq_by_cmp asset_cmp own a ≡ t → (if t then (if home then has else 0) else 0) ≡ row_part p row a w) [
+    let test : eq_by_cmp universal_asset_cmp own a ≡ is_chain_row_of p a row = asset_tests own a in
+    elim (eq_by_cmp universal_asset_cmp own a) as (λ t. eq_by_cmp universal_asset_cmp own a ≡ t → (if t then (if home then has else 0) else 0) ≡ row_part p row a w) [
       | true ↦ λ e.
-          let at_home : is_home a (table_of p) ≡ home = ap (λ (x : UniversalAsset). is_home x (table_of p)) (sym (same_asset own a e)) ∙ h in
-          let of_it : is_row_of p a row ≡ true = sym test ∙ e in
+          let at_home : is_home a (chain_table p) ≡ home = ap (λ (x : UniversalAsset). is_home x (chain_table p)) (sym (same_asset own a e)) ∙ h in
+          let of_it : is_chain_row_of p a row ≡ true = sym test ∙ e in
           sym (λ i. if at_home i then (if of_it i then has else 0) else 0)
       | false ↦ λ e.
-          let of_it : is_row_of p a row ≡ false = sym test ∙ e in
-          sym ((λ i. if is_home a (table_of p) then (if of_it i then has else 0) else 0) ∙ either_nothing (is_home a (table_of p)))
+          let of_it : is_chain_row_of p a row ≡ false = sym test ∙ e in
+          sym ((λ i. if is_home a (chain_table p) then (if of_it i then has else 0) else 0) ∙ either_nothing (is_home a (chain_table p)))
     ] refl
 
-pub row_away : (old : Entries) (p : ChainPart) (row : AssetRow) → is_home (listed_at p.site row) (table_of p) ≡ false → Raises old old (row_part p row)
-row_away old p row h = raises_nothing old (row_part p row) (λ a w. sym (part_is p row false h a w) ∙ either_nothing (eq_by_cmp asset_cmp (listed_at p.site row) a))
+pub row_away : (old : Entries) (p : ChainPart) (row : AssetRow) → is_home (listed_at p.site row) (chain_table p) ≡ false → Raises old old (row_part p row)
+row_away old p row h = raises_nothing old (row_part p row) (λ a w. sym (part_is p row false h a w) ∙ either_nothing (eq_by_cmp universal_asset_cmp (listed_at p.site row) a))
 
 sum_one : {X : Type 0} (f : X → ℕ) (x : X) → sum_by f (x ∷ []) ≡ f x
 sum_one f x = search (rules, add-zero)
@@ -147,7 +143,7 @@ pub rows_more : (p : ChainPart) (rows : List AssetRow) (k : ℕ) (row : AssetRow
     → rows_part p (take k rows) a w + row_part p row a w ≡ rows_part p (take (k + 1) rows) a w
 rows_more p rows k row l e a w =
     let has = row_share p a (figure w p) in
-    elim (is_home a (table_of p)) as (λ b. (if b then sum_by has (take k rows) else 0) + (if b then has row else 0) ≡ (if b then sum_by has (take (k + 1) rows) else 0)) [
+    elim (is_home a (chain_table p)) as (λ b. (if b then sum_by has (take k rows) else 0) + (if b then has row else 0) ≡ (if b then sum_by has (take (k + 1) rows) else 0)) [
       | true ↦ sum_more has rows k row l e
       | false ↦ refl
     ]

@@ -3,8 +3,8 @@ use Rattle.std.specs.Prelude.{◌≡◌, ℕ, nat_eq, Bool, true, List, flat_map
 use Rattle.std.specs.List.{enumerate_from, filter}
 use Rattle.std.specs.declared.alloc.Global.{Global}
 use Rattle.std.specs.declared.vec.Vec.{Vec}
-use Rattle.coherence.specs.UniversalAssets.{UniversalAsset}
-use Rattle.coherence.specs.Networks.{Table}
+use Rattle.law_coherence.specs.UniversalAssets.{UniversalAsset}
+use Rattle.law_coherence.specs.Networks.{Table}
 use Rattle.supply_audit.specs.declared.place.Place.{Place}
 use Rattle.supply_audit.specs.RowPlaces.{chain_places, places_in}
 

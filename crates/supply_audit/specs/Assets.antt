@@ -7,11 +7,11 @@ use Rattle.asset_lists.specs.Listed.{kind_number}
 use Rattle.trust_tables.specs.declared.chains.Site.{Site}
 use Rattle.trust_tables.specs.declared.rows.AssetRow.{AssetRow}
 use Rattle.trust_tables.specs.Chains.{path_of_site}
-use Rattle.coherence.specs.UniversalAssets.{UniversalAsset}
+use Rattle.law_coherence.specs.UniversalAssets.{UniversalAsset}
 
 -- by path (number of junctions, then junctions), then fungible assets before classes
-abbrev pub asset_cmp : UniversalAsset → UniversalAsset → Ordering
-asset_cmp =
+abbrev pub universal_asset_cmp : UniversalAsset → UniversalAsset → Ordering
+universal_asset_cmp =
     then_cmp (on (λ (a : UniversalAsset). a.0) junctions_cmp)
     (on (λ (a : UniversalAsset). kind_number a.1) nat_cmp)
 

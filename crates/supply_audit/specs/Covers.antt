@@ -8,7 +8,7 @@ use Rattle.trust_tables.specs.declared.rows.AssetRow.{AssetRow}
 use Rattle.trust_tables.specs.declared.rows.AssetRole.{AssetRole}
 use Rattle.trust_tables.specs.declared.rows.AssetRole.TheVariants.{Native, Derivative}
 use Rattle.trust_tables.specs.Accounts.{sovereign_account}
-use Rattle.coherence.specs.Networks.{Table, asset_of_row}
+use Rattle.law_coherence.specs.Networks.{Table, asset_of_row}
 use Rattle.exec_base.specs.Part.{ChainPart}
 use Rattle.supply_audit.specs.declared.figures.Carried.TheVariants.{Deposits, Withdrawals}
 use Rattle.supply_audit.specs.declared.figures.Figure.TheVariants.{Placed, Account, Sent}

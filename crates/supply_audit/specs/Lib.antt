@@ -8,8 +8,5 @@ pub mod Covered
 pub mod RowPlaces
 pub mod AssetPlaces
 pub mod Covers
-pub mod PlaceLaws
-pub mod ListLaws
 pub mod Stale
-pub mod StaleLaws
 pub mod Renewed

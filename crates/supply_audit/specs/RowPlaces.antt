@@ -16,24 +16,24 @@ use Rattle.asset_lists.specs.declared.units.AssetId.TheVariants.{Concrete}
 use Rattle.asset_lists.specs.declared.units.Kind.{Kind}
 use Rattle.asset_lists.specs.Listed.{same_kind}
 use Rattle.trust_tables.specs.declared.rows.AssetRow.{AssetRow}
-use Rattle.coherence.specs.UniversalAssets.{UniversalAsset}
-use Rattle.coherence.specs.Networks.{Table, path_of_row, is_home}
+use Rattle.law_coherence.specs.UniversalAssets.{UniversalAsset}
+use Rattle.law_coherence.specs.Networks.{Table, path_of_row, is_home}
 use Rattle.exec_base.specs.Part.{ChainPart}
 use Rattle.supply_audit.specs.declared.figures.Carried.TheVariants.{Teleports}
 use Rattle.supply_audit.specs.declared.figures.Figure.{Figure}
 use Rattle.supply_audit.specs.declared.figures.Figure.TheVariants.{Placed, Burned, Sent}
 use Rattle.supply_audit.specs.declared.place.Place.{Place}
-use Rattle.supply_audit.specs.Assets.{asset_cmp}
+use Rattle.supply_audit.specs.Assets.{universal_asset_cmp}
 use Rattle.supply_audit.specs.Places.{figure}
 
 -- the row is of the asset
-abbrev pub is_listed : Table → UniversalAsset → AssetRow → Bool
-is_listed t a row = eq_by_cmp junctions_cmp (path_of_row t row) a.0 && same_kind row.kind a.1
+abbrev pub is_table_row_of : Table → UniversalAsset → AssetRow → Bool
+is_table_row_of t a row = eq_by_cmp junctions_cmp (path_of_row t row) a.0 && same_kind row.kind a.1
 
 -- the place of a chain's row with its number, where it counts and the row is of the asset
 abbrev pub place_if : Bool → Table → UniversalAsset → ℕ → ℕ × AssetRow → List Place
 place_if counts t a chain row =
-    if counts && is_listed t a row.1 then record { chain = chain; row = row.0 } ∷ [] else []
+    if counts && is_table_row_of t a row.1 then record { chain = chain; row = row.0 } ∷ [] else []
 
 -- of a chain with its number, where it counts
 abbrev pub chain_places : Bool → UniversalAsset → ℕ × Table → List Place
@@ -51,18 +51,18 @@ home_places a tables = flat_map (places_at_home a) (enumerate_from 0 tables)
 abbrev pub places_in : List (UniversalAsset × Vec Place Global) → UniversalAsset → List Place
 places_in entries a =
     unwrap_or (option_map (λ (list : Vec Place Global). list.items)
-    (lookup (eq_by_cmp asset_cmp a) entries)) []
+    (lookup (eq_by_cmp universal_asset_cmp a) entries)) []
 
 -- ---- figures
 
 -- a figure of a row, under its id and kind; 0 where there is none
-abbrev pub share_of : (AssetId → Kind → ℕ) → Option AssetRow → ℕ
-share_of has None = 0
-share_of has (Some row) = has (Concrete row.id) row.kind
+abbrev pub figure_of_row : (AssetId → Kind → ℕ) → Option AssetRow → ℕ
+figure_of_row has None = 0
+figure_of_row has (Some row) = has (Concrete row.id) row.kind
 
 abbrev pub share_in : Figure → ℕ → Option ChainPart → ℕ
 share_in f row None = 0
-share_in f row (Some p) = share_of (figure f p) (slice_get p.rows row)
+share_in f row (Some p) = figure_of_row (figure f p) (slice_get p.rows row)
 
 abbrev pub place_share : Figure → List ChainPart → Place → ℕ
 place_share f parts place = share_in f place.row (slice_get parts place.chain)

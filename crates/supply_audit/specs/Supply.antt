@@ -7,29 +7,29 @@ use Rattle.trust_tables.specs.declared.rows.AssetRow.{AssetRow}
 use Rattle.trust_tables.specs.declared.rows.AssetRole.{AssetRole}
 use Rattle.trust_tables.specs.declared.rows.AssetRole.TheVariants.{Native, Derivative}
 use Rattle.trust_tables.specs.Accounts.{sovereign_account}
-use Rattle.coherence.specs.UniversalAssets.{UniversalAsset}
-use Rattle.coherence.specs.Networks.{asset_of_row, is_home}
+use Rattle.law_coherence.specs.UniversalAssets.{UniversalAsset}
+use Rattle.law_coherence.specs.Networks.{asset_of_row, is_home}
 use Rattle.exec_base.specs.Part.{ChainPart}
 use Rattle.supply_audit.specs.declared.figures.Figure.{Figure}
-use Rattle.supply_audit.specs.Places.{table_of, over_rows, figure, placed_at, burned_at, account_at, teleports_at, deposits_to, withdrawals_to}
+use Rattle.supply_audit.specs.Places.{chain_table, over_rows, figure, placed_at, burned_at, account_balance, teleports_at, deposits_to, withdrawals_to}
 
 -- ---- supply
 
 -- a figure of one chain, where the chain is a home
 abbrev pub if_home : (ChainPart → ℕ) → UniversalAsset → ChainPart → ℕ
-if_home has a p = if is_home a (table_of p) then has p else 0
+if_home has a p = if is_home a (chain_table p) then has p else 0
 
 -- what stands at homes
-abbrev pub home : UniversalAsset → List ChainPart → ℕ
-home a parts = sum_by (if_home (placed_at a) a) parts
+abbrev pub supply_at_homes : UniversalAsset → List ChainPart → ℕ
+supply_at_homes a parts = sum_by (if_home (placed_at a) a) parts
 
 -- what is on its way as teleports that homes sent
-abbrev pub flight : UniversalAsset → List ChainPart → ℕ
-flight a parts = sum_by (if_home (teleports_at a) a) parts
+abbrev pub teleports_in_flight : UniversalAsset → List ChainPart → ℕ
+teleports_in_flight a parts = sum_by (if_home (teleports_at a) a) parts
 
 -- what was burned at homes
-abbrev pub burned : UniversalAsset → List ChainPart → ℕ
-burned a parts = sum_by (if_home (burned_at a) a) parts
+abbrev pub burned_at_homes : UniversalAsset → List ChainPart → ℕ
+burned_at_homes a parts = sum_by (if_home (burned_at a) a) parts
 
 -- the same by the figure's name
 abbrev pub at_homes : Figure → UniversalAsset → List ChainPart → ℕ
@@ -67,19 +67,19 @@ debt_of_chain parts row (Some here) = debt_of_row parts here (slice_get here.row
 abbrev pub debt_at : List ChainPart → ChainId → ℕ → Option Debt
 debt_at parts chain row = debt_of_chain parts row (chain_at parts chain)
 
-abbrev pub asset_of : Debt → UniversalAsset
-asset_of d = asset_of_row (table_of d.here) d.row
+abbrev pub debt_asset : Debt → UniversalAsset
+debt_asset d = asset_of_row (chain_table d.here) d.row
 
 -- what the chain's account at the reserve has
-abbrev pub held_for : Debt → ℕ
-held_for d =
-    account_at (sovereign_account d.there.site.chain d.here.site.chain) (asset_of d) d.there
+abbrev pub held_at_reserve : Debt → ℕ
+held_at_reserve d =
+    account_balance (sovereign_account d.there.site.chain d.here.site.chain) (debt_asset d) d.there
 
 -- what the chain has, what is on its way to it as deposits, and what is on its way back as withdrawals
 abbrev pub owed_by : Debt → ℕ
 owed_by d =
-    placed_at (asset_of d) d.here + deposits_to d.here.site.chain (asset_of d) d.there
-    + withdrawals_to d.there.site.chain (asset_of d) d.here
+    placed_at (debt_asset d) d.here + deposits_to d.here.site.chain (debt_asset d) d.there
+    + withdrawals_to d.there.site.chain (debt_asset d) d.here
 
 -- a figure of a derivative; 0 where there is none
 abbrev pub of_debt : (Debt → ℕ) → Option Debt → ℕ

@@ -2,10 +2,10 @@
 ghost use Rattle.std.specs.Prelude.{◌≡◌, ◌++◌, true, map, IfOk, OnOk, IsTrue};
 ghost use Rattle.std.specs.List.{filter};
 ghost use Rattle.trust_tables.specs.Chains.{path_of_site};
-ghost use Rattle.coherence.specs.UniversalAssets.{UniversalAsset};
-ghost use Rattle.network_genesis.specs.Tests.{has_path};
+ghost use Rattle.law_coherence.specs.UniversalAssets.{UniversalAsset};
+ghost use Rattle.network_steps.specs.Tests.{has_path};
 ghost use Rattle.chain_state.specs.PartOf.{part_of};
-ghost use Rattle.supply_audit.specs.Places.{table_of};
+ghost use Rattle.supply_audit.specs.Places.{chain_table};
 ghost use Rattle.supply_audit.specs.RowPlaces.{chain_places, place_if, places_in};
 ghost use Rattle.supply_audit.specs.AssetPlaces.{ArePlaces, is_at};
 
@@ -28,7 +28,7 @@ impl AssetPlaces {
     /// `Err` is out of memory.
     pub fn of(alloc: Global, chains: &[ChainState]) -> Result<AssetPlaces, AllocError>
         ensures { IfOk result
-            (λ index. ArePlaces index.places.entries (map table_of (map part_of chains.now))) }
+            (λ index. ArePlaces index.places.entries (map chain_table (map part_of chains.now))) }
     {
         let mut places = BTreeMap::new(alloc);
         for (number, chain) in chains.iter().enumerate() {
@@ -78,7 +78,7 @@ fn add_row(
     requires { IsTrue (has_path (path_of_site (part_of chain.now).site) row.now) }
     ensures { OnOk result ((a : UniversalAsset) → places_in places.new.entries a
         ≡ places_in places.old.entries a
-        ++ place_if true (table_of (part_of chain.now)) a place.chain (place.row, row.now)) }
+        ++ place_if true (chain_table (part_of chain.now)) a place.chain (place.row, row.now)) }
 {
     let asset = NetworkAsset::listed_at(chain.site(), row);
     add_place(alloc, places, asset, place)
@@ -93,7 +93,7 @@ fn add_rows(
 ) -> Result<(), AllocError>
     ensures { OnOk result ((a : UniversalAsset) → places_in places.new.entries a
         ≡ places_in places.old.entries a
-        ++ chain_places true a (number, table_of (part_of chain.now))) }
+        ++ chain_places true a (number, chain_table (part_of chain.now))) }
 {
     let rows = chain.rows();
     for (k, row) in rows.iter().enumerate() {

@@ -6,9 +6,9 @@ ghost use Rattle.asset_bundles.specs.Totals.{total_value};
 ghost use Rattle.locations.specs.Chains.{path_of};
 ghost use Rattle.chain_ids.specs.Chains.{same_chain};
 ghost use Rattle.chain_state.specs.PartOf.{part_of};
-ghost use Rattle.coherence.specs.Networks.{asset_of_row};
-ghost use Rattle.supply_audit.specs.Places.{figure, over_rows, sent, table_of};
-ghost use Rattle.supply_audit.specs.Supply.{home, flight, burned, at_homes, chain_at, debt_at, debt_by, debt_of_row, held_for, owed_by, of_debt};
+ghost use Rattle.law_coherence.specs.Networks.{asset_of_row};
+ghost use Rattle.supply_audit.specs.Places.{figure, over_rows, total_sent, chain_table};
+ghost use Rattle.supply_audit.specs.Supply.{supply_at_homes, teleports_in_flight, burned_at_homes, at_homes, chain_at, debt_at, debt_by, debt_of_row, held_at_reserve, owed_by, of_debt};
 ghost use Rattle.supply_audit.specs.Covering.{CoversBy};
 
 use crate::figures::{Carried, Figure};
@@ -47,11 +47,11 @@ fn at_homes(
 /// What stands at a chain is read from running totals. It takes no memory.
 pub fn supply(chains: &[ChainState], path: &Junctions, kind: Kind) -> Supply
     ensures home { total_value result.home
-        ≡ min (home (path.now, kind) (map part_of chains.now)) most_burned }
+        ≡ min (supply_at_homes (path.now, kind) (map part_of chains.now)) most_burned }
     ensures flight { total_value result.flight
-        ≡ min (flight (path.now, kind) (map part_of chains.now)) most_burned }
+        ≡ min (teleports_in_flight (path.now, kind) (map part_of chains.now)) most_burned }
     ensures burned { total_value result.burned
-        ≡ min (burned (path.now, kind) (map part_of chains.now)) most_burned }
+        ≡ min (burned_at_homes (path.now, kind) (map part_of chains.now)) most_burned }
 {
     let root = Junctions::empty();
     let id = Location {
@@ -94,7 +94,7 @@ fn chain_at(chains: &[ChainState], chain: ChainId) -> Option<&ChainState>
 /// A figure of one chain, of the asset in another chain's row.
 fn of_row(which: Figure, at: &ChainState, here: &ChainState, row: &AssetRow) -> Total
     ensures { total_value result
-        ≡ min (over_rows (part_of at.now) (asset_of_row (table_of (part_of here.now)) row.now)
+        ≡ min (over_rows (part_of at.now) (asset_of_row (chain_table (part_of here.now)) row.now)
         (figure which (part_of at.now))) most_burned }
 {
     over_rows(which, at, &here.site().path(), &row.id, row.kind)
@@ -109,8 +109,8 @@ fn sent_of_row(
     row: &AssetRow,
 ) -> Total
     ensures { total_value result
-        ≡ min (over_rows (part_of at.now) (asset_of_row (table_of (part_of here.now)) row.now)
-        (sent what (Some to) (part_of at.now).channels)) most_burned }
+        ≡ min (over_rows (part_of at.now) (asset_of_row (chain_table (part_of here.now)) row.now)
+        (total_sent what (Some to) (part_of at.now).channels)) most_burned }
 {
     if are_idle(Some(to), at.queues()) {
         return none();
@@ -121,7 +121,7 @@ fn sent_of_row(
 /// What the account of a derivative's chain has at the reserve.
 fn held(here: &ChainState, there: &ChainState, row: &AssetRow) -> Total
     ensures { total_value result
-        ≡ min (held_for (record {
+        ≡ min (held_at_reserve (record {
           here = part_of here.now;
           there = part_of there.now;
           row = row.now;
@@ -209,7 +209,7 @@ fn chain_backing(chains: &[ChainState], chain: ChainId, row: usize) -> Backing
 /// no memory.
 pub fn backing(chains: &[ChainState], chain: ChainId, row: usize) -> Backing
     ensures held { total_value result.held
-        ≡ min (of_debt held_for (debt_at (map part_of chains.now) chain row)) most_burned }
+        ≡ min (of_debt held_at_reserve (debt_at (map part_of chains.now) chain row)) most_burned }
     ensures owed { total_value result.owed
         ≡ min (of_debt owed_by (debt_at (map part_of chains.now) chain row)) most_burned }
 {

@@ -5,9 +5,9 @@ ghost use Rattle.asset_bundles.specs.Books.{most_burned};
 ghost use Rattle.asset_bundles.specs.Totals.{total_value};
 ghost use Rattle.trust_tables.specs.Chains.{path_of_site};
 ghost use Rattle.chain_ids.specs.Chains.{same_chain};
-ghost use Rattle.network_genesis.specs.Tests.{has_path};
+ghost use Rattle.network_steps.specs.Tests.{has_path};
 ghost use Rattle.chain_state.specs.PartOf.{part_of};
-ghost use Rattle.supply_audit.specs.Places.{table_of};
+ghost use Rattle.supply_audit.specs.Places.{chain_table};
 ghost use Rattle.supply_audit.specs.declared.figures.Carried.TheVariants.{Withdrawals};
 ghost use Rattle.supply_audit.specs.declared.figures.Figure.TheVariants.{Placed, Sent};
 ghost use Rattle.supply_audit.specs.RowPlaces as places;
@@ -63,15 +63,15 @@ fn place_of(chains: &[ChainState], chain: ChainId) -> Option<usize>
 
 /// The number of the first chain of this name, or how many chains there are.
 pub fn number_of(chains: &[ChainState], chain: ChainId) -> usize
-    ensures { result ≡ number_of (map table_of (map part_of chains.now)) chain }
+    ensures { result ≡ number_of (map chain_table (map part_of chains.now)) chain }
 {
     place_of(chains, chain).unwrap_or(chains.len())
 }
 
 /// The chain of this number.
 fn listed_chain(chains: &[ChainState], number: usize) -> Option<&ChainState>
-    ensures { option_map (λ c. table_of (part_of c)) (option_copied result)
-        ≡ slice_get (map table_of (map part_of chains.now)) number }
+    ensures { option_map (λ c. chain_table (part_of c)) (option_copied result)
+        ≡ slice_get (map chain_table (map part_of chains.now)) number }
 {
     chain_of(chains, number)
 }
@@ -87,9 +87,9 @@ impl Cover {
         chain: ChainId,
         row: usize,
     ) -> Result<Option<Cover>, AllocError>
-        requires { ArePlaces index.now.places.entries (map table_of (map part_of chains.now)) }
+        requires { ArePlaces index.now.places.entries (map chain_table (map part_of chains.now)) }
         ensures { IfOk result (λ cover. cover
-            ≡ cover_at (map table_of (map part_of chains.now)) chain row) }
+            ≡ cover_at (map chain_table (map part_of chains.now)) chain row) }
     {
         let number = number_of(chains, chain);
         match listed_chain(chains, number) {
@@ -287,11 +287,11 @@ fn covering(
     there: &ChainState,
 ) -> Result<Option<Cover>, AllocError>
     requires path { IsTrue (has_path (path_of_site (part_of here.now).site) row.now) }
-    requires own { HavePlacesOf index.now.places.entries (number, table_of (part_of here.now)) }
-    requires kept { HavePlacesOf index.now.places.entries (other, table_of (part_of there.now)) }
+    requires own { HavePlacesOf index.now.places.entries (number, chain_table (part_of here.now)) }
+    requires kept { HavePlacesOf index.now.places.entries (other, chain_table (part_of there.now)) }
     ensures { IfOk result (λ cover. cover
-        ≡ cover_between (number, table_of (part_of here.now)) row.now other
-        (Some (table_of (part_of there.now)))) }
+        ≡ cover_between (number, chain_table (part_of here.now)) row.now other
+        (Some (chain_table (part_of there.now)))) }
 {
     let asset = NetworkAsset::listed_at(here.site(), row);
     let own = index.at(alloc, &asset, number)?;
@@ -314,11 +314,11 @@ fn row_cover(
     row: &AssetRow,
 ) -> Result<Option<Cover>, AllocError>
     requires path { IsTrue (has_path (path_of_site (part_of here.now).site) row.now) }
-    requires index { ArePlaces index.now.places.entries (map table_of (map part_of chains.now)) }
-    requires own { HavePlacesOf index.now.places.entries (number, table_of (part_of here.now)) }
+    requires index { ArePlaces index.now.places.entries (map chain_table (map part_of chains.now)) }
+    requires own { HavePlacesOf index.now.places.entries (number, chain_table (part_of here.now)) }
     ensures { IfOk result (λ cover. cover
-        ≡ cover_by (map table_of (map part_of chains.now))
-        (number, table_of (part_of here.now)) row.now row.now.role) }
+        ≡ cover_by (map chain_table (map part_of chains.now))
+        (number, chain_table (part_of here.now)) row.now row.now.role) }
 {
     match &row.role {
         AssetRole::Native { .. } => Ok(None),
@@ -341,10 +341,10 @@ fn place_cover(
     here: &ChainState,
     row: usize,
 ) -> Result<Option<Cover>, AllocError>
-    requires index { ArePlaces index.now.places.entries (map table_of (map part_of chains.now)) }
-    requires own { HavePlacesOf index.now.places.entries (number, table_of (part_of here.now)) }
+    requires index { ArePlaces index.now.places.entries (map chain_table (map part_of chains.now)) }
+    requires own { HavePlacesOf index.now.places.entries (number, chain_table (part_of here.now)) }
     ensures { IfOk result (λ cover. cover
-        ≡ cover_of_row (map table_of (map part_of chains.now)) (number, table_of (part_of here.now))
+        ≡ cover_of_row (map chain_table (map part_of chains.now)) (number, chain_table (part_of here.now))
         (slice_get (part_of here.now).rows row)) }
 {
     match here.rows().get(row) {

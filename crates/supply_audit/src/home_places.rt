@@ -3,12 +3,12 @@ ghost use Rattle.std.specs.Prelude.{◌≡◌, ◌++◌, ◌∷◌, [], false, m
 ghost use Rattle.std.specs.BTreeSet.{contains};
 ghost use Rattle.std.specs.Ordering.{eq_by_cmp};
 ghost use Rattle.trust_tables.specs.Chains.{path_of_site};
-ghost use Rattle.coherence.specs.UniversalAssets.{UniversalAsset};
-ghost use Rattle.coherence.specs.Networks.{is_home};
-ghost use Rattle.network_genesis.specs.Tests.{has_path};
+ghost use Rattle.law_coherence.specs.UniversalAssets.{UniversalAsset};
+ghost use Rattle.law_coherence.specs.Networks.{is_home};
+ghost use Rattle.network_steps.specs.Tests.{has_path};
 ghost use Rattle.chain_state.specs.PartOf.{part_of};
-ghost use Rattle.supply_audit.specs.Assets.{asset_cmp};
-ghost use Rattle.supply_audit.specs.Places.{table_of};
+ghost use Rattle.supply_audit.specs.Assets.{universal_asset_cmp};
+ghost use Rattle.supply_audit.specs.Places.{chain_table};
 ghost use Rattle.supply_audit.specs.RowPlaces.{chain_places, home_places, place_if, places_in};
 
 use crate::Place;
@@ -32,7 +32,7 @@ impl HomePlaces {
     /// Where the rows stand at these chains. An `Err` is out of memory.
     pub fn of(alloc: Global, chains: &[ChainState]) -> Result<HomePlaces, AllocError>
         ensures { IfOk result (λ table. (a : UniversalAsset) → places_in table.places.entries a
-            ≡ home_places a (map table_of (map part_of chains.now))) }
+            ≡ home_places a (map chain_table (map part_of chains.now))) }
     {
         let mut places = BTreeMap::new(alloc);
         for (number, chain) in chains.iter().enumerate() {
@@ -55,7 +55,7 @@ impl HomePlaces {
 /// Takes the places of an asset out.
 fn take_places(alloc: Global, places: &mut Places, asset: &NetworkAsset) -> Vec<Place>
     ensures taken { result.items ≡ places_in places.old.entries asset.now }
-    ensures others { (a : UniversalAsset) → eq_by_cmp asset_cmp asset.now a ≡ false
+    ensures others { (a : UniversalAsset) → eq_by_cmp universal_asset_cmp asset.now a ≡ false
         → places_in places.new.entries a ≡ places_in places.old.entries a }
 {
     match places.remove(asset) {
@@ -71,7 +71,7 @@ fn write_places(
     list: Vec<Place>,
 ) -> Result<(), AllocError>
     ensures { OnOk result ((a : UniversalAsset) → places_in places.new.entries a
-        ≡ (if eq_by_cmp asset_cmp asset a then list.items else places_in places.old.entries a)) }
+        ≡ (if eq_by_cmp universal_asset_cmp asset a then list.items else places_in places.old.entries a)) }
 {
     places.insert(asset, list)?;
     Ok(())
@@ -86,7 +86,7 @@ pub(crate) fn add_place(
 ) -> Result<(), AllocError>
     ensures { OnOk result ((a : UniversalAsset)
         → places_in places.new.entries a
-        ≡ (if eq_by_cmp asset_cmp asset a then places_in places.old.entries asset ++ place ∷ []
+        ≡ (if eq_by_cmp universal_asset_cmp asset a then places_in places.old.entries asset ++ place ∷ []
         else places_in places.old.entries a)) }
 {
     let mut list = take_places(alloc, places, &asset);
@@ -104,11 +104,11 @@ fn add_row(
     row: &AssetRow,
 ) -> Result<(), AllocError>
     requires path { IsTrue (has_path (path_of_site (part_of chain.now).site) row.now) }
-    requires homes { (a : UniversalAsset) → contains asset_cmp homes.now a
-        ≡ is_home a (table_of (part_of chain.now)) }
+    requires homes { (a : UniversalAsset) → contains universal_asset_cmp homes.now a
+        ≡ is_home a (chain_table (part_of chain.now)) }
     ensures { OnOk result ((a : UniversalAsset) → places_in places.new.entries a
         ≡ places_in places.old.entries a
-        ++ place_if (is_home a (table_of (part_of chain.now))) (table_of (part_of chain.now)) a
+        ++ place_if (is_home a (chain_table (part_of chain.now))) (chain_table (part_of chain.now)) a
         place.chain (place.row, row.now)) }
 {
     let asset = NetworkAsset::listed_at(chain.site(), row);
@@ -126,12 +126,12 @@ fn add_rows(
     number: usize,
     chain: &ChainState,
 ) -> Result<(), AllocError>
-    requires homes { (a : UniversalAsset) → contains asset_cmp homes.now a
-        ≡ is_home a (table_of (part_of chain.now)) }
+    requires homes { (a : UniversalAsset) → contains universal_asset_cmp homes.now a
+        ≡ is_home a (chain_table (part_of chain.now)) }
     ensures { OnOk result ((a : UniversalAsset) → places_in places.new.entries a
         ≡ places_in places.old.entries a
-        ++ chain_places (is_home a (table_of (part_of chain.now))) a
-        (number, table_of (part_of chain.now))) }
+        ++ chain_places (is_home a (chain_table (part_of chain.now))) a
+        (number, chain_table (part_of chain.now))) }
 {
     let rows = chain.rows();
     for (k, row) in rows.iter().enumerate() {
@@ -153,8 +153,8 @@ fn add_chain(
 ) -> Result<(), AllocError>
     ensures { OnOk result ((a : UniversalAsset) → places_in places.new.entries a
         ≡ places_in places.old.entries a
-        ++ chain_places (is_home a (table_of (part_of chain.now))) a
-        (number, table_of (part_of chain.now))) }
+        ++ chain_places (is_home a (chain_table (part_of chain.now))) a
+        (number, chain_table (part_of chain.now))) }
 {
     let homes = homes_of(alloc, chain)?;
     add_rows(alloc, places, &homes, number, chain)

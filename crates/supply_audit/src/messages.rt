@@ -8,7 +8,7 @@ ghost use Rattle.asset_bundles.specs.Books.{most_burned};
 ghost use Rattle.asset_bundles.specs.Totals.{total_value};
 ghost use Rattle.chain_queues.specs.Queues.{channels_of, outgoing_of, waiting_of};
 ghost use Rattle.chain_ids.specs.Chains.{same_chain};
-ghost use Rattle.supply_audit.specs.Places.{asset_in, by_way, carried, channel_share, in_channel, is_idle, is_towards, list_share, sent};
+ghost use Rattle.supply_audit.specs.Places.{asset_amount_in, by_way, carried_amount, channel_share, in_channel, is_idle, is_towards, list_share, total_sent};
 
 use crate::figures::Carried;
 use crate::totals::none;
@@ -53,7 +53,7 @@ fn in_list(assets: &[Asset], id: &Location, kind: Kind) -> Total
 /// What a deposit's list has of an asset.
 fn deposited(list: &Assets, id: &Location, kind: Kind) -> Total
     ensures { total_value result
-        ≡ min (asset_in (Concrete id.now) kind (bundle_of list.now)) most_burned }
+        ≡ min (asset_amount_in (Concrete id.now) kind (bundle_of list.now)) most_burned }
 {
     in_list(list.items(), id, kind)
 }
@@ -72,7 +72,7 @@ fn by_way(way: Way, shipment: &Shipment, id: &Location, kind: Kind) -> u128
 
 /// What a message carries of an asset.
 fn carried(what: Carried, id: &Location, kind: Kind, cargo: &Cargo) -> Total
-    ensures { total_value result ≡ min (carried what (Concrete id.now) kind cargo.now) most_burned }
+    ensures { total_value result ≡ min (carried_amount what (Concrete id.now) kind cargo.now) most_burned }
 {
     match (what, cargo) {
         (Carried::Teleports, Cargo::Away(shipment)) => {
@@ -166,7 +166,7 @@ fn in_channels(
     channels: &[Queue],
 ) -> Total
     ensures { total_value result
-        ≡ min (sent what to (map outgoing_of channels.now) (Concrete id.now) kind) most_burned }
+        ≡ min (total_sent what to (map outgoing_of channels.now) (Concrete id.now) kind) most_burned }
 {
     let mut total = none();
     for queue in channels {
@@ -184,7 +184,7 @@ pub(crate) fn sent(
     queues: &Queues,
 ) -> Total
     ensures { total_value result
-        ≡ min (sent what to (channels_of queues.now) (Concrete id.now) kind) most_burned }
+        ≡ min (total_sent what to (channels_of queues.now) (Concrete id.now) kind) most_burned }
 {
     in_channels(what, to, id, kind, queues.channels())
 }

@@ -4,9 +4,9 @@ ghost use Rattle.std.specs.Cmp.{partial_equiv_from_equiv, eq_by_cmp_equiv, po};
 ghost use Rattle.std.specs.Ordering.{nat_cmp, eq_by_cmp, as_partial_cmp};
 ghost use Rattle.asset_lists.specs.Listed.{kind_number};
 ghost use Rattle.trust_tables.specs.Chains.{path_of_site};
-ghost use Rattle.network_genesis.specs.Tests.{has_path};
-ghost use Rattle.supply_audit.specs.Assets.{asset_cmp, listed_at};
-ghost use Rattle.supply_audit.specs.AssetLaws.{assets_total};
+ghost use Rattle.network_steps.specs.Tests.{has_path};
+ghost use Rattle.supply_audit.specs.Assets.{universal_asset_cmp, listed_at};
+ghost use Rattle.supply_audit.specs.AssetLaws.{universal_assets_total};
 
 use asset_lists::Kind;
 use locations::Junctions;
@@ -22,7 +22,7 @@ pub struct NetworkAsset {
 }
 
 impl Model for NetworkAsset {
-    ghost use Rattle.coherence.specs.UniversalAssets.{UniversalAsset};
+    ghost use Rattle.law_coherence.specs.UniversalAssets.{UniversalAsset};
 
     ghost Value = { UniversalAsset };
 
@@ -72,9 +72,9 @@ impl NetworkAsset {
 }
 
 impl PartialEq for NetworkAsset {
-    ghost eq = { eq_by_cmp asset_cmp };
+    ghost eq = { eq_by_cmp universal_asset_cmp };
 
-    ghost laws = { partial_equiv_from_equiv (eq_by_cmp_equiv assets_total) };
+    ghost laws = { partial_equiv_from_equiv (eq_by_cmp_equiv universal_assets_total) };
 
     fn eq(&self, other: &NetworkAsset) -> bool {
         self.cmp(other).is_eq()
@@ -82,13 +82,13 @@ impl PartialEq for NetworkAsset {
 }
 
 impl Eq for NetworkAsset {
-    ghost laws = { eq_by_cmp_equiv assets_total };
+    ghost laws = { eq_by_cmp_equiv universal_assets_total };
 }
 
 impl PartialOrd for NetworkAsset {
-    ghost partial_cmp = { as_partial_cmp asset_cmp };
+    ghost partial_cmp = { as_partial_cmp universal_asset_cmp };
 
-    ghost laws = { po assets_total (λ _ _. refl) };
+    ghost laws = { po universal_assets_total (λ _ _. refl) };
 
     fn partial_cmp(&self, other: &NetworkAsset) -> Option<Ordering> {
         Some(self.cmp(other))
@@ -97,9 +97,9 @@ impl PartialOrd for NetworkAsset {
 
 /// By the path (number of junctions, then junction by junction), then fungible assets before classes.
 impl Ord for NetworkAsset {
-    ghost cmp = { asset_cmp };
+    ghost cmp = { universal_asset_cmp };
 
-    ghost total = { assets_total };
+    ghost total = { universal_assets_total };
 
     ghost matches_partial_cmp = { λ _ _. refl };
 

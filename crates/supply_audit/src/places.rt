@@ -10,11 +10,11 @@ ghost use Rattle.asset_bundles.specs.Books.{most_burned};
 ghost use Rattle.asset_bundles.specs.Totals.{total_value};
 ghost use Rattle.ledgers.specs.Ledgers.{account_sum_of};
 ghost use Rattle.trust_tables.specs.Chains.{path_of_site};
-ghost use Rattle.coherence.specs.Networks.{is_native_role};
-ghost use Rattle.coherence.specs.Networks as networks;
+ghost use Rattle.law_coherence.specs.Networks.{is_native_role};
+ghost use Rattle.law_coherence.specs.Networks as networks;
 ghost use Rattle.chain_state.specs.PartOf.{part_of};
 ghost use Rattle.supply_audit.specs.Places as places;
-ghost use Rattle.supply_audit.specs.Places.{figure, over_rows, placed, row_share, table_of};
+ghost use Rattle.supply_audit.specs.Places.{figure, over_rows, placed, row_share, chain_table};
 ghost use Rattle.supply_audit.specs.Supply.{if_home};
 
 use crate::figures::Figure;
@@ -39,7 +39,7 @@ pub(crate) fn placed(chain: &ChainState, id: &AssetId, kind: Kind) -> Total
 
 /// What a book says was burned under an id, for all causes.
 pub(crate) fn burned(book: &BurnBook, id: &AssetId, kind: Kind) -> Total
-    ensures { total_value result ≡ min (places.burned book.now.burns id.now kind) most_burned }
+    ensures { total_value result ≡ min (places.burned_by_any_cause book.now.burns id.now kind) most_burned }
 {
     let given_up = book.total(id, kind, Cause::BurnAsset);
     let lost = book.total(id, kind, Cause::LostTeleport);
@@ -176,7 +176,7 @@ fn is_native_row(
 /// Whether the asset is at home at a chain.
 fn is_home(chain: &ChainState, home: &Junctions, id: &Location, kind: Kind) -> bool
     ensures { result ≡ networks.is_home (path_of home.now id.now, kind)
-        (table_of (part_of chain.now)) }
+        (chain_table (part_of chain.now)) }
 {
     let context = context_of(chain);
     let rows = chain.rows();

@@ -4,14 +4,14 @@ ghost use Rattle.std.specs.BTreeSet.{contains};
 ghost use Rattle.std.specs.Ordering.{eq_by_cmp};
 ghost use Rattle.asset_lists.specs.declared.units.AssetId.TheVariants.{Concrete};
 ghost use Rattle.trust_tables.specs.Chains.{path_of_site};
-ghost use Rattle.coherence.specs.UniversalAssets.{UniversalAsset};
-ghost use Rattle.coherence.specs.Networks.{is_home, is_native_row};
-ghost use Rattle.network_genesis.specs.Tests.{has_path};
+ghost use Rattle.law_coherence.specs.UniversalAssets.{UniversalAsset};
+ghost use Rattle.law_coherence.specs.Networks.{is_home, is_native_row};
+ghost use Rattle.network_steps.specs.Tests.{has_path};
 ghost use Rattle.chain_state.specs.PartOf.{part_of};
 ghost use Rattle.supply_audit.specs.declared.figures.Figure.{Figure};
-ghost use Rattle.supply_audit.specs.Assets.{asset_cmp};
+ghost use Rattle.supply_audit.specs.Assets.{universal_asset_cmp};
 ghost use Rattle.supply_audit.specs.Places as places;
-ghost use Rattle.supply_audit.specs.Places.{table_of};
+ghost use Rattle.supply_audit.specs.Places.{chain_table};
 ghost use Rattle.supply_audit.specs.Supplies.{AreSupplies, HasSums, Raises, row_part, rows_part, supply_by, supply_in};
 
 use crate::figures::Carried;
@@ -65,7 +65,7 @@ fn supply_in(sums: &Sums, asset: &NetworkAsset) -> Supply
 /// Writes what there is of an asset.
 fn write_supply(sums: &mut Sums, asset: NetworkAsset, supply: Supply) -> Result<(), AllocError>
     ensures { OnOk result ((a : UniversalAsset) → supply_in sums.new.entries a
-        ≡ (if eq_by_cmp asset_cmp asset a then supply else supply_in sums.old.entries a)) }
+        ≡ (if eq_by_cmp universal_asset_cmp asset a then supply else supply_in sums.old.entries a)) }
 {
     sums.insert(asset, supply)?;
     Ok(())
@@ -75,7 +75,7 @@ fn write_supply(sums: &mut Sums, asset: NetworkAsset, supply: Supply) -> Result<
 fn raise(sums: &mut Sums, asset: NetworkAsset, more: Supply) -> Result<(), AllocError>
     ensures { OnOk result ((has : Figure → ℕ) → HasSums more has
         → Raises sums.old.entries sums.new.entries
-        (λ a f. if eq_by_cmp asset_cmp asset a then has f else 0)) }
+        (λ a f. if eq_by_cmp universal_asset_cmp asset a then has f else 0)) }
 {
     let found = supply_in(sums, &asset);
     write_supply(sums, asset, sum(found, more))
@@ -104,9 +104,9 @@ pub(crate) type Homes = BTreeSet<NetworkAsset>;
 fn add_home(homes: &mut Homes, chain: &ChainState, row: &AssetRow) -> Result<(), AllocError>
     requires { IsTrue (has_path (path_of_site (part_of chain.now).site) row.now) }
     ensures { OnOk result ((a : UniversalAsset)
-        → contains asset_cmp homes.new a
-        ≡ (is_native_row (table_of (part_of chain.now)) a row.now
-        || contains asset_cmp homes.old a)) }
+        → contains universal_asset_cmp homes.new a
+        ≡ (is_native_row (chain_table (part_of chain.now)) a row.now
+        || contains universal_asset_cmp homes.old a)) }
 {
     if is_native(&row.role) {
         homes.insert(NetworkAsset::listed_at(chain.site(), row))?;
@@ -116,8 +116,8 @@ fn add_home(homes: &mut Homes, chain: &ChainState, row: &AssetRow) -> Result<(),
 
 /// The assets of which a row of the chain is native.
 pub(crate) fn homes_of(alloc: Global, chain: &ChainState) -> Result<Homes, AllocError>
-    ensures { IfOk result (λ homes. (a : UniversalAsset) → contains asset_cmp homes a
-        ≡ is_home a (table_of (part_of chain.now))) }
+    ensures { IfOk result (λ homes. (a : UniversalAsset) → contains universal_asset_cmp homes a
+        ≡ is_home a (chain_table (part_of chain.now))) }
 {
     let mut homes = BTreeSet::new(alloc);
     let rows = chain.rows();
@@ -135,8 +135,8 @@ fn add_row(
     row: &AssetRow,
 ) -> Result<(), AllocError>
     requires path { IsTrue (has_path (path_of_site (part_of chain.now).site) row.now) }
-    requires homes { (a : UniversalAsset) → contains asset_cmp homes.now a
-        ≡ is_home a (table_of (part_of chain.now)) }
+    requires homes { (a : UniversalAsset) → contains universal_asset_cmp homes.now a
+        ≡ is_home a (chain_table (part_of chain.now)) }
     ensures { OnOk result (Raises sums.old.entries sums.new.entries
         (row_part (part_of chain.now) row.now)) }
 {
@@ -149,8 +149,8 @@ fn add_row(
 
 /// Adds the rows of a chain.
 fn add_rows(sums: &mut Sums, homes: &Homes, chain: &ChainState) -> Result<(), AllocError>
-    requires homes { (a : UniversalAsset) → contains asset_cmp homes.now a
-        ≡ is_home a (table_of (part_of chain.now)) }
+    requires homes { (a : UniversalAsset) → contains universal_asset_cmp homes.now a
+        ≡ is_home a (chain_table (part_of chain.now)) }
     ensures { OnOk result (Raises sums.old.entries sums.new.entries
         (rows_part (part_of chain.now) (part_of chain.now).rows)) }
 {

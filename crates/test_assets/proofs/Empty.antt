@@ -1,12 +1,14 @@
 -- An empty bundle has nothing that a book would have to list.
 use Rattle.std.proofs.Common.{◌≡◌, List, arith, sym, subst}
-use Rattle.amounts.specs.Amounts.{empty, amount-empty}
+use Rattle.amounts.specs.Amounts.{empty}
+use Rattle.amounts.proofs.Lemmas.AmountLaws.{amount-empty}
 use Rattle.asset_lists.specs.Units.{unit_cmp}
 use Rattle.asset_lists.specs.Listed.{Listed}
-use Rattle.asset_bundles.specs.Bundles.{Bundle, unit_keys}
+use Rattle.asset_bundles.specs.Bundles.{Bundle}
+use Rattle.asset_bundles.proofs.Lemmas.Bundles.{unit_keys}
 use Rattle.asset_bundles.specs.Books.{AreListed}
 use Rattle.asset_bundles.specs.Joins.{Excess}
-use Rattle.asset_bundles.specs.Laws.{listed_excess}
+use Rattle.asset_bundles.proofs.Lemmas.{listed_excess}
 
 nothing_listed : (listed : List Listed) → AreListed listed (empty {R = unit_cmp})
 nothing_listed listed u some = let none = amount-empty unit_keys u in absurd (omega (arith, none, some))

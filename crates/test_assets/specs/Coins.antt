@@ -6,8 +6,8 @@ use Rattle.asset_lists.specs.declared.units.AssetId.TheVariants.{Concrete}
 use Rattle.asset_lists.specs.Listed.{Listed}
 
 -- the place so many steps above the chain
-abbrev pub above : ℕ → Location
-above parents = record { parents = parents; interior = [] }
+abbrev pub ancestor_location : ℕ → Location
+ancestor_location parents = record { parents = parents; interior = [] }
 
-abbrev pub coins : List Listed
-coins = (Concrete (above 0), Kind.Fungible) ∷ (Concrete (above 1), Kind.Fungible) ∷ []
+abbrev pub fixture_coins : List Listed
+fixture_coins = (Concrete (ancestor_location 0), Kind.Fungible) ∷ (Concrete (ancestor_location 1), Kind.Fungible) ∷ []

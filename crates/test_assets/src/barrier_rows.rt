@@ -2,7 +2,7 @@
 use asset_lists::{Asset, AssetId, Assets, Fun};
 use barriers::{Barrier, OpenQuery, Origins, Program, Weight, allow, law_of_barriers};
 use locations::{Junction, Junctions, Location};
-use message_parts::{Response, WeightLimit};
+use operands::{Response, WeightLimit};
 use std::alloc::{AllocError, Global};
 use std::test::Fail;
 use xcm_program::Instruction;
@@ -27,11 +27,6 @@ fn limit_of(most: Most) -> WeightLimit {
 const WEIGHT: Weight = Weight {
     ref_time: 4000,
     proof_size: 400,
-};
-
-const NOTHING: Weight = Weight {
-    ref_time: 0,
-    proof_size: 0,
 };
 
 fn para(number: u32) -> Location {
@@ -113,7 +108,7 @@ fn pays(
 ) -> Result<bool, Fail> {
     let mut program = paying(alloc, first, clears, most)?;
     let barriers = [Barrier::Credit, Barrier::Paid];
-    let answer = allow(&barriers, &para(1), &mut program, WEIGHT, NOTHING, &[]);
+    let answer = allow(&barriers, &para(1), &mut program, WEIGHT, Weight::ZERO, &[]);
     let after = if wanted { Some((4000, 400)) } else { most };
     Ok(answer == wanted && program == paying(alloc, first, clears, after)?)
 }
@@ -189,7 +184,7 @@ fn response(query_id: u64) -> Instruction {
     Instruction::QueryResponse {
         query_id,
         response: Response::Null,
-        max_weight: NOTHING,
+        max_weight: Weight::ZERO,
         querier: Some(para(9)),
     }
 }
@@ -207,7 +202,14 @@ fn responds(alloc: Global, query_id: u64, number: u32, count: u8) -> Result<bool
     };
     let barriers = [Barrier::Responses];
     let origin = para(number);
-    Ok(allow(&barriers, &origin, &mut program, WEIGHT, NOTHING, &[open]))
+    Ok(allow(
+        &barriers,
+        &origin,
+        &mut program,
+        WEIGHT,
+        Weight::ZERO,
+        &[open],
+    ))
 }
 
 #[test]

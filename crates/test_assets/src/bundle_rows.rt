@@ -3,9 +3,9 @@ ghost use Rattle.std.specs.Prelude.{◌≡◌, IfOk};
 ghost use Rattle.asset_bundles.specs.Bundles.{bundle_of};
 
 use asset_bundles::{
-    AssetBundle, BurnBook, Cause, Shipment, TakeFault, Total, Units, Way, law_of_books,
-    law_of_bundles, law_of_conservation, law_of_filters, law_of_joins, law_of_landing,
-    law_of_listed_assets,
+    AssetBundle, BurnBook, Cause, Shipment, TakeFault, Total, Units, Way, law_of_bundles,
+    law_of_conserved_bundles, law_of_filters, law_of_joins, law_of_landing, law_of_listed_assets,
+    law_of_saturating_burn_totals,
 };
 use asset_lists::{Asset, AssetId, Assets, Filter, Fun, Instance, Kind, Wild, WildFun};
 use locations::{Junction, Junctions, Location, NetworkId};
@@ -226,8 +226,6 @@ fn give_up_nothing(alloc: Global, book: &mut BurnBook) -> bool {
     lost
 }
 
-const NONE: Total = Total { high: 0, low: 0 };
-
 /// 2^128.
 const ABOVE: Total = Total { high: 1, low: 0 };
 
@@ -238,20 +236,20 @@ const GREATEST: Total = Total {
 
 /// Whether totals are added and saturate.
 fn are_added() -> bool {
-    NONE.plus(u128::MAX).plus(1) == ABOVE
+    Total::ZERO.plus(u128::MAX).plus(1) == ABOVE
         && ABOVE.sum(ABOVE) == Total { high: 2, low: 0 }
         && GREATEST.sum(ABOVE) == GREATEST
         && GREATEST.sum(GREATEST) == GREATEST
         && GREATEST.plus(1) == GREATEST
-        && NONE.plus(u128::MAX) < ABOVE
+        && Total::ZERO.plus(u128::MAX) < ABOVE
         && ABOVE < GREATEST
 }
 
 /// Whether nothing is booked of what is given up of nothing.
 fn is_booked(alloc: Global, book: &mut BurnBook) -> bool {
     !give_up_nothing(alloc, book)
-        && book.total(&coin(), Kind::Fungible, Cause::BurnAsset) == NONE
-        && book.total(&coin(), Kind::Class, Cause::LostTeleport) == NONE
+        && book.total(&coin(), Kind::Fungible, Cause::BurnAsset) == Total::ZERO
+        && book.total(&coin(), Kind::Class, Cause::LostTeleport) == Total::ZERO
 }
 
 /// Whether burns are added up in a new book.
@@ -293,8 +291,8 @@ fn the_laws_of_bundles_can_be_called() {
     law_of_joins();
     law_of_listed_assets();
     law_of_landing();
-    law_of_books();
-    law_of_conservation();
+    law_of_saturating_burn_totals();
+    law_of_conserved_bundles();
 }
 
 /// Ships the listed assets, and lands them as the target names them: what has arrived, in holding order.

@@ -1,8 +1,8 @@
 //! What a pool gives, what it wants, and what an exchange moves.
 
-use pool_exchange::{
-    Deal, best_out, deal_at, law_of_least_amounts, law_of_more, law_of_products, law_of_reserves,
-    law_of_round_trips, least_in,
+use asset_pools::{
+    Deal, best_out, deal_at, law_of_least_amounts, law_of_no_less_for_more,
+    law_of_products_that_never_fall, law_of_round_trips, law_of_usable_reserves, least_in,
 };
 use std::test::Fail;
 
@@ -105,8 +105,8 @@ fn deals(rt: HostRuntime) -> Result<(), Fail> {
 #[test]
 fn laws() {
     law_of_least_amounts();
-    law_of_products();
-    law_of_reserves();
-    law_of_more();
+    law_of_products_that_never_fall();
+    law_of_usable_reserves();
+    law_of_no_less_for_more();
     law_of_round_trips();
 }

@@ -3,17 +3,16 @@ ghost use Rattle.std.specs.Prelude.{◌≡◌, ◌<◌, [], ◌∷◌, true, IsF
 ghost use Rattle.std.specs.List.{list_all};
 ghost use Rattle.asset_lists.specs.Units.{unit_of, is_zero};
 ghost use Rattle.asset_lists.specs.Listed.{listed_of, lists};
-ghost use Rattle.test_assets.specs.Coins.{above, coins};
+ghost use Rattle.test_assets.specs.Coins.{ancestor_location, fixture_coins};
 
 use asset_bundles::AssetBundle;
 use asset_lists::{Asset, AssetId, Fun, Instance, Kind};
-use chain_pools::{
-    Pool, exchange, exchange_of, is_pool_account, law_of_exchanges, law_of_pool_accounts,
+use asset_pools::{
+    Deal, Pool, exchange, exchange_of, is_pool_account, law_of_exchanges, law_of_pool_accounts,
     law_of_spending, pool_account,
 };
 use ledgers::Ledger;
 use locations::{Junctions, Location};
-use pool_exchange::Deal;
 use std::alloc::{AllocError, Global};
 use std::test::Fail;
 
@@ -21,7 +20,7 @@ const MILLION: u128 = 1_000_000;
 
 /// The place so many steps above the chain.
 fn above(parents: u8) -> Location
-    ensures { result ≡ above parents }
+    ensures { result ≡ ancestor_location parents }
 {
     Location {
         parents,
@@ -33,7 +32,7 @@ fn above(parents: u8) -> Location
 fn coins(of_chain: bool, amount: u128) -> Asset
     requires some { 0 < amount }
     ensures some { IsFalse (is_zero result) }
-    ensures listed { list_all (λ a. lists coins (listed_of (unit_of a))) (result ∷ []) ≡ true }
+    ensures listed { list_all (λ a. lists fixture_coins (listed_of (unit_of a))) (result ∷ []) ≡ true }
 {
     if of_chain {
         return Asset {
@@ -49,7 +48,7 @@ fn coins(of_chain: bool, amount: u128) -> Asset
 
 /// A ledger of the two assets.
 fn opened(alloc: Global) -> Result<Ledger, AllocError>
-    ensures { IfOk result (λ ledger. ledger.listed ≡ coins) }
+    ensures { IfOk result (λ ledger. ledger.listed ≡ fixture_coins) }
 {
     let list = Vec::from_array(
         alloc,
@@ -66,7 +65,7 @@ fn put(
     of_chain: bool,
     amount: u128,
 ) -> Result<(), AllocError>
-    requires listed { ledger.old.listed ≡ coins }
+    requires listed { ledger.old.listed ≡ fixture_coins }
     requires some { 0 < amount }
     ensures { ledger.new.listed ≡ ledger.old.listed }
 {

@@ -3,8 +3,8 @@ ghost use Rattle.std.specs.Prelude.{◌≤◌, length};
 
 use asset_lists::{
     Asset, AssetId, Assets, Filter, Fun, Instance, Kind, ListFault, ReanchorFault, Wild, WildFun,
-    copied, is_rising, law_of_insertion, law_of_lists, law_of_order, law_of_reanchored_lists,
-    law_of_rising,
+    copied, is_rising, law_of_exact_asset_orders, law_of_exact_list_test, law_of_insertion,
+    law_of_reanchored_lists, law_of_rising,
 };
 use locations::{Junction, Junctions, Location, NetworkId};
 use std::alloc::{AllocError, Global};
@@ -262,8 +262,8 @@ fn lists_and_their_assets(rt: HostRuntime) -> Result<(), Fail> {
 
 #[test]
 fn the_laws_of_lists_can_be_called() {
-    law_of_order();
-    law_of_lists();
+    law_of_exact_asset_orders();
+    law_of_exact_list_test();
     law_of_rising();
     law_of_insertion();
     law_of_reanchored_lists();

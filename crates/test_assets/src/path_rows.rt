@@ -1,7 +1,7 @@
 //! Locations: paths, reanchoring, their order.
 use locations::{
     BodyId, BodyPart, Full, Junction, Junctions, Location, LocationFault, NetworkId, PathFault,
-    invert_target, law_of_derived_order, law_of_order, law_of_paths,
+    invert_target, law_of_derived_order, law_of_exact_location_orders, law_of_paths,
 };
 use std::alloc::{AllocError, Global};
 use std::cmp::Ordering;
@@ -270,7 +270,7 @@ fn locations_and_their_paths(rt: HostRuntime) -> Result<(), Fail> {
 
 #[test]
 fn the_laws_of_locations_can_be_called() {
-    law_of_order();
+    law_of_exact_location_orders();
     law_of_derived_order();
     law_of_paths();
 }

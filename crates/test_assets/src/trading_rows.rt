@@ -8,11 +8,11 @@ ghost use Rattle.test_assets.specs.Rests.{AreLight};
 use asset_bundles::{AssetBundle, BurnBook, Cause, Total};
 use asset_lists::{Asset, AssetId, Fun, Kind};
 use locations::{Junctions, Location};
-use message_parts::{LongBytes, OriginKind, Weight};
+use operands::{LongBytes, OriginKind, Weight};
 use std::alloc::{AllocError, Global};
 use std::test::Fail;
 use weight_trader::{
-    NotComputable, Rate, TooExpensive, Trader, law_of_trading, price, weigh, weigh_rest,
+    NotComputable, Rate, TooExpensive, Trader, law_of_conserved_payments, price, weigh, weigh_rest,
 };
 use xcm_program::{Instruction, Program, WeightRule};
 
@@ -258,7 +258,7 @@ fn weight_is_bought_and_given_back(rt: HostRuntime) -> Result<(), Fail> {
         };
         assert!(rt; found == want);
     }
-    law_of_trading();
+    law_of_conserved_payments();
     Ok(())
 }
 
@@ -280,7 +280,7 @@ fn what_is_told_is_given_back(rt: HostRuntime) -> Result<(), Fail> {
     assert!(rt; shop.trader.refund_of(weight(0, 0)) == None);
     let id = AssetId::Concrete(place(1));
     let saturated = shop.book.total(&id, Kind::Fungible, Cause::Saturated);
-    assert!(rt; saturated == Total { high: 0, low: 0 });
+    assert!(rt; saturated == Total::ZERO);
     Ok(())
 }
 

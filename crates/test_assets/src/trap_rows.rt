@@ -1,12 +1,11 @@
 //! Traps and claims.
 ghost use Rattle.std.specs.Prelude.{◌≤◌, length};
 
-use asset_bundles::{AssetBundle, Total};
+use asset_bundles::{AssetBundle, Total, TrapStore, Unknown, law_of_traps};
 use asset_lists::{Asset, AssetId, Assets, Fun, Instance, Kind};
 use locations::{Junction, Junctions, Location};
 use std::alloc::{AllocError, Global};
 use std::test::Fail;
-use trap_store::{TrapStore, Unknown, law_of_traps};
 
 fn place(items: &[Junction]) -> Location
     requires { length items.now ≤ 8 }

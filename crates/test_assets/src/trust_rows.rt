@@ -7,8 +7,8 @@ use std::alloc::Global;
 use std::test::Fail;
 use trust_tables::{
     AssetRole, AssetRow, ChainId, Site, account_of, find_row, is_partner, is_reserve, is_sovereign,
-    law_of_chain_locations, law_of_listings, law_of_sovereign_accounts, law_of_trust, lies_at,
-    location_of,
+    law_of_chain_locations, law_of_exact_trust_tests, law_of_listings, law_of_sovereign_accounts,
+    lies_at, location_of,
 };
 
 const RELAY: Site = Site {
@@ -296,7 +296,7 @@ fn a_table_of_assets(rt: HostRuntime) -> Result<(), Fail> {
 fn the_laws_of_trust_can_be_called() {
     law_of_chain_locations();
     law_of_sovereign_accounts();
-    law_of_trust();
+    law_of_exact_trust_tests();
     law_of_listings();
 }
 

@@ -2,18 +2,18 @@
 use denote.Hole.Carrier
 use Rattle.std.proofs.Common.{◌≡◌, ◌<◌, ◌≤◌, ◌^◌, ◌+◌, ◌∙◌, ℕ, List, [], ◌∷◌, ◌++◌, length, get_or, refl, sym, ap, subst, arith}
 use Rattle.std.specs.List.{AllByRecursion}
-use Rattle.message_parts.specs.declared.version.Version.{Version}
+use Rattle.operands.specs.declared.version.Version.{Version}
 use Rattle.xcm_program.specs.declared.instruction.Instruction.{Instruction, ClearOrigin, Trap, out-Instruction}
 use Rattle.xcm_program.specs.declared.instruction.Instruction.TheOpen.{Instruction-F}
 use Rattle.xcm_program.specs.Measure.{inner, deep_count_one, deep_count}
 use Rattle.xcm_program.specs.Everywhere.{AllInside}
 use Rattle.xcm_program.specs.Conversions.{HasAmount, HasAmounts}
-use Rattle.xcm_program.specs.Laws.{amounts_here, deep_count_inside, deep_count_one-is}
+use Rattle.xcm_program.proofs.Lemmas.{amounts_here, deep_count_inside, deep_count_one-is}
 use Rattle.xcm_format.specs.Writable.{IsNamedHead, IsNamedOne, IsWritable}
-use Rattle.xcm_format.specs.Laws.{named_here}
-use Rattle.program_wire.specs.Laws.Writable.{writable_in}
+use Rattle.xcm_format.proofs.Lemmas.{named_here}
+use Rattle.versioned_xcm.proofs.Lemmas.ProgramLaws.Writable.{writable_in}
 use Rattle.versioned_xcm.specs.Message.{forwarded, IsDecoded}
-use Rattle.versioned_xcm.specs.Laws.{clear-out, clear_count}
+use Rattle.versioned_xcm.proofs.Lemmas.{clear-out, clear_count}
 use Rattle.test_codec.specs.Examples.{AreClears}
 
 -- what was decoded can be written in either version

@@ -207,7 +207,7 @@ fn instance_goes(out: &mut Out, cursor: &mut Cursor<'_>, want: &Instance) -> Res
 }
 
 /// Whether the asset is read, and is written as it was spelled.
-#[tactic(auto, using(asset_wire::specs::Laws::Written::asset_writable))]
+#[tactic(auto, using(asset_wire::proofs::Lemmas::Written::asset_writable))]
 fn asset_goes(
     out: &mut Out,
     cursor: &mut Cursor<'_>,
@@ -220,7 +220,7 @@ fn asset_goes(
 }
 
 /// Whether the list is read, and is written as it was spelled.
-#[tactic(auto, using(asset_wire::specs::Laws::Written::assets_named))]
+#[tactic(auto, using(asset_wire::proofs::Lemmas::Written::assets_named))]
 fn list_goes(
     alloc: Global,
     out: &mut Out,
@@ -234,7 +234,7 @@ fn list_goes(
 }
 
 /// Whether the filter is read, and is written as it was spelled.
-#[tactic(auto, using(asset_wire::specs::Laws::Written::filter_named))]
+#[tactic(auto, using(asset_wire::proofs::Lemmas::Written::filter_named))]
 fn filter_goes(
     alloc: Global,
     out: &mut Out,

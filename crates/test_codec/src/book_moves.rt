@@ -2,7 +2,7 @@
 ghost use Rattle.std.specs.Prelude.{◌≡◌, ◌<◌, ◌≤◌, OnOk, OnErr};
 ghost use Rattle.amounts.specs.Amounts.{amount, with_amount};
 ghost use Rattle.call_dispatch.specs.Shifts.{shifted};
-ghost use Rattle.call_dispatch.specs.Laws.ShiftLaws.{HasRoom};
+ghost use Rattle.call_dispatch.specs.Laws.ShiftLaws.{HasShiftRoom};
 ghost use Rattle.test_codec.specs.Books.{amounts_in};
 
 use crate::Book;
@@ -66,7 +66,7 @@ fn move_amount(
     n: u128,
 ) -> Result<(), AllocError>
     requires enough { n ≤ amount (amounts_in rows.old.entries) (from.now, row) }
-    requires room { HasRoom (amounts_in rows.old.entries) row from.now to.now n }
+    requires room { HasShiftRoom (amounts_in rows.old.entries) row from.now to.now n }
     ensures ok { OnOk result (amounts_in rows.new.entries
         ≡ shifted (amounts_in rows.old.entries) row from.now to.now n) }
     ensures err { OnErr result (amounts_in rows.new.entries ≡ amounts_in rows.old.entries) }
@@ -86,7 +86,7 @@ fn move_amount(
 
 impl Book {
     ghost use Rattle.std.specs.Prelude.{◌-◌};
-    ghost use Rattle.call_dispatch.specs.Shifts.{is_row, shift_fault};
+    ghost use Rattle.call_dispatch.specs.Shifts.{is_listed_row, shift_fault};
     ghost use Rattle.test_codec.specs.Books.{one_floor};
 
     /// A book of these rows, in which the accounts have this. Of what the keeper has of a row so much must stay, or all of it where it
@@ -143,7 +143,7 @@ impl Book {
 
     /// Whether the row is there.
     fn has(&self, row: u32) -> bool
-        ensures { result ≡ is_row self.now.rows.items row }
+        ensures { result ≡ is_listed_row self.now.rows.items row }
     {
         self.rows.iter().any(|r| *r == row)
     }

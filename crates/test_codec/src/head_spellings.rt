@@ -2,11 +2,13 @@
 
 use crate::message_values::unhex;
 use asset_wire::{Version, WireFault};
-use head_wire::{law_of_heads, law_of_no_prefix, law_of_writable, read_head, write_head};
-use message_parts::Response;
+use operands::Response;
 use scale_codec::{Cursor, Out};
 use std::alloc::Global;
 use std::test::Fail;
+use versioned_xcm::{
+    law_of_heads, law_of_no_head_prefix, law_of_writable_heads, read_head, write_head,
+};
 use xcm_program::{Instruction, inner};
 
 /// Heads that name no asset, which both versions spell alike: the instruction, and the hex of its index and fields.
@@ -117,7 +119,7 @@ const BY_VERSION: &[(&str, &str, &str)] = &[
 ];
 
 /// Whether an instruction of this name is read, and is written as it was spelled.
-#[tactic(auto, using(head_wire::specs::Laws::Written::head_named, head_wire::specs::Laws::Written::head_amount))]
+#[tactic(auto, using(versioned_xcm::proofs::Lemmas::HeadLaws::Written::head_named, versioned_xcm::proofs::Lemmas::HeadLaws::Written::head_amount))]
 fn goes(
     alloc: Global,
     out: &mut Out,
@@ -307,6 +309,6 @@ fn heads_are_read_and_written(rt: HostRuntime) -> Result<(), Fail> {
 #[test]
 fn the_laws_of_heads_can_be_called() {
     law_of_heads();
-    law_of_no_prefix();
-    law_of_writable();
+    law_of_no_head_prefix();
+    law_of_writable_heads();
 }

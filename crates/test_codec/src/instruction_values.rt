@@ -1,11 +1,9 @@
 //! Instructions: their indices, their names, the programs inside; and the texts of outcomes.
 
-use message_parts::{OriginKind, Weight, XcmError};
+use operands::{LongBytes, OriginKind, Weight, XcmError};
 use std::alloc::{AllocError, Global};
 use std::test::Fail;
-use xcm_program::{
-    Instruction, LongBytes, OutcomeError, Program, inner, kept, required, set_program,
-};
+use xcm_program::{Instruction, OutcomeError, Program, inner, kept, required, set_program};
 
 /// Errors of outcomes, and their texts.
 const ERRORS: &[(OutcomeError, &str)] = &[
@@ -94,14 +92,9 @@ const MOST: Weight = Weight {
     proof_size: 7,
 };
 
-const NOTHING: Weight = Weight {
-    ref_time: 0,
-    proof_size: 0,
-};
-
 /// Whether a call may take what it says, and no other instruction takes weight of its own.
 fn takes(alloc: Global) -> bool {
-    required(&call(alloc, MOST)) == MOST && required(&Instruction::ClearOrigin) == NOTHING
+    required(&call(alloc, MOST)) == MOST && required(&Instruction::ClearOrigin) == Weight::ZERO
 }
 
 #[test]

@@ -4,21 +4,21 @@ use crate::part_builders::{filled, unhex};
 use asset_lists::{AssetId, Fun};
 use asset_wire::{Version, WireFault};
 use locations::{Junction, Location};
-use message_parts::{
+use operands::{
     LongBytes, MaybeError, OriginKind, PalletInfo, PalletName, QueryInfo, Response, Weight,
     WeightLimit, XcmError,
 };
-use part_wire::{
-    law_of_no_prefix, law_of_one_spelling, law_of_readers, law_of_writable, read_bytes, read_error,
-    read_failure, read_maybe_error, read_optional_failure, read_optional_location,
+use scale_codec::{Cursor, Out};
+use std::alloc::Global;
+use std::test::Fail;
+use xcm_format::{
+    law_of_no_prefix, law_of_one_spelling, law_of_readers, law_of_writable_operands, read_bytes,
+    read_error, read_failure, read_maybe_error, read_optional_failure, read_optional_location,
     read_origin_kind, read_pallet_info, read_query_info, read_response, read_weight,
     read_weight_limit, write_bytes, write_error, write_failure, write_maybe_error,
     write_optional_failure, write_optional_location, write_origin_kind, write_pallet_info,
     write_query_info, write_response, write_weight, write_weight_limit,
 };
-use scale_codec::{Cursor, Out};
-use std::alloc::Global;
-use std::test::Fail;
 
 /// Parents and junctions.
 type Place = (u8, &'static [Junction]);
@@ -364,7 +364,7 @@ fn is_answer(read: &Response, want: &Answer) -> bool {
 }
 
 /// Whether the response is read, and is written as it was spelled.
-#[tactic(auto, using(part_wire::specs::Laws::Written::response_named))]
+#[tactic(auto, using(xcm_format::proofs::Lemmas::OperandLaws::Written::response_named))]
 fn response_goes(
     alloc: Global,
     out: &mut Out,
@@ -549,5 +549,5 @@ fn the_laws_of_parts_can_be_called() {
     law_of_one_spelling();
     law_of_no_prefix();
     law_of_readers();
-    law_of_writable();
+    law_of_writable_operands();
 }

@@ -2,7 +2,7 @@
 ghost use Rattle.std.specs.Prelude.{◌≤◌, length};
 
 use crate::part_builders::place;
-use message_parts::{
+use operands::{
     BoundedVec, LongBytes, MaybeError, OpenQuery, PalletInfo, PalletInfos, PalletName, Response,
     Weight, WeightLimit, XcmError,
 };

@@ -2,13 +2,13 @@
 
 use crate::message_values::unhex;
 use asset_lists::Instance;
-use program_wire::{
-    MAX_DEPTH, MAX_INSTRUCTIONS, WireFault, law_of_no_prefix, law_of_one_spelling, law_of_readers,
-    law_of_writable, read_instance, read_program, write_instance, write_instruction, write_program,
-};
 use scale_codec::{Cursor, Out};
 use std::alloc::Global;
 use std::test::Fail;
+use versioned_xcm::{
+    MAX_DEPTH, MAX_INSTRUCTIONS, WireFault, law_of_no_prefix, law_of_one_spelling, law_of_readers,
+    law_of_writable, read_instance, read_program, write_instance, write_instruction, write_program,
+};
 use xcm_format::{Version, law_of_conversions, law_of_writable as law_of_writable_programs};
 use xcm_program::{deep_count, deep_count_one, depth, depth_one, is_convertible, sends};
 

@@ -11,20 +11,20 @@ use Rattle.trust_tables.specs.Accounts.{account_of}
 use Rattle.transactors.specs.declared.faults.MoveFault.{MoveFault}
 use Rattle.transactors.specs.declared.faults.MoveFault.TheVariants.{NotHandled, NoAccount, Refused, Memory}
 use Rattle.transactors.specs.Checks.{rows_of_kind}
-use Rattle.transactors.specs.Moves.{are_listed, at_account, deposited, MovesIn}
-use Rattle.test_execution.specs.Rows.{here, listed, AreHandled}
+use Rattle.transactors.specs.Moves.{are_listed, ledger_at_account, after_deposit, MovesIn}
+use Rattle.test_execution.specs.Rows.{own_location, fixture_listing, AreHandled}
 
-pub both_handled : (a b : AssetRow) → a.id ≡ here → a.kind ≡ Kind.Fungible → b.id ≡ here → b.kind ≡ Kind.Class → AreHandled (a ∷ b ∷ [])
+pub both_handled : (a b : AssetRow) → a.id ≡ own_location → a.kind ≡ Kind.Fungible → b.id ≡ own_location → b.kind ≡ Kind.Class → AreHandled (a ∷ b ∷ [])
 both_handled a b first fungible second class =
-    (λ i. are_listed listed (
+    (λ i. are_listed fixture_listing (
     rows_of_kind Kind.Fungible (record { id = first i; kind = fungible i; role = a.role } ∷ record { id = second i; kind = class i; role = b.role } ∷ [])
     ++ rows_of_kind Kind.Class (record { id = first i; kind = fungible i; role = a.role } ∷ record { id = second i; kind = class i; role = b.role } ∷ []))) ∙ refl
 
-same_listing : (o : Option (List ℕ)) (goods : Bundle) (ledger : Accounts) → (at_account o (λ account. Deposited account goods ledger) ledger).listed ≡ ledger.listed
+same_listing : (o : Option (List ℕ)) (goods : Bundle) (ledger : Accounts) → (ledger_at_account o (λ account. Deposited account goods ledger) ledger).listed ≡ ledger.listed
 same_listing None goods ledger = refl
 same_listing (Some who) goods ledger = refl
 
-pub listing_kept : (fault : Option MoveFault) (site : Site) (goods : Bundle) (who : Location) (ledger now : Accounts) (r : Result (Unit {0}) (Bundle × MoveFault)) → MovesIn fault goods (deposited site goods who ledger) ledger r now → now.listed ≡ ledger.listed
+pub listing_kept : (fault : Option MoveFault) (site : Site) (goods : Bundle) (who : Location) (ledger now : Accounts) (r : Result (Unit {0}) (Bundle × MoveFault)) → MovesIn fault goods (after_deposit site goods who ledger) ledger r now → now.listed ≡ ledger.listed
 listing_kept fault site goods who ledger now (Ok done) h = ap (λ (l : Accounts). l.listed) h.1 ∙ same_listing (account_of who site) goods ledger
 listing_kept fault site goods who ledger now (Err (back, NotHandled)) h = ap (λ (l : Accounts). l.listed) h.2
 listing_kept fault site goods who ledger now (Err (back, NoAccount)) h = ap (λ (l : Accounts). l.listed) h.2

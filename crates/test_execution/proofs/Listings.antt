@@ -4,9 +4,9 @@ use Rattle.std.specs.Ordering.{eq_by_cmp}
 use Rattle.std.specs.List.{IsDistinct}
 use Rattle.asset_lists.specs.Listed.{listed_cmp}
 use Rattle.network_spec.specs.Networks.{same_holding}
-use Rattle.test_execution.specs.Natives.{listed, balances}
+use Rattle.test_execution.specs.Natives.{fixture_natives, balances}
 
-pub each_once : IsDistinct (eq_by_cmp listed_cmp) listed
+pub each_once : IsDistinct (eq_by_cmp listed_cmp) fixture_natives
 unfolding IsDistinct
 each_once = ((refl, (refl, tt)), ((refl, tt), (tt, tt)))
 

@@ -1,14 +1,14 @@
 -- A report of nothing can be sent.
 use Rattle.std.proofs.Common.{◌≡◌, ◌+◌, ◌&&◌, true, [], sym, ap, ◌∙◌, subst, arith}
 use Rattle.std.specs.Prelude.{None}
-use Rattle.message_parts.specs.declared.query.QueryInfo.{QueryInfo}
-use Rattle.message_parts.specs.declared.query.Response.{Response}
+use Rattle.operands.specs.declared.query.QueryInfo.{QueryInfo}
+use Rattle.operands.specs.declared.query.Response.{Response}
 use Rattle.xcm_program.specs.declared.instruction.Instruction.{Instruction, roll-Instruction, out-Instruction, out-roll-Instruction}
 use Rattle.xcm_program.specs.declared.instruction.Instruction.TheOpen.{Instruction-F}
 use Rattle.xcm_program.specs.Everywhere.{AllInside}
 use Rattle.xcm_program.specs.Measure.{inner, deep_count_one}
-use Rattle.xcm_program.specs.Conversions.{names_places, is_convertible_one, is_convertible, HasAmount, HasAmounts}
-use Rattle.xcm_program.specs.Laws.{deep_count_inside, deep_count_one-is, convertible_inside, is_convertible_one-is, amounts_here}
+use Rattle.xcm_program.specs.Conversions.{names_concrete_ids, is_convertible_one, is_convertible, HasAmount, HasAmounts}
+use Rattle.xcm_program.proofs.Lemmas.{deep_count_inside, deep_count_one-is, convertible_inside, is_convertible_one-is, amounts_here}
 use Rattle.exec_base.specs.Sending.{IsForwardable}
 use Rattle.exec_base.specs.Host.{report_program}
 
@@ -24,7 +24,7 @@ one_count info = deep_count_one-is (roll-Instruction (told info)) ∙ ap (λ (x 
 
 one_named : (info : QueryInfo) → is_convertible_one (roll-Instruction (told info)) ≡ true
 unfolding told
-one_named info = is_convertible_one-is (roll-Instruction (told info)) ∙ ap (λ (x : Instruction-F Instruction). names_places x && convertible_inside (inner x)) (rolled info)
+one_named info = is_convertible_one-is (roll-Instruction (told info)) ∙ ap (λ (x : Instruction-F Instruction). names_concrete_ids x && convertible_inside (inner x)) (rolled info)
 
 one_sized : (info : QueryInfo) → HasAmounts (roll-Instruction (told info))
 unfolding told

@@ -1,10 +1,10 @@
 -- The chain is at rest as it is opened, and each program that was decoded may be sent.
 use Rattle.std.proofs.Common.{◌≡◌, ℕ, List, Result, Ok, Err, refl, subst, sym, arith}
 use Rattle.asset_lists.specs.declared.units.Asset.{Asset}
-use Rattle.message_parts.specs.declared.query.OpenQuery.{OpenQuery}
+use Rattle.operands.specs.declared.query.OpenQuery.{OpenQuery}
 use Rattle.trust_tables.specs.declared.chains.Site.{Site}
 use Rattle.trust_tables.specs.declared.rows.AssetRow.{AssetRow}
-use Rattle.message_parts.specs.declared.version.Version.{Version}
+use Rattle.operands.specs.declared.version.Version.{Version}
 use Rattle.xcm_program.specs.declared.instruction.Instruction.{Instruction}
 use Rattle.xcm_format.specs.Messages.{IsReadable}
 use Rattle.xcm_format.specs.Writable.{IsWritable}
@@ -15,13 +15,13 @@ use Rattle.versioned_xcm.specs.declared.faults.MessageFault.{MessageFault}
 use Rattle.exec_base.specs.Sending.{IsForwardable}
 use Rattle.exec_rules.specs.Readiness.{IsAtRest}
 use Rattle.test_execution.specs.declared.fake.FakeHost.{FakeHost}
-use Rattle.test_execution.specs.PartOf.{part_of}
-use Rattle.test_execution.specs.Opening.{opened}
+use Rattle.test_execution.specs.PartOf.{fake_part_of}
+use Rattle.test_execution.specs.Opening.{opened_part}
 
-opened_rests : (site : Site) (rows : List AssetRow) (accounts : List (List ℕ × Asset)) (queries : List OpenQuery) → IsAtRest (opened site rows accounts queries)
+opened_rests : (site : Site) (rows : List AssetRow) (accounts : List (List ℕ × Asset)) (queries : List OpenQuery) → IsAtRest (opened_part site rows accounts queries)
 opened_rests site rows accounts queries = record { order = record { traps = tt; rates = tt; paid = tt; pools = tt; unparked = refl }; slot = refl }
 
-pub if_opened : (site : Site) (rows : List AssetRow) (accounts : List (List ℕ × Asset)) (queries : List OpenQuery) (made : Result FakeHost AllocError) → IfOk made (λ host. part_of host ≡ opened site rows accounts queries) → IfOk made (λ host. IsAtRest (part_of host))
+pub if_opened : (site : Site) (rows : List AssetRow) (accounts : List (List ℕ × Asset)) (queries : List OpenQuery) (made : Result FakeHost AllocError) → IfOk made (λ host. fake_part_of host ≡ opened_part site rows accounts queries) → IfOk made (λ host. IsAtRest (fake_part_of host))
 if_opened site rows accounts queries (Ok host) e = subst IsAtRest (sym e) (opened_rests site rows accounts queries)
 if_opened site rows accounts queries (Err fault) e = tt
 

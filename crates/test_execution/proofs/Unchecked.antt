@@ -5,7 +5,7 @@ use Rattle.std.proofs.lemmas.Bool.{and_parts, and_from}
 use Rattle.asset_lists.specs.declared.units.Kind.{Kind}
 use Rattle.asset_lists.specs.declared.units.Kind.TheVariants.{Fungible, Class}
 use Rattle.trust_tables.specs.declared.rows.AssetRow.{AssetRow}
-use Rattle.network_genesis.specs.Tests.{row_checking, may_check, may_have_checkings}
+use Rattle.network_steps.specs.Tests.{row_checking, may_check, may_have_checkings}
 use Rattle.test_execution.specs.Opening.{have_no_checkings}
 
 none_may : (kind : Kind) (checking : Option ℕ) → is_none checking ≡ true → may_check kind checking ≡ true

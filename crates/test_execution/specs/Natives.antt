@@ -10,15 +10,15 @@ use Rattle.asset_lists.specs.Listed.{Listed}
 use Rattle.network_spec.specs.declared.chain.Balance.{Balance}
 
 -- the chain itself, or a general index
-abbrev pub place_of : ℕ → Location
-place_of n = record { parents = 0; interior = if nat_eq n 0 then [] else Junction.GeneralIndex n ∷ [] }
+abbrev pub fixture_location : ℕ → Location
+fixture_location n = record { parents = 0; interior = if nat_eq n 0 then [] else Junction.GeneralIndex n ∷ [] }
 
-abbrev pub listed : List Listed
-listed = (Concrete (place_of 0), Kind.Fungible) ∷ (Concrete (place_of 1), Kind.Fungible) ∷ (Concrete (place_of 2), Kind.Fungible) ∷ []
+abbrev pub fixture_natives : List Listed
+fixture_natives = (Concrete (fixture_location 0), Kind.Fungible) ∷ (Concrete (fixture_location 1), Kind.Fungible) ∷ (Concrete (fixture_location 2), Kind.Fungible) ∷ []
 
 -- 5 of an asset
 abbrev pub five_of : ℕ → Asset
-five_of n = record { id = Concrete (place_of n); fun = Fun.Fungible 5 }
+five_of n = record { id = Concrete (fixture_location n); fun = Fun.Fungible 5 }
 
 -- the first account has 5 of each
 abbrev pub first_holding : ℕ → Balance

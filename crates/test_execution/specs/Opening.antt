@@ -3,14 +3,14 @@ use Rattle.std.specs.Prelude.{ℕ, Bool, false, List, [], map, replicate, is_non
 use Rattle.std.specs.List.{list_all}
 use Rattle.amounts.specs.Amounts.{empty}
 use Rattle.asset_lists.specs.declared.units.Asset.{Asset}
-use Rattle.message_parts.specs.declared.query.OpenQuery.{OpenQuery}
+use Rattle.operands.specs.declared.query.OpenQuery.{OpenQuery}
 use Rattle.trust_tables.specs.declared.chains.Site.{Site}
 use Rattle.trust_tables.specs.declared.rows.AssetRow.{AssetRow}
 use Rattle.exec_base.specs.declared.settings.Settings.{Settings}
 use Rattle.exec_base.specs.Part.{ChainPart}
 use Rattle.network_spec.specs.declared.chain.Balance.{Balance}
-use Rattle.network_genesis.specs.Tests.{row_checking}
-use Rattle.network_genesis.specs.Genesis.{fresh, with_balances}
+use Rattle.network_steps.specs.Tests.{row_checking}
+use Rattle.network_steps.specs.Genesis.{fresh, with_balances}
 
 -- no row has a checking account
 abbrev pub have_no_checkings : List AssetRow → Bool
@@ -25,5 +25,5 @@ abbrev pub plain_settings : Site → List AssetRow → Settings
 plain_settings site rows = record { site = site; rows = rows; pallets = []; fee_account = replicate 32 0; calls = false; locks = false; pools = [] }
 
 -- no rates and no channels; nothing happened, and accounts hold just these
-abbrev pub opened : Site → List AssetRow → List (List ℕ × Asset) → List OpenQuery → ChainPart
-opened site rows accounts queries = record (fresh (plain_settings site rows) [] queries []) { held = with_balances empty (map balance_of accounts) }
+abbrev pub opened_part : Site → List AssetRow → List (List ℕ × Asset) → List OpenQuery → ChainPart
+opened_part site rows accounts queries = record (fresh (plain_settings site rows) [] queries []) { held = with_balances empty (map balance_of accounts) }

@@ -8,12 +8,12 @@ use Rattle.trust_tables.specs.declared.rows.AssetRow.{AssetRow}
 use Rattle.transactors.specs.Checks.{rows_of_kind}
 use Rattle.transactors.specs.Moves.{are_listed}
 
-abbrev pub here : Location
-here = record { parents = 0; interior = [] }
+abbrev pub own_location : Location
+own_location = record { parents = 0; interior = [] }
 
-abbrev pub listed : List Listed
-listed = (Concrete here, Kind.Fungible) ∷ (Concrete here, Kind.Class) ∷ []
+abbrev pub fixture_listing : List Listed
+fixture_listing = (Concrete own_location, Kind.Fungible) ∷ (Concrete own_location, Kind.Class) ∷ []
 
 -- a ledger with that listing has all that the two transactors handle
 abbrev pub AreHandled : List AssetRow → Type 0
-AreHandled rows = are_listed listed (rows_of_kind Kind.Fungible rows ++ rows_of_kind Kind.Class rows) ≡ true
+AreHandled rows = are_listed fixture_listing (rows_of_kind Kind.Fungible rows ++ rows_of_kind Kind.Class rows) ≡ true

@@ -13,7 +13,7 @@ use chain_state::ChainState;
 use exec_base::{Host, HostFault};
 use locations::{Junction, Junctions, Location};
 use network_config::read_network;
-use network_laws::law_of_valid_networks;
+use network_validity::law_of_valid_networks;
 use std::alloc::{AllocError, Global};
 use std::test::Fail;
 use trust_tables::ChainId;

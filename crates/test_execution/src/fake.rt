@@ -7,23 +7,23 @@ ghost use Rattle.asset_lists.specs.Units.{unit_of};
 ghost use Rattle.asset_lists.specs.Listed.{listed_cmp};
 ghost use Rattle.asset_bundles.specs.Books.{most_burned};
 ghost use Rattle.asset_bundles.specs.Totals.{total_value};
-ghost use Rattle.account_holdings.specs.Holdings.{all_holdings};
-ghost use Rattle.trap_store.specs.Traps.{trapped};
+ghost use Rattle.ledgers.specs.Holdings.{all_holdings};
+ghost use Rattle.asset_bundles.specs.Traps.{trapped_amount};
 ghost use Rattle.trust_tables.specs.Chains.{path_of_site};
 ghost use Rattle.trust_tables.specs.Trust.{listing};
 ghost use Rattle.exec_base.specs.Part.{book_of};
 ghost use Rattle.network_spec.specs.Networks.{same_holding};
-ghost use Rattle.network_genesis.specs.Tests.{have_paths, is_placeable};
-ghost use Rattle.test_execution.specs.PartOf.{part_of};
-ghost use Rattle.test_execution.specs.Opening.{have_no_checkings, balance_of, opened};
+ghost use Rattle.network_steps.specs.Tests.{have_paths, is_placeable};
+ghost use Rattle.test_execution.specs.PartOf.{fake_part_of};
+ghost use Rattle.test_execution.specs.Opening.{have_no_checkings, balance_of, opened_part};
 
-use account_holdings::all_holdings;
 use asset_bundles::{BurnBook, Total};
 use asset_lists::{Asset, AssetId, Kind};
 use chain_state::ChainState;
 use exec_base::{Event, Settings};
-use message_parts::OpenQuery;
+use ledgers::all_holdings;
 use network_spec::Balance;
+use operands::OpenQuery;
 use plain_lists::Listed;
 use std::alloc::{AllocError, Global};
 use trust_tables::{AssetRow, Site};
@@ -68,8 +68,8 @@ impl FakeHost {
         requires balances { IsTrue (list_all (is_placeable rows.items)
             (map balance_of accounts.items)) }
         requires once { IsDistinct same_holding (map balance_of accounts.items) }
-        ensures opened { IfOk result (λ host. part_of host
-            ≡ opened site rows.items accounts.items queries.items) }
+        ensures opened { IfOk result (λ host. fake_part_of host
+            ≡ opened_part site rows.items accounts.items queries.items) }
     {
         let balances = balances_of(alloc, accounts)?;
         let settings = Settings {
@@ -89,7 +89,7 @@ impl FakeHost {
     /// What an account has of an asset's unit: the amount of a fungible asset in its smallest unit,
     /// and 1 of an instance that it has.
     pub fn amount(&self, who: &[u8; 32], a: &Asset) -> u128
-        ensures { result ≡ amount (part_of self.now).held (who.now, unit_of a.now) }
+        ensures { result ≡ amount (fake_part_of self.now).held (who.now, unit_of a.now) }
     {
         self.chain.ledger().held_of(who, a)
     }
@@ -97,7 +97,7 @@ impl FakeHost {
     /// All that accounts hold: accounts by their bytes, and each one's assets in holding order. An
     /// `Err` is out of memory.
     pub fn accounts(&self) -> Result<Vec<([u8; 32], Asset)>, AllocError>
-        ensures { IfOk result (λ list. list.items ≡ all_holdings (part_of self.now).held) }
+        ensures { IfOk result (λ list. list.items ≡ all_holdings (fake_part_of self.now).held) }
     {
         all_holdings(self.alloc, self.chain.ledger())
     }
@@ -105,7 +105,7 @@ impl FakeHost {
     /// The amount of a fungible asset in all traps, in its smallest unit, or the number of instances
     /// of a class. It saturates at 2^160-1.
     pub fn trapped(&self, id: &AssetId, kind: Kind) -> Total
-        ensures { total_value result ≡ min (trapped id.now kind (part_of self.now).traps.traps)
+        ensures { total_value result ≡ min (trapped_amount id.now kind (fake_part_of self.now).traps.traps)
             most_burned }
     {
         self.chain.traps().total(id, kind)
@@ -113,14 +113,14 @@ impl FakeHost {
 
     /// What was told, oldest first.
     pub fn events(&self) -> &[Event]
-        ensures { result.now ≡ (part_of self.now).events }
+        ensures { result.now ≡ (fake_part_of self.now).events }
     {
         self.chain.trace()
     }
 
     /// What was burned.
     pub fn burns(&self) -> &BurnBook
-        ensures { result.now ≡ book_of (part_of self.now) }
+        ensures { result.now ≡ book_of (fake_part_of self.now) }
     {
         self.chain.burns()
     }

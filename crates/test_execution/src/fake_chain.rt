@@ -4,24 +4,23 @@ ghost use Rattle.std.specs.List.{list_all};
 ghost use Rattle.asset_lists.specs.declared.units.Kind.{Kind};
 ghost use Rattle.trust_tables.specs.Chains.{path_of_site};
 ghost use Rattle.trust_tables.specs.Trust.{listing};
-ghost use Rattle.network_genesis.specs.Tests.{have_paths, row_checking, is_placeable};
+ghost use Rattle.network_steps.specs.Tests.{have_paths, row_checking, is_placeable};
 ghost use Rattle.test_execution.specs.Opening.{have_no_checkings, balance_of};
-ghost use Rattle.test_execution.specs.PartOf.{part_of};
+ghost use Rattle.test_execution.specs.PartOf.{fake_part_of};
 ghost use Rattle.exec_base.specs.Sending.{IsForwardable};
 ghost use Rattle.exec_rules.specs.Readiness.{IsAtRest};
-ghost use Rattle.test_execution.specs.Natives.{place_of, listed, five_of, balances};
+ghost use Rattle.test_execution.specs.Natives.{fixture_location, fixture_natives, five_of, balances};
 
 use crate::FakeHost;
 use asset_lists::{Asset, AssetId, Fun, Kind};
 use barriers::Barrier;
 use locations::{Junction, Junctions, Location, NetworkId};
-use message_parts::{OpenQuery, Weight};
+use operands::{OpenQuery, Weight};
 use plain_lists::Listed;
-use program_wire::law_of_writable;
 use std::alloc::{AllocError, Global};
 use std::test::Fail;
 use trust_tables::{AssetRole, AssetRow, ChainId, Site};
-use versioned_xcm::{MessageFault, decode_message};
+use versioned_xcm::{MessageFault, decode_message, law_of_writable};
 use xcm_executor::{ChainRules, execute};
 use xcm_program::{Outcome, Program, WeightRule};
 
@@ -44,7 +43,7 @@ const LIMIT: Weight = Weight {
 
 /// The place of a number: the chain itself, or a general index.
 fn place(number: u128) -> Location
-    ensures { result ≡ place_of number }
+    ensures { result ≡ fixture_location number }
 {
     if number == 0 {
         return Location {
@@ -89,7 +88,7 @@ pub(crate) fn five(number: u128) -> Asset
 
 /// The row of the native asset of a number.
 fn row(alloc: Global, number: u128) -> AssetRow
-    ensures id { result.id ≡ place_of number }
+    ensures id { result.id ≡ fixture_location number }
     ensures kind { result.kind ≡ Kind.Fungible }
     ensures unchecked { row_checking result ≡ None }
 {
@@ -105,7 +104,7 @@ fn row(alloc: Global, number: u128) -> AssetRow
 
 /// The rows of three native assets.
 fn rows(alloc: Global) -> Result<Vec<AssetRow>, AllocError>
-    ensures listed { IfOk result (λ rows. listing rows.items ≡ listed) }
+    ensures listed { IfOk result (λ rows. listing rows.items ≡ fixture_natives) }
     ensures count { IfOk result (λ rows. length rows.items ≡ 3) }
     ensures paths { IfOk result (λ rows. have_paths (path_of_site RELAY) rows.items ≡ true) }
     ensures unchecked { IfOk result (λ rows. have_no_checkings rows.items ≡ true) }
@@ -141,7 +140,7 @@ fn accounts(alloc: Global) -> Result<Vec<([u8; 32], Asset)>, AllocError>
 
 /// The chain that lists them, with that query.
 pub(crate) fn opened(alloc: Global) -> Result<FakeHost, AllocError>
-    ensures rests { IfOk result (λ host. IsAtRest (part_of host)) }
+    ensures rests { IfOk result (λ host. IsAtRest (fake_part_of host)) }
 {
     let rows = rows(alloc)?;
     let accounts = accounts(alloc)?;
@@ -190,8 +189,8 @@ pub(crate) fn executed(
     rules: &ChainRules,
     message: &str,
 ) -> Result<(Outcome, bool), Fail>
-    requires rest { IsAtRest (part_of host.old) }
-    ensures rests { OnOk result (IsAtRest (part_of host.new)) }
+    requires rest { IsAtRest (fake_part_of host.old) }
+    ensures rests { OnOk result (IsAtRest (fake_part_of host.new)) }
 {
     let bytes = hex::decode(alloc, message)?;
     let program = decoded(alloc, bytes.as_slice())?;

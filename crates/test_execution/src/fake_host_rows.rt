@@ -5,7 +5,7 @@ use asset_bundles::{AssetBundle, Total};
 use asset_lists::{Assets, Kind};
 use exec_base::{Event, Host, HostFault};
 use locations::{Junction, Location};
-use message_parts::XcmError;
+use operands::XcmError;
 use std::alloc::{AllocError, Global};
 use std::test::Fail;
 
@@ -76,7 +76,7 @@ fn claimed(host: &mut FakeHost, list: &Assets) -> Result<(), HostFault> {
 /// The list is offered to a location without account and trapped, then claimed, and once more: whether each of these is so in its turn.
 fn played(host: &mut FakeHost, list: &Assets) -> Result<[bool; 13], AllocError> {
     let nobody = at(Junction::PalletInstance(9));
-    let none = Total { high: 0, low: 0 };
+    let none = Total::ZERO;
     let all = Total { high: 0, low: 5 };
     let refused = Ok(Some(HostFault::Xcm(XcmError::FailedToTransactAsset)));
     let unknown = Err(HostFault::Xcm(XcmError::UnknownClaim));

@@ -5,15 +5,15 @@ use asset_lists::{Asset, Assets};
 use call_dispatch::{Call, CallEnd};
 use exec_base::{Event, Host, HostFault};
 use locations::Location;
-use message_parts::{OpenQuery, PalletInfo, QueryInfo, Response, Weight};
+use operands::{OpenQuery, PalletInfo, QueryInfo, Response, Weight};
 use std::alloc::AllocError;
 use trust_tables::Site;
 use xcm_program::Program;
 
 impl Host for FakeHost {
-    ghost use Rattle.test_execution.specs.PartOf.{part_of};
+    ghost use Rattle.test_execution.specs.PartOf.{fake_part_of};
 
-    ghost part = { part_of };
+    ghost part = { fake_part_of };
 
     fn site(&self) -> &Site {
         self.chain.site()

@@ -13,7 +13,7 @@ use chain_queues::Cargo;
 use chain_state::ChainState;
 use exec_base::{Event, Host, HostFault};
 use locations::{Junction, Location};
-use message_parts::{Weight, XcmError};
+use operands::{Weight, XcmError};
 use std::alloc::Global;
 
 /// Traps goods, unless there are none.

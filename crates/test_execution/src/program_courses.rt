@@ -1,6 +1,6 @@
 //! What is shown, each on a chain of its own.
 ghost use Rattle.exec_rules.specs.Readiness.{IsAtRest};
-ghost use Rattle.test_execution.specs.PartOf.{part_of};
+ghost use Rattle.test_execution.specs.PartOf.{fake_part_of};
 
 use crate::FakeHost;
 use crate::fake_chain::{opened, rules};
@@ -32,7 +32,7 @@ fn goes(
     rules: &ChainRules,
     course: Course<'_>,
 ) -> Result<bool, Fail>
-    requires rest { IsAtRest (part_of host.old) }
+    requires rest { IsAtRest (fake_part_of host.old) }
 {
     match course {
         Course::Trapped => are_trapped(alloc, host),

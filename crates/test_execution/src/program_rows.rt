@@ -3,7 +3,7 @@
 //! Each function is lent a chain that has just opened.
 ghost use Rattle.std.specs.Prelude.{OnOk};
 ghost use Rattle.exec_rules.specs.Readiness.{IsAtRest};
-ghost use Rattle.test_execution.specs.PartOf.{part_of};
+ghost use Rattle.test_execution.specs.PartOf.{fake_part_of};
 
 use crate::FakeHost;
 use crate::fake_chain::{A1, A2, executed, five, holdings};
@@ -267,8 +267,8 @@ fn told(
     rules: &ChainRules,
     message: &str,
 ) -> Result<String, Fail>
-    requires rest { IsAtRest (part_of host.old) }
-    ensures rests { OnOk result (IsAtRest (part_of host.new)) }
+    requires rest { IsAtRest (fake_part_of host.old) }
+    ensures rests { OnOk result (IsAtRest (fake_part_of host.new)) }
 {
     let before = host.events().len();
     let (outcome, _) = executed(alloc, host, rules, message)?;
@@ -283,8 +283,8 @@ pub(crate) fn is_told(
     message: &str,
     text: &str,
 ) -> Result<bool, Fail>
-    requires rest { IsAtRest (part_of host.old) }
-    ensures rests { OnOk result (IsAtRest (part_of host.new)) }
+    requires rest { IsAtRest (fake_part_of host.old) }
+    ensures rests { OnOk result (IsAtRest (fake_part_of host.new)) }
 {
     let told = told(alloc, host, rules, message)?;
     Ok(told.as_str() == text)
@@ -296,7 +296,7 @@ pub(crate) fn are_flagged(
     host: &mut FakeHost,
     rules: &ChainRules,
 ) -> Result<bool, Fail>
-    requires rest { IsAtRest (part_of host.old) }
+    requires rest { IsAtRest (fake_part_of host.old) }
 {
     let first = executed(alloc, host, rules, "04080a1914")?.1;
     let refused = executed(alloc, host, rules, "040819140a")?.1;
@@ -310,7 +310,7 @@ pub(crate) fn are_claimed(
     host: &mut FakeHost,
     rules: &ChainRules,
 ) -> Result<bool, Fail>
-    requires rest { IsAtRest (part_of host.old) }
+    requires rest { IsAtRest (fake_part_of host.old) }
 {
     let first = is_told(alloc, host, rules, CLAIMS[0].0, CLAIMS[0].1)?;
     let second = is_told(alloc, host, rules, CLAIMS[1].0, CLAIMS[1].1)?;
@@ -325,10 +325,10 @@ pub(crate) fn are_booked(
     host: &mut FakeHost,
     rules: &ChainRules,
 ) -> Result<bool, Fail>
-    requires rest { IsAtRest (part_of host.old) }
+    requires rest { IsAtRest (fake_part_of host.old) }
 {
     let id = five(0).id;
-    let none = Total { high: 0, low: 0 };
+    let none = Total::ZERO;
     let one = Total { high: 0, low: 1 };
     executed(alloc, host, rules, "04080004000000041c0400000004")?;
     let so = [

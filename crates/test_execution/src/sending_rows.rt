@@ -10,7 +10,7 @@ use chain_queues::Cargo;
 use chain_state::ChainState;
 use exec_base::{Event, Host, HostFault};
 use locations::{Junction, Location};
-use message_parts::{QueryInfo, Response, Weight, XcmError};
+use operands::{QueryInfo, Response, Weight, XcmError};
 use plain_lists::Listed;
 use std::alloc::Global;
 use xcm_program::Program;
@@ -131,10 +131,7 @@ fn report(chain: &mut ChainState) -> Result<u64, HostFault> {
     let info = QueryInfo {
         destination: para(),
         query_id: 5,
-        max_weight: Weight {
-            ref_time: 0,
-            proof_size: 0,
-        },
+        max_weight: Weight::ZERO,
     };
     chain.respond(&info, Response::Null, None)
 }

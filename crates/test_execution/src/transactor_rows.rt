@@ -1,7 +1,7 @@
 //! Moves by location: fungible assets and then instances, each refusal, and each call on its happy path.
 ghost use Rattle.std.specs.Prelude.{◌≡◌, ◌<◌, IsFalse, IfOk};
 ghost use Rattle.asset_lists.specs.Units.{is_zero};
-ghost use Rattle.test_execution.specs.Rows.{here, listed, AreHandled};
+ghost use Rattle.test_execution.specs.Rows.{own_location, fixture_listing, AreHandled};
 
 use asset_bundles::AssetBundle;
 use asset_lists::{Asset, AssetId, Assets, Fun, Instance, Kind};
@@ -25,7 +25,7 @@ const RELAY: Site = Site {
 };
 
 fn here() -> Location
-    ensures { result ≡ here }
+    ensures { result ≡ own_location }
 {
     Location {
         parents: 0,
@@ -76,7 +76,7 @@ fn instance(place: Location, number: u128) -> Asset
 
 /// A native asset of the chain.
 fn row(alloc: Global, kind: Kind) -> AssetRow
-    ensures id { result.id ≡ here }
+    ensures id { result.id ≡ own_location }
     ensures kind { result.kind ≡ kind }
 {
     AssetRow {
@@ -101,7 +101,7 @@ fn rows(alloc: Global) -> Result<Vec<AssetRow>, AllocError>
 
 /// A ledger of both.
 fn opened(alloc: Global) -> Result<Ledger, AllocError>
-    ensures { IfOk result (λ ledger. ledger.listed ≡ listed) }
+    ensures { IfOk result (λ ledger. ledger.listed ≡ fixture_listing) }
 {
     let list = Vec::from_array(alloc, [(here(), Kind::Fungible), (here(), Kind::Class)])?;
     Ledger::open(alloc, list)
@@ -116,9 +116,9 @@ fn deposited(
     who: &Location,
 ) -> Result<Option<MoveFault>, AllocError>
     requires handled { AreHandled rows.now }
-    requires listed { ledger.old.listed ≡ listed }
+    requires listed { ledger.old.listed ≡ fixture_listing }
     requires some { IsFalse (is_zero asset) }
-    ensures listed { ledger.new.listed ≡ listed }
+    ensures listed { ledger.new.listed ≡ fixture_listing }
 {
     let t = FirstThat {
         first: Fungibles { rows, site: &RELAY },
@@ -158,7 +158,7 @@ fn withdrawn(
 /// Deposits are refused in order.
 fn deposits(alloc: Global, rows: &[AssetRow], ledger: &mut Ledger) -> bool
     requires handled { AreHandled rows.now }
-    requires listed { ledger.old.listed ≡ listed }
+    requires listed { ledger.old.listed ≡ fixture_listing }
 {
     let elsewhere = at(Junction::GeneralIndex(7));
     let nobody = at(Junction::OnlyChild);
@@ -178,7 +178,7 @@ fn deposits(alloc: Global, rows: &[AssetRow], ledger: &mut Ledger) -> bool
 /// Assets move by location.
 fn moves(alloc: Global, rows: &[AssetRow], ledger: &mut Ledger, three: &Assets) -> bool
     requires handled { AreHandled rows.now }
-    requires listed { ledger.old.listed ≡ listed }
+    requires listed { ledger.old.listed ≡ fixture_listing }
 {
     let t = FirstThat {
         first: Fungibles { rows, site: &RELAY },

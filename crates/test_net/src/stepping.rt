@@ -3,7 +3,7 @@ use chain_net::{Net, StepResult};
 use input_lines::{Line, read_line};
 use network_coherence::coherent;
 use network_config::read_network;
-use network_laws::law_of_valid_networks;
+use network_validity::law_of_valid_networks;
 use report_text::{balances_text, queues_text, step_text, supply_block, traps_text};
 use std::alloc::{AllocError, Global};
 use std::process::Abort;

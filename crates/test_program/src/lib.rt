@@ -1,4 +1,5 @@
-//! The program on whole inputs over memory, in several cuts of the bytes and with calls that fail; runs of the generator.
+//! The program on whole inputs over memory, in several cuts of the bytes and with calls that fail; runs of the generator; and explanations
+//! of messages, cut and failing likewise.
 #![tactic(auto)]
 
 #[cfg(test)]
@@ -11,6 +12,14 @@ mod deliveries;
 mod devices;
 #[cfg(test)]
 mod documents;
+#[cfg(test)]
+mod explain_faults;
+#[cfg(test)]
+mod explain_lines;
+#[cfg(test)]
+mod explain_running;
+#[cfg(test)]
+mod explain_stops;
 #[cfg(test)]
 mod faults;
 #[cfg(test)]

@@ -5,7 +5,7 @@ use asset_bundles::Total;
 use asset_lists::{Asset, AssetId, Fun, Instance, Kind};
 use asset_locks::Lock;
 use chain_ids::ChainId;
-use document_forms::{NetworkFault, Place, Section};
+use document_entries::{NetworkFault, Place, Section};
 use locations::{Junction, Junctions, NetworkId};
 use network_coherence::{Incoherent, IncoherentCause};
 use std::test::Fail;

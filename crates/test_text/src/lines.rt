@@ -2,7 +2,8 @@
 
 use chain_ids::ChainId;
 use input_lines::{
-    Line, ends_network, law_of_lines, law_of_step_lines, line_len, read_line, text_of, without_feed,
+    Line, ends_network, law_of_step_lines, law_of_unique_lines, line_len, read_line, text_of,
+    without_feed,
 };
 use std::alloc::Global;
 use std::test::Fail;
@@ -288,6 +289,6 @@ fn the_first_line_ends_with_the_first_feed(rt: HostRuntime) {
     for (bytes, len) in FIRST_LINES {
         assert!(rt; line_len(bytes.as_bytes()) == *len, "of {bytes}");
     }
-    law_of_lines();
+    law_of_unique_lines();
     law_of_step_lines();
 }

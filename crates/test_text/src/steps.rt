@@ -6,22 +6,17 @@ use asset_lists::Kind;
 use chain_ids::ChainId;
 use exec_base::{Event, Part};
 use locations::{Junction, Junctions, NetworkId};
-use message_parts::{Weight, XcmError};
 use network_steps::StepResult;
+use operands::{Weight, XcmError};
 use std::alloc::{AllocError, Global};
 use std::test::Fail;
-use step_text::{StepWords, drained_line, heading, law_of_names, step_text};
+use step_text::{StepWords, drained_line, heading, law_of_names_by_number, step_text};
 use versioned_xcm::MessageFault;
 use xcm_program::{Outcome, OutcomeError};
 
 const RELAY: ChainId = ChainId::Relay;
 
 const PARA: ChainId = ChainId::Para(2000);
-
-const NOTHING: Weight = Weight {
-    ref_time: 0,
-    proof_size: 0,
-};
 
 /// The words of steps, and their headings under the number 12.
 const HEADINGS: [(StepWords, &str); 8] = [
@@ -164,7 +159,7 @@ fn steps_have_their_headings(rt: HostRuntime) -> Result<(), Fail> {
     }
     let text = drained_line(rt.alloc(), 3)?;
     assert_eq!(rt; text.as_str(), "  drained 3\n");
-    law_of_names();
+    law_of_names_by_number();
     Ok(())
 }
 
@@ -246,13 +241,13 @@ fn other_events_have_their_lines(rt: HostRuntime) -> Result<(), Fail> {
                 ref_time: 2000,
                 proof_size: 200,
             },
-            refunded: NOTHING,
+            refunded: Weight::ZERO,
         },
         Event::End {
             origin: None,
             topic: Some([10; 32]),
-            surplus: NOTHING,
-            refunded: NOTHING,
+            surplus: Weight::ZERO,
+            refunded: Weight::ZERO,
         },
         Event::Trapped { number: 1 },
     ];

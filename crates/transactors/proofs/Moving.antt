@@ -13,15 +13,16 @@ use Rattle.trust_tables.specs.declared.chains.Site.{Site}
 use Rattle.trust_tables.specs.declared.rows.AssetRow.{AssetRow}
 use Rattle.trust_tables.specs.Accounts.{account_of}
 use Rattle.trust_tables.specs.Trust.{row_of, listed_row}
-use Rattle.trust_tables.specs.TrustLaws.{row_found}
+use Rattle.trust_tables.proofs.Lemmas.TrustLaws.{row_found}
 use Rattle.ledgers.specs.Ledgers.{Held, Accounts, Withdrawn, shortage, barred, is_barred}
 use Rattle.ledgers.specs.LedgerFaults.{IsBarred, IsFirstBarred}
 use Rattle.ledgers.specs.declared.faults.DepositFault.{DepositFault}
 use Rattle.transactors.specs.Floors.{UnitFloors}
 use Rattle.transactors.specs.declared.faults.MoveFault.{MoveFault}
 use Rattle.transactors.specs.declared.faults.MoveFault.TheVariants.{NotHandled, NoAccount, Refused}
-use Rattle.transactors.specs.Checks.{accepted, is_unhandled, lacks, account_fault, move_fault, check_in, check_out}
-use Rattle.transactors.specs.Moves.{or_fault, first_fault, withdraw_fault, transfer_fault, at_account, withdrawn, are_listed}
+use Rattle.transactors.specs.Checks.{accepted, is_unhandled, is_short_of, account_fault, move_fault, check_in, check_out}
+use Rattle.transactors.specs.Moves.{earlier_fault, first_move_fault, withdraw_fault, transfer_fault, ledger_at_account, after_withdrawal, are_listed}
+use Rattle.plain_lists.proofs.Lemmas.Facts.{none_if}
 
 -- ---- answers
 fault_told : Result (Unit {0}) MoveFault → Option MoveFault
@@ -38,15 +39,15 @@ unfolding fault_told
 fault_is o fault is = sym (told_back o) ∙ ap fault_told (sym is)
 
 -- ---- the first fault
-pub both_none : (x rest : Option MoveFault) → or_fault x rest ≡ None → (x ≡ None) × (rest ≡ None)
+pub both_none : (x rest : Option MoveFault) → earlier_fault x rest ≡ None → (x ≡ None) × (rest ≡ None)
 both_none None rest h = (refl, h)
 both_none (Some fault) rest h = absurd (cc)
 
-passed_first : (x rest : Option MoveFault) → x ≡ None → or_fault x rest ≡ rest
-passed_first x rest h = ap (λ r. or_fault r rest) h
+passed_first : (x rest : Option MoveFault) → x ≡ None → earlier_fault x rest ≡ rest
+passed_first x rest h = ap (λ r. earlier_fault r rest) h
 
-pub refused_first : (x rest : Option MoveFault) (fault : MoveFault) → x ≡ Some fault → or_fault x rest ≡ Some fault
-refused_first x rest fault h = ap (λ r. or_fault r rest) h
+pub refused_first : (x rest : Option MoveFault) (fault : MoveFault) → x ≡ Some fault → earlier_fault x rest ≡ Some fault
+refused_first x rest fault h = ap (λ r. earlier_fault r rest) h
 
 handled_and : (b : Bool) (account : Option (List ℕ)) (refused : List ℕ → Bool) → move_fault b account refused ≡ None → (b ≡ true) × (account_fault account refused ≡ None)
 handled_and true account refused h = (refl, h)
@@ -56,23 +57,23 @@ nobody : (account : Option (List ℕ)) (refused : List ℕ → Bool) → account
 nobody account refused none h = (let e : Some NoAccount ≡ None = ap (λ o. account_fault o refused) (sym none) ∙ h in absurd (cc))
 
 -- without an account only nothing is moved
-pub nobody_gives : (rows : List AssetRow) (site : Site) (floors : UnitFloors) (held : Held) (who : Location) (list : List Asset) → account_of who site ≡ None → first_fault (check_out rows site floors held who) list ≡ None → list ≡ []
+pub nobody_gives : (rows : List AssetRow) (site : Site) (floors : UnitFloors) (held : Held) (who : Location) (list : List Asset) → account_of who site ≡ None → first_move_fault (check_out rows site floors held who) list ≡ None → list ≡ []
 nobody_gives rows site floors held who [] none h = refl
 nobody_gives rows site floors held who (a ∷ rest) none h =
-    absurd (nobody (account_of who site) (λ account. lacks floors held account a) none (handled_and (is_some (row_of rows a)) (account_of who site) (λ account. lacks floors held account a) (both_none _ _ h).0).1)
+    absurd (nobody (account_of who site) (λ account. is_short_of floors held account a) none (handled_and (is_some (row_of rows a)) (account_of who site) (λ account. is_short_of floors held account a) (both_none _ _ h).0).1)
 
-pub nobody_takes : (rows : List AssetRow) (site : Site) (held : Held) (who : Location) (list : List Asset) → account_of who site ≡ None → first_fault (check_in rows site held who) list ≡ None → list ≡ []
+pub nobody_takes : (rows : List AssetRow) (site : Site) (held : Held) (who : Location) (list : List Asset) → account_of who site ≡ None → first_move_fault (check_in rows site held who) list ≡ None → list ≡ []
 nobody_takes rows site held who [] none h = refl
 nobody_takes rows site held who (a ∷ rest) none h =
     absurd (nobody (account_of who site) (λ account. is_barred held account a) none (handled_and (is_some (row_of rows a)) (account_of who site) (λ account. is_barred held account a) (both_none _ _ h).0).1)
 
 -- without an account no asset that is handled is taken
 nobody_takes_any : (rows : List AssetRow) (site : Site) (held : Held) (who : Location) (list : List Asset) → account_of who site ≡ None → list_all (λ a. is_some (row_of rows a)) list ≡ true → (list ≡ [] → ⊥)
-    → first_fault (check_in rows site held who) list ≡ Some NoAccount
+    → first_move_fault (check_in rows site held who) list ≡ Some NoAccount
 nobody_takes_any rows site held who [] none handled some = absurd (some refl)
 nobody_takes_any rows site held who (a ∷ rest) none handled some =
     let here = (and_parts (is_some (row_of rows a)) (list_all (λ b. is_some (row_of rows b)) rest) handled).0 in
-    λ i. or_fault (move_fault (here i) (none i) (λ account. is_barred held account a)) (first_fault (check_in rows site held who) rest)
+    λ i. earlier_fault (move_fault (here i) (none i) (λ account. is_barred held account a)) (first_move_fault (check_in rows site held who) rest)
 
 -- ---- an account that can give all
 no_lack : (who : List ℕ) (account : Option (List ℕ)) (refused : List ℕ → Bool) → account ≡ Some who → account_fault account refused ≡ None → refused who ≡ false
@@ -84,17 +85,17 @@ no_lack who account refused is h =
     ] e)
 
 pub nothing_lacked : (rows : List AssetRow) (site : Site) (floors : UnitFloors) (held : Held) (from : Location) (who : List ℕ) (a : Asset) → account_of from site ≡ Some who
-    → check_out rows site floors held from a ≡ None → lacks floors held who a ≡ false
+    → check_out rows site floors held from a ≡ None → is_short_of floors held who a ≡ false
 nothing_lacked rows site floors held from who a is h =
-    let here = handled_and (is_some (row_of rows a)) (account_of from site) (λ account. lacks floors held account a) h in
-    no_lack who (account_of from site) (λ account. lacks floors held account a) is here.1
+    let here = handled_and (is_some (row_of rows a)) (account_of from site) (λ account. is_short_of floors held account a) h in
+    no_lack who (account_of from site) (λ account. is_short_of floors held account a) is here.1
 
 -- what has the amount and the floor has the amount
 less_too : (have n floor : ℕ) → nat_lt have (n + floor) ≡ false → nat_lt have n ≡ false
 less_too have n floor h = grind (arith, h)
 
 pub enough_given : (rows : List AssetRow) (site : Site) (floors : UnitFloors) (held : Held) (from : Location) (who : List ℕ) (list : List Asset) → account_of from site ≡ Some who
-    → first_fault (check_out rows site floors held from) list ≡ None → shortage held who list ≡ None
+    → first_move_fault (check_out rows site floors held from) list ≡ None → shortage held who list ≡ None
 enough_given rows site floors held from who [] is h = refl
 enough_given rows site floors held from who (a ∷ rest) is h =
     let parts = both_none _ _ h in
@@ -102,13 +103,13 @@ enough_given rows site floors held from who (a ∷ rest) is h =
     let enough = less_too (amount held (who, unit_of a)) (amount_of a) (floors who (unit_of a)) has in
     ap (λ b. if b then Some (amount held (who, unit_of a)) else shortage held who rest) enough ∙ enough_given rows site floors held from who rest is parts.1
 
-rows_given : (rows : List AssetRow) (site : Site) (floors : UnitFloors) (held : Held) (who : Location) (list : List Asset) → first_fault (check_out rows site floors held who) list ≡ None → list_all (λ a. is_some (row_of rows a)) list ≡ true
+rows_given : (rows : List AssetRow) (site : Site) (floors : UnitFloors) (held : Held) (who : Location) (list : List Asset) → first_move_fault (check_out rows site floors held who) list ≡ None → list_all (λ a. is_some (row_of rows a)) list ≡ true
 rows_given rows site floors held who [] h = refl
 rows_given rows site floors held who (a ∷ rest) h =
     let parts = both_none _ _ h in
-    and_from _ _ (handled_and (is_some (row_of rows a)) (account_of who site) (λ account. lacks floors held account a) parts.0).0 (rows_given rows site floors held who rest parts.1)
+    and_from _ _ (handled_and (is_some (row_of rows a)) (account_of who site) (λ account. is_short_of floors held account a) parts.0).0 (rows_given rows site floors held who rest parts.1)
 
-pub rows_taken : (rows : List AssetRow) (site : Site) (held : Held) (who : Location) (list : List Asset) → first_fault (check_in rows site held who) list ≡ None → list_all (λ a. is_some (row_of rows a)) list ≡ true
+pub rows_taken : (rows : List AssetRow) (site : Site) (held : Held) (who : Location) (list : List Asset) → first_move_fault (check_in rows site held who) list ≡ None → list_all (λ a. is_some (row_of rows a)) list ≡ true
 rows_taken rows site held who [] h = refl
 rows_taken rows site held who (a ∷ rest) h =
     let parts = both_none _ _ h in
@@ -142,23 +143,23 @@ refused_if None = None
 refused_if (Some a) = Some Refused
 
 take_here : (row bar : Bool) (a : Asset) (rest : Option MoveFault) (found : Option Asset) → row ≡ true → rest ≡ refused_if found
-    → or_fault (if row then (if bar then Some Refused else None) else Some NotHandled) rest ≡ refused_if (if bar then Some a else found)
+    → earlier_fault (if row then (if bar then Some Refused else None) else Some NotHandled) rest ≡ refused_if (if bar then Some a else found)
 unfolding refused_if
 take_here true true a rest found h e = refl
 take_here true false a rest found h e = e
 take_here false bar a rest found h e = absurd (true≢false (sym h))
 
 refused_as_barred : (rows : List AssetRow) (site : Site) (held : Held) (who : Location) (to : List ℕ) (list : List Asset) → account_of who site ≡ Some to → list_all (λ a. is_some (row_of rows a)) list ≡ true
-    → first_fault (check_in rows site held who) list ≡ refused_if (barred held to list)
+    → first_move_fault (check_in rows site held who) list ≡ refused_if (barred held to list)
 unfolding refused_if
 refused_as_barred rows site held who to [] is h = refl
 refused_as_barred rows site held who to (a ∷ rest) is h =
     let parts = and_parts (is_some (row_of rows a)) (list_all (λ b. is_some (row_of rows b)) rest) h in
-    ap (λ o. or_fault (if is_some (row_of rows a) then account_fault o (λ account. is_barred held account a) else Some NotHandled) (first_fault (check_in rows site held who) rest)) is
-    ∙ take_here (is_some (row_of rows a)) (is_barred held to a) a (first_fault (check_in rows site held who) rest) (barred held to rest) parts.0 (refused_as_barred rows site held who to rest is parts.1)
+    ap (λ o. earlier_fault (if is_some (row_of rows a) then account_fault o (λ account. is_barred held account a) else Some NotHandled) (first_move_fault (check_in rows site held who) rest)) is
+    ∙ take_here (is_some (row_of rows a)) (is_barred held to a) a (first_move_fault (check_in rows site held who) rest) (barred held to rest) parts.0 (refused_as_barred rows site held who to rest is parts.1)
 
 taker_free : (rows : List AssetRow) (site : Site) (held : Held) (who : Location) (to : List ℕ) (list : List Asset) → account_of who site ≡ Some to → list_all (λ a. is_some (row_of rows a)) list ≡ true → barred held to list ≡ None
-    → first_fault (check_in rows site held who) list ≡ None
+    → first_move_fault (check_in rows site held who) list ≡ None
 unfolding refused_if
 taker_free rows site held who to list is all free = refused_as_barred rows site held who to list is all ∙ ap refused_if free
 
@@ -168,7 +169,7 @@ some_refused P None h = absurd h
 some_refused P (Some a) h = refl
 
 taker_barred : (rows : List AssetRow) (site : Site) (held : Held) (who : Location) (to : List ℕ) (list : List Asset) (fault : DepositFault) → account_of who site ≡ Some to → list_all (λ a. is_some (row_of rows a)) list ≡ true
-    → IsFirstBarred held to list fault → first_fault (check_in rows site held who) list ≡ Some Refused
+    → IsFirstBarred held to list fault → first_move_fault (check_in rows site held who) list ≡ Some Refused
 taker_barred rows site held who to list fault is all bar =
     refused_as_barred rows site held who to list is all ∙ some_refused (λ a. IsBarred held to a fault) (barred held to list) bar
 
@@ -177,7 +178,7 @@ unfolding refused_if
 none_refused None h = refl
 none_refused (Some a) h = absurd (cc)
 
-pub none_bars : (rows : List AssetRow) (site : Site) (held : Held) (who : Location) (to : List ℕ) (list : List Asset) → account_of who site ≡ Some to → first_fault (check_in rows site held who) list ≡ None → barred held to list ≡ None
+pub none_bars : (rows : List AssetRow) (site : Site) (held : Held) (who : Location) (to : List ℕ) (list : List Asset) → account_of who site ≡ Some to → first_move_fault (check_in rows site held who) list ≡ None → barred held to list ≡ None
 none_bars rows site held who to list is taken =
     none_refused (barred held to list) (sym (refused_as_barred rows site held who to list is (rows_taken rows site held who list taken)) ∙ taken)
 
@@ -201,15 +202,11 @@ sooner true second account refused h = refl
 sooner false second account refused h = absurd (true≢false h)
 
 -- ---- steps of the code
-pub none_if : {A : Type 0} (o : Option A) → ((x : A) → o ≡ Some x → ⊥) → o ≡ None
-none_if None h = refl
-none_if (Some x) h = absurd (h x refl)
-
 pub stops : (check : Asset → Option MoveFault) (xs : List Asset) (i : ℕ) (a : Asset) (fault : MoveFault) → i < length xs → a ≡ get_or xs i a → check a ≡ Some fault
-    → first_fault check xs ≡ first_fault check (drop i xs) → first_fault check xs ≡ Some fault
+    → first_move_fault check xs ≡ first_move_fault check (drop i xs) → first_move_fault check xs ≡ Some fault
 stops check xs i a fault inside at is so_far =
-    so_far ∙ ap (first_fault check) (drop_more xs i a inside)
-    ∙ refused_first (check (get_or xs i a)) (first_fault check (drop (i + 1) xs)) fault (ap check (sym at) ∙ is)
+    so_far ∙ ap (first_move_fault check) (drop_more xs i a inside)
+    ∙ refused_first (check (get_or xs i a)) (first_move_fault check (drop (i + 1) xs)) fault (ap check (sym at) ∙ is)
 
 none_counted : (n : ℕ) → (n == 0) ≡ true → n ≡ 0
 none_counted n h = grind (arith, h)
@@ -235,16 +232,16 @@ module _ (rows : List AssetRow) (site : Site) (floors : UnitFloors) (ledger : Ac
   giver_has giver is = enough_given rows site floors ledger.held from giver list is gives
 
   -- the receiver decides
-  taker_decides : (o : Option MoveFault) → first_fault (check_in rows site (withdrawn site list from ledger).held to) list ≡ o → o ≡ transfer_fault rows site floors ledger list from to
+  taker_decides : (o : Option MoveFault) → first_move_fault (check_in rows site (after_withdrawal site list from ledger).held to) list ≡ o → o ≡ transfer_fault rows site floors ledger list from to
   taker_decides o takes = sym (passed_first _ _ gives ∙ takes)
 
   pub no_taker : (list ≡ [] → ⊥) → account_of to site ≡ None → Some NoAccount ≡ transfer_fault rows site floors ledger list from to
   no_taker some nobody =
-      taker_decides (Some NoAccount) (nobody_takes_any rows site (withdrawn site list from ledger).held to list nobody (rows_given rows site floors ledger.held from list gives) some)
+      taker_decides (Some NoAccount) (nobody_takes_any rows site (after_withdrawal site list from ledger).held to list nobody (rows_given rows site floors ledger.held from list gives) some)
 
   module _ (giver taker : List ℕ) (giver_is : account_of from site ≡ Some giver) (taker_is : account_of to site ≡ Some taker) where
-    decides_after : (o : Option MoveFault) → first_fault (check_in rows site (Withdrawn giver list ledger).held to) list ≡ o → o ≡ transfer_fault rows site floors ledger list from to
-    decides_after o takes = taker_decides o (ap (λ (a : Option (List ℕ)). first_fault (check_in rows site (at_account a (λ account. Withdrawn account list ledger) ledger).held to) list) giver_is ∙ takes)
+    decides_after : (o : Option MoveFault) → first_move_fault (check_in rows site (Withdrawn giver list ledger).held to) list ≡ o → o ≡ transfer_fault rows site floors ledger list from to
+    decides_after o takes = taker_decides o (ap (λ (a : Option (List ℕ)). first_move_fault (check_in rows site (ledger_at_account a (λ account. Withdrawn account list ledger) ledger).held to) list) giver_is ∙ takes)
 
     pub both_free : barred (Withdrawn giver list ledger).held taker list ≡ None → None ≡ transfer_fault rows site floors ledger list from to
     both_free free =

@@ -2,17 +2,19 @@
 use Rattle.std.proofs.Common.{◌≡◌, ℕ, List, [], refl, sym, ap, ◌∙◌, arith}
 use Rattle.std.specs.Prelude.{Option, None, Some}
 use Rattle.amounts.specs.Rows.{rows_at}
-use Rattle.amounts.specs.Amounts.{empty, rows, from_rows, plus_all, merge, difference, map_keys, amount-empty, same_amounts}
-use Rattle.amounts.specs.Laws.{rows-from_rows, merge-empty, amount-difference}
+use Rattle.amounts.specs.Amounts.{empty, rows, from_rows, plus_all, merge, difference, map_keys}
+use Rattle.amounts.proofs.Lemmas.AmountLaws.{amount-empty, same_amounts}
+use Rattle.amounts.proofs.Lemmas.{rows-from_rows, merge-empty, amount-difference}
 use Rattle.locations.specs.declared.relative.Location.{Location}
 use Rattle.asset_lists.specs.Units.{Unit, unit_cmp}
-use Rattle.asset_bundles.specs.Bundles.{unit_keys, bundle_of}
-use Rattle.asset_bundles.specs.BundleLaws.{bundle_of-none}
+use Rattle.asset_bundles.specs.Bundles.{bundle_of}
+use Rattle.asset_bundles.proofs.Lemmas.Bundles.{unit_keys}
+use Rattle.asset_bundles.proofs.Lemmas.BundleLaws.{bundle_of-none}
 use Rattle.trust_tables.specs.declared.chains.Site.{Site}
 use Rattle.trust_tables.specs.Accounts.{account_of}
 use Rattle.ledgers.specs.Ledgers.{Held, Accounts, held_by, Withdrawn, Deposited}
-use Rattle.ledgers.specs.Laws.{holder_keys}
-use Rattle.transactors.specs.Moves.{at_account, transferred}
+use Rattle.ledgers.proofs.Lemmas.{holder_keys}
+use Rattle.transactors.specs.Moves.{ledger_at_account, after_transfer}
 
 -- the rows of nothing
 rows-nothing : rows (empty {R = unit_cmp}) ≡ []
@@ -29,14 +31,14 @@ none_less held = same_amounts holder_keys _ _ (λ h.
     let none = amount-empty holder_keys h in
     omega (arith, left, none))
 
-nothing_given : (ledger : Accounts) (o : Option (List ℕ)) → at_account o (λ who. Withdrawn who [] ledger) ledger ≡ ledger
+nothing_given : (ledger : Accounts) (o : Option (List ℕ)) → ledger_at_account o (λ who. Withdrawn who [] ledger) ledger ≡ ledger
 nothing_given ledger None = refl
 nothing_given ledger (Some who) = λ i. record { listed = ledger.listed; held = (ap (difference ledger.held) (no_goods who) ∙ none_less ledger.held) i }
 
-nothing_got : (ledger : Accounts) (o : Option (List ℕ)) → at_account o (λ who. Deposited who (bundle_of []) ledger) ledger ≡ ledger
+nothing_got : (ledger : Accounts) (o : Option (List ℕ)) → ledger_at_account o (λ who. Deposited who (bundle_of []) ledger) ledger ≡ ledger
 nothing_got ledger None = refl
 nothing_got ledger (Some who) = λ i. record { listed = ledger.listed; held = (ap (merge ledger.held) (no_goods who) ∙ merge-empty holder_keys ledger.held) i }
 
-pub nothing_moved : (site : Site) (ledger : Accounts) (from to : Location) → ledger ≡ transferred site [] from to ledger
+pub nothing_moved : (site : Site) (ledger : Accounts) (from to : Location) → ledger ≡ after_transfer site [] from to ledger
 nothing_moved site ledger from to =
-    sym (ap (λ l. at_account (account_of to site) (λ who. Deposited who (bundle_of []) l) l) (nothing_given ledger (account_of from site)) ∙ nothing_got ledger (account_of to site))
+    sym (ap (λ l. ledger_at_account (account_of to site) (λ who. Deposited who (bundle_of []) l) l) (nothing_given ledger (account_of from site)) ∙ nothing_got ledger (account_of to site))

@@ -12,8 +12,9 @@ use Rattle.chain_ids.specs.declared.chain.ChainId.{ChainId}
 use Rattle.trust_tables.specs.declared.rows.AssetRow.{AssetRow}
 use Rattle.trust_tables.specs.declared.rows.AssetRole.{AssetRole}
 use Rattle.trust_tables.specs.Trust.{row_of, is_id, is_row_of}
-use Rattle.trust_tables.specs.TrustLaws.{row_at-position}
+use Rattle.trust_tables.proofs.Lemmas.TrustLaws.{row_at-position}
 use Rattle.transactors.specs.Checks.{rows_of_kind}
+use Rattle.plain_lists.proofs.Lemmas.Facts.{or_associated as or_or}
 
 some_row : AssetRow
 some_row = record { id = record { parents = 0; interior = [] }; kind = Kind.Fungible; role = AssetRole.Derivative ChainId.Relay }
@@ -68,10 +69,6 @@ row_of_kind kind (row ∷ rows) a =
     in_front (same_kind kind row.kind) a row (rows_of_kind kind rows)
     ∙ kinds (kind_of (unit_of a).1) kind row.kind (is_id a.id row.id) (is_some (row_of rows a)) (is_some (row_of (rows_of_kind kind rows) a)) (row_of_kind kind rows a)
     ∙ ap (λ b. same_kind (kind_of (unit_of a).1) kind && b) (sym (some_or (is_row_of a row) row (row_of rows a)))
-
-or_or : (a b c : Bool) → (a || (b || c)) ≡ ((a || b) || c)
-or_or true b c = refl
-or_or false b c = refl
 
 -- a row of either part
 pub row_of_both : (rows more : List AssetRow) (a : Asset) → is_some (row_of (rows ++ more) a) ≡ (is_some (row_of rows a) || is_some (row_of more a))

@@ -35,8 +35,8 @@ rows_of_kind kind [] = []
 rows_of_kind kind (row ∷ rows) = if same_kind kind row.kind then row ∷ rows_of_kind kind rows else rows_of_kind kind rows
 
 -- the account has less of the asset than that and its floor
-abbrev pub lacks : UnitFloors → Held → List ℕ → Asset → Bool
-lacks floors held who a = nat_lt (amount held (who, unit_of a)) (amount_of a + floors who (unit_of a))
+abbrev pub is_short_of : UnitFloors → Held → List ℕ → Asset → Bool
+is_short_of floors held who a = nat_lt (amount held (who, unit_of a)) (amount_of a + floors who (unit_of a))
 
 -- a row must list the asset, the location must have an account, and then the account decides
 abbrev pub account_fault : Option (List ℕ) → (List ℕ → Bool) → Option MoveFault
@@ -52,4 +52,4 @@ check_in rows site held who a = move_fault (is_some (row_of rows a)) (account_of
 
 -- why a withdrawal of the asset alone is refused; None where it isn't
 abbrev pub check_out : List AssetRow → Site → UnitFloors → Held → Location → Asset → Option MoveFault
-check_out rows site floors held who a = move_fault (is_some (row_of rows a)) (account_of who site) (λ account. lacks floors held account a)
+check_out rows site floors held who a = move_fault (is_some (row_of rows a)) (account_of who site) (λ account. is_short_of floors held account a)

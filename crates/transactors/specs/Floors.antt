@@ -1,6 +1,6 @@
 -- How much of each unit each account must keep: this project's own rule, after the lock instructions of the XCM format.
 --     UnitFloors      what each account must keep of each unit
---     no_floors      nothing must be kept
+--     no_unit_floors      nothing must be kept
 --     locked_floors      what a chain's locks keep
 --     higher_floors      the higher of two floors, so that both are kept
 --     KeepsFloors      each account has at least its floor of each unit
@@ -16,8 +16,8 @@ abbrev pub UnitFloors : Type 0
 UnitFloors = List ℕ → Unit → ℕ
 
 -- nothing must be kept
-abbrev pub no_floors : UnitFloors
-no_floors who unit = 0
+abbrev pub no_unit_floors : UnitFloors
+no_unit_floors who unit = 0
 
 -- what is locked
 abbrev pub locked_floors : LocksAndNotes → UnitFloors

@@ -22,41 +22,41 @@ are_listed listed rows = list_all (λ row. lists listed (listed_row row)) rows
 
 -- ---- faults
 
-abbrev pub or_fault : Option MoveFault → Option MoveFault → Option MoveFault
-or_fault None next = next
-or_fault (Some fault) next = Some fault
+abbrev pub earlier_fault : Option MoveFault → Option MoveFault → Option MoveFault
+earlier_fault None next = next
+earlier_fault (Some fault) next = Some fault
 
 -- the first asset in order that is refused decides
-abbrev pub first_fault : (Asset → Option MoveFault) → List Asset → Option MoveFault
-first_fault check [] = None
-first_fault check (a ∷ rest) = or_fault (check a) (first_fault check rest)
+abbrev pub first_move_fault : (Asset → Option MoveFault) → List Asset → Option MoveFault
+first_move_fault check [] = None
+first_move_fault check (a ∷ rest) = earlier_fault (check a) (first_move_fault check rest)
 
 abbrev pub withdraw_fault : List AssetRow → Site → UnitFloors → Accounts → List Asset → Location → Option MoveFault
-withdraw_fault rows site floors ledger list who = first_fault (check_out rows site floors ledger.held who) list
+withdraw_fault rows site floors ledger list who = first_move_fault (check_out rows site floors ledger.held who) list
 
 abbrev pub deposit_fault : List AssetRow → Site → Accounts → Bundle → Location → Option MoveFault
-deposit_fault rows site ledger goods who = first_fault (check_in rows site ledger.held who) (held_assets goods)
+deposit_fault rows site ledger goods who = first_move_fault (check_in rows site ledger.held who) (held_assets goods)
 
 -- ---- what a move leaves. Where there is no account, nothing was moved
 
-abbrev pub at_account : Option (List ℕ) → (List ℕ → Accounts) → Accounts → Accounts
-at_account None change ledger = ledger
-at_account (Some who) change ledger = change who
+abbrev pub ledger_at_account : Option (List ℕ) → (List ℕ → Accounts) → Accounts → Accounts
+ledger_at_account None change ledger = ledger
+ledger_at_account (Some who) change ledger = change who
 
-abbrev pub withdrawn : Site → List Asset → Location → Accounts → Accounts
-withdrawn site list who ledger = at_account (account_of who site) (λ account. Withdrawn account list ledger) ledger
+abbrev pub after_withdrawal : Site → List Asset → Location → Accounts → Accounts
+after_withdrawal site list who ledger = ledger_at_account (account_of who site) (λ account. Withdrawn account list ledger) ledger
 
-abbrev pub deposited : Site → Bundle → Location → Accounts → Accounts
-deposited site goods who ledger = at_account (account_of who site) (λ account. Deposited account goods ledger) ledger
+abbrev pub after_deposit : Site → Bundle → Location → Accounts → Accounts
+after_deposit site goods who ledger = ledger_at_account (account_of who site) (λ account. Deposited account goods ledger) ledger
 
 -- the giving, and then the taking
-abbrev pub transferred : Site → List Asset → Location → Location → Accounts → Accounts
-transferred site list from to ledger = deposited site (bundle_of list) to (withdrawn site list from ledger)
+abbrev pub after_transfer : Site → List Asset → Location → Location → Accounts → Accounts
+after_transfer site list from to ledger = after_deposit site (bundle_of list) to (after_withdrawal site list from ledger)
 
 -- all assets for the giver first, and then all for the receiver as it is after the giving
 abbrev pub transfer_fault : List AssetRow → Site → UnitFloors → Accounts → List Asset → Location → Location → Option MoveFault
 transfer_fault rows site floors ledger list from to =
-    or_fault (withdraw_fault rows site floors ledger list from) (first_fault (check_in rows site (withdrawn site list from ledger).held to) list)
+    earlier_fault (withdraw_fault rows site floors ledger list from) (first_move_fault (check_in rows site (after_withdrawal site list from ledger).held to) list)
 
 -- ---- answers. Memory may be refused always, and then nothing changes
 

@@ -3,7 +3,7 @@ ghost use Rattle.std.specs.Prelude.{◌≡◌, ◌≤◌};
 ghost use Rattle.amounts.specs.Amounts.{amount};
 ghost use Rattle.asset_lists.specs.Units.{unit_of, amount_of};
 ghost use Rattle.transactors.specs.Floors.{locked_floors};
-ghost use Rattle.transactors.specs.Checks.{lacks};
+ghost use Rattle.transactors.specs.Checks.{is_short_of};
 
 use crate::{MoveFault, Transactor};
 use asset_lists::{Asset, AssetId, Fun};
@@ -27,7 +27,7 @@ fn locked_floor(locks: &LockBook, who: &[u8; 32], a: &Asset) -> u128
 /// Whether the account, which has that much of the asset, would be left with less than is locked.
 fn falls_below(locks: &LockBook, ledger: &Ledger, who: &[u8; 32], a: &Asset) -> bool
     requires has { amount_of a.now ≤ amount ledger.now.held (who.now, unit_of a.now) }
-    ensures { result ≡ lacks (locked_floors locks.now) ledger.now.held who.now a.now }
+    ensures { result ≡ is_short_of (locked_floors locks.now) ledger.now.held who.now a.now }
 {
     ledger.held_of(who, a) - a.amount() < locked_floor(locks, who, a)
 }

@@ -10,10 +10,10 @@ ghost use Rattle.trust_tables.specs.declared.rows.AssetRow.{AssetRow};
 ghost use Rattle.trust_tables.specs.Trust.{row_of};
 ghost use Rattle.transactors.specs.Floors.{UnitFloors, KeepsFloors};
 ghost use Rattle.transactors.specs.Checks.{rows_of_kind};
-ghost use Rattle.transactors.specs.Moves.{withdraw_fault, transfer_fault, withdrawn, deposited, transferred};
+ghost use Rattle.transactors.specs.Moves.{withdraw_fault, transfer_fault, after_withdrawal, after_deposit, after_transfer};
 
 /// The transactor of fungible assets and then that of instances, over a chain's rows, handle just what the rows list.
-pub fn law_of_kinds()
+pub fn law_of_kinds_covering_rows()
     ensures { (rows : List AssetRow) (a : Asset)
         → is_some (row_of (rows_of_kind Kind.Fungible rows ++ rows_of_kind Kind.Class rows) a)
         ≡ is_some (row_of rows a) }
@@ -26,14 +26,14 @@ pub fn law_of_floors_of_moves()
         (ledger : Accounts) (list : List Asset) (who : Location) → IsHolding list
         → withdraw_fault rows site floors ledger list who ≡ None
         → KeepsFloors floors ledger.held
-        → KeepsFloors floors (withdrawn site list who ledger).held }
+        → KeepsFloors floors (after_withdrawal site list who ledger).held }
     ensures deposited { (site : Site) (floors : UnitFloors)
         (ledger : Accounts) (goods : Bundle) (who : Location)
         → KeepsFloors floors ledger.held
-        → KeepsFloors floors (deposited site goods who ledger).held }
+        → KeepsFloors floors (after_deposit site goods who ledger).held }
     ensures transferred { (rows : List AssetRow) (site : Site) (floors : UnitFloors)
         (ledger : Accounts) (list : List Asset) (from to : Location) → IsHolding list
         → transfer_fault rows site floors ledger list from to ≡ None
         → KeepsFloors floors ledger.held
-        → KeepsFloors floors (transferred site list from to ledger).held }
+        → KeepsFloors floors (after_transfer site list from to ledger).held }
 {}

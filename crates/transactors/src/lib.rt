@@ -11,7 +11,7 @@ mod transactors;
 
 pub use faults::MoveFault;
 pub use floored::Floored;
-pub use laws::{law_of_floors_of_moves, law_of_kinds};
+pub use laws::{law_of_floors_of_moves, law_of_kinds_covering_rows};
 pub use moves::{
     deposit_all, deposit_checked, transfer_all, transfer_checked, withdraw_all, withdraw_checked,
 };

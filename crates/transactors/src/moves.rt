@@ -1,7 +1,7 @@
 //! Whole lists that are moved: all of a list, or nothing.
 ghost use Rattle.std.specs.Prelude.{◌≡◌, None, IsTrue, IfOk, IfErr, OnOk, OnErr};
 ghost use Rattle.asset_bundles.specs.Bundles.{bundle_of};
-ghost use Rattle.transactors.specs.Moves.{are_listed, withdraw_fault, deposit_fault, transfer_fault, withdrawn, deposited, transferred, Moves, MovesIn};
+ghost use Rattle.transactors.specs.Moves.{are_listed, withdraw_fault, deposit_fault, transfer_fault, after_withdrawal, after_deposit, after_transfer, Moves, MovesIn};
 
 use crate::{MoveFault, Transactor, deposit_fault, transfer_fault, withdraw_fault};
 use asset_bundles::AssetBundle;
@@ -22,7 +22,7 @@ pub fn withdraw_all<T: Transactor>(
     requires agrees { T.agrees t.now }
     ensures step { Moves
         (withdraw_fault (T.rows t.now) (T.site t.now) (T.floors t.now) ledger.old list.now who.now)
-        (bundle_of list.now) (withdrawn (T.site t.now) list.now who.now ledger.old)
+        (bundle_of list.now) (after_withdrawal (T.site t.now) list.now who.now ledger.old)
         ledger.old result ledger.new }
 {
     if let Some(fault) = withdraw_fault(t, ledger, list, who) {
@@ -46,7 +46,7 @@ pub fn withdraw_checked<T: Transactor>(
         ledger.old list.now who.now ≡ None }
     ensures goods { IfOk result (λ goods. goods ≡ bundle_of list.now) }
     ensures withdrawn { OnOk result
-        (ledger.new ≡ withdrawn (T.site t.now) list.now who.now ledger.old) }
+        (ledger.new ≡ after_withdrawal (T.site t.now) list.now who.now ledger.old) }
     ensures kept { OnErr result (ledger.new ≡ ledger.old) }
 {
     let Some(account) = t.account(who) else {
@@ -67,7 +67,7 @@ pub fn deposit_all<T: Transactor>(
     requires listed { IsTrue (are_listed ledger.old.listed (T.rows t.now)) }
     ensures step { MovesIn
         (deposit_fault (T.rows t.now) (T.site t.now) ledger.old goods who.now)
-        goods (deposited (T.site t.now) goods who.now ledger.old)
+        goods (after_deposit (T.site t.now) goods who.now ledger.old)
         ledger.old result ledger.new }
 {
     if let Some(fault) = deposit_fault(t, ledger, &goods, who) {
@@ -92,7 +92,7 @@ pub fn deposit_checked<T: Transactor>(
     requires free { deposit_fault (T.rows t.now) (T.site t.now)
         ledger.old goods who.now ≡ None }
     ensures deposited { OnOk result
-        (ledger.new ≡ deposited (T.site t.now) goods who.now ledger.old) }
+        (ledger.new ≡ after_deposit (T.site t.now) goods who.now ledger.old) }
     ensures back { IfErr result (λ back. back ≡ goods) }
     ensures kept { OnErr result (ledger.new ≡ ledger.old) }
 {
@@ -118,7 +118,7 @@ pub fn transfer_all<T: Transactor>(
     ensures step { Moves
         (transfer_fault (T.rows t.now) (T.site t.now) (T.floors t.now)
         ledger.old list.now from.now to.now)
-        tt (transferred (T.site t.now) list.now from.now to.now ledger.old)
+        tt (after_transfer (T.site t.now) list.now from.now to.now ledger.old)
         ledger.old result ledger.new }
 {
     if let Some(fault) = transfer_fault(t, ledger, list, from, to) {
@@ -141,7 +141,7 @@ pub fn transfer_checked<T: Transactor>(
     requires free { transfer_fault (T.rows t.now) (T.site t.now) (T.floors t.now)
         ledger.old list.now from.now to.now ≡ None }
     ensures transferred { OnOk result
-        (ledger.new ≡ transferred (T.site t.now) list.now from.now to.now ledger.old) }
+        (ledger.new ≡ after_transfer (T.site t.now) list.now from.now to.now ledger.old) }
     ensures kept { OnErr result (ledger.new ≡ ledger.old) }
 {
     let Some(giver) = t.account(from) else {

@@ -2,8 +2,8 @@
 ghost use Rattle.std.specs.Prelude.{◌≡◌, is_some};
 ghost use Rattle.ledgers.specs.Ledgers.{is_barred};
 ghost use Rattle.trust_tables.specs.Trust.{row_of};
-ghost use Rattle.transactors.specs.Floors.{no_floors};
-ghost use Rattle.transactors.specs.Checks.{accepted, is_unhandled, rows_of_kind, move_fault, lacks};
+ghost use Rattle.transactors.specs.Floors.{no_unit_floors};
+ghost use Rattle.transactors.specs.Checks.{accepted, is_unhandled, rows_of_kind, move_fault, is_short_of};
 
 use crate::{MoveFault, Transactor};
 use asset_lists::{Asset, Kind};
@@ -49,7 +49,7 @@ fn checked_out(
     a: &Asset,
 ) -> Result<(), MoveFault>
     ensures { result ≡ accepted (move_fault handled account
-        (λ who. lacks no_floors ledger.now.held who a.now)) }
+        (λ who. is_short_of no_unit_floors ledger.now.held who a.now)) }
 {
     if !handled {
         return Err(MoveFault::NotHandled);
@@ -75,14 +75,14 @@ pub struct Fungibles<'a> {
 impl<'a> Transactor for Fungibles<'a> {
     ghost use Rattle.std.specs.Prelude.{⊤};
     ghost use Rattle.asset_lists.specs.declared.units.Kind.{Kind};
-    ghost use Rattle.transactors.specs.Floors.{no_floors};
+    ghost use Rattle.transactors.specs.Floors.{no_unit_floors};
     ghost use Rattle.transactors.specs.Checks.{rows_of_kind};
 
     ghost site = { λ t. t.site.now };
 
     ghost rows = { λ t. rows_of_kind Kind.Fungible t.rows.now };
 
-    ghost floors = { λ _. no_floors };
+    ghost floors = { λ _. no_unit_floors };
 
     ghost agrees = { λ _. ⊤ };
 
@@ -121,14 +121,14 @@ pub struct Instances<'a> {
 impl<'a> Transactor for Instances<'a> {
     ghost use Rattle.std.specs.Prelude.{⊤};
     ghost use Rattle.asset_lists.specs.declared.units.Kind.{Kind};
-    ghost use Rattle.transactors.specs.Floors.{no_floors};
+    ghost use Rattle.transactors.specs.Floors.{no_unit_floors};
     ghost use Rattle.transactors.specs.Checks.{rows_of_kind};
 
     ghost site = { λ t. t.site.now };
 
     ghost rows = { λ t. rows_of_kind Kind.Class t.rows.now };
 
-    ghost floors = { λ _. no_floors };
+    ghost floors = { λ _. no_unit_floors };
 
     ghost agrees = { λ _. ⊤ };
 

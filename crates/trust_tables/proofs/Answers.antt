@@ -4,7 +4,7 @@ use Rattle.std.specs.Ordering.{eq_by_cmp}
 use Rattle.std.specs.Cmp.{both_ways}
 use Rattle.locations.specs.declared.grammar.NetworkId.{NetworkId}
 use Rattle.locations.specs.Order.{network_cmp}
-use Rattle.locations.specs.OrderLaws.{network_total, network_exact, tie_decides}
+use Rattle.locations.proofs.Lemmas.OrderLaws.{network_total, network_exact, tie_decides}
 
 -- a comparison that holds just of equal networks is the one of their order
 pub same_network : (answer : Bool) (x y : NetworkId) → IsTrue answer ↔ (x ≡ y) → answer ≡ eq_by_cmp network_cmp x y

@@ -1,5 +1,3 @@
 pub mod Chains
 pub mod Accounts
 pub mod Trust
-pub mod ChainLaws
-pub mod TrustLaws

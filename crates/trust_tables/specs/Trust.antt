@@ -39,13 +39,13 @@ abbrev pub row_of : List AssetRow → Asset → Option AssetRow
 row_of rows a = find (is_row_of a) rows
 
 -- whether a chain that may have a location has this one
-abbrev pub is_named : Option Location → Location → Bool
-is_named None l = false
-is_named (Some named) l = eq_by_cmp location_cmp named l
+abbrev pub has_location : Option Location → Location → Bool
+has_location None l = false
+has_location (Some named) l = eq_by_cmp location_cmp named l
 
 -- whether the location is how the first chain names the second
 abbrev pub is_location_of : ChainId → ChainId → Location → Bool
-is_location_of here chain l = is_named (location_of here chain) l
+is_location_of here chain l = has_location (location_of here chain) l
 
 -- a derivative's reserve is believed
 abbrev pub is_reserve_role : ChainId → Location → AssetRole → Bool

@@ -40,7 +40,7 @@ pub fn law_of_sovereign_accounts()
 {}
 
 /// What the tests of rows and of trust say.
-pub fn law_of_trust()
+pub fn law_of_exact_trust_tests()
     ensures row { (a : Asset) (r : AssetRow) → IsTrue (is_row_of a r) ↔ IsRowOf a r }
     ensures found { (rows : List AssetRow) (a : Asset) (r : AssetRow) → row_of rows a ≡ Some r
         → (i : ℕ) × (slice_get rows i ≡ Some r) × IsRowOf a r }

@@ -4,19 +4,19 @@ use Rattle.std.specs.Prelude.{nat_lt}
 use Rattle.std.proofs.lemmas.Bool.{eqb-true, eqb-false}
 use Rattle.std.proofs.lemmas.Bool.Decides.{nat_tests}
 use Rattle.std.proofs.lemmas.List.{append-nil}
-use Rattle.scale_codec.specs.Laws.Steps.{same_some}
-use Rattle.message_parts.specs.declared.version.Version.{Version}
-use Rattle.message_parts.specs.declared.version.Version.TheVariants.{V3, V4}
+use Rattle.operands.specs.declared.version.Version.{Version}
+use Rattle.operands.specs.declared.version.Version.TheVariants.{V3, V4}
 use Rattle.xcm_program.specs.declared.instruction.Instruction.{Instruction}
 use Rattle.xcm_format.specs.Programs.{program_spelling}
 use Rattle.xcm_format.specs.Messages.{version_byte, message, IsReadable, IsMessageIn, IsMessage}
 use Rattle.xcm_program.specs.Conversions.{is_convertible}
-use Rattle.program_wire.specs.Reading.{readable_at}
-use Rattle.program_wire.specs.Laws.ProgramLaws.{program_reads}
+use Rattle.versioned_xcm.specs.Programs.{readable_at}
+use Rattle.versioned_xcm.proofs.Lemmas.ProgramLaws.ProgramLaws.{program_reads}
 use Rattle.versioned_xcm.specs.declared.faults.MessageFault.{MessageFault}
 use Rattle.versioned_xcm.specs.declared.faults.MessageFault.TheVariants.{TooLong, UnknownVersion, NotConvertible, Memory}
 use Rattle.versioned_xcm.specs.Message.{IsDecoded, IsKnown, HasUnknownVersion, IsCause}
-use Rattle.versioned_xcm.specs.Reading.{ended, program_in, versioned_at, message_of}
+use Rattle.versioned_xcm.specs.Reading.{program_at_end, program_in, versioned_at, message_of}
+use Rattle.plain_lists.proofs.Lemmas.Facts.{same_some}
 
 -- ---- the version of a message
 
@@ -68,7 +68,7 @@ convertible_told bytes program false e short m = (short, record { program = prog
 more_left : (byte : ℕ) (bytes : List ℕ) → byte ∷ bytes ≡ [] → ⊥
 more_left byte bytes e = absurd cc
 
-read_told : (v : Version) (rest : List ℕ) (read : Option (List Instruction × List ℕ)) → readable_at v rest ≡ read → length (version_byte v ∷ rest) ≤ 65536 → Told (version_byte v ∷ rest) (ended read)
+read_told : (v : Version) (rest : List ℕ) (read : Option (List Instruction × List ℕ)) → readable_at v rest ≡ read → length (version_byte v ∷ rest) ≤ 65536 → Told (version_byte v ∷ rest) (program_at_end read)
 read_told v rest None e short = (short, not_unknown v rest, not_read v rest None e (λ program h. absurd cc))
 read_told v rest (Some (program, [])) e short = convertible_told (version_byte v ∷ rest) program (is_convertible program) refl short (is_message v rest program short e)
 read_told v rest (Some (program, byte ∷ bytes)) e short = (short, not_unknown v rest, not_read v rest (Some (program, byte ∷ bytes)) e (λ other h. more_left byte bytes (ap (λ (x : List Instruction × List ℕ). x.1) (same_some (program, byte ∷ bytes) (other, []) h))))

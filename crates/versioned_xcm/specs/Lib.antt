@@ -1,3 +1,3 @@
+pub mod Programs
 pub mod Message
 pub mod Reading
-pub mod Laws

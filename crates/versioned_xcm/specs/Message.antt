@@ -1,7 +1,7 @@
 -- What decoding and encoding answer. Source: the XCM format (versioned programs). The limits, and the order of the causes, are this
 -- project's own rule.
 use Rattle.std.specs.Prelude.{◌≡◌, ◌<◌, ◌≤◌, ◌⊎◌, ℕ, true, false, List, [], ◌∷◌, length, codes, ⊤}
-use Rattle.message_parts.specs.declared.version.Version.{Version}
+use Rattle.operands.specs.declared.version.Version.{Version}
 use Rattle.xcm_program.specs.declared.instruction.Instruction.{Instruction, ClearOrigin}
 use Rattle.xcm_program.specs.Measure.{deep_count, depth}
 use Rattle.xcm_format.specs.Messages.{message, IsMessage}

@@ -1,22 +1,22 @@
 -- Decoding from left to right. That it accepts just the messages, each refusal with its cause, is the law of messages.
 use Rattle.std.specs.Prelude.{ℕ, ◌==◌, nat_lt, List, [], ◌∷◌, length, Option, Some, None, Result, Ok, Err, if◌then◌else◌}
-use Rattle.message_parts.specs.declared.version.Version.{Version}
-use Rattle.message_parts.specs.declared.version.Version.TheVariants.{V3, V4}
+use Rattle.operands.specs.declared.version.Version.{Version}
+use Rattle.operands.specs.declared.version.Version.TheVariants.{V3, V4}
 use Rattle.xcm_program.specs.declared.instruction.Instruction.{Instruction}
 use Rattle.xcm_program.specs.Conversions.{is_convertible}
-use Rattle.program_wire.specs.Reading.{readable_at}
+use Rattle.versioned_xcm.specs.Programs.{readable_at}
 use Rattle.versioned_xcm.specs.declared.faults.MessageFault.{MessageFault}
 use Rattle.versioned_xcm.specs.declared.faults.MessageFault.TheVariants.{TooLong, UnknownVersion, NotAMessage, NotConvertible}
 
 -- nothing stands behind, and both versions can say it
-abbrev pub ended : Option (List Instruction × List ℕ) → Result (List Instruction) MessageFault
-ended None = Err NotAMessage
-ended (Some (program, [])) = if is_convertible program then Ok program else Err NotConvertible
-ended (Some (program, byte ∷ bytes)) = Err NotAMessage
+abbrev pub program_at_end : Option (List Instruction × List ℕ) → Result (List Instruction) MessageFault
+program_at_end None = Err NotAMessage
+program_at_end (Some (program, [])) = if is_convertible program then Ok program else Err NotConvertible
+program_at_end (Some (program, byte ∷ bytes)) = Err NotAMessage
 
 -- a program, to the end of the bytes
 abbrev pub program_in : Version → List ℕ → Result (List Instruction) MessageFault
-program_in v bytes = ended (readable_at v bytes)
+program_in v bytes = program_at_end (readable_at v bytes)
 
 -- the version
 abbrev pub versioned_at : List ℕ → Result (List Instruction) MessageFault

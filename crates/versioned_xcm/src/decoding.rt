@@ -1,12 +1,12 @@
 //! From bytes to programs.
 
 ghost use Rattle.std.specs.Prelude.{◌≡◌, ◌⊎◌, Err, MatchResult};
-ghost use Rattle.message_parts.specs.declared.version.Version.{Version};
+ghost use Rattle.operands.specs.declared.version.Version.{Version};
 ghost use Rattle.versioned_xcm.specs.Reading.{program_in, message_of};
 ghost use Rattle.versioned_xcm.specs.Message.{IsDecoded, IsCause};
 
 use crate::faults::MessageFault;
-use program_wire::{WireFault, read_program};
+use crate::{WireFault, read_program};
 use scale_codec::Cursor;
 use std::alloc::Global;
 use xcm_format::Version;

@@ -11,7 +11,8 @@ ghost use Rattle.versioned_xcm.specs.declared.faults.EncodeFault.TheVariants.{Ex
 
 use crate::decoding::MAX_BYTES;
 use crate::faults::EncodeFault;
-use program_wire::{MAX_DEPTH, MAX_INSTRUCTIONS, put_instruction, put_program};
+use crate::writing::{put_instruction, put_program};
+use crate::{MAX_DEPTH, MAX_INSTRUCTIONS};
 use scale_codec::{Draft, Out};
 use std::alloc::{AllocError, Global};
 use xcm_format::Version;

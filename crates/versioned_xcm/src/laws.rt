@@ -1,7 +1,7 @@
 //! What decoding and encoding say of one another.
 
 ghost use Rattle.std.specs.Prelude.{◌≡◌, true, ℕ, List, Ok, MatchResult};
-ghost use Rattle.message_parts.specs.declared.version.Version.{Version};
+ghost use Rattle.operands.specs.declared.version.Version.{Version};
 ghost use Rattle.xcm_program.specs.declared.instruction.Instruction.{Instruction};
 ghost use Rattle.xcm_format.specs.Messages.{IsMessageIn, IsMessage};
 ghost use Rattle.xcm_program.specs.Conversions.{is_convertible_one, is_convertible};

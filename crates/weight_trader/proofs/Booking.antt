@@ -4,22 +4,24 @@ use Rattle.std.specs.Prelude.{min}
 use Rattle.std.specs.Ordering.{eq_by_cmp, is_eq, ordering_then}
 use Rattle.std.specs.declared.cmp.Ordering.{Ordering}
 use Rattle.std.specs.declared.cmp.Ordering.TheVariants.{Less, Equal, Greater}
-use Rattle.message_parts.specs.declared.weight.Weight.{Weight}
-use Rattle.amounts.specs.Rows.{amount_if, amount_if-zero}
-use Rattle.amounts.specs.Amounts.{amount, single, amount-empty}
-use Rattle.amounts.specs.Laws.{amount-single}
+use Rattle.operands.specs.declared.weight.Weight.{Weight}
+use Rattle.amounts.specs.Rows.{amount_if}
+use Rattle.amounts.proofs.Lemmas.Rows.{amount_if-zero}
+use Rattle.amounts.specs.Amounts.{amount, single}
+use Rattle.amounts.proofs.Lemmas.AmountLaws.{amount-empty}
+use Rattle.amounts.proofs.Lemmas.{amount-single}
 use Rattle.locations.specs.declared.relative.Location.{Location}
 use Rattle.asset_lists.specs.declared.units.AssetId.TheVariants.{Concrete}
 use Rattle.asset_lists.specs.declared.units.Kind.{Kind}
 use Rattle.asset_lists.specs.Units.{Unit, unit_cmp, asset_id_cmp}
 use Rattle.asset_bundles.specs.declared.book.Cause.{Cause}
-use Rattle.asset_bundles.specs.Bundles.{unit_keys}
+use Rattle.asset_bundles.proofs.Lemmas.Bundles.{unit_keys}
 use Rattle.asset_bundles.specs.Books.{Book, most_burned, Booked, Burn, burn_cmp, cause_index}
 use Rattle.asset_lists.specs.Listed.{Listed, listed_cmp, listed_of}
-use Rattle.asset_bundles.specs.Laws.{burn_keys, amount-Booked}
+use Rattle.asset_bundles.proofs.Lemmas.{burn_keys, amount-Booked}
 use Rattle.weight_trader.specs.declared.rate.Rate.{Rate}
 use Rattle.weight_trader.specs.Purchases.{Line, coin_of, AreRatesListed, paying, excess, some_amount, excess_at, Bought, with_saturated}
-use Rattle.weight_trader.specs.ListedLaws.{bought_listed, saturated_rows, refunded_listed, closed_listed}
+use Rattle.weight_trader.proofs.Lemmas.ListedLaws.{bought_listed, saturated_rows, refunded_listed, closed_listed}
 use Rattle.weight_trader.specs.Laws.{Move, Purchase, Refund, Closing, lines_after, unspent_by, saturated_by, saturated_of, book_by, book_after, book_with, booked_of, ExcessIsBooked, ExcessIsTold, OthersAreKept, PaymentsAreBooked, RowsAreKept, PurchasesAreMoves, RefusalsAreMoves}
 use Rattle.weight_trader.proofs.Charging.{paying_none, bought_none}
 use Rattle.weight_trader.proofs.Trading.{payments_kept}

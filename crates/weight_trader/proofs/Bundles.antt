@@ -5,15 +5,17 @@ use Rattle.std.specs.List.{count_by}
 use Rattle.std.specs.Ordering.{eq_by_cmp}
 use Rattle.std.specs.Cmp.{eq_by_cmp_equiv}
 use Rattle.std.proofs.lemmas.List.{drop_all}
-use Rattle.amounts.specs.Rows.{amount_if, amount_if-zero, sum_where}
+use Rattle.amounts.specs.Rows.{amount_if, sum_where}
+use Rattle.amounts.proofs.Lemmas.Rows.{amount_if-zero}
 use Rattle.amounts.specs.Amounts.{amount, single, minus}
-use Rattle.amounts.specs.Laws.{amount-minus, amount-single, amount-from_rows}
+use Rattle.amounts.proofs.Lemmas.{amount-minus, amount-single, amount-from_rows}
 use Rattle.locations.specs.declared.relative.Location.{Location}
 use Rattle.asset_lists.specs.declared.units.AssetId.TheVariants.{Concrete}
 use Rattle.asset_lists.specs.declared.units.Asset.{Asset}
 use Rattle.asset_lists.specs.Units.{Unit, unit_of, amount_of, unit_cmp}
-use Rattle.asset_bundles.specs.Bundles.{Bundle, unit_keys, rows_of, bundle_of}
-use Rattle.asset_bundles.specs.BundleLaws.{same_bundles, amount-bundle_of}
+use Rattle.asset_bundles.specs.Bundles.{Bundle, rows_of, bundle_of}
+use Rattle.asset_bundles.proofs.Lemmas.Bundles.{unit_keys}
+use Rattle.asset_bundles.proofs.Lemmas.BundleLaws.{same_bundles, amount-bundle_of}
 use Rattle.weight_trader.specs.Purchases.{Line, coin_of, is_in, AreApart, paid_goods}
 use Rattle.weight_trader.specs.Closing.{coins, is_paid, paid_assets}
 use Rattle.weight_trader.proofs.Apart.{count-cons, coin_tie}

@@ -3,17 +3,15 @@ use Rattle.std.proofs.Common.{◌≡◌, ℕ, zero, suc, ◌<◌, ◌≤◌, tru
 use Rattle.std.specs.Prelude.{nat_le}
 use Rattle.std.specs.Option.{option_map}
 use Rattle.std.specs.List.{position, find, AllByRecursion}
-use Rattle.message_parts.specs.declared.weight.Weight.{Weight}
+use Rattle.operands.specs.declared.weight.Weight.{Weight}
 use Rattle.amounts.specs.Amounts.{amount}
 use Rattle.asset_bundles.specs.Bundles.{Bundle}
 use Rattle.locations.specs.declared.relative.Location.{Location}
 use Rattle.weight_trader.specs.Prices.{price}
 use Rattle.weight_trader.specs.Purchases.{Line, coin_of, is_covered, paying, IsTooExpensive, with_purchase, some_amount, Bought}
 use Rattle.weight_trader.specs.Refunds.{refund_at, is_refunded, refund_of, without_refund, Refunded}
-use Rattle.plain_lists.specs.Firsts.{find_none, change_none, passes_none, found_at, passes_at, changed_at, found_nowhere, changed_nowhere}
-
-pub within : (a b : ℕ) → nat_le a b ≡ true → a ≤ b
-within a b h = grind (arith, h)
+use Rattle.plain_lists.proofs.Lemmas.Firsts.{find_none, change_none, passes_none, found_at, passes_at, changed_at, found_nowhere, changed_nowhere}
+use Rattle.plain_lists.proofs.Lemmas.Facts.{told_at_most as within}
 
 pub beyond : (a b : ℕ) → nat_le a b ≡ false → b < a
 beyond a b h = grind (arith, h)

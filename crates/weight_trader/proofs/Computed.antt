@@ -1,11 +1,12 @@
 -- When a program has a weight, from its sums.
 use Rattle.std.proofs.Common.{◌≡◌, ℕ, ◌<◌, ◌≤◌, ◌^◌, Bool, true, false, ◌&&◌, List, Some, None, refl, sym, ap, ◌∙◌, arith}
 use Rattle.std.specs.Prelude.{nat_le, nat_lt, if◌then◌else◌}
-use Rattle.message_parts.specs.declared.weight.Weight.{Weight}
+use Rattle.operands.specs.declared.weight.Weight.{Weight}
 use Rattle.xcm_program.specs.declared.rule.WeightRule.{WeightRule}
 use Rattle.xcm_program.specs.declared.instruction.Instruction.{Instruction}
 use Rattle.xcm_program.specs.Weights.{kept_count, ref_time_of, proof_size_of, weight_of}
 use Rattle.weight_trader.specs.Sums.{IsSum}
+use Rattle.plain_lists.proofs.Lemmas.Facts.{at_most_told as at_most, below_told as below}
 
 if_three : (a b c : Bool) (w : Weight) → a ≡ true → b ≡ true → c ≡ true → (if a && b && c then Some w else None) ≡ Some w
 if_three true true true w x y z = refl
@@ -28,14 +29,8 @@ if_not_third true true false w x = refl
 if_not_third true false c w x = refl
 if_not_third false b c w x = refl
 
-at_most : (a b : ℕ) → a ≤ b → nat_le a b ≡ true
-at_most a b h = grind (arith, h)
-
 not_at_most : (a b : ℕ) → b < a → nat_le a b ≡ false
 not_at_most a b h = grind (arith, h)
-
-below : (a b : ℕ) → a < b → nat_lt a b ≡ true
-below a b h = grind (arith, h)
 
 not_below : (a b : ℕ) → (a < b → ⊥) → nat_lt a b ≡ false
 not_below a b h = grind (arith, h)

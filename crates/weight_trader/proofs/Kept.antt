@@ -1,11 +1,11 @@
 -- Weights by one layer of an instruction, with the handler or appendix in it.
 use Rattle.std.proofs.Common.{◌≡◌, ℕ, ◌+◌, ◌*◌, ◌^◌, ◌<◌, ◌≤◌, List, length, get_or, drop, Option, Some, None, refl, ap, subst, arith}
-use Rattle.message_parts.specs.declared.weight.Weight.{Weight}
+use Rattle.operands.specs.declared.weight.Weight.{Weight}
 use Rattle.xcm_program.specs.declared.instruction.Instruction.{Instruction, out-Instruction}
 use Rattle.xcm_program.specs.Measure.{deep_count_one, deep_count}
 use Rattle.xcm_program.specs.Weights.{kept, required, kept_one, kept_count, weight_one, weight_in}
 use Rattle.weight_trader.specs.Sums.{IsSum}
-use Rattle.xcm_program.specs.Laws.{total_inside, total-drop, deep_count_inside, kept_one-is, weight_one-is, deep_count_one-kept}
+use Rattle.xcm_program.proofs.Lemmas.{total_inside, total-drop, deep_count_inside, kept_one-is, weight_one-is, deep_count_one-kept}
 
 pub kept-at : (p : List Instruction) (k : ℕ) (i : Instruction) (nested : Option (List Instruction)) → k < length p → i ≡ get_or p k i → nested ≡ kept (out-Instruction i)
     → kept_count (drop k p) ≡ 1 + total_inside kept_one nested + kept_count (drop (k + 1) p)

@@ -1,3 +1,4 @@
+pub mod Lemmas
 pub mod Kept
 pub mod Computed
 pub mod Apart

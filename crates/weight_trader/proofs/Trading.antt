@@ -4,22 +4,25 @@ use Rattle.std.specs.Prelude.{if◌then◌else◌, nat_eq, min}
 use Rattle.std.specs.List.{find}
 use Rattle.std.specs.Option.{option_map}
 use Rattle.std.specs.Ordering.{eq_by_cmp}
-use Rattle.message_parts.specs.declared.weight.Weight.{Weight}
-use Rattle.amounts.specs.Rows.{amount_if, amount_if-zero, sum_where}
-use Rattle.amounts.specs.Amounts.{amount, single, minus, merge, amount-empty}
-use Rattle.amounts.specs.Laws.{key_same, amount-minus, amount-merge, amount-single, amount-from_rows}
+use Rattle.operands.specs.declared.weight.Weight.{Weight}
+use Rattle.amounts.specs.Rows.{amount_if, sum_where}
+use Rattle.amounts.proofs.Lemmas.Rows.{amount_if-zero}
+use Rattle.amounts.specs.Amounts.{amount, single, minus, merge}
+use Rattle.amounts.proofs.Lemmas.AmountLaws.{amount-empty}
+use Rattle.amounts.proofs.Lemmas.{key_same, amount-minus, amount-merge, amount-single, amount-from_rows}
 use Rattle.asset_lists.specs.Units.{Unit, unit_cmp}
-use Rattle.asset_bundles.specs.Bundles.{Bundle, unit_keys}
-use Rattle.asset_bundles.specs.BundleLaws.{same_bundles}
+use Rattle.asset_bundles.specs.Bundles.{Bundle}
+use Rattle.asset_bundles.proofs.Lemmas.Bundles.{unit_keys}
+use Rattle.asset_bundles.proofs.Lemmas.BundleLaws.{same_bundles}
 use Rattle.weight_trader.specs.declared.rate.Rate.{Rate}
 use Rattle.weight_trader.specs.Prices.{price}
 use Rattle.plain_lists.specs.Firsts.{change_first}
 use Rattle.weight_trader.specs.Purchases.{Line, new_lines, coin_of, is_covered, AreWithinEnd, paying, excess, weight_plus, with_purchase, Bought, paid_goods}
 use Rattle.weight_trader.specs.Refunds.{refund_at, is_refunded, goods_of, without_refund, Refunded, Closed}
-use Rattle.weight_trader.specs.ListedLaws.{changed_all, rate_kept}
-use Rattle.weight_trader.specs.Laws.{Move, Purchase, Refund, Closing, lines_after, payment_of, unspent_by, unspent_of, saturated_by, saturated_of, paid_by, paid_of, given_of, lines_after_all, summed, EndsAreKept, MovesAreKept, PaymentsAreKept, RefundsArePaid, RefundsAreCovered}
+use Rattle.weight_trader.proofs.Lemmas.ListedLaws.{changed_all, rate_kept}
+use Rattle.weight_trader.specs.Laws.{Move, Purchase, Refund, Closing, lines_after, payment_of_move, unspent_by, unspent_of, saturated_by, saturated_of, paid_by, paid_of, given_of, lines_after_all, summed, EndsAreKept, MovesAreKept, PaymentsAreKept, RefundsArePaid, RefundsAreCovered}
 use Rattle.weight_trader.proofs.Changes.{found_passes}
-use Rattle.weight_trader.proofs.Charging.{within}
+use Rattle.plain_lists.proofs.Lemmas.Facts.{told_at_most as within}
 
 -- so much of a line's paid amount as is of the unit
 abbrev part : Unit → Line → ℕ → ℕ
@@ -108,7 +111,7 @@ purchase_kept w payment lines u (Some l) all e =
     let most = h.1 in
     split_payment payment (coin_of l.rate) u (price l.rate w) (excess w l) (within _ _ h.0) (omega (arith, most))
 
-move_kept : (m : Move) (lines : List Line) (u : Unit) → AreWithinEnd lines → amount (payment_of m lines) u ≡ amount (unspent_of m lines) u + amount (paid_of m lines) u + amount (saturated_of m lines) u
+move_kept : (m : Move) (lines : List Line) (u : Unit) → AreWithinEnd lines → amount (payment_of_move m lines) u ≡ amount (unspent_of m lines) u + amount (paid_of m lines) u + amount (saturated_of m lines) u
 move_kept (Purchase w payment) lines u all = purchase_kept w payment lines u (paying w payment lines) all refl
 move_kept (Refund w) lines u all = let none = amount-empty unit_keys u in omega (arith, none)
 move_kept Closing lines u all = let none = amount-empty unit_keys u in omega (arith, none)

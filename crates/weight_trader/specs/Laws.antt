@@ -3,7 +3,7 @@ use Rattle.std.specs.Prelude.{◌≡◌, ℕ, ◌+◌, ◌-◌, ◌<◌, ◌≤�
 use Rattle.locations.specs.declared.relative.Location.{Location}
 use Rattle.asset_lists.specs.declared.units.AssetId.{AssetId}
 use Rattle.asset_lists.specs.declared.units.Kind.{Kind}
-use Rattle.message_parts.specs.declared.weight.Weight.{Weight}
+use Rattle.operands.specs.declared.weight.Weight.{Weight}
 use Rattle.amounts.specs.Amounts.{amount, empty, single, merge}
 use Rattle.asset_lists.specs.Units.{Unit}
 use Rattle.asset_bundles.specs.declared.book.Cause.{Cause}
@@ -38,10 +38,10 @@ book_after (Refund w) lines book = book
 book_after Closing lines book = book
 
 -- what it takes in
-abbrev pub payment_of : Move → List Line → Bundle
-payment_of (Purchase w payment) lines = payment
-payment_of (Refund w) lines = empty
-payment_of Closing lines = empty
+abbrev pub payment_of_move : Move → List Line → Bundle
+payment_of_move (Purchase w payment) lines = payment
+payment_of_move (Refund w) lines = empty
+payment_of_move Closing lines = empty
 
 abbrev pub unspent_by : Weight → Bundle → Option Line → Bundle
 unspent_by w payment None = payment
@@ -108,7 +108,7 @@ NewLinesAreWithinEnd = (rates : List Rate) → AreWithinEnd (new_lines rates)
 -- what comes in as payment is what is handed back unspent, what is paid and what is booked as saturated
 abbrev pub PaymentsAreKept : Type 0
 PaymentsAreKept = (moves : List Move) (lines : List Line) (unit : Unit) → AreWithinEnd lines
-    → summed payment_of unit moves lines ≡ summed unspent_of unit moves lines + summed paid_of unit moves lines + summed saturated_of unit moves lines
+    → summed payment_of_move unit moves lines ≡ summed unspent_of unit moves lines + summed paid_of unit moves lines + summed saturated_of unit moves lines
 
 -- a refund is taken from what is paid
 abbrev pub RefundsArePaid : Type 0
@@ -141,14 +141,14 @@ ExcessIsTold = (w : Weight) (payment : Bundle) (lines : List Line) (book : Book)
 -- below its end
 abbrev pub PaymentsAreBooked : Type 0
 PaymentsAreBooked = (moves : List Move) (lines : List Line) (book : Book) (unit : Unit) → AreWithinEnd lines → booked_of unit (book_after_all moves lines book) < most_burned
-    → summed payment_of unit moves lines + booked_of unit book
+    → summed payment_of_move unit moves lines + booked_of unit book
     ≡ summed unspent_of unit moves lines + summed paid_of unit moves lines + booked_of unit (book_after_all moves lines book)
 
 -- what one move takes in is what it hands back unspent, what it adds to what is paid and what it books; what it gives and what is paid
 -- after it is what was paid before it and what it adds: equations of bundles, so of each sum of their amounts
 abbrev pub MovesAreKept : Type 0
 MovesAreKept = (m : Move) (lines : List Line) → AreWithinEnd lines
-    → (payment_of m lines ≡ merge (unspent_of m lines) (merge (paid_of m lines) (saturated_of m lines)))
+    → (payment_of_move m lines ≡ merge (unspent_of m lines) (merge (paid_of m lines) (saturated_of m lines)))
     × (merge (given_of m lines) (paid_goods (lines_after m lines)) ≡ merge (paid_goods lines) (paid_of m lines))
 
 -- the assets of the rates are still listed after all moves

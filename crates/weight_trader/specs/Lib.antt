@@ -3,5 +3,4 @@ pub mod Sums
 pub mod Purchases
 pub mod Refunds
 pub mod Closing
-pub mod ListedLaws
 pub mod Laws

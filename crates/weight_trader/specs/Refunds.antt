@@ -4,7 +4,7 @@ use Rattle.std.specs.Prelude.{ℕ, ◌-◌, min, Bool, nat_lt, List, map, Option
 use Rattle.std.specs.List.{find}
 use Rattle.std.specs.Option.{option_map}
 use Rattle.locations.specs.declared.relative.Location.{Location}
-use Rattle.message_parts.specs.declared.weight.Weight.{Weight}
+use Rattle.operands.specs.declared.weight.Weight.{Weight}
 use Rattle.amounts.specs.Amounts.{empty, single}
 use Rattle.asset_lists.specs.declared.units.AssetId.{AssetId}
 use Rattle.asset_bundles.specs.Bundles.{Bundle}

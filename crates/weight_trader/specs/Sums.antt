@@ -1,6 +1,6 @@
 -- What is summed up of a program to weigh it, and bounds that tell that the sums fit. This project's own vocabulary.
 use Rattle.std.specs.Prelude.{◌≡◌, ℕ, ◌*◌, ◌^◌, ◌≤◌, List}
-use Rattle.message_parts.specs.declared.weight.Weight.{Weight}
+use Rattle.operands.specs.declared.weight.Weight.{Weight}
 use Rattle.xcm_program.specs.declared.instruction.Instruction.{Instruction}
 use Rattle.xcm_program.specs.declared.rule.WeightRule.{WeightRule}
 use Rattle.xcm_program.specs.Measure.{deep_count}

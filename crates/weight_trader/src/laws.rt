@@ -4,7 +4,7 @@ ghost use Rattle.weight_trader.specs.Laws.{PaymentsAreKept, RefundsArePaid, Refu
 /// Over any purchases, refunds and closings, payments are handed back, paid or booked, and what is given back or handed out is taken from
 /// what is paid. What would pass 2^128-1 of what is paid is what the book then has more as saturated, which `excess_of` tells before;
 /// nothing is booked for another cause, and the book's rows stay. Each call of `buy` is such a purchase, also where it is refused.
-pub fn law_of_trading()
+pub fn law_of_conserved_payments()
     ensures payments { PaymentsAreKept }
     ensures refunds { RefundsArePaid }
     ensures covered { RefundsAreCovered }

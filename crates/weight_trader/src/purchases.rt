@@ -10,7 +10,7 @@ use crate::rate::{Rate, price};
 use asset_bundles::AssetBundle;
 use asset_lists::{Asset, AssetId, Fun};
 use locations::Location;
-use message_parts::Weight;
+use operands::Weight;
 use std::marker::Model;
 
 /// What is bought at one rate, and what is paid for it.
@@ -29,12 +29,6 @@ impl Model for Purchases {
     ghost view = { λ p. record { rate = p.rate; bought = p.bought; paid = p.paid } };
 }
 
-/// No weight.
-const NO_WEIGHT: Weight = Weight {
-    ref_time: 0,
-    proof_size: 0,
-};
-
 impl Purchases {
     /// Nothing bought at this rate.
     pub(crate) fn new(rate: &Rate) -> Purchases
@@ -42,7 +36,7 @@ impl Purchases {
     {
         Purchases {
             rate: rate.copy(),
-            bought: NO_WEIGHT,
+            bought: Weight::ZERO,
             paid: 0,
         }
     }
@@ -168,7 +162,7 @@ impl Purchases {
     pub(crate) fn clear(&mut self)
         ensures { self.new ≡ new_line self.old.rate }
     {
-        self.bought = NO_WEIGHT;
+        self.bought = Weight::ZERO;
         self.paid = 0;
     }
 }

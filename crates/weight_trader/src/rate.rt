@@ -3,7 +3,7 @@ ghost use Rattle.std.specs.Prelude.{◌≡◌};
 ghost use Rattle.weight_trader.specs.Prices.{price};
 
 use locations::Location;
-use message_parts::Weight;
+use operands::Weight;
 
 /// Picoseconds in a second.
 const SECOND: u128 = 1_000_000_000_000;

@@ -15,7 +15,7 @@ use crate::purchases::Purchases;
 use asset_bundles::{AssetBundle, BurnBook, Cause};
 use asset_lists::{Asset, AssetId, Kind};
 use locations::Location;
-use message_parts::Weight;
+use operands::Weight;
 use std::alloc::{AllocError, Global};
 use std::marker::Model;
 use thiserror::Error;

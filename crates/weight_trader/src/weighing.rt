@@ -4,7 +4,7 @@ ghost use Rattle.xcm_program.specs.Measure.{deep_count};
 ghost use Rattle.xcm_program.specs.Weights.{weight_of, ref_time_of, proof_size_of};
 ghost use Rattle.weight_trader.specs.Sums.{IsSum, weight_sum};
 
-use message_parts::Weight;
+use operands::Weight;
 use thiserror::Error;
 use xcm_program::{Instruction, Program, WeightRule, kept, required};
 

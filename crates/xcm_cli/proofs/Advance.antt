@@ -7,17 +7,17 @@ use Rattle.std.specs.Prelude.{Vec, nat_le, ◌||◌, String, string_bytes}
 use Rattle.xcm_io.specs.Bytes.{IsProperFront}
 use Rattle.input_lines.specs.Lines.{text_of, network_part, later_lines, lines_through, bytes_through, ends_network, has_mark}
 use Rattle.input_lines.specs.Step.{read_line}
-use Rattle.document_forms.specs.declared.fault.NetworkFault.{NetworkFault}
+use Rattle.document_entries.specs.declared.fault.NetworkFault.{NetworkFault}
 use Rattle.network_spec.specs.declared.network.NetworkSpec.{NetworkSpec}
 use Rattle.network_config.specs.Network.{network_of}
 use Rattle.network_steps.specs.Worlds.{World}
-use Rattle.network_steps.specs.Steps.{Step, after}
-use Rattle.network_genesis.specs.Genesis.{order_of, first_world}
+use Rattle.network_steps.specs.Steps.{Step, next_world}
+use Rattle.network_steps.specs.Genesis.{order_of, first_world}
 use Rattle.chain_net.specs.declared.net.Net.{Net}
 use Rattle.chain_net.specs.Nets.{world_of, spec_of, is_stopped}
 use Rattle.step_text.specs.Lines.{network_refused_line, line_refused_line}
-use Rattle.report_blocks.specs.declared.served.Served.{Served}
-use Rattle.report_blocks.specs.declared.served.Served.TheVariants as served
+use Rattle.report_blocks.specs.declared.line_outcome.LineOutcome.{LineOutcome}
+use Rattle.report_blocks.specs.declared.line_outcome.LineOutcome.TheVariants as served
 use Rattle.report_blocks.specs.Serving.{IsServed}
 use Rattle.report_blocks.specs.Asked.{Asked, asked_of, Nothing, Asks, Unknown}
 use Rattle.report_blocks.specs.Blocks.{opening_text, step_block}
@@ -30,14 +30,16 @@ use Rattle.line_serving.specs.declared.status.Status.{Status}
 use Rattle.line_serving.specs.declared.status.Status.TheVariants.{Done, ReadFault, WriteFault, NetworkRefused, LineRefused, TooLong}
 use Rattle.line_serving.specs.Replies.{Reply, ends, then_on, fits_limits, max_input}
 use Rattle.line_serving.specs.Calls.{Writes, Advances, Finishes}
-use Rattle.line_serving.specs.Laws.{proper_on, proper_whole}
+use Rattle.line_serving.proofs.Lemmas.{proper_on, proper_whole}
 use Rattle.xcm_cli.specs.Report.{steps_reply, network_reply, part_reply, lines_reply, max_network}
-use Rattle.xcm_cli.specs.Session.{Opens, Begins, head_of, reply_at, runs_steps, session_rooms, IsReady}
+use Rattle.xcm_cli.specs.Session.{Opens, IsFreshNetwork, head_of, reply_at, runs_steps, session_rooms, IsReadySession}
 use Rattle.std.specs.List.{concat}
 use Rattle.line_serving.specs.Replies.{Replies, Rooms, max_line}
 use Rattle.line_serving.specs.Serving.{Serves}
-use Rattle.xcm_cli.specs.Report.{IsWithin, lines_room}
-use Rattle.xcm_cli.specs.Laws.{at_steps, at_network, no_steps, part_size}
+use Rattle.xcm_cli.specs.Report.{IsWithinInputLimits, lines_room}
+use Rattle.xcm_cli.specs.Laws.{at_steps, at_network, no_steps}
+use Rattle.xcm_cli.proofs.Lemmas.{part_size}
+use Rattle.plain_lists.proofs.Lemmas.Facts.{or_associative as or_assoc}
 
 -- ---- a line after the network
 
@@ -53,7 +55,7 @@ nothing_here audit spec w done before taken line lines within asked = rw (within
 
 pub block_here : (audit : Bool) (spec : NetworkSpec) (w : World) (done before taken : ℕ) (step : Step) (line : List ℕ) (lines : List (List ℕ)) → fits_limits taken line ≡ true → asked_of (read_line (text_of line)) ≡ Asks step
     → steps_reply audit spec w done before taken (line ∷ lines)
-    ≡ then_on (step_block audit spec w (done + 1) step) (steps_reply audit spec (after (order_of spec) w step) (done + 1) (before + 1) (taken + length line) lines)
+    ≡ then_on (step_block audit spec w (done + 1) step) (steps_reply audit spec (next_world (order_of spec) w step) (done + 1) (before + 1) (taken + length line) lines)
 unfolding steps_reply
 block_here audit spec w done before taken step line lines within asked = rw (within, asked, steps_reply) refl
 
@@ -64,11 +66,11 @@ no_step audit spec now w next done before taken line lines within asked n s =
     nothing_here audit spec w done before taken line lines within asked ∙ same_rest audit spec now w next done (before + 1) (taken + length line) lines n s
 
 pub block_step : (audit : Bool) (spec now : NetworkSpec) (w next : World) (done before taken : ℕ) (step : Step) (line text : List ℕ) (lines : List (List ℕ)) → fits_limits taken line ≡ true
-    → asked_of (read_line (text_of line)) ≡ Asks step → text ≡ step_block audit spec w (done + 1) step → next ≡ after (order_of spec) w step → now ≡ spec
+    → asked_of (read_line (text_of line)) ≡ Asks step → text ≡ step_block audit spec w (done + 1) step → next ≡ next_world (order_of spec) w step → now ≡ spec
     → steps_reply audit spec w done before taken (line ∷ lines) ≡ then_on text (steps_reply audit now next (done + 1) (before + 1) (taken + length line) lines)
 block_step audit spec now w next done before taken step line text lines within asked t n s =
     block_here audit spec w done before taken step line lines within asked
-    ∙ (λ i. then_on (sym t i) (same_rest audit spec now (after (order_of spec) w step) next (done + 1) (before + 1) (taken + length line) lines n s i))
+    ∙ (λ i. then_on (sym t i) (same_rest audit spec now (next_world (order_of spec) w step) next (done + 1) (before + 1) (taken + length line) lines n s i))
 
 pub refused_step : (audit : Bool) (spec : NetworkSpec) (w : World) (done before taken : ℕ) (line text : List ℕ) (lines : List (List ℕ)) → fits_limits taken line ≡ true → asked_of (read_line (text_of line)) ≡ Unknown
     → text ≡ line_refused_line (before + 1) → steps_reply audit spec w done before taken (line ∷ lines) ≡ ends text LineRefused
@@ -82,19 +84,19 @@ long_step audit spec w done before taken line lines past = rw (past, steps_reply
 
 -- ---- what came of a line
 
-pub served_nothing : (audit : Bool) (spec : NetworkSpec) (w : World) (number : ℕ) (asked : Asked) (came : Served) (now : World) → came ≡ served.Nothing → IsServed audit spec w number asked came now → (asked ≡ Nothing) × (now ≡ w)
+pub served_nothing : (audit : Bool) (spec : NetworkSpec) (w : World) (number : ℕ) (asked : Asked) (came : LineOutcome) (now : World) → came ≡ served.Nothing → IsServed audit spec w number asked came now → (asked ≡ Nothing) × (now ≡ w)
 served_nothing audit spec w number asked came now e s = rw e at s
 
-pub served_unknown : (audit : Bool) (spec : NetworkSpec) (w : World) (number : ℕ) (asked : Asked) (came : Served) (now : World) → came ≡ served.Unknown → IsServed audit spec w number asked came now → (asked ≡ Unknown) × (now ≡ w)
+pub served_unknown : (audit : Bool) (spec : NetworkSpec) (w : World) (number : ℕ) (asked : Asked) (came : LineOutcome) (now : World) → came ≡ served.Unknown → IsServed audit spec w number asked came now → (asked ≡ Unknown) × (now ≡ w)
 served_unknown audit spec w number asked came now e s = rw e at s
 
-pub served_block : (audit : Bool) (spec : NetworkSpec) (w : World) (number : ℕ) (asked : Asked) (came : Served) (text : String Global) (now : World) → came ≡ served.Block text → IsServed audit spec w number asked came now
-    → (step : Step) × (asked ≡ Asks step) × (string_bytes text ≡ step_block audit spec w number step) × (now ≡ after (order_of spec) w step)
+pub served_block : (audit : Bool) (spec : NetworkSpec) (w : World) (number : ℕ) (asked : Asked) (came : LineOutcome) (text : String Global) (now : World) → came ≡ served.Block text → IsServed audit spec w number asked came now
+    → (step : Step) × (asked ≡ Asks step) × (string_bytes text ≡ step_block audit spec w number step) × (now ≡ next_world (order_of spec) w step)
 served_block audit spec w number asked came text now e s = rw e at s
 
 -- ---- the network
 
-network_runs : (audit : Bool) (part : List ℕ) (net : Net) (text : List ℕ) (before taken : ℕ) (lines : List (List ℕ)) → Begins part net → text ≡ opening_text (spec_of net)
+network_runs : (audit : Bool) (part : List ℕ) (net : Net) (text : List ℕ) (before taken : ℕ) (lines : List (List ℕ)) → IsFreshNetwork part net → text ≡ opening_text (spec_of net)
     → network_reply audit (network_of part) before taken lines ≡ then_on text (steps_reply audit (spec_of net) (world_of net) 0 before taken lines)
 network_runs audit part net text before taken lines b t = rw (b.read, b.first, t) refl
 
@@ -176,7 +178,7 @@ module _ {E : Type 0} (audit : Bool) (part : List ℕ) (old new : Option (List �
 -- ---- reading the network part
 
 -- the opening was written whole
-pub opens_run : {E : Type 0} (part text : List ℕ) (net : Net) (old new : Option (List ℕ)) (result : Option Status) → Writes text None old new result → result ≡ None → Begins part net → text ≡ opening_text (spec_of net)
+pub opens_run : {E : Type 0} (part text : List ℕ) (net : Net) (old new : Option (List ℕ)) (result : Option Status) → Writes text None old new result → result ≡ None → IsFreshNetwork part net → text ≡ opening_text (spec_of net)
     → Opens {E = E} part old new (Ok (Runs net))
 opens_run part text net old new result w n b t =
     let whole : w.part ≡ opening_text (spec_of net) = elim w.whole [ inl h ↦ h.1 ∙ t | inr h ↦ absurd cc ] in
@@ -294,9 +296,9 @@ finishes_steps s net done known e =
       no_read = λ r. cc;
     }
 
-pub finishes_some : {E : Type 0} (rest : Reply) (before after : List (List ℕ) → Reply) (old new : Option (List ℕ)) (answer : Status) (result : Result (Option Status) E)
-    → result ≡ Ok (Some answer) → rest ≡ before [] → result ≢ Ok (Some ReadFault) → result ≢ Ok (Some TooLong) → Advances before after (before []).text old new result → Finishes {E = E} rest old new (Ok answer)
-finishes_some rest before after old new answer result is e n m a = record {
+pub finishes_some : {E : Type 0} (rest : Reply) (before next_world : List (List ℕ) → Reply) (old new : Option (List ℕ)) (answer : Status) (result : Result (Option Status) E)
+    → result ≡ Ok (Some answer) → rest ≡ before [] → result ≢ Ok (Some ReadFault) → result ≢ Ok (Some TooLong) → Advances before next_world (before []).text old new result → Finishes {E = E} rest old new (Ok answer)
+finishes_some rest before next_world old new answer result is e n m a = record {
   text = a.text;
   appends = a.appends;
   front = ((a.front []).0, ap (λ o. o.text) e ∙ (a.front []).1);
@@ -320,9 +322,9 @@ finishes_none rest before audit spec w done lines taken due old new result is e 
       no_read = λ r. cc;
     }
 
-pub finishes_err : {E F : Type 0} (rest : Reply) (before after : List (List ℕ) → Reply) (due : List ℕ) (old new : Option (List ℕ)) (refused : F) (result : Result (Option Status) E)
-    → rest ≡ before [] → Advances before after due old new result → Finishes {E = F} rest old new (Err refused)
-finishes_err rest before after due old new refused result e a = record {
+pub finishes_err : {E F : Type 0} (rest : Reply) (before next_world : List (List ℕ) → Reply) (due : List ℕ) (old new : Option (List ℕ)) (refused : F) (result : Result (Option Status) E)
+    → rest ≡ before [] → Advances before next_world due old new result → Finishes {E = F} rest old new (Err refused)
+finishes_err rest before next_world due old new refused result e a = record {
   text = a.text;
   appends = a.appends;
   front = ((a.front []).0, ap (λ o. o.text) e ∙ (a.front []).1);
@@ -334,20 +336,16 @@ finishes_err rest before after due old new refused result e a = record {
 
 -- ---- what a ready session says of its part
 
-pub part_within : (s : Session) (part : Vec ℕ Global) → s.phase ≡ Network part → IsReady s → length part.items ≤ max_network
+pub part_within : (s : Session) (part : Vec ℕ Global) → s.phase ≡ Network part → IsReadySession s → length part.items ≤ max_network
 part_within s part e r = let h : (length part.items ≡ s.taken) × (s.taken ≤ max_network) = part_size s part e r in omega arith
 
-pub ready_steps : (s : Session) (part : Vec ℕ Global) (net : Net) (line : List ℕ) → s.phase ≡ Network part → IsReady s → is_stopped net ≡ false → 0 < length line → length line ≤ 5
-    → IsReady (record { audit = s.audit; phase = Steps net 0; lines = s.lines + 1; taken = s.taken + length line })
+pub ready_steps : (s : Session) (part : Vec ℕ Global) (net : Net) (line : List ℕ) → s.phase ≡ Network part → IsReadySession s → is_stopped net ≡ false → 0 < length line → length line ≤ 5
+    → IsReadySession (record { audit = s.audit; phase = Steps net 0; lines = s.lines + 1; taken = s.taken + length line })
 ready_steps s part net line e r running l m =
     let h : (length part.items ≡ s.taken) × (s.taken ≤ max_network) = part_size s part e r in
     record { steps = omega arith; lines = omega (arith, r.lines); part = (omega (arith, h.1), running) }
 
 -- ---- room for more of a line
-
-or_assoc : (a b c : Bool) → ((a || b) || c) ≡ (a || (b || c))
-or_assoc true b c = refl
-or_assoc false b c = refl
 
 -- a line that is taken leaves the same room behind it
 pub room_behind : (old new : Session) (line : List ℕ) (lines : List (List ℕ)) (begun : ℕ) → runs_steps new.phase ≡ (runs_steps old.phase || ends_network line) → new.taken ≡ old.taken + length line
@@ -356,15 +354,15 @@ room_behind old new line lines begun p t r =
     let size : new.taken + length (concat lines) + begun ≡ old.taken + length (line ++ concat lines) + begun = omega (arith, length-append line (concat lines)) in
     let mark : (runs_steps new.phase || has_mark lines) ≡ (runs_steps old.phase || (ends_network line || has_mark lines)) =
     ap (λ b. b || has_mark lines) p ∙ or_assoc (runs_steps old.phase) (ends_network line) (has_mark lines) in
-    subst (λ (b : Bool). IsWithin b (old.taken + length (line ++ concat lines) + begun) begun) mark
-    (subst (λ (n : ℕ). IsWithin (runs_steps new.phase || has_mark lines) n begun) size r)
+    subst (λ (b : Bool). IsWithinInputLimits b (old.taken + length (line ++ concat lines) + begun) begun) mark
+    (subst (λ (n : ℕ). IsWithinInputLimits (runs_steps new.phase || has_mark lines) n begun) size r)
 
 -- what has come of a line is within the limits so far
 pub room_steps : (s : Session) (net : Net) (done begun : ℕ) → s.phase ≡ Steps net done → begun ≤ max_line → s.taken + begun ≤ max_input → session_rooms s [] begun
-room_steps s net done begun e line total = let P : Phase → Type 0 = λ p. IsWithin (runs_steps p || false) (s.taken + 0 + begun) begun in subst P (sym e) (line, omega arith)
+room_steps s net done begun e line total = let P : Phase → Type 0 = λ p. IsWithinInputLimits (runs_steps p || false) (s.taken + 0 + begun) begun in subst P (sym e) (line, omega arith)
 
 pub room_network : (s : Session) (part : Vec ℕ Global) (begun : ℕ) → s.phase ≡ Network part → s.taken + begun ≤ max_network + 4 → session_rooms s [] begun
-room_network s part begun e size = let P : Phase → Type 0 = λ p. IsWithin (runs_steps p || false) (s.taken + 0 + begun) begun in subst P (sym e) (omega arith)
+room_network s part begun e size = let P : Phase → Type 0 = λ p. IsWithinInputLimits (runs_steps p || false) (s.taken + 0 + begun) begun in subst P (sym e) (omega arith)
 
 -- a run at its start has all of its report to write
 pub serves_first : {E : Type 0} (audit : Bool) (s : Session) (left rest old new : Option (List ℕ)) (result : Result Status E) → ((at_end : Bool) (lines : List (List ℕ)) → reply_at s at_end lines ≡ lines_reply audit at_end lines)
@@ -372,5 +370,5 @@ pub serves_first : {E : Type 0} (audit : Bool) (s : Session) (left rest old new 
 serves_first audit s left rest old new result start phase none served =
     let size : (lines : List (List ℕ)) (begun : ℕ) → s.taken + length (concat lines) + begun ≡ length (concat lines) + begun = λ lines begun. omega arith in
     let replies : reply_at s ≡ lines_reply audit = λ i at_end lines. start at_end lines i in
-    let rooms : session_rooms s ≡ lines_room = λ i lines begun. IsWithin (phase i || has_mark lines) (size lines begun i) begun in
+    let rooms : session_rooms s ≡ lines_room = λ i lines begun. IsWithinInputLimits (phase i || has_mark lines) (size lines begun i) begun in
     subst (λ (f : Rooms). Serves (lines_reply audit) f left rest old new result) rooms (subst (λ (f : Replies). Serves f (session_rooms s) left rest old new result) replies served)

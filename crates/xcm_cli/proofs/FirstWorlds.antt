@@ -2,8 +2,8 @@
 use Rattle.std.proofs.Common.{List, [], ◌∷◌, refl, map}
 use Rattle.network_spec.specs.declared.chain.ChainSpec.{ChainSpec}
 use Rattle.network_spec.specs.declared.network.NetworkSpec.{NetworkSpec}
-use Rattle.network_genesis.specs.Genesis.{member_of}
-use Rattle.lock_laws.specs.Floors.{NothingLocked}
+use Rattle.network_steps.specs.Genesis.{member_of}
+use Rattle.law_authority.specs.Floors.{NothingLocked}
 
 pub nothing_locked : (spec : NetworkSpec) (cs : List ChainSpec) → NothingLocked (map (member_of spec) cs)
 nothing_locked spec [] = tt

@@ -10,11 +10,12 @@ use Rattle.std.proofs.Common.{arith}
 use Rattle.line_serving.specs.Replies.{Reply, ends, IsFault}
 use Rattle.line_serving.specs.Calls.{Finishes}
 use Rattle.line_serving.specs.Serving.{Serves}
-use Rattle.line_serving.specs.Laws.{in_time_start}
+use Rattle.line_serving.proofs.Lemmas.{in_time_start}
 use Rattle.line_serving.specs.declared.status.Status.{Status}
 use Rattle.line_serving.specs.declared.status.Status.TheVariants.{Done}
 use Rattle.xcm_cli.specs.Report.{reply, task_reply, report, fate, lines_reply, lines_room}
 use Rattle.xcm_cli.specs.Serving.{ServesWords}
+use Rattle.plain_lists.proofs.Lemmas.Facts.{every_some, map_some}
 
 pub reply_of : (words : List (String Global)) (task : Task) (bytes : List ℕ) → task_of words ≡ task → reply words bytes ≡ task_reply task bytes
 unfolding reply
@@ -23,14 +24,6 @@ reply_of words task bytes r = ap (λ t. task_reply t bytes) r
 -- a reply tells the status and the bytes
 told_by : (status : Status) (text : List ℕ) (old new : Option (List ℕ)) (whole : Reply) → whole ≡ ends text status → Appends old new text → (status ≡ whole.status) × Appends old new whole.text
 told_by status text old new whole e a = rw e (refl, a)
-
-map_some : (o : Option (List ℕ)) (P Q : List ℕ → Type 0) → ((x : List ℕ) → P x → Q x) → IfSome o P → IfSome o Q
-map_some (Some x) P Q f p = f x p
-map_some None P Q f p = tt
-
-every_some : (o : Option (List ℕ)) (P : List ℕ → Type 0) → ((x : List ℕ) → P x) → IfSome o P
-every_some (Some x) P f = f x
-every_some None P f = tt
 
 -- ---- a run of an input
 

@@ -1,3 +1,4 @@
+pub mod Lemmas
 pub mod Advance
 pub mod Marks
 pub mod Headline

@@ -5,9 +5,9 @@ use Rattle.std.proofs.lemmas.Bool.Decides.{nat_tests}
 use Rattle.std.specs.Prelude.{nat_lt, nat_eq, Vec, codes}
 use Rattle.std.specs.List.{starts_with}
 use Rattle.std.proofs.lemmas.Slice.Eq.{bytes_eq-Decides}
-use Rattle.input_lines.specs.Lines.{lines_of, HasNoFeed, ends_network, text_of, without_last, ends_with}
+use Rattle.input_lines.specs.Lines.{lines_of, HasNoFeed, ends_network, text_of, without_last_byte, ends_with}
 use Rattle.line_serving.specs.Replies.{ends}
-use Rattle.line_serving.specs.Laws.{begins}
+use Rattle.line_serving.proofs.Lemmas.{begins}
 use Rattle.line_serving.specs.declared.status.Status.TheVariants.{TooLong}
 use Rattle.xcm_cli.specs.declared.phase.Session.{Session}
 use Rattle.xcm_cli.specs.declared.phase.Phase.TheVariants.{Network}
@@ -36,17 +36,17 @@ last_is c line true s e =
 last_is c line false s e = absurd cc
 
 -- the line `---`, with the carriage return and the line feed that it may have
-marks : (line : List ℕ) (fed returned : Bool) → ends_with 10 line ≡ fed → ends_with 13 (without_last line) ≡ returned
-    → cond {A = List ℕ} fed (cond {A = List ℕ} returned (without_last (without_last line)) (without_last line)) line ≡ codes "---"
+marks : (line : List ℕ) (fed returned : Bool) → ends_with 10 line ≡ fed → ends_with 13 (without_last_byte line) ≡ returned
+    → cond {A = List ℕ} fed (cond {A = List ℕ} returned (without_last_byte (without_last_byte line)) (without_last_byte line)) line ≡ codes "---"
     → (line ≡ codes "---") ⊎ ((line ≡ codes "---\n") ⊎ (line ≡ codes "---\r\n"))
 marks line true true f r e =
-    inr (inr (last_is 10 line (nat_lt 0 (length line)) refl f ∙ ap (λ xs. xs ++ 10 ∷ []) (last_is 13 (without_last line) (nat_lt 0 (length (without_last line))) refl r ∙ ap (λ xs. xs ++ 13 ∷ []) e)))
+    inr (inr (last_is 10 line (nat_lt 0 (length line)) refl f ∙ ap (λ xs. xs ++ 10 ∷ []) (last_is 13 (without_last_byte line) (nat_lt 0 (length (without_last_byte line))) refl r ∙ ap (λ xs. xs ++ 13 ∷ []) e)))
 marks line true false f r e = inr (inl (last_is 10 line (nat_lt 0 (length line)) refl f ∙ ap (λ xs. xs ++ 10 ∷ []) e))
 marks line false returned f r e = inl e
 
 mark_is : (line : List ℕ) → ends_network line ≡ true → (line ≡ codes "---") ⊎ ((line ≡ codes "---\n") ⊎ (line ≡ codes "---\r\n"))
 unfolding text_of
-mark_is line e = marks line (ends_with 10 line) (ends_with 13 (without_last line)) refl refl ((bytes_eq-Decides (text_of line) (codes "---")).0 e)
+mark_is line e = marks line (ends_with 10 line) (ends_with 13 (without_last_byte line)) refl refl ((bytes_eq-Decides (text_of line) (codes "---")).0 e)
 
 -- what begins such a line and has no feed begins `---` and a carriage return
 begins_mark : (bytes tail : List ℕ) → HasNoFeed bytes → (bytes ++ tail ≡ codes "---") ⊎ ((bytes ++ tail ≡ codes "---\n") ⊎ (bytes ++ tail ≡ codes "---\r\n"))

@@ -6,11 +6,11 @@ use Rattle.std.proofs.lemmas.Fmt.{parse-decimal, decimal_is_IsNumeral}
 use Rattle.std.proofs.lemmas.Slice.Eq.{bytes_eq-Decides}
 use Rattle.std.specs.Prelude.{nat_lt, bytes_eq}
 use Rattle.std.specs.Str.Parse.{digits_value, ParsesUnsigned}
-use Rattle.xcm_cli.specs.Words.{number_of}
+use Rattle.xcm_cli.specs.Words.{number_of_word}
 
 -- the decimal of a number is read as that number
-pub number_is : (word : List ℕ) (n : ℕ) → n < 2 ^ 64 → word ≡ decimal n → number_of word ≡ Some n
-unfolding number_of
+pub number_is : (word : List ℕ) (n : ℕ) → n < 2 ^ 64 → word ≡ decimal n → number_of_word word ≡ Some n
+unfolding number_of_word
 number_is word n l e =
     let value : digits_value 10 word ≡ n = ap (digits_value 10) e ∙ (decimal_is_IsNumeral n l).1 in
     let same : bytes_eq word (decimal (digits_value 10 word)) ≡ true = (bytes_eq-Decides word (decimal (digits_value 10 word))).1 (e ∙ ap decimal (sym value)) in
@@ -23,18 +23,18 @@ not_both true false never = refl
 not_both false small never = refl
 
 -- no other word is
-pub number_none : (word : List ℕ) → ((n : ℕ) → n < 2 ^ 64 → word ≡ decimal n → ⊥) → number_of word ≡ None
-unfolding number_of
+pub number_none : (word : List ℕ) → ((n : ℕ) → n < 2 ^ 64 → word ≡ decimal n → ⊥) → number_of_word word ≡ None
+unfolding number_of_word
 number_none word none =
     cond-false _ _ _ (not_both (bytes_eq word (decimal (digits_value 10 word))) (nat_lt (digits_value 10 word) (2 ^ 64))
     (λ same small. none (digits_value 10 word) (grind (arith, nat_tests)) ((bytes_eq-Decides word (decimal (digits_value 10 word))).0 same)))
 
 -- what doesn't parse is the decimal of no number
-pub unparsed : {E : Type 0} (word : List ℕ) (r : Result ℕ E) (e : E) → ParsesUnsigned 64 10 word r → r ≡ Err e → number_of word ≡ None
+pub unparsed : {E : Type 0} (word : List ℕ) (r : Result ℕ E) (e : E) → ParsesUnsigned 64 10 word r → r ≡ Err e → number_of_word word ≡ None
 unparsed word r e p f = number_none word (λ n l d. let ok : r ≡ Ok n = parse-decimal 64 n word r l l d p in cc)
 
 -- nor is what parses to a number with another decimal
-pub other_decimal : {E : Type 0} (word : List ℕ) (r : Result ℕ E) (n : ℕ) → ParsesUnsigned 64 10 word r → r ≡ Ok n → word ≢ decimal n → number_of word ≡ None
+pub other_decimal : {E : Type 0} (word : List ℕ) (r : Result ℕ E) (n : ℕ) → ParsesUnsigned 64 10 word r → r ≡ Ok n → word ≢ decimal n → number_of_word word ≡ None
 other_decimal word r n p f m = number_none word (λ k l d. let ok : r ≡ Ok k = parse-decimal 64 k word r l l d p in let same : k ≡ n = cc in m (d ∙ ap decimal same))
 
 -- texts that are told apart, and texts that are not

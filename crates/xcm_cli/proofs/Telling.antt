@@ -6,16 +6,16 @@ use Rattle.input_lines.specs.Lines.{lines_of, text_of, has_mark, later_lines, li
 use Rattle.input_lines.specs.Step.{read_line}
 use Rattle.network_config.specs.Network.{network_of}
 use Rattle.network_spec.specs.declared.network.NetworkSpec.{NetworkSpec}
-use Rattle.network_genesis.specs.Genesis.{order_of, first_world}
+use Rattle.network_steps.specs.Genesis.{order_of, first_world}
 use Rattle.network_steps.specs.Worlds.{World}
-use Rattle.network_steps.specs.Steps.{Step, after}
+use Rattle.network_steps.specs.Steps.{Step, next_world}
 use Rattle.step_text.specs.Lines.{line_refused_line}
 use Rattle.report_blocks.specs.Asked.{Asked, asked_of, Nothing, Asks, Unknown}
 use Rattle.report_blocks.specs.Blocks.{opening_text, step_block}
 use Rattle.line_serving.specs.declared.status.Status.TheVariants.{LineRefused, TooLong}
 use Rattle.line_serving.specs.Replies.{Reply, ends, then_on, bytes_reply, fits_limits}
 use Rattle.xcm_cli.specs.Report.{steps_reply, lines_reply, max_network, steps_in, steps_of, network_bytes}
-use Rattle.xcm_cli.specs.Told.{blocks_of, told_of, TellsOf}
+use Rattle.xcm_cli.specs.Told.{blocks_of, opening_and_blocks, TellsOf}
 use Rattle.xcm_cli.proofs.Advance.{nothing_here, block_here, refused_step, long_step}
 
 tells_as : (reply same : Reply) (told text : List ℕ) → reply ≡ same → told ≡ text → TellsOf same text → TellsOf reply told
@@ -61,7 +61,7 @@ module _ (audit : Bool) (spec : NetworkSpec) where
       tells_as _ _ _ _ (nothing_here audit spec w done before taken line lines within is) (ap (blocks_of audit spec w done) (none_in taken line lines within is)) (rest w done)
   line_tells w done before taken line lines rest true within (Asks step) is =
       tells_as _ _ _ _ (block_here audit spec w done before taken step line lines within is) (ap (blocks_of audit spec w done) (one_in taken step line lines within is))
-      (tells_on (step_block audit spec w (done + 1) step) _ _ (rest (after (order_of spec) w step) (done + 1)))
+      (tells_on (step_block audit spec w (done + 1) step) _ _ (rest (next_world (order_of spec) w step) (done + 1)))
   line_tells w done before taken line lines rest true within Unknown is =
       tells_as _ (ends (line_refused_line (before + 1)) LineRefused) _ [] (refused_step audit spec w done before taken line (line_refused_line (before + 1)) lines within is refl)
       (ap (blocks_of audit spec w done) (refused_in taken line lines within is))
@@ -79,7 +79,7 @@ or_true true = refl
 or_true false = refl
 
 pub input_tells : (audit : Bool) (bytes : List ℕ) (spec : NetworkSpec) → network_of (network_bytes bytes) ≡ Ok spec → length (network_bytes bytes) ≤ max_network
-    → TellsOf (bytes_reply (lines_reply audit) bytes) (told_of audit spec (steps_of bytes))
+    → TellsOf (bytes_reply (lines_reply audit) bytes) (opening_and_blocks audit spec (steps_of bytes))
 unfolding lines_reply
 input_tells audit bytes spec read few =
     let lines = lines_of bytes in

@@ -1,5 +1,5 @@
 -- For proofs; a reader of the definitions can leave it out. Where a session stands, and that nothing is written where no line comes.
-use Rattle.std.proofs.Common.{◌≡◌, ◌∙◌, ℕ, ◌+◌, ◌≤◌, List, [], ◌++◌, length, Bool, false, refl, ap, subst, Global, append-nil, arith}
+use Rattle.std.proofs.Common.{◌≡◌, ◌∙◌, ℕ, ◌+◌, ◌≤◌, List, [], ◌++◌, length, Bool, false, refl, ap, Global, append-nil, arith}
 use Rattle.std.proofs.lemmas.Bool.{cond-true}
 use Rattle.std.proofs.lemmas.Bool.Decides.{nat_tests}
 use Rattle.std.specs.Prelude.{Vec, nat_le, ◌||◌}
@@ -7,14 +7,14 @@ use Rattle.input_lines.specs.Lines.{network_part, later_lines, lines_through, by
 use Rattle.network_spec.specs.declared.network.NetworkSpec.{NetworkSpec}
 use Rattle.network_steps.specs.Worlds.{World}
 use Rattle.chain_net.specs.declared.net.Net.{Net}
-use Rattle.chain_net.specs.Nets.{world_of, spec_of, is_stopped}
+use Rattle.chain_net.specs.Nets.{world_of, spec_of}
 use Rattle.line_serving.specs.Replies.{ends, max_input}
 use Rattle.line_serving.specs.declared.status.Status.TheVariants.{Done}
 use Rattle.xcm_cli.specs.declared.phase.Session.{Session}
 use Rattle.xcm_cli.specs.declared.phase.Phase.{Phase}
 use Rattle.xcm_cli.specs.declared.phase.Phase.TheVariants.{Network, Steps}
-use Rattle.xcm_cli.specs.Report.{steps_reply, part_reply, max_network, IsWithin}
-use Rattle.xcm_cli.specs.Session.{reply_at, phase_reply, session_rooms, runs_steps, HoldsPart, IsReady}
+use Rattle.xcm_cli.specs.Report.{steps_reply, part_reply, max_network, IsWithinInputLimits}
+use Rattle.xcm_cli.specs.Session.{reply_at, phase_reply, session_rooms, runs_steps, HoldsPart, IsReadySession}
 
 -- a part within its limit that goes on
 pub part_goes_on : (audit : Bool) (part : List ℕ) (before taken : ℕ) (lines : List (List ℕ)) → length part ≤ max_network → part_reply audit false part before taken lines ≡ ends [] Done
@@ -38,19 +38,13 @@ nothing_at s (Network part) e h = at_network s part false [] e ∙ rw append-nil
 nothing_at s (Steps net done) e h = at_steps s net done false [] e ∙ no_steps s.audit (spec_of net) (world_of net) done s.lines s.taken
 
 -- where no line comes, nothing is reported
-pub nothing_yet : (s : Session) → IsReady s → reply_at s false [] ≡ ends [] Done
+pub nothing_yet : (s : Session) → IsReadySession s → reply_at s false [] ≡ ends [] Done
 nothing_yet s r = nothing_at s s.phase refl r.part
 
-pub part_size : (s : Session) (part : Vec ℕ Global) → s.phase ≡ Network part → IsReady s → (length part.items ≡ s.taken) × (s.taken ≤ max_network)
-part_size s part e r = let P : Phase → Type 0 = λ p. HoldsPart p s.taken in subst P e r.part
-
-pub steps_size : (s : Session) (net : Net) (done : ℕ) → s.phase ≡ Steps net done → IsReady s → (s.taken ≤ max_input) × (is_stopped net ≡ false)
-steps_size s net done e r = let P : Phase → Type 0 = λ p. HoldsPart p s.taken in subst P e r.part
-
-room_at : (s : Session) (phase : Phase) → s.phase ≡ phase → HoldsPart phase s.taken → IsWithin (runs_steps phase || false) (s.taken + 0 + 0) 0
+room_at : (s : Session) (phase : Phase) → s.phase ≡ phase → HoldsPart phase s.taken → IsWithinInputLimits (runs_steps phase || false) (s.taken + 0 + 0) 0
 room_at s (Network part) e h = let few : s.taken ≤ max_network = h.1 in omega arith
 room_at s (Steps net done) e h = let few : s.taken ≤ max_input = h.0 in (omega arith, omega arith)
 
 -- there is room for a line that isn't begun
-pub room_at_first : (s : Session) → IsReady s → session_rooms s [] 0
+pub room_at_first : (s : Session) → IsReadySession s → session_rooms s [] 0
 room_at_first s r = room_at s s.phase refl r.part

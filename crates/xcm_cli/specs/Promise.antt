@@ -1,33 +1,28 @@
 -- What is promised of every run of a network, whatever its steps. This project's own rule.
 use Rattle.std.specs.Prelude.{◌≡◌, ℕ, List, None, Ok}
 use Rattle.std.specs.List.{AllByRecursion, AllPairs}
-use Rattle.coherence.specs.Causes.{first_cause}
+use Rattle.law_coherence.specs.Causes.{first_cause}
 use Rattle.network_spec.specs.declared.network.NetworkSpec.{NetworkSpec}
 use Rattle.network_config.specs.Network.{network_of}
-use Rattle.network_genesis.specs.Genesis.{first_world, order_of, entries_of}
-use Rattle.generator_network.specs.Network.{network}
+use Rattle.network_steps.specs.Genesis.{first_world, order_of, entries_of}
+use Rattle.generator.specs.Network.{described_network}
 use Rattle.network_steps.specs.Worlds.{World}
 use Rattle.network_steps.specs.Steps.{Step, worlds, last_world}
-use Rattle.message_shapes.specs.Shapes.{AllShaped}
-use Rattle.net_laws.specs.Stops.{DrainStops}
-use Rattle.net_laws.specs.Promises.{KeepsAssets, StopsWithAuthority}
-use Rattle.audit_laws.specs.Printed.{IsPrinted}
-use Rattle.authority.specs.Alone.{NoneAloneLoses}
-use Rattle.authority.specs.Burns.{NoBurnFalls}
-use Rattle.authority.specs.Products.{NoProductFalls}
-use Rattle.authority.specs.Speakers.{AreAuthorized}
-use Rattle.checking_laws.specs.Ends.{StayBelowEnd}
-use Rattle.lock_laws.specs.Floors.{AllHoldFloors}
-use Rattle.conserved_networks.specs.Drained.{by_deliveries}
-use Rattle.conserved_networks.specs.Kept.{NetworkKept, NetworkKeptBetween, NetworkSound, NetworkRunsKept, NetworkAccountsRise, NetworkShaped}
-use Rattle.paid_messages.specs.Covered.{AllCovered}
-use Rattle.paid_messages.specs.Paid.{WithdrawalsPaid, TeleportsReceived, NoneLost}
-use Rattle.overflow_laws.specs.Barring.{NeverBarred}
-use Rattle.overflow_laws.specs.Excess.{NoExcessEver}
-
--- the steps with each drain as the deliveries that it makes, one by one
-abbrev pub singly : NetworkSpec → List Step → List Step
-singly spec steps = by_deliveries (order_of spec) (first_world spec) steps
+use Rattle.law_steps.specs.Shapes.{AllShaped}
+use Rattle.law_nets.specs.Stops.{DrainStops}
+use Rattle.law_nets.specs.Promises.{KeepsAssets, StopsWithAuthority}
+use Rattle.law_audits.specs.Printed.{IsPrinted}
+use Rattle.law_authority.specs.Alone.{NoneAloneLoses}
+use Rattle.law_authority.specs.Burns.{NoBurnFalls}
+use Rattle.law_authority.specs.Products.{NoProductFalls}
+use Rattle.law_authority.specs.Speakers.{AreAuthorized}
+use Rattle.law_checking.specs.Ends.{StayBelowEnd}
+use Rattle.law_authority.specs.Floors.{AllHoldFloors}
+use Rattle.law_steps.specs.Kept.{NetworkKept, NetworkKeptBetween, NetworkSound, NetworkRunsKept, NetworkAccountsRise, NetworkShaped}
+use Rattle.law_nets.specs.Covered.{AllCovered}
+use Rattle.law_nets.specs.Paid.{WithdrawalsPaid, TeleportsReceived, NoneLost}
+use Rattle.law_nets.specs.Barring.{NeverBarred}
+use Rattle.law_nets.specs.Excess.{NoExcessEver}
 
 -- the world behind the steps
 abbrev pub world_behind_steps : NetworkSpec → List Step → World
@@ -102,7 +97,7 @@ CoherentNetworksAreSecure = (part : List ℕ) (spec : NetworkSpec) (steps : List
 
 -- the network of drawn steps is both, without a premise
 abbrev pub DrawnStepsAreLawful : Type 0
-DrawnStepsAreLawful = (steps : List Step) → IsLawful network steps
+DrawnStepsAreLawful = (steps : List Step) → IsLawful described_network steps
 
 abbrev pub DrawnStepsAreSecure : Type 0
-DrawnStepsAreSecure = (steps : List Step) → IsSecure network steps
+DrawnStepsAreSecure = (steps : List Step) → IsSecure described_network steps

@@ -3,12 +3,12 @@ use Rattle.std.specs.Prelude.{ℕ, ◌+◌, ◌≤◌, ◌||◌, nat_le, List, [
 use Rattle.std.specs.declared.alloc.Global.{Global}
 use Rattle.input_lines.specs.Lines.{lines_of, text_of, has_mark, network_part, later_lines, lines_through, bytes_through}
 use Rattle.input_lines.specs.Step.{read_line}
-use Rattle.document_forms.specs.declared.fault.NetworkFault.{NetworkFault}
+use Rattle.document_entries.specs.declared.fault.NetworkFault.{NetworkFault}
 use Rattle.network_config.specs.Network.{network_of}
 use Rattle.network_spec.specs.declared.network.NetworkSpec.{NetworkSpec}
 use Rattle.network_steps.specs.Worlds.{World}
-use Rattle.network_steps.specs.Steps.{Step, after}
-use Rattle.network_genesis.specs.Genesis.{order_of, first_world}
+use Rattle.network_steps.specs.Steps.{Step, next_world}
+use Rattle.network_steps.specs.Genesis.{order_of, first_world}
 use Rattle.step_text.specs.Lines.{network_refused_line, line_refused_line}
 use Rattle.report_blocks.specs.Asked.{asked_of, Nothing, Asks, Unknown}
 use Rattle.report_blocks.specs.Blocks.{opening_text, step_block}
@@ -35,9 +35,9 @@ max_network = 1048576
 
 -- So many bytes of an input, the last of which begin a line, are within the limits so far. While the network part is read, that
 -- line may be the one that ends it, of which at most four bytes can have come: `---` and a carriage return.
-abbrev pub IsWithin : Bool → ℕ → ℕ → Type 0
-IsWithin false size begun = size ≤ max_network + 4
-IsWithin true size begun = (begun ≤ max_line) × (size ≤ max_input)
+abbrev pub IsWithinInputLimits : Bool → ℕ → ℕ → Type 0
+IsWithinInputLimits false size begun = size ≤ max_network + 4
+IsWithinInputLimits true size begun = (begun ≤ max_line) × (size ≤ max_input)
 
 -- ---- the run
 
@@ -49,7 +49,7 @@ steps_reply audit spec w steps before taken (line ∷ lines) =
     then elim (asked_of (read_line (text_of line))) [
       | Nothing ↦ steps_reply audit spec w steps (before + 1) (taken + length line) lines
       | Asks step ↦ then_on (step_block audit spec w (steps + 1) step)
-          (steps_reply audit spec (after (order_of spec) w step)
+          (steps_reply audit spec (next_world (order_of spec) w step)
           (steps + 1) (before + 1) (taken + length line) lines)
       | Unknown ↦ ends (line_refused_line (before + 1)) LineRefused
     ]
@@ -78,7 +78,7 @@ lines_reply audit at_end lines =
 
 -- where a line that is begun stands behind these lines, of so many bytes: there may be more of it
 abbrev pub lines_room : List (List ℕ) → ℕ → Type 0
-lines_room lines begun = IsWithin (has_mark lines) (length (concat lines) + begun) begun
+lines_room lines begun = IsWithinInputLimits (has_mark lines) (length (concat lines) + begun) begun
 
 abbrev pub usage_reply : Reply
 usage_reply = ends usage_text Usage

@@ -4,16 +4,16 @@ use Rattle.std.specs.List.{concat}
 use Rattle.std.specs.Io.KnownBytes.{Appends}
 use Rattle.xcm_io.specs.Bytes.{IsProperFront}
 use Rattle.input_lines.specs.Lines.{has_mark, network_part, later_lines, lines_through, bytes_through}
-use Rattle.document_forms.specs.declared.fault.NetworkFault.{NetworkFault}
+use Rattle.document_entries.specs.declared.fault.NetworkFault.{NetworkFault}
 use Rattle.network_spec.specs.declared.network.NetworkSpec.{NetworkSpec}
 use Rattle.network_config.specs.Network.{network_of}
-use Rattle.network_genesis.specs.Genesis.{first_world}
+use Rattle.network_steps.specs.Genesis.{first_world}
 use Rattle.chain_net.specs.declared.net.Net.{Net}
 use Rattle.chain_net.specs.Nets.{world_of, spec_of, is_stopped}
 use Rattle.step_text.specs.Lines.{network_refused_line}
 use Rattle.report_blocks.specs.Blocks.{opening_text}
 use Rattle.line_serving.specs.Replies.{Reply, max_input}
-use Rattle.xcm_cli.specs.Report.{part_reply, steps_reply, max_network, IsWithin}
+use Rattle.xcm_cli.specs.Report.{part_reply, steps_reply, max_network, IsWithinInputLimits}
 use Rattle.xcm_cli.specs.declared.phase.Session.{Session}
 use Rattle.xcm_cli.specs.declared.phase.Phase.{Phase}
 use Rattle.xcm_cli.specs.declared.phase.Phase.TheVariants.{Network, Steps}
@@ -35,7 +35,7 @@ reply_at session at_end lines =
     phase_reply session.audit session.phase session.lines session.taken at_end lines
 
 -- the network as it opens, with nothing that happened in it
-pub record Begins (part : List ℕ) (net : Net) : Type 0 where
+pub record IsFreshNetwork (part : List ℕ) (net : Net) : Type 0 where
   pub read : network_of part ≡ Ok (spec_of net)
   pub first : world_of net ≡ first_world (spec_of net)
   pub running : is_stopped net ≡ false
@@ -52,7 +52,7 @@ pub record Opens {E : Type 0} (part : List ℕ) (old new : Option (List ℕ))
   pub text : List ℕ
   pub appends : Appends old new text
   pub runs : (net : Net) → result ≡ Ok (Runs net)
-      → Begins part net × (text ≡ opening_text (spec_of net))
+      → IsFreshNetwork part net × (text ≡ opening_text (spec_of net))
   pub over : (status : Status) → result ≡ Ok (Over status)
       → ((status ≡ NetworkRefused)
       × ((fault : NetworkFault)
@@ -70,7 +70,7 @@ HoldsPart (Network part) taken = (length part.items ≡ taken) × (taken ≤ max
 HoldsPart (Steps net done) taken = (taken ≤ max_input) × (is_stopped net ≡ false)
 
 -- a session as its calls leave it: no more steps than lines, no more lines than bytes
-pub record IsReady (session : Session) : Type 0 where
+pub record IsReadySession (session : Session) : Type 0 where
   pub steps : phase_steps session.phase ≤ session.lines
   pub lines : session.lines ≤ session.taken
   pub part : HoldsPart session.phase session.taken
@@ -83,5 +83,5 @@ runs_steps (Steps net done) = true
 -- a line of which so many bytes have come, behind these lines, may still be within the limits
 abbrev pub session_rooms : Session → List (List ℕ) → ℕ → Type 0
 session_rooms session lines begun =
-    IsWithin (runs_steps session.phase || has_mark lines)
+    IsWithinInputLimits (runs_steps session.phase || has_mark lines)
     (session.taken + length (concat lines) + begun) begun

@@ -2,9 +2,9 @@
 use Rattle.std.specs.Prelude.{◌≡◌, ◌⊎◌, ◌≤◌, ℕ, ◌+◌, List, [], ◌∷◌, ◌++◌, length, Bool, Ok}
 use Rattle.network_spec.specs.declared.network.NetworkSpec.{NetworkSpec}
 use Rattle.network_config.specs.Network.{network_of}
-use Rattle.network_genesis.specs.Genesis.{order_of, first_world}
+use Rattle.network_steps.specs.Genesis.{order_of, first_world}
 use Rattle.network_steps.specs.Worlds.{World}
-use Rattle.network_steps.specs.Steps.{Step, after}
+use Rattle.network_steps.specs.Steps.{Step, next_world}
 use Rattle.step_text.specs.Lines.{line_refused_line}
 use Rattle.report_blocks.specs.Blocks.{opening_text, step_block}
 use Rattle.line_serving.specs.declared.status.Status.TheVariants.{LineRefused}
@@ -16,11 +16,11 @@ abbrev pub blocks_of : Bool → NetworkSpec → World → ℕ → List Step → 
 blocks_of audit spec w done [] = []
 blocks_of audit spec w done (step ∷ steps) =
     step_block audit spec w (done + 1) step
-    ++ blocks_of audit spec (after (order_of spec) w step) (done + 1) steps
+    ++ blocks_of audit spec (next_world (order_of spec) w step) (done + 1) steps
 
 -- the opening, and the blocks of all steps from the first world on
-abbrev pub told_of : Bool → NetworkSpec → List Step → List ℕ
-told_of audit spec steps = opening_text spec ++ blocks_of audit spec (first_world spec) 0 steps
+abbrev pub opening_and_blocks : Bool → NetworkSpec → List Step → List ℕ
+opening_and_blocks audit spec steps = opening_text spec ++ blocks_of audit spec (first_world spec) 0 steps
 
 -- what is written is this text, and behind it nothing, or that a line is refused
 pub record TellsOf (reply : Reply) (told : List ℕ) : Type 0 where
@@ -33,4 +33,4 @@ pub record TellsOf (reply : Reply) (told : List ℕ) : Type 0 where
 abbrev pub ReportsTellOfSteps : Type 0
 ReportsTellOfSteps = (audit : Bool) (bytes : List ℕ) (spec : NetworkSpec)
     → network_of (network_bytes bytes) ≡ Ok spec → length (network_bytes bytes) ≤ max_network
-    → TellsOf (bytes_reply (lines_reply audit) bytes) (told_of audit spec (steps_of bytes))
+    → TellsOf (bytes_reply (lines_reply audit) bytes) (opening_and_blocks audit spec (steps_of bytes))

@@ -28,8 +28,8 @@ is_generation (word ∷ number ∷ steps ∷ []) = bytes_eq (string_bytes word) 
 is_generation (word ∷ number ∷ steps ∷ more ∷ words) = false
 
 -- the number below 2 ^ 64 that the word is in decimal, without leading zeros
-unfoldable pub number_of : List ℕ → Option ℕ
-number_of word =
+unfoldable pub number_of_word : List ℕ → Option ℕ
+number_of_word word =
     if bytes_eq word (decimal (digits_value 10 word)) && nat_lt (digits_value 10 word) (2 ^ 64)
     then Some (digits_value 10 word)
     else None
@@ -47,7 +47,7 @@ generation [] = Usage
 generation (word ∷ []) = Usage
 generation (word ∷ number ∷ []) = Usage
 generation (word ∷ number ∷ steps ∷ words) =
-    generation_of (number_of (string_bytes number)) (number_of (string_bytes steps))
+    generation_of (number_of_word (string_bytes number)) (number_of_word (string_bytes steps))
 
 -- the run of an input, with the audit or without; the run of steps that are drawn; or nothing that the program does
 abbrev pub task_of : List (String Global) → Task

@@ -2,19 +2,22 @@
 ghost use Rattle.xcm_cli.specs.Promise.{ReadNetworksAreLawful, CoherentNetworksAreSecure, DrawnStepsAreLawful, DrawnStepsAreSecure};
 ghost use Rattle.xcm_cli.specs.Told.{ReportsTellOfSteps};
 
-use audit_laws::law_of_printed_networks;
-use authority::{law_of_accounts_left_alone, law_of_authority, law_of_burns, law_of_pool_products};
-use checking_laws::law_of_checking_accounts;
-use conserved_networks::{
+use generator::law_of_document;
+use law_audits::law_of_printed_networks;
+use law_authority::{
+    law_of_accounts_left_alone, law_of_authority, law_of_kept_worlds, law_of_permanent_burns,
+    law_of_pool_products,
+};
+use law_checking::law_of_checking_accounts;
+use law_nets::{
+    law_of_lowered_accounts, law_of_paid_messages, law_of_stopped_messages, law_of_stopped_nets,
+    law_of_unbarred_deposits, law_of_unsaturated_worlds,
+};
+use law_steps::{
     law_of_conserved_networks, law_of_kept_network_runs, law_of_opened_networks,
     law_of_shaped_networks,
 };
-use generator_network::law_of_document;
-use lock_laws::law_of_kept_worlds;
-use net_laws::{law_of_stopped_messages, law_of_stopped_nets};
-use network_laws::law_of_read_networks;
-use overflow_laws::{law_of_unbarred_deposits, law_of_unsaturated_worlds};
-use paid_messages::{law_of_lowered_accounts, law_of_paid_messages};
+use network_validity::law_of_read_networks;
 
 /// What holds of every network holds of each that a document describes, whatever the steps; and so does what holds of coherent networks, where
 /// none of the seven causes is found in it, as in the network of the steps that are drawn. And the report of an input is told by its steps.
@@ -32,7 +35,7 @@ pub(crate) fn law_of_inputs()
     law_of_authority();
     law_of_pool_products();
     law_of_accounts_left_alone();
-    law_of_burns();
+    law_of_permanent_burns();
     law_of_kept_worlds();
     law_of_checking_accounts();
     law_of_conserved_networks();

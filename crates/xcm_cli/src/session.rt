@@ -6,13 +6,13 @@ ghost use Rattle.chain_net.specs.Nets.{world_of, spec_of, is_stopped};
 ghost use Rattle.line_serving.specs.Replies.{max_input};
 ghost use Rattle.line_serving.specs.Calls.{Advances, HasWriteCause};
 ghost use Rattle.xcm_cli.specs.Report.{lines_reply, steps_reply};
-ghost use Rattle.xcm_cli.specs.Session.{IsReady, Opens, reply_at, runs_steps};
+ghost use Rattle.xcm_cli.specs.Session.{IsReadySession, Opens, reply_at, runs_steps};
 
 use crate::limits::MAX_NETWORK;
 use crate::phase::{Opened, Phase, Session};
 use input_lines::{ends_network, read_line, text_of};
 use line_serving::{LineMachine, Status, fits_limits, passes_limits, write_text};
-use report_blocks::{AuditedNet, Served, open_audited, opening_text, serve};
+use report_blocks::{AuditedNet, LineOutcome, open_audited, opening_text, serve};
 use std::alloc::{AllocError, Global};
 use step_text::{line_refused_line, network_refused_line};
 use xcm_io::Sink;
@@ -25,7 +25,7 @@ impl Session {
     pub(crate) fn new(alloc: Global, audit: bool) -> Session
         ensures start { (at_end : Bool) (lines : List (List ℕ))
             → reply_at result at_end lines ≡ lines_reply audit at_end lines }
-        ensures ready { IsReady result }
+        ensures ready { IsReadySession result }
         ensures taken { result.taken ≡ 0 }
         ensures phase { runs_steps result.phase ≡ false }
     {
@@ -39,7 +39,7 @@ impl Session {
 }
 
 impl LineMachine for Session {
-    ghost use Rattle.xcm_cli.specs.Session.{reply_at, session_rooms, IsReady};
+    ghost use Rattle.xcm_cli.specs.Session.{reply_at, session_rooms, IsReadySession};
     ghost use Rattle.xcm_cli.specs.Laws.{nothing_yet, room_at_first};
 
     ghost replies = { reply_at };
@@ -48,7 +48,7 @@ impl LineMachine for Session {
 
     ghost taken = { λ s. s.taken };
 
-    ghost is_ready = { IsReady };
+    ghost is_ready = { IsReadySession };
 
     ghost nothing_yet = { nothing_yet };
 
@@ -171,12 +171,12 @@ fn take_step<O: Sink>(
         Err(refused) => return Err(refused),
     };
     match serve(alloc, net, audit, *done + 1, &asked) {
-        Ok(Served::Nothing) => Ok(None),
-        Ok(Served::Block(text)) => {
+        Ok(LineOutcome::Nothing) => Ok(None),
+        Ok(LineOutcome::Block(text)) => {
             *done += 1;
             Ok(write_text(out, &text, None))
         }
-        Ok(Served::Unknown) => {
+        Ok(LineOutcome::Unknown) => {
             let text = line_refused_line(alloc, before + 1)?;
             Ok(write_text(out, &text, Some(Status::LineRefused)))
         }

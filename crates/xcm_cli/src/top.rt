@@ -63,8 +63,8 @@ pub fn run<I: Source, O: Sink>(
     ensures drawn { (number steps : ℕ) → task_of words.now ≡ Generate number steps
         → IfOk result (λ status. (status ≡ Status.Done) ⊎ (status ≡ Status.WriteFault)) }
 
-    // Whatever document is read as a network and whatever the steps, as those of an input (`steps_of`), those with each drain as its deliveries
-    // (`singly`) or those that are drawn: an account falls only by its own executions, by a message of its chain or as a pool's, so one that is
+    // Whatever document is read as a network and whatever the steps, as those of an input (`steps_of`), those with each drain as the deliveries
+    // it makes or those that are drawn: an account falls only by its own executions, by a message of its chain or as a pool's, so one that is
     // left alone never has less; no pool's product falls, no burn is undone, each account keeps what is locked there, each message that waits
     // has its shape, and each checking account stays below its end.
     ensures lawful { ReadNetworksAreLawful }
@@ -113,8 +113,6 @@ fn write_generated<O: Sink>(
     ensures cause { result ≡ Ok Status.WriteFault → Rose (O.faults out.old) (O.faults out.new) }
     ensures usage { result ≢ Ok Status.Usage }
 {
-    match generate(alloc, number, steps) {
-        Ok(text) => Ok(write_reply(out, &text, Status::Done)),
-        Err(refused) => Err(refused),
-    }
+    let text = generate(alloc, number, steps)?;
+    Ok(write_reply(out, &text, Status::Done))
 }

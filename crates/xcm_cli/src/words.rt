@@ -1,7 +1,7 @@
 //! What the program's words ask for.
 
 ghost use Rattle.std.specs.Prelude.{◌≡◌, IfOk};
-ghost use Rattle.xcm_cli.specs.Words.{is_run, is_audit, is_generation, number_of, generation_of, task_of};
+ghost use Rattle.xcm_cli.specs.Words.{is_run, is_audit, is_generation, number_of_word, generation_of, task_of};
 
 use std::alloc::{AllocError, Global};
 
@@ -67,7 +67,7 @@ fn is_generation(words: &[String]) -> bool
 /// The run of so many steps that are drawn from a number, where both words are numbers in their ranges.
 fn generation_of(alloc: Global, number: &str, steps: &str) -> Result<Task, AllocError>
     ensures { IfOk result (λ task. task
-        ≡ generation_of (number_of number.now) (number_of steps.now)) }
+        ≡ generation_of (number_of_word number.now) (number_of_word steps.now)) }
 {
     let Some(number) = number_of(alloc, number)? else {
         return Ok(Task::Usage);
@@ -83,7 +83,7 @@ fn generation_of(alloc: Global, number: &str, steps: &str) -> Result<Task, Alloc
 
 /// The number below 2^64 that the word is in decimal, without leading zeros.
 fn number_of(alloc: Global, word: &str) -> Result<Option<u64>, AllocError>
-    ensures { IfOk result (λ number. number ≡ number_of word.now) }
+    ensures { IfOk result (λ number. number ≡ number_of_word word.now) }
 {
     let Ok(number) = word.parse::<u64>() else {
         return Ok(None);

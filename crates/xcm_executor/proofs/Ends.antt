@@ -1,11 +1,12 @@
 -- The beginning and the end of a run that was admitted.
 use Rattle.std.proofs.Common.{◌≡◌, inl, inr, ℕ, ◌<◌, [], length, Bool, true, ◌&&◌, Option, Some, None, refl, sym, ap, ◌∙◌, subst, arith}
-use Rattle.amounts.specs.Amounts.{empty, amount-empty}
+use Rattle.amounts.specs.Amounts.{empty}
+use Rattle.amounts.proofs.Lemmas.AmountLaws.{amount-empty}
 use Rattle.locations.specs.declared.relative.Location.{Location}
-use Rattle.message_parts.specs.declared.error.XcmError.{XcmError}
-use Rattle.message_parts.specs.declared.weight.Weight.{Weight}
-use Rattle.message_parts.specs.Weights.{IsWithin}
-use Rattle.asset_bundles.specs.Bundles.{unit_keys}
+use Rattle.operands.specs.declared.error.XcmError.{XcmError}
+use Rattle.operands.specs.declared.weight.Weight.{Weight}
+use Rattle.operands.specs.Weights.{IsWithin}
+use Rattle.asset_bundles.proofs.Lemmas.Bundles.{unit_keys}
 use Rattle.asset_bundles.specs.Books.{AreListed}
 use Rattle.trust_tables.specs.Trust.{listing}
 use Rattle.weight_trader.specs.Purchases.{no_weight}
@@ -14,8 +15,8 @@ use Rattle.xcm_program.specs.declared.instruction.Instruction.{Instruction, out-
 use Rattle.xcm_program.specs.declared.instruction.Instruction.TheOpen.{Instruction-F}
 use Rattle.xcm_program.specs.Measure.{inner}
 use Rattle.xcm_program.specs.Everywhere.{AllInside}
-use Rattle.xcm_program.specs.Conversions.{names_places, is_convertible_one, HasAmount, HasAmounts}
-use Rattle.xcm_program.specs.Laws.{deep_count_one-is, deep_count_inside, convertible_inside, is_convertible_one-is, amounts_here}
+use Rattle.xcm_program.specs.Conversions.{names_concrete_ids, is_convertible_one, HasAmount, HasAmounts}
+use Rattle.xcm_program.proofs.Lemmas.{deep_count_one-is, deep_count_inside, convertible_inside, is_convertible_one-is, amounts_here}
 use Rattle.xcm_program.specs.Weights.{kept}
 use Rattle.exec_base.specs.declared.event.Part.TheVariants as parts
 use Rattle.exec_base.specs.declared.registers.Registers.{Registers}
@@ -24,16 +25,16 @@ use Rattle.exec_rules.specs.Machine.{Machine, machine, Control, control_of, IsOr
 use Rattle.exec_rules.specs.Run.{Stage, Ended, begin, run, still_to_run, machine_of, left_after, Reaches, StoppedIn}
 use Rattle.exec_rules.specs.Outcome.{refund_surplus, refunded_last, rest_trapped, finished, abandoned, HaltedAtEnd}
 use Rattle.exec_rules.specs.Accounts.{Balances, IsBalanced, freed, HasWeight, IsAffordable, ref_time, proof_size}
-use Rattle.exec_rules.specs.RunLaws.{reached_balanced}
-use Rattle.exec_rules.specs.KeepingLaws.{begin_machine}
+use Rattle.exec_rules.proofs.Lemmas.RunLaws.{reached_balanced}
+use Rattle.exec_rules.proofs.Lemmas.KeepingLaws.{begin_machine}
 use Rattle.exec_rules.specs.Holdings.{refund_now, refund_done}
 use Rattle.exec_rules.specs.Instructions.{refusal_of, done, xcm}
-use Rattle.exec_rules.specs.Readiness.{IsAtRest, IsSteady, IsSound, IsReady}
-use Rattle.exec_rules.specs.Stopping.{spills}
-use Rattle.exec_admission.specs.declared.rules.ChainRules.{ChainRules}
-use Rattle.exec_admission.specs.declared.admission.Admitted.{Admitted}
-use Rattle.exec_admission.specs.Execution.{started, first_machine, first_stage, last_machine, AbandonedIn}
-use Rattle.xcm_executor.specs.Running.{IsReadyThroughout, IsRunnable, wound_up, HaltedBefore}
+use Rattle.exec_rules.specs.Readiness.{IsAtRest, IsSteady, IsSoundInstruction, IsReady}
+use Rattle.exec_rules.specs.Stopping.{leaves_on_oom}
+use Rattle.exec_rules.specs.declared.rules.ChainRules.{ChainRules}
+use Rattle.exec_rules.specs.declared.admission.Admitted.{Admitted}
+use Rattle.exec_rules.specs.Execution.{started, first_machine, first_stage, last_machine, AbandonedIn}
+use Rattle.xcm_executor.specs.Running.{IsReadyThroughout, IsReadyToRun, wound_up, HaltedBefore}
 use Rattle.xcm_executor.proofs.Standing.{balanced_begin}
 use Rattle.xcm_executor.proofs.Parking.{ended_few}
 
@@ -48,12 +49,12 @@ refund_frees : (dimension : Weight → ℕ) (c : Control) → dimension (freed (
 refund_frees dimension c = ap (λ (l : Instruction-F Instruction). dimension (freed l c)) refund_layer
 
 refund_named : is_convertible_one refund_surplus ≡ true
-refund_named = is_convertible_one-is refund_surplus ∙ ap (λ (l : Instruction-F Instruction). names_places l && convertible_inside (inner l)) refund_layer
+refund_named = is_convertible_one-is refund_surplus ∙ ap (λ (l : Instruction-F Instruction). names_concrete_ids l && convertible_inside (inner l)) refund_layer
 
 refund_has_amounts : HasAmounts refund_surplus
 refund_has_amounts = amounts_here refund_surplus (subst (HasAmount Instruction) (sym refund_layer) tt) (subst (λ (l : Instruction-F Instruction). AllInside HasAmounts (inner l)) (sym refund_layer) tt)
 
-refund_sound : IsSound refund_surplus
+refund_sound : IsSoundInstruction refund_surplus
 refund_sound = record {
   few = let c = deep_count_one-is refund_surplus in let n = ap (λ (l : Instruction-F Instruction). deep_count_inside (inner l)) refund_layer in omega (arith, c, n);
   named = ap (λ (b : Bool). b && true) refund_named;
@@ -103,8 +104,8 @@ module _ (rules : ChainRules) (origin : Location) (a : Admitted) (r : Registers)
   begins : begin parts.Program a.program (machine r p) ≡ first_stage rules origin a p
   begins = ap (λ (q : Registers). begin parts.Program a.program (machine q p)) is
 
-  pub first_runnable : IsBalanced a.weight (first_stage rules origin a p) → IsReadyThroughout (first_stage rules origin a p) → IsRunnable parts.Program a.program (machine r p)
-  first_runnable b ready = subst (λ (q : Registers). IsRunnable parts.Program a.program (machine q p)) (sym is) (record {
+  pub first_runnable : IsBalanced a.weight (first_stage rules origin a p) → IsReadyThroughout (first_stage rules origin a p) → IsReadyToRun parts.Program a.program (machine r p)
+  first_runnable b ready = subst (λ (q : Registers). IsReadyToRun parts.Program a.program (machine q p)) (sym is) (record {
     accounted = (a.weight, balanced_begin a.weight parts.Program a.program (first_machine rules origin p) b);
     ready = ready;
   })
@@ -130,17 +131,17 @@ module _ (rules : ChainRules) (origin : Location) (a : Admitted) (r : Registers)
         let g = first_stage rules origin a p in
         subst IsSteady last_is (reached a.weight g (run xcm g) b (still_to_run g, refl) (first_steady rules origin a p rest))
 
-    pub ended_abandoned : (now : ChainPart) → HaltedAtEnd xcm spills m now → AbandonedIn rules origin a p now
-    ended_abandoned now h = inr (subst (λ (n : Machine). HaltedAtEnd xcm spills n now) (sym last_is) h)
+    pub ended_abandoned : (now : ChainPart) → HaltedAtEnd xcm leaves_on_oom m now → AbandonedIn rules origin a p now
+    ended_abandoned now h = inr (subst (λ (n : Machine). HaltedAtEnd xcm leaves_on_oom n now) (sym last_is) h)
 
     pub ended_rests : (now : ChainPart) → now ≡ finished xcm m → IsAtRest (finished xcm (last_machine rules origin a p)) → IsAtRest now
     ended_rests now h rests = subst IsAtRest (ap (finished xcm) last_is ∙ sym h) rests
 
-  pub stopped_abandoned : (stopped : Machine) (now : ChainPart) → StoppedIn xcm spills (begin parts.Program a.program (machine r p)) stopped → now ≡ abandoned stopped.regs stopped.part → AbandonedIn rules origin a p now
-  stopped_abandoned stopped now h e = inl (stopped, subst (λ (g : Stage). StoppedIn xcm spills g stopped) begins h, e)
+  pub stopped_abandoned : (stopped : Machine) (now : ChainPart) → StoppedIn xcm leaves_on_oom (begin parts.Program a.program (machine r p)) stopped → now ≡ abandoned stopped.regs stopped.part → AbandonedIn rules origin a p now
+  stopped_abandoned stopped now h e = inl (stopped, subst (λ (g : Stage). StoppedIn xcm leaves_on_oom g stopped) begins h, e)
 
 -- ---- out of memory at the end
-pub halted_before : (m now : Machine) (left : ChainPart) → HaltedBefore m now → left ≡ abandoned now.regs now.part → HaltedAtEnd xcm spills m left
+pub halted_before : (m now : Machine) (left : ChainPart) → HaltedBefore m now → left ≡ abandoned now.regs now.part → HaltedAtEnd xcm leaves_on_oom m left
 halted_before m now left h e = elim h [
   | inl a ↦ inl (now, a, e)
   | inr b ↦ elim b [
@@ -162,5 +163,5 @@ wound_few m now e steady = subst (λ (n : Machine). length n.part.parked < 4) (s
 pub wound_finished : (m now : Machine) (left : ChainPart) → now ≡ wound_up m → left ≡ rest_trapped now.regs now.part → left ≡ finished xcm m
 wound_finished m now left e h = h ∙ ap (λ (n : Machine). rest_trapped n.regs n.part) e
 
-pub wound_abandoned : (m now : Machine) (left : ChainPart) → now ≡ wound_up m → left ≡ abandoned now.regs now.part → HaltedAtEnd xcm spills m left
+pub wound_abandoned : (m now : Machine) (left : ChainPart) → now ≡ wound_up m → left ≡ abandoned now.regs now.part → HaltedAtEnd xcm leaves_on_oom m left
 wound_abandoned m now left e h = inr (inr (inr (h ∙ ap (λ (n : Machine). abandoned n.regs n.part) e)))

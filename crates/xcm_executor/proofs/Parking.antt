@@ -1,6 +1,6 @@
 -- Where memory is refused, at most one bundle is parked beside the holding.
 use Rattle.std.proofs.Common.{◌≡◌, ◌⊎◌, ⊎_elim, ◌<◌, ◌≤◌, false, List, [], ◌∷◌, ◌++◌, length, None, Result, Ok, Err, refl, sym, ap, ◌∙◌, subst, arith}
-use Rattle.message_parts.specs.declared.error.XcmError.{XcmError}
+use Rattle.operands.specs.declared.error.XcmError.{XcmError}
 use Rattle.asset_bundles.specs.Bundles.{Bundle}
 use Rattle.xcm_program.specs.declared.instruction.Instruction.{Instruction, out-Instruction}
 use Rattle.xcm_program.specs.declared.instruction.Instruction.TheOpen.{Instruction-F}
@@ -12,12 +12,12 @@ use Rattle.exec_rules.specs.Run.{Stage, StoppedIn}
 use Rattle.exec_rules.specs.Outcome.{refund_surplus, end_event, end_told}
 use Rattle.exec_rules.specs.Instructions.{refusal_of, xcm}
 use Rattle.exec_rules.specs.Readiness.{IsSteady}
-use Rattle.exec_rules.specs.Stopping.{spills}
+use Rattle.exec_rules.specs.Stopping.{leaves_on_oom}
 use Rattle.xcm_executor.specs.Running.{IsReadyThroughout}
-use Rattle.exec_calls.specs.Calls.{MachineWithGoods, MachineCall, after}
-use Rattle.exec_calls.specs.Reasons.{Moment, HasReason}
-use Rattle.exec_calls.specs.ReasonLaws.{lead_keeps}
-use Rattle.exec_calls.specs.StopLaws.{spilled_lead}
+use Rattle.exec_rules.specs.HostCalls.{MachineWithGoods, MachineCall, after}
+use Rattle.exec_rules.specs.Reasons.{Moment, HasReason}
+use Rattle.exec_rules.proofs.Lemmas.ReasonLaws.{lead_keeps}
+use Rattle.exec_rules.proofs.Lemmas.StopLaws.{spilled_lead}
 
 told_parks : (p : ChainPart) (e : Event) → (told p e).parked ≡ p.parked
 unfolding told
@@ -46,7 +46,7 @@ call_few : (l : Instruction-F Instruction) (m : Machine) → m.part.parked ≡ [
 call_few l m none MachineCall.Park t asks few = one_parked t.part t.part t.goods (asks ∙ none) refl
 call_few l m none _ t asks few = few
 
-pub spilled_few : (x : Instruction) (m now : Machine) → m.part.parked ≡ [] → spills x m now → HasFew now
+pub spilled_few : (x : Instruction) (m now : Machine) → m.part.parked ≡ [] → leaves_on_oom x m now → HasFew now
 spilled_few x m now none h =
     lead_keeps (out-Instruction x) m (λ (t : MachineWithGoods). length t.part.parked ≤ 1) (λ c t early asks from free few. call_few (out-Instruction x) m none c t asks few) now (spilled_lead (out-Instruction x) m now h) (none_parked m.part none)
 
@@ -58,14 +58,14 @@ performed_few : (done : StaysSteady) (x : Instruction) (m : Machine) (answer : R
 performed_few done x m (Ok t) now steady h = few_as now (xcm.done x m) h.1 (none_parked (xcm.done x m).part (done x m steady h.0).rest.order.unparked)
 performed_few done x m (Err e) now steady h = few_as now m h.1 (none_parked m.part steady.rest.order.unparked)
 
-pub stopped_few : (done : StaysSteady) (start : Stage) (now : Machine) → IsReadyThroughout start → StoppedIn xcm spills start now → length now.part.parked < 4
+pub stopped_few : (done : StaysSteady) (start : Stage) (now : Machine) → IsReadyThroughout start → StoppedIn xcm leaves_on_oom start now → length now.part.parked < 4
 stopped_few done start now ready s =
     let steady = (ready s.part s.place s.which s.behind s.before s.reached).steady in
     let few : HasFew now = ⊎_elim (λ h. spilled_few s.which s.before now steady.rest.order.unparked h) (λ h. performed_few done s.which s.before h.0 now steady h.1) s.halted in
     omega (arith, few)
 
 -- ---- the end
-pub halted_few : (m last now : Machine) → m.part.parked ≡ [] → last.part.parked ≡ [] → (spills refund_surplus m now ⊎ (now ≡ last) ⊎ (now ≡ machine last.regs (end_told last))) → length now.part.parked < 4
+pub halted_few : (m last now : Machine) → m.part.parked ≡ [] → last.part.parked ≡ [] → (leaves_on_oom refund_surplus m now ⊎ (now ≡ last) ⊎ (now ≡ machine last.regs (end_told last))) → length now.part.parked < 4
 halted_few m last now e f h =
     let few : HasFew now = ⊎_elim (λ a. spilled_few refund_surplus m now e a)
     (λ b. ⊎_elim (λ c. few_as now last c (none_parked last.part f)) (λ d. few_as now (machine last.regs (end_told last)) d (none_parked (end_told last) (told_parks last.part (end_event last.regs) ∙ f))) b) h in

@@ -5,20 +5,20 @@ use Rattle.xcm_program.specs.Measure.{deep_count}
 use Rattle.exec_base.specs.declared.event.Part.{Part}
 use Rattle.exec_rules.specs.Machine.{Machine, IsOrderly}
 use Rattle.exec_rules.specs.Run.{Stage, At, Ended, begin, next, steps, still_to_run, IsUnderWay, run, Reaches, GoesOnTo, StoppedIn}
-use Rattle.exec_rules.specs.RunLaws.{begin_balanced, begin_left, next_left, reached_balanced, reaches_then, run_reached}
+use Rattle.exec_rules.proofs.Lemmas.RunLaws.{begin_balanced, begin_left, next_left, reached_balanced, reaches_then, run_reached}
 use Rattle.exec_rules.specs.Instructions.{xcm}
-use Rattle.exec_rules.specs.Stopping.{spills}
-use Rattle.xcm_executor.specs.Running.{IsRunnable}
+use Rattle.exec_rules.specs.Stopping.{leaves_on_oom}
+use Rattle.xcm_executor.specs.Running.{IsReadyToRun}
 use Rattle.xcm_executor.proofs.Standing.{balanced_begin}
 
 pub reached_more : (start mid last : Stage) → Reaches xcm start mid → GoesOnTo xcm mid last → Reaches xcm start last
 reached_more start mid last a b = reaches_then xcm start mid last a (suc b.0, b.1)
 
-pub reached_stopped : (start mid : Stage) (now : Machine) → Reaches xcm start mid → StoppedIn xcm spills mid now → StoppedIn xcm spills start now
+pub reached_stopped : (start mid : Stage) (now : Machine) → Reaches xcm start mid → StoppedIn xcm leaves_on_oom mid now → StoppedIn xcm leaves_on_oom start now
 reached_stopped start mid now a b = record { part = b.part; place = b.place; which = b.which; behind = b.behind; before = b.before; reached = reaches_then xcm start mid _ a b.reached; halted = b.halted }
 
 module _ (orderly : IsOrderly xcm) where
-  pub reached_runnable : (first part : Part) (p q : List Instruction) (m n : Machine) → Reaches xcm (begin first p m) (begin part q n) → IsRunnable first p m → IsRunnable part q n
+  pub reached_runnable : (first part : Part) (p q : List Instruction) (m n : Machine) → Reaches xcm (begin first p m) (begin part q n) → IsReadyToRun first p m → IsReadyToRun part q n
   reached_runnable first part p q m n r a = record {
     accounted = (a.accounted.0, balanced_begin a.accounted.0 part q n (reached_balanced xcm orderly a.accounted.0 _ _ r (begin_balanced a.accounted.0 first p m a.accounted.1)));
     ready = λ next_part place x behind k s. a.ready next_part place x behind k (reaches_then xcm (begin first p m) (begin part q n) (At next_part place x behind k) r s);

@@ -4,7 +4,7 @@ use Rattle.xcm_program.specs.declared.rule.WeightRule.{WeightRule}
 use Rattle.xcm_program.specs.declared.instruction.Instruction.{Instruction}
 use Rattle.xcm_program.specs.Measure.{deep_count}
 use Rattle.xcm_program.specs.Weights.{ref_time_of, proof_size_of}
-use Rattle.xcm_executor.specs.Running.{IsWeighable}
+use Rattle.xcm_executor.proofs.Lemmas.Running.{IsWeighable}
 
 module _ (rule : WeightRule) (items : List Instruction) (x : Instruction) (behind : List Instruction) (is : items ≡ x ∷ behind) where
   pub time_first : ref_time_of rule items ≡ ref_time_of rule (x ∷ []) + ref_time_of rule behind

@@ -1,24 +1,26 @@
 -- A program, as far as its instructions were taken.
 use Rattle.std.proofs.Common.{◌≡◌, ℕ, zero, suc, ◌+◌, ◌<◌, ◌≤◌, ◌^◌, List, [], ◌∷◌, length, true, Option, Some, None, refl, sym, ap, ◌∙◌, subst, arith}
 use Rattle.std.specs.Prelude.{nat_lt}
-use Rattle.message_parts.specs.declared.error.XcmError.{XcmError}
-use Rattle.message_parts.specs.declared.weight.Weight.{Weight}
+use Rattle.operands.specs.declared.error.XcmError.{XcmError}
+use Rattle.operands.specs.declared.weight.Weight.{Weight}
 use Rattle.weight_trader.specs.Sums.{weight_sum}
 use Rattle.xcm_program.specs.declared.instruction.Instruction.{Instruction}
 use Rattle.xcm_program.specs.Measure.{deep_count_one, deep_count}
-use Rattle.xcm_program.specs.Laws.{deep_count_one-kept}
+use Rattle.xcm_program.proofs.Lemmas.{deep_count_one-kept}
 use Rattle.exec_base.specs.declared.event.Part.{Part}
 use Rattle.exec_base.specs.declared.event.Part.TheVariants.{Appendix}
 use Rattle.exec_base.specs.declared.registers.Registers.{Registers}
 use Rattle.exec_rules.specs.Machine.{Machine, machine, control_of, IsOrderly}
 use Rattle.exec_rules.specs.Run.{Stage, At, begin, to_appendix, to_handler, go_on, failed_with, appendix_of, next_program, without_appendix, handler_dropped, traced, left_after, by_answer, steps, is_accepted, begins_well, IsTaken, Halted, GoesOnTo, StoppedIn}
-use Rattle.exec_rules.specs.Accounts.{Balances, IsBalanced, IsAccounted}
-use Rattle.exec_rules.specs.BalanceLaws.{failed_balances}
-use Rattle.exec_rules.specs.RunLaws.{begin_balanced, steps_balanced, steps_plus, one_step}
+use Rattle.exec_rules.specs.Accounts.{Balances, IsBalanced, IsWeightAccounted}
+use Rattle.exec_rules.proofs.Lemmas.BalanceLaws.{failed_balances}
+use Rattle.exec_rules.proofs.Lemmas.RunLaws.{begin_balanced, steps_balanced, steps_plus, one_step}
 use Rattle.exec_rules.specs.Instructions.{xcm}
 use Rattle.exec_rules.specs.Readiness.{IsReady}
-use Rattle.exec_rules.specs.Stopping.{spills}
-use Rattle.xcm_executor.specs.Running.{IsReadyThroughout, IsWeighable}
+use Rattle.exec_rules.specs.Stopping.{leaves_on_oom}
+use Rattle.xcm_executor.specs.Running.{IsReadyThroughout}
+use Rattle.xcm_executor.proofs.Lemmas.Running.{IsWeighable}
+use Rattle.plain_lists.proofs.Lemmas.Facts.{zero_below as positive}
 
 -- after so many instructions these are left
 pub record Stands (start : Stage) (part : Part) (place : ℕ) (behind : List Instruction) (m : Machine) : Type 0 where
@@ -43,14 +45,11 @@ some_count (x ∷ p) = let a = some_count p in let c = at_least x in omega (arit
     at_least : (x : Instruction) → 1 ≤ deep_count_one x
     at_least x = let c = deep_count_one-kept x in omega (arith, c)
 
-pub accounted : (part : Part) (p : List Instruction) (m : Machine) (a : IsAccounted p m.regs) → IsBalanced a.0 (begin part p m)
+pub accounted : (part : Part) (p : List Instruction) (m : Machine) (a : IsWeightAccounted p m.regs) → IsBalanced a.0 (begin part p m)
 accounted part p m a = begin_balanced a.0 part p m a.1
 
-pub place_fits : (place : ℕ) (p : List Instruction) (r : Registers) → IsAccounted p r → place < length p → place < 2 ^ 32
+pub place_fits : (place : ℕ) (p : List Instruction) (r : Registers) → IsWeightAccounted p r → place < length p → place < 2 ^ 32
 place_fits place p r a inside = let f = some_count p in omega (arith, a.1.few, f, inside)
-
-positive : (n : ℕ) → nat_lt 0 (suc n) ≡ true
-positive n = let h : 0 < suc n = omega arith in grind (arith, h)
 
 -- the first instruction of a program
 module _ (part : Part) (m₀ m : Machine) (items : List Instruction) (x : Instruction) (behind : List Instruction) (is : items ≡ x ∷ behind) where
@@ -90,7 +89,7 @@ module _ (start : Stage) (part : Part) (place : ℕ) (items : List Instruction) 
   pub stands_ready : IsReadyThroughout start → IsReady x m
   stands_ready ready = ready part place x behind m (place, here)
 
-  pub stands_stopped : (now : Machine) → Halted xcm spills x m now → StoppedIn xcm spills start now
+  pub stands_stopped : (now : Machine) → Halted xcm leaves_on_oom x m now → StoppedIn xcm leaves_on_oom start now
   stands_stopped now h = record { part = part; place = place; which = x; behind = behind; before = m; reached = (place, here); halted = h }
 
   -- it was done

@@ -1,33 +1,24 @@
 -- What the parts of an execution rely on, and what they leave where memory is refused. This project's own vocabulary.
-use Rattle.std.specs.Prelude.{◌≡◌, ◌⊎◌, ℕ, ◌<◌, ◌^◌, List}
+use Rattle.std.specs.Prelude.{◌≡◌, ◌⊎◌, ℕ, List}
 use Rattle.xcm_program.specs.declared.instruction.Instruction.{Instruction}
-use Rattle.xcm_program.specs.declared.rule.WeightRule.{WeightRule}
-use Rattle.xcm_program.specs.Measure.{deep_count}
-use Rattle.xcm_program.specs.Weights.{ref_time_of, proof_size_of}
 use Rattle.exec_base.specs.declared.event.Part.{Part}
 use Rattle.exec_base.specs.Host.{settled}
 use Rattle.exec_rules.specs.Machine.{Machine, machine}
 use Rattle.exec_rules.specs.Run.{Stage, At, begin, Reaches}
-use Rattle.exec_rules.specs.Accounts.{IsAccounted}
+use Rattle.exec_rules.specs.Accounts.{IsWeightAccounted}
 use Rattle.exec_rules.specs.Outcome.{refund_surplus, end_told, refunded_last}
 use Rattle.exec_rules.specs.Instructions.{xcm}
 use Rattle.exec_rules.specs.Readiness.{IsReady}
-use Rattle.exec_rules.specs.Stopping.{spills}
+use Rattle.exec_rules.specs.Stopping.{leaves_on_oom}
 
 -- wherever the run comes from here, the next instruction may be taken
 abbrev pub IsReadyThroughout : Stage → Type 0
 IsReadyThroughout g = (part : Part) (place : ℕ) (x : Instruction) (behind : List Instruction) (m : Machine) → Reaches xcm g (At part place x behind m) → IsReady x m
 
 -- a program may be run: what it weighs is accounted for, and its instructions may be taken
-pub record IsRunnable (part : Part) (program : List Instruction) (m : Machine) : Type 0 where
-  pub accounted : IsAccounted program m.regs
+pub record IsReadyToRun (part : Part) (program : List Instruction) (m : Machine) : Type 0 where
+  pub accounted : IsWeightAccounted program m.regs
   pub ready : IsReadyThroughout (begin part program m)
-
--- instructions that don't run have a weight
-pub record IsWeighable (rule : WeightRule) (program : List Instruction) : Type 0 where
-  pub few : deep_count program < 2 ^ 32
-  pub short : ref_time_of rule program < 2 ^ 64
-  pub small : proof_size_of rule program < 2 ^ 64
 
 -- at the end of a run, before what is held is trapped: the last refund, the line of the end, and paid fees where they belong
 abbrev pub wound_up : Machine → Machine
@@ -37,4 +28,4 @@ wound_up m = let last = refunded_last xcm m in machine last.regs (settled (end_t
 abbrev pub HaltedBefore : Machine → Machine → Type 0
 HaltedBefore m now =
     let last = refunded_last xcm m in
-    spills refund_surplus m now ⊎ (now ≡ last) ⊎ (now ≡ machine last.regs (end_told last))
+    leaves_on_oom refund_surplus m now ⊎ (now ≡ last) ⊎ (now ≡ machine last.regs (end_told last))

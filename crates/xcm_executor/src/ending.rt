@@ -1,21 +1,21 @@
 //! The end of a run.
 ghost use Rattle.std.specs.Prelude.{◌≡◌, ◌<◌, length, OnOk, OnErr, IfOk};
 ghost use Rattle.amounts.specs.Amounts.{rows};
-ghost use Rattle.message_parts.specs.Weights.{IsWithin};
+ghost use Rattle.operands.specs.Weights.{IsWithin};
 ghost use Rattle.exec_base.specs.Host.{trapped};
 ghost use Rattle.exec_rules.specs.Machine.{machine};
 ghost use Rattle.exec_rules.specs.Outcome.{refund_surplus, outcome_of, owner_of, refunded_last, rest_trapped, finished, abandoned, HaltedAtEnd};
 ghost use Rattle.exec_rules.specs.Instructions.{xcm};
 ghost use Rattle.exec_rules.specs.Readiness.{IsReady};
-ghost use Rattle.exec_rules.specs.Stopping.{spills};
+ghost use Rattle.exec_rules.specs.Stopping.{leaves_on_oom};
 ghost use Rattle.xcm_executor.specs.Running.{wound_up, HaltedBefore};
 
 use asset_bundles::AssetBundle;
 use exec_assets::refund_surplus;
 use exec_base::{Event, Host, Registers};
-use exec_calls::law_of_readiness;
+use exec_rules::law_of_readiness;
 use locations::Location;
-use message_parts::Weight;
+use operands::Weight;
 use std::alloc::{AllocError, Global};
 use std::mem;
 use xcm_program::{Outcome, OutcomeError};
@@ -121,7 +121,7 @@ fn refund<H: Host>(r: &mut Registers, h: &mut H) -> Result<(), AllocError>
     requires ready { IsReady refund_surplus (machine r.old (H.part h.old)) }
     ensures ok { OnOk result (machine r.new (H.part h.new)
         ≡ refunded_last xcm (machine r.old (H.part h.old))) }
-    ensures err { OnErr result (spills refund_surplus (machine r.old (H.part h.old))
+    ensures err { OnErr result (leaves_on_oom refund_surplus (machine r.old (H.part h.old))
         (machine r.new (H.part h.new))) }
 {
     match refund_surplus(r, h)? {
@@ -170,7 +170,7 @@ pub(crate) fn close<H: Host>(
     ensures ok { OnOk result (H.part h.new ≡ finished xcm (machine r.old (H.part h.old))) }
     ensures outcome { IfOk result (λ outcome. outcome
         ≡ outcome_of weight (refunded_last xcm (machine r.old (H.part h.old))).regs) }
-    ensures err { OnErr result (HaltedAtEnd xcm spills (machine r.old (H.part h.old))
+    ensures err { OnErr result (HaltedAtEnd xcm leaves_on_oom (machine r.old (H.part h.old))
         (H.part h.new)) }
 {
     law_of_readiness(); // For the prover alone.

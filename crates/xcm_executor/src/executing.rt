@@ -2,19 +2,19 @@
 ghost use Rattle.std.specs.Prelude.{◌≡◌, [], Ok, IfOk, OnOk, OnErr};
 ghost use Rattle.exec_base.specs.Sending.{IsForwardable};
 ghost use Rattle.exec_rules.specs.Readiness.{IsAtRest};
-ghost use Rattle.exec_admission.specs.Admission.{IsWeighed};
-ghost use Rattle.exec_admission.specs.Execution.{started, executed_by, AbandonedIn, executed, IsAbandoned};
+ghost use Rattle.exec_rules.specs.Admission.{IsWeighed};
+ghost use Rattle.exec_rules.specs.Execution.{started, executed_by, AbandonedIn, executed, IsAbandoned};
 
 use crate::ending::{abandon, close, let_go};
 use crate::running::run_all;
 use crate::taking::no_program;
-use crate::weights::NOTHING;
 use asset_bundles::AssetBundle;
-use exec_admission::{Admitted, ChainRules, admit, law_of_admission};
 use exec_base::{Host, Registers};
-use exec_calls::{law_of_readiness, law_of_rules};
+use exec_rules::{
+    Admitted, ChainRules, admit, law_of_admission, law_of_orderly_instructions, law_of_readiness,
+};
 use locations::Location;
-use message_parts::{MaybeError, Weight};
+use operands::{MaybeError, Weight};
 use std::alloc::{AllocError, Global};
 use xcm_program::{Outcome, Program};
 
@@ -29,13 +29,13 @@ fn blank_registers(alloc: Global, rules: &ChainRules) -> Registers
         original: Location::here(),
         error: None,
         handler: no_program(alloc),
-        handler_weight: NOTHING,
+        handler_weight: Weight::ZERO,
         appendix: no_program(alloc),
-        appendix_weight: NOTHING,
+        appendix_weight: Weight::ZERO,
         topic: None,
         status: MaybeError::Success,
-        surplus: NOTHING,
-        refunded: NOTHING,
+        surplus: Weight::ZERO,
+        refunded: Weight::ZERO,
         fees_mode: false,
         rule: rules.weight,
         max_holding: rules.max_holding,
@@ -72,7 +72,7 @@ fn run_admitted<H: Host>(
 {
     law_of_admission(); // For the prover alone, as the next two lines.
     law_of_readiness();
-    law_of_rules();
+    law_of_orderly_instructions();
     let Admitted { program, weight } = admitted;
     let mut registers = blank_registers(alloc, rules);
     set_origin(&mut registers, rules, origin);

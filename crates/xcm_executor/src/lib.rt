@@ -8,5 +8,5 @@ mod running;
 mod taking;
 mod weights;
 
-pub use exec_admission::{Barriers, ChainRules};
+pub use exec_rules::{Barriers, ChainRules};
 pub use executing::execute;

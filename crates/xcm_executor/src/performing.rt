@@ -3,7 +3,7 @@ ghost use Rattle.std.specs.Prelude.{IfOk, OnErr};
 ghost use Rattle.exec_rules.specs.Machine.{machine, Performed};
 ghost use Rattle.exec_rules.specs.Instructions.{xcm};
 ghost use Rattle.exec_rules.specs.Readiness.{IsReady};
-ghost use Rattle.exec_rules.specs.Stopping.{spills};
+ghost use Rattle.exec_rules.specs.Stopping.{leaves_on_oom};
 
 use crate::taking::no_program;
 use exec_assets::{
@@ -23,7 +23,7 @@ use exec_transfers::{
     deposit_reserve_asset, initiate_reserve_withdraw, initiate_teleport, lock_asset, query_pallet,
     report_error, report_holding, report_transact_status, request_unlock, transfer_reserve_asset,
 };
-use message_parts::XcmError;
+use operands::XcmError;
 use std::alloc::{AllocError, Global};
 use std::mem;
 use xcm_program::Instruction;
@@ -38,7 +38,7 @@ pub(crate) fn perform<H: Host>(
     requires ready { IsReady instruction.old (machine r.old (H.part h.old)) }
     ensures ok { IfOk result (λ answer. Performed xcm instruction.old (machine r.old (H.part h.old))
         answer (machine r.new (H.part h.new))) }
-    ensures err { OnErr result (spills instruction.old (machine r.old (H.part h.old))
+    ensures err { OnErr result (leaves_on_oom instruction.old (machine r.old (H.part h.old))
         (machine r.new (H.part h.new))) }
 {
     match instruction {

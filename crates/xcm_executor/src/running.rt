@@ -3,12 +3,12 @@ ghost use Rattle.std.specs.Prelude.{◌≡◌, OnOk, OnErr, IfOk};
 ghost use Rattle.exec_rules.specs.Machine.{machine};
 ghost use Rattle.exec_rules.specs.Run.{begin, run, begins_well, Ended, StoppedIn};
 ghost use Rattle.exec_rules.specs.Instructions.{xcm};
-ghost use Rattle.exec_rules.specs.Stopping.{spills};
-ghost use Rattle.xcm_executor.specs.Running.{IsRunnable};
+ghost use Rattle.exec_rules.specs.Stopping.{leaves_on_oom};
+ghost use Rattle.xcm_executor.specs.Running.{IsReadyToRun};
 
 use crate::taking::take_program;
 use exec_base::{Host, Part, Registers};
-use exec_calls::law_of_rules;
+use exec_rules::law_of_orderly_instructions;
 use std::alloc::{AllocError, Global};
 use xcm_program::Program;
 
@@ -19,16 +19,16 @@ pub(crate) fn run_all<H: Host>(
     r: &mut Registers,
     h: &mut H,
 ) -> Result<bool, AllocError>
-    requires runnable { IsRunnable Part.Program program (machine r.old (H.part h.old)) }
+    requires runnable { IsReadyToRun Part.Program program (machine r.old (H.part h.old)) }
     ensures ok { OnOk result (run xcm (begin Part.Program program (machine r.old (H.part h.old)))
         ≡ Ended (machine r.new (H.part h.new))) }
     ensures began { IfOk result (λ began. began
         ≡ begins_well xcm program (machine r.old (H.part h.old))) }
-    ensures err { OnErr result (StoppedIn xcm spills
+    ensures err { OnErr result (StoppedIn xcm leaves_on_oom
         (begin Part.Program program (machine r.old (H.part h.old)))
         (machine r.new (H.part h.new))) }
 {
-    law_of_rules(); // For the prover alone.
+    law_of_orderly_instructions(); // For the prover alone.
     if program.items().is_empty() {
         return Ok(false);
     }

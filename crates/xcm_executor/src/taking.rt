@@ -4,14 +4,14 @@ ghost use Rattle.exec_rules.specs.Machine.{machine};
 ghost use Rattle.exec_rules.specs.Run.{without_appendix, without_handler, handler_dropped, failed_with, appendix_of, next_program, begin, begins_well, IsTaken, Halted, GoesOnTo, StoppedIn};
 ghost use Rattle.exec_rules.specs.Instructions.{xcm};
 ghost use Rattle.exec_rules.specs.Readiness.{IsReady};
-ghost use Rattle.exec_rules.specs.Stopping.{spills};
-ghost use Rattle.xcm_executor.specs.Running.{IsRunnable};
+ghost use Rattle.exec_rules.specs.Stopping.{leaves_on_oom};
+ghost use Rattle.xcm_executor.specs.Running.{IsReadyToRun};
 
 use crate::performing::perform;
-use crate::weights::{NOTHING, added};
+use crate::weights::added;
 use exec_base::{Event, Host, Part, Registers};
-use exec_calls::law_of_rules;
-use message_parts::{Weight, XcmError};
+use exec_rules::law_of_orderly_instructions;
+use operands::{Weight, XcmError};
 use plain_lists::Listed;
 use std::alloc::{AllocError, Global};
 use std::mem;
@@ -30,7 +30,7 @@ fn take_appendix(alloc: Global, r: &mut Registers) -> Program
     ensures program { result ≡ r.old.appendix }
     ensures registers { r.new ≡ without_appendix r.old }
 {
-    r.appendix_weight = NOTHING;
+    r.appendix_weight = Weight::ZERO;
     mem::replace(&mut r.appendix, no_program(alloc))
 }
 
@@ -39,7 +39,7 @@ fn take_handler(alloc: Global, r: &mut Registers) -> Program
     ensures program { result ≡ r.old.handler }
     ensures registers { r.new ≡ without_handler r.old }
 {
-    r.handler_weight = NOTHING;
+    r.handler_weight = Weight::ZERO;
     mem::replace(&mut r.handler, no_program(alloc))
 }
 
@@ -88,7 +88,7 @@ fn take<H: Host>(
     requires ready { IsReady instruction.old (machine r.old (H.part h.old)) }
     ensures ok { IfOk result (λ error. IsTaken xcm part place instruction.old
         (machine r.old (H.part h.old)) error (machine r.new (H.part h.new))) }
-    ensures err { OnErr result (Halted xcm spills instruction.old (machine r.old (H.part h.old))
+    ensures err { OnErr result (Halted xcm leaves_on_oom instruction.old (machine r.old (H.part h.old))
         (machine r.new (H.part h.new))) }
 {
     let number = instruction.index();
@@ -115,16 +115,16 @@ pub(crate) fn take_program<H: Host>(
     h: &mut H,
 ) -> Result<(Part, Program, bool), AllocError>
     requires some { 0 < length program }
-    requires runnable { IsRunnable part program (machine r.old (H.part h.old)) }
+    requires runnable { IsReadyToRun part program (machine r.old (H.part h.old)) }
     ensures ok { IfOk result
         (λ next. GoesOnTo xcm (begin part program (machine r.old (H.part h.old)))
         (begin next.0 next.1 (machine r.new (H.part h.new)))) }
     ensures began { IfOk result (λ next. next.2
         ≡ begins_well xcm program (machine r.old (H.part h.old))) }
-    ensures err { OnErr result (StoppedIn xcm spills
+    ensures err { OnErr result (StoppedIn xcm leaves_on_oom
         (begin part program (machine r.old (H.part h.old))) (machine r.new (H.part h.new))) }
 {
-    law_of_rules(); // For the prover alone.
+    law_of_orderly_instructions(); // For the prover alone.
     let mut instructions = program.into_vec();
     for place in 0..instructions.len() {
         let at = place as u32;

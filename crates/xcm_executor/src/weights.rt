@@ -2,13 +2,7 @@
 ghost use Rattle.std.specs.Prelude.{◌≡◌, ◌+◌, ◌<◌, ◌^◌};
 ghost use Rattle.exec_rules.specs.Machine.{weight_added};
 
-use message_parts::Weight;
-
-/// No weight.
-pub(crate) const NOTHING: Weight = Weight {
-    ref_time: 0,
-    proof_size: 0,
-};
+use operands::Weight;
 
 /// The sum of two weights, which fits.
 pub(crate) fn added(a: Weight, b: Weight) -> Weight

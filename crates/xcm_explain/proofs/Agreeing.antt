@@ -2,11 +2,11 @@
 use Rattle.std.proofs.Common.{ℕ, zero, suc, ◌-◌, ◌^◌, true, false, List, ◌∷◌, Option, Some, None, refl, ap, if◌then◌else◌}
 use Rattle.std.specs.Prelude.{nat_eq}
 use Rattle.scale_codec.specs.Reading.{◌>>=◌, below_at, repeated}
-use Rattle.message_parts.specs.declared.version.Version.{Version}
+use Rattle.operands.specs.declared.version.Version.{Version}
 use Rattle.xcm_program.specs.declared.instruction.Instruction.{Instruction}
 use Rattle.xcm_program.specs.Measure.{inner}
-use Rattle.head_reading.specs.Reading.{Layer, head_at}
-use Rattle.program_wire.specs.Reading.{Nested, closed, instruction_at, instruction_step, items_at, program_at}
+use Rattle.instruction_reading.specs.Reading.{Layer, head_at}
+use Rattle.versioned_xcm.specs.Programs.{Nested, closed, instruction_at, instruction_step, items_at, program_at}
 use Rattle.xcm_explain.specs.declared.stop.Expected.TheVariants as expected
 use Rattle.xcm_explain.specs.declared.stop.Walked.{Walked}
 use Rattle.xcm_explain.specs.declared.stop.Walked.TheVariants.{Stopped}

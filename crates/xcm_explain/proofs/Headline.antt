@@ -8,18 +8,11 @@ use Rattle.line_serving.specs.declared.status.Status.{Status}
 use Rattle.line_serving.specs.declared.status.Status.TheVariants.{Usage}
 use Rattle.xcm_explain.specs.declared.explainer.Explainer.{Explainer}
 use Rattle.xcm_explain.specs.Explanations.{explanation, explained, explainer_replies, line_room, explain_usage}
+use Rattle.plain_lists.proofs.Lemmas.Facts.{every_some, map_some}
 
 -- a reply tells the status and the bytes
 told_by : (status : Status) (text : List ℕ) (old new : Option (List ℕ)) (whole : Reply) → whole ≡ ends text status → Appends old new text → (status ≡ whole.status) × Appends old new whole.text
 told_by status text old new whole e a = rw e (refl, a)
-
-map_some : (o : Option (List ℕ)) (P Q : List ℕ → Type 0) → ((x : List ℕ) → P x → Q x) → IfSome o P → IfSome o Q
-map_some (Some x) P Q f p = f x p
-map_some None P Q f p = tt
-
-every_some : (o : Option (List ℕ)) (P : List ℕ → Type 0) → ((x : List ℕ) → P x) → IfSome o P
-every_some (Some x) P f = f x
-every_some None P f = tt
 
 pub answer_served : {E : Type 0} (replies : Replies) (room : Rooms) (left rest old new : Option (List ℕ)) (result : Result Status E) → Serves replies room left rest old new result
     → IfOk result (λ status. (IsFault status → ⊥) → IfSome left (λ bytes. (status ≡ (bytes_reply replies bytes).status) × Appends old new (bytes_reply replies bytes).text))

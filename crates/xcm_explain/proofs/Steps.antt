@@ -11,6 +11,7 @@ use Rattle.xcm_explain.specs.declared.line.HexLine.TheVariants.{Blank, Bytes, No
 use Rattle.xcm_explain.specs.Lines.{hex_line}
 use Rattle.xcm_explain.specs.Blocks.{message_block, not_hex_line}
 use Rattle.xcm_explain.specs.Explanations.{lines_explained, line_room, IsCounted}
+use Rattle.plain_lists.proofs.Lemmas.Facts.{second_true as both}
 
 -- ---- what is written for it
 
@@ -42,10 +43,6 @@ long_here before taken line lines past = rw (past, lines_explained) refl
 
 pub room_behind : (taken : ℕ) (line : List ℕ) (lines : List (List ℕ)) (begun : ℕ) → line_room (taken + length line) lines begun → line_room taken (line ∷ lines) begun
 room_behind taken line lines begun r = (r.0, omega (arith, length-append line (concat lines), r.1))
-
-both : (a b : Bool) → (a && b) ≡ true → b ≡ true
-both true b e = e
-both false b e = absurd cc
 
 pub total_fits : (taken : ℕ) (line : List ℕ) → fits_limits taken line ≡ true → taken + length line ≤ max_input
 total_fits taken line e =

@@ -1,7 +1,7 @@
 -- Walks past programs, step by step.
 use Rattle.std.proofs.Common.{◌≡◌, ◌∙◌, ℕ, zero, suc, ◌+◌, ◌-◌, ◌^◌, ◌<◌, ◌≤◌, List, Some, None, refl, sym, ap, arith}
 use Rattle.scale_codec.specs.Reading.{below_at}
-use Rattle.message_parts.specs.declared.version.Version.{Version}
+use Rattle.operands.specs.declared.version.Version.{Version}
 use Rattle.xcm_explain.specs.declared.stop.Expected.{Expected}
 use Rattle.xcm_explain.specs.declared.stop.Expected.TheVariants as expected
 use Rattle.xcm_explain.specs.declared.stop.Walked.{Walked}

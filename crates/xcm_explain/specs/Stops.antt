@@ -2,11 +2,11 @@
 -- that can't be read, or the end. Source: this project's own rule, over the readers of the XCM format.
 use Rattle.std.specs.Prelude.{◌≡◌, ℕ, zero, suc, ◌+◌, ◌-◌, ◌^◌, ◌==◌, nat_eq, List, [], ◌∷◌, ◌++◌, length, Option, Some, None, codes, decimal, if◌then◌else◌}
 use Rattle.scale_codec.specs.Reading.{below_at}
-use Rattle.message_parts.specs.declared.version.Version.{Version}
-use Rattle.message_parts.specs.declared.version.Version.TheVariants.{V3, V4}
+use Rattle.operands.specs.declared.version.Version.{Version}
+use Rattle.operands.specs.declared.version.Version.TheVariants.{V3, V4}
 use Rattle.xcm_program.specs.declared.instruction.Instruction.{Instruction}
 use Rattle.xcm_program.specs.Measure.{inner}
-use Rattle.head_reading.specs.Reading.{Layer, head_at}
+use Rattle.instruction_reading.specs.Reading.{Layer, head_at}
 use Rattle.xcm_explain.specs.declared.stop.Expected.{Expected}
 use Rattle.xcm_explain.specs.declared.stop.Expected.TheVariants as expected
 use Rattle.xcm_explain.specs.declared.stop.Walked.{Walked}

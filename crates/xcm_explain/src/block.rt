@@ -57,10 +57,10 @@ fn refusal_place(alloc: Global, bytes: &[u8], fault: MessageFault) -> Result<Str
     ensures { IfOk result (λ text. string_bytes text ≡ refusal_place bytes.now fault) }
 {
     match fault {
-        MessageFault::UnknownVersion | MessageFault::NotAMessage => match find_stop(alloc, bytes) {
-            Ok(stop) => stop_text(alloc, stop),
-            Err(refused) => Err(refused),
-        },
+        MessageFault::UnknownVersion | MessageFault::NotAMessage => {
+            let stop = find_stop(alloc, bytes)?;
+            stop_text(alloc, stop)
+        }
         MessageFault::TooLong | MessageFault::NotConvertible | MessageFault::Memory => {
             Ok(String::new(alloc))
         }

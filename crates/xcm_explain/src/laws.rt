@@ -1,8 +1,8 @@
 //! What the places of refusals amount to.
 
 ghost use Rattle.std.specs.Prelude.{ℕ, List};
-ghost use Rattle.message_parts.specs.declared.version.Version.{Version};
-ghost use Rattle.program_wire.specs.Reading.{program_at};
+ghost use Rattle.operands.specs.declared.version.Version.{Version};
+ghost use Rattle.versioned_xcm.specs.Programs.{program_at};
 ghost use Rattle.xcm_explain.specs.Stops.{WalksAsRead, walk_program};
 
 /// A walk goes past a program just where one is read, to the same place, and else it stops. So the end is named only where bytes stand behind a

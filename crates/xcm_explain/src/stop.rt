@@ -3,12 +3,10 @@
 ghost use Rattle.std.specs.Prelude.{◌≡◌, Some, IfOk};
 ghost use Rattle.xcm_explain.specs.Stops.{expected_text, walk_instruction, walk_program, walked_to, reading_stop};
 
-use head_wire::read_head;
-use program_wire::{MAX_DEPTH, MAX_INSTRUCTIONS};
 use scale_codec::{Cursor, WireFault};
 use std::alloc::{AllocError, Global};
 use std::fmt;
-use versioned_xcm::Version;
+use versioned_xcm::{MAX_DEPTH, MAX_INSTRUCTIONS, Version, read_head};
 use xcm_program::inner;
 
 /// What was to stand where reading stopped. Its text is what an explanation says of it.

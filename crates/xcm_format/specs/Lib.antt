@@ -2,4 +2,4 @@ pub mod Parts
 pub mod Programs
 pub mod Messages
 pub mod Writable
-pub mod Laws
+pub mod Reading

@@ -2,8 +2,8 @@
 -- project's own rule: the versions 3 and 4 alone are read (0, 1, 2 and 5 are left out), and the limits of 100 deep instructions, 8 levels and
 -- 65,536 bytes.
 use Rattle.std.specs.Prelude.{◌≡◌, ◌≤◌, ℕ, List, ◌∷◌, length}
-use Rattle.message_parts.specs.declared.version.Version.{Version}
-use Rattle.message_parts.specs.declared.version.Version.TheVariants.{V3, V4}
+use Rattle.operands.specs.declared.version.Version.{Version}
+use Rattle.operands.specs.declared.version.Version.TheVariants.{V3, V4}
 use Rattle.xcm_program.specs.declared.instruction.Instruction.{Instruction}
 use Rattle.xcm_program.specs.Measure.{deep_count, depth}
 use Rattle.xcm_format.specs.Programs.{program_spelling, FitsProgram}

@@ -6,21 +6,21 @@ use Rattle.std.specs.Prelude.{ℕ, ◌<◌, ◌≤◌, ◌^◌, List, [], ◌∷
 use Rattle.std.specs.List.{AllByRecursion}
 use Rattle.scale_codec.specs.Spelling.{fixed, compact, optional, counted, measured}
 use Rattle.location_wire.specs.Spelling.{location, FitsLocation}
-use Rattle.message_parts.specs.declared.version.Version.{Version}
+use Rattle.operands.specs.declared.version.Version.{Version}
 use Rattle.asset_wire.specs.Spelling.{assets, FitsAssets}
-use Rattle.message_parts.specs.declared.weight.Weight.{Weight}
-use Rattle.message_parts.specs.declared.weight.WeightLimit.{WeightLimit}
-use Rattle.message_parts.specs.declared.weight.WeightLimit.TheVariants.{Unlimited, Limited}
-use Rattle.message_parts.specs.declared.origin.OriginKind.{OriginKind}
-use Rattle.message_parts.specs.declared.origin.OriginKind.TheVariants.{Native, SovereignAccount, Superuser, Xcm}
-use Rattle.message_parts.specs.declared.error.XcmError.{XcmError}
-use Rattle.message_parts.specs.declared.error.XcmError.TheVariants.{Overflow, Unimplemented, UntrustedReserveLocation, UntrustedTeleportLocation, LocationFull, LocationNotInvertible, BadOrigin, InvalidLocation, AssetNotFound, FailedToTransactAsset, NotWithdrawable, LocationCannotHold, ExceedsMaxMessageSize, DestinationUnsupported, Transport, Unroutable, UnknownClaim, FailedToDecode, MaxWeightInvalid, NotHoldingFees, TooExpensive, Trap, ExpectationFalse, PalletNotFound, NameMismatch, VersionIncompatible, HoldingWouldOverflow, ExportError, ReanchorFailed, NoDeal, FeesNotMet, LockError, NoPermission, Unanchored, NotDepositable}
-use Rattle.message_parts.specs.declared.status.MaybeError.{MaybeError}
-use Rattle.message_parts.specs.declared.status.MaybeError.TheVariants.{Success, Error, TruncatedError}
-use Rattle.message_parts.specs.declared.pallet.PalletInfo.{PalletInfo}
-use Rattle.message_parts.specs.declared.query.QueryInfo.{QueryInfo}
-use Rattle.message_parts.specs.declared.query.Response.{Response}
-use Rattle.message_parts.specs.declared.query.Response.TheVariants as responses
+use Rattle.operands.specs.declared.weight.Weight.{Weight}
+use Rattle.operands.specs.declared.weight.WeightLimit.{WeightLimit}
+use Rattle.operands.specs.declared.weight.WeightLimit.TheVariants.{Unlimited, Limited}
+use Rattle.operands.specs.declared.origin.OriginKind.{OriginKind}
+use Rattle.operands.specs.declared.origin.OriginKind.TheVariants.{Native, SovereignAccount, Superuser, Xcm}
+use Rattle.operands.specs.declared.error.XcmError.{XcmError}
+use Rattle.operands.specs.declared.error.XcmError.TheVariants.{Overflow, Unimplemented, UntrustedReserveLocation, UntrustedTeleportLocation, LocationFull, LocationNotInvertible, BadOrigin, InvalidLocation, AssetNotFound, FailedToTransactAsset, NotWithdrawable, LocationCannotHold, ExceedsMaxMessageSize, DestinationUnsupported, Transport, Unroutable, UnknownClaim, FailedToDecode, MaxWeightInvalid, NotHoldingFees, TooExpensive, Trap, ExpectationFalse, PalletNotFound, NameMismatch, VersionIncompatible, HoldingWouldOverflow, ExportError, ReanchorFailed, NoDeal, FeesNotMet, LockError, NoPermission, Unanchored, NotDepositable}
+use Rattle.operands.specs.declared.status.MaybeError.{MaybeError}
+use Rattle.operands.specs.declared.status.MaybeError.TheVariants.{Success, Error, TruncatedError}
+use Rattle.operands.specs.declared.pallet.PalletInfo.{PalletInfo}
+use Rattle.operands.specs.declared.query.QueryInfo.{QueryInfo}
+use Rattle.operands.specs.declared.query.Response.{Response}
+use Rattle.operands.specs.declared.query.Response.TheVariants as responses
 
 -- ---- weights
 

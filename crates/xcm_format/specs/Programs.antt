@@ -6,7 +6,7 @@ use Rattle.std.specs.Prelude.{◌≡◌, ℕ, ◌<◌, ◌^◌, List, [], ◌∷
 use Rattle.std.specs.List.{AllByRecursion}
 use Rattle.scale_codec.specs.Spelling.{compact, flag, optional, joined}
 use Rattle.location_wire.specs.Spelling.{network, FitsNetwork, junction, FitsJunction, junctions, FitsJunctions, location, FitsLocation}
-use Rattle.message_parts.specs.declared.version.Version.{Version}
+use Rattle.operands.specs.declared.version.Version.{Version}
 use Rattle.asset_wire.specs.Spelling.{asset, FitsAsset, assets, FitsAssets, filter, FitsFilter}
 use Rattle.xcm_format.specs.Parts.{weight, FitsWeight, weight_limit, FitsLimit, origin_kind, failure, FitsFailure, bytes, FitsBytes, maybe_error, FitsMaybeError, query_info, FitsInfo, response, FitsResponse}
 use Rattle.xcm_program.specs.declared.instruction.Instruction.{Instruction, fold-Instruction}

@@ -2,8 +2,8 @@
 
 ghost use Rattle.std.specs.Prelude.{◌≡◌, ◌<◌, ◌^◌, ◌↔◌, true, List};
 ghost use Rattle.std.specs.List.{AllByRecursion};
-ghost use Rattle.message_parts.specs.declared.version.Version.{Version};
-ghost use Rattle.message_parts.specs.declared.version.Version.TheVariants.{V3, V4};
+ghost use Rattle.operands.specs.declared.version.Version.{Version};
+ghost use Rattle.operands.specs.declared.version.Version.TheVariants.{V3, V4};
 ghost use Rattle.xcm_program.specs.declared.instruction.Instruction.{Instruction};
 ghost use Rattle.xcm_program.specs.Measure.{deep_count};
 ghost use Rattle.xcm_program.specs.Conversions.{is_convertible, HasAmounts};

@@ -10,8 +10,8 @@ use Rattle.asset_lists.specs.declared.filters.Wild.TheVariants.{AllOf, AllOfCoun
 use Rattle.asset_lists.specs.declared.filters.Filter.{Filter}
 use Rattle.asset_lists.specs.declared.filters.Filter.TheVariants as filters
 use Rattle.asset_lists.specs.Units.{is_zero}
-use Rattle.message_parts.specs.declared.query.Response.{Response}
-use Rattle.message_parts.specs.declared.query.Response.TheVariants as responses
+use Rattle.operands.specs.declared.query.Response.{Response}
+use Rattle.operands.specs.declared.query.Response.TheVariants as responses
 use Rattle.xcm_program.specs.declared.instruction.Instruction.{Instruction, fold-Instruction}
 use Rattle.xcm_program.specs.declared.instruction.Instruction.TheOpen.{Instruction-F}
 use Rattle.xcm_program.specs.Measure.{inner}
@@ -19,49 +19,49 @@ use Rattle.xcm_program.specs.Everywhere.{Everywhere}
 
 -- ---- no asset id is bytes
 
-abbrev pub is_place : AssetId → Bool
-is_place (Concrete place) = true
-is_place (Abstract bytes) = false
+abbrev pub is_concrete_id : AssetId → Bool
+is_concrete_id (Concrete place) = true
+is_concrete_id (Abstract bytes) = false
 
-abbrev pub are_places : List Asset → Bool
-are_places list = list_all (λ (a : Asset). is_place a.id) list
+abbrev pub have_concrete_ids : List Asset → Bool
+have_concrete_ids list = list_all (λ (a : Asset). is_concrete_id a.id) list
 
-abbrev pub wild_is_place : Wild → Bool
-wild_is_place (AllOf id fun) = is_place id
-wild_is_place (AllOfCounted id fun count) = is_place id
-wild_is_place _ = true
+abbrev pub wild_is_concrete : Wild → Bool
+wild_is_concrete (AllOf id fun) = is_concrete_id id
+wild_is_concrete (AllOfCounted id fun count) = is_concrete_id id
+wild_is_concrete _ = true
 
-abbrev pub filter_is_places : Filter → Bool
-filter_is_places (filters.Definite list) = are_places list
-filter_is_places (filters.Wild which) = wild_is_place which
+abbrev pub filter_is_concrete : Filter → Bool
+filter_is_concrete (filters.Definite list) = have_concrete_ids list
+filter_is_concrete (filters.Wild which) = wild_is_concrete which
 
-abbrev pub response_is_places : Response → Bool
-response_is_places (responses.Assets list) = are_places list
-response_is_places _ = true
+abbrev pub response_is_concrete : Response → Bool
+response_is_concrete (responses.Assets list) = have_concrete_ids list
+response_is_concrete _ = true
 
 -- in an instruction, the program inside left out
-abbrev pub names_places : {X : Type 0} → Instruction-F X → Bool
-names_places (Instruction-F.WithdrawAsset list) = are_places list
-names_places (Instruction-F.ReserveAssetDeposited list) = are_places list
-names_places (Instruction-F.ReceiveTeleportedAsset list) = are_places list
-names_places (Instruction-F.QueryResponse _ answer _ _) = response_is_places answer
-names_places (Instruction-F.TransferAsset list _) = are_places list
-names_places (Instruction-F.TransferReserveAsset list _ _) = are_places list
-names_places (Instruction-F.DepositAsset taken _) = filter_is_places taken
-names_places (Instruction-F.DepositReserveAsset taken _ _) = filter_is_places taken
-names_places (Instruction-F.ExchangeAsset taken list _) = filter_is_places taken && are_places list
-names_places (Instruction-F.InitiateReserveWithdraw taken _ _) = filter_is_places taken
-names_places (Instruction-F.InitiateTeleport taken _ _) = filter_is_places taken
-names_places (Instruction-F.ReportHolding _ taken) = filter_is_places taken
-names_places (Instruction-F.BuyExecution fees _) = is_place fees.id
-names_places (Instruction-F.ClaimAsset list _) = are_places list
-names_places (Instruction-F.BurnAsset list) = are_places list
-names_places (Instruction-F.ExpectAsset list) = are_places list
-names_places (Instruction-F.LockAsset goods _) = is_place goods.id
-names_places (Instruction-F.UnlockAsset goods _) = is_place goods.id
-names_places (Instruction-F.NoteUnlockable goods _) = is_place goods.id
-names_places (Instruction-F.RequestUnlock goods _) = is_place goods.id
-names_places _ = true
+abbrev pub names_concrete_ids : {X : Type 0} → Instruction-F X → Bool
+names_concrete_ids (Instruction-F.WithdrawAsset list) = have_concrete_ids list
+names_concrete_ids (Instruction-F.ReserveAssetDeposited list) = have_concrete_ids list
+names_concrete_ids (Instruction-F.ReceiveTeleportedAsset list) = have_concrete_ids list
+names_concrete_ids (Instruction-F.QueryResponse _ answer _ _) = response_is_concrete answer
+names_concrete_ids (Instruction-F.TransferAsset list _) = have_concrete_ids list
+names_concrete_ids (Instruction-F.TransferReserveAsset list _ _) = have_concrete_ids list
+names_concrete_ids (Instruction-F.DepositAsset taken _) = filter_is_concrete taken
+names_concrete_ids (Instruction-F.DepositReserveAsset taken _ _) = filter_is_concrete taken
+names_concrete_ids (Instruction-F.ExchangeAsset taken list _) = filter_is_concrete taken && have_concrete_ids list
+names_concrete_ids (Instruction-F.InitiateReserveWithdraw taken _ _) = filter_is_concrete taken
+names_concrete_ids (Instruction-F.InitiateTeleport taken _ _) = filter_is_concrete taken
+names_concrete_ids (Instruction-F.ReportHolding _ taken) = filter_is_concrete taken
+names_concrete_ids (Instruction-F.BuyExecution fees _) = is_concrete_id fees.id
+names_concrete_ids (Instruction-F.ClaimAsset list _) = have_concrete_ids list
+names_concrete_ids (Instruction-F.BurnAsset list) = have_concrete_ids list
+names_concrete_ids (Instruction-F.ExpectAsset list) = have_concrete_ids list
+names_concrete_ids (Instruction-F.LockAsset goods _) = is_concrete_id goods.id
+names_concrete_ids (Instruction-F.UnlockAsset goods _) = is_concrete_id goods.id
+names_concrete_ids (Instruction-F.NoteUnlockable goods _) = is_concrete_id goods.id
+names_concrete_ids (Instruction-F.RequestUnlock goods _) = is_concrete_id goods.id
+names_concrete_ids _ = true
 
 abbrev pub all_true : List Bool → Bool
 all_true [] = true
@@ -72,7 +72,7 @@ all_true_inside None = true
 all_true_inside (Some bs) = all_true bs
 
 abbrev pub is_convertible_one : Instruction → Bool
-is_convertible_one = fold-Instruction Bool (λ l. names_places l && all_true_inside (inner l))
+is_convertible_one = fold-Instruction Bool (λ l. names_concrete_ids l && all_true_inside (inner l))
 
 -- no id is bytes, at any depth
 abbrev pub is_convertible : List Instruction → Bool

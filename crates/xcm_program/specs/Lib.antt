@@ -4,4 +4,3 @@ pub mod Conversions
 pub mod Weights
 pub mod Indices
 pub mod Texts
-pub mod Laws

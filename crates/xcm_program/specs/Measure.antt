@@ -31,13 +31,13 @@ inner_of i = inner (out-Instruction i)
 
 -- ---- sums and greatest of what stands inside
 
-abbrev pub total : List ℕ → ℕ
-total [] = 0
-total (n ∷ ns) = n + total ns
+abbrev pub sum_of_list : List ℕ → ℕ
+sum_of_list [] = 0
+sum_of_list (n ∷ ns) = n + sum_of_list ns
 
 abbrev pub sum_inside : Option (List ℕ) → ℕ
 sum_inside None = 0
-sum_inside (Some ns) = total ns
+sum_inside (Some ns) = sum_of_list ns
 
 abbrev pub greatest : List ℕ → ℕ
 greatest [] = 0
@@ -55,7 +55,7 @@ deep_count_one = fold-Instruction ℕ (λ l. 1 + sum_inside (inner l))
 
 -- the deep count
 abbrev pub deep_count : List Instruction → ℕ
-deep_count program = total (map deep_count_one program)
+deep_count program = sum_of_list (map deep_count_one program)
 
 -- the depth of the program inside
 abbrev pub depth_one : Instruction → ℕ
@@ -81,4 +81,4 @@ sends_one = fold-Instruction ℕ (λ l. sending l + sum_inside (inner l))
 
 -- the deep count of sending instructions
 abbrev pub sends : List Instruction → ℕ
-sends program = total (map sends_one program)
+sends program = sum_of_list (map sends_one program)

@@ -1,6 +1,6 @@
 -- The texts of instructions and outcomes in a report. This project's own rule; the names are the XCM format's.
 use Rattle.std.specs.Prelude.{ℕ, List, codes}
-use Rattle.message_parts.specs.Texts.{error_text}
+use Rattle.operands.specs.Texts.{error_text}
 use Rattle.xcm_program.specs.declared.instruction.Instruction.TheOpen.{Instruction-F}
 use Rattle.xcm_program.specs.declared.outcome.OutcomeError.{OutcomeError}
 use Rattle.xcm_program.specs.declared.outcome.OutcomeError.TheVariants.{Xcm, Barrier, WeightNotComputable, WeightLimitReached}

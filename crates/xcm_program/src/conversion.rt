@@ -2,47 +2,47 @@
 
 ghost use Rattle.std.specs.Prelude.{◌≡◌};
 ghost use Rattle.xcm_program.specs.declared.instruction.Instruction.{out-Instruction};
-ghost use Rattle.xcm_program.specs.Conversions.{is_place, are_places, filter_is_places, response_is_places, names_places, is_convertible_one, is_convertible};
+ghost use Rattle.xcm_program.specs.Conversions.{is_concrete_id, have_concrete_ids, filter_is_concrete, response_is_concrete, names_concrete_ids, is_convertible_one, is_convertible};
 
 use crate::instruction::{Instruction, Program};
 use crate::nested::inner;
 use asset_lists::{AssetId, Assets, Filter, Wild};
-use message_parts::Response;
+use operands::Response;
 
-fn is_place(id: &AssetId) -> bool
-    ensures { result ≡ is_place id.now }
+fn is_concrete_id(id: &AssetId) -> bool
+    ensures { result ≡ is_concrete_id id.now }
 {
     matches!(id, AssetId::Concrete(_))
 }
 
-fn are_places(list: &Assets) -> bool
-    ensures { result ≡ are_places list.now }
+fn have_concrete_ids(list: &Assets) -> bool
+    ensures { result ≡ have_concrete_ids list.now }
 {
-    list.items().iter().all(|asset| is_place(&asset.id))
+    list.items().iter().all(|asset| is_concrete_id(&asset.id))
 }
 
-fn filter_is_places(filter: &Filter) -> bool
-    ensures { result ≡ filter_is_places filter.now }
+fn filter_is_concrete(filter: &Filter) -> bool
+    ensures { result ≡ filter_is_concrete filter.now }
 {
     match filter {
-        Filter::Definite(list) => are_places(list),
-        Filter::Wild(Wild::AllOf { id, .. } | Wild::AllOfCounted { id, .. }) => is_place(id),
+        Filter::Definite(list) => have_concrete_ids(list),
+        Filter::Wild(Wild::AllOf { id, .. } | Wild::AllOfCounted { id, .. }) => is_concrete_id(id),
         Filter::Wild(Wild::All | Wild::AllCounted(_)) => true,
     }
 }
 
-fn response_is_places(response: &Response) -> bool
-    ensures { result ≡ response_is_places response.now }
+fn response_is_concrete(response: &Response) -> bool
+    ensures { result ≡ response_is_concrete response.now }
 {
     match response {
-        Response::Assets(list) => are_places(list),
+        Response::Assets(list) => have_concrete_ids(list),
         _ => true,
     }
 }
 
 /// Whether no asset id of the instruction is bytes, the program inside left out.
-fn names_places(instruction: &Instruction) -> bool
-    ensures { result ≡ names_places (out-Instruction instruction.now) }
+fn names_concrete_ids(instruction: &Instruction) -> bool
+    ensures { result ≡ names_concrete_ids (out-Instruction instruction.now) }
 {
     match instruction {
         Instruction::WithdrawAsset { assets }
@@ -52,19 +52,20 @@ fn names_places(instruction: &Instruction) -> bool
         | Instruction::TransferReserveAsset { assets, .. }
         | Instruction::ClaimAsset { assets, .. }
         | Instruction::BurnAsset { assets }
-        | Instruction::ExpectAsset { assets } => are_places(assets),
-        Instruction::QueryResponse { response, .. } => response_is_places(response),
+        | Instruction::ExpectAsset { assets } => have_concrete_ids(assets),
+        Instruction::QueryResponse { response, .. } => response_is_concrete(response),
         Instruction::DepositAsset { assets, .. }
         | Instruction::DepositReserveAsset { assets, .. }
         | Instruction::InitiateReserveWithdraw { assets, .. }
         | Instruction::InitiateTeleport { assets, .. }
-        | Instruction::ReportHolding { assets, .. } => filter_is_places(assets),
-        Instruction::BuyExecution { fees, .. } => is_place(&fees.id),
+        | Instruction::ReportHolding { assets, .. } => filter_is_concrete(assets),
+        Instruction::BuyExecution { fees, .. } => is_concrete_id(&fees.id),
         Instruction::LockAsset { asset, .. }
         | Instruction::UnlockAsset { asset, .. }
         | Instruction::NoteUnlockable { asset, .. }
-        | Instruction::RequestUnlock { asset, .. } => is_place(&asset.id),
-        Instruction::ExchangeAsset { give, want, .. } => filter_is_places(give) && are_places(want),
+        | Instruction::RequestUnlock { asset, .. } => is_concrete_id(&asset.id),
+        Instruction::ExchangeAsset { give, want, .. } => filter_is_concrete(give)
+            && have_concrete_ids(want),
         _ => true,
     }
 }
@@ -74,7 +75,7 @@ fn names_places(instruction: &Instruction) -> bool
 fn is_convertible_one(instruction: &Instruction) -> bool
     ensures { result ≡ is_convertible_one instruction.now }
 {
-    if !names_places(instruction) {
+    if !names_concrete_ids(instruction) {
         return false;
     }
     match inner(instruction) {

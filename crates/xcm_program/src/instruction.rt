@@ -7,7 +7,7 @@ ghost use Rattle.xcm_program.specs.Texts.{instruction_name};
 
 use asset_lists::{Asset, Assets, Filter};
 use locations::{Junction, Junctions, Location, NetworkId};
-use message_parts::{
+use operands::{
     LongBytes, MaybeError, OriginKind, QueryInfo, Response, Weight, WeightLimit, XcmError,
 };
 use plain_lists::Listed;

@@ -9,7 +9,7 @@ use crate::nested::inner;
 
 /// The instruction and those of the program inside, through all nested programs. They must be fewer than 2^32.
 #[cycle(deep_count)]
-#[tactic(auto, using(crate::specs::Laws::counted_inside))]
+#[tactic(auto, using(crate::proofs::Lemmas::counted_inside))]
 pub fn deep_count_one(instruction: &Instruction) -> u32
     requires { deep_count_one instruction.now < 2 ^ 32 }
     ensures { result ≡ deep_count_one instruction.now }
@@ -41,7 +41,7 @@ fn larger(a: u32, b: u32) -> u32
 
 /// The depth of the program inside, 0 where there is none. The instruction and those inside must be fewer than 2^32.
 #[cycle(depth)]
-#[tactic(auto, using(crate::specs::Laws::counted_inside, crate::proofs::Measures::deep_inside))]
+#[tactic(auto, using(crate::proofs::Lemmas::counted_inside, crate::proofs::Measures::deep_inside))]
 pub fn depth_one(instruction: &Instruction) -> u32
     requires { deep_count_one instruction.now < 2 ^ 32 }
     ensures exact { result ≡ depth_one instruction.now }
@@ -87,7 +87,7 @@ fn sending(instruction: &Instruction) -> u32
 
 /// The instruction itself and those of the program inside that send a message.
 #[cycle(sends)]
-#[tactic(auto, using(crate::specs::Laws::counted_inside, crate::proofs::Measures::sent_inside))]
+#[tactic(auto, using(crate::proofs::Lemmas::counted_inside, crate::proofs::Measures::sent_inside))]
 fn sends_one(instruction: &Instruction) -> u32
     requires { deep_count_one instruction.now < 2 ^ 32 }
     ensures exact { result ≡ sends_one instruction.now }

@@ -3,7 +3,7 @@
 ghost use Rattle.std.specs.Prelude.{Some};
 ghost use Rattle.xcm_program.specs.Texts.{outcome_error_text};
 
-use message_parts::{Weight, XcmError};
+use operands::{Weight, XcmError};
 use std::fmt;
 
 /// Why an execution isn't complete (xcm-executor's documentation). Its text is its name, that of `Xcm` the error's.

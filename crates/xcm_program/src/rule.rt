@@ -5,7 +5,7 @@ ghost use Rattle.xcm_program.specs.declared.instruction.Instruction.{out-Instruc
 ghost use Rattle.xcm_program.specs.Weights.{required};
 
 use crate::instruction::Instruction;
-use message_parts::Weight;
+use operands::Weight;
 
 /// How a chain weighs programs. This project's own rule.
 #[derive(Clone, Copy, Debug, PartialEq, Eq)]
@@ -25,9 +25,6 @@ pub fn required(instruction: &Instruction) -> Weight
             require_weight_at_most,
             ..
         } => *require_weight_at_most,
-        _ => Weight {
-            ref_time: 0,
-            proof_size: 0,
-        },
+        _ => Weight::ZERO,
     }
 }

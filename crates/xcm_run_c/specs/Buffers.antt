@@ -11,14 +11,14 @@ abbrev pub filled : List ℕ → List ℕ → List ℕ
 filled text buffer = take (fitting text buffer) text ++ drop (fitting text buffer) buffer
 
 -- the answer of a call that has this text and this number to tell: the number, or 6 where the text doesn't fit
-abbrev pub number_in : List ℕ → List ℕ → ℕ → ℕ
-number_in buffer text number = if nat_le (length text) (length buffer) then number else 6
+abbrev pub call_status : List ℕ → List ℕ → ℕ → ℕ
+call_status buffer text number = if nat_le (length text) (length buffer) then number else 6
 
 -- The text is told: the buffer has it as far as there is room, `needed` is its length, and the answer says whether it fits.
 pub record Tells (text : List ℕ) (number : ℕ) (old new : List ℕ) (needed answer : ℕ) : Type 0 where
   pub buffer : new ≡ filled text old
   pub count : needed ≡ length text
-  pub answered : answer ≡ number_in old text number
+  pub answered : answer ≡ call_status old text number
 
 -- A front of the text is told in the same way.
 pub record TellsFront (text : List ℕ) (old new : List ℕ) (needed : ℕ) : Type 0 where

@@ -12,10 +12,10 @@ pub record Told : Type 0 where
   pub number : ℕ
 
 -- the tree of a program and 0, or why the bytes are no message and 4
-abbrev pub told_of : Result (List Instruction) MessageFault → Told
-told_of (Ok program) = record { text = program_text 0 program; number = 0 }
-told_of (Err fault) = record { text = message_fault_text fault ++ codes "\n"; number = 4 }
+abbrev pub tree_answer : Result (List Instruction) MessageFault → Told
+tree_answer (Ok program) = record { text = program_text 0 program; number = 0 }
+tree_answer (Err fault) = record { text = message_fault_text fault ++ codes "\n"; number = 4 }
 
 -- of these bytes
 abbrev pub told_of_bytes : List ℕ → Told
-told_of_bytes bytes = told_of (message_of bytes)
+told_of_bytes bytes = tree_answer (message_of bytes)

@@ -1,7 +1,7 @@
 //! A caller's buffer.
 
 ghost use Rattle.std.specs.Prelude.{◌≡◌, ◌≢◌, length};
-ghost use Rattle.xcm_run_c.specs.Buffers.{filled, number_in};
+ghost use Rattle.xcm_run_c.specs.Buffers.{filled, call_status};
 
 use crate::{NO_MEMORY, NO_ROOM};
 
@@ -18,7 +18,7 @@ pub(crate) fn tell(number: u8, text: &[u8], buffer: &mut [u8], needed: &mut usiz
     ensures buffer { buffer.new ≡ filled text.now buffer.old }
     ensures count { needed.new ≡ length text.now }
     ensures memory { number ≡ 8 → result ≡ 8 }
-    ensures answered { number ≢ 8 → result ≡ number_in buffer.old text.now number }
+    ensures answered { number ≢ 8 → result ≡ call_status buffer.old text.now number }
 {
     fill(buffer, text);
     *needed = text.len();

@@ -5,7 +5,7 @@ mod buffer;
 mod kept;
 mod running;
 mod source;
-mod telling;
+mod tree;
 
 /// The number for out of memory.
 const NO_MEMORY: u8 = 8;

@@ -6,7 +6,7 @@ use Rattle.locations.specs.declared.relative.Location.{Location}
 use Rattle.asset_bundles.specs.Bundles.{bundle_of}
 use Rattle.asset_lists.specs.Listed.{Listed}
 use Rattle.asset_bundles.specs.Books.{AreListed}
-use Rattle.asset_bundles.specs.Laws.{listed_list}
+use Rattle.asset_bundles.proofs.Lemmas.{listed_list}
 use Rattle.bench_ledger.proofs.deposit.Goals as goal
 
 here : Location

@@ -1,4 +1,4 @@
-use Rattle.amounts.specs.Moves.{total_kept}
+use Rattle.amounts.proofs.Lemmas.Moves.{total_kept}
 use Rattle.amounts.proofs.laws.law_of_a_move.Goals as goal
 
 pub returns : goal.returns

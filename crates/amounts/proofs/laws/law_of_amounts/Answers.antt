@@ -1,5 +1,5 @@
-use Rattle.amounts.specs.Amounts.{amount-empty, amount-restriction, amount-with_amount}
-use Rattle.amounts.specs.Laws.{amount-difference, amount-lesser, amount-merge, amount-minus, amount-plus, amount-single}
+use Rattle.amounts.proofs.Lemmas.AmountLaws.{amount-empty, amount-restriction, amount-with_amount}
+use Rattle.amounts.proofs.Lemmas.{amount-difference, amount-lesser, amount-merge, amount-minus, amount-plus, amount-single}
 use Rattle.amounts.proofs.laws.law_of_amounts.Goals as goal
 
 pub returns-clause-nothing : goal.returns-clause-nothing

@@ -1,4 +1,4 @@
-use Rattle.amounts.specs.Entries.{amount-from_entries, from_entries_changed, rows-from_entries, total-from_entries}
+use Rattle.amounts.proofs.Lemmas.Entries.{amount-from_entries, from_entries_changed, rows-from_entries, total-from_entries}
 use Rattle.amounts.proofs.laws.law_of_entries.Goals as goal
 
 pub returns-clause-at_a_key : goal.returns-clause-at_a_key

@@ -1,4 +1,4 @@
-use Rattle.amounts.specs.Amounts.{same_amounts}
+use Rattle.amounts.proofs.Lemmas.AmountLaws.{same_amounts}
 use Rattle.amounts.proofs.laws.law_of_equal_maps.Goals as goal
 
 pub returns : goal.returns

@@ -1,4 +1,4 @@
-use Rattle.amounts.specs.Laws.{merge-empty, merge_assoc, merge_comm}
+use Rattle.amounts.proofs.Lemmas.{merge-empty, merge_assoc, merge_comm}
 use Rattle.amounts.proofs.laws.law_of_merging.Goals as goal
 
 pub returns-clause-nothing : goal.returns-clause-nothing

@@ -1,5 +1,5 @@
-use Rattle.amounts.specs.Amounts.{total_at_most, amount-total, total-restriction, total-with_amount, total_split}
-use Rattle.amounts.specs.Laws.{amount_at_most, total-difference, total-merge, total-minus, total-plus, total-single, total_alike_held, some_key}
+use Rattle.amounts.proofs.Lemmas.AmountLaws.{total_at_most, amount-total, total-restriction, total-with_amount, total_split}
+use Rattle.amounts.proofs.Lemmas.{amount_at_most, total-difference, total-merge, total-minus, total-plus, total-single, total_alike_held, some_key}
 use Rattle.amounts.proofs.laws.law_of_totals.Goals as goal
 
 pub returns-clause-at_a_key : goal.returns-clause-at_a_key

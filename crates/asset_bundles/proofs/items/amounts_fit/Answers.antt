@@ -1,4 +1,4 @@
-use Rattle.asset_bundles.proofs.Sums.{is_most, most_more}
+use Rattle.asset_bundles.proofs.SumFacts.{is_most, most_more}
 use Rattle.asset_bundles.proofs.items.amounts_fit.Goals as goal
 
 pub loop-item-preserved : goal.loop-item-preserved

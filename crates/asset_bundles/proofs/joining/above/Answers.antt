@@ -1,7 +1,7 @@
 use Rattle.std.proofs.Common.{ap, ◌∙◌}
 use Rattle.asset_bundles.specs.Portions.{changed, above_by}
 use Rattle.asset_bundles.proofs.Parts.{changed_more}
-use Rattle.asset_bundles.proofs.Sums.{is_above, take_whole}
+use Rattle.asset_bundles.proofs.SumFacts.{is_above, take_whole}
 use Rattle.asset_bundles.proofs.joining.above.Goals as goal
 
 pub loop-item-preserved : goal.loop-item-preserved

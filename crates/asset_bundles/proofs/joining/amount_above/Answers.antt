@@ -2,7 +2,7 @@ use Rattle.std.proofs.Common.{◌≤◌, arith}
 use Rattle.asset_lists.specs.Units.{unit_of}
 use Rattle.asset_bundles.specs.Bundles.{found}
 use Rattle.asset_bundles.specs.Joins.{most_of}
-use Rattle.asset_bundles.proofs.Sums.{found_within}
+use Rattle.asset_bundles.proofs.SumFacts.{found_within}
 use Rattle.asset_bundles.proofs.joining.amount_above.Goals as goal
 
 pub returns : goal.returns

@@ -1,6 +1,6 @@
 use Rattle.std.proofs.Common.{ap, ◌++◌, ◌∙◌}
 use Rattle.asset_bundles.specs.Portions.{changed, new_to}
-use Rattle.asset_bundles.proofs.Sums.{is_together}
+use Rattle.asset_bundles.proofs.SumFacts.{is_together}
 use Rattle.asset_bundles.proofs.joining.together.Goals as goal
 
 pub returns : goal.returns

@@ -1,7 +1,7 @@
-use Rattle.asset_bundles.specs.BundleLaws.{held_assets-holding, goods-holding}
-use Rattle.asset_bundles.specs.Laws.{asset_of_unit}
+use Rattle.asset_bundles.proofs.Lemmas.BundleLaws.{held_assets-holding, goods-holding}
+use Rattle.asset_bundles.proofs.Lemmas.{asset_of_unit}
 use Rattle.asset_bundles.proofs.Listing.{holding_of_list}
-use Rattle.asset_bundles.proofs.Pieces.{once_held, is_piece}
+use Rattle.asset_bundles.proofs.PieceFacts.{once_held, is_piece}
 use Rattle.asset_bundles.proofs.laws.law_of_bundles.Goals as goal
 
 pub returns : goal.returns

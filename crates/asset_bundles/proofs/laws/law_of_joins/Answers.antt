@@ -1,4 +1,4 @@
-use Rattle.asset_bundles.specs.Laws.{amount-Joined, amount-Excess, joined_whole, joined_within, excess_within, booked_within}
+use Rattle.asset_bundles.proofs.Lemmas.{amount-Joined, amount-Excess, joined_whole, joined_within, excess_within, booked_within}
 use Rattle.asset_bundles.proofs.laws.law_of_joins.Goals as goal
 
 pub returns : goal.returns

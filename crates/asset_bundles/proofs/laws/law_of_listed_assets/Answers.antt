@@ -1,4 +1,4 @@
-use Rattle.asset_bundles.specs.Laws.{listed_within, listed_taken, listed_left, listed_merged, listed_joined, listed_excess, listed_none, listed_landed, listed_list}
+use Rattle.asset_bundles.proofs.Lemmas.{listed_within, listed_taken, listed_left, listed_merged, listed_joined, listed_excess, listed_none, listed_landed, listed_list}
 use Rattle.asset_bundles.proofs.laws.law_of_listed_assets.Goals as goal
 
 pub returns : goal.returns

@@ -1,4 +1,4 @@
-use Rattle.asset_lists.specs.Laws.{inserted_list, inserted_more}
+use Rattle.asset_lists.proofs.Lemmas.{inserted_list, inserted_more}
 use Rattle.asset_lists.proofs.laws.law_of_insertion.Goals as goal
 
 pub returns-clause-list : goal.returns-clause-list

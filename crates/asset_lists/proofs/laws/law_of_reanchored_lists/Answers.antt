@@ -1,4 +1,4 @@
-use Rattle.asset_lists.specs.Laws.{all_named, reanchored_list_is, reanchored_list_moves, no_reanchored_list}
+use Rattle.asset_lists.proofs.Lemmas.{all_named, reanchored_list_is, reanchored_list_moves, no_reanchored_list}
 use Rattle.asset_lists.proofs.laws.law_of_reanchored_lists.Goals as goal
 
 pub returns-clause-list : goal.returns-clause-list

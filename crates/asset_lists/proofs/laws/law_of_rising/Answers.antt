@@ -1,4 +1,4 @@
-use Rattle.asset_lists.specs.Laws.{once_each, rising_says}
+use Rattle.asset_lists.proofs.Lemmas.{once_each, rising_says}
 use Rattle.asset_lists.proofs.laws.law_of_rising.Goals as goal
 
 pub returns-clause-places : goal.returns-clause-places

@@ -1,4 +1,4 @@
-use Rattle.asset_locks.specs.Laws.{lock_within_floor, floor_is_lock, floor_at_most}
+use Rattle.asset_locks.proofs.Lemmas.{lock_within_floor, floor_is_lock, floor_at_most}
 use Rattle.asset_locks.proofs.laws.law_of_floors.Goals as goal
 
 pub returns : goal.returns

@@ -1,4 +1,4 @@
-use Rattle.asset_locks.specs.Laws.{locked_enough, locked_other, floor-Locked, floor_other-Locked, notes_stay-Locked}
+use Rattle.asset_locks.proofs.Lemmas.{locked_enough, locked_other, floor-Locked, floor_other-Locked, notes_stay-Locked}
 use Rattle.asset_locks.proofs.laws.law_of_locking.Goals as goal
 
 pub returns : goal.returns

@@ -1,4 +1,4 @@
-use Rattle.asset_locks.specs.Laws.{noted_enough, noted_other, reduced_itself, reduced_other, note_undone, locks_stay-Noted, locks_stay-Reduced, floor_stays-Noted, floor_stays-Reduced}
+use Rattle.asset_locks.proofs.Lemmas.{noted_enough, noted_other, reduced_itself, reduced_other, note_undone, locks_stay-Noted, locks_stay-Reduced, floor_stays-Noted, floor_stays-Reduced}
 use Rattle.asset_locks.proofs.laws.law_of_notes.Goals as goal
 
 pub returns : goal.returns

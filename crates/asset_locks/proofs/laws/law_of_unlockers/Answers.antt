@@ -1,4 +1,4 @@
-use Rattle.asset_locks.specs.Laws.{undone, two_locks}
+use Rattle.asset_locks.proofs.Lemmas.{undone, two_locks}
 use Rattle.asset_locks.proofs.laws.law_of_unlockers.Goals as goal
 
 pub returns : goal.returns

@@ -1,4 +1,4 @@
-use Rattle.asset_locks.specs.Laws.{unlocked_itself, unlocked_other, floor_less-Unlocked, others_count, floor_other-Unlocked, notes_stay-Unlocked}
+use Rattle.asset_locks.proofs.Lemmas.{unlocked_itself, unlocked_other, floor_less-Unlocked, others_count, floor_other-Unlocked, notes_stay-Unlocked}
 use Rattle.asset_locks.proofs.laws.law_of_unlocking.Goals as goal
 
 pub returns : goal.returns

@@ -1,7 +1,7 @@
 use Rattle.std.proofs.Common.{◌≡◌, ℕ, ◌<◌, sym, ap, ◌∙◌, subst, arith}
 use Rattle.amounts.specs.Amounts.{with_amount}
 use Rattle.asset_locks.specs.LockMaps.{LockKey}
-use Rattle.asset_locks.specs.LockRows.{locks_in, AreInOrder}
+use Rattle.asset_locks.specs.LockRows.{locks_in, AreSortedLocks}
 use Rattle.asset_locks.proofs.Standing.{at_items, gap_items, nothing_lowered, remove_in_order, remove_is, written_in_order, written_is}
 use Rattle.asset_locks.proofs.locks.lower_lock.Goals as goal
 
@@ -15,7 +15,7 @@ pub returns-then-amount-eq0-clause-order : goal.returns-then-amount-eq0-clause-o
 returns-then-amount-eq0-clause-order c =
     let key : LockKey = (c.args.who.now, c.args.id.now, c.args.unlocker.now) in
     let items = c.args.locks.now.items in
-    subst AreInOrder (sym c.remove.ensures.items) (remove_in_order items c.requires.order key c.in-Ok.place (at_items c.as_slice.result.now items key c.as_slice.ensures.value c.in-Ok.place c.in-Ok.ensures.found))
+    subst AreSortedLocks (sym c.remove.ensures.items) (remove_in_order items c.requires.order key c.in-Ok.place (at_items c.as_slice.result.now items key c.as_slice.ensures.value c.in-Ok.place c.in-Ok.ensures.found))
 
 pub returns-then-amount-eq0-clause-lowered : goal.returns-then-amount-eq0-clause-lowered
 returns-then-amount-eq0-clause-lowered c =

@@ -2,7 +2,7 @@ use Rattle.std.proofs.Common.{◌≡◌, ℕ, ◌<◌, sym, ap, ◌∙◌, subst
 use Rattle.std.specs.Prelude.{max}
 use Rattle.asset_locks.specs.declared.lock.Lock.{Lock}
 use Rattle.asset_locks.specs.LockMaps.{LockKey}
-use Rattle.asset_locks.specs.LockRows.{key_of, locks_in, AreInOrder}
+use Rattle.asset_locks.specs.LockRows.{key_of, locks_in, AreSortedLocks}
 use Rattle.asset_locks.proofs.Standing.{at_items, gap_items, written_in_order, raised_is, insert_in_order, new_is}
 use Rattle.asset_locks.proofs.locks.raise_lock.Goals as goal
 
@@ -27,7 +27,7 @@ returns-in_ok-insert-in-Err-clause-order c =
     let items = c.args.locks.now.items in
     let new : Lock = record { who = c.args.who.now; id = c.copy.result; unlocker = c.copy-in-Err.result; amount = c.args.amount } in
     let same : key_of new ≡ key = λ i. (c.args.who.now, c.copy.ensures.same i, c.copy-in-Err.ensures.same i) in
-    subst AreInOrder (sym c.in_ok-insert-in-Err.ensures.items) (insert_in_order items c.requires.order key c.in-Err.place (gap_items c.as_slice.result.now items key c.as_slice.ensures.value c.in-Err.place c.in-Err.ensures.gap) new same c.requires.some)
+    subst AreSortedLocks (sym c.in_ok-insert-in-Err.ensures.items) (insert_in_order items c.requires.order key c.in-Err.place (gap_items c.as_slice.result.now items key c.as_slice.ensures.value c.in-Err.place c.in-Err.ensures.gap) new same c.requires.some)
 
 pub returns-in_ok-insert-in-Err-clause-raised : goal.returns-in_ok-insert-in-Err-clause-raised
 returns-in_ok-insert-in-Err-clause-raised c =

@@ -3,7 +3,7 @@ use Rattle.std.specs.Prelude.{max}
 use Rattle.amounts.specs.Amounts.{with_amount}
 use Rattle.asset_locks.specs.LockMaps.{NoteKey}
 use Rattle.asset_locks.specs.NoteRows.{notes_in}
-use Rattle.asset_locks.specs.Laws.{note_keys}
+use Rattle.asset_locks.proofs.Lemmas.{note_keys}
 use Rattle.asset_locks.proofs.Standing.{as_raised}
 use Rattle.asset_locks.proofs.Noting.{note_written}
 use Rattle.asset_locks.proofs.notes.raise_note.Goals as goal

@@ -1,6 +1,6 @@
-use Rattle.scale_codec.specs.Laws.ReadLaws.{prefix_free}
+use Rattle.scale_codec.proofs.Lemmas.ReadLaws.{prefix_free}
 use Rattle.asset_wire.specs.Spelling.{asset_id, instance, asset, assets, filter}
-use Rattle.asset_wire.specs.Laws.FieldLaws.{asset_id_reads, instance_reads, asset_reads, assets_reads, filter_reads}
+use Rattle.asset_wire.proofs.Lemmas.FieldLaws.{asset_id_reads, instance_reads, asset_reads, assets_reads, filter_reads}
 use Rattle.asset_wire.proofs.laws.law_of_no_prefix.Goals as goal
 
 pub returns : goal.returns

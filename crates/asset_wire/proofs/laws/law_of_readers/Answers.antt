@@ -1,4 +1,4 @@
-use Rattle.asset_wire.specs.Laws.FieldLaws.{asset_id_reads, instance_reads, asset_reads, assets_reads, filter_reads}
+use Rattle.asset_wire.proofs.Lemmas.FieldLaws.{asset_id_reads, instance_reads, asset_reads, assets_reads, filter_reads}
 use Rattle.asset_wire.proofs.laws.law_of_readers.Goals as goal
 
 pub returns : goal.returns

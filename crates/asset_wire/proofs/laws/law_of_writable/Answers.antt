@@ -1,4 +1,4 @@
-use Rattle.asset_wire.specs.Laws.Written.{id_named, asset_writable, assets_named, filter_named}
+use Rattle.asset_wire.proofs.Lemmas.Written.{id_named, asset_writable, assets_named, filter_named}
 use Rattle.asset_wire.proofs.laws.law_of_writable.Goals as goal
 
 pub returns : goal.returns

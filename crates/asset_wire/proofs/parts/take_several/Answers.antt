@@ -1,7 +1,7 @@
 use Rattle.std.proofs.Common.{rules, ◌≡◌, [], ◌∷◌, ◌++◌, set, arith}
 use Rattle.std.proofs.lemmas.Result.{err_from_is_err_and}
 use Rattle.std.proofs.lemmas.List.{set_at}
-use Rattle.scale_codec.specs.Laws.Loops.{goes_on, fails, ends}
+use Rattle.scale_codec.proofs.Lemmas.Loops.{goes_on, fails, ends}
 use Rattle.asset_wire.specs.Reading.{asset_at}
 use Rattle.asset_wire.proofs.parts.take_several.Goals as goal
 

@@ -1,7 +1,7 @@
 use Rattle.std.proofs.Common.{rules}
-use Rattle.scale_codec.specs.Laws.ReadLaws.{is_read}
+use Rattle.scale_codec.proofs.Lemmas.ReadLaws.{is_read}
 use Rattle.asset_wire.specs.Spelling.{asset}
-use Rattle.asset_wire.specs.Laws.FieldLaws.{asset_reads}
+use Rattle.asset_wire.proofs.Lemmas.FieldLaws.{asset_reads}
 use Rattle.asset_wire.proofs.reading.read_asset.Goals as goal
 
 pub returns-clause-spelling : goal.returns-clause-spelling

@@ -1,6 +1,6 @@
 use Rattle.std.proofs.Common.{ap, ◌∙◌}
 use Rattle.std.proofs.Math.ListN.{set}
-use Rattle.message_parts.specs.declared.weight.WeightLimit.TheVariants.{Limited}
+use Rattle.operands.specs.declared.weight.WeightLimit.TheVariants.{Limited}
 use Rattle.barriers.proofs.Purchases.{limit_set}
 use Rattle.barriers.proofs.paid.set_limit.Goals as goal
 

@@ -1,4 +1,4 @@
-use Rattle.call_dispatch.specs.Laws.DispatchLaws.{sums_stay, others_stay, floors_stay, unnamed_stay, numbers_stay_so, error_stays}
+use Rattle.call_dispatch.proofs.Lemmas.DispatchLaws.{sums_stay, others_stay, floors_stay, unnamed_stay, numbers_stay_so, error_stays}
 use Rattle.call_dispatch.proofs.laws.law_of_dispatches.Goals as goal
 
 pub returns : goal.returns

@@ -1,4 +1,4 @@
-use Rattle.call_dispatch.specs.Laws.DispatchLaws.{interrupted_sums, interrupted_others, interrupted_floors, interrupted_unnamed, interrupted_numbers}
+use Rattle.call_dispatch.proofs.Lemmas.DispatchLaws.{interrupted_sums, interrupted_others, interrupted_floors, interrupted_unnamed, interrupted_numbers}
 use Rattle.call_dispatch.proofs.laws.law_of_interruptions.Goals as goal
 
 pub returns : goal.returns

@@ -1,4 +1,4 @@
-use Rattle.call_dispatch.specs.Laws.ShiftLaws.{accepted, enough_held, restored, undoable}
+use Rattle.call_dispatch.proofs.Lemmas.ShiftLaws.{accepted, enough_held, restored, undoable}
 use Rattle.call_dispatch.proofs.laws.law_of_moving_back.Goals as goal
 
 pub returns : goal.returns

@@ -1,7 +1,7 @@
-use Rattle.scale_codec.specs.Laws.ReadLaws.{one_spelling, prefix_free}
+use Rattle.scale_codec.proofs.Lemmas.ReadLaws.{one_spelling, prefix_free}
 use Rattle.call_dispatch.specs.Spelling.{call, FitsCall}
-use Rattle.call_dispatch.specs.Laws.FieldLaws.{call_reads}
-use Rattle.call_dispatch.specs.Laws.CallLaws.{call_again}
+use Rattle.call_dispatch.proofs.Lemmas.FieldLaws.{call_reads}
+use Rattle.call_dispatch.proofs.Lemmas.CallLaws.{call_again}
 use Rattle.call_dispatch.proofs.laws.law_of_spelled_calls.Goals as goal
 
 pub returns : goal.returns

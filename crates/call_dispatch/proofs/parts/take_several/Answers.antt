@@ -1,7 +1,7 @@
 use Rattle.std.proofs.Common.{[], ◌∷◌, arith, length-append}
 use Rattle.std.proofs.lemmas.Result.{err_from_is_err_and}
-use Rattle.scale_codec.specs.Laws.Loops.{goes_on, fails, ends}
-use Rattle.scale_codec.specs.Laws.ReadLaws.{refuses_as}
+use Rattle.scale_codec.proofs.Lemmas.Loops.{goes_on, fails, ends}
+use Rattle.scale_codec.proofs.Lemmas.ReadLaws.{refuses_as}
 use Rattle.call_dispatch.specs.Reading.{item_at}
 use Rattle.call_dispatch.proofs.parts.take_several.Goals as goal
 

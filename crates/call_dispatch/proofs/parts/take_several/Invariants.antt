@@ -1,7 +1,7 @@
 use Rattle.std.proofs.Common.{◌≡◌, ◌-◌, ◌+◌, ◌≤◌, length}
 use Rattle.std.specs.Prelude.{vec_len, vec_capacity}
 use Rattle.scale_codec.specs.Reading.{repeated}
-use Rattle.scale_codec.specs.Laws.Loops.{with_front}
+use Rattle.scale_codec.proofs.Lemmas.Loops.{with_front}
 use Rattle.call_dispatch.specs.Reading.{item_at}
 use Rattle.call_dispatch.proofs.parts.take_several.Given as goal
 

@@ -1,4 +1,4 @@
-use Rattle.chain_ids.specs.Laws.{same_chain_says}
+use Rattle.chain_ids.proofs.Lemmas.{same_chain_says}
 use Rattle.chain_ids.proofs.laws.law_of_one_chain.Goals as goal
 
 pub returns : goal.returns

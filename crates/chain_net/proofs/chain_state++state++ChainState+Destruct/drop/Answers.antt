@@ -1,4 +1,4 @@
-use Rattle.chain_state.specs.Known.{all_there}
+use Rattle.chain_state.proofs.Lemmas.Known.{all_there}
 use Rattle.chain_net.proofs.chain_state++state++ChainState+Destruct.drop.Goals as goal
 
 pub invariant_of-drop : goal.invariant_of-drop

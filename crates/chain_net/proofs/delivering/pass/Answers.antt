@@ -8,7 +8,7 @@ use Rattle.chain_state.specs.PartOf.{part_of}
 use Rattle.std.specs.Prelude.{◌++◌}
 use Rattle.chain_net.specs.Sound.{IsBetweenSteps}
 use Rattle.chain_net.specs.Passing.{run_at}
-use Rattle.net_laws.specs.Stops.{IsStoppedThere}
+use Rattle.law_nets.specs.Stops.{IsStoppedThere}
 use Rattle.chain_net.specs.Answers.{IsActed}
 use Rattle.chain_net.proofs.Members.{at_place, something}
 use Rattle.chain_net.proofs.Passes.{seen_behind, seen_again, same_seen, stopped_first, stopped_later, passed, taken_ok, taken_err}

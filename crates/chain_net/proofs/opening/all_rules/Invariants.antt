@@ -1,5 +1,5 @@
 use Rattle.std.proofs.Common.{◌≡◌, ◌++◌, map, drop}
-use Rattle.network_genesis.specs.Genesis.{rules_of}
+use Rattle.network_steps.specs.Genesis.{rules_of}
 use Rattle.chain_net.proofs.opening.all_rules.Given as goal
 
 abbrev pub invariant-loop-entry : goal.invariant-loop-entry

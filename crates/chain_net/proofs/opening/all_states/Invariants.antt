@@ -1,5 +1,5 @@
 use Rattle.std.proofs.Common.{◌≡◌, ◌++◌, map, drop}
-use Rattle.network_genesis.specs.Genesis.{part_at}
+use Rattle.network_steps.specs.Genesis.{part_at}
 use Rattle.chain_state.specs.PartOf.{part_of}
 use Rattle.chain_net.proofs.opening.all_states.Given as goal
 

@@ -5,7 +5,7 @@ use Rattle.versioned_xcm.specs.Reading.{message_of}
 use Rattle.chain_state.specs.PartOf.{part_of}
 use Rattle.exec_base.specs.declared.event.Event.TheVariants as events
 use Rattle.exec_rules.specs.Readiness.{IsAtRest}
-use Rattle.exec_admission.specs.Execution.{executed, IsAbandoned}
+use Rattle.exec_rules.specs.Execution.{executed, IsAbandoned}
 use Rattle.chain_net.proofs.Runs.{message_run, rest_told}
 use Rattle.chain_net.proofs.running.run_bytes.Goals as goal
 

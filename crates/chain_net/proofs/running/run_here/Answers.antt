@@ -4,7 +4,7 @@ use Rattle.channel_parts.specs.declared.cargo.Cargo.TheVariants.{Nothing}
 use Rattle.chain_state.specs.PartOf.{part_of}
 use Rattle.exec_base.specs.Part.{ChainPart}
 use Rattle.exec_rules.specs.Readiness.{IsAtRest}
-use Rattle.exec_admission.specs.Execution.{executed, IsAbandoned}
+use Rattle.exec_rules.specs.Execution.{executed, IsAbandoned}
 use Rattle.network_steps.specs.Acting.{begun, caller, ended}
 use Rattle.chain_net.proofs.Runs.{same_run, started_is, here_between, here_stopped_site, site_of_run, carrying_nothing}
 use Rattle.chain_net.proofs.running.run_here.Goals as goal

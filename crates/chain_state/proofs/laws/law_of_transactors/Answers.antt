@@ -3,9 +3,9 @@ use Rattle.chain_state.proofs.laws.law_of_transactors.Goals as goal
 
 pub returns : goal.returns
 returns c = record {
-  withdraw = withdraw_told c.law_of_kinds.ensures;
-  deposit = deposit_told c.law_of_kinds.ensures;
-  transfer = transfer_told c.law_of_kinds.ensures;
+  withdraw = withdraw_told c.law_of_kinds_covering_rows.ensures;
+  deposit = deposit_told c.law_of_kinds_covering_rows.ensures;
+  transfer = transfer_told c.law_of_kinds_covering_rows.ensures;
   withdrawn = given_left;
   deposited = deposited_left;
   transferred = transferred_left;

@@ -1,7 +1,7 @@
 use Rattle.serde_json.specs.View.{view}
 use Rattle.std.specs.Prelude.{codes}
 use Rattle.trust_tables.specs.declared.rows.AssetRole.TheVariants.{Derivative}
-use Rattle.document_forms.specs.Forms.{chain, each, is_chain_kind}
+use Rattle.document_entries.specs.Forms.{chain, each, is_chain_kind}
 use Rattle.document_entries.specs.Entries.{native}
 use Rattle.document_entries.proofs.BothFields.{both}
 use Rattle.document_entries.proofs.assets.role_of.Goals as goal

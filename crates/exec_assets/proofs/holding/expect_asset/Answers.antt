@@ -1,5 +1,5 @@
 use Rattle.std.proofs.Common.{Bool, None, refl, ap, sym, ◌∙◌}
-use Rattle.message_parts.specs.declared.error.XcmError.TheVariants as error
+use Rattle.operands.specs.declared.error.XcmError.TheVariants as error
 use Rattle.exec_base.specs.Sending.{unless}
 use Rattle.exec_rules.specs.Machine.{machine}
 use Rattle.exec_assets.proofs.Joining.{contains_is}

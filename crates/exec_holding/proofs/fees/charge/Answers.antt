@@ -1,4 +1,4 @@
-use Rattle.exec_holding.specs.Laws.{drawn_slot, drawn_known}
+use Rattle.exec_holding.proofs.Lemmas.{drawn_slot, drawn_known}
 use Rattle.exec_holding.proofs.fees.charge.Goals as goal
 
 pub hold_fee-requires-clause-slot : goal.hold_fee-requires-clause-slot

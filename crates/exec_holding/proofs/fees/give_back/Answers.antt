@@ -1,6 +1,6 @@
 use Rattle.exec_base.specs.Host.{deposit_refusal, deposited}
 use Rattle.exec_rules.specs.Machine.{machine}
-use Rattle.exec_holding.specs.Laws.{slot_by_mode, slot_by_origin, few_after_refusal}
+use Rattle.exec_holding.proofs.Lemmas.{slot_by_mode, slot_by_origin, few_after_refusal}
 use Rattle.exec_holding.proofs.fees.give_back.Goals as goal
 
 pub put_back-requires : goal.put_back-requires

@@ -1,6 +1,6 @@
 use Rattle.std.proofs.Common.{[], ◌∷◌, ap, ◌∙◌}
 use Rattle.asset_lists.specs.declared.units.Asset.{Asset}
-use Rattle.exec_holding.specs.Laws.{taken_one}
+use Rattle.exec_holding.proofs.Lemmas.{taken_one}
 use Rattle.exec_holding.proofs.holding.take_asset.Goals as goal
 
 pub returns-in-Ok-clause-ok : goal.returns-in-Ok-clause-ok

@@ -1,4 +1,4 @@
-use Rattle.exec_rules.specs.KeepingLaws.{reached_hold, reached_keeps}
+use Rattle.exec_rules.proofs.Lemmas.KeepingLaws.{reached_hold, reached_keeps}
 use Rattle.exec_rules.proofs.runs.law_of_kept_relations.Goals as goal
 
 pub returns-clause-ahead : goal.returns-clause-ahead

@@ -1,5 +1,5 @@
 use Rattle.std.specs.Str.{bytes_eq}
-use Rattle.message_parts.specs.declared.pallet.PalletInfo.{PalletInfo}
+use Rattle.operands.specs.declared.pallet.PalletInfo.{PalletInfo}
 use Rattle.exec_transfers.proofs.Filtering.{few_found}
 use Rattle.exec_transfers.proofs.pallets.pallets_named.Goals as goal
 

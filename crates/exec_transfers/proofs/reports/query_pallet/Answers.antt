@@ -4,8 +4,8 @@ use Rattle.exec_rules.specs.Machine.{machine}
 use Rattle.exec_holding.specs.Holding.{RanTo}
 use Rattle.exec_holding.specs.Charging.{Begins}
 use Rattle.exec_transfers.proofs.Around.{may_end, end_ran}
-use Rattle.message_parts.specs.declared.query.Response.{Response}
-use Rattle.message_parts.specs.declared.query.Response.TheVariants as response
+use Rattle.operands.specs.declared.query.Response.{Response}
+use Rattle.operands.specs.declared.query.Response.TheVariants as response
 use Rattle.exec_rules.specs.Reports.{report_refused, report_done}
 use Rattle.exec_transfers.proofs.Forwarding.{report_forwardable}
 use Rattle.exec_transfers.proofs.Inside.{pallets_inside}

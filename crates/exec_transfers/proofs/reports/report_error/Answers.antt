@@ -3,7 +3,7 @@ use Rattle.exec_base.specs.Host.{fee_to}
 use Rattle.exec_rules.specs.Machine.{machine}
 use Rattle.exec_holding.specs.Charging.{Begins}
 use Rattle.exec_transfers.proofs.Around.{may_end, end_ran}
-use Rattle.message_parts.specs.declared.query.Response.TheVariants as response
+use Rattle.operands.specs.declared.query.Response.TheVariants as response
 use Rattle.exec_transfers.proofs.Forwarding.{report_forwardable}
 use Rattle.exec_transfers.proofs.Inside.{error_inside}
 use Rattle.exec_transfers.proofs.reports.report_error.Goals as goal

@@ -1,6 +1,6 @@
 use Rattle.std.proofs.Common.{◌≡◌, ◌∙◌, ◌+◌, ◌-◌, ◌<◌, ap, arith}
-use Rattle.network_genesis.specs.Genesis.{order_of}
-use Rattle.network_steps.specs.Steps.{after}
+use Rattle.network_steps.specs.Genesis.{order_of}
+use Rattle.network_steps.specs.Steps.{next_world}
 use Rattle.chain_net.specs.Nets.{world_of, spec_of}
 use Rattle.generator.specs.Turns.{step_of_turn}
 use Rattle.generator.proofs.Going.{Taken, Counted, goes_taken, goes_end, counted_total}
@@ -18,7 +18,7 @@ steps-preserved c =
       drew = c.draw-turn.ensures.drawn;
       state = c.draw-turn.ensures.state;
       told = c.in_ok-answer.ensures.answer;
-      world = c.in_ok-answer.ensures.world ∙ ap (λ spec. after (order_of spec) (world_of c.steps.net) (step_of_turn c.draw-turn.result)) c.steps.invariant.spec;
+      world = c.in_ok-answer.ensures.world ∙ ap (λ spec. next_world (order_of spec) (world_of c.steps.net) (step_of_turn c.draw-turn.result)) c.steps.invariant.spec;
     } in
     let more : c.steps.done < c.args.steps = omega (arith, c.steps-test.true) in
     record {

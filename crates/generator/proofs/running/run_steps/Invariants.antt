@@ -1,5 +1,5 @@
 use Rattle.std.proofs.Common.{◌-◌, ◌≤◌, ◌≡◌, false}
-use Rattle.network_genesis.specs.Genesis.{order_of}
+use Rattle.network_steps.specs.Genesis.{order_of}
 use Rattle.chain_net.specs.Nets.{world_of, spec_of, is_stopped}
 use Rattle.generator.specs.Turns.{steps_from}
 use Rattle.generator.specs.Generated.{all_steps}

@@ -1,6 +1,6 @@
 use Rattle.std.proofs.Common.{arith, eq-eqb}
 use Rattle.std.proofs.lemmas.Bool.{eqb-true}
-use Rattle.input_lines.specs.Laws.{only_line}
+use Rattle.input_lines.proofs.Lemmas.{only_line}
 use Rattle.input_lines.proofs.FirstLine.{first_line}
 use Rattle.input_lines.proofs.lines.line_len.Goals as goal
 

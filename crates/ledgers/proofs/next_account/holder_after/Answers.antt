@@ -1,10 +1,10 @@
 use Rattle.std.proofs.Common.{ℕ, ◌+◌, ◌<◌, Some, IfSome, true≢false, sym, ◌∙◌, subst, arith}
 use Rattle.ledgers.specs.Ledgers.{IsAfter}
 use Rattle.ledgers.specs.LedgerRows.{amount_in_row, IsNextOf}
-use Rattle.ledgers.proofs.Numbers.{at_none}
 use Rattle.ledgers.proofs.NextRows.{IsLater, later_nobody, later_closer, later_farther}
 use Rattle.ledgers.proofs.next_account.holder_after.Goals as goal
 use Rattle.ledgers.proofs.next_account.holder_after.Goals.{in-Some+then-is_before, in-Some+else-is_before, in_default}
+use Rattle.plain_lists.proofs.Lemmas.Facts.{at_none}
 
 pub loop-number-preserved : goal.loop-number-preserved
 loop-number-preserved c =

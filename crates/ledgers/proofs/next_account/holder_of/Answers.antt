@@ -5,9 +5,10 @@ use Rattle.std.specs.BTreeMap.Range.{IsEntryInRange}
 use Rattle.std.proofs.lemmas.List.Elements.{All-same, recursion_from_All}
 use Rattle.ledgers.specs.Ledgers.{account_cmp}
 use Rattle.ledgers.specs.LedgerRows.{AmountKey, amount_key_cmp, IsNextOf}
-use Rattle.ledgers.proofs.NextRows.{IsAhead, all_ahead, row_left, number_left, row_found, less_is}
+use Rattle.ledgers.proofs.NextRows.{IsAhead, all_ahead, row_left, number_left, row_found}
 use Rattle.ledgers.proofs.next_account.holder_of.Goals as goal
 use Rattle.ledgers.proofs.next_account.holder_of.Goals.{else-amount-gt0-via-then-amount-gt0+else-is_lt, else-amount-gt0-via-else-amount-gt0}
+use Rattle.plain_lists.proofs.Lemmas.Facts.{less_told as less_is}
 
 pub loop-key-init : goal.loop-key-init
 loop-key-init c =

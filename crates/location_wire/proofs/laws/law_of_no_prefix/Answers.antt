@@ -1,6 +1,6 @@
-use Rattle.scale_codec.specs.Laws.ReadLaws.{prefix_free}
+use Rattle.scale_codec.proofs.Lemmas.ReadLaws.{prefix_free}
 use Rattle.location_wire.specs.Spelling.{network, junction, junctions, location}
-use Rattle.location_wire.specs.Laws.FieldLaws.{network_reads, junction_reads, junctions_reads, location_reads}
+use Rattle.location_wire.proofs.Lemmas.FieldLaws.{network_reads, junction_reads, junctions_reads, location_reads}
 use Rattle.location_wire.proofs.laws.law_of_no_prefix.Goals as goal
 
 pub returns : goal.returns

@@ -1,4 +1,4 @@
-use Rattle.location_wire.specs.Laws.FieldLaws.{network_reads, junction_reads, junctions_reads, location_reads}
+use Rattle.location_wire.proofs.Lemmas.FieldLaws.{network_reads, junction_reads, junctions_reads, location_reads}
 use Rattle.location_wire.proofs.laws.law_of_readers.Goals as goal
 
 pub returns : goal.returns

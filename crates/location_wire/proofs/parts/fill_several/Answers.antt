@@ -1,7 +1,7 @@
 use Rattle.std.proofs.Common.{◌≡◌, [], ◌∷◌, ◌++◌, length, length-append, slice_set, arith}
 use Rattle.std.specs.List.{refill}
 use Rattle.std.proofs.lemmas.Result.{err_from_is_err_and}
-use Rattle.scale_codec.specs.Laws.Loops.{goes_on, fails, ends}
+use Rattle.scale_codec.proofs.Lemmas.Loops.{goes_on, fails, ends}
 use Rattle.locations.specs.declared.grammar.Junction.TheVariants.{Parachain}
 use Rattle.location_wire.specs.Reading.{junction_at}
 use Rattle.location_wire.proofs.Places.{written_last}

@@ -1,6 +1,6 @@
 use Rattle.std.proofs.Common.{◌≡◌, ◌-◌, length}
 use Rattle.scale_codec.specs.Reading.{repeated}
-use Rattle.scale_codec.specs.Laws.Loops.{with_front}
+use Rattle.scale_codec.proofs.Lemmas.Loops.{with_front}
 use Rattle.location_wire.specs.Reading.{junction_at}
 use Rattle.location_wire.proofs.parts.fill_several.Given as goal
 

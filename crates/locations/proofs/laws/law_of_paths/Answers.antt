@@ -1,4 +1,4 @@
-use Rattle.locations.specs.Laws.{keeps_path, keeps_normal, has_one_name}
+use Rattle.locations.proofs.Lemmas.{keeps_path, keeps_normal, has_one_name}
 use Rattle.locations.proofs.laws.law_of_paths.Goals as goal
 
 pub returns : goal.returns

@@ -5,7 +5,7 @@ use Rattle.message_text.specs.declared.names.FieldName.TheVariants.{Xcm}
 use Rattle.message_text.specs.Names.{name_text}
 use Rattle.message_text.specs.Lines.{line}
 use Rattle.message_text.specs.Messages.{own_fields, program_text}
-use Rattle.message_text.specs.Laws.{none_text, some_text}
+use Rattle.message_text.proofs.Lemmas.{none_text, some_text}
 use Rattle.message_text.proofs.messages.+program.Goals as goal
 
 pub push_instruction-returns-in-None : goal.push_instruction-returns-in-None

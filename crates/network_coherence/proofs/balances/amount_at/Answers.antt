@@ -1,6 +1,6 @@
 use Rattle.std.proofs.Common.{◌∙◌}
 use Rattle.locations.specs.Chains.{path_of}
-use Rattle.coherence.specs.UniversalAssets.{every}
+use Rattle.law_coherence.specs.UniversalAssets.{every}
 use Rattle.network_coherence.proofs.Totals.{amount_there}
 use Rattle.network_coherence.proofs.balances.amount_at.Goals as goal
 

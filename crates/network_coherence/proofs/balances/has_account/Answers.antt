@@ -1,7 +1,7 @@
 use Rattle.std.proofs.Common.{◌∙◌}
 use Rattle.locations.specs.Chains.{path_of}
 use Rattle.asset_lists.specs.Units.{instance_in}
-use Rattle.coherence.specs.UniversalAssets.{just}
+use Rattle.law_coherence.specs.UniversalAssets.{just}
 use Rattle.network_coherence.proofs.Totals.{account_there}
 use Rattle.network_coherence.proofs.balances.has_account.Goals as goal
 

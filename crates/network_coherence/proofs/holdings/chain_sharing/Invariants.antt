@@ -1,6 +1,6 @@
 use Rattle.std.proofs.Common.{◌≡◌, drop}
-use Rattle.coherence.specs.Causes.{first_some}
-use Rattle.network_genesis.specs.Genesis.{entry_of}
+use Rattle.law_coherence.specs.Causes.{first_some}
+use Rattle.network_steps.specs.Genesis.{entry_of}
 use Rattle.network_coherence.specs.Answers.{entries_in}
 use Rattle.network_coherence.specs.Parts.{row_sharing, chain_sharing}
 use Rattle.network_coherence.proofs.holdings.chain_sharing.Given as goal

@@ -1,7 +1,7 @@
 use Rattle.std.proofs.Common.{◌≡◌, drop}
 use Rattle.trust_tables.specs.declared.rows.AssetRow.{AssetRow}
-use Rattle.coherence.specs.Causes.{first_some, falls_short, checking_in}
-use Rattle.network_genesis.specs.Genesis.{entry_of, entries_of}
+use Rattle.law_coherence.specs.Causes.{first_some, falls_short, checking_in}
+use Rattle.network_steps.specs.Genesis.{entry_of, entries_of}
 use Rattle.network_coherence.specs.Parts.{falls_short_at}
 use Rattle.network_coherence.proofs.holdings.chain_short.Given as goal
 

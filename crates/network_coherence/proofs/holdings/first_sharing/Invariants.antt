@@ -1,5 +1,5 @@
 use Rattle.std.proofs.Common.{◌≡◌, drop}
-use Rattle.network_genesis.specs.Genesis.{entry_of}
+use Rattle.network_steps.specs.Genesis.{entry_of}
 use Rattle.network_coherence.specs.Answers.{entries_in}
 use Rattle.network_coherence.specs.Parts.{first_sharing}
 use Rattle.network_coherence.proofs.holdings.first_sharing.Given as goal

@@ -1,6 +1,6 @@
 use Rattle.std.proofs.Common.{◌≡◌, length}
-use Rattle.coherence.specs.Causes.{instance_twice}
-use Rattle.network_genesis.specs.Genesis.{entries_of}
+use Rattle.law_coherence.specs.Causes.{instance_twice}
+use Rattle.network_steps.specs.Genesis.{entries_of}
 use Rattle.network_coherence.specs.Answers.{entries_in}
 use Rattle.network_coherence.proofs.holdings.instance_twice.Given as goal
 

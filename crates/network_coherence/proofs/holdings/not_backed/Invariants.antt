@@ -1,5 +1,5 @@
 use Rattle.std.proofs.Common.{◌≡◌, drop}
-use Rattle.network_genesis.specs.Genesis.{entries_of}
+use Rattle.network_steps.specs.Genesis.{entries_of}
 use Rattle.network_coherence.specs.Answers.{entries_in}
 use Rattle.network_coherence.specs.Parts.{unbacked}
 use Rattle.network_coherence.proofs.holdings.not_backed.Given as goal

@@ -1,5 +1,5 @@
 use Rattle.std.proofs.Common.{◌∙◌, sym}
-use Rattle.network_genesis.specs.Genesis.{entry_of}
+use Rattle.network_steps.specs.Genesis.{entry_of}
 use Rattle.network_coherence.specs.Answers.{entries_in}
 use Rattle.network_coherence.proofs.Coins.{none_sharing}
 use Rattle.network_coherence.proofs.holdings.row_sharing.Goals as goal

@@ -1,8 +1,8 @@
 use Rattle.std.proofs.Common.{◌≡◌, drop}
-use Rattle.coherence.specs.Causes.{tables_of}
+use Rattle.law_coherence.specs.Causes.{entry_tables}
 use Rattle.network_coherence.specs.Answers.{entries_in, tables_in}
 use Rattle.network_coherence.specs.Parts.{partners_unlisted}
 use Rattle.network_coherence.proofs.listings.partner_unlisted.Given as goal
 
 abbrev pub invariant-loop-here : goal.invariant-loop-here
-invariant-loop-here l = partners_unlisted (tables_in l.spec) (tables_of (entries_in l.spec (drop l.here-index l.chains))) ≡ partners_unlisted (tables_in l.spec) (tables_in l.spec)
+invariant-loop-here l = partners_unlisted (tables_in l.spec) (entry_tables (entries_in l.spec (drop l.here-index l.chains))) ≡ partners_unlisted (tables_in l.spec) (tables_in l.spec)

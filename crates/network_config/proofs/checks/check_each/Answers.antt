@@ -1,5 +1,5 @@
 use Rattle.std.proofs.Common.{◌≡◌, ◌∙◌, length, sym, arith}
-use Rattle.document_forms.specs.Forms.{next_index}
+use Rattle.document_entries.specs.Forms.{next_index}
 use Rattle.network_config.proofs.Checking.{checked, refused, all_checked}
 use Rattle.network_config.proofs.checks.check_each.Goals as goal
 

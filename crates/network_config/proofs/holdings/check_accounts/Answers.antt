@@ -1,9 +1,10 @@
 use Rattle.std.proofs.Common.{◌≡◌, ◌∙◌, length, take, sym, ap, arith}
 use Rattle.std.specs.Prelude.{◌||◌}
-use Rattle.document_forms.specs.declared.fault.Section.TheVariants.{Accounts}
-use Rattle.document_forms.specs.Forms.{next_index}
-use Rattle.network_config.specs.References.{flaw_at, place_in, account_flaws}
-use Rattle.network_config.specs.Holdings.{is_held, is_of_holding, flaws_beside, row_number, listed_number}
+use Rattle.document_entries.specs.declared.fault.Section.TheVariants.{Accounts}
+use Rattle.document_entries.specs.Forms.{next_index}
+use Rattle.network_config.specs.References.{flaw_at, document_place, account_flaws}
+use Rattle.network_config.specs.Holdings.{is_held, is_of_holding, flaws_beside, listed_number}
+use Rattle.network_config.proofs.Lemmas.Holdings.{row_number}
 use Rattle.network_config.proofs.Checking.{checked, refused, all_checked}
 use Rattle.network_config.proofs.Holding.{flaws_same, held_more, listed_more, listed_of, stops_with}
 use Rattle.network_config.proofs.RowTables.{number_same}
@@ -19,7 +20,7 @@ returns-in-Err c =
     stops_with c.in-Err.stop _ _ c.in-Err.ensures.flaws (λ fault e.
     c.loop-balance.invariant.entries
     ∙ refused (account_flaws c.args.rows.now) c.args.chain Accounts xs k c.loop-balance.index c.balance-item.result fault c.loop-balance-test.true c.balance-item.is
-    (ap (flaw_at (place_in c.args.chain Accounts c.loop-balance.index)) (sym same) ∙ e))
+    (ap (flaw_at (document_place c.args.chain Accounts c.loop-balance.index)) (sym same) ∙ e))
 
 pub loop-balance-preserved : goal.loop-balance-preserved
 loop-balance-preserved c =
@@ -31,13 +32,13 @@ loop-balance-preserved c =
     number_same c.in_ok-table.table c.args.rows.now c.balance-item.result c.in_ok-table.ensures in
     let same : flaws_beside (row_number c.args.rows.now c.balance-item.result) keys c.balance-item.result ≡ account_flaws c.args.rows.now (take k xs) c.balance-item.result =
     flaws_same c.args.rows.now (take k xs) c.balance-item.result keys c.loop-balance.invariant.listed c.loop-balance.invariant.held in
-    let sound = ap (λ n. flaw_at (place_in c.args.chain Accounts c.loop-balance.index) (flaws_beside n keys c.balance-item.result)) (sym number) ∙ c.in-Ok.ensures.flaws in
+    let sound = ap (λ n. flaw_at (document_place c.args.chain Accounts c.loop-balance.index) (flaws_beside n keys c.balance-item.result)) (sym number) ∙ c.in-Ok.ensures.flaws in
     record {
       entries = rw index (c.loop-balance.invariant.entries
           ∙ checked (account_flaws c.args.rows.now) c.args.chain Accounts xs k c.loop-balance.index c.balance-item.result c.loop-balance-test.true c.balance-item.is
-          (ap (flaw_at (place_in c.args.chain Accounts c.loop-balance.index)) (sym same) ∙ sound));
+          (ap (flaw_at (document_place c.args.chain Accounts c.loop-balance.index)) (sym same) ∙ sound));
       listed = listed_more c.args.rows.now xs k c.balance-item.result c.loop-balance-test.true c.balance-item.is c.loop-balance.invariant.listed
-          (listed_of c.args.rows.now (place_in c.args.chain Accounts c.loop-balance.index) keys c.balance-item.result sound);
+          (listed_of c.args.rows.now (document_place c.args.chain Accounts c.loop-balance.index) keys c.balance-item.result sound);
       held = held_more c.args.rows.now keys c.add_account.new.held.keys xs k c.balance-item.result c.loop-balance-test.true c.balance-item.is
           (λ q. c.in-Ok.ensures.added q ∙ ap (λ n. is_of_holding n c.balance-item.result q || is_held keys q) number) c.loop-balance.invariant.held;
     }

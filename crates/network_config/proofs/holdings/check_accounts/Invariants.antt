@@ -1,6 +1,6 @@
 use Rattle.std.proofs.Common.{◌≡◌, take, drop, []}
 use Rattle.std.specs.List.{list_any, AllByRecursion}
-use Rattle.document_forms.specs.declared.fault.Section.TheVariants.{Accounts}
+use Rattle.document_entries.specs.declared.fault.Section.TheVariants.{Accounts}
 use Rattle.network_config.specs.References.{each_in, account_flaws}
 use Rattle.network_config.specs.Holdings.{HoldingKey, is_held}
 use Rattle.network_config.proofs.Holding.{IsListed, of_holding}

@@ -1,7 +1,7 @@
 use Rattle.std.proofs.Common.{sym, subst}
 use Rattle.serde_json.specs.View.{view}
-use Rattle.document_forms.specs.Answers.{Answers}
-use Rattle.document_forms.specs.Forms.{fields}
+use Rattle.document_entries.specs.Answers.{Answers}
+use Rattle.document_entries.specs.Forms.{fields}
 use Rattle.network_config.specs.Chains.{chain_fields}
 use Rattle.network_config.proofs.lists.check_chain_fields.Goals as goal
 

@@ -1,6 +1,6 @@
 use Rattle.std.proofs.Common.{◌≡◌, ◌∙◌, length, arith}
-use Rattle.document_forms.specs.declared.fault.Section.TheVariants.{Queries}
-use Rattle.document_forms.specs.Forms.{next_index}
+use Rattle.document_entries.specs.declared.fault.Section.TheVariants.{Queries}
+use Rattle.document_entries.specs.Forms.{next_index}
 use Rattle.network_config.specs.References.{query_flaws}
 use Rattle.network_config.proofs.Checking.{all_checked}
 use Rattle.network_config.proofs.Asking.{query_refused, query_checked, query_added}

@@ -1,6 +1,6 @@
 use Rattle.std.proofs.Common.{◌≡◌, take, drop, []}
 use Rattle.std.specs.List.{list_any}
-use Rattle.document_forms.specs.declared.fault.Section.TheVariants.{Queries}
+use Rattle.document_entries.specs.declared.fault.Section.TheVariants.{Queries}
 use Rattle.network_config.specs.References.{each_in, query_flaws}
 use Rattle.network_config.specs.Queries.{QueryKey, is_asked}
 use Rattle.network_config.proofs.Asking.{of_query}

@@ -1,5 +1,5 @@
 use Rattle.std.proofs.Common.{◌≡◌, ◌∙◌, ◌<◌, length, get_or, ap, arith}
-use Rattle.document_forms.specs.Forms.{next_index}
+use Rattle.document_entries.specs.Forms.{next_index}
 use Rattle.network_config.proofs.ChainsChecked.{chain_checked, chain_refused, chains_checked}
 use Rattle.network_config.proofs.Holding.{stops_with}
 use Rattle.network_config.proofs.references.check_chains.Goals as goal

@@ -1,5 +1,5 @@
 use Rattle.std.proofs.Common.{◌≡◌, ◌∙◌, length, sym, arith}
-use Rattle.document_forms.specs.Forms.{next_index}
+use Rattle.document_entries.specs.Forms.{next_index}
 use Rattle.network_config.proofs.Summing.{share_added, shares_end}
 use Rattle.network_config.proofs.sums.add_shares.Goals as goal
 

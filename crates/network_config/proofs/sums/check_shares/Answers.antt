@@ -1,15 +1,15 @@
 use Rattle.std.proofs.Common.{◌≡◌, ◌∙◌, ◌+◌, length, take, sym, ap, inl, inr, arith}
 use Rattle.std.specs.Prelude.{nat_lt}
-use Rattle.document_forms.specs.declared.fault.NetworkFault.TheVariants.{LimitPassed}
+use Rattle.document_entries.specs.declared.fault.NetworkFault.TheVariants.{LimitPassed}
 use Rattle.document_entries.specs.Entries.{amount_limit}
-use Rattle.network_config.specs.Sums.{total}
-use Rattle.network_config.specs.Totals.{key_of, total_at}
+use Rattle.network_config.specs.Sums.{total_up_to}
+use Rattle.network_config.specs.Totals.{total_key_of, total_under_key}
 use Rattle.network_config.proofs.Summing.{within, beyond, summed, total_is, total_more, stops_at}
 use Rattle.network_config.proofs.sums.check_shares.Goals as goal
 
 pub returns-in-Err : goal.returns-in-Err
 returns-in-Err c =
-    let same : total_at c.loop-share.totals.entries (key_of c.share-item.result) + c.share-item.result.amount ≡ total (take c.loop-share.share-index c.args.shares.now) c.share-item.result =
+    let same : total_under_key c.loop-share.totals.entries (total_key_of c.share-item.result) + c.share-item.result.amount ≡ total_up_to (take c.loop-share.share-index c.args.shares.now) c.share-item.result =
     total_is c.loop-share.totals.entries (take c.loop-share.share-index c.args.shares.now) c.share-item.result c.loop-share.invariant.totals in
     stops_at c.in-Err.stop c.args.shares.now (LimitPassed c.share-item.result.place)
     (elim c.in-Err.ensures.refused [
@@ -19,7 +19,7 @@ returns-in-Err c =
 
 pub loop-share-preserved : goal.loop-share-preserved
 loop-share-preserved c =
-    let same : total_at c.loop-share.totals.entries (key_of c.share-item.result) + c.share-item.result.amount ≡ total (take c.loop-share.share-index c.args.shares.now) c.share-item.result =
+    let same : total_under_key c.loop-share.totals.entries (total_key_of c.share-item.result) + c.share-item.result.amount ≡ total_up_to (take c.loop-share.share-index c.args.shares.now) c.share-item.result =
     total_is c.loop-share.totals.entries (take c.loop-share.share-index c.args.shares.now) c.share-item.result c.loop-share.invariant.totals in
     record {
       sums = c.loop-share.invariant.sums ∙ within c.args.shares.now c.loop-share.share-index c.share-item.result c.loop-share-test.true c.share-item.is (ap (λ n. nat_lt n amount_limit) (sym same) ∙ c.in-Ok.ensures.below);

@@ -1,6 +1,6 @@
 use Rattle.std.proofs.Common.{◌≡◌, ◌∙◌, List, length, sym, ap, arith}
 use Rattle.network_spec.specs.declared.chain.ChainSpec.{ChainSpec}
-use Rattle.document_forms.specs.Forms.{next_index}
+use Rattle.document_entries.specs.Forms.{next_index}
 use Rattle.network_config.specs.Sums.{shares_of}
 use Rattle.network_config.proofs.Summing.{chain_added, chains_end}
 use Rattle.network_config.proofs.sums.shares_of.Goals as goal

@@ -1,5 +1,5 @@
 use Rattle.std.proofs.Common.{◌≡◌, false, string_bytes}
-use Rattle.network_genesis.specs.Genesis.{order_of}
+use Rattle.network_steps.specs.Genesis.{order_of}
 use Rattle.network_steps.specs.Sends.{deliveries_left}
 use Rattle.chain_net.specs.Nets.{world_of, spec_of, is_stopped}
 use Rattle.report_blocks.proofs.DrainLines.{Drains}

@@ -6,9 +6,9 @@ use Rattle.report_blocks.proofs.marked_steps.claim_step.Goals as goal
 
 pub returns-clause-kept : goal.returns-clause-kept
 returns-clause-kept c =
-    let says = c.law_of_settings.ensures in
+    let says = c.law_of_constant_settings.ensures in
     let keeps : KeepsSettings = record { exec = says.exec; deliver = says.deliver; claim = says.claim } in
-    let still = c.law_of_steps.ensures in
+    let still = c.law_of_no_change_elsewhere.ensures in
     let others : KeepsOthers = record { exec = still.exec_elsewhere; deliver = still.deliver_elsewhere; claim = still.claim_elsewhere } in
     let w = world_of c.args.net.now in
     whatever c.step_text.result

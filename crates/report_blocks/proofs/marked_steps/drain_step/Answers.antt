@@ -1,5 +1,5 @@
 use Rattle.std.proofs.lemmas.Result.{on_ok_weaker}
-use Rattle.network_genesis.specs.Genesis.{order_of}
+use Rattle.network_steps.specs.Genesis.{order_of}
 use Rattle.chain_net.specs.Nets.{world_of, spec_of}
 use Rattle.report_blocks.proofs.Listed.{KeepsSettings}
 use Rattle.report_blocks.proofs.Keeping.{kept_drain}
@@ -7,7 +7,7 @@ use Rattle.report_blocks.proofs.marked_steps.drain_step.Goals as goal
 
 pub returns-clause-kept : goal.returns-clause-kept
 returns-clause-kept c =
-    let says = c.law_of_settings.ensures in
+    let says = c.law_of_constant_settings.ensures in
     let keeps : KeepsSettings = record { exec = says.exec; deliver = says.deliver; claim = says.claim } in
     let w = world_of c.args.net.now in
     on_ok_weaker c.drained.result

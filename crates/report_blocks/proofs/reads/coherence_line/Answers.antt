@@ -1,6 +1,6 @@
 use Rattle.std.proofs.Common.{◌≡◌, ◌∙◌, ap, sym, subst, IfOk, string_bytes}
-use Rattle.network_genesis.specs.Genesis.{entries_of}
-use Rattle.coherence.specs.Causes.{first_cause}
+use Rattle.network_steps.specs.Genesis.{entries_of}
+use Rattle.law_coherence.specs.Causes.{first_cause}
 use Rattle.chain_net.specs.Nets.{spec_of}
 use Rattle.report_blocks.proofs.Reading.{line_coherent, line_found}
 use Rattle.report_blocks.proofs.reads.coherence_line.Goals as goal

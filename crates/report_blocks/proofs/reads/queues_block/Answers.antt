@@ -1,6 +1,6 @@
 use Rattle.std.proofs.Common.{◌≡◌, ◌∙◌, ap, subst, IfOk, string_bytes}
 use Rattle.network_spec.specs.declared.network.ChannelSpec.{ChannelSpec}
-use Rattle.network_genesis.specs.Genesis.{order_of}
+use Rattle.network_steps.specs.Genesis.{order_of}
 use Rattle.chain_net.specs.Nets.{world_of}
 use Rattle.report_blocks.specs.Reads as reads
 use Rattle.report_blocks.proofs.Reading.{queues_are}

@@ -19,7 +19,7 @@ returns-in_ok-sheet-in-Some-Planned-clause-text c =
     let w = world_of c.args.net.now in
     IfOk-weaker c.written.result
     (λ text. (parts : List ChainPart) → IsWrittenOf parts c.in_ok-sheet-in-Some-Planned.sheet → string_bytes text ≡ supply.supply_block parts)
-    (λ text. string_bytes text ≡ reads.supply_block w)
+    (λ text. string_bytes text ≡ reads.world_supply_block w)
     (λ text says. says parts c.in_ok-sheet-in-Some-Planned.ensures ∙ supply_is parts w c.chains-in-Some-Planned.ensures) c.written.ensures.text
 
 pub returns-in_ok-renew-in-Some-Written-clause-text : goal.returns-in_ok-renew-in-Some-Written-clause-text
@@ -28,5 +28,5 @@ returns-in_ok-renew-in-Some-Written-clause-text c =
     let w = world_of c.args.net.now in
     IfOk-weaker c.written-in-Some-Written.result
     (λ text. (parts : List ChainPart) → IsWrittenOf parts c.renew.new.self → string_bytes text ≡ supply.supply_block parts)
-    (λ text. string_bytes text ≡ reads.supply_block w)
+    (λ text. string_bytes text ≡ reads.world_supply_block w)
     (λ text says. says parts c.in_ok-renew-in-Some-Written.ensures ∙ supply_is parts w c.chains-in-Some-Written.ensures) c.written-in-Some-Written.ensures.text

@@ -6,7 +6,7 @@ use Rattle.asset_lists.specs.declared.units.AssetId.TheVariants.{Concrete}
 use Rattle.ledgers.specs.Ledgers.{Withdrawn, Transferred, shortage, barred}
 use Rattle.ledgers.specs.LedgerFaults.{IsFirstBarred, IsTransferFault}
 use Rattle.ledgers.specs.declared.faults.DepositFault.{DepositFault}
-use Rattle.row_ledger.specs.Laws.{some_of, is_moved, moved_as, is_short, is_over, nothing_refused, nothing_moved}
+use Rattle.row_ledger.proofs.Lemmas.{some_of, is_moved, moved_as, is_short, is_over, nothing_refused, nothing_moved}
 use Rattle.row_ledger.proofs.moving.move_amount.Goals as goal
 
 pub returns-then-n-eq0-clause-step : goal.returns-then-n-eq0-clause-step

@@ -2,9 +2,9 @@ use Rattle.std.proofs.Common.{◌≡◌, ◌^◌, ◌<◌, ℕ, Some, None, refl
 use Rattle.std.specs.Prelude.{OnOk, slice_get}
 use Rattle.asset_lists.specs.declared.units.AssetId.TheVariants.{Concrete}
 use Rattle.asset_lists.specs.declared.units.Kind.TheVariants.{Fungible, Class}
-use Rattle.row_accounts.specs.RowAccounts.{is_fungible_row, row_amounts}
-use Rattle.row_accounts.specs.Laws.{amount_of_row}
-use Rattle.row_ledger.specs.Laws.{past, stands, is_fungible_at, number_is, no_row, shifts, aside_stays}
+use Rattle.row_ledger.specs.RowAccounts.{is_fungible_row, row_amounts}
+use Rattle.row_ledger.proofs.Lemmas.AccountLaws.{amount_of_row}
+use Rattle.row_ledger.proofs.Lemmas.{past, stands, is_fungible_at, number_is, no_row, shifts, aside_stays}
 use Rattle.row_ledger.proofs.moving.shift_row.Goals as goal
 
 pub returns-in_default-clause-step : goal.returns-in_default-clause-step

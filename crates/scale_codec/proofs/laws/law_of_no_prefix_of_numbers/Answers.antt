@@ -1,10 +1,10 @@
 use Rattle.std.proofs.Common.{arith, ◌^◌}
 use Rattle.scale_codec.specs.Spelling.{fixed, compact, measured}
 use Rattle.scale_codec.specs.Reading.{fixed_at, take_at}
-use Rattle.scale_codec.specs.Laws.NumberLaws.{fixed_reads, bytes_reads}
-use Rattle.scale_codec.specs.Laws.Compact.{below_reads, c32}
-use Rattle.scale_codec.specs.Laws.Schemes.{measured_reads}
-use Rattle.scale_codec.specs.Laws.ReadLaws.{prefix_free}
+use Rattle.scale_codec.proofs.Lemmas.NumberLaws.{fixed_reads, bytes_reads}
+use Rattle.scale_codec.proofs.Lemmas.Compact.{below_reads, c32}
+use Rattle.scale_codec.proofs.Lemmas.Schemes.{measured_reads}
+use Rattle.scale_codec.proofs.Lemmas.ReadLaws.{prefix_free}
 use Rattle.scale_codec.proofs.laws.law_of_no_prefix_of_numbers.Goals as goal
 
 pub returns-clause-fixed : goal.returns-clause-fixed

@@ -1,5 +1,5 @@
-use Rattle.scale_codec.specs.Laws.NumberLaws.{fixed_reads}
-use Rattle.scale_codec.specs.Laws.Compact.{below_reads}
+use Rattle.scale_codec.proofs.Lemmas.NumberLaws.{fixed_reads}
+use Rattle.scale_codec.proofs.Lemmas.Compact.{below_reads}
 use Rattle.scale_codec.proofs.laws.law_of_readers.Goals as goal
 
 pub returns-clause-fixed : goal.returns-clause-fixed

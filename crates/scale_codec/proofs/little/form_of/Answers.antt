@@ -1,5 +1,5 @@
 use Rattle.std.proofs.Common.{arith}
-use Rattle.scale_codec.specs.Laws.Powers.{mono}
+use Rattle.scale_codec.proofs.Lemmas.Powers.{mono}
 use Rattle.scale_codec.proofs.little.form_of.Goals as goal
 
 pub overflow_mul-more : goal.overflow_mul-more

@@ -1,6 +1,6 @@
 use Rattle.std.proofs.Common.{◌∙◌, ap, flat_map}
 use Rattle.step_text.specs.Blocks.{accounts_text, holder_line}
-use Rattle.account_holdings.specs.Laws.{rows_fewer, whole_shown, next_as, none_as}
+use Rattle.ledgers.proofs.Lemmas.HoldingLaws.{rows_fewer, whole_shown, next_as, none_as}
 use Rattle.step_text.proofs.Balances.{nothing_shown, lines_next}
 use Rattle.step_text.proofs.blocks.accounts_text.Goals as goal
 

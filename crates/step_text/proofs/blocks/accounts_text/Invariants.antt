@@ -1,7 +1,7 @@
 use Rattle.std.proofs.Common.{◌≡◌, ◌-◌, length, flat_map, string_bytes}
 use Rattle.amounts.specs.Amounts.{rows}
 use Rattle.step_text.specs.Blocks.{holder_line}
-use Rattle.account_holdings.specs.Shown.{shown}
+use Rattle.ledgers.proofs.Lemmas.Shown.{shown}
 use Rattle.step_text.proofs.blocks.accounts_text.Given as goal
 
 abbrev pub invariant-loop-who : goal.invariant-loop-who

@@ -2,8 +2,8 @@ use Rattle.std.proofs.Common.{◌∙◌, ◌++◌, ap, true, List, flat_map, ari
 use Rattle.std.specs.List.{enumerate_from}
 use Rattle.trust_tables.specs.declared.rows.AssetRow.{AssetRow}
 use Rattle.chain_state.specs.PartOf.{part_of}
-use Rattle.supply_audit.specs.ListLaws.{one_more, none_left}
-use Rattle.supply_audit.specs.Places.{table_of}
+use Rattle.supply_audit.proofs.Lemmas.ListLaws.{one_more, none_left}
+use Rattle.supply_audit.specs.Places.{chain_table}
 use Rattle.supply_audit.specs.RowPlaces.{place_if, places_in}
 use Rattle.supply_audit.proofs.Tables.{row_has_path}
 use Rattle.supply_audit.proofs.asset_places.add_rows.Goals as goal
@@ -13,12 +13,12 @@ add_row-requires c = row_has_path c.args.chain.now c.rows-rows.result.now c.loop
 
 pub loop-k-preserved : goal.loop-k-preserved
 loop-k-preserved c = λ a.
-    let t = table_of (part_of c.args.chain.now) in
+    let t = chain_table (part_of c.args.chain.now) in
     one_more (place_if true t a c.args.number) c.rows-rows.result.now c.loop-k.k c.index-rows-k.result
     (places_in c.loop-k.places.entries a) (places_in c.add_row.new.places.entries a) _ c.loop-k-test.true c.index-rows-k.is (c.in_ok-add_row.ensures a) (c.loop-k.invariant a)
 
 pub returns : goal.returns
 returns c = λ a.
-    let t = table_of (part_of c.args.chain.now) in
+    let t = chain_table (part_of c.args.chain.now) in
     none_left (place_if true t a c.args.number) c.rows-rows.result.now c.loop-k.k (places_in c.loop-k.places.entries a) _ (omega arith) (c.loop-k.invariant a)
     ∙ ap (λ (rows : List AssetRow). places_in c.args.places.now.entries a ++ flat_map (place_if true t a c.args.number) (enumerate_from 0 rows)) c.rows-rows.ensures

@@ -2,7 +2,7 @@ use Rattle.std.proofs.Common.{◌≡◌, ◌∙◌, ap}
 use Rattle.std.specs.Prelude.{Some}
 use Rattle.std.specs.List.{filter}
 use Rattle.trust_tables.specs.declared.chains.Site.{Site}
-use Rattle.coherence.specs.UniversalAssets.{UniversalAsset}
+use Rattle.law_coherence.specs.UniversalAssets.{UniversalAsset}
 use Rattle.chain_state.specs.PartOf.{part_of}
 use Rattle.supply_audit.specs.Assets.{listed_at}
 use Rattle.supply_audit.specs.AssetPlaces.{is_at}

@@ -4,8 +4,8 @@ use Rattle.asset_bundles.specs.Books.{most_burned}
 use Rattle.asset_bundles.specs.Totals.{total_value}
 use Rattle.std.specs.Prelude.{map}
 use Rattle.chain_queues.specs.Queues.{outgoing_of}
-use Rattle.supply_audit.specs.Places.{sent}
+use Rattle.supply_audit.specs.Places.{total_sent}
 use Rattle.supply_audit.proofs.messages.in_channels.Given as goal
 
 abbrev pub invariant-loop-queue : goal.invariant-loop-queue
-invariant-loop-queue l = total_value l.total ≡ min (sent l.what l.to (map outgoing_of (take l.queue-index l.channels)) (Concrete l.id) l.kind) most_burned
+invariant-loop-queue l = total_value l.total ≡ min (total_sent l.what l.to (map outgoing_of (take l.queue-index l.channels)) (Concrete l.id) l.kind) most_burned

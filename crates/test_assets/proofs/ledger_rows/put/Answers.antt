@@ -2,9 +2,9 @@ use Rattle.std.proofs.Common.{[], ◌∷◌, List, refl, sym, subst}
 use Rattle.asset_lists.specs.declared.units.Kind.{Kind}
 use Rattle.asset_lists.specs.declared.units.AssetId.TheVariants.{Concrete}
 use Rattle.asset_lists.specs.Listed.{Listed}
-use Rattle.asset_lists.specs.Laws.{once_each}
+use Rattle.asset_lists.proofs.Lemmas.{once_each}
 use Rattle.asset_bundles.specs.Books.{AreListed}
-use Rattle.asset_bundles.specs.Laws.{listed_list}
+use Rattle.asset_bundles.proofs.Lemmas.{listed_list}
 use Rattle.test_assets.proofs.ledger_rows.put.Goals as goal
 
 listed : List Listed

@@ -1,4 +1,4 @@
-use Rattle.weight_trader.specs.ListedLaws.{purchased_listed}
+use Rattle.weight_trader.proofs.Lemmas.ListedLaws.{purchased_listed}
 use Rattle.test_assets.proofs.trading_rows.buy_more.Goals as goal
 
 pub returns-in-Ok : goal.returns-in-Ok

@@ -2,7 +2,7 @@ use Rattle.std.proofs.Common.{[], ◌∷◌, map, sym, ap, subst, ◌∙◌}
 use Rattle.asset_lists.specs.Listed.{Listed, listed_of}
 use Rattle.asset_bundles.specs.Books.{Book}
 use Rattle.weight_trader.specs.Purchases.{coin_of, AreRatesListed}
-use Rattle.weight_trader.specs.ListedLaws.{listed_at, lines_listed}
+use Rattle.weight_trader.proofs.Lemmas.ListedLaws.{listed_at, lines_listed}
 use Rattle.test_assets.proofs.trading_rows.opened.Goals as goal
 
 pub returns : goal.returns

@@ -1,5 +1,5 @@
 use Rattle.std.proofs.Common.{arith, ap}
-use Rattle.message_parts.specs.declared.weight.Weight.{Weight}
+use Rattle.operands.specs.declared.weight.Weight.{Weight}
 use Rattle.test_assets.proofs.trading_rows.weighed.Goals as goal
 
 pub weigh_rest-requires-clause-short : goal.weigh_rest-requires-clause-short

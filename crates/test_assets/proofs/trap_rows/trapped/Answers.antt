@@ -1,5 +1,5 @@
 use Rattle.std.proofs.Common.{◌≤◌, sym, subst}
-use Rattle.asset_lists.specs.Laws.{once_each}
+use Rattle.asset_lists.proofs.Lemmas.{once_each}
 use Rattle.asset_lists.specs.Moves.{occurrences}
 use Rattle.test_assets.proofs.trap_rows.trapped.Goals as goal
 

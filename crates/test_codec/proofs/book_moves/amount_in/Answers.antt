@@ -1,6 +1,6 @@
 use Rattle.std.proofs.Common.{ℕ, sym, ap, ◌∙◌}
 use Rattle.std.specs.Prelude.{Option, unwrap_or}
-use Rattle.test_codec.specs.Laws.{amount_is}
+use Rattle.test_codec.proofs.Lemmas.{amount_is}
 use Rattle.test_codec.proofs.book_moves.amount_in.Goals as goal
 
 pub returns : goal.returns

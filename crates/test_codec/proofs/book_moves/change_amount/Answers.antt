@@ -1,4 +1,4 @@
-use Rattle.test_codec.specs.Laws.{written, there}
+use Rattle.test_codec.proofs.Lemmas.{written, there}
 use Rattle.test_codec.proofs.book_moves.change_amount.Goals as goal
 
 pub returns : goal.returns

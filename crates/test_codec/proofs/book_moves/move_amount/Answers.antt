@@ -1,9 +1,9 @@
 use Rattle.std.proofs.Common.{◌≡◌, ◌+◌, ◌-◌, ◌<◌, true, false, sym, ap, ◌∙◌, arith}
 use Rattle.std.specs.Ordering.{is_eq}
 use Rattle.call_dispatch.specs.Shifts.{is_same_account}
-use Rattle.call_dispatch.specs.Laws.ShiftLaws.{shifted_nothing, shifted_same}
+use Rattle.call_dispatch.proofs.Lemmas.ShiftLaws.{shifted_nothing, shifted_same}
 use Rattle.test_codec.specs.Books.{amounts_in}
-use Rattle.test_codec.specs.Laws.{still_some, moved_by_writing}
+use Rattle.test_codec.proofs.Lemmas.{still_some, moved_by_writing}
 use Rattle.test_codec.proofs.book_moves.move_amount.Goals as goal
 
 pub returns-then-n-eq0-clause-ok : goal.returns-then-n-eq0-clause-ok

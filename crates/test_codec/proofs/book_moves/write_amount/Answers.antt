@@ -1,4 +1,4 @@
-use Rattle.test_codec.specs.Laws.{written}
+use Rattle.test_codec.proofs.Lemmas.{written}
 use Rattle.test_codec.proofs.book_moves.write_amount.Goals as goal
 
 pub returns-clause-ok : goal.returns-clause-ok

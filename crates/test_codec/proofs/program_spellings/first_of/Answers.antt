@@ -1,8 +1,8 @@
 use Rattle.std.proofs.Common.{rules}
-use Rattle.message_parts.specs.declared.version.Version.TheVariants.{V4}
+use Rattle.operands.specs.declared.version.Version.TheVariants.{V4}
 use Rattle.xcm_program.specs.Conversions.{HasAmounts}
 use Rattle.xcm_format.specs.Writable.{IsNamedOne}
-use Rattle.program_wire.specs.Laws.Writable.{fits_named, fits_amounts}
+use Rattle.versioned_xcm.proofs.Lemmas.ProgramLaws.Writable.{fits_named, fits_amounts}
 use Rattle.test_codec.proofs.Examples.{of_first}
 use Rattle.test_codec.proofs.program_spellings.first_of.Goals as goal
 

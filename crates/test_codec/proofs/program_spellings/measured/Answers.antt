@@ -1,4 +1,4 @@
-use Rattle.program_wire.specs.Laws.Writable.{writable}
+use Rattle.versioned_xcm.proofs.Lemmas.ProgramLaws.Writable.{writable}
 use Rattle.test_codec.proofs.program_spellings.measured.Goals as goal
 
 pub write_program-requires : goal.write_program-requires

@@ -3,7 +3,7 @@ use Rattle.std.specs.Ordering.{eq_by_cmp}
 use Rattle.std.specs.List.{IsDistinct, list_all}
 use Rattle.asset_lists.specs.Listed.{listed_cmp}
 use Rattle.network_spec.specs.Networks.{same_holding}
-use Rattle.network_genesis.specs.Tests.{is_placeable}
+use Rattle.network_steps.specs.Tests.{is_placeable}
 use Rattle.test_execution.proofs.Listings.{each_once, each_held_once}
 use Rattle.test_execution.proofs.Resting.{if_opened}
 use Rattle.test_execution.proofs.fake_chain.opened.Goals as goal

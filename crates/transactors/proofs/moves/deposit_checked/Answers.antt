@@ -1,7 +1,7 @@
 use Rattle.std.proofs.Common.{sym, ap, ◌∙◌, subst}
 use Rattle.asset_bundles.specs.Bundles.{held_assets, bundle_of}
 use Rattle.asset_bundles.specs.Books.{AreListed}
-use Rattle.asset_bundles.specs.Laws.{listed_list}
+use Rattle.asset_bundles.proofs.Lemmas.{listed_list}
 use Rattle.transactors.proofs.Moving.{none_bars, rows_taken, all_listed}
 use Rattle.transactors.proofs.moves.deposit_checked.Goals as goal
 

@@ -1,10 +1,11 @@
 use Rattle.std.proofs.Common.{sym, ap, ◌∙◌}
 use Rattle.asset_bundles.specs.Bundles.{bundle_of}
-use Rattle.asset_bundles.specs.BundleLaws.{bundle_of-none}
+use Rattle.asset_bundles.proofs.Lemmas.BundleLaws.{bundle_of-none}
 use Rattle.ledgers.specs.Ledgers.{Withdrawn}
-use Rattle.transactors.specs.Moves.{at_account}
-use Rattle.transactors.proofs.Moving.{none_if, nobody_gives, enough_given}
+use Rattle.transactors.specs.Moves.{ledger_at_account}
+use Rattle.transactors.proofs.Moving.{nobody_gives, enough_given}
 use Rattle.transactors.proofs.moves.withdraw_checked.Goals as goal
+use Rattle.plain_lists.proofs.Lemmas.Facts.{none_if}
 
 pub withdraw_checked-requires : goal.withdraw_checked-requires
 withdraw_checked-requires g c =
@@ -23,6 +24,6 @@ returns-in_default g c =
     let nothing = nobody_gives rows site floors ledger.held c.args.who.now c.args.list.now nobody c.requires.free in
     record {
       goods = c.empty.ensures ∙ sym bundle_of-none ∙ ap bundle_of (sym nothing);
-      withdrawn = sym (ap (λ o. at_account o (λ account. Withdrawn account c.args.list.now ledger) ledger) nobody);
+      withdrawn = sym (ap (λ o. ledger_at_account o (λ account. Withdrawn account c.args.list.now ledger) ledger) nobody);
       kept = tt;
     }

@@ -1,6 +1,6 @@
 use Rattle.std.proofs.Common.{sym, ap, ◌∙◌}
 use Rattle.transactors.specs.Checks.{check_in}
-use Rattle.transactors.specs.Moves.{first_fault}
+use Rattle.transactors.specs.Moves.{first_move_fault}
 use Rattle.transactors.proofs.Moving.{fault_is, stops}
 use Rattle.transactors.proofs.refusals.deposit_fault.Goals as goal
 
@@ -10,5 +10,5 @@ returns-in-Err g c =
     let here = fault_is (check c.asset-item.result) c.in-Err.fault (sym c.in-Err.is ∙ c.check_in.ensures.checked) in
     record {
       fault = sym (stops check c.items-asset-items.result.now c.loop-asset.asset-index c.asset-item.result c.in-Err.fault c.loop-asset-test.true c.asset-item.is here c.loop-asset.invariant)
-          ∙ ap (first_fault check) c.items-asset-items.ensures.listed;
+          ∙ ap (first_move_fault check) c.items-asset-items.ensures.listed;
     }

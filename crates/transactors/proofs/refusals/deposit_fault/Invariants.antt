@@ -1,9 +1,9 @@
 use Rattle.std.proofs.Common.{◌≡◌, drop}
 use Rattle.transactors.specs.Checks.{check_in}
-use Rattle.transactors.specs.Moves.{first_fault}
+use Rattle.transactors.specs.Moves.{first_move_fault}
 use Rattle.transactors.proofs.refusals.deposit_fault.Given as goal
 
 abbrev pub invariant-loop-asset : goal.invariant-loop-asset
 invariant-loop-asset g l =
-    first_fault (check_in (g.T.Transactor.rows l.t) (g.T.Transactor.site l.t) l.ledger.held l.who) l.asset-items
-    ≡ first_fault (check_in (g.T.Transactor.rows l.t) (g.T.Transactor.site l.t) l.ledger.held l.who) (drop l.asset-index l.asset-items)
+    first_move_fault (check_in (g.T.Transactor.rows l.t) (g.T.Transactor.site l.t) l.ledger.held l.who) l.asset-items
+    ≡ first_move_fault (check_in (g.T.Transactor.rows l.t) (g.T.Transactor.site l.t) l.ledger.held l.who) (drop l.asset-index l.asset-items)

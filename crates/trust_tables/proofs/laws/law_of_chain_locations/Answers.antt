@@ -1,4 +1,4 @@
-use Rattle.trust_tables.specs.ChainLaws.{no_location_of_self, path_of-location_of, chain_of_one, near_location}
+use Rattle.trust_tables.proofs.Lemmas.ChainLaws.{no_location_of_self, path_of-location_of, chain_of_one, near_location}
 use Rattle.trust_tables.proofs.laws.law_of_chain_locations.Goals as goal
 
 pub returns-clause-own : goal.returns-clause-own

@@ -1,4 +1,4 @@
-use Rattle.trust_tables.specs.TrustLaws.{listing_says, position_listed}
+use Rattle.trust_tables.proofs.Lemmas.TrustLaws.{listing_says, position_listed}
 use Rattle.trust_tables.proofs.laws.law_of_listings.Goals as goal
 
 pub returns-clause-listed : goal.returns-clause-listed

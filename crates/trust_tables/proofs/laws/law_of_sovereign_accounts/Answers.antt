@@ -1,4 +1,4 @@
-use Rattle.trust_tables.specs.ChainLaws.{account_of-location_of, IsSovereign-sovereign_account, sovereign_account_of_one}
+use Rattle.trust_tables.proofs.Lemmas.ChainLaws.{account_of-location_of, IsSovereign-sovereign_account, sovereign_account_of_one}
 use Rattle.trust_tables.proofs.laws.law_of_sovereign_accounts.Goals as goal
 
 pub returns-clause-account : goal.returns-clause-account

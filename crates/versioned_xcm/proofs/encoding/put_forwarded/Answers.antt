@@ -1,10 +1,10 @@
 use Rattle.std.proofs.Common.{◌<◌, ◌^◌, sym, ◌∙◌, arith}
-use Rattle.scale_codec.specs.Laws.WriteLoops.{wrote_all, fits_all}
+use Rattle.scale_codec.proofs.Lemmas.WriteLoops.{wrote_all, fits_all}
 use Rattle.xcm_program.specs.Measure.{deep_count}
-use Rattle.xcm_program.specs.Laws.{deep_count_one-is, length-deep_count}
+use Rattle.xcm_program.proofs.Lemmas.{deep_count_one-is, length-deep_count}
 use Rattle.xcm_format.specs.Programs.{instruction_spelling, FitsInstruction}
 use Rattle.versioned_xcm.specs.Message.{forwarded}
-use Rattle.versioned_xcm.specs.Laws.{clear_count, front_written}
+use Rattle.versioned_xcm.proofs.Lemmas.{clear_count, front_written}
 use Rattle.versioned_xcm.proofs.encoding.put_forwarded.Goals as goal
 
 pub loop-i-init : goal.loop-i-init

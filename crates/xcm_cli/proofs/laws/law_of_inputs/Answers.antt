@@ -1,12 +1,12 @@
 use Rattle.std.proofs.Common.{List, [], arith, refl}
 use Rattle.network_spec.specs.declared.network.NetworkSpec.{NetworkSpec}
 use Rattle.network_steps.specs.Steps.{Step}
-use Rattle.network_genesis.specs.Genesis.{first_world, order_of}
-use Rattle.network_genesis.specs.Openable.{IsOpenable}
-use Rattle.conserved_networks.specs.Kept.{IsCoherent}
-use Rattle.generator_network.specs.Network.{document, network}
+use Rattle.network_steps.specs.Genesis.{first_world, order_of}
+use Rattle.network_steps.specs.Openable.{IsOpenable}
+use Rattle.law_steps.specs.Kept.{IsCoherent}
+use Rattle.generator.specs.Network.{document, described_network}
 use Rattle.xcm_cli.specs.Promise.{IsLawful, IsSecure, world_behind_steps}
-use Rattle.net_laws.specs.Runs.{HasPast}
+use Rattle.law_nets.specs.Runs.{HasPast}
 use Rattle.xcm_cli.proofs.FirstWorlds.{nothing_locked}
 use Rattle.xcm_cli.proofs.Telling.{input_tells}
 use Rattle.xcm_cli.proofs.laws.law_of_inputs.Goals as goal
@@ -24,7 +24,7 @@ returns c =
       products = c.law_of_pool_products.ensures.worlds (order_of spec) (first_world spec) steps shaped
           (λ place m at. let few = c.law_of_opened_networks.ensures.pools spec place m openable at in omega (arith, few));
       left_alone = c.law_of_accounts_left_alone.ensures (order_of spec) (first_world spec) steps shaped;
-      burns = c.law_of_burns.ensures (order_of spec) (first_world spec) steps shaped;
+      burns = c.law_of_permanent_burns.ensures (order_of spec) (first_world spec) steps shaped;
       floors = c.law_of_kept_worlds.ensures.worlds (order_of spec) (first_world spec) steps locks.1 locks.0;
       shaped = c.law_of_shaped_networks.ensures spec steps;
       below_end = c.law_of_checking_accounts.ensures spec steps openable;
@@ -52,7 +52,7 @@ returns c =
     record {
       lawful = λ part spec steps read. lawful spec steps (opens part spec read);
       kept = λ part spec steps read none. secure spec steps (record { openable = opens part spec read; coherent = none });
-      drawn_lawful = λ steps. lawful network steps (opens document network c.law_of_document.ensures.accepted);
-      drawn_kept = λ steps. secure network steps (record { openable = opens document network c.law_of_document.ensures.accepted; coherent = c.law_of_document.ensures.coherent });
+      drawn_lawful = λ steps. lawful described_network steps (opens document described_network c.law_of_document.ensures.accepted);
+      drawn_kept = λ steps. secure described_network steps (record { openable = opens document described_network c.law_of_document.ensures.accepted; coherent = c.law_of_document.ensures.coherent });
       told = input_tells;
     }

@@ -5,7 +5,7 @@ use Rattle.chain_net.specs.Nets.{world_of, spec_of}
 use Rattle.report_blocks.specs.Asked.{asked_of, Nothing, Asks, Unknown}
 use Rattle.report_blocks.specs.Serving.{IsServed}
 use Rattle.line_serving.specs.Replies.{fits_limits}
-use Rattle.line_serving.specs.Laws.{stays, stops, refuses, writes_on, writes_end}
+use Rattle.line_serving.proofs.Lemmas.{stays, stops, refuses, writes_on, writes_end}
 use Rattle.xcm_cli.proofs.Advance.{served_nothing, served_block, served_unknown, no_step, block_step, refused_step, long_step}
 use Rattle.xcm_cli.proofs.session.take_step.Goals as goal
 

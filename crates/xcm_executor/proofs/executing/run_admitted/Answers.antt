@@ -3,7 +3,7 @@ use Rattle.exec_base.specs.declared.event.Part.TheVariants as parts
 use Rattle.exec_rules.specs.Machine.{machine}
 use Rattle.exec_rules.specs.Run.{begin}
 use Rattle.xcm_executor.specs.Running.{IsReadyThroughout}
-use Rattle.exec_admission.specs.Execution.{first_stage}
+use Rattle.exec_rules.specs.Execution.{first_stage}
 use Rattle.xcm_executor.proofs.Parking.{stopped_few}
 use Rattle.xcm_executor.proofs.Ends.{first_runnable, first_ready, ended_balances, ended_steady, ended_abandoned, ended_rests, stopped_abandoned, refund_ready, surplus_within}
 use Rattle.xcm_executor.proofs.executing.run_admitted.Goals as goal
@@ -31,7 +31,7 @@ close-closed-requires g c =
     let p = g.H.Host.part c.args.h.now in
     let m = machine c.run_all.new.r (g.H.Host.part c.run_all.new.h) in
     let balanced = c.law_of_admission.ensures.balanced c.args.rules.now c.args.origin.now c.args.admitted p c.requires.weighed in
-    let ends = ended_balances c.args.rules.now c.args.origin.now c.args.admitted c.set_origin.new.r c.set_origin.ensures p m c.in-Ok.ensures.ok c.law_of_rules.ensures.steers balanced in
+    let ends = ended_balances c.args.rules.now c.args.origin.now c.args.admitted c.set_origin.new.r c.set_origin.ensures p m c.in-Ok.ensures.ok c.law_of_orderly_instructions.ensures.steers balanced in
     let steady = ended_steady c.args.rules.now c.args.origin.now c.args.admitted c.set_origin.new.r c.set_origin.ensures p m c.in-Ok.ensures.ok c.law_of_readiness.ensures.reached balanced c.requires.rest in
     record { ready = refund_ready c.args.admitted.weight m ends steady; within = surplus_within c.args.admitted.weight m.regs ends }
 

@@ -38,7 +38,7 @@ weigh_rest-unused-requires-clause-few g c =
     let n = ap length c.into_vec-instructions.ensures in
     let here = at_hand c.loop-place.instructions.items c.loop-place.place c.index_mut.result.now (omega (arith, c.loop-place-test.true, c.len-place-end.ensures, n, c.loop-place.invariant.whole)) c.index_mut.ensures.value in
     let rest = rest_of c.deref.result.now (c.loop-place.place + 1) ∙ behind_stays c.loop-place.instructions.items c.deref.result.now c.loop-place.place c.take.new.instruction c.deref.ensures.value in
-    let w = failed_weighable _ _ _ _ _ _ _ c.loop-place.invariant.stands here _ _ _ c.in-Some.is c.in_ok-error.ensures.ok c.law_of_rules.ensures.steers _
+    let w = failed_weighable _ _ _ _ _ _ _ c.loop-place.invariant.stands here _ _ _ c.in-Some.is c.in_ok-error.ensures.ok c.law_of_orderly_instructions.ensures.steers _
     (accounted c.args.part c.args.program (machine c.args.r.now (g.H.Host.part c.args.h.now)) c.requires.runnable.accounted) in
     subst (λ (q : List Instruction). deep_count q < 2 ^ 32) (sym rest) w.few
 
@@ -47,7 +47,7 @@ weigh_rest-unused-requires-clause-short g c =
     let n = ap length c.into_vec-instructions.ensures in
     let here = at_hand c.loop-place.instructions.items c.loop-place.place c.index_mut.result.now (omega (arith, c.loop-place-test.true, c.len-place-end.ensures, n, c.loop-place.invariant.whole)) c.index_mut.ensures.value in
     let rest = rest_of c.deref.result.now (c.loop-place.place + 1) ∙ behind_stays c.loop-place.instructions.items c.deref.result.now c.loop-place.place c.take.new.instruction c.deref.ensures.value in
-    let w = failed_weighable _ _ _ _ _ _ _ c.loop-place.invariant.stands here _ _ _ c.in-Some.is c.in_ok-error.ensures.ok c.law_of_rules.ensures.steers _
+    let w = failed_weighable _ _ _ _ _ _ _ c.loop-place.invariant.stands here _ _ _ c.in-Some.is c.in_ok-error.ensures.ok c.law_of_orderly_instructions.ensures.steers _
     (accounted c.args.part c.args.program (machine c.args.r.now (g.H.Host.part c.args.h.now)) c.requires.runnable.accounted) in
     subst (λ (q : List Instruction). ref_time_of c.take.new.r.rule q < 2 ^ 64) (sym rest) w.short
 
@@ -56,7 +56,7 @@ weigh_rest-unused-requires-clause-small g c =
     let n = ap length c.into_vec-instructions.ensures in
     let here = at_hand c.loop-place.instructions.items c.loop-place.place c.index_mut.result.now (omega (arith, c.loop-place-test.true, c.len-place-end.ensures, n, c.loop-place.invariant.whole)) c.index_mut.ensures.value in
     let rest = rest_of c.deref.result.now (c.loop-place.place + 1) ∙ behind_stays c.loop-place.instructions.items c.deref.result.now c.loop-place.place c.take.new.instruction c.deref.ensures.value in
-    let w = failed_weighable _ _ _ _ _ _ _ c.loop-place.invariant.stands here _ _ _ c.in-Some.is c.in_ok-error.ensures.ok c.law_of_rules.ensures.steers _
+    let w = failed_weighable _ _ _ _ _ _ _ c.loop-place.invariant.stands here _ _ _ c.in-Some.is c.in_ok-error.ensures.ok c.law_of_orderly_instructions.ensures.steers _
     (accounted c.args.part c.args.program (machine c.args.r.now (g.H.Host.part c.args.h.now)) c.requires.runnable.accounted) in
     subst (λ (q : List Instruction). proof_size_of c.take.new.r.rule q < 2 ^ 64) (sym rest) w.small
 
@@ -65,7 +65,7 @@ fail-next_part-requires-clause-short g c =
     let n = ap length c.into_vec-instructions.ensures in
     let here = at_hand c.loop-place.instructions.items c.loop-place.place c.index_mut.result.now (omega (arith, c.loop-place-test.true, c.len-place-end.ensures, n, c.loop-place.invariant.whole)) c.index_mut.ensures.value in
     let rest = rest_of c.deref.result.now (c.loop-place.place + 1) ∙ behind_stays c.loop-place.instructions.items c.deref.result.now c.loop-place.place c.take.new.instruction c.deref.ensures.value in
-    failed_short _ _ _ _ _ _ _ c.loop-place.invariant.stands here _ _ _ c.in-Some.is c.in_ok-error.ensures.ok c.law_of_rules.ensures.steers _
+    failed_short _ _ _ _ _ _ _ c.loop-place.invariant.stands here _ _ _ c.in-Some.is c.in_ok-error.ensures.ok c.law_of_orderly_instructions.ensures.steers _
     (accounted c.args.part c.args.program (machine c.args.r.now (g.H.Host.part c.args.h.now)) c.requires.runnable.accounted) _ (c.weigh_rest-unused.ensures ∙ ap (weight_sum c.take.new.r.rule) rest)
 
 pub fail-next_part-requires-clause-small : goal.fail-next_part-requires-clause-small
@@ -73,7 +73,7 @@ fail-next_part-requires-clause-small g c =
     let n = ap length c.into_vec-instructions.ensures in
     let here = at_hand c.loop-place.instructions.items c.loop-place.place c.index_mut.result.now (omega (arith, c.loop-place-test.true, c.len-place-end.ensures, n, c.loop-place.invariant.whole)) c.index_mut.ensures.value in
     let rest = rest_of c.deref.result.now (c.loop-place.place + 1) ∙ behind_stays c.loop-place.instructions.items c.deref.result.now c.loop-place.place c.take.new.instruction c.deref.ensures.value in
-    failed_small _ _ _ _ _ _ _ c.loop-place.invariant.stands here _ _ _ c.in-Some.is c.in_ok-error.ensures.ok c.law_of_rules.ensures.steers _
+    failed_small _ _ _ _ _ _ _ c.loop-place.invariant.stands here _ _ _ c.in-Some.is c.in_ok-error.ensures.ok c.law_of_orderly_instructions.ensures.steers _
     (accounted c.args.part c.args.program (machine c.args.r.now (g.H.Host.part c.args.h.now)) c.requires.runnable.accounted) _ (c.weigh_rest-unused.ensures ∙ ap (weight_sum c.take.new.r.rule) rest)
 
 pub returns-in-Some-clause-ok : goal.returns-in-Some-clause-ok
@@ -105,14 +105,14 @@ pub succeed-next_part-requires-clause-short : goal.succeed-next_part-requires-cl
 succeed-next_part-requires-clause-short g c =
     let n = ap length c.into_vec-instructions.ensures in
     let none = none_left c.loop-place.instructions.items c.loop-place.place (omega (arith, c.loop-place-test.false, c.len-place-end.ensures, n, c.loop-place.invariant.whole)) in
-    ended_short _ _ _ _ _ c.loop-place.invariant.stands none c.law_of_rules.ensures.steers _
+    ended_short _ _ _ _ _ c.loop-place.invariant.stands none c.law_of_orderly_instructions.ensures.steers _
     (accounted c.args.part c.args.program (machine c.args.r.now (g.H.Host.part c.args.h.now)) c.requires.runnable.accounted)
 
 pub succeed-next_part-requires-clause-small : goal.succeed-next_part-requires-clause-small
 succeed-next_part-requires-clause-small g c =
     let n = ap length c.into_vec-instructions.ensures in
     let none = none_left c.loop-place.instructions.items c.loop-place.place (omega (arith, c.loop-place-test.false, c.len-place-end.ensures, n, c.loop-place.invariant.whole)) in
-    ended_small _ _ _ _ _ c.loop-place.invariant.stands none c.law_of_rules.ensures.steers _
+    ended_small _ _ _ _ _ c.loop-place.invariant.stands none c.law_of_orderly_instructions.ensures.steers _
     (accounted c.args.part c.args.program (machine c.args.r.now (g.H.Host.part c.args.h.now)) c.requires.runnable.accounted)
 
 pub returns-clause-ok : goal.returns-clause-ok

@@ -1,4 +1,4 @@
-use Rattle.xcm_format.specs.Laws.{named_from, named_to, named3}
+use Rattle.xcm_format.proofs.Lemmas.{named_from, named_to, named3}
 use Rattle.xcm_format.proofs.laws.law_of_conversions.Goals as goal
 
 pub returns-clause-version_4 : goal.returns-clause-version_4

@@ -1,4 +1,4 @@
-use Rattle.xcm_format.specs.Laws.{named_in}
+use Rattle.xcm_format.proofs.Lemmas.{named_in}
 use Rattle.xcm_format.proofs.laws.law_of_writable.Goals as goal
 
 pub returns : goal.returns

@@ -1,7 +1,7 @@
 use Rattle.std.proofs.Common.{ap, ◌∙◌, None}
 use Rattle.amounts.specs.Amounts.{amount}
 use Rattle.asset_bundles.specs.Bundles.{found}
-use Rattle.asset_bundles.specs.BundleLaws.{found-holding}
+use Rattle.asset_bundles.proofs.Lemmas.BundleLaws.{found-holding}
 use Rattle.asset_bundles.proofs.bundle.AssetBundle.amount.Goals as goal
 
 pub returns : goal.returns

@@ -1,6 +1,6 @@
 use Rattle.std.proofs.Common.{ap, sym, subst, ◌∙◌}
 use Rattle.asset_bundles.specs.Bundles.{bundle_of, IsHolding}
-use Rattle.asset_bundles.specs.BundleLaws.{bundle_of-none, none_held}
+use Rattle.asset_bundles.proofs.Lemmas.BundleLaws.{bundle_of-none, none_held}
 use Rattle.asset_bundles.proofs.bundle.AssetBundle.empty.Goals as goal
 
 pub invariant_of-result : goal.invariant_of-result

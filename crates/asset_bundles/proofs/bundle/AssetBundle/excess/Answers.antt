@@ -1,6 +1,6 @@
 use Rattle.std.proofs.Common.{ap, ◌∙◌}
 use Rattle.asset_bundles.specs.Bundles.{bundle_of}
-use Rattle.asset_bundles.proofs.Sums.{excess_at, list_held}
+use Rattle.asset_bundles.proofs.SumFacts.{excess_at, list_held}
 use Rattle.asset_bundles.proofs.bundle.AssetBundle.excess.Goals as goal
 
 pub returns-clause-listed : goal.returns-clause-listed

@@ -8,7 +8,7 @@ use Rattle.asset_bundles.specs.Bundles.{bundle_of, rows_of}
 use Rattle.asset_bundles.specs.Books.{Booked, AreListed}
 use Rattle.asset_bundles.specs.Joins.{Excess, IsListOf}
 use Rattle.asset_bundles.proofs.BookedAll.{all_listed, excess_of, given_up_rows}
-use Rattle.asset_bundles.proofs.Sums.{joined_at, excess_at}
+use Rattle.asset_bundles.proofs.SumFacts.{joined_at, excess_at}
 use Rattle.asset_bundles.proofs.bundle.AssetBundle.join.Goals as goal
 
 pub book_excess-requires : goal.book_excess-requires

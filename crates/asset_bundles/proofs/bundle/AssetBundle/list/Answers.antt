@@ -1,6 +1,6 @@
 use Rattle.std.proofs.Common.{ap, sym, ◌∙◌}
 use Rattle.asset_bundles.specs.Bundles.{bundle_of, held_assets}
-use Rattle.asset_bundles.specs.BundleLaws.{held_assets-holding}
+use Rattle.asset_bundles.proofs.Lemmas.BundleLaws.{held_assets-holding}
 use Rattle.asset_bundles.proofs.bundle.AssetBundle.list.Goals as goal
 
 pub returns-clause-listed : goal.returns-clause-listed

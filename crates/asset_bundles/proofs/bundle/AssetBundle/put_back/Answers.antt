@@ -1,7 +1,7 @@
 use Rattle.std.proofs.Common.{ap, ◌∙◌}
 use Rattle.asset_bundles.specs.Bundles.{bundle_of}
-use Rattle.asset_bundles.specs.Laws.{joined_within}
-use Rattle.asset_bundles.proofs.Sums.{joined_at}
+use Rattle.asset_bundles.proofs.Lemmas.{joined_within}
+use Rattle.asset_bundles.proofs.SumFacts.{joined_at}
 use Rattle.asset_bundles.proofs.bundle.AssetBundle.put_back.Goals as goal
 
 pub returns-in-Ok-clause-whole : goal.returns-in-Ok-clause-whole

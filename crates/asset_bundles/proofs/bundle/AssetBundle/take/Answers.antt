@@ -1,9 +1,9 @@
 use Rattle.std.proofs.Common.{ap, sym, subst, ◌∙◌}
 use Rattle.asset_bundles.specs.Bundles.{bundle_of, IsHolding}
 use Rattle.asset_bundles.specs.Joins.{IsWithinMost}
-use Rattle.asset_bundles.specs.Laws.{left_and_taken}
+use Rattle.asset_bundles.proofs.Lemmas.{left_and_taken}
 use Rattle.asset_bundles.specs.Portions.{AreWithinMost}
-use Rattle.asset_bundles.proofs.Sums.{within_most_of, whole_again}
+use Rattle.asset_bundles.proofs.SumFacts.{within_most_of, whole_again}
 use Rattle.asset_bundles.proofs.bundle.AssetBundle.take.Goals as goal
 
 pub parted-requires : goal.parted-requires

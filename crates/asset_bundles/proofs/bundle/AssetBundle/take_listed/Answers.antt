@@ -2,9 +2,9 @@ use Rattle.std.proofs.Common.{ap, sym, subst, ◌∙◌}
 use Rattle.asset_lists.specs.declared.filters.Filter.TheVariants.{Definite}
 use Rattle.asset_bundles.specs.Bundles.{bundle_of, IsHolding}
 use Rattle.asset_bundles.specs.Joins.{IsWithinMost}
-use Rattle.asset_bundles.specs.Laws.{left_and_taken}
+use Rattle.asset_bundles.proofs.Lemmas.{left_and_taken}
 use Rattle.asset_bundles.specs.Portions.{AreWithinMost}
-use Rattle.asset_bundles.proofs.Sums.{within_most_of, whole_again}
+use Rattle.asset_bundles.proofs.SumFacts.{within_most_of, whole_again}
 use Rattle.asset_bundles.proofs.bundle.AssetBundle.take_listed.Goals as goal
 
 pub parted_by_list-requires : goal.parted_by_list-requires

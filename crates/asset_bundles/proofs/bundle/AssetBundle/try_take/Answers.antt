@@ -1,11 +1,12 @@
 use Rattle.std.proofs.Common.{ap, sym, subst, ◌∙◌}
 use Rattle.amounts.specs.Amounts.{merge, difference}
-use Rattle.amounts.specs.Laws.{merge-difference}
-use Rattle.asset_bundles.specs.Bundles.{unit_keys, bundle_of, IsHolding}
+use Rattle.amounts.proofs.Lemmas.{merge-difference}
+use Rattle.asset_bundles.specs.Bundles.{bundle_of, IsHolding}
+use Rattle.asset_bundles.proofs.Lemmas.Bundles.{unit_keys}
 use Rattle.asset_bundles.specs.Joins.{IsWithinMost}
 use Rattle.asset_bundles.specs.Portions.{AreWithinMost}
 use Rattle.asset_bundles.proofs.Listing.{holding_of_list}
-use Rattle.asset_bundles.proofs.Sums.{within_most_of, whole_again}
+use Rattle.asset_bundles.proofs.SumFacts.{within_most_of, whole_again}
 use Rattle.asset_bundles.proofs.bundle.AssetBundle.try_take.Goals as goal
 
 pub cut-requires-clause-asked : goal.cut-requires-clause-asked

@@ -1,9 +1,9 @@
 use Rattle.std.proofs.Common.{◌≡◌, ap, sym, ◌∙◌}
 use Rattle.std.specs.Ordering.{eq_by_cmp}
 use Rattle.asset_lists.specs.Units.{assets_cmp}
-use Rattle.asset_lists.specs.UnitLaws.{assets_decide}
+use Rattle.asset_lists.proofs.Lemmas.UnitLaws.{assets_decide}
 use Rattle.asset_bundles.specs.Bundles.{bundle_of, held_assets}
-use Rattle.asset_bundles.specs.BundleLaws.{held_assets-holding}
+use Rattle.asset_bundles.proofs.Lemmas.BundleLaws.{held_assets-holding}
 use Rattle.asset_bundles.proofs.Listing.{holding_of_list}
 use Rattle.asset_bundles.proofs.units.Units.is_list.Goals as goal
 

@@ -1,6 +1,6 @@
 use Rattle.std.proofs.Common.{◌≡◌, ap, ◌∙◌, length, arith}
 use Rattle.amounts.specs.Amounts.{rows}
-use Rattle.asset_bundles.specs.BundleLaws.{kinds-holding}
+use Rattle.asset_bundles.proofs.Lemmas.BundleLaws.{kinds-holding}
 use Rattle.asset_bundles.proofs.units.Units.kinds.Goals as goal
 
 pub returns : goal.returns

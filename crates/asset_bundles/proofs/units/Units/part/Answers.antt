@@ -2,8 +2,8 @@ use Rattle.std.proofs.Common.{◌≡◌, List, take, drop, ap, sym, subst, ◌�
 use Rattle.amounts.specs.Amounts.{rows, from_rows}
 use Rattle.asset_lists.specs.declared.units.Asset.{Asset}
 use Rattle.asset_bundles.specs.Bundles.{bundle_of, IsHolding}
-use Rattle.asset_bundles.specs.BundleLaws.{bundle_of-part}
-use Rattle.asset_bundles.proofs.Pieces.{part_is, part_holding}
+use Rattle.asset_bundles.proofs.Lemmas.BundleLaws.{bundle_of-part}
+use Rattle.asset_bundles.proofs.PieceFacts.{part_is, part_holding}
 use Rattle.asset_bundles.proofs.units.Units.part.Goals as goal
 
 pub invariant_of-result : goal.invariant_of-result

@@ -1,7 +1,7 @@
 use Rattle.std.proofs.Common.{ap, sym, subst}
 use Rattle.network_steps.specs.Worlds.{Stepped}
 use Rattle.network_steps.specs.Steps.{Deliver}
-use Rattle.authority.specs.Speakers.{HasAuthority}
+use Rattle.law_authority.specs.Speakers.{HasAuthority}
 use Rattle.chain_net.specs.Nets.{world_of}
 use Rattle.chain_net.proofs.Pasts.{past_more, some_past_more}
 use Rattle.chain_net.proofs.net.Net.deliver.Goals as goal
@@ -27,28 +27,28 @@ returns-in_err-answer-clause-authorized c =
 pub invariant_of-self-2-clause-reached : goal.invariant_of-self-2-clause-reached
 invariant_of-self-2-clause-reached c going =
     let n = c.args.self.now in
-    some_past_more c.law_of_pasts.ensures.stepped n.spec c.try_deliver.new.self.spec (world_of n) (world_of c.try_deliver.new.self) (Deliver c.args.from c.args.to) (n.reached c.requires.running) c.try_deliver.ensures.spec (ap (λ (s : Stepped). s.world) (sym c.in_ok-answer.ensures.step))
+    some_past_more c.law_of_pasts_through_steps.ensures.stepped n.spec c.try_deliver.new.self.spec (world_of n) (world_of c.try_deliver.new.self) (Deliver c.args.from c.args.to) (n.reached c.requires.running) c.try_deliver.ensures.spec (ap (λ (s : Stepped). s.world) (sym c.in_ok-answer.ensures.step))
 
 pub returns-clause-kept : goal.returns-clause-kept
 returns-clause-kept c coherent =
     let n = c.args.self.now in
-    let next = past_more c.law_of_pasts.ensures.stepped n.spec (world_of n) (world_of c.try_deliver.new.self) (Deliver c.args.from c.args.to) (c.law_of_reached_nets.ensures.reached n c.requires.running) (ap (λ (s : Stepped). s.world) (sym c.in_ok-answer.ensures.step)) in
-    c.law_of_nets.ensures.kept n.spec (world_of c.try_deliver.new.self) coherent next
+    let next = past_more c.law_of_pasts_through_steps.ensures.stepped n.spec (world_of n) (world_of c.try_deliver.new.self) (Deliver c.args.from c.args.to) (c.law_of_reached_nets.ensures.reached n c.requires.running) (ap (λ (s : Stepped). s.world) (sym c.in_ok-answer.ensures.step)) in
+    c.law_of_networks_with_pasts.ensures.kept n.spec (world_of c.try_deliver.new.self) coherent next
 
 pub returns-clause-shaped : goal.returns-clause-shaped
 returns-clause-shaped c =
     let n = c.args.self.now in
-    let next = past_more c.law_of_pasts.ensures.stepped n.spec (world_of n) (world_of c.try_deliver.new.self) (Deliver c.args.from c.args.to) (c.law_of_reached_nets.ensures.reached n c.requires.running) (ap (λ (s : Stepped). s.world) (sym c.in_ok-answer.ensures.step)) in
-    c.law_of_nets.ensures.shaped n.spec (world_of c.try_deliver.new.self) next
+    let next = past_more c.law_of_pasts_through_steps.ensures.stepped n.spec (world_of n) (world_of c.try_deliver.new.self) (Deliver c.args.from c.args.to) (c.law_of_reached_nets.ensures.reached n c.requires.running) (ap (λ (s : Stepped). s.world) (sym c.in_ok-answer.ensures.step)) in
+    c.law_of_networks_with_pasts.ensures.shaped n.spec (world_of c.try_deliver.new.self) next
 
 pub returns-clause-authorized : goal.returns-clause-authorized
 returns-clause-authorized c =
     let n = c.args.self.now in
     let past = c.law_of_reached_nets.ensures.reached n c.requires.running in
-    subst (HasAuthority (world_of n) (Deliver c.args.from c.args.to)) (ap (λ (s : Stepped). s.world) c.in_ok-answer.ensures.step) (c.law_of_nets.ensures.authorized n.spec (world_of n) (Deliver c.args.from c.args.to) past)
+    subst (HasAuthority (world_of n) (Deliver c.args.from c.args.to)) (ap (λ (s : Stepped). s.world) c.in_ok-answer.ensures.step) (c.law_of_networks_with_pasts.ensures.authorized n.spec (world_of n) (Deliver c.args.from c.args.to) past)
 
 pub returns-clause-paid : goal.returns-clause-paid
 returns-clause-paid c coherent =
     let n = c.args.self.now in
-    let next = past_more c.law_of_pasts.ensures.stepped n.spec (world_of n) (world_of c.try_deliver.new.self) (Deliver c.args.from c.args.to) (c.law_of_reached_nets.ensures.reached n c.requires.running) (ap (λ (s : Stepped). s.world) (sym c.in_ok-answer.ensures.step)) in
-    c.law_of_nets.ensures.paid n.spec (world_of c.try_deliver.new.self) coherent next
+    let next = past_more c.law_of_pasts_through_steps.ensures.stepped n.spec (world_of n) (world_of c.try_deliver.new.self) (Deliver c.args.from c.args.to) (c.law_of_reached_nets.ensures.reached n c.requires.running) (ap (λ (s : Stepped). s.world) (sym c.in_ok-answer.ensures.step)) in
+    c.law_of_networks_with_pasts.ensures.paid n.spec (world_of c.try_deliver.new.self) coherent next

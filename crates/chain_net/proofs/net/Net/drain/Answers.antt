@@ -1,15 +1,15 @@
 use Rattle.std.proofs.Common.{◌≡◌, ◌∙◌, ap, sym, subst, refl, arith, length, ℕ, suc, ◌-◌, ◌^◌, Some, None}
 use Rattle.std.specs.Prelude.{min}
 use Rattle.std.proofs.lemmas.Result.{err_from_is_err_and}
-use Rattle.network_genesis.specs.Genesis.{order_of}
+use Rattle.network_steps.specs.Genesis.{order_of}
 use Rattle.network_steps.specs.Worlds.{World}
 use Rattle.network_steps.specs.Sends.{deliveries_left}
 use Rattle.network_steps.specs.Steps.{Drain, next_channel, world_behind}
 use Rattle.network_spec.specs.declared.network.NetworkSpec.{NetworkSpec}
-use Rattle.conserved_networks.specs.Kept.{IsCoherent}
-use Rattle.net_laws.specs.Promises.{KeepsAssets, PaysInFull}
+use Rattle.law_steps.specs.Kept.{IsCoherent}
+use Rattle.law_nets.specs.Promises.{KeepsAssets, PaysInFull}
 use Rattle.chain_net.specs.Nets.{world_of}
-use Rattle.net_laws.specs.Stops.{DeliverStops}
+use Rattle.law_nets.specs.Stops.{DeliverStops}
 use Rattle.chain_net.proofs.Drains.{Made, made_none, made_one_more, one_less, all_made, smaller_by, count_more}
 use Rattle.chain_net.proofs.net.Net.drain.Goals as goal
 
@@ -41,7 +41,7 @@ deliveries-smaller c =
     let n = c.deliveries.self in
     let order = order_of c.args.self.now.spec in
     let next : next_channel order (world_of n) ≡ Some (c.in-Some.from, c.in-Some.to) = ap (λ spec. next_channel (order_of spec) (world_of n)) (sym c.deliveries.invariant.1) ∙ sym c.in-Some.ensures in
-    let less = one_less n.rules.items n.chains.items n.ruled (n.between c.deliveries.invariant.0) c.law_of_drains.ensures.lowers (c.law_of_reached_nets.ensures.shaped n c.deliveries.invariant.0) order (c.in-Some.from, c.in-Some.to) next in
+    let less = one_less n.rules.items n.chains.items n.ruled (n.between c.deliveries.invariant.0) c.law_of_drains_that_end.ensures.lowers (c.law_of_reached_nets.ensures.shaped n c.deliveries.invariant.0) order (c.in-Some.from, c.in-Some.to) next in
     let same = ap deliveries_left c.in_ok-deliver.ensures.world in
     smaller_by (world_of c.deliver.new.self) (world_of n) (omega (arith, less, same))
 
@@ -50,7 +50,7 @@ deliveries-preserved c =
     let n = c.deliveries.self in
     let order = order_of c.args.self.now.spec in
     let next : next_channel order (world_of n) ≡ Some (c.in-Some.from, c.in-Some.to) = ap (λ spec. next_channel (order_of spec) (world_of n)) (sym c.deliveries.invariant.1) ∙ sym c.in-Some.ensures in
-    let less = one_less n.rules.items n.chains.items n.ruled (n.between c.deliveries.invariant.0) c.law_of_drains.ensures.lowers (c.law_of_reached_nets.ensures.shaped n c.deliveries.invariant.0) order (c.in-Some.from, c.in-Some.to) next in
+    let less = one_less n.rules.items n.chains.items n.ruled (n.between c.deliveries.invariant.0) c.law_of_drains_that_end.ensures.lowers (c.law_of_reached_nets.ensures.shaped n c.deliveries.invariant.0) order (c.in-Some.from, c.in-Some.to) next in
     let same = ap deliveries_left c.in_ok-deliver.ensures.world in
     let k = c.deliveries.invariant.2.0 in
     let counted = c.deliveries.invariant.2.1 in
@@ -126,7 +126,7 @@ returns-clause-kept c coherent =
     let n = c.deliveries.self in
     let same = c.deliveries.invariant.1 in
     let past = c.law_of_reached_nets.ensures.reached n c.deliveries.invariant.0 in
-    subst (λ (s : NetworkSpec). KeepsAssets s (world_of n)) same (c.law_of_nets.ensures.kept n.spec (world_of n) (subst IsCoherent (sym same) coherent) past)
+    subst (λ (s : NetworkSpec). KeepsAssets s (world_of n)) same (c.law_of_networks_with_pasts.ensures.kept n.spec (world_of n) (subst IsCoherent (sym same) coherent) past)
 
 pub returns-clause-shaped : goal.returns-clause-shaped
 returns-clause-shaped c = c.law_of_reached_nets.ensures.shaped c.deliveries.self c.deliveries.invariant.0
@@ -134,11 +134,11 @@ returns-clause-shaped c = c.law_of_reached_nets.ensures.shaped c.deliveries.self
 pub returns-clause-authorized : goal.returns-clause-authorized
 returns-clause-authorized c =
     let old = c.args.self.now in
-    c.law_of_nets.ensures.authorized old.spec (world_of old) Drain (c.law_of_reached_nets.ensures.reached old c.requires.running)
+    c.law_of_networks_with_pasts.ensures.authorized old.spec (world_of old) Drain (c.law_of_reached_nets.ensures.reached old c.requires.running)
 
 pub returns-clause-paid : goal.returns-clause-paid
 returns-clause-paid c coherent =
     let n = c.deliveries.self in
     let same = c.deliveries.invariant.1 in
     let past = c.law_of_reached_nets.ensures.reached n c.deliveries.invariant.0 in
-    subst (λ (s : NetworkSpec). PaysInFull s (world_of n)) same (c.law_of_nets.ensures.paid n.spec (world_of n) (subst IsCoherent (sym same) coherent) past)
+    subst (λ (s : NetworkSpec). PaysInFull s (world_of n)) same (c.law_of_networks_with_pasts.ensures.paid n.spec (world_of n) (subst IsCoherent (sym same) coherent) past)

@@ -1,5 +1,5 @@
 use Rattle.std.specs.Prelude.{◌≡◌, ℕ, ◌+◌, ◌-◌, ◌^◌, ◌≤◌, min, false}
-use Rattle.network_genesis.specs.Genesis.{order_of}
+use Rattle.network_steps.specs.Genesis.{order_of}
 use Rattle.network_steps.specs.Sends.{deliveries_left}
 use Rattle.chain_net.specs.Nets.{world_of}
 use Rattle.chain_net.proofs.Drains.{Made}

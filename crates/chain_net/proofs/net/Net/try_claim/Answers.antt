@@ -32,8 +32,8 @@ returns-in_default-place-clause-step c =
     claim_to_nowhere (world_of c.args.self.now) c.args.from c.args.to c.args.bytes.now c.in-Some.sender (sym c.in-Some.ensures.place) (sym c.in_default-place.ensures.place)
     ∙ ap (λ acted. record { answer = StepResult.NoSuchChain; trace = told_at acted (world_of c.args.self.now); world = world_of c.args.self.now }) (sym c.requires.idle)
 
-pub returns-in_default-waits_for-clause-step : goal.returns-in_default-waits_for-clause-step
-returns-in_default-waits_for-clause-step c =
+pub returns-in_default-has_waiting-clause-step : goal.returns-in_default-has_waiting-clause-step
+returns-in_default-has_waiting-clause-step c =
     let rs = c.args.self.now.rules.items in
     let xs = c.args.self.now.chains.items in
     let i = c.in-Some.sender in
@@ -44,7 +44,7 @@ returns-in_default-waits_for-clause-step c =
     let s = member_in rule.0 c.index.result.now in
     let o = channel_to c.args.to (part_of c.index.result.now).channels in
     let on = claim_at w c.args.from c.args.to c.args.bytes.now i c.in-Some-place.field-0 s there.0 o (sym c.in-Some.ensures.place) (sym c.in-Some-place.ensures.place) (member_at rs xs i rule.0 c.index.result.now rule.1 first) there.1 refl in
-    on ∙ ap (λ p. claim_on w i s c.args.to p c.args.bytes.now) (none_of o c.in_default-waits_for.ensures)
+    on ∙ ap (λ p. claim_on w i s c.args.to p c.args.bytes.now) (none_of o c.in_default-has_waiting.ensures)
     ∙ ap (λ acted. record { answer = StepResult.NoSuchChannel; trace = told_at acted w; world = w }) (sym c.requires.idle)
 
 pub returns-in-Err-clause-step : goal.returns-in-Err-clause-step
@@ -59,7 +59,7 @@ returns-in-Err-clause-step c =
     let s = member_in rule.0 c.index.result.now in
     let o = channel_to c.args.to (part_of c.index.result.now).channels in
     let on = claim_at w c.args.from c.args.to c.args.bytes.now i c.in-Some-place.field-0 s there.0 o (sym c.in-Some.ensures.place) (sym c.in-Some-place.ensures.place) (member_at rs xs i rule.0 c.index.result.now rule.1 first) there.1 refl in
-    let some = some_of c.in-Some-waits_for.field-0 o c.in-Some-waits_for.ensures in
+    let some = some_of c.in-Some-has_waiting.field-0 o c.in-Some-has_waiting.ensures in
     by_answer c.answer_to.result c.in-Err.fault (λ answer. claim w c.args.from c.args.to c.args.bytes.now ≡ stepped answer c.args.self.now) c.answer_to.ensures.answer c.answer_to.ensures.other
     (λ other. on ∙ on_fault w i s c.args.to c.args.bytes.now o c.in-Err.fault some (fault_is c.in-Err.fault (message_of c.args.bytes.now) other c.in-Err.ensures.read)
     ∙ ap (λ acted. record { answer = StepResult.Message c.in-Err.fault; trace = told_at acted w; world = w }) (sym c.requires.idle))
@@ -76,7 +76,7 @@ returns-then-not-is_claim-clause-step c =
     let s = member_in rule.0 c.index.result.now in
     let o = channel_to c.args.to (part_of c.index.result.now).channels in
     let on = claim_at w c.args.from c.args.to c.args.bytes.now i c.in-Some-place.field-0 s there.0 o (sym c.in-Some.ensures.place) (sym c.in-Some-place.ensures.place) (member_at rs xs i rule.0 c.index.result.now rule.1 first) there.1 refl in
-    let some = some_of c.in-Some-waits_for.field-0 o c.in-Some-waits_for.ensures in
+    let some = some_of c.in-Some-has_waiting.field-0 o c.in-Some-has_waiting.ensures in
     on ∙ on_other w i s c.args.to c.args.bytes.now o c.in-Ok.program some (read_is c.in-Ok.program (message_of c.args.bytes.now) c.in-Ok.ensures.read) (sym c.if-not-is_claim.ensures)
     ∙ ap (λ acted. record { answer = StepResult.NotAClaim; trace = told_at acted w; world = w }) (sym c.requires.idle)
 
@@ -113,7 +113,7 @@ returns-in-Ok-send-clause-step c =
     let s = member_in rule.0 c.index.result.now in
     let o = channel_to c.args.to (part_of c.index.result.now).channels in
     let on = claim_at w c.args.from c.args.to c.args.bytes.now i c.in-Some-place.field-0 s there.0 o (sym c.in-Some.ensures.place) (sym c.in-Some-place.ensures.place) (member_at rs xs i rule.0 c.index.result.now rule.1 first) there.1 refl in
-    let some = some_of c.in-Some-waits_for.field-0 o c.in-Some-waits_for.ensures in
+    let some = some_of c.in-Some-has_waiting.field-0 o c.in-Some-has_waiting.ensures in
     let at = at_place xs i c.index_mut.result.now c.index_mut.ensures.value c.in-Some.ensures.there in
     let same = same_seen (slice_get xs i) c.index.result.now c.index_mut.result.now first at in
     let told = subst (λ (t : ChainState). channel_refusal (channel_to c.args.to (part_of t).channels) true c.in-Ok.program ≡ None) (sym same) c.in-Ok-send.ensures.step.0 in
@@ -143,7 +143,7 @@ returns-in-Err-Xcm-clause-step c =
     let s = member_in rule.0 c.index.result.now in
     let o = channel_to c.args.to (part_of c.index.result.now).channels in
     let on = claim_at w c.args.from c.args.to c.args.bytes.now i c.in-Some-place.field-0 s there.0 o (sym c.in-Some.ensures.place) (sym c.in-Some-place.ensures.place) (member_at rs xs i rule.0 c.index.result.now rule.1 first) there.1 refl in
-    let some = some_of c.in-Some-waits_for.field-0 o c.in-Some-waits_for.ensures in
+    let some = some_of c.in-Some-has_waiting.field-0 o c.in-Some-has_waiting.ensures in
     let at = at_place xs i c.index_mut.result.now c.index_mut.ensures.value c.in-Some.ensures.there in
     let same = same_seen (slice_get xs i) c.index.result.now c.index_mut.result.now first at in
     let q = channel_to c.args.to (part_of c.index_mut.result.now).channels in

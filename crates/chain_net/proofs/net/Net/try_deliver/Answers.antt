@@ -26,8 +26,8 @@ returns-in_default-place-clause-step c =
     deliver_to_nowhere (world_of c.args.self.now) c.args.from c.args.to c.in-Some.sender (sym c.in-Some.ensures.place) (sym c.in_default-place.ensures.place)
     ∙ ap (λ acted. record { answer = StepResult.NoSuchChain; trace = told_at acted (world_of c.args.self.now); world = world_of c.args.self.now }) (sym c.requires.idle)
 
-pub returns-in_default-waits_for-clause-step : goal.returns-in_default-waits_for-clause-step
-returns-in_default-waits_for-clause-step c =
+pub returns-in_default-has_waiting-clause-step : goal.returns-in_default-has_waiting-clause-step
+returns-in_default-has_waiting-clause-step c =
     let w = world_of c.args.self.now in
     let rs = c.args.self.now.rules.items in
     let xs = c.args.self.now.chains.items in
@@ -35,7 +35,7 @@ returns-in_default-waits_for-clause-step c =
     let at = at_place xs c.in-Some.sender c.index.result.now c.index.ensures c.in-Some.ensures.there in
     let there = somebody rs xs c.in-Some-place.receiver c.args.self.now.ruled c.in-Some-place.ensures.there in
     deliver_at w c.args.from c.args.to c.in-Some.sender c.in-Some-place.receiver (member_in rule.0 c.index.result.now) there.0 None (sym c.in-Some.ensures.place) (sym c.in-Some-place.ensures.place)
-    (member_at rs xs c.in-Some.sender rule.0 c.index.result.now rule.1 at) there.1 (none_of (channel_to c.args.to (part_of c.index.result.now).channels) c.in_default-waits_for.ensures)
+    (member_at rs xs c.in-Some.sender rule.0 c.index.result.now rule.1 at) there.1 (none_of (channel_to c.args.to (part_of c.index.result.now).channels) c.in_default-has_waiting.ensures)
     ∙ ap (λ acted. record { answer = StepResult.NoSuchChannel; trace = told_at acted w; world = w }) (sym c.requires.idle)
 
 pub returns-then-not-waits-clause-step : goal.returns-then-not-waits-clause-step
@@ -49,7 +49,7 @@ returns-then-not-waits-clause-step c =
     let o = channel_to c.args.to (part_of c.index.result.now).channels in
     deliver_at w c.args.from c.args.to c.in-Some.sender c.in-Some-place.receiver (member_in rule.0 c.index.result.now) there.0 o (sym c.in-Some.ensures.place) (sym c.in-Some-place.ensures.place)
     (member_at rs xs c.in-Some.sender rule.0 c.index.result.now rule.1 at) there.1 refl
-    ∙ empty_of w c.in-Some.sender c.in-Some-place.receiver (member_in rule.0 c.index.result.now) there.0 o (ap Some (sym c.if-not-waits.true) ∙ c.in-Some-waits_for.ensures)
+    ∙ empty_of w c.in-Some.sender c.in-Some-place.receiver (member_in rule.0 c.index.result.now) there.0 o (ap Some (sym c.if-not-waits.true) ∙ c.in-Some-has_waiting.ensures)
     ∙ ap (λ acted. record { answer = StepResult.Empty; trace = told_at acted w; world = w }) (sym c.requires.idle)
 
 pub pass-requires-clause-apart : goal.pass-requires-clause-apart
@@ -59,7 +59,7 @@ pass-requires-clause-apart c =
     let rule = something rs c.in-Some.sender (subst (λ n. c.in-Some.sender < n) (sym c.args.self.now.ruled) c.in-Some.ensures.there) in
     let at = at_place xs c.in-Some.sender c.index.result.now c.index.ensures c.in-Some.ensures.there in
     apart_places (world_of c.args.self.now) c.in-Some.sender c.in-Some-place.receiver (member_in rule.0 c.index.result.now) c.args.to (member_at rs xs c.in-Some.sender rule.0 c.index.result.now rule.1 at) (sym c.in-Some-place.ensures.place)
-    (c.requires.between c.in-Some.sender c.index.result.now at).apart (some_of c.in-Some-waits_for.waits (channel_to c.args.to (part_of c.index.result.now).channels) c.in-Some-waits_for.ensures)
+    (c.requires.between c.in-Some.sender c.index.result.now at).apart (some_of c.in-Some-has_waiting.waits (channel_to c.args.to (part_of c.index.result.now).channels) c.in-Some-has_waiting.ensures)
 
 pub pass-requires-clause-between : goal.pass-requires-clause-between
 pass-requires-clause-between c =
@@ -77,7 +77,7 @@ pass-requires-clause-other c =
     let rule = something rs i (subst (λ n. i < n) (sym c.args.self.now.ruled) c.in-Some.ensures.there) in
     let first = at_place xs i c.index.result.now c.index.ensures c.in-Some.ensures.there in
     let apart = apart_places (world_of c.args.self.now) i j (member_in rule.0 c.index.result.now) c.args.to (member_at rs xs i rule.0 c.index.result.now rule.1 first) (sym c.in-Some-place.ensures.place)
-    (c.requires.between i c.index.result.now first).apart (some_of c.in-Some-waits_for.waits (channel_to c.args.to (part_of c.index.result.now).channels) c.in-Some-waits_for.ensures) in
+    (c.requires.between i c.index.result.now first).apart (some_of c.in-Some-has_waiting.waits (channel_to c.args.to (part_of c.index.result.now).channels) c.in-Some-has_waiting.ensures) in
     let other = something rs j (subst (λ n. j < n) (sym c.args.self.now.ruled) c.in-Some-place.ensures.there) in
     other_chain rs xs i j other.0 c.take.new.self c.args.from c.args.to apart other.1 (sym c.in-Some.ensures.place) (sym c.in-Some-place.ensures.place)
 
@@ -104,7 +104,7 @@ invariant_of-self-2-clause-named c =
     let rule = something rs i (subst (λ n. i < n) (sym c.args.self.now.ruled) c.in-Some.ensures.there) in
     let first = at_place xs i c.index.result.now c.index.ensures c.in-Some.ensures.there in
     let apart = apart_places (world_of c.args.self.now) i j (member_in rule.0 c.index.result.now) c.args.to (member_at rs xs i rule.0 c.index.result.now rule.1 first) (sym c.in-Some-place.ensures.place)
-    (c.requires.between i c.index.result.now first).apart (some_of c.in-Some-waits_for.waits (channel_to c.args.to (part_of c.index.result.now).channels) c.in-Some-waits_for.ensures) in
+    (c.requires.between i c.index.result.now first).apart (some_of c.in-Some-has_waiting.waits (channel_to c.args.to (part_of c.index.result.now).channels) c.in-Some-has_waiting.ensures) in
     let at_i = at_place xs i c.index_mut.result.now c.index_mut.ensures.value c.in-Some.ensures.there in
     let receiver = something xs j c.in-Some-place.ensures.there in
     let rules_j = at_place rs j c.index-rules.result.now c.index-rules.ensures (subst (λ n. j < n) (sym c.args.self.now.ruled) c.in-Some-place.ensures.there) in
@@ -122,7 +122,7 @@ invariant_of-self-2-clause-linked c =
     let rule = something rs i (subst (λ n. i < n) (sym n.ruled) c.in-Some.ensures.there) in
     let first = at_place xs i c.index.result.now c.index.ensures c.in-Some.ensures.there in
     let apart = apart_places (world_of n) i j (member_in rule.0 c.index.result.now) c.args.to (member_at rs xs i rule.0 c.index.result.now rule.1 first) (sym c.in-Some-place.ensures.place)
-    (c.requires.between i c.index.result.now first).apart (some_of c.in-Some-waits_for.waits (channel_to c.args.to (part_of c.index.result.now).channels) c.in-Some-waits_for.ensures) in
+    (c.requires.between i c.index.result.now first).apart (some_of c.in-Some-has_waiting.waits (channel_to c.args.to (part_of c.index.result.now).channels) c.in-Some-has_waiting.ensures) in
     let at_i = at_place xs i c.index_mut.result.now c.index_mut.ensures.value c.in-Some.ensures.there in
     let ys = slice_set xs i c.take.new.self in
     let same = passed_channels c.index-rules.result.now c.args.from (waiting_of c.in-Some-take.queued) i j ys c.pass.new.chains.items apart c.pass.result c.pass.ensures.passed c.pass.ensures.stopped
@@ -139,7 +139,7 @@ returns-in_err-outcome-clause-stops c =
     let rule = something rs i (subst (λ n. i < n) (sym c.args.self.now.ruled) c.in-Some.ensures.there) in
     let first = at_place xs i c.index.result.now c.index.ensures c.in-Some.ensures.there in
     let apart = apart_places (world_of c.args.self.now) i j (member_in rule.0 c.index.result.now) c.args.to (member_at rs xs i rule.0 c.index.result.now rule.1 first) (sym c.in-Some-place.ensures.place)
-    (c.requires.between i c.index.result.now first).apart (some_of c.in-Some-waits_for.waits (channel_to c.args.to (part_of c.index.result.now).channels) c.in-Some-waits_for.ensures) in
+    (c.requires.between i c.index.result.now first).apart (some_of c.in-Some-has_waiting.waits (channel_to c.args.to (part_of c.index.result.now).channels) c.in-Some-has_waiting.ensures) in
     let at_i = at_place xs i c.index_mut.result.now c.index_mut.ensures.value c.in-Some.ensures.there in
     let receiver = something xs j c.in-Some-place.ensures.there in
     let rules_j = at_place rs j c.index-rules.result.now c.index-rules.ensures (subst (λ n. j < n) (sym c.args.self.now.ruled) c.in-Some-place.ensures.there) in
@@ -155,7 +155,7 @@ returns-clause-step c =
     let rule = something rs i (subst (λ n. i < n) (sym c.args.self.now.ruled) c.in-Some.ensures.there) in
     let first = at_place xs i c.index.result.now c.index.ensures c.in-Some.ensures.there in
     let apart = apart_places (world_of c.args.self.now) i j (member_in rule.0 c.index.result.now) c.args.to (member_at rs xs i rule.0 c.index.result.now rule.1 first) (sym c.in-Some-place.ensures.place)
-    (c.requires.between i c.index.result.now first).apart (some_of c.in-Some-waits_for.waits (channel_to c.args.to (part_of c.index.result.now).channels) c.in-Some-waits_for.ensures) in
+    (c.requires.between i c.index.result.now first).apart (some_of c.in-Some-has_waiting.waits (channel_to c.args.to (part_of c.index.result.now).channels) c.in-Some-has_waiting.ensures) in
     let at_i = at_place xs i c.index_mut.result.now c.index_mut.ensures.value c.in-Some.ensures.there in
     let receiver = something xs j c.in-Some-place.ensures.there in
     let rules_j = at_place rs j c.index-rules.result.now c.index-rules.ensures (subst (λ n. j < n) (sym c.args.self.now.ruled) c.in-Some-place.ensures.there) in
@@ -171,7 +171,7 @@ returns-clause-between c =
     let rule = something rs i (subst (λ n. i < n) (sym c.args.self.now.ruled) c.in-Some.ensures.there) in
     let first = at_place xs i c.index.result.now c.index.ensures c.in-Some.ensures.there in
     let apart = apart_places (world_of c.args.self.now) i j (member_in rule.0 c.index.result.now) c.args.to (member_at rs xs i rule.0 c.index.result.now rule.1 first) (sym c.in-Some-place.ensures.place)
-    (c.requires.between i c.index.result.now first).apart (some_of c.in-Some-waits_for.waits (channel_to c.args.to (part_of c.index.result.now).channels) c.in-Some-waits_for.ensures) in
+    (c.requires.between i c.index.result.now first).apart (some_of c.in-Some-has_waiting.waits (channel_to c.args.to (part_of c.index.result.now).channels) c.in-Some-has_waiting.ensures) in
     let at_i = at_place xs i c.index_mut.result.now c.index_mut.ensures.value c.in-Some.ensures.there in
     let receiver = something xs j c.in-Some-place.ensures.there in
     let rules_j = at_place rs j c.index-rules.result.now c.index-rules.ensures (subst (λ n. j < n) (sym c.args.self.now.ruled) c.in-Some-place.ensures.there) in

@@ -18,9 +18,9 @@ returns-in_default-clause-step c =
     exec_nowhere (world_of c.args.self.now) c.args.chain c.args.account.now c.args.bytes.now (sym c.in_default.ensures.place)
     ∙ ap (λ acted. record { answer = StepResult.NoSuchChain; trace = told_at acted (world_of c.args.self.now); world = world_of c.args.self.now }) (sym c.requires.idle)
 
-pub returns-then-is_whole-clause-step : goal.returns-then-is_whole-clause-step
-returns-then-is_whole-clause-step c =
-    exec_whole (world_of c.args.self.now) c.args.chain c.args.account.now c.args.bytes.now c.in-Some.place (sym c.in-Some.ensures.place) (sym c.if-is_whole.ensures)
+pub returns-then-is_chain_account-clause-step : goal.returns-then-is_chain_account-clause-step
+returns-then-is_chain_account-clause-step c =
+    exec_whole (world_of c.args.self.now) c.args.chain c.args.account.now c.args.bytes.now c.in-Some.place (sym c.in-Some.ensures.place) (sym c.if-is_chain_account.ensures)
     ∙ ap (λ acted. record { answer = StepResult.SovereignCaller; trace = told_at acted (world_of c.args.self.now); world = world_of c.args.self.now }) (sym c.requires.idle)
 
 pub returns-then-has_pool_account-clause-step : goal.returns-then-has_pool_account-clause-step
@@ -29,7 +29,7 @@ returns-then-has_pool_account-clause-step c =
     let is = member_at c.args.self.now.rules.items c.args.self.now.chains.items c.in-Some.place c.index-rules.result.now c.index-here.result.now
     (at_place c.args.self.now.rules.items c.in-Some.place c.index-rules.result.now c.index-rules.ensures within)
     (at_place c.args.self.now.chains.items c.in-Some.place c.index-here.result.now c.index-here.ensures c.in-Some.ensures.there) in
-    exec_pool (world_of c.args.self.now) c.args.chain c.args.account.now c.args.bytes.now c.in-Some.place (member_in c.index-rules.result.now c.index-here.result.now) (sym c.in-Some.ensures.place) (sym c.if-is_whole.ensures) is
+    exec_pool (world_of c.args.self.now) c.args.chain c.args.account.now c.args.bytes.now c.in-Some.place (member_in c.index-rules.result.now c.index-here.result.now) (sym c.in-Some.ensures.place) (sym c.if-is_chain_account.ensures) is
     (sym c.if-has_pool_account.ensures)
     ∙ ap (λ acted. record { answer = StepResult.SovereignCaller; trace = told_at acted (world_of c.args.self.now); world = world_of c.args.self.now }) (sym c.requires.idle)
 
@@ -41,7 +41,7 @@ returns-in-Err-clause-step c =
     (at_place c.args.self.now.rules.items c.in-Some.place c.index-rules.result.now c.index-rules.ensures within)
     (at_place c.args.self.now.chains.items c.in-Some.place c.index-here.result.now c.index-here.ensures c.in-Some.ensures.there) in
     by_answer c.answer_to.result c.in-Err.fault (λ answer. exec w c.args.chain c.args.account.now c.args.bytes.now ≡ stepped answer c.args.self.now) c.answer_to.ensures.answer c.answer_to.ensures.other
-    (λ other. exec_there w c.args.chain c.args.account.now c.args.bytes.now c.in-Some.place (member_in c.index-rules.result.now c.index-here.result.now) (Err c.in-Err.fault) (sym c.in-Some.ensures.place) (sym c.if-is_whole.ensures) is (sym c.if-has_pool_account.ensures) (fault_is c.in-Err.fault (message_of c.args.bytes.now) other c.in-Err.ensures.read)
+    (λ other. exec_there w c.args.chain c.args.account.now c.args.bytes.now c.in-Some.place (member_in c.index-rules.result.now c.index-here.result.now) (Err c.in-Err.fault) (sym c.in-Some.ensures.place) (sym c.if-is_chain_account.ensures) is (sym c.if-has_pool_account.ensures) (fault_is c.in-Err.fault (message_of c.args.bytes.now) other c.in-Err.ensures.read)
     ∙ ap (λ acted. record { answer = StepResult.Message c.in-Err.fault; trace = told_at acted w; world = w }) (sym c.requires.idle))
 
 pub run_here-requires-clause-between : goal.run_here-requires-clause-between
@@ -69,7 +69,7 @@ returns-in_err-outcome-clause-stops c =
     let q = err_from_is_err_and c.from_residual.result c.from_residual.ensures.1 in
     let within = subst (λ n. c.in-Some.place < n) (sym c.args.self.now.ruled) c.in-Some.ensures.there in
     rw q.1 (exec_stopped c.args.self.now.rules.items c.args.self.now.chains.items c.in-Some.place c.index-rules.result.now c.index_mut.result.now c.run_here.new.here c.args.chain c.args.account.now c.args.bytes.now c.in-Ok.program
-    (sym c.in-Some.ensures.place) (sym c.if-is_whole.ensures) (at_place c.args.self.now.rules.items c.in-Some.place c.index-rules.result.now c.index-rules.ensures within)
+    (sym c.in-Some.ensures.place) (sym c.if-is_chain_account.ensures) (at_place c.args.self.now.rules.items c.in-Some.place c.index-rules.result.now c.index-rules.ensures within)
     (at_place c.args.self.now.chains.items c.in-Some.place c.index_mut.result.now c.index_mut.ensures.value c.in-Some.ensures.there) (own_of c.args.self.now.chains.items c.in-Some.place c.index_mut.result.now c.index-here.result.now c.args.account.now false (at_place c.args.self.now.chains.items c.in-Some.place c.index_mut.result.now c.index_mut.ensures.value c.in-Some.ensures.there)
     (at_place c.args.self.now.chains.items c.in-Some.place c.index-here.result.now c.index-here.ensures c.in-Some.ensures.there) c.if-has_pool_account.ensures) (read_is c.in-Ok.program (message_of c.args.bytes.now) c.in-Ok.ensures.read) c.in_err-outcome.ensures.stopped)
 
@@ -77,7 +77,7 @@ pub returns-clause-step : goal.returns-clause-step
 returns-clause-step c =
     let within = subst (λ n. c.in-Some.place < n) (sym c.args.self.now.ruled) c.in-Some.ensures.there in
     exec_ran c.args.self.now.rules.items c.args.self.now.chains.items c.in-Some.place c.index-rules.result.now c.index_mut.result.now c.run_here.new.here c.args.chain c.args.account.now c.args.bytes.now c.in-Ok.program c.in_ok-outcome.outcome
-    (sym c.in-Some.ensures.place) (sym c.if-is_whole.ensures) (at_place c.args.self.now.rules.items c.in-Some.place c.index-rules.result.now c.index-rules.ensures within)
+    (sym c.in-Some.ensures.place) (sym c.if-is_chain_account.ensures) (at_place c.args.self.now.rules.items c.in-Some.place c.index-rules.result.now c.index-rules.ensures within)
     (at_place c.args.self.now.chains.items c.in-Some.place c.index_mut.result.now c.index_mut.ensures.value c.in-Some.ensures.there) (own_of c.args.self.now.chains.items c.in-Some.place c.index_mut.result.now c.index-here.result.now c.args.account.now false (at_place c.args.self.now.chains.items c.in-Some.place c.index_mut.result.now c.index_mut.ensures.value c.in-Some.ensures.there)
     (at_place c.args.self.now.chains.items c.in-Some.place c.index-here.result.now c.index-here.ensures c.in-Some.ensures.there) c.if-has_pool_account.ensures) (read_is c.in-Ok.program (message_of c.args.bytes.now) c.in-Ok.ensures.read) c.in_ok-outcome.ensures.outcome c.in_ok-outcome.ensures.part
 

@@ -1,6 +1,6 @@
 use Rattle.std.proofs.Common.{◌≡◌, true, sym, ◌∙◌, subst}
 use Rattle.asset_lists.specs.Lists.{is_rising}
-use Rattle.asset_lists.specs.Laws.{once_each}
+use Rattle.asset_lists.proofs.Lemmas.{once_each}
 use Rattle.exec_base.specs.Host.{arrival_of}
 use Rattle.chain_state.specs.PartOf.{part_of}
 use Rattle.chain_state.specs.Arrivals.{arrival_by}

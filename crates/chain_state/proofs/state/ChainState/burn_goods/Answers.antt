@@ -1,7 +1,7 @@
 use Rattle.std.proofs.Common.{◌++◌, ap, ◌∙◌}
 use Rattle.asset_bundles.specs.declared.book.Cause.{Cause}
 use Rattle.asset_bundles.specs.Books.{Book, Booked, burned_for}
-use Rattle.asset_bundles.specs.Laws.{listed-Booked}
+use Rattle.asset_bundles.proofs.Lemmas.{listed-Booked}
 use Rattle.trust_tables.specs.Trust.{listing}
 use Rattle.exec_base.specs.Host.{burnt, booked}
 use Rattle.chain_state.specs.PartOf.{part_of}
@@ -31,5 +31,5 @@ returns-in-Ok-append c =
     let f = c.args.self.now in
     let p = part_of f in
     let burns = ap (λ (b : Book). b.burns) (c.burn.ensures ∙ ap (λ b. Booked b (burned_for Cause.BurnAsset c.args.goods)) (same_book f.book (listing f.settings.rows) f.book_lists)) in
-    let told = c.in-Ok-append.ensures.items ∙ ap (λ ls. f.kept_back.items ++ ls) c.in-Ok.ensures in
-    record { step = λ i. record p { burns = burns i; kept_back = told i } }
+    let told = c.in-Ok-append.ensures.items ∙ ap (λ ls. f.pending_events.items ++ ls) c.in-Ok.ensures in
+    record { step = λ i. record p { burns = burns i; pending_events = told i } }

@@ -5,11 +5,11 @@ use Rattle.asset_bundles.specs.declared.book.Cause.{Cause}
 use Rattle.asset_bundles.specs.Books.{Book, Booked, burned_for}
 use Rattle.weight_trader.specs.Purchases.{Line, coin_of, excess, excess_at, unspent_at, Bought, AreRatesListed}
 use Rattle.weight_trader.specs.Refunds.{Closed}
-use Rattle.weight_trader.specs.ListedLaws.{saturated_rows}
+use Rattle.weight_trader.proofs.Lemmas.ListedLaws.{saturated_rows}
 use Rattle.trust_tables.specs.Trust.{listing}
 use Rattle.exec_base.specs.Host.{above, burned_lines, booked, no_line_refusal, buy_refusal, unspent, bought}
 use Rattle.chain_state.specs.Lines.{excess_lines}
-use Rattle.network_genesis.specs.Tests.{are_rates_listed}
+use Rattle.network_steps.specs.Tests.{are_rates_listed}
 use Rattle.chain_state.specs.PartOf.{part_of}
 use Rattle.chain_state.proofs.BurnedLines.{same_book}
 use Rattle.chain_state.proofs.Trading.{saturated_is, line_of_excess, none_pays}
@@ -55,7 +55,7 @@ returns-in-Ok-append c =
       step = (
         ap no_line_refusal is.first,
         is.left_is ∙ sym (ap (λ o. option_map_or (λ (line : Line). unspent_at w payment line) o payment) is.first),
-        (λ i. record p { lines = is.lines_are i; burns = burns i; kept_back = told i })
+        (λ i. record p { lines = is.lines_are i; burns = burns i; pending_events = told i })
             ∙ sym (ap (λ o. option_map_or (λ (line : Line).
             let goods = above (listed_of (coin_of line.rate)) (excess w line) in
             booked (record p { lines = Bought w payment p.lines }) (burned_for Cause.Saturated goods) (burned_lines p (λ unit. Cause.Saturated) goods)) o p) is.first),
@@ -74,6 +74,6 @@ returns c =
       step = (
         refused.handed_back,
         ap no_line_refusal (none_pays c.args.w c.args.payment p.lines refused.too_expensive),
-        λ i. record p { lines = lines i; burns = burns i; kept_back = kept i },
+        λ i. record p { lines = lines i; burns = burns i; pending_events = kept i },
       );
     }

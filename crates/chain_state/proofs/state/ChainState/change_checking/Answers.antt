@@ -1,7 +1,7 @@
 use Rattle.std.proofs.Common.{◌≡◌, length, ap, ◌∙◌, arith}
 use Rattle.std.proofs.lemmas.List.{with_items_is}
 use Rattle.exec_base.specs.Host.{changed_all}
-use Rattle.chain_lists.specs.Checked.{are_checked, change_by}
+use Rattle.chain_state.specs.Checked.{are_checked, change_by}
 use Rattle.chain_state.proofs.Raising.{all_kept_checked}
 use Rattle.chain_state.proofs.state.ChainState.change_checking.Goals as goal
 

@@ -2,13 +2,13 @@ use Rattle.std.proofs.Common.{◌≡◌, ℕ, [], ◌∷◌, ◌++◌, sym, ap, 
 use Rattle.std.specs.Prelude.{None, Some, is_some, remove, position}
 use Rattle.std.specs.Option.{option_map_or}
 use Rattle.exec_base.specs.declared.event.Event.{Event}
-use Rattle.exec_base.specs.Host.{is_query, is_open, answered}
+use Rattle.exec_base.specs.Host.{is_query, has_open_query, answered}
 use Rattle.chain_state.specs.PartOf.{part_of}
 use Rattle.chain_state.proofs.Queries.{any_at}
 use Rattle.chain_state.proofs.state.ChainState.close_query.Goals as goal
 
 pub returns-in_default : goal.returns-in_default
-unfolding is_open answered
+unfolding has_open_query answered
 returns-in_default c =
     let p = part_of c.args.self.now in
     let query = c.args.query in
@@ -18,13 +18,13 @@ returns-in_default c =
     record {
       step = (
         sym (any_at test p.queries ∙ ap is_some at),
-        (λ i. record p { kept_back = told i })
-            ∙ sym (ap (λ o. option_map_or (λ (place : ℕ). record p { queries = remove p.queries place; kept_back = p.kept_back ++ Event.Answered query ∷ [] }) o (record p { kept_back = p.kept_back ++ Event.Ignored query ∷ [] })) at),
+        (λ i. record p { pending_events = told i })
+            ∙ sym (ap (λ o. option_map_or (λ (place : ℕ). record p { queries = remove p.queries place; pending_events = p.pending_events ++ Event.Answered query ∷ [] }) o (record p { pending_events = p.pending_events ++ Event.Ignored query ∷ [] })) at),
       );
     }
 
 pub returns : goal.returns
-unfolding is_open answered
+unfolding has_open_query answered
 returns c =
     let p = part_of c.args.self.now in
     let query = c.args.query in
@@ -34,7 +34,7 @@ returns c =
     record {
       step = (
         sym (any_at test p.queries ∙ ap is_some at),
-        (λ i. record p { queries = c.remove.ensures.items i; kept_back = told i })
-            ∙ sym (ap (λ o. option_map_or (λ (place : ℕ). record p { queries = remove p.queries place; kept_back = p.kept_back ++ Event.Answered query ∷ [] }) o (record p { kept_back = p.kept_back ++ Event.Ignored query ∷ [] })) at),
+        (λ i. record p { queries = c.remove.ensures.items i; pending_events = told i })
+            ∙ sym (ap (λ o. option_map_or (λ (place : ℕ). record p { queries = remove p.queries place; pending_events = p.pending_events ++ Event.Answered query ∷ [] }) o (record p { pending_events = p.pending_events ++ Event.Ignored query ∷ [] })) at),
       );
     }

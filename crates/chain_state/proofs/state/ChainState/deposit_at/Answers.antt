@@ -13,24 +13,24 @@ use Rattle.exec_base.specs.Part.{ChainPart}
 use Rattle.exec_base.specs.Sending.{deposit_program, listed_program}
 use Rattle.exec_base.specs.Host.{seen_from, deposit_refusal, deposited, deposit_out_refusal, deposited_out}
 use Rattle.chain_state.specs.PartOf.{part_of}
-use Rattle.chain_state.specs.Sends.{IsTaken}
+use Rattle.chain_state.specs.Sends.{IsAcceptedByChannel}
 use Rattle.chain_state.proofs.First.{both_none}
 use Rattle.chain_state.proofs.Led.{taken_free, taken_spelled, number_is, sent_is}
 use Rattle.chain_ids.specs.declared.chain.ChainId.{ChainId}
 use Rattle.chain_state.proofs.state.ChainState.deposit_at.Goals as goal
 
 posted : Cargo → ChainId → List ℕ → ℕ → ChainPart → ChainPart
-posted cargo to bytes n q = record q { channels = pushed to (program_read (message_of bytes)) cargo q.channels; kept_back = q.kept_back ++ Event.Sent q.site.chain to n ∷ [] }
+posted cargo to bytes n q = record q { channels = pushed to (program_read (message_of bytes)) cargo q.channels; pending_events = q.pending_events ++ Event.Sent q.site.chain to n ∷ [] }
 
-pub put_in_checked-requires : goal.put_in_checked-requires
+pub deposit_goods_checked-requires : goal.deposit_goods_checked-requires
 unfolding deposit_out_refusal deposit_refusal
-put_in_checked-requires c = record { free = (both_none _ _ c.in-Ok.ensures.ready.1).0 }
+deposit_goods_checked-requires c = record { free = (both_none _ _ c.in-Ok.ensures.ready.1).0 }
 
-pub returns-in-Err-put_in_checked : goal.returns-in-Err-put_in_checked
-returns-in-Err-put_in_checked c =
+pub returns-in-Err-deposit_goods_checked : goal.returns-in-Err-deposit_goods_checked
+returns-in-Err-deposit_goods_checked c =
     let p = part_of c.args.self.now in
-    let back = c.in-Err-put_in_checked.ensures.step in
-    record { step = (back.0, back.1 ∙ (λ i. record p { kept_back = c.reserve.ensures.items i })) }
+    let back = c.in-Err-deposit_goods_checked.ensures.step in
+    record { step = (back.0, back.1 ∙ (λ i. record p { pending_events = c.reserve.ensures.items i })) }
 
 pub post-requires-clause-free : goal.post-requires-clause-free
 unfolding deposited
@@ -60,7 +60,7 @@ returns c =
     let program = listed_program (λ a. deposit_program a c.args.xcm.now) (seen_from p dest (held_assets c.args.goods)) in
     let taken = c.in-Ok.ensures.ready.0 in
     let d = deposited p c.args.goods dest in
-    let there : IsTaken d dest program to bytes = record { channel = taken.channel; found = taken.found; accepted = taken.accepted } in
+    let there : IsAcceptedByChannel d dest program to bytes = record { channel = taken.channel; found = taken.found; accepted = taken.accepted } in
     let put = c.in_default.ensures.step in
     let number : option_map (λ (o : Outgoing). o.next) (queues.channel_to to p.channels) ≡ Some c.post.result = sym (ap (λ (x : ChainPart). option_map (λ (o : Outgoing). o.next) (queues.channel_to to x.channels)) put) ∙ c.post.ensures.number in
     record {
@@ -68,7 +68,7 @@ returns c =
         c.in-Ok.ensures.ready.1,
         number_is p dest program to bytes c.post.result taken number,
         c.post.ensures.posted ∙ ap (posted (Cargo.Deposit c.in-Ok.ready.2) to bytes c.post.result) put
-            ∙ (λ i. posted (Cargo.Deposit (c.in-Ok.ensures.ready.2 i)) to bytes c.post.result (deposited (record p { kept_back = c.reserve.ensures.items i }) c.args.goods dest))
+            ∙ (λ i. posted (Cargo.Deposit (c.in-Ok.ensures.ready.2 i)) to bytes c.post.result (deposited (record p { pending_events = c.reserve.ensures.items i }) c.args.goods dest))
             ∙ sent_is d dest program to bytes (Cargo.Deposit (held_assets c.args.goods)) c.post.result there number,
       );
     }

@@ -39,7 +39,7 @@ returns c =
     let served = c.if-not-self.false in
     let serves : p.calls ≡ true = cc in
     let beside = ap (λ (x : ChainPart × ℕ). x.0) c.in_ok-end.ensures.beside.other in
-    let told = c.push_reserved.ensures.items ∙ ap (λ (e : Event). q.kept_back ++ e ∷ []) c.line_of.ensures in
+    let told = c.push_reserved.ensures.items ∙ ap (λ (e : Event). q.pending_events ++ e ∷ []) c.line_of.ensures in
     record {
       step = by_served p.calls p c.args.who.now c.args.call.now (Ok c.in_ok-end.end) _ serves
           (all_done p c.reserve.new.self.items q c.push_reserved.new.self.items c.args.who.now c.args.call.now c.in_ok-end.end c.reserve.ensures.items beside c.in_ok-end.ensures.ok told);

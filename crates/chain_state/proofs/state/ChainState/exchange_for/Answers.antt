@@ -1,15 +1,15 @@
 use Rattle.std.proofs.Common.{◌≡◌, List, length, arith, sym, Some, None, Result, Err, ap, ◌∙◌, subst}
 use Rattle.asset_bundles.specs.Bundles.{Bundle}
-use Rattle.account_floors.specs.Floors.{NoPoolLocks}
-use Rattle.chain_pools.specs.declared.pool.Pool.{Pool}
-use Rattle.chain_pools.specs.declared.faults.ExchangeFault.{ExchangeFault}
-use Rattle.chain_pools.specs.declared.faults.ExchangeFault.TheVariants.{NoDeal}
-use Rattle.chain_pools.specs.Making.{MakesExchange}
+use Rattle.law_hosts.specs.Floors.{NoPoolLocks}
+use Rattle.asset_pools.specs.declared.pool.Pool.{Pool}
+use Rattle.asset_pools.specs.declared.faults.ExchangeFault.{ExchangeFault}
+use Rattle.asset_pools.specs.declared.faults.ExchangeFault.TheVariants.{NoDeal}
+use Rattle.asset_pools.specs.Making.{MakesExchange}
 use Rattle.ledgers.specs.Ledgers.{Accounts}
 use Rattle.exec_base.specs.Part.{ChainPart}
 use Rattle.chain_state.specs.PartOf.{part_of}
 use Rattle.chain_state.proofs.Exchanged.{same_exchange, exchange_done, exchange_refused, floors_exchanged}
-use Rattle.chain_state.specs.Facts.{keeps_floors}
+use Rattle.chain_state.proofs.Lemmas.Facts.{keeps_floors}
 use Rattle.chain_state.specs.Known.{few_pools, floors_there, pools_free}
 use Rattle.chain_state.proofs.state.ChainState.exchange_for.Goals as goal
 

@@ -1,5 +1,5 @@
 use Rattle.std.proofs.Common.{sym, subst}
-use Rattle.fee_rows.specs.Fees.{HaveRowsFor}
+use Rattle.chain_state.specs.Fees.{HaveRowsFor}
 use Rattle.chain_state.specs.PartOf.{part_of}
 use Rattle.chain_state.proofs.FeeSlot.{slot_rowed}
 use Rattle.chain_state.specs.Known.{prices_there, fees_there}

@@ -1,8 +1,8 @@
 use Rattle.std.proofs.Common.{◌++◌, ap, ◌∙◌}
 use Rattle.asset_bundles.specs.Books.{Book, Booked, given_up}
-use Rattle.asset_bundles.specs.Laws.{listed-Booked}
+use Rattle.asset_bundles.proofs.Lemmas.{listed-Booked}
 use Rattle.trust_tables.specs.Trust.{listing}
-use Rattle.exec_base.specs.Host.{joined, booked}
+use Rattle.exec_base.specs.Host.{bundles_joined, booked}
 use Rattle.chain_state.specs.PartOf.{part_of}
 use Rattle.chain_state.proofs.BurnedLines.{same_book}
 use Rattle.chain_state.proofs.state.ChainState.join_goods.Goals as goal
@@ -25,10 +25,10 @@ invariant_of-self-2 c =
     }
 
 pub returns-clause-step : goal.returns-clause-step
-unfolding joined booked
+unfolding bundles_joined booked
 returns-clause-step c =
     let f = c.args.self.now in
     let p = part_of f in
     let burns = ap (λ (b : Book). b.burns) (c.in_ok-join.ensures.booked ∙ ap (λ b. Booked b (given_up c.args.into.now c.args.goods)) (same_book f.book (listing f.settings.rows) f.book_lists)) in
     let told = c.in-Ok-append.ensures.items ∙ (λ i. c.reserve.ensures.items i ++ c.in-Ok.ensures i) in
-    λ i. record p { burns = burns i; kept_back = told i }
+    λ i. record p { burns = burns i; pending_events = told i }

@@ -1,6 +1,6 @@
 use Rattle.std.proofs.Common.{sym, ap, ◌∙◌, subst}
 use Rattle.asset_bundles.specs.Bundles.{Bundle}
-use Rattle.fee_rows.specs.Fees.{HaveRowsFor, kept_goods, Kept}
+use Rattle.chain_state.specs.Fees.{HaveRowsFor, kept_goods, saturated_fees}
 use Rattle.exec_base.specs.Host.{fees_with, fee_kept}
 use Rattle.chain_state.specs.PartOf.{part_of}
 use Rattle.chain_state.proofs.FeeSlot.{nothing_rowed}
@@ -29,10 +29,10 @@ invariant_of-self c =
     }
 
 pub returns : goal.returns
-unfolding fee_kept fees_with Kept
+unfolding fee_kept fees_with saturated_fees
 returns c =
     let f = c.args.self.now in
     let p = part_of f in
     let nothing = c.replace.ensures.after ∙ c.set_down-nothing.ensures ∙ c.empty.ensures in
-    let kept = c.keep.ensures.kept ∙ ap (λ (b : Bundle). Kept (kept_goods f.fees) b) (c.take_up-goods.ensures ∙ c.replace.ensures.value) in
+    let kept = c.keep.ensures.kept ∙ ap (λ (b : Bundle). saturated_fees (kept_goods f.fees) b) (c.take_up-goods.ensures ∙ c.replace.ensures.value) in
     record { step = λ i. record p { fee_slot = nothing i; fees = kept i } }

@@ -1,6 +1,6 @@
 use Rattle.std.proofs.Common.{sym, ap, ◌∙◌}
 use Rattle.trust_tables.specs.Trust.{listing}
-use Rattle.fee_rows.specs.Fees.{kept_goods}
+use Rattle.chain_state.specs.Fees.{kept_goods}
 use Rattle.chain_state.specs.Aside.{asset_in}
 use Rattle.chain_state.proofs.AsideSums.{amount_alone, no_class}
 use Rattle.chain_state.proofs.state.ChainState.kept_of.Goals as goal

@@ -2,9 +2,9 @@ use Rattle.std.proofs.Common.{◌≡◌, sym, ap, ◌∙◌, if◌then◌else◌
 use Rattle.std.specs.Prelude.{None}
 use Rattle.exec_base.specs.Host.{first_fault, trust_fault, raise_fault, is_teleport}
 use Rattle.chain_state.specs.PartOf.{part_of}
-use Rattle.chain_state.proofs.Queries.{none_if}
 use Rattle.chain_state.proofs.First.{refused_first, passed_first}
 use Rattle.chain_state.proofs.state.ChainState.leave_refusal.Goals as goal
+use Rattle.plain_lists.proofs.Lemmas.Facts.{none_if}
 
 pub returns-in-Some : goal.returns-in-Some
 returns-in-Some c =

@@ -6,10 +6,11 @@ use Rattle.exec_base.specs.Host.{asset_locked, note_program, lock_refusal}
 use Rattle.chain_state.specs.PartOf.{part_of}
 use Rattle.chain_state.proofs.Led.{taken_free, taken_spelled, number_is}
 use Rattle.chain_state.proofs.Locked.{lock_goes, told_goes, lock_leaves, posted_at, amount_here, some_amount, fault_of}
-use Rattle.account_floors.specs.Floors.{HasFloors}
-use Rattle.account_floors.specs.Laws.{locked_frees, lockable_apart, lockable_floors}
+use Rattle.law_hosts.specs.Floors.{HasFloors}
+use Rattle.law_hosts.proofs.Lemmas.{locked_frees, lockable_apart, lockable_floors}
 use Rattle.chain_state.proofs.Floored.{after_either}
-use Rattle.chain_state.specs.Facts.{keeps_floors, KeepsFloors}
+use Rattle.chain_state.specs.Facts.{KeepsLockFloors}
+use Rattle.chain_state.proofs.Lemmas.Facts.{keeps_floors}
 use Rattle.chain_state.specs.Known.{floors_there, pools_free}
 use Rattle.chain_state.proofs.state.ChainState.lock_for.Goals as goal
 
@@ -43,7 +44,7 @@ returns c =
         lock_goes p c.args.asset.now c.args.owner.now dest _ may ∙ told_goes p dest _ to bytes told,
         number_is p dest told.program to bytes c.post.result told.taken number,
         c.post.ensures.posted
-            ∙ (λ i. posted_at to bytes c.post.result (record p { locked = (c.in_ok-lock.ensures.locked ∙ ap (λ n. Locked (c.in-Some.place.0, c.in-Some.place.1, c.args.unlocker.now) n (part_of c.args.self.now).locked) c.amount.ensures) i; kept_back = c.reserve.ensures.items i }))
+            ∙ (λ i. posted_at to bytes c.post.result (record p { locked = (c.in_ok-lock.ensures.locked ∙ ap (λ n. Locked (c.in-Some.place.0, c.in-Some.place.1, c.args.unlocker.now) n (part_of c.args.self.now).locked) c.amount.ensures) i; pending_events = c.reserve.ensures.items i }))
             ∙ lock_leaves p c.args.asset.now c.args.owner.now dest _ to bytes c.post.result may told number,
       );
     }
@@ -56,5 +57,5 @@ invariant_of-self-2-clause-floors c =
     let n = c.amount.result in
     let may = c.in-Some.ensures in
     let locked = subst (λ (a : ℕ). HasFloors (Locked key a f.locked) f.ledger.held) (sym c.amount.ensures) (lockable_floors p c.args.asset.now c.args.owner.now c.args.unlocker.now key may.is may.enough (floors_there f)) in
-    after_either (λ (l : LocksAndNotes). KeepsFloors f.settings.pools l f.ledger.held) f.locked (Locked key n f.locked) c.lock.new.self c.lock.result c.lock.ensures.locked c.lock.ensures.kept
+    after_either (λ (l : LocksAndNotes). KeepsLockFloors f.settings.pools l f.ledger.held) f.locked (Locked key n f.locked) c.lock.new.self c.lock.result c.lock.ensures.locked c.lock.ensures.kept
     f.floors (keeps_floors _ _ _ locked (locked_frees f.settings.pools key n f.locked (lockable_apart p c.args.asset.now key c.in-Some.ensures.enough) (pools_free f)))

@@ -3,7 +3,7 @@ use Rattle.std.specs.Prelude.{None}
 use Rattle.asset_lists.specs.declared.units.Asset.{Asset}
 use Rattle.asset_bundles.specs.Bundles.{rows_of}
 use Rattle.ledgers.specs.Ledgers.{barred}
-use Rattle.fee_rows.specs.Fees.{Fee, some_row}
+use Rattle.chain_state.specs.Fees.{Fee, some_row}
 use Rattle.chain_state.specs.PartOf.{part_of}
 use Rattle.chain_state.specs.Settling.{wide_value, some_coins}
 use Rattle.chain_state.proofs.Settled.{lone_paid, lone_kept, lone_within, lone_above}

@@ -2,16 +2,16 @@ use Rattle.std.proofs.Common.{◌<◌, ◌^◌, List, length, map, sym, ap, ◌�
 use Rattle.asset_lists.specs.Listed.{Listed}
 use Rattle.trust_tables.specs.Trust.{listing}
 use Rattle.weight_trader.specs.Refunds.{Closed}
-use Rattle.fee_rows.specs.Fees.{is_coin}
-use Rattle.network_genesis.specs.Tests.{row_checking, have_prices}
-use Rattle.chain_lists.specs.Checked.{are_checked}
+use Rattle.chain_state.specs.Fees.{is_coin}
+use Rattle.network_steps.specs.Tests.{row_checking, have_prices}
+use Rattle.chain_state.specs.Checked.{are_checked}
 use Rattle.chain_state.specs.ListedFees.{are_fees_listed}
 use Rattle.chain_state.proofs.Entries.{checked_rows}
 use Rattle.chain_state.proofs.FeeSlot.{nothing_rowed}
 use Rattle.chain_state.proofs.Floored.{nothing_floored}
-use Rattle.account_floors.specs.Floors.{NoPoolLocks}
-use Rattle.account_floors.specs.Laws.{none_frees}
-use Rattle.chain_state.specs.Facts.{is_set_up, keeps_floors, are_payable}
+use Rattle.law_hosts.specs.Floors.{NoPoolLocks}
+use Rattle.law_hosts.proofs.Lemmas.{none_frees}
+use Rattle.chain_state.proofs.Lemmas.Facts.{is_set_up, keeps_floors, are_payable}
 use Rattle.chain_state.proofs.state.ChainState.new.Goals as goal
 
 pub open-requires-clause-few : goal.open-requires-clause-few

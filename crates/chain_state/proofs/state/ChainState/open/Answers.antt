@@ -8,9 +8,9 @@ use Rattle.chain_ids.specs.Chains.{same_chain}
 use Rattle.exec_base.specs.Part.{ChainPart}
 use Rattle.network_spec.specs.declared.chain.ChainSpec.{ChainSpec}
 use Rattle.network_spec.specs.Networks.{same_holding}
-use Rattle.network_genesis.specs.Tests.{is_placeable}
-use Rattle.network_genesis.specs.Genesis.{part_at, with_balances}
-use Rattle.network_genesis.specs.Openable.{IsOpenableChain, IsOpenableChannel}
+use Rattle.network_steps.specs.Tests.{is_placeable}
+use Rattle.network_steps.specs.Genesis.{part_at, with_balances}
+use Rattle.network_steps.specs.Openable.{IsOpenableChain, IsOpenableChannel}
 use Rattle.chain_state.specs.PartOf.{part_of}
 use Rattle.chain_state.proofs.Balances.{any_found, balances_placeable}
 use Rattle.chain_state.proofs.Entries.{prices_from, fees_from, lists_its_fee, found_so, none_is_some}

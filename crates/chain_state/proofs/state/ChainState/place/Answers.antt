@@ -1,12 +1,13 @@
 use Rattle.std.proofs.Common.{[], ◌∷◌, refl, sym, subst}
 use Rattle.std.proofs.lemmas.Bool.{and_from}
-use Rattle.asset_lists.specs.Laws.{once_each}
+use Rattle.asset_lists.proofs.Lemmas.{once_each}
 use Rattle.asset_bundles.specs.Books.{AreListed}
-use Rattle.asset_bundles.specs.Laws.{listed_list}
+use Rattle.asset_bundles.proofs.Lemmas.{listed_list}
 use Rattle.trust_tables.specs.Trust.{listing}
 use Rattle.ledgers.specs.Ledgers.{Accounts, Deposited}
 use Rattle.chain_state.proofs.Floored.{after_either, got_after}
-use Rattle.chain_state.specs.Facts.{keeps_floors, KeepsFloors}
+use Rattle.chain_state.specs.Facts.{KeepsLockFloors}
+use Rattle.chain_state.proofs.Lemmas.Facts.{keeps_floors}
 use Rattle.chain_state.specs.Known.{floors_there, pools_free}
 use Rattle.chain_state.proofs.state.ChainState.place.Goals as goal
 
@@ -23,5 +24,5 @@ pub invariant_of-self-clause-floors : goal.invariant_of-self-clause-floors
 invariant_of-self-clause-floors c =
     let f = c.args.self.now in
     let who = c.args.who.now in
-    after_either (λ (l : Accounts). KeepsFloors f.settings.pools f.locked l.held) f.ledger (Deposited who c.in_ok-goods.goods f.ledger) c.deposit.new.self c.deposit.result c.deposit.ensures.deposited c.deposit.ensures.kept
+    after_either (λ (l : Accounts). KeepsLockFloors f.settings.pools f.locked l.held) f.ledger (Deposited who c.in_ok-goods.goods f.ledger) c.deposit.new.self c.deposit.result c.deposit.ensures.deposited c.deposit.ensures.kept
     f.floors (keeps_floors _ _ _ (got_after f.locked f.ledger who c.in_ok-goods.goods (floors_there f)) (pools_free f))

@@ -7,12 +7,12 @@ use Rattle.asset_bundles.specs.Bundles.{bundle_of, held_assets}
 use Rattle.trust_tables.specs.Trust.{listing}
 use Rattle.ledgers.specs.Ledgers.{barred}
 use Rattle.exec_base.specs.Part.{ChainPart}
-use Rattle.network_genesis.specs.Tests.{is_placeable}
-use Rattle.network_genesis.specs.Genesis.{with_balance}
+use Rattle.network_steps.specs.Tests.{is_placeable}
+use Rattle.network_steps.specs.Genesis.{with_balance}
 use Rattle.chain_state.specs.PartOf.{part_of}
 use Rattle.chain_state.proofs.Balances.{next_balances, placeable, small_amount, free_balance, others_before}
-use Rattle.chain_state.proofs.BurnedLines.{all_at}
 use Rattle.chain_state.proofs.state.ChainState.place_all.Goals as goal
+use Rattle.plain_lists.proofs.Lemmas.Facts.{all_at}
 
 pub place_balance-requires-clause-some : goal.place_balance-requires-clause-some
 place_balance-requires-clause-some c =

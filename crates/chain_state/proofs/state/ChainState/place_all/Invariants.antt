@@ -1,6 +1,6 @@
 use Rattle.std.proofs.Common.{◌≡◌, take}
 use Rattle.amounts.specs.Amounts.{empty}
-use Rattle.network_genesis.specs.Genesis.{with_balances}
+use Rattle.network_steps.specs.Genesis.{with_balances}
 use Rattle.chain_state.specs.PartOf.{part_of}
 use Rattle.chain_state.proofs.state.ChainState.place_all.Given as goal
 

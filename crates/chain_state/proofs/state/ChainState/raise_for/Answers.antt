@@ -2,7 +2,7 @@ use Rattle.std.proofs.Common.{◌≡◌, ◌+◌, false, true, sym, ap, ◌∙�
 use Rattle.std.specs.Prelude.{None}
 use Rattle.asset_bundles.specs.Bundles.{held_assets}
 use Rattle.exec_base.specs.Host.{first_fault, raise_fault, changed_all, is_teleport}
-use Rattle.chain_lists.specs.Checked.{change_by}
+use Rattle.chain_state.specs.Checked.{change_by}
 use Rattle.chain_state.specs.PartOf.{part_of}
 use Rattle.chain_state.proofs.Raising.{raised_free}
 use Rattle.chain_state.proofs.state.ChainState.raise_for.Goals as goal

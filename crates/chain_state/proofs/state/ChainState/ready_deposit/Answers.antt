@@ -5,12 +5,12 @@ use Rattle.asset_bundles.specs.Bundles.{held_assets}
 use Rattle.exec_base.specs.Sending.{deposit_program, listed_refusal, listed_program}
 use Rattle.exec_base.specs.Host.{seen_from, deposit_refusal, deposit_out_refusal}
 use Rattle.chain_state.specs.PartOf.{part_of}
-use Rattle.chain_state.specs.Sends.{IsTaken, IsSendFault}
-use Rattle.chain_state.proofs.Queries.{none_if}
+use Rattle.chain_state.specs.Sends.{IsAcceptedByChannel, IsSendFault}
 use Rattle.chain_state.proofs.First.{refused_first, passed_first}
 use Rattle.chain_state.proofs.Sendable.{too_many, not_many}
 use Rattle.chain_state.proofs.Forwarding.{goods_rising, goods_some}
 use Rattle.chain_state.proofs.state.ChainState.ready_deposit.Goals as goal
+use Rattle.plain_lists.proofs.Lemmas.Facts.{none_if}
 
 pub returns-in-Some : goal.returns-in-Some
 unfolding deposit_out_refusal
@@ -55,7 +55,7 @@ returns c =
     let again = c.as_slice.ensures.value ∙ c.in_ok-list.ensures.listed in
     record {
       ready = (
-        subst (λ xs. IsTaken p dest (listed_program (λ a. deposit_program a xcm) (seen_from p dest xs)) c.in-Ok.ready.0 c.in-Ok.ready.1.items) again c.in-Ok.ensures.ready.0,
+        subst (λ xs. IsAcceptedByChannel p dest (listed_program (λ a. deposit_program a xcm) (seen_from p dest xs)) c.in-Ok.ready.0 c.in-Ok.ready.1.items) again c.in-Ok.ensures.ready.0,
         passed_first _ (listed_refusal p dest (λ a. deposit_program a xcm) (seen_from p dest held)) takes
             ∙ ap (λ xs. listed_refusal p dest (λ a. deposit_program a xcm) (seen_from p dest xs)) (sym again) ∙ c.in-Ok.ensures.ready.1,
         c.in-Ok-from_sorted.ensures.0 ∙ c.in_ok-list.ensures.listed,

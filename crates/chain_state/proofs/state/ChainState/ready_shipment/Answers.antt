@@ -6,11 +6,11 @@ use Rattle.exec_base.specs.Sending.{or_else, away_program, listed_refusal}
 use Rattle.exec_base.specs.Host.{first_fault, trust_fault, raise_fault, is_teleport, seen_from, ship_refusal}
 use Rattle.chain_state.specs.PartOf.{part_of}
 use Rattle.chain_state.specs.Sends.{IsSendFault}
-use Rattle.chain_state.proofs.Queries.{none_if}
 use Rattle.chain_state.proofs.First.{refused_first, passed_first}
 use Rattle.chain_state.proofs.Forwarding.{goods_some}
 use Rattle.chain_state.proofs.Shipped.{first_of_three, ready_away}
 use Rattle.chain_state.proofs.state.ChainState.ready_shipment.Goals as goal
+use Rattle.plain_lists.proofs.Lemmas.Facts.{none_if}
 
 pub returns-in-Some : goal.returns-in-Some
 unfolding ship_refusal

@@ -1,8 +1,8 @@
 use Rattle.std.proofs.Common.{◌-◌, refl, sym, ap, ◌∙◌, if◌then◌else◌}
 use Rattle.exec_base.specs.Host.{changed_all, receive_refusal, received}
 use Rattle.chain_state.specs.PartOf.{part_of}
-use Rattle.chain_state.proofs.Queries.{none_if}
 use Rattle.chain_state.proofs.state.ChainState.receive_from.Goals as goal
+use Rattle.plain_lists.proofs.Lemmas.Facts.{none_if}
 
 pub returns-in-Some : goal.returns-in-Some
 returns-in-Some c =

@@ -6,9 +6,10 @@ use Rattle.exec_base.specs.Host.{asset_requested, request_key, unlock_program, r
 use Rattle.chain_state.specs.PartOf.{part_of}
 use Rattle.chain_state.proofs.Led.{taken_free, taken_spelled, taken_decodes, number_is}
 use Rattle.chain_state.proofs.Locked.{request_goes, told_goes, request_leaves, posted_at, fault_of}
-use Rattle.account_floors.specs.Laws.{reduced_frees, reduced_floors}
+use Rattle.law_hosts.proofs.Lemmas.{reduced_frees, reduced_floors}
 use Rattle.chain_state.proofs.Floored.{after_either}
-use Rattle.chain_state.specs.Facts.{keeps_floors, KeepsFloors}
+use Rattle.chain_state.specs.Facts.{KeepsLockFloors}
+use Rattle.chain_state.proofs.Lemmas.Facts.{keeps_floors}
 use Rattle.chain_state.specs.Known.{floors_there, pools_free}
 use Rattle.chain_state.proofs.state.ChainState.request_for.Goals as goal
 
@@ -42,7 +43,7 @@ returns c =
         request_goes p c.args.asset.now c.args.owner.now dest _ may ∙ told_goes p dest _ to bytes told,
         number_is p dest told.program to bytes c.post.result told.taken number,
         c.post.ensures.posted
-            ∙ (λ i. posted_at to bytes c.post.result (record p { locked = (c.in-Ok-reduce.ensures.reduced ∙ ap (λ n. Reduced (c.args.locker.now, c.in-Some.place.1, c.in-Some.place.0) n (part_of c.args.self.now).locked) c.amount.ensures) i; kept_back = c.reserve.ensures.items i }))
+            ∙ (λ i. posted_at to bytes c.post.result (record p { locked = (c.in-Ok-reduce.ensures.reduced ∙ ap (λ n. Reduced (c.args.locker.now, c.in-Some.place.1, c.in-Some.place.0) n (part_of c.args.self.now).locked) c.amount.ensures) i; pending_events = c.reserve.ensures.items i }))
             ∙ request_leaves p c.args.asset.now c.args.owner.now dest _ to bytes c.post.result may told number,
       );
     }
@@ -52,5 +53,5 @@ invariant_of-self-2-clause-floors c =
     let f = c.args.self.now in
     let key : NoteKey = (c.args.locker.now, c.in-Some.place.1, c.in-Some.place.0) in
     let n = c.amount.result in
-    after_either (λ (l : LocksAndNotes). KeepsFloors f.settings.pools l f.ledger.held) f.locked (Reduced key n f.locked) c.reduce.new.self c.reduce.result c.reduce.ensures.reduced c.reduce.ensures.kept
+    after_either (λ (l : LocksAndNotes). KeepsLockFloors f.settings.pools l f.ledger.held) f.locked (Reduced key n f.locked) c.reduce.new.self c.reduce.result c.reduce.ensures.reduced c.reduce.ensures.kept
     f.floors (keeps_floors _ _ _ (reduced_floors (Some key) n f.locked f.ledger.held (floors_there f)) (reduced_frees f.settings.pools key n f.locked (pools_free f)))

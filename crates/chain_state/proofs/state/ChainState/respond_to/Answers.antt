@@ -3,7 +3,7 @@ use Rattle.std.specs.Prelude.{Some, Option}
 use Rattle.std.specs.Option.{option_copied, option_map_or}
 use Rattle.locations.specs.declared.relative.Location.{Location}
 use Rattle.channel_parts.specs.declared.cargo.Cargo.{Cargo}
-use Rattle.exec_base.specs.Answers.{Answers}
+use Rattle.exec_base.specs.Answers.{AnswersOrRefuses}
 use Rattle.exec_base.specs.Sending.{IsForwardable, send_refusal, number_to, sent}
 use Rattle.exec_base.specs.Host.{querier_seen, report_program, report_refusal, respond_refusal, responded}
 use Rattle.chain_state.specs.PartOf.{part_of}
@@ -33,6 +33,6 @@ returns c =
     let after = ap (λ xcm. sent p dest xcm Cargo.Nothing) program
     ∙ sym (ap (λ o. option_map_or (λ (querier : Option Location). sent p dest (report_program info c.args.response querier) Cargo.Nothing) o p) seen) in
     record {
-      step = subst (λ x. Answers x (number_to p dest) (responded p info c.args.response (option_copied c.args.querier)) p c.send_to.result (part_of c.send_to.new.self)) refusal
-          (subst (λ x. Answers (send_refusal p dest true c.in_ok-program.program) (number_to p dest) x p c.send_to.result (part_of c.send_to.new.self)) after c.send_to.ensures.step);
+      step = subst (λ x. AnswersOrRefuses x (number_to p dest) (responded p info c.args.response (option_copied c.args.querier)) p c.send_to.result (part_of c.send_to.new.self)) refusal
+          (subst (λ x. AnswersOrRefuses (send_refusal p dest true c.in_ok-program.program) (number_to p dest) x p c.send_to.result (part_of c.send_to.new.self)) after c.send_to.ensures.step);
     }

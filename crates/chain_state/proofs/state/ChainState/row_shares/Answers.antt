@@ -7,8 +7,9 @@ use Rattle.asset_lists.specs.declared.units.Asset.{Asset}
 use Rattle.asset_lists.specs.Units.{unit_cmp}
 use Rattle.asset_bundles.specs.Bundles.{rows_of}
 use Rattle.ledgers.specs.Ledgers.{barred}
-use Rattle.fee_rows.specs.Fees.{Fee, kept_goods, some_row, some_rows}
-use Rattle.fee_rows.specs.Laws.{row_kept, rows_are}
+use Rattle.chain_state.specs.Fees.{Fee, kept_goods, some_row}
+use Rattle.chain_state.proofs.Lemmas.Fees.{some_rows}
+use Rattle.chain_state.proofs.Lemmas.{row_kept, rows_are}
 use Rattle.exec_base.specs.Host.{fees_within, fees_above}
 use Rattle.chain_state.specs.PartOf.{part_of}
 use Rattle.chain_state.specs.Settling.{some_coins}

@@ -3,7 +3,7 @@ use Rattle.std.specs.Prelude.{None}
 use Rattle.amounts.specs.Amounts.{amount}
 use Rattle.asset_bundles.specs.Bundles.{rows_of}
 use Rattle.ledgers.specs.Ledgers.{barred}
-use Rattle.fee_rows.specs.Fees.{some_rows}
+use Rattle.chain_state.proofs.Lemmas.Fees.{some_rows}
 use Rattle.exec_base.specs.Host.{fees_within, fees_above}
 use Rattle.chain_state.specs.PartOf.{part_of}
 use Rattle.chain_state.proofs.state.ChainState.row_shares.Given as goal

@@ -5,11 +5,11 @@ use Rattle.versioned_xcm.specs.Reading.{message_of}
 use Rattle.chain_queues.specs.Decoded.{program_read}
 use Rattle.chain_queues.specs.Queues.{channels_of, leads_to}
 use Rattle.trust_tables.specs.Trust.{listing}
-use Rattle.network_genesis.specs.Tests.{have_prices}
+use Rattle.network_steps.specs.Tests.{have_prices}
 use Rattle.chain_state.specs.ListedFees.{are_fees_listed}
 use Rattle.chain_state.proofs.Kept.{prices_kept, fees_kept}
 use Rattle.chain_state.proofs.Claiming.{claim_decodes, claim_spelled, claim_free}
-use Rattle.chain_state.specs.Facts.{are_payable}
+use Rattle.chain_state.proofs.Lemmas.Facts.{are_payable}
 use Rattle.chain_state.specs.Known.{prices_there, fees_there}
 use Rattle.chain_state.proofs.state.ChainState.send.Goals as goal
 

@@ -28,7 +28,7 @@ returns c =
         unrefused_by p dest program to bytes taken,
         number_is p dest program to bytes c.post.result taken c.post.ensures.number,
         c.post.ensures.posted
-            ∙ (λ i. record p { channels = pushed to (program_read (message_of bytes)) Cargo.Nothing p.channels; kept_back = c.reserve.ensures.items i ++ Event.Sent p.site.chain to c.post.result ∷ [] })
+            ∙ (λ i. record p { channels = pushed to (program_read (message_of bytes)) Cargo.Nothing p.channels; pending_events = c.reserve.ensures.items i ++ Event.Sent p.site.chain to c.post.result ∷ [] })
             ∙ sent_is p dest program to bytes Cargo.Nothing c.post.result taken c.post.ensures.number,
       );
     }

@@ -4,13 +4,13 @@ use Rattle.amounts.specs.Amounts.{rows, from_rows, merge, map_keys}
 use Rattle.asset_lists.specs.Units.{Unit}
 use Rattle.asset_lists.specs.Listed.{Listed, listed_of}
 use Rattle.asset_bundles.specs.declared.book.Cause.{Cause}
-use Rattle.asset_bundles.specs.Bundles.{Bundle, bundle_of, IsHolding, assets_at, held_assets}
+use Rattle.asset_bundles.specs.Bundles.{Bundle, bundle_of, IsHolding, assets_of_rows, held_assets}
 use Rattle.asset_bundles.specs.Books.{Book, Booked, AreListed, burned_for}
 use Rattle.trust_tables.specs.Trust.{listing}
 use Rattle.ledgers.specs.Ledgers.{Accounts, held_by, Deposited}
 use Rattle.weight_trader.specs.Refunds.{Closed}
 use Rattle.exec_base.specs.Host.{fees_within, fees_above, settled_burns, burned_line, burned_lines, settled}
-use Rattle.network_genesis.specs.Tests.{are_rates_listed}
+use Rattle.network_steps.specs.Tests.{are_rates_listed}
 use Rattle.chain_state.specs.Settling.{are_units_listed}
 use Rattle.chain_state.specs.PartOf.{part_of}
 use Rattle.chain_state.proofs.BurnedLines.{same_book}
@@ -18,7 +18,8 @@ use Rattle.chain_state.proofs.RateList.{closed_twice, closed_rates}
 use Rattle.chain_state.proofs.Widths.{rows_stay}
 use Rattle.chain_state.proofs.Settled.{within_rowed, above_rowed, rowed_listed, units_listed, rows_holding, rows_bundle, ledger_after}
 use Rattle.chain_state.proofs.Floored.{after_either, got_after}
-use Rattle.chain_state.specs.Facts.{keeps_floors, KeepsFloors}
+use Rattle.chain_state.specs.Facts.{KeepsLockFloors}
+use Rattle.chain_state.proofs.Lemmas.Facts.{keeps_floors}
 use Rattle.chain_state.specs.Known.{floors_there, pools_free}
 use Rattle.chain_state.proofs.state.ChainState.settle_fees.Goals as goal
 
@@ -50,7 +51,7 @@ invariant_of-self-in-Break-branch-5 c =
     record {
       ledger_lists = ledger_after f.settings.fee_account _ f.ledger c.deposit_into.new.ledger c.deposit_into.result c.deposit_into.ensures.deposited c.deposit_into.ensures.kept ∙ f.ledger_lists;
       book_lists = f.book_lists;
-      floors = after_either (λ (l : Accounts). KeepsFloors f.settings.pools f.locked l.held) f.ledger (Deposited f.settings.fee_account (bundle_of c.as_slice-2.result.now) f.ledger) c.deposit_into.new.ledger c.deposit_into.result c.deposit_into.ensures.deposited c.deposit_into.ensures.kept
+      floors = after_either (λ (l : Accounts). KeepsLockFloors f.settings.pools f.locked l.held) f.ledger (Deposited f.settings.fee_account (bundle_of c.as_slice-2.result.now) f.ledger) c.deposit_into.new.ledger c.deposit_into.result c.deposit_into.ensures.deposited c.deposit_into.ensures.kept
           f.floors (keeps_floors _ _ _ (got_after f.locked f.ledger f.settings.fee_account (bundle_of c.as_slice-2.result.now) (floors_there f)) (pools_free f));
       set_up = f.set_up;
       rates = f.rates;
@@ -80,7 +81,7 @@ invariant_of-self-2 c =
     record {
       ledger_lists = ledger_after f.settings.fee_account _ f.ledger c.deposit_into.new.ledger c.deposit_into.result c.deposit_into.ensures.deposited c.deposit_into.ensures.kept ∙ f.ledger_lists;
       book_lists = rows_stay f.book _ _ c.book_all.ensures ∙ f.book_lists;
-      floors = after_either (λ (l : Accounts). KeepsFloors f.settings.pools f.locked l.held) f.ledger (Deposited f.settings.fee_account (bundle_of c.as_slice-2.result.now) f.ledger) c.deposit_into.new.ledger c.deposit_into.result c.deposit_into.ensures.deposited c.deposit_into.ensures.kept
+      floors = after_either (λ (l : Accounts). KeepsLockFloors f.settings.pools f.locked l.held) f.ledger (Deposited f.settings.fee_account (bundle_of c.as_slice-2.result.now) f.ledger) c.deposit_into.new.ledger c.deposit_into.result c.deposit_into.ensures.deposited c.deposit_into.ensures.kept
           f.floors (keeps_floors _ _ _ (got_after f.locked f.ledger f.settings.fee_account (bundle_of c.as_slice-2.result.now) (floors_there f)) (pools_free f));
       set_up = f.set_up;
       rates = ap (are_rates_listed (listing f.settings.rows)) closed ∙ closed_rates (listing f.settings.rows) f.trader ∙ f.rates;
@@ -103,6 +104,6 @@ returns c =
     let booked = c.book_all.ensures ∙ ap (λ (us : List (Unit × ℕ)). Booked f.book (from_rows (rows_at (λ (unit : Unit). (listed_of unit, Cause.Saturated)) us))) (c.as_slice-3.ensures.value ∙ c.in_ok-coins.ensures.above)
     ∙ ap (λ (b : Book). Booked b (settled_burns p)) (same_book f.book (listing f.settings.rows) f.book_lists) in
     let burns = ap (λ (b : Book). b.burns) booked in
-    let lines = c.in_ok-lines.ensures ∙ ap (λ (us : List (Unit × ℕ)). map (burned_line p (λ unit. Cause.Saturated)) (assets_at us)) (c.as_slice.ensures.value ∙ c.in_ok-coins.ensures.above) in
+    let lines = c.in_ok-lines.ensures ∙ ap (λ (us : List (Unit × ℕ)). map (burned_line p (λ unit. Cause.Saturated)) (assets_of_rows us)) (c.as_slice.ensures.value ∙ c.in_ok-coins.ensures.above) in
     let told = c.in-Ok.ensures.items ∙ (λ i. c.reserve.ensures.items i ++ lines i) in
     record { step = (refl, λ i. record p { held = held i; lines = closed i; fees = c.clear.ensures.none i; burns = burns i; events = told i }) }

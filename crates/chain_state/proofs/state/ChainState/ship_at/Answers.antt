@@ -14,13 +14,13 @@ use Rattle.exec_base.specs.Part.{ChainPart}
 use Rattle.exec_base.specs.Sending.{or_else, away_program, listed_refusal, listed_program}
 use Rattle.exec_base.specs.Host.{first_fault, trust_fault, raise_fault, is_teleport, seen_from, raised_for, ship_refusal, shipped}
 use Rattle.chain_state.specs.PartOf.{part_of}
-use Rattle.chain_state.specs.Sends.{IsTaken}
+use Rattle.chain_state.specs.Sends.{IsAcceptedByChannel}
 use Rattle.chain_state.proofs.First.{both_none}
 use Rattle.chain_state.proofs.Led.{taken_free, taken_spelled, number_is, sent_is}
 use Rattle.chain_state.proofs.state.ChainState.ship_at.Goals as goal
 
 posted : Cargo → ChainId → List ℕ → ℕ → ChainPart → ChainPart
-posted cargo to bytes n q = record q { channels = pushed to (program_read (message_of bytes)) cargo q.channels; kept_back = q.kept_back ++ Event.Sent q.site.chain to n ∷ [] }
+posted cargo to bytes n q = record q { channels = pushed to (program_read (message_of bytes)) cargo q.channels; pending_events = q.pending_events ++ Event.Sent q.site.chain to n ∷ [] }
 
 pub raise_for-requires-clause-free : goal.raise_for-requires-clause-free
 unfolding ship_refusal
@@ -62,7 +62,7 @@ returns c =
     let program = listed_program (λ a. away_program way a c.args.xcm.now) (seen_from p dest (held_assets goods)) in
     let taken = c.in-Ok.ensures.ready.0 in
     let d = raised_for p way goods in
-    let there : IsTaken d dest program to bytes = record { channel = taken.channel; found = taken.found; accepted = taken.accepted } in
+    let there : IsAcceptedByChannel d dest program to bytes = record { channel = taken.channel; found = taken.found; accepted = taken.accepted } in
     let put = c.raise_for.ensures.step in
     let number : option_map (λ (o : Outgoing). o.next) (queues.channel_to to p.channels) ≡ Some c.post.result = sym (ap (λ (x : ChainPart). option_map (λ (o : Outgoing). o.next) (queues.channel_to to x.channels)) put) ∙ c.post.ensures.number in
     record {
@@ -70,7 +70,7 @@ returns c =
         c.in-Ok.ensures.ready.1,
         number_is p dest program to bytes c.post.result taken number,
         c.post.ensures.posted ∙ ap (posted (Cargo.Away c.ship.result) to bytes c.post.result) put
-            ∙ (λ i. posted (Cargo.Away (record { way = c.ship.ensures.way i; units = c.ship.ensures.units i })) to bytes c.post.result (raised_for (record p { kept_back = c.reserve.ensures.items i }) way goods))
+            ∙ (λ i. posted (Cargo.Away (record { way = c.ship.ensures.way i; units = c.ship.ensures.units i })) to bytes c.post.result (raised_for (record p { pending_events = c.reserve.ensures.items i }) way goods))
             ∙ sent_is d dest program to bytes (away way goods) c.post.result there number,
       );
     }

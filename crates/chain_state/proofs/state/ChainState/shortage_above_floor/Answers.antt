@@ -5,7 +5,7 @@ use Rattle.amounts.specs.Amounts.{amount}
 use Rattle.locations.specs.declared.relative.Location.{Location}
 use Rattle.asset_lists.specs.declared.units.AssetId.TheVariants.{Concrete}
 use Rattle.trust_tables.specs.declared.rows.AssetRow.{AssetRow}
-use Rattle.row_ledger.specs.Laws.{stands}
+use Rattle.row_ledger.proofs.Lemmas.{stands}
 use Rattle.chain_state.specs.PartOf.{part_of}
 use Rattle.chain_state.proofs.Floored.{may_give_is, shortage_is}
 use Rattle.chain_state.specs.Known.{apart_there}

@@ -1,10 +1,10 @@
 use Rattle.std.proofs.Common.{refl, ap, ◌∙◌}
 use Rattle.chain_queues.specs.Queues.{channels_of, leads_to, without_oldest}
 use Rattle.trust_tables.specs.Trust.{listing}
-use Rattle.network_genesis.specs.Tests.{have_prices}
+use Rattle.network_steps.specs.Tests.{have_prices}
 use Rattle.chain_state.specs.ListedFees.{are_fees_listed}
 use Rattle.chain_state.proofs.Kept.{prices_kept, fees_kept}
-use Rattle.chain_state.specs.Facts.{are_payable}
+use Rattle.chain_state.proofs.Lemmas.Facts.{are_payable}
 use Rattle.chain_state.specs.Known.{prices_there, fees_there}
 use Rattle.chain_state.proofs.state.ChainState.take.Goals as goal
 

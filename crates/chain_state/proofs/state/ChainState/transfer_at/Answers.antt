@@ -12,18 +12,18 @@ use Rattle.exec_base.specs.Part.{ChainPart}
 use Rattle.exec_base.specs.Sending.{deposit_program, listed_program}
 use Rattle.exec_base.specs.Host.{seen_from, transfer_refusal, transferred, transfer_out_refusal, transferred_out}
 use Rattle.chain_state.specs.PartOf.{part_of}
-use Rattle.chain_state.specs.Sends.{IsTaken}
+use Rattle.chain_state.specs.Sends.{IsAcceptedByChannel}
 use Rattle.chain_state.proofs.First.{both_none}
 use Rattle.chain_state.proofs.Led.{taken_free, taken_spelled, number_is, sent_is}
 use Rattle.chain_ids.specs.declared.chain.ChainId.{ChainId}
 use Rattle.chain_state.proofs.state.ChainState.transfer_at.Goals as goal
 
 posted : Cargo → ChainId → List ℕ → ℕ → ChainPart → ChainPart
-posted cargo to bytes n q = record q { channels = pushed to (program_read (message_of bytes)) cargo q.channels; kept_back = q.kept_back ++ Event.Sent q.site.chain to n ∷ [] }
+posted cargo to bytes n q = record q { channels = pushed to (program_read (message_of bytes)) cargo q.channels; pending_events = q.pending_events ++ Event.Sent q.site.chain to n ∷ [] }
 
-pub move_checked-requires : goal.move_checked-requires
+pub transfer_list_checked-requires : goal.transfer_list_checked-requires
 unfolding transfer_out_refusal transfer_refusal
-move_checked-requires c = record { free = (both_none _ _ c.in-Ok.ensures.ready.1).0 }
+transfer_list_checked-requires c = record { free = (both_none _ _ c.in-Ok.ensures.ready.1).0 }
 
 pub post-requires-clause-free : goal.post-requires-clause-free
 unfolding transferred
@@ -31,7 +31,7 @@ post-requires-clause-free c =
     let p = part_of c.args.self.now in
     let dest = c.args.dest.now in
     let program = listed_program (λ a. deposit_program a c.args.xcm.now) (seen_from p dest c.args.list.now) in
-    ap (λ (x : ChainPart). push_refusal (length c.in-Ok.ready.1.items) (queues.channel_to c.in-Ok.ready.0 x.channels)) c.in_ok-move_checked.ensures.step.1
+    ap (λ (x : ChainPart). push_refusal (length c.in-Ok.ready.1.items) (queues.channel_to c.in-Ok.ready.0 x.channels)) c.in_ok-transfer_list_checked.ensures.step.1
     ∙ taken_free p dest program c.in-Ok.ready.0 c.in-Ok.ready.1.items c.in-Ok.ensures.ready.0
 
 pub post-requires-clause-spelled : goal.post-requires-clause-spelled
@@ -40,7 +40,7 @@ post-requires-clause-spelled c =
     let p = part_of c.args.self.now in
     let dest = c.args.dest.now in
     let program = listed_program (λ a. deposit_program a c.args.xcm.now) (seen_from p dest c.args.list.now) in
-    ap (λ (x : ChainPart). is_spelled_for (queues.channel_to c.in-Ok.ready.0 x.channels) c.in-Ok.ready.1.items) c.in_ok-move_checked.ensures.step.1
+    ap (λ (x : ChainPart). is_spelled_for (queues.channel_to c.in-Ok.ready.0 x.channels) c.in-Ok.ready.1.items) c.in_ok-transfer_list_checked.ensures.step.1
     ∙ taken_spelled p dest program c.in-Ok.ready.0 c.in-Ok.ready.1.items c.in-Ok.ensures.ready.0
 
 pub returns : goal.returns
@@ -53,15 +53,15 @@ returns c =
     let program = listed_program (λ a. deposit_program a c.args.xcm.now) (seen_from p dest c.args.list.now) in
     let taken = c.in-Ok.ensures.ready.0 in
     let d = transferred p c.args.list.now c.args.from.now dest in
-    let there : IsTaken d dest program to bytes = record { channel = taken.channel; found = taken.found; accepted = taken.accepted } in
-    let put = c.in_ok-move_checked.ensures.step.1 in
+    let there : IsAcceptedByChannel d dest program to bytes = record { channel = taken.channel; found = taken.found; accepted = taken.accepted } in
+    let put = c.in_ok-transfer_list_checked.ensures.step.1 in
     let number : option_map (λ (o : Outgoing). o.next) (queues.channel_to to p.channels) ≡ Some c.post.result = sym (ap (λ (x : ChainPart). option_map (λ (o : Outgoing). o.next) (queues.channel_to to x.channels)) put) ∙ c.post.ensures.number in
     record {
       step = (
         c.in-Ok.ensures.ready.1,
         number_is p dest program to bytes c.post.result taken number,
         c.post.ensures.posted ∙ ap (posted (Cargo.Deposit c.in-Ok.ready.2) to bytes c.post.result) put
-            ∙ (λ i. posted (Cargo.Deposit (c.in-Ok.ensures.ready.2 i)) to bytes c.post.result (transferred (record p { kept_back = c.reserve.ensures.items i }) c.args.list.now c.args.from.now dest))
+            ∙ (λ i. posted (Cargo.Deposit (c.in-Ok.ensures.ready.2 i)) to bytes c.post.result (transferred (record p { pending_events = c.reserve.ensures.items i }) c.args.list.now c.args.from.now dest))
             ∙ sent_is d dest program to bytes (Cargo.Deposit c.args.list.now) c.post.result there number,
       );
     }

@@ -1,7 +1,7 @@
 use Rattle.std.proofs.Common.{◌≡◌, true, ap, sym, ◌∙◌, subst}
 use Rattle.std.specs.Prelude.{None}
 use Rattle.asset_lists.specs.Lists.{is_rising}
-use Rattle.asset_lists.specs.Laws.{once_each}
+use Rattle.asset_lists.proofs.Lemmas.{once_each}
 use Rattle.asset_bundles.specs.Bundles.{bundle_of}
 use Rattle.ledgers.specs.Ledgers.{shortage, Withdrawn}
 use Rattle.ledgers.specs.RowState.{rows_held, accounts_in}

@@ -6,10 +6,10 @@ use Rattle.ledgers.specs.RowState.{rows_held}
 use Rattle.ledgers.specs.Ledgers.{account_goods}
 use Rattle.ledgers.specs.AccountGoods.{IsUnsortedListOf, is_amount, fungible_held_at}
 use Rattle.amounts.specs.Amounts.{restriction}
-use Rattle.ledgers.proofs.Numbers.{none_if}
 use Rattle.ledgers.proofs.AccountGoods.{fungibles_from, fungibles_next, listed_more, listed_none, all_listed, none_from, fungibles_listed}
 use Rattle.ledgers.proofs.rows.Rows.fungibles.Goals as goal
 use Rattle.ledgers.proofs.rows.Rows.fungibles.Goals.{in-Some+in_ok-push, in_default}
+use Rattle.plain_lists.proofs.Lemmas.Facts.{none_if}
 
 pub loop-number-preserved : goal.loop-number-preserved
 loop-number-preserved c =

@@ -5,9 +5,9 @@ use Rattle.std.proofs.Common.{ℕ, List, ◌++◌, sym, ap, ◌∙◌, subst}
 use Rattle.std.specs.Prelude.{Option, slice_get, not}
 use Rattle.ledgers.specs.LedgerRows.{OwnerKey, owned}
 use Rattle.ledgers.specs.AccountGoods.{IsUnsortedListOf, is_amount, instance_held_at}
-use Rattle.ledgers.proofs.Numbers.{none_if}
 use Rattle.ledgers.proofs.AccountGoods.{instances_from, instances_next, listed_more, listed_none, instances_listed, no_instances, all_listed}
 use Rattle.ledgers.proofs.rows.Rows.instances.Goals as goal
+use Rattle.plain_lists.proofs.Lemmas.Facts.{none_if}
 
 pub loop-key-preserved-in-Continue-1 : goal.loop-key-preserved-in-Continue-1
 loop-key-preserved-in-Continue-1 c =

@@ -1,6 +1,6 @@
 use Rattle.std.proofs.Common.{◌≡◌, ◌∙◌, ◌<◌, ap, arith, length, Ok}
 use Rattle.std.proofs.lemmas.Bool.Decides.{nat_tests}
-use Rattle.input_lines.specs.Laws.{only_line}
+use Rattle.input_lines.proofs.Lemmas.{only_line}
 use Rattle.line_serving.proofs.Flowing.{ends_empty, ends_behind, ends_in, ends_err}
 use Rattle.line_serving.proofs.feeder.Feeder.finish.Goals as goal
 

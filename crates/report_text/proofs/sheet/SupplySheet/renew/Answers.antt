@@ -1,6 +1,6 @@
 use Rattle.std.proofs.Common.{◌∙◌, Bool, List, length, map, sym, ap, subst}
 use Rattle.chain_state.specs.PartOf.{part_of}
-use Rattle.supply_audit.specs.Places.{table_of}
+use Rattle.supply_audit.specs.Places.{chain_table}
 use Rattle.supply_audit.specs.Stale.{Agree}
 use Rattle.report_text.specs.Plan.{plan_of}
 use Rattle.report_text.specs.Sheets.{IsSheetOf, renewed_supply, renewed_backing}
@@ -11,7 +11,7 @@ use Rattle.report_text.proofs.sheet.SupplySheet.renew.Goals as goal
 pub returns : goal.returns
 returns c =
     let parts = map part_of c.args.chains.now in
-    let plan = plan_of (map table_of parts) in
+    let plan = plan_of (map chain_table parts) in
     let stale = c.as_slice-stale.result.now in
     let old = subst (IsSheetOf parts) (sym c.self.view_is) c.requires in
     let agree : Agree stale old.0 parts = subst (λ (flags : List Bool). Agree flags old.0 parts) (sym c.as_slice-stale.ensures.value) old.2 in

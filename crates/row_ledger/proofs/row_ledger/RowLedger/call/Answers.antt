@@ -1,4 +1,4 @@
-use Rattle.row_ledger.specs.Laws.{held_after, held_in_part}
+use Rattle.row_ledger.proofs.Lemmas.{held_after, held_in_part}
 use Rattle.row_ledger.proofs.row_ledger.RowLedger.call.Goals as goal
 
 pub returns-clause-held : goal.returns-clause-held

@@ -1,5 +1,5 @@
 use Rattle.std.proofs.Common.{map, take}
-use Rattle.coherence.specs.UniversalAssets.{UniversalAsset}
+use Rattle.law_coherence.specs.UniversalAssets.{UniversalAsset}
 use Rattle.chain_state.specs.PartOf.{part_of}
 use Rattle.supply_audit.specs.Supply.{at_homes}
 use Rattle.supply_audit.specs.Supplies.{HasSums, supply_in}

@@ -1,7 +1,8 @@
 use Rattle.std.proofs.Common.{sym, ◌∙◌}
-use Rattle.call_dispatch.specs.Laws.ShiftLaws.{accepted, enough_held}
+use Rattle.call_dispatch.proofs.Lemmas.ShiftLaws.{accepted, enough_held}
 use Rattle.test_codec.specs.Books.{amounts_in, one_floor}
-use Rattle.test_codec.specs.Laws.{floors_low, floor_kept_after}
+use Rattle.test_codec.specs.Laws.{floors_low}
+use Rattle.test_codec.proofs.Lemmas.{floor_kept_after}
 use Rattle.test_codec.proofs.book_moves.BookMover.shift.Goals as goal
 
 pub move_amount-requires-clause-enough : goal.move_amount-requires-clause-enough

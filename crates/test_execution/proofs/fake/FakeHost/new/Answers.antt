@@ -1,4 +1,4 @@
-use Rattle.chain_state.specs.Known.{all_there}
+use Rattle.chain_state.proofs.Lemmas.Known.{all_there}
 use Rattle.test_execution.proofs.fake.FakeHost.new.Goals as goal
 
 pub invariant_of-chain : goal.invariant_of-chain

@@ -2,7 +2,7 @@ use Rattle.std.proofs.Common.{ℕ, List, sym, ap, ◌∙◌}
 use Rattle.std.specs.Prelude.{is_some}
 use Rattle.trust_tables.specs.Trust.{row_of}
 use Rattle.trust_tables.specs.Accounts.{account_of}
-use Rattle.transactors.specs.Checks.{accepted, is_unhandled, move_fault, lacks, check_out}
+use Rattle.transactors.specs.Checks.{accepted, is_unhandled, move_fault, is_short_of, check_out}
 use Rattle.transactors.proofs.Rows.{row_of_both}
 use Rattle.transactors.proofs.Moving.{later, sooner}
 use Rattle.transactors.proofs.transactors.FirstThatTransactor.check_out.Goals as goal
@@ -13,7 +13,7 @@ returns-then-is_unhandled g c =
     let first = g.A.Transactor.rows c.args.self.now.first in
     let second = g.B.Transactor.rows c.args.self.now.second in
     let account = account_of c.args.who.now (g.A.Transactor.site c.args.self.now.first) in
-    let refused = λ (who : List ℕ). lacks (g.A.Transactor.floors c.args.self.now.first) c.args.ledger.now.held who a in
+    let refused = λ (who : List ℕ). is_short_of (g.A.Transactor.floors c.args.self.now.first) c.args.ledger.now.held who a in
     let unhandled = sym (c.is_unhandled.ensures ∙ ap is_unhandled c.check_out-answer.ensures.checked) ∙ c.if-is_unhandled.true in
     record {
       checked = c.check_out.ensures.checked
@@ -28,7 +28,7 @@ returns g c =
     let first = g.A.Transactor.rows c.args.self.now.first in
     let second = g.B.Transactor.rows c.args.self.now.second in
     let account = account_of c.args.who.now (g.A.Transactor.site c.args.self.now.first) in
-    let refused = λ (who : List ℕ). lacks (g.A.Transactor.floors c.args.self.now.first) c.args.ledger.now.held who a in
+    let refused = λ (who : List ℕ). is_short_of (g.A.Transactor.floors c.args.self.now.first) c.args.ledger.now.held who a in
     let handled = sym (c.is_unhandled.ensures ∙ ap is_unhandled c.check_out-answer.ensures.checked) ∙ c.if-is_unhandled.false in
     record {
       checked = c.check_out-answer.ensures.checked

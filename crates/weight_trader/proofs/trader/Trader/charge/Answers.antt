@@ -3,7 +3,7 @@ use Rattle.std.specs.List.{position}
 use Rattle.asset_lists.specs.declared.units.AssetId.TheVariants.{Concrete}
 use Rattle.weight_trader.specs.declared.rate.Rate.{Rate}
 use Rattle.weight_trader.specs.Purchases.{Line, is_covered}
-use Rattle.weight_trader.specs.ListedLaws.{rate_kept}
+use Rattle.weight_trader.proofs.Lemmas.ListedLaws.{rate_kept}
 use Rattle.weight_trader.proofs.Apart.{apart_set}
 use Rattle.weight_trader.proofs.Charging.{too_expensive, price_covered, paying_at, bought_at}
 use Rattle.weight_trader.proofs.trader.Trader.charge.Goals as goal

@@ -3,7 +3,7 @@ use Rattle.std.specs.List.{position}
 use Rattle.weight_trader.specs.Purchases.{Line}
 use Rattle.weight_trader.specs.Refunds.{is_refunded, goods_of}
 use Rattle.weight_trader.proofs.Apart.{apart_set}
-use Rattle.plain_lists.specs.Firsts.{passes_at}
+use Rattle.plain_lists.proofs.Lemmas.Firsts.{passes_at}
 use Rattle.weight_trader.proofs.Charging.{refund_nowhere, refunded_nowhere, refund_from, refunded_at}
 use Rattle.weight_trader.proofs.trader.Trader.refund.Goals as goal
 

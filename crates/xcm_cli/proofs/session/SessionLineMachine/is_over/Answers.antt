@@ -3,7 +3,8 @@ use Rattle.std.proofs.lemmas.Bool.{ltb-false}
 use Rattle.std.specs.Prelude.{nat_eq, codes}
 use Rattle.std.specs.List.{starts_with}
 use Rattle.xcm_cli.specs.Session.{reply_at}
-use Rattle.xcm_cli.specs.Laws.{at_steps, steps_size, part_size}
+use Rattle.xcm_cli.specs.Laws.{at_steps}
+use Rattle.xcm_cli.proofs.Lemmas.{steps_size, part_size}
 use Rattle.xcm_cli.proofs.Advance.{long_step, room_steps, room_network}
 use Rattle.xcm_cli.proofs.Marks.{over_network}
 use Rattle.xcm_cli.proofs.session.SessionLineMachine.is_over.Goals as goal

@@ -2,9 +2,9 @@ use Rattle.std.proofs.Common.{◌≡◌, ◌∙◌, ◌+◌, sym, ap, refl, arit
 use Rattle.input_lines.specs.Lines.{ends_network}
 use Rattle.network_config.specs.Network.{network_of}
 use Rattle.xcm_cli.specs.Report.{network_reply}
-use Rattle.input_lines.specs.Laws.{mark_short}
+use Rattle.input_lines.proofs.Lemmas.{mark_short}
 use Rattle.xcm_cli.specs.declared.phase.Opened.TheVariants.{Runs, Over}
-use Rattle.line_serving.specs.Laws.{stays, stops, advances_as}
+use Rattle.line_serving.proofs.Lemmas.{stays, stops, advances_as}
 use Rattle.xcm_cli.specs.Laws.{at_steps}
 use Rattle.xcm_cli.proofs.Advance.{line_kept, line_over, line_ends, part_within, ready_steps, opens_runs, opens_over}
 use Rattle.xcm_cli.proofs.session.SessionLineMachine.take_line.Goals as goal

@@ -1,4 +1,4 @@
-use Rattle.line_serving.specs.Laws.{finishes_done}
+use Rattle.line_serving.proofs.Lemmas.{finishes_done}
 use Rattle.xcm_explain.specs.Laws.{nothing_explained}
 use Rattle.xcm_explain.proofs.explainer.ExplainerLineMachine.finish.Goals as goal
 

@@ -1,7 +1,7 @@
 use Rattle.std.proofs.Common.{◌≡◌, ◌∙◌, ◌+◌, sym, ap, true, false, []}
 use Rattle.input_lines.specs.Lines.{text_of}
 use Rattle.line_serving.specs.Replies.{fits_limits}
-use Rattle.line_serving.specs.Laws.{stays, stops, refuses, writes_on, writes_end}
+use Rattle.line_serving.proofs.Lemmas.{stays, stops, refuses, writes_on, writes_end}
 use Rattle.xcm_explain.specs.Lines.{hex_line}
 use Rattle.xcm_explain.specs.Blocks.{message_block}
 use Rattle.xcm_explain.specs.declared.line.HexLine.TheVariants.{Blank, Bytes, NotHex}

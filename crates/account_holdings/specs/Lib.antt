@@ -1,4 +1,0 @@
-pub mod Holdings
-pub mod Shown
-pub mod RowLaws
-pub mod Laws

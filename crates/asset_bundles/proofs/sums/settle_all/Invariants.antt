@@ -1,0 +1,7 @@
+use Rattle.std.proofs.Common.{◌≡◌}
+use Rattle.asset_bundles.specs.Sums.{settled_sum_row}
+use Rattle.asset_bundles.proofs.Mapped.{front_mapped}
+use Rattle.asset_bundles.proofs.sums.settle_all.Given as goal
+
+abbrev pub invariant-loop-row : goal.invariant-loop-row
+invariant-loop-row l = l.rows ≡ front_mapped (settled_sum_row l.goods l.traps) l.row-index l.fn.rows

@@ -1,0 +1,97 @@
+//! Digests of an origin and a list of assets, by which traps are found. Two may have one digest, so what is found is compared.
+ghost use Rattle.std.specs.Prelude.{◌≡◌, fold};
+ghost use Rattle.std.specs.List.{flat_map};
+ghost use Rattle.asset_bundles.specs.Digest.{digest, place_writes, junction_writes, asset_writes, id_writes, fun_writes, instance_writes};
+
+use asset_lists::{Asset, AssetId, Fun, Instance};
+use locations::{Junction, Location};
+use std::hash::{DefaultHasher, Hasher};
+
+/// The digest of an origin and a list. It takes no memory.
+pub(crate) fn digest(origin: &Location, list: &[Asset]) -> u64
+    ensures { result ≡ digest origin.now list.now }
+{
+    let mut state = DefaultHasher::new();
+    write_place(origin, &mut state);
+    write_assets(list, &mut state);
+    state.finish()
+}
+
+/// How high the place lies, and what its junctions say.
+fn write_place<H: Hasher>(place: &Location, state: &mut H)
+    ensures { state.new ≡ fold H.write state.old (place_writes place.now) }
+{
+    state.write_u8(place.parents);
+    for junction in place.interior.items() {
+        write_junction(junction, state);
+    }
+}
+
+/// The number or the bytes of a junction.
+fn write_junction<H: Hasher>(junction: &Junction, state: &mut H)
+    ensures { state.new ≡ fold H.write state.old (junction_writes junction.now) }
+{
+    match junction {
+        Junction::Parachain(para) => state.write_u32(*para),
+        Junction::AccountId32 { network: _, id } => state.write(id),
+        Junction::AccountIndex64 { network: _, index } => state.write_u64(*index),
+        Junction::AccountKey20 { network: _, key } => state.write(key),
+        Junction::PalletInstance(index) => state.write_u8(*index),
+        Junction::GeneralIndex(index) => state.write_u128(*index),
+        Junction::GeneralKey { length: _, key } => state.write(key),
+        Junction::OnlyChild => {}
+        Junction::Plurality { id: _, part: _ } => {}
+        Junction::GlobalConsensus(_) => {}
+    }
+}
+
+/// Each asset.
+fn write_assets<H: Hasher>(list: &[Asset], state: &mut H)
+    ensures { state.new ≡ fold H.write state.old (flat_map asset_writes list.now) }
+{
+    for asset in list {
+        write_asset(asset, state);
+    }
+}
+
+/// What it is, and how much or which instance.
+fn write_asset<H: Hasher>(asset: &Asset, state: &mut H)
+    ensures { state.new ≡ fold H.write state.old (asset_writes asset.now) }
+{
+    write_id(&asset.id, state);
+    write_fun(&asset.fun, state);
+}
+
+/// The place or the bytes of an id.
+fn write_id<H: Hasher>(id: &AssetId, state: &mut H)
+    ensures { state.new ≡ fold H.write state.old (id_writes id.now) }
+{
+    match id {
+        AssetId::Concrete(place) => write_place(place, state),
+        AssetId::Abstract(bytes) => state.write(bytes),
+    }
+}
+
+/// The amount or the instance.
+fn write_fun<H: Hasher>(fun: &Fun, state: &mut H)
+    ensures { state.new ≡ fold H.write state.old (fun_writes fun.now) }
+{
+    match fun {
+        Fun::Fungible(amount) => state.write_u128(*amount),
+        Fun::NonFungible(instance) => write_instance(instance, state),
+    }
+}
+
+/// The number or the bytes of an instance.
+fn write_instance<H: Hasher>(instance: &Instance, state: &mut H)
+    ensures { state.new ≡ fold H.write state.old (instance_writes instance.now) }
+{
+    match instance {
+        Instance::Undefined => {}
+        Instance::Index(index) => state.write_u128(*index),
+        Instance::Array4(bytes) => state.write(bytes),
+        Instance::Array8(bytes) => state.write(bytes),
+        Instance::Array16(bytes) => state.write(bytes),
+        Instance::Array32(bytes) => state.write(bytes),
+    }
+}

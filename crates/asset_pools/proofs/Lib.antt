@@ -1,0 +1,4 @@
+pub mod Lemmas
+pub mod Firsts
+pub mod Paying
+pub mod Goods

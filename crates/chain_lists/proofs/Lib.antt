@@ -1,5 +1,0 @@
-pub mod Queries
-pub mod Rows
-pub mod NamedLists
-pub mod Listings
-pub mod CheckingRows

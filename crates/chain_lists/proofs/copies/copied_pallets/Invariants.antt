@@ -1,5 +1,0 @@
-use Rattle.std.proofs.Common.{◌≡◌, take}
-use Rattle.chain_lists.proofs.copies.copied_pallets.Given as goal
-
-abbrev pub invariant-loop-pallet : goal.invariant-loop-pallet
-invariant-loop-pallet l = l.copy.items ≡ take l.pallet-index l.pallets

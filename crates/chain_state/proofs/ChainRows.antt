@@ -1,0 +1,25 @@
+-- Rows that are found.
+use Rattle.std.proofs.Common.{◌≡◌, ℕ, List, [], refl, sym, ap, ◌∙◌}
+use Rattle.std.specs.Prelude.{Option, None, Some, is_some, slice_get, position, option_and_then}
+use Rattle.std.proofs.lemmas.List.Quantifiers.{position-Some}
+use Rattle.std.proofs.lemmas.Option.{slice_get-get_or}
+use Rattle.asset_lists.specs.declared.units.Asset.{Asset}
+use Rattle.asset_lists.specs.declared.units.Kind.{Kind}
+use Rattle.chain_ids.specs.declared.chain.ChainId.{ChainId}
+use Rattle.trust_tables.specs.declared.rows.AssetRow.{AssetRow}
+use Rattle.trust_tables.specs.declared.rows.AssetRole.{AssetRole}
+use Rattle.trust_tables.specs.Trust.{row_of, is_row_of}
+use Rattle.trust_tables.proofs.Lemmas.TrustLaws.{row_at-position}
+
+pub some_row : AssetRow
+some_row = record { id = record { parents = 0; interior = [] }; kind = Kind.Fungible; role = AssetRole.Derivative ChainId.Relay }
+
+found : (rows : List AssetRow) (a : Asset) (o : Option ℕ) → position (is_row_of a) rows ≡ o → is_some (option_and_then (slice_get rows) o) ≡ is_some o
+found rows a None e = refl
+found rows a (Some n) e =
+    let at = position-Some (is_row_of a) rows n some_row e in
+    ap is_some (slice_get-get_or rows n some_row at.0)
+
+-- a place is found exactly where a row is
+pub found_row : (rows : List AssetRow) (a : Asset) → is_some (position (is_row_of a) rows) ≡ is_some (row_of rows a)
+found_row rows a = sym (found rows a (position (is_row_of a) rows) refl) ∙ ap is_some (row_at-position rows a)

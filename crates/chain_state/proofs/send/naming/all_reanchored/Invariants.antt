@@ -1,0 +1,7 @@
+use Rattle.std.proofs.Common.{◌≡◌, drop}
+use Rattle.asset_lists.specs.Moves.{all_reanchored}
+use Rattle.chain_state.proofs.NamedLists.{behind}
+use Rattle.chain_state.proofs.send.naming.all_reanchored.Given as goal
+
+abbrev pub invariant-loop-asset : goal.invariant-loop-asset
+invariant-loop-asset l = all_reanchored l.target l.context l.list ≡ behind l.all.items (all_reanchored l.target l.context (drop l.asset-index l.list))

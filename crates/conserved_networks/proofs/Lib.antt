@@ -1,3 +1,0 @@
-mod Balances
-mod Firsts
-mod Networks

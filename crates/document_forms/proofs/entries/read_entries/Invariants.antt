@@ -1,9 +1,0 @@
-use Rattle.std.proofs.Common.{◌≡◌, drop}
-use Rattle.serde_json.specs.View.{items_view}
-use Rattle.document_forms.specs.Forms.{entries}
-use Rattle.document_forms.proofs.Lists.{behind}
-use Rattle.document_forms.proofs.entries.read_entries.Given as goal
-
-abbrev pub invariant-loop-value : goal.invariant-loop-value
-invariant-loop-value g l =
-    entries (g.E.Entry.form l.fn.entry) 0 (items_view l.items) ≡ behind l.list.items (entries (g.E.Entry.form l.fn.entry) l.index (items_view (drop l.value-index l.items)))

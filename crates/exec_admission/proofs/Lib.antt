@@ -1,4 +1,0 @@
-mod Weighed
-mod Ending
-mod Ready
-mod Resting

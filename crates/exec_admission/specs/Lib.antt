@@ -1,4 +1,0 @@
-pub mod Admission
-pub mod Execution
-pub mod Kept
-pub mod KeptLaws

@@ -1,3 +1,0 @@
-mod Steering
-mod Steady
-mod Sound

@@ -1,9 +1,0 @@
-use Rattle.exec_rules.specs.Instructions.{xcm}
-use Rattle.exec_calls.proofs.Steering.{xcm_steers}
-use Rattle.exec_calls.proofs.laws.law_of_rules.Goals as goal
-
-pub returns-clause-steers : goal.returns-clause-steers
-returns-clause-steers c = xcm_steers
-
-pub returns-clause-refused : goal.returns-clause-refused
-returns-clause-refused c = λ part place x behind m e. c.law_of_runs.ensures.refused xcm part place x behind m e

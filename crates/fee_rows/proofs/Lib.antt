@@ -1,3 +1,0 @@
-mod Mapped
-mod Opening
-mod Reading

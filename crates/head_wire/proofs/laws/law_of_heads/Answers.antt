@@ -1,9 +1,0 @@
-use Rattle.head_wire.specs.Laws.HeadLaws.{head_takes, head_again, head_empty}
-use Rattle.head_wire.proofs.laws.law_of_heads.Goals as goal
-
-pub returns : goal.returns
-returns c = record {
-  takes = head_takes;
-  again = head_again;
-  empty = head_empty;
-}

@@ -1,9 +1,0 @@
-use Rattle.std.proofs.Common.{rules}
-use Rattle.head_wire.specs.Laws.HeadLaws.{is_head_read, is_empty_read}
-use Rattle.head_wire.proofs.reading.read_head.Goals as goal
-
-pub returns-clause-spelling : goal.returns-clause-spelling
-returns-clause-spelling c = is_head_read c.args.v c.settle.result _ _ (search rules) (search rules)
-
-pub returns-clause-empty : goal.returns-clause-empty
-returns-clause-empty c = is_empty_read c.args.v c.settle.result c.args.c.now c.settle.new.self (search rules)

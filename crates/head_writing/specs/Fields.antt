@@ -1,8 +1,0 @@
--- What stands behind the index of an instruction, up to the program inside.
-use Rattle.std.specs.Prelude.{ℕ, List, drop}
-use Rattle.message_parts.specs.declared.version.Version.{Version}
-use Rattle.xcm_program.specs.declared.instruction.Instruction.TheOpen.{Instruction-F}
-use Rattle.xcm_format.specs.Programs.{head}
-
-abbrev pub fields : {X : Type 0} → Version → Instruction-F X → List ℕ
-fields v l = drop 1 (head v l)

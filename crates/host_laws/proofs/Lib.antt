@@ -1,9 +1,0 @@
-mod Booking
-mod Moving
-mod Claiming
-mod Dispatching
-mod Exchanging
-mod Sending
-mod Trading
-mod Accepting
-mod Accepted

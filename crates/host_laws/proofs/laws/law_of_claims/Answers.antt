@@ -1,8 +1,0 @@
-use Rattle.host_laws.proofs.Claiming.{conserves_trap, conserves_claim}
-use Rattle.host_laws.proofs.laws.law_of_claims.Goals as goal
-
-pub returns-clause-trapped : goal.returns-clause-trapped
-returns-clause-trapped c = conserves_trap c.law_of_traps.ensures.kept
-
-pub returns-clause-claimed : goal.returns-clause-claimed
-returns-clause-claimed c = conserves_claim

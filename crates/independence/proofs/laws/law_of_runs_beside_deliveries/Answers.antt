@@ -1,5 +1,0 @@
-use Rattle.independence.proofs.Runs.{ran_beside, oldest_stays}
-use Rattle.independence.proofs.laws.law_of_runs_beside_deliveries.Goals as goal
-
-pub returns : goal.returns
-returns c = record { ran = ran_beside; oldest = oldest_stays }

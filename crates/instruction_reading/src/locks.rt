@@ -1,0 +1,78 @@
+//! Instructions about locks. Each puts the fields behind the number, in their order, into the place for the instruction.
+
+ghost use Rattle.std.specs.Prelude.{◌≡◌};
+ghost use Rattle.scale_codec.specs.Reading.{made2};
+ghost use Rattle.location_wire.specs.Reading.{location_at};
+ghost use Rattle.asset_wire.specs.Reading.{asset_at};
+ghost use Rattle.xcm_program.specs.declared.instruction.Instruction.TheOpen.{Instruction-F};
+ghost use Rattle.instruction_reading.specs.Answers.{FilledHead};
+
+use crate::inside::{empty_place, put};
+use asset_wire::{Version, WireFault, take_asset};
+use location_wire::fill_location;
+use scale_codec::Cursor;
+use xcm_program::Instruction;
+
+/// The asset, and who may unlock it.
+pub(crate) fn fill_lock_asset(
+    c: &mut Cursor<'_>,
+    v: Version,
+    slot: &mut Instruction,
+) -> Result<(), WireFault>
+    ensures { FilledHead result (made2 (asset_at v) location_at Instruction-F.LockAsset c.old)
+        slot.new c.new }
+{
+    let asset = take_asset(c, v)?;
+    let mut unlocker = empty_place();
+    fill_location(c, &mut unlocker)?;
+    put(slot, Instruction::LockAsset { asset, unlocker });
+    Ok(())
+}
+
+/// The asset, and whose it is.
+pub(crate) fn fill_unlock_asset(
+    c: &mut Cursor<'_>,
+    v: Version,
+    slot: &mut Instruction,
+) -> Result<(), WireFault>
+    ensures { FilledHead result (made2 (asset_at v) location_at Instruction-F.UnlockAsset c.old)
+        slot.new c.new }
+{
+    let asset = take_asset(c, v)?;
+    let mut target = empty_place();
+    fill_location(c, &mut target)?;
+    put(slot, Instruction::UnlockAsset { asset, target });
+    Ok(())
+}
+
+/// The asset, and whose it is.
+pub(crate) fn fill_note_unlockable(
+    c: &mut Cursor<'_>,
+    v: Version,
+    slot: &mut Instruction,
+) -> Result<(), WireFault>
+    ensures { FilledHead result (made2 (asset_at v) location_at Instruction-F.NoteUnlockable c.old)
+        slot.new c.new }
+{
+    let asset = take_asset(c, v)?;
+    let mut owner = empty_place();
+    fill_location(c, &mut owner)?;
+    put(slot, Instruction::NoteUnlockable { asset, owner });
+    Ok(())
+}
+
+/// The asset, and where it is locked.
+pub(crate) fn fill_request_unlock(
+    c: &mut Cursor<'_>,
+    v: Version,
+    slot: &mut Instruction,
+) -> Result<(), WireFault>
+    ensures { FilledHead result (made2 (asset_at v) location_at Instruction-F.RequestUnlock c.old)
+        slot.new c.new }
+{
+    let asset = take_asset(c, v)?;
+    let mut locker = empty_place();
+    fill_location(c, &mut locker)?;
+    put(slot, Instruction::RequestUnlock { asset, locker });
+    Ok(())
+}

@@ -1,0 +1,17 @@
+pub mod Lemmas
+pub mod Lowering
+pub mod Spending
+pub mod Acts
+pub mod Runs
+pub mod Messages
+pub mod Steps
+pub mod Sovereigns
+pub mod Products
+pub mod Passing
+pub mod ProductWorlds
+pub mod SpentWorlds
+pub mod Locking
+pub mod LockActs
+pub mod LockRuns
+pub mod Worlds
+pub mod Closed

@@ -1,0 +1,24 @@
+-- Lemmas: what proofs cite.
+pub mod Accounts
+pub mod Authority
+pub mod Bounds
+pub mod Cargoes
+pub mod CauseLaws
+pub mod Channels
+pub mod Checking
+pub mod CheckingLaws
+pub mod Examples
+pub mod Genesis
+pub mod Headline
+pub mod Histories
+pub mod InstancesOnce
+pub mod Landings
+pub mod Moves
+pub mod Payments
+pub mod Receiving
+pub mod Renaming
+pub mod Sendings
+pub mod Steps
+pub mod Trusting
+pub mod Twins
+pub mod Withdrawals

@@ -1,0 +1,15 @@
+pub mod UniversalAssets
+pub mod Renaming
+pub mod Networks
+pub mod Trusting
+pub mod Causes
+pub mod Parts
+pub mod Checking
+pub mod Steps
+pub mod Channels
+pub mod Moves
+pub mod Cargoes
+pub mod Payments
+pub mod Genesis
+pub mod Histories
+pub mod Headline

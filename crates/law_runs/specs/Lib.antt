@@ -1,0 +1,6 @@
+pub mod Views
+pub mod Sums
+pub mod Calls
+pub mod Safety
+pub mod Accepted
+pub mod Runs

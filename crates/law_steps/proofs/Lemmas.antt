@@ -1,0 +1,20 @@
+-- Lemmas: what proofs cite.
+pub mod Admitting
+pub mod Asides
+pub mod Bounds
+pub mod Deliveries
+pub mod DrainedLaws
+pub mod Fates
+pub mod Firsts
+pub mod Insides
+pub mod Landing
+pub mod Locals
+pub mod Reading
+pub mod Receptions
+pub mod Rising
+pub mod Rooms
+pub mod Senders
+pub mod StepLaws
+pub mod Stepping
+pub mod Stops
+pub mod Worlds

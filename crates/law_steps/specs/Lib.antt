@@ -1,0 +1,13 @@
+pub mod Shapes
+pub mod Calm
+pub mod Lost
+pub mod Views
+pub mod Rooms
+pub mod Soundness
+pub mod Bounds
+pub mod Fates
+pub mod Reading
+pub mod Worlds
+pub mod Stepping
+pub mod Kept
+pub mod Drained

@@ -1,0 +1,2 @@
+-- Lemmas: what proofs cite.
+pub mod FieldLaws

@@ -1,5 +1,0 @@
-pub mod Locking
-pub mod Acts
-pub mod Runs
-pub mod Worlds
-pub mod Closed

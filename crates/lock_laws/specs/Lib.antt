@@ -1,4 +1,0 @@
-pub mod Floors
-pub mod ListLaws
-pub mod WaitingLaws
-pub mod StepLaws

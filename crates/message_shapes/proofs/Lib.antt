@@ -1,9 +1,0 @@
-pub mod Channels
-pub mod Runs
-pub mod Worlds
-pub mod Admitting
-pub mod Matching
-pub mod Calm
-pub mod Sends
-pub mod Drains
-pub mod Lost

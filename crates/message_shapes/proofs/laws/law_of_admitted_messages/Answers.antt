@@ -1,5 +1,0 @@
-use Rattle.message_shapes.proofs.Admitting.{admitted_shape}
-use Rattle.message_shapes.proofs.laws.law_of_admitted_messages.Goals as goal
-
-pub returns : goal.returns
-returns c = λ here there program cargo rules origin credit queries a s e. admitted_shape here there cargo rules origin credit queries program s a e

@@ -1,6 +1,0 @@
-use Rattle.message_shapes.proofs.Runs.{reached_shaped, executed_shaped}
-use Rattle.message_shapes.proofs.Runs.{stopped_shaped}
-use Rattle.message_shapes.proofs.laws.law_of_runs_that_send.Goals as goal
-
-pub returns : goal.returns
-returns c = record { reached = reached_shaped; executed = executed_shaped; stopped = stopped_shaped }

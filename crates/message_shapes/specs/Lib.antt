@@ -1,4 +1,0 @@
-pub mod Shapes
-pub mod StepLaws
-pub mod Calm
-pub mod Lost

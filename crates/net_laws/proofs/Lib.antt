@@ -1,9 +1,0 @@
-pub mod Lasts
-pub mod Nexts
-pub mod Stopped
-pub mod StoppedBurns
-pub mod StoppedShapes
-pub mod Searching
-pub mod Codes
-pub mod Worlds
-pub mod Pasts

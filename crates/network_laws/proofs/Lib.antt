@@ -1,4 +1,0 @@
-pub mod OpenChains
-pub mod OpenChannels
-pub mod OpenSums
-pub mod Opening

@@ -1,5 +1,0 @@
-use Rattle.network_laws.proofs.Opening.{opens}
-use Rattle.network_laws.proofs.laws.law_of_read_networks.Goals as goal
-
-pub returns : goal.returns
-returns c = record { opens = λ bytes spec read. opens spec (c.law_of_documents.ensures.named bytes spec read) (c.law_of_documents.ensures.valid bytes spec read) }

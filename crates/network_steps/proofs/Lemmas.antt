@@ -1,0 +1,4 @@
+-- Lemmas: what proofs cite.
+pub mod CallerLaws
+pub mod FixedLaws
+pub mod Steps

@@ -1,0 +1,3 @@
+-- Lemmas: what proofs cite.
+pub mod Firsts
+pub mod Facts

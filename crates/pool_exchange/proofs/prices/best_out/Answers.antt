@@ -1,9 +1,0 @@
-use Rattle.std.proofs.Common.{◌<◌, arith}
-use Rattle.pool_exchange.specs.Pools.{out}
-use Rattle.pool_exchange.specs.Products.{out_below, product_kept}
-use Rattle.pool_exchange.proofs.prices.best_out.Goals as goal
-
-pub returns-clause-kept : goal.returns-clause-kept
-returns-clause-kept c =
-    let below : out c.args.x c.args.y c.from-g.result c.args.a < c.args.y = out_below _ _ _ _ (omega arith) (omega arith) in
-    product_kept c.args.x c.args.y c.from-g.result c.args.a _ (omega arith) (omega arith) (omega (arith, below)) (omega arith)

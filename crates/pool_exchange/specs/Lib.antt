@@ -1,4 +1,0 @@
-pub mod Pools
-pub mod Trading
-pub mod Products
-pub mod Laws

@@ -1,6 +1,0 @@
-use Rattle.scale_codec.specs.Laws.ReadLaws.{one_spelling}
-use Rattle.xcm_format.specs.Programs.{program_spelling, FitsProgram}
-use Rattle.program_wire.proofs.laws.law_of_one_spelling.Goals as goal
-
-pub returns : goal.returns
-returns c = λ v. one_spelling (program_spelling v) (FitsProgram v)

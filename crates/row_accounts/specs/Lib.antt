@@ -1,3 +1,0 @@
-pub mod RowAccounts
-pub mod Calls
-pub mod Laws

@@ -1,5 +1,0 @@
-use Rattle.transactors.proofs.Rows.{row_of_kinds}
-use Rattle.transactors.proofs.laws.law_of_kinds.Goals as goal
-
-pub returns : goal.returns
-returns c = row_of_kinds

@@ -1,9 +1,0 @@
-mod Holding
-mod Mapped
-mod SumRows
-mod Cutting
-mod Places
-mod Searching
-mod Claiming
-mod Conserving
-mod Settling

@@ -1,7 +1,0 @@
-use Rattle.std.proofs.Common.{◌≡◌, fold, take}
-use Rattle.std.specs.List.{flat_map}
-use Rattle.trap_store.specs.Digest.{asset_writes}
-use Rattle.trap_store.proofs.digest.write_assets.Given as goal
-
-abbrev pub invariant-loop-asset : goal.invariant-loop-asset
-invariant-loop-asset g l = l.state ≡ fold g.H.Hasher.write l.fn.state (flat_map asset_writes (take l.asset-index l.list))

@@ -1,5 +1,0 @@
-use Rattle.trap_store.proofs.Searching.{IsAhead}
-use Rattle.trap_store.proofs.rows.oldest.Given as goal
-
-abbrev pub invariant-loop-key : goal.invariant-loop-key
-invariant-loop-key l = IsAhead l.list l.origin l.rows.entries l.sought l.key-iterator

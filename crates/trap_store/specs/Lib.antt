@@ -1,5 +1,0 @@
-pub mod Traps
-pub mod Digest
-pub mod Sums
-pub mod Oldest
-pub mod StoreCode

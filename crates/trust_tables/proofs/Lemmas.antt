@@ -1,0 +1,3 @@
+-- Lemmas: what proofs cite.
+pub mod ChainLaws
+pub mod TrustLaws
