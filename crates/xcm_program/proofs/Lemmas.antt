@@ -1,5 +1,6 @@
 -- Lemmas that proofs cite, in this crate and above it: one layer of a fold over instructions, one layer of a fact of all instructions,
 -- and an induction over programs. A reader of the contracts may skip this file.
+pub mod NamesFit
 -- ---- parts of a layer, with f of each instruction in it
 use Rattle.std.proofs.Common.{◌≡◌, ℕ, zero, suc, ◌+◌, ◌<◌, ◌≤◌, max, Bool, true, ◌&&◌, List, [], ◌∷◌, length, map, get_or, drop, Option, Some, None, refl, sym, ap, subst, ◌∙◌, add-one, arith, drop-cons}
 use Rattle.std.specs.Option.{option_map}

@@ -5,6 +5,7 @@ ghost use Rattle.xcm_program.specs.declared.instruction.Instruction.{out-Instruc
 ghost use Rattle.xcm_program.specs.Indices.{index};
 ghost use Rattle.xcm_program.specs.Texts.{instruction_name};
 
+use crate::names::instruction_name_at;
 use asset_lists::{Asset, Assets, Filter};
 use locations::{Junction, Junctions, Location, NetworkId};
 use operands::{
@@ -374,58 +375,10 @@ impl Instruction {
     }
 
     /// The name in the XCM format.
+    #[tactic(auto, using(crate::proofs::Lemmas::NamesFit::names_fit))]
     pub fn name(&self) -> &'static str
         ensures { result.now ≡ instruction_name (out-Instruction self.now) }
     {
-        match self {
-            Instruction::WithdrawAsset { .. } => "WithdrawAsset",
-            Instruction::ReserveAssetDeposited { .. } => "ReserveAssetDeposited",
-            Instruction::ReceiveTeleportedAsset { .. } => "ReceiveTeleportedAsset",
-            Instruction::QueryResponse { .. } => "QueryResponse",
-            Instruction::TransferAsset { .. } => "TransferAsset",
-            Instruction::TransferReserveAsset { .. } => "TransferReserveAsset",
-            Instruction::Transact { .. } => "Transact",
-            Instruction::HrmpNewChannelOpenRequest { .. } => "HrmpNewChannelOpenRequest",
-            Instruction::HrmpChannelAccepted { .. } => "HrmpChannelAccepted",
-            Instruction::HrmpChannelClosing { .. } => "HrmpChannelClosing",
-            Instruction::ClearOrigin => "ClearOrigin",
-            Instruction::DescendOrigin { .. } => "DescendOrigin",
-            Instruction::ReportError { .. } => "ReportError",
-            Instruction::DepositAsset { .. } => "DepositAsset",
-            Instruction::DepositReserveAsset { .. } => "DepositReserveAsset",
-            Instruction::ExchangeAsset { .. } => "ExchangeAsset",
-            Instruction::InitiateReserveWithdraw { .. } => "InitiateReserveWithdraw",
-            Instruction::InitiateTeleport { .. } => "InitiateTeleport",
-            Instruction::ReportHolding { .. } => "ReportHolding",
-            Instruction::BuyExecution { .. } => "BuyExecution",
-            Instruction::RefundSurplus => "RefundSurplus",
-            Instruction::SetErrorHandler { .. } => "SetErrorHandler",
-            Instruction::SetAppendix { .. } => "SetAppendix",
-            Instruction::ClearError => "ClearError",
-            Instruction::ClaimAsset { .. } => "ClaimAsset",
-            Instruction::Trap { .. } => "Trap",
-            Instruction::SubscribeVersion { .. } => "SubscribeVersion",
-            Instruction::UnsubscribeVersion => "UnsubscribeVersion",
-            Instruction::BurnAsset { .. } => "BurnAsset",
-            Instruction::ExpectAsset { .. } => "ExpectAsset",
-            Instruction::ExpectOrigin { .. } => "ExpectOrigin",
-            Instruction::ExpectError { .. } => "ExpectError",
-            Instruction::ExpectTransactStatus { .. } => "ExpectTransactStatus",
-            Instruction::QueryPallet { .. } => "QueryPallet",
-            Instruction::ExpectPallet { .. } => "ExpectPallet",
-            Instruction::ReportTransactStatus { .. } => "ReportTransactStatus",
-            Instruction::ClearTransactStatus => "ClearTransactStatus",
-            Instruction::UniversalOrigin { .. } => "UniversalOrigin",
-            Instruction::ExportMessage { .. } => "ExportMessage",
-            Instruction::LockAsset { .. } => "LockAsset",
-            Instruction::UnlockAsset { .. } => "UnlockAsset",
-            Instruction::NoteUnlockable { .. } => "NoteUnlockable",
-            Instruction::RequestUnlock { .. } => "RequestUnlock",
-            Instruction::SetFeesMode { .. } => "SetFeesMode",
-            Instruction::SetTopic { .. } => "SetTopic",
-            Instruction::ClearTopic => "ClearTopic",
-            Instruction::AliasOrigin { .. } => "AliasOrigin",
-            Instruction::UnpaidExecution { .. } => "UnpaidExecution",
-        }
+        instruction_name_at(self.index())
     }
 }
