@@ -14,7 +14,7 @@ use Rattle.network_steps.specs.declared.step_result.StepResult.{StepResult}
 use Rattle.network_steps.specs.declared.step_result.StepResult.TheVariants as answers
 use Rattle.step_text.specs.declared.headings.StepWords.{StepWords}
 use Rattle.step_text.specs.declared.headings.StepWords.TheVariants.{Exec, Deliver, Claim, Drain, Balances, Traps, Queues, Supply}
-use Rattle.step_text.specs.Names.{instruction_name_at}
+use Rattle.xcm_program.specs.Names.{instruction_name_at}
 use Rattle.step_text.specs.Texts.{kind_name, cause_name, part_letter, call_name, call_result, result_text, total_text, origin_text, topic_text}
 
 -- ---- the heading

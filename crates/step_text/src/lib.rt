@@ -6,7 +6,6 @@ mod blocks;
 mod headings;
 mod laws;
 mod lines;
-mod names;
 mod opening;
 mod steps;
 mod words;

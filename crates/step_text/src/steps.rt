@@ -6,7 +6,6 @@ ghost use Rattle.exec_base.specs.declared.event.Event.{Event};
 ghost use Rattle.step_text.specs.Steps.{event_line, outcome_line, answer_line, step_text, drained_line};
 
 use crate::assets::{origin_text, topic_text};
-use crate::names::name_at;
 use crate::words::{Shown, call_name, call_result, cause_name, kind_name, part_letter};
 use asset_bundles::{Cause, Total};
 use asset_lists::Kind;
@@ -17,7 +16,7 @@ use network_steps::StepResult;
 use operands::{Weight, XcmError};
 use std::alloc::{AllocError, Global};
 use std::fmt::Write;
-use xcm_program::Outcome;
+use xcm_program::{Outcome, instruction_name_at};
 
 /// Bytes for the lines of most steps, so that their text is seldom moved while it grows.
 const ROOM: usize = 512;
@@ -101,7 +100,7 @@ fn push_ran(
         ≡ string_bytes text.old ++ event_line (Event.Ran part index instruction error)) }
 {
     let letter = part_letter(part);
-    let name = name_at(instruction);
+    let name = instruction_name_at(instruction);
     match error {
         None => write!(text, "  {letter}{index} {name} ok\n"),
         Some(error) => write!(text, "  {letter}{index} {name} {error}\n"),
