@@ -9,7 +9,8 @@ use Rattle.input_lines.specs.Numbers.{read_number}
 use Rattle.chain_ids.specs.declared.chain.ChainId.{ChainId}
 use Rattle.chain_ids.specs.declared.chain.ChainId.TheVariants.{Relay, Para}
 use Rattle.input_lines.specs.declared.line.Line.{Line}
-use Rattle.input_lines.specs.declared.line.Line.TheVariants.{NoStep, Exec, Deliver, Claim, Drain, Balances, Traps, Queues, Supply, Refused}
+use Rattle.input_lines.specs.declared.line.Line.TheVariants.{NoStep, Step, Refused}
+use Rattle.input_lines.specs.declared.step.Step.TheVariants.{Exec, Deliver, Claim, Drain, Balances, Traps, Queues, Supply}
 
 -- an empty line or a comment
 abbrev pub is_no_step : List ℕ → Bool
@@ -38,7 +39,7 @@ message_word text = if length text == 0 then None else result_ok (decode_of (wit
 
 -- all three words have to be in form
 abbrev pub exec_of : Option ChainId → Option (List ℕ) → Option (List ℕ) → Line
-exec_of (Some chain) (Some account) (Some message) = Exec chain account message
+exec_of (Some chain) (Some account) (Some message) = Step (Exec chain account message)
 exec_of (Some chain) (Some account) None = Refused
 exec_of (Some chain) None message = Refused
 exec_of None account message = Refused
@@ -55,7 +56,7 @@ exec_words (Some words) = exec_tail (chain_word words.0) (split_word words.1)
 
 -- both chains have to be in form
 abbrev pub deliver_of : Option ChainId → Option ChainId → Line
-deliver_of (Some from) (Some to) = Deliver from to
+deliver_of (Some from) (Some to) = Step (Deliver from to)
 deliver_of (Some from) None = Refused
 deliver_of None to = Refused
 
@@ -66,7 +67,7 @@ deliver_words (Some words) = deliver_of (chain_word words.0) (chain_word words.1
 
 -- all three words have to be in form
 abbrev pub claim_of : Option ChainId → Option ChainId → Option (List ℕ) → Line
-claim_of (Some from) (Some to) (Some message) = Claim from to message
+claim_of (Some from) (Some to) (Some message) = Step (Claim from to message)
 claim_of (Some from) (Some to) None = Refused
 claim_of (Some from) None message = Refused
 claim_of None to message = Refused
@@ -84,11 +85,11 @@ claim_words (Some words) = claim_tail (chain_word words.0) (split_word words.1)
 -- a line of one word
 abbrev pub lone_word : List ℕ → Line
 lone_word text =
-    if bytes_eq text (codes "drain") then Drain
-    else (if bytes_eq text (codes "balances") then Balances
-    else (if bytes_eq text (codes "traps") then Traps
-    else (if bytes_eq text (codes "queues") then Queues
-    else (if bytes_eq text (codes "supply") then Supply else Refused))))
+    if bytes_eq text (codes "drain") then Step Drain
+    else (if bytes_eq text (codes "balances") then Step Balances
+    else (if bytes_eq text (codes "traps") then Step Traps
+    else (if bytes_eq text (codes "queues") then Step Queues
+    else (if bytes_eq text (codes "supply") then Step Supply else Refused))))
 
 -- what a line asks for
 unfoldable pub read_line : List ℕ → Line
