@@ -4,8 +4,6 @@ ghost use Rattle.chain_net.specs.Nets.{world_of, spec_of, is_stopped};
 ghost use Rattle.report_blocks.specs.Asked.{asked_of};
 ghost use Rattle.report_blocks.specs.Serving.{IsServed};
 
-use crate::heading::Heading;
-use crate::line_headings::heading_of;
 use crate::reads::supply_block;
 use crate::steps::step_lines;
 use crate::{AuditedNet, LineOutcome};
@@ -15,7 +13,7 @@ use step_text::heading;
 
 /// Serves a line of the input: runs the step that it asks for, and gives its block in the report, with the audit behind it where that is
 /// asked for. A line that asks for no step changes nothing. `Err` is out of memory, or a drain of more than 2^64-1 deliveries.
-#[tactic(auto, unfolding(crate::specs::Blocks::step_block))]
+#[tactic(auto, using(crate::proofs::Telling::told_back), unfolding(crate::specs::Asked::asked_of, crate::specs::Blocks::step_block))]
 pub fn serve(
     alloc: Global,
     net: &mut AuditedNet,
@@ -30,14 +28,14 @@ pub fn serve(
     ensures running { OnOk result (is_stopped net.new ≡ false) }
     ensures spec { spec_of net.new ≡ spec_of net.old }
 {
-    let words = match heading_of(line) {
-        Heading::Nothing => return Ok(LineOutcome::Nothing),
-        Heading::Unknown => return Ok(LineOutcome::Unknown),
-        Heading::Step(words) => words,
+    let step = match line {
+        Line::NoStep => return Ok(LineOutcome::Nothing),
+        Line::Refused => return Ok(LineOutcome::Unknown),
+        Line::Step(step) => step,
     };
-    let mut text = heading(alloc, number, words)?;
+    let mut text = heading(alloc, number, step)?;
     let mut kept = net.kept.take();
-    let lines = step_lines(alloc, &mut net.net, &mut kept, line)?;
+    let lines = step_lines(alloc, &mut net.net, &mut kept, step)?;
     text.push_str(&lines)?;
     if audit {
         let sums = supply_block(alloc, &net.net, &mut kept)?;
