@@ -1,6 +1,5 @@
 pub mod Ledgers
 pub mod AccountKeys
-pub mod AssetHash
 pub mod AssetTable
 pub mod AssetKeys
 pub mod Sums

@@ -1,4 +1,8 @@
 //! The names that a location is made of: networks, bodies and junctions.
+ghost use Rattle.std.specs.Prelude.{◌≡◌, fold};
+ghost use Rattle.locations.specs.Hashing.{junction_input};
+
+use std::hash::Hasher;
 
 /// A consensus network, in the order of the XCM format.
 #[derive(Clone, Copy, Debug, PartialEq, Eq, PartialOrd, Ord)]
@@ -139,6 +143,26 @@ pub enum Junction {
     },
     /// A network, seen from the root of all.
     GlobalConsensus(NetworkId),
+}
+
+impl Junction {
+    /// Hashes the number or the bytes that it says.
+    pub(crate) fn feed<H: Hasher>(&self, state: &mut H)
+        ensures { state.new ≡ fold H.write state.old (junction_input self.now) }
+    {
+        match self {
+            Junction::Parachain(para) => state.write_u32(*para),
+            Junction::AccountId32 { network: _, id } => state.write(id),
+            Junction::AccountIndex64 { network: _, index } => state.write_u64(*index),
+            Junction::AccountKey20 { network: _, key } => state.write(key),
+            Junction::PalletInstance(index) => state.write_u8(*index),
+            Junction::GeneralIndex(index) => state.write_u128(*index),
+            Junction::GeneralKey { length: _, key } => state.write(key),
+            Junction::OnlyChild => {}
+            Junction::Plurality { id: _, part: _ } => {}
+            Junction::GlobalConsensus(_) => {}
+        }
+    }
 }
 
 /// What stands where no junction does.

@@ -14,6 +14,7 @@ ghost use Rattle.locations.specs.OrderLaws.{junctions_total};
 use crate::{Full, Junction};
 use arrayvec::ArrayVec;
 use std::cmp::Ordering;
+use std::hash::{Hash, Hasher};
 use std::marker::Model;
 
 /// How many junctions a location holds at most, by the XCM format.
@@ -231,5 +232,21 @@ impl Ord for Junctions {
     fn cmp(&self, other: &Junctions) -> Ordering {
         let (ours, theirs) = (self.items(), other.items());
         ours.len().cmp(&theirs.len()).then(ours.cmp(theirs))
+    }
+}
+
+/// Hashes what each junction says.
+impl Hash for Junctions {
+    ghost use Rattle.locations.specs.Hashing.{junctions_input};
+    ghost use Rattle.locations.specs.HashLaws.{junctions_alike};
+
+    ghost hash_input = { junctions_input };
+
+    ghost respects_eq = { junctions_alike };
+
+    fn hash<H: Hasher>(&self, state: &mut H) {
+        for junction in self.items() {
+            junction.feed(state);
+        }
     }
 }

@@ -3,6 +3,7 @@ ghost use Rattle.std.specs.Prelude.{◌≡◌, ◌≤◌, [], length};
 
 use crate::Junctions;
 use std::cmp::Ordering;
+use std::hash::{Hash, Hasher};
 
 /// A place, seen from another place: `parents` levels up, and then the junctions down.
 /// Places are ordered by the parents, then by the interior.
@@ -65,4 +66,19 @@ impl Eq for Location {
     ghost use Rattle.locations.specs.OrderLaws.{location_total};
 
     ghost laws = { eq_by_cmp_equiv location_total };
+}
+
+/// Hashes how high it lies, and what each junction says.
+impl Hash for Location {
+    ghost use Rattle.locations.specs.Hashing.{location_input};
+    ghost use Rattle.locations.specs.HashLaws.{location_alike};
+
+    ghost hash_input = { location_input };
+
+    ghost respects_eq = { location_alike };
+
+    fn hash<H: Hasher>(&self, state: &mut H) {
+        state.write_u8(self.parents);
+        self.interior.hash(state);
+    }
 }

@@ -1,9 +1,9 @@
--- What of a listed asset is hashed: how high its place lies, and what its junctions say, a number or bytes each.
-use Rattle.std.specs.Prelude.{◌++◌, []}
+-- What of a location is hashed: how high it lies, and what its junctions say, a number or bytes each. Networks, bodies and
+-- lengths are left out. It is this project's own rule: locations that are hashed alike are told apart by comparing them.
+use Rattle.std.specs.Prelude.{List, [], ◌∷◌, ◌++◌}
 use Rattle.std.specs.List.{flat_map}
 use Rattle.std.specs.Hash as fed
 use Rattle.std.specs.Hash.{HashWrites}
-use Rattle.std.proofs.Common.{◌∷◌}
 use Rattle.locations.specs.declared.grammar.Junction.{Junction}
 use Rattle.locations.specs.declared.grammar.Junction.TheVariants.{Parachain, AccountId32, AccountIndex64, AccountKey20, PalletInstance, GeneralIndex, GeneralKey, OnlyChild, Plurality, GlobalConsensus}
 use Rattle.locations.specs.declared.relative.Location.{Location}
@@ -20,5 +20,8 @@ junction_input OnlyChild = []
 junction_input (Plurality id part) = []
 junction_input (GlobalConsensus network) = []
 
+abbrev pub junctions_input : List Junction → HashWrites
+junctions_input = flat_map junction_input
+
 abbrev pub location_input : Location → HashWrites
-location_input l = fed.u8 l.parents ++ flat_map junction_input l.interior
+location_input l = fed.u8 l.parents ++ junctions_input l.interior
