@@ -11,7 +11,7 @@ use Rattle.amounts.proofs.Lemmas.{key_same}
 use Rattle.asset_lists.specs.declared.units.AssetId.{AssetId}
 use Rattle.asset_lists.specs.declared.units.Instance.{Instance}
 use Rattle.asset_lists.specs.Listed.{Listed, listed_of}
-use Rattle.ledgers.specs.declared.sums.Sum.{Sum}
+use Rattle.asset_bundles.specs.declared.wide_sum.WideSum.{WideSum}
 use Rattle.ledgers.specs.Ledgers.{account_cmp, is_account, is_holding_of, holding_of, number_in, IsAfter, IsNext}
 use Rattle.ledgers.specs.LedgerRows.{AmountKey, amount_key_cmp, OwnerKey, amount_in_row, held_in, IsSound, IsBefore, IsNextRow}
 use Rattle.ledgers.proofs.Lemmas.{holder_keys, account_keys}
@@ -21,7 +21,7 @@ use Rattle.ledgers.proofs.RowChanges.{held_listed, row_at_least}
 use Rattle.ledgers.proofs.Reading.{part_is, inside}
 use Rattle.ledgers.proofs.Totals.{total_none}
 
-module _ (listed : List Listed) (amounts : List (AmountKey × ℕ)) (owners : List (OwnerKey × Option (List ℕ))) (sums : List Sum) (sound : IsSound listed amounts owners sums) where
+module _ (listed : List Listed) (amounts : List (AmountKey × ℕ)) (owners : List (OwnerKey × Option (List ℕ))) (sums : List WideSum) (sound : IsSound listed amounts owners sums) where
   row_holds : (n : ℕ) (who : List ℕ) → 0 < amount_in_row amounts (n, who) → 0 < holding_of who (held_in listed amounts owners)
   row_holds n who some = elim (slice_get listed n) as (λ o. slice_get listed n ≡ o → IsSome o → 0 < holding_of who (held_in listed amounts owners)) [
     | None ↦ λ at there. absurd (true≢false (sym there))

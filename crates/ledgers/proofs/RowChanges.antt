@@ -13,8 +13,8 @@ use Rattle.asset_lists.specs.declared.units.Kind.{Kind}
 use Rattle.asset_lists.specs.declared.units.Fun.{Fun}
 use Rattle.asset_lists.specs.Units.{Unit, instance_in, amount_in}
 use Rattle.asset_lists.specs.Listed.{Listed, listed_of}
-use Rattle.ledgers.specs.declared.sums.Sum.{Sum}
-use Rattle.ledgers.specs.Sums.{sum_value}
+use Rattle.asset_bundles.specs.declared.wide_sum.WideSum.{WideSum}
+use Rattle.asset_bundles.specs.Totals.{wide_value}
 use Rattle.ledgers.specs.Ledgers.{account_cmp, is_account, is_holding_of, sum_of, account_sum_of, number_in}
 use Rattle.ledgers.specs.LedgerRows.{AmountKey, amount_key_cmp, OwnerKey, owner_key_cmp, amount_in_row, owner_at, owned, OwnerIs, held_in, AreSmall, IsSumWritten, IsSound, HasAmountRow, HasOwnerRow, HasInstanceRow}
 use Rattle.ledgers.specs.RowState.{may_take}
@@ -32,7 +32,7 @@ is_owner true h = refl
 is_owner false h = absurd (omega (arith, h))
 
 -- ---- what one account has of an asset, and the rows
-module _ (listed : List Listed) (amounts : List (AmountKey × ℕ)) (owners : List (OwnerKey × Option (List ℕ))) (sums : List Sum) (sound : IsSound listed amounts owners sums) where
+module _ (listed : List Listed) (amounts : List (AmountKey × ℕ)) (owners : List (OwnerKey × Option (List ℕ))) (sums : List WideSum) (sound : IsSound listed amounts owners sums) where
   -- a row has what is held of its unit, at least
   pub row_at_least : (n : ℕ) (who : List ℕ) (id : AssetId) (x : Option Instance) → slice_get listed n ≡ Some (listed_of (id, x)) → amount (held_in listed amounts owners) (who, (id, x)) ≤ amount_in_row amounts (n, who)
   row_at_least n who id None at = (let same = held-fungible listed sound.once amounts owners n who id at in omega (arith, same))
@@ -43,7 +43,7 @@ module _ (listed : List Listed) (amounts : List (AmountKey × ℕ)) (owners : Li
       omega (arith, most, count)
 
   -- and so has the running sum
-  pub sum_at_least : (n : ℕ) (who : List ℕ) (unit : Unit) (s : Sum) → slice_get listed n ≡ Some (listed_of unit) → slice_get sums n ≡ Some s → amount (held_in listed amounts owners) (who, unit) ≤ sum_value s
+  pub sum_at_least : (n : ℕ) (who : List ℕ) (unit : Unit) (s : WideSum) → slice_get listed n ≡ Some (listed_of unit) → slice_get sums n ≡ Some s → amount (held_in listed amounts owners) (who, unit) ≤ wide_value s
   sum_at_least n who unit s at is =
       let most = amount_at_most holder_keys (is_holding_of (listed_of unit)) (held_in listed amounts owners) (who, unit) (is_its_asset (listed_of unit) unit refl) in
       let sum = sound.summed n (listed_of unit) s at is in
@@ -117,7 +117,7 @@ module _ (listed : List Listed) (amounts : List (AmountKey × ℕ)) (owners : Li
     pub taken : (fun : Fun) → number_in listed (listed_of (id, instance_in fun)) ≡ Some n → amount_in fun ≤ amount (held_in listed amounts owners) (who, (id, instance_in fun))
         → ((q : AmountKey) → amount_in_row more_amounts q ≡ (if eq_by_cmp amount_key_cmp (n, who) q then amount_in_row amounts (n, who) - amount_in fun else amount_in_row amounts q))
         → OwnerIs (instance_in fun) n None owners more_owners → AreSmall more_amounts
-        → (more_sums : List Sum) → (s : Sum) × (t : Sum) × IsSumWritten n sums more_sums s t × (sum_value t ≡ sum_value s - amount_in fun)
+        → (more_sums : List WideSum) → (s : WideSum) × (t : WideSum) × IsSumWritten n sums more_sums s t × (wide_value t ≡ wide_value s - amount_in fun)
         → (held_in listed more_amounts more_owners ≡ minus (held_in listed amounts owners) (who, (id, instance_in fun)) (amount_in fun)) × IsSound listed more_amounts more_owners more_sums
     unfolding minus
     taken fun is enough wrote owner small more_sums (s, t, sum, lowered) =
@@ -182,7 +182,7 @@ module _ (listed : List Listed) (amounts : List (AmountKey × ℕ)) (owners : Li
         let most = count_bound listed amounts owners who id few in
         omega (arith, count, most)
 
-    pub sum_room : (unit : Unit) (a : ℕ) → a < 2 ^ 128 → number_in listed (listed_of unit) ≡ Some n → length amounts < 2 ^ 63 → length owners < 2 ^ 63 → (s : Sum) → slice_get sums n ≡ Some s → sum_value s + a < 2 ^ 192
+    pub sum_room : (unit : Unit) (a : ℕ) → a < 2 ^ 128 → number_in listed (listed_of unit) ≡ Some n → length amounts < 2 ^ 63 → length owners < 2 ^ 63 → (s : WideSum) → slice_get sums n ≡ Some s → wide_value s + a < 2 ^ 192
     sum_room unit a fits is few few_owners s was =
         let sum = sound.summed n (listed_of unit) s (number_at listed (listed_of unit) n is) was in
         let most = sum_bound listed amounts owners (is_holding_of (listed_of unit)) sound.small few few_owners in
@@ -194,7 +194,7 @@ module _ (listed : List Listed) (amounts : List (AmountKey × ℕ)) (owners : Li
     pub given : (fun : Fun) → number_in listed (listed_of (id, instance_in fun)) ≡ Some n → may_take fun who (id, instance_in fun) (held_in listed amounts owners)
         → ((q : AmountKey) → amount_in_row more_amounts q ≡ (if eq_by_cmp amount_key_cmp (n, who) q then amount_in_row amounts (n, who) + amount_in fun else amount_in_row amounts q))
         → OwnerIs (instance_in fun) n (Some who) owners more_owners → AreSmall more_amounts
-        → (more_sums : List Sum) → (s : Sum) × (t : Sum) × IsSumWritten n sums more_sums s t × (sum_value t ≡ sum_value s + amount_in fun)
+        → (more_sums : List WideSum) → (s : WideSum) × (t : WideSum) × IsSumWritten n sums more_sums s t × (wide_value t ≡ wide_value s + amount_in fun)
         → (held_in listed more_amounts more_owners ≡ plus (held_in listed amounts owners) (who, (id, instance_in fun)) (amount_in fun)) × IsSound listed more_amounts more_owners more_sums
     unfolding plus
     given fun is may wrote owner small more_sums (s, t, sum, raised) =
@@ -214,7 +214,7 @@ module _ (listed : List Listed) (amounts : List (AmountKey × ℕ)) (owners : Li
         (held, subst (IsSound listed more_amounts more_owners) (sym sum.written) (still_sound listed amounts more_amounts owners more_owners sums n who (id, instance_in fun) _ _ s t sound write))
 
 -- ---- in the words of the code
-module _ (listed : List Listed) (amounts : List (AmountKey × ℕ)) (owners : List (OwnerKey × Option (List ℕ))) (sums : List Sum) (sound : IsSound listed amounts owners sums) (n : ℕ) (who : List ℕ) (id : AssetId) (fun : Fun) where
+module _ (listed : List Listed) (amounts : List (AmountKey × ℕ)) (owners : List (OwnerKey × Option (List ℕ))) (sums : List WideSum) (sound : IsSound listed amounts owners sums) (n : ℕ) (who : List ℕ) (id : AssetId) (fun : Fun) where
   pub held_of_amount : (a : ℕ) → Some n ≡ number_in listed (listed_of (id, instance_in fun)) → fun ≡ Fun.Fungible a → amount_in_row amounts (n, who) ≡ amount (held_in listed amounts owners) (who, (id, instance_in fun))
   held_of_amount a is e =
       let at : (f : Fun) → f ≡ Fun.Fungible a → Some n ≡ number_in listed (listed_of (id, instance_in f)) → amount_in_row amounts (n, who) ≡ amount (held_in listed amounts owners) (who, (id, instance_in f)) =
@@ -249,7 +249,7 @@ owner_row_there rows k who h = there (lookup (eq_by_cmp owner_key_cmp k) rows) h
     there None h = absurd (omega (arith, h))
     there (Some v) h = refl
 
-pub instance_row_there : (listed : List Listed) (amounts : List (AmountKey × ℕ)) (owners : List (OwnerKey × Option (List ℕ))) (sums : List Sum) → IsSound listed amounts owners sums → (n : ℕ) (who : List ℕ) (id : AssetId) (x : Option Instance)
+pub instance_row_there : (listed : List Listed) (amounts : List (AmountKey × ℕ)) (owners : List (OwnerKey × Option (List ℕ))) (sums : List WideSum) → IsSound listed amounts owners sums → (n : ℕ) (who : List ℕ) (id : AssetId) (x : Option Instance)
     → number_in listed (listed_of (id, x)) ≡ Some n → 0 < amount (held_in listed amounts owners) (who, (id, x)) → HasInstanceRow owners n x
 instance_row_there listed amounts owners sums sound n who id None is some = tt
 instance_row_there listed amounts owners sums sound n who id (Some i) is some =

@@ -20,8 +20,8 @@ use Rattle.asset_lists.specs.UnitLaws.{asset_id_total}
 use Rattle.asset_lists.proofs.Lemmas.UnitLaws.{asset_id_exact}
 use Rattle.asset_bundles.specs.Bundles.{is_asset, is_kind}
 use Rattle.asset_lists.specs.Listed.{Listed, kind_of, listed_of}
-use Rattle.ledgers.specs.declared.sums.Sum.{Sum}
-use Rattle.ledgers.specs.Sums.{sum_value}
+use Rattle.asset_bundles.specs.declared.wide_sum.WideSum.{WideSum}
+use Rattle.asset_bundles.specs.Totals.{wide_value}
 use Rattle.ledgers.specs.Ledgers.{Holder, account_cmp, is_account, is_holding_of, sum_of, account_sum_of}
 use Rattle.ledgers.specs.LedgerRows.{AmountKey, amount_key_cmp, OwnerKey, owner_key_cmp, amount_in_row, held_in, IsOnce, AreSmall, IsSound}
 use Rattle.ledgers.proofs.Lemmas.{holder_keys, account_keys}
@@ -103,7 +103,7 @@ if_raised true total more v had s next e h f g = omega (arith, e, f, g)
 if_raised false total more v had s next e h f g = absurd (true≢false (sym h))
 
 -- what is so of the rows is so after one amount is written: its row changes as it does, and so does the sum of its asset
-pub record IsWrite (listed : List Listed) (amounts more_amounts : List (AmountKey × ℕ)) (owners more_owners : List (OwnerKey × Option (List ℕ))) (sums : List Sum) (n : ℕ) (who : List ℕ) (unit : Unit) (v : ℕ) (next : ℕ) (s t : Sum) : Type 0 where
+pub record IsWrite (listed : List Listed) (amounts more_amounts : List (AmountKey × ℕ)) (owners more_owners : List (OwnerKey × Option (List ℕ))) (sums : List WideSum) (n : ℕ) (who : List ℕ) (unit : Unit) (v : ℕ) (next : ℕ) (s t : WideSum) : Type 0 where
   pub at : slice_get listed n ≡ Some (listed_of unit)
   pub held : held_in listed more_amounts more_owners ≡ with_amount (held_in listed amounts owners) (who, unit) v
   pub wrote : (q : AmountKey) → amount_in_row more_amounts q ≡ (if eq_by_cmp amount_key_cmp (n, who) q then next else amount_in_row amounts q)
@@ -111,9 +111,9 @@ pub record IsWrite (listed : List Listed) (amounts more_amounts : List (AmountKe
   pub small : AreSmall more_amounts
   pub sorted : IsStrictlySortedBy owner_key_cmp (keys_of more_owners)
   pub sum_was : slice_get sums n ≡ Some s
-  pub sum : sum_value t + amount (held_in listed amounts owners) (who, unit) ≡ sum_value s + v
+  pub sum : wide_value t + amount (held_in listed amounts owners) (who, unit) ≡ wide_value s + v
 
-pub still_sound : (listed : List Listed) (amounts more_amounts : List (AmountKey × ℕ)) (owners more_owners : List (OwnerKey × Option (List ℕ))) (sums : List Sum) (n : ℕ) (who : List ℕ) (unit : Unit) (v next : ℕ) (s t : Sum)
+pub still_sound : (listed : List Listed) (amounts more_amounts : List (AmountKey × ℕ)) (owners more_owners : List (OwnerKey × Option (List ℕ))) (sums : List WideSum) (n : ℕ) (who : List ℕ) (unit : Unit) (v next : ℕ) (s t : WideSum)
     → IsSound listed amounts owners sums → IsWrite listed amounts more_amounts owners more_owners sums n who unit v next s t
     → IsSound listed more_amounts more_owners (set sums n t)
 still_sound listed amounts more_amounts owners more_owners sums n who unit v next s t sound write = record {
@@ -158,10 +158,10 @@ still_sound listed amounts more_amounts owners more_owners sums n who unit v nex
         by true e = subst (λ k. IsSome (slice_get listed k)) (ap (λ (k : AmountKey). k.0) (key_same amount_keys (n, who) (m, w) e)) (subst IsSome (sym write.at) refl)
         by false e = sound.numbered m w (subst (λ v. 0 < v) (write.wrote (m, w) ∙ ap (λ b. if b then next else amount_in_row amounts (m, w)) e) some)
 
-    summed : (m : ℕ) (asset : Listed) (x : Sum) → slice_get listed m ≡ Some asset → slice_get (set sums n t) m ≡ Some x → sum_value x ≡ sum_of asset (held_in listed more_amounts more_owners)
+    summed : (m : ℕ) (asset : Listed) (x : WideSum) → slice_get listed m ≡ Some asset → slice_get (set sums n t) m ≡ Some x → wide_value x ≡ sum_of asset (held_in listed more_amounts more_owners)
     summed m asset x there is =
         let same = same_place listed sound.once n who unit write.at m asset there in
         elim (slice_get-set sums n m t x is) [
-          | inl here ↦ ap sum_value (sym here.1) ∙ if_raised _ _ _ v _ (sum_value s) (sum_value t) (totals (is_holding_of asset)) (same ∙ same_as number_keys n m here.0) (sound.summed m asset s there (ap (slice_get sums) (sym here.0) ∙ write.sum_was)) write.sum
+          | inl here ↦ ap wide_value (sym here.1) ∙ if_raised _ _ _ v _ (wide_value s) (wide_value t) (totals (is_holding_of asset)) (same ∙ same_as number_keys n m here.0) (sound.summed m asset s there (ap (slice_get sums) (sym here.0) ∙ write.sum_was)) write.sum
           | inr other ↦ sound.summed m asset x there other.1 ∙ sym (if_summed _ _ _ v _ (totals (is_holding_of asset)) (same ∙ apart number_keys n m other.0))
         ]

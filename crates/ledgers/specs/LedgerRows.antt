@@ -14,8 +14,8 @@ use Rattle.asset_lists.specs.declared.units.AssetId.{AssetId}
 use Rattle.asset_lists.specs.declared.units.Instance.{Instance}
 use Rattle.asset_lists.specs.declared.units.Kind.{Kind}
 use Rattle.asset_lists.specs.Listed.{Listed}
-use Rattle.ledgers.specs.declared.sums.Sum.{Sum}
-use Rattle.ledgers.specs.Sums.{sum_value}
+use Rattle.asset_bundles.specs.declared.wide_sum.WideSum.{WideSum}
+use Rattle.asset_bundles.specs.Totals.{wide_value}
 use Rattle.ledgers.specs.Ledgers.{Holder, account_cmp, Held, sum_of, account_sum_of, IsAfter}
 
 -- an asset's number and an account
@@ -101,19 +101,19 @@ HasInstanceRow rows n None = ⊤
 HasInstanceRow rows n (Some i) = HasOwnerRow rows (n, i)
 
 -- a running sum is another one
-pub record IsSumWritten (n : ℕ) (old new : List Sum) (s t : Sum) : Type 0 where
+pub record IsSumWritten (n : ℕ) (old new : List WideSum) (s t : WideSum) : Type 0 where
   pub was : slice_get old n ≡ Some s
   pub written : new ≡ slice_set old n t
 
 -- counts and running sums are those of what is held, and only listed assets have amounts
-pub record IsSound (listed : List Listed) (amounts : List (AmountKey × ℕ)) (owners : List (OwnerKey × Option (List ℕ))) (sums : List Sum) : Type 0 where
+pub record IsSound (listed : List Listed) (amounts : List (AmountKey × ℕ)) (owners : List (OwnerKey × Option (List ℕ))) (sums : List WideSum) : Type 0 where
   pub once : IsOnce listed
   pub small : AreSmall amounts
   pub sorted : IsStrictlySortedBy owner_key_cmp (keys_of owners)
   pub counted : (n : ℕ) (who : List ℕ) (id : AssetId) → slice_get listed n ≡ Some (id, Kind.Class) → amount_in_row amounts (n, who) ≡ account_sum_of who (id, Kind.Class) (held_in listed amounts owners)
   pub numbered : (n : ℕ) (who : List ℕ) → 0 < amount_in_row amounts (n, who) → IsSome (slice_get listed n)
   pub as_many : length sums ≡ length listed
-  pub summed : (n : ℕ) (asset : Listed) (s : Sum) → slice_get listed n ≡ Some asset → slice_get sums n ≡ Some s → sum_value s ≡ sum_of asset (held_in listed amounts owners)
+  pub summed : (n : ℕ) (asset : Listed) (s : WideSum) → slice_get listed n ≡ Some asset → slice_get sums n ≡ Some s → wide_value s ≡ sum_of asset (held_in listed amounts owners)
 
 -- ---- accounts in order
 -- before an account, or any account where none is given

@@ -2,7 +2,6 @@ pub mod Ledgers
 pub mod AccountKeys
 pub mod AssetTable
 pub mod AssetKeys
-pub mod Sums
 pub mod LedgerRows
 pub mod RowState
 pub mod AccountRows

@@ -7,7 +7,7 @@ use crate::row_writes::{
     amount_in, lower_amount, make_amount_row, owner_in, raise_amount, sweep_amount,
 };
 use crate::rows::Rows;
-use crate::sums::Sum;
+use asset_bundles::WideSum;
 use asset_lists::{Asset, AssetId, Fun, Instance, Kind};
 use std::alloc::AllocError;
 
@@ -16,7 +16,7 @@ impl Rows {
     ghost use Rattle.amounts.specs.Amounts.{amount, plus, minus};
     ghost use Rattle.asset_lists.specs.Units.{unit_of, amount_of as amount_of_asset};
     ghost use Rattle.asset_lists.specs.Listed.{listed_of};
-    ghost use Rattle.ledgers.specs.Sums.{sum_value};
+    ghost use Rattle.asset_bundles.specs.Totals.{wide_value};
     ghost use Rattle.ledgers.specs.Ledgers.{number_in, account_sum_of, sum_of, owners_of, IsOwner, is_barred};
     ghost use Rattle.ledgers.specs.LedgerFaults.{IsBarred};
     ghost use Rattle.ledgers.specs.RowState.{rows_held, AreSound, HasDepositRows, KeepsRows, MayTake};
@@ -70,13 +70,13 @@ impl Rows {
     }
 
     /// The sum of an asset over all accounts.
-    pub(crate) fn sum(&self, id: &AssetId, kind: Kind) -> Sum
+    pub(crate) fn sum(&self, id: &AssetId, kind: Kind) -> WideSum
         requires { AreSound self.now }
-        ensures { sum_value result ≡ sum_of (id.now, kind) (rows_held self.now) }
+        ensures { wide_value result ≡ sum_of (id.now, kind) (rows_held self.now) }
     {
         match self.assets.number_of(id, kind) {
             Some(number) => self.sums[number as usize],
-            None => Sum::zero(),
+            None => WideSum::ZERO,
         }
     }
 

@@ -1,7 +1,7 @@
 //! The rows that a ledger keeps.
 use crate::asset_table::AssetTable;
 use crate::row_writes::{AmountRows, OwnerRows};
-use crate::sums::Sum;
+use asset_bundles::WideSum;
 
 /// The assets of a chain, what the accounts have of each, who owns each instance, and the sum of each asset
 /// over all accounts.
@@ -10,5 +10,5 @@ pub(crate) struct Rows {
     pub(crate) assets: AssetTable,
     pub(crate) amounts: AmountRows,
     pub(crate) owners: OwnerRows,
-    pub(crate) sums: Vec<Sum>,
+    pub(crate) sums: Vec<WideSum>,
 }
