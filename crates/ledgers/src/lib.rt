@@ -1,7 +1,6 @@
 //! What the accounts of a chain hold.
 #![tactic(auto)]
 
-mod account_goods;
 mod account_key;
 mod asset_table;
 mod faults;
@@ -12,7 +11,6 @@ mod listed_asset;
 mod listing;
 mod next_account;
 mod row_moves;
-mod row_state;
 mod row_writes;
 mod rows;
 mod sums;
