@@ -5,19 +5,19 @@ ghost use Rattle.asset_lists.specs.declared.units.Fun.TheVariants.{Fungible};
 ghost use Rattle.asset_lists.specs.Listed.{listed_of, lists};
 ghost use Rattle.asset_bundles.specs.declared.book.Cause.{Cause};
 ghost use Rattle.asset_bundles.specs.Bundles.{bundle_of, rows_of, assets_of_rows};
-ghost use Rattle.asset_bundles.specs.Totals.{total_value};
+ghost use Rattle.asset_bundles.specs.Totals.{total_value, wide_value};
 ghost use Rattle.trust_tables.specs.Trust.{listing};
 ghost use Rattle.ledgers.specs.Ledgers.{barred};
 ghost use Rattle.weight_trader.specs.Purchases.{paid_goods};
 ghost use Rattle.chain_state.specs.Fees.{some_row};
 ghost use Rattle.exec_base.specs.Host.{fees_within, fees_above, burned_line};
 ghost use Rattle.chain_state.specs.PartOf.{part_of};
-ghost use Rattle.chain_state.specs.Settling.{wide_value, are_units_listed, asset_of_amount, some_coins};
+ghost use Rattle.chain_state.specs.Settling.{are_units_listed, asset_of_amount, some_coins};
 
 use crate::ChainState;
 use crate::fees::fee_excess::FeeExcess;
-use crate::fees::wide::{Wide, parted};
-use asset_bundles::{Cause, Total};
+use crate::fees::wide::parted;
+use asset_bundles::{Cause, Total, WideSum};
 use asset_lists::{Asset, AssetId, Fun, Kind};
 use exec_base::Event;
 use std::alloc::AllocError;
@@ -37,11 +37,11 @@ fn push_coins(list: &mut Vec<Asset>, id: &AssetId, amount: u128) -> Result<(), A
 }
 
 /// Adds so much of a fungible asset to the list, if it isn't 0.
-fn push_above(list: &mut Vec<FeeExcess>, id: &AssetId, amount: Wide) -> Result<(), AllocError>
+fn push_above(list: &mut Vec<FeeExcess>, id: &AssetId, amount: WideSum) -> Result<(), AllocError>
     ensures { OnOk result (list.new.items ≡ list.old.items
         ++ some_row (id.now, None) (wide_value amount)) }
 {
-    if amount.is_none() {
+    if amount.is_zero() {
         return Ok(());
     }
     list.push(FeeExcess::new(id, amount))?;
@@ -62,7 +62,7 @@ impl ChainState {
 
     /// What the fee account gets of an asset in which so much was paid and so much is kept, which it takes in, and what would pass 2^128-1
     /// there. Where nothing came in, what the account has isn't looked up.
-    fn share(&self, id: &AssetId, paid: u128, kept: Total) -> (u128, Wide)
+    fn share(&self, id: &AssetId, paid: u128, kept: Total) -> (u128, WideSum)
         requires paid { paid ≡ amount (paid_goods (part_of self.now).lines) (id.now, None) }
         requires kept { total_value kept ≡ amount (part_of self.now).fees (id.now, None) }
         ensures within { result.0 ≡ amount (fees_within (part_of self.now)) (id.now, None) }
@@ -72,7 +72,7 @@ impl ChainState {
             (some_coins id.now result.0) ≡ None }
     {
         if paid == 0 && kept.high == 0 && kept.low == 0 {
-            return (0, Wide { high: 0, low: 0 });
+            return (0, WideSum::ZERO);
         }
         let held = self.ledger.amount(&self.settings.fee_account, id);
         parted(held, paid, kept)
