@@ -5,7 +5,6 @@ mod faults;
 mod filters;
 mod laws;
 mod list;
-mod reanchor;
 mod units;
 
 pub use faults::{ListFault, ReanchorFault};

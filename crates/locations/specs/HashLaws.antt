@@ -14,17 +14,17 @@ use Rattle.locations.specs.Order.{junction_fields, fields_cmp, junction_cmp, jun
 use Rattle.locations.specs.Hashing.{junction_input, junctions_input, location_input}
 
 -- what is fed, from the fields
-bytes_at : ℕ → List (List (List ℕ)) → List ℕ
-bytes_at i fields = slice_index_or (slice_index_or fields i []) 0 []
+field_bytes : ℕ → List (List (List ℕ)) → List ℕ
+field_bytes i fields = slice_index_or (slice_index_or fields i []) 0 []
 
-number_at : ℕ → List (List (List ℕ)) → ℕ
-number_at i fields = slice_index_or (bytes_at i fields) 0 0
+field_number : ℕ → List (List (List ℕ)) → ℕ
+field_number i fields = slice_index_or (field_bytes i fields) 0 0
 
 fields_input : List (List (List ℕ)) → HashWrites
-fields_input fs = slice_index_or (fed.u32 (number_at 1 fs) ∷ (bytes_at 2 fs ∷ []) ∷ fed.u64 (number_at 2 fs) ∷ (bytes_at 2 fs ∷ []) ∷ fed.u8 (number_at 1 fs) ∷ fed.u128 (number_at 1 fs) ∷ (bytes_at 2 fs ∷ []) ∷ []) (number_at 0 fs) []
+fields_input fs = slice_index_or (fed.u32 (field_number 1 fs) ∷ (field_bytes 2 fs ∷ []) ∷ fed.u64 (field_number 2 fs) ∷ (field_bytes 2 fs ∷ []) ∷ fed.u8 (field_number 1 fs) ∷ fed.u128 (field_number 1 fs) ∷ (field_bytes 2 fs ∷ []) ∷ []) (field_number 0 fs) []
 
 input_by_fields : (j : Junction) → fields_input (junction_fields j) ≡ junction_input j
-unfolding fields_input number_at bytes_at
+unfolding fields_input field_number field_bytes
 input_by_fields (Parachain para) = refl
 input_by_fields (AccountId32 network id) = refl
 input_by_fields (AccountIndex64 network index) = refl
@@ -36,12 +36,12 @@ input_by_fields OnlyChild = refl
 input_by_fields (Plurality id part) = refl
 input_by_fields (GlobalConsensus network) = refl
 
-fields_exact : IsAntisymmetric (slice_cmp fields_cmp)
-fields_exact = slice_cmp-IsAntisymmetric (slice_cmp-IsAntisymmetric (slice_cmp-IsAntisymmetric nat_cmp-IsAntisymmetric))
+junction_fields_exact : IsAntisymmetric (slice_cmp fields_cmp)
+junction_fields_exact = slice_cmp-IsAntisymmetric (slice_cmp-IsAntisymmetric (slice_cmp-IsAntisymmetric nat_cmp-IsAntisymmetric))
 
 junction_alike : (x y : Junction) → eq_by_cmp junction_cmp x y ≡ true → junction_input x ≡ junction_input y
 junction_alike x y same =
-    let fields : junction_fields x ≡ junction_fields y = fields_exact (junction_fields x) (junction_fields y) ((Equal-is (junction_cmp x y)).0 same) in
+    let fields : junction_fields x ≡ junction_fields y = junction_fields_exact (junction_fields x) (junction_fields y) ((Equal-is (junction_cmp x y)).0 same) in
     sym (input_by_fields x) ∙ ap fields_input fields ∙ input_by_fields y
 
 each_alike : (xs ys : List Junction) → eq_by_cmp (slice_cmp junction_cmp) xs ys ≡ true → junctions_input xs ≡ junctions_input ys
