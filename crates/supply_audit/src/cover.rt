@@ -13,14 +13,15 @@ ghost use Rattle.supply_audit.specs.declared.figures.Figure.TheVariants.{Placed,
 ghost use Rattle.supply_audit.specs.RowPlaces as places;
 ghost use Rattle.supply_audit.specs.AssetPlaces.{ArePlaces, HavePlacesOf};
 ghost use Rattle.supply_audit.specs.Covers.{cover_at, cover_between, cover_by, cover_of_row, cover_of_chain, number_of, of_cover, held_at, owed_at, coming_at, standing_at, own_touched, kept_touched};
-ghost use Rattle.supply_audit.specs.Renewed.{HasFigures, IsRenewed};
+ghost use Rattle.supply_audit.specs.Found.{IsRightOf};
 
 use crate::asset_places::AssetPlaces;
 use crate::audit::name_of;
 use crate::figures::{Carried, Figure};
+use crate::last_found::LastFound;
 use crate::messages::same_chain;
 use crate::network_asset::NetworkAsset;
-use crate::over_places::{chain_of, over_places};
+use crate::over_places::{chain_of, over_places, sent_over};
 use crate::stale::are_touched;
 use crate::totals::none;
 use crate::{Backing, Place};
@@ -107,20 +108,24 @@ impl Cover {
     }
 
     /// What is on its way to the chain as deposits.
-    fn coming(&self, chains: &[ChainState]) -> Total
-        ensures { total_value result
+    fn coming(&self, found: &mut LastFound, chains: &[ChainState]) -> Total
+        requires { IsRightOf found.old (map part_of chains.now) }
+        ensures right { IsRightOf found.new (map part_of chains.now) }
+        ensures sent { total_value result
             ≡ min (coming_at (map part_of chains.now) self.now) most_burned }
     {
-        let to_here = Figure::Sent(Carried::Deposits, Some(self.here));
-        over_places(to_here, chains, self.kept.as_slice())
+        let kept = self.kept.as_slice();
+        sent_over(found, Carried::Deposits, self.here, chains, kept)
     }
 
     /// What the chain has, with what is on its way back as withdrawals.
-    fn standing(&self, chains: &[ChainState]) -> Total
-        ensures { total_value result
+    fn standing(&self, found: &mut LastFound, chains: &[ChainState]) -> Total
+        requires { IsRightOf found.old (map part_of chains.now) }
+        ensures right { IsRightOf found.new (map part_of chains.now) }
+        ensures standing { total_value result
             ≡ min (standing_at (map part_of chains.now) self.now) most_burned }
     {
-        standing_over(chains, self.there, self.own.as_slice())
+        standing_over(found, chains, self.there, self.own.as_slice())
     }
 
     /// What the chain has, with what is on its way to it and back.
@@ -145,23 +150,28 @@ fn owed_over(
         ≡ min (owed_at (map part_of chains.now)
         (record { here = here; there = there; own = own.now; kept = kept.now })) most_burned }
 {
-    let to_here = Figure::Sent(Carried::Deposits, Some(here));
-    let to_there = Figure::Sent(Carried::Withdrawals, Some(there));
+    let mut found = LastFound::nothing();
     let placed = over_places(Figure::Placed, chains, own);
-    let coming = over_places(to_here, chains, kept);
-    let leaving = over_places(to_there, chains, own);
+    let coming = sent_over(&mut found, Carried::Deposits, here, chains, kept);
+    let leaving = sent_over(&mut found, Carried::Withdrawals, there, chains, own);
     placed.sum(coming).sum(leaving)
 }
 
 /// What stands at a chain's own places, with what is on its way back to the reserve as withdrawals.
-fn standing_over(chains: &[ChainState], there: ChainId, own: &[Place]) -> Total
-    ensures { total_value result ≡ min (places.over_places Placed (map part_of chains.now) own.now
+fn standing_over(
+    found: &mut LastFound,
+    chains: &[ChainState],
+    there: ChainId,
+    own: &[Place],
+) -> Total
+    requires { IsRightOf found.old (map part_of chains.now) }
+    ensures right { IsRightOf found.new (map part_of chains.now) }
+    ensures standing { total_value result ≡ min (places.over_places Placed (map part_of chains.now) own.now
         + places.over_places (Sent Withdrawals (Some there)) (map part_of chains.now) own.now)
         most_burned }
 {
-    let to_there = Figure::Sent(Carried::Withdrawals, Some(there));
     let placed = over_places(Figure::Placed, chains, own);
-    let leaving = over_places(to_there, chains, own);
+    let leaving = sent_over(found, Carried::Withdrawals, there, chains, own);
     placed.sum(leaving)
 }
 
@@ -186,7 +196,7 @@ pub fn backing_at(chains: &[ChainState], cover: &Option<Cover>) -> Backing
 }
 
 /// Whether a derivative's own places, or those at its reserve, are at a chain that has changed, by a flag for each chain.
-fn touched(stale: &[bool], cover: &Option<Cover>) -> (bool, bool)
+pub(crate) fn touched(stale: &[bool], cover: &Option<Cover>) -> (bool, bool)
     ensures own { result.0 ≡ own_touched stale.now cover.now }
     ensures kept { result.1 ≡ kept_touched stale.now cover.now }
 {
@@ -200,18 +210,20 @@ fn touched(stale: &[bool], cover: &Option<Cover>) -> (bool, bool)
 }
 
 /// What the chain of a derivative has, with what is on its way back as withdrawals; 0 where there is none.
-fn standing(chains: &[ChainState], cover: &Option<Cover>) -> Total
-    ensures { total_value result
+pub(crate) fn standing(found: &mut LastFound, chains: &[ChainState], cover: &Option<Cover>) -> Total
+    requires { IsRightOf found.old (map part_of chains.now) }
+    ensures right { IsRightOf found.new (map part_of chains.now) }
+    ensures standing { total_value result
         ≡ min (of_cover (standing_at (map part_of chains.now)) cover.now) most_burned }
 {
     match cover {
         None => none(),
-        Some(cover) => cover.standing(chains),
+        Some(cover) => cover.standing(found, chains),
     }
 }
 
 /// What the account of a derivative's chain has at the reserve; 0 where there is none.
-fn held(chains: &[ChainState], cover: &Option<Cover>) -> Total
+pub(crate) fn held(chains: &[ChainState], cover: &Option<Cover>) -> Total
     ensures { total_value result
         ≡ min (of_cover (held_at (map part_of chains.now)) cover.now) most_burned }
 {
@@ -222,13 +234,15 @@ fn held(chains: &[ChainState], cover: &Option<Cover>) -> Total
 }
 
 /// What is on its way to the chain of a derivative as deposits; 0 where there is none.
-fn coming(chains: &[ChainState], cover: &Option<Cover>) -> Total
-    ensures { total_value result
+pub(crate) fn coming(found: &mut LastFound, chains: &[ChainState], cover: &Option<Cover>) -> Total
+    requires { IsRightOf found.old (map part_of chains.now) }
+    ensures right { IsRightOf found.new (map part_of chains.now) }
+    ensures sent { total_value result
         ≡ min (of_cover (coming_at (map part_of chains.now)) cover.now) most_burned }
 {
     match cover {
         None => none(),
-        Some(cover) => cover.coming(chains),
+        Some(cover) => cover.coming(found, chains),
     }
 }
 
@@ -241,39 +255,6 @@ pub struct CoverFigures {
     pub coming: Total,
     /// What the chain has, with what is on its way back as withdrawals.
     pub standing: Total,
-}
-
-/// The figures of a derivative; all are 0 where there is none. It takes no memory.
-pub fn cover_figures(chains: &[ChainState], cover: &Option<Cover>) -> CoverFigures
-    ensures { HasFigures result (map part_of chains.now) cover.now }
-{
-    CoverFigures {
-        held: held(chains, cover),
-        coming: coming(chains, cover),
-        standing: standing(chains, cover),
-    }
-}
-
-/// The figures of a derivative, of which `known` has those that are still right: of the chains that have changed, by a flag for each, they are read
-/// anew. It takes no memory.
-pub fn renewed_figures(
-    chains: &[ChainState],
-    stale: &[bool],
-    cover: &Option<Cover>,
-    known: CoverFigures,
-) -> CoverFigures
-    ensures { IsRenewed stale.now (map part_of chains.now) cover.now known result }
-{
-    let (own, kept) = touched(stale, cover);
-    let mut figures = known;
-    if kept {
-        figures.held = held(chains, cover);
-        figures.coming = coming(chains, cover);
-    }
-    if own {
-        figures.standing = standing(chains, cover);
-    }
-    figures
 }
 
 /// The cover of a row with its reserve.

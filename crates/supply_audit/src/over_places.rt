@@ -1,23 +1,23 @@
 //! What the rows at places count for.
-ghost use Rattle.std.specs.Prelude.{◌≡◌, IsTrue, min, map, Some, option_map, slice_get};
+ghost use Rattle.std.specs.Prelude.{◌≡◌, min, map, Some, option_map, slice_get};
 ghost use Rattle.std.specs.Option.{option_copied};
 ghost use Rattle.asset_bundles.specs.Books.{most_burned};
 ghost use Rattle.asset_bundles.specs.Totals.{total_value};
-ghost use Rattle.asset_lists.specs.declared.units.AssetId.{AssetId};
-ghost use Rattle.asset_lists.specs.declared.units.Kind.{Kind};
 ghost use Rattle.chain_state.specs.PartOf.{part_of};
-ghost use Rattle.supply_audit.specs.Places.{figure};
+ghost use Rattle.supply_audit.specs.declared.figures.Figure.TheVariants.{Sent};
+ghost use Rattle.supply_audit.specs.Found.{IsRightOf};
 ghost use Rattle.supply_audit.specs.Supplies.{HasSums};
 ghost use Rattle.supply_audit.specs.RowPlaces.{over_places, placed_over, flight_over, burned_over, place_share, share_in};
 ghost use Rattle.supply_audit.specs.RowPlaces as at;
 
 use crate::Place;
-use crate::figures::Figure;
-use crate::messages::are_idle;
+use crate::figures::{Carried, Figure};
+use crate::last_found::LastFound;
 use crate::places::figure;
 use crate::table::row_supply;
 use crate::totals::{no_supply, none, sum};
 use asset_bundles::Total;
+use chain_ids::ChainId;
 use chain_state::ChainState;
 use ledgers::Supply;
 
@@ -29,24 +29,10 @@ pub(crate) fn chain_of(chains: &[ChainState], number: usize) -> Option<&ChainSta
     chains.get(number)
 }
 
-/// Whether it is known that a chain has nothing of the figure, since no message waits.
-fn is_nothing(which: Figure, chain: &ChainState) -> bool
-    ensures { IsTrue result → (id : AssetId) (kind : Kind)
-        → figure which (part_of chain.now) id kind ≡ 0 }
-{
-    match which {
-        Figure::Sent(_, to) => are_idle(to, chain.queues()),
-        _ => false,
-    }
-}
-
-/// A figure of the row at this place of a chain's list. Where no message waits, the row isn't looked at for what was sent.
+/// A figure of the row at this place of a chain's list.
 fn row_share(which: Figure, chain: &ChainState, row: usize) -> Total
     ensures { total_value result ≡ min (share_in which row (Some (part_of chain.now))) most_burned }
 {
-    if is_nothing(which, chain) {
-        return none();
-    }
     match chain.rows().get(row) {
         None => none(),
         Some(row) => figure(which, chain, &row.id, row.kind),
@@ -72,6 +58,46 @@ pub(crate) fn over_places(which: Figure, chains: &[ChainState], places: &[Place]
     let mut total = none();
     for place in places {
         total = total.sum(place_share(which, chains, *place));
+    }
+    total
+}
+
+/// What was sent to a chain from a place. Where no message waits, the row isn't looked at.
+fn place_sent(
+    found: &mut LastFound,
+    what: Carried,
+    to: ChainId,
+    chains: &[ChainState],
+    place: Place,
+) -> Total
+    requires { IsRightOf found.old (map part_of chains.now) }
+    ensures right { IsRightOf found.new (map part_of chains.now) }
+    ensures sent { total_value result
+        ≡ min (at.place_share (Sent what (Some to)) (map part_of chains.now) place) most_burned }
+{
+    if found.is_idle(chains, place.chain, to) {
+        return none();
+    }
+    place_share(Figure::Sent(what, Some(to)), chains, place)
+}
+
+/// What was sent to a chain from these places. It saturates at 2^160-1. Messages from one chain are looked at once for all of its places, where
+/// none waits.
+pub(crate) fn sent_over(
+    found: &mut LastFound,
+    what: Carried,
+    to: ChainId,
+    chains: &[ChainState],
+    places: &[Place],
+) -> Total
+    requires { IsRightOf found.old (map part_of chains.now) }
+    ensures right { IsRightOf found.new (map part_of chains.now) }
+    ensures sent { total_value result
+        ≡ min (at.over_places (Sent what (Some to)) (map part_of chains.now) places.now) most_burned }
+{
+    let mut total = none();
+    for place in places {
+        total = total.sum(place_sent(found, what, to, chains, *place));
     }
     total
 }

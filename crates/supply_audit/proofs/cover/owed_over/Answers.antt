@@ -16,5 +16,5 @@ returns c =
     let coming = over_places (Sent Deposits (Some c.args.here)) parts c.args.kept.now in
     let leaving = over_places (Sent Withdrawals (Some c.args.there)) parts c.args.own.now in
     let front : total_value c.sum.result ≡ min (min placed most_burned + min coming most_burned) most_burned =
-    c.sum.ensures ∙ (λ i. min (c.over_places-placed.ensures i + c.over_places-coming.ensures i) most_burned) in
-    c.sum-2.ensures ∙ (λ i. min (front i + c.over_places-leaving.ensures i) most_burned) ∙ three placed coming leaving most_burned
+    c.sum.ensures ∙ (λ i. min (c.over_places-placed.ensures i + c.sent_over-coming.ensures.sent i) most_burned) in
+    c.sum-2.ensures ∙ (λ i. min (front i + c.sent_over-leaving.ensures.sent i) most_burned) ∙ three placed coming leaving most_burned
