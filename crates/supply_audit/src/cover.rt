@@ -22,10 +22,12 @@ use crate::last_found::LastFound;
 use crate::messages::same_chain;
 use crate::network_asset::NetworkAsset;
 use crate::over_places::{chain_of, over_places, sent_over};
+use crate::places::no_name;
 use crate::stale::are_touched;
 use crate::totals::none;
 use crate::{Backing, Place};
 use asset_bundles::Total;
+use asset_lists::AssetId;
 use chain_ids::ChainId;
 use chain_state::ChainState;
 use network_coherence::sovereign_account;
@@ -100,11 +102,11 @@ impl Cover {
     }
 
     /// What the chain's account at the reserve has.
-    fn held(&self, chains: &[ChainState]) -> Total
+    fn held(&self, name: &mut AssetId, chains: &[ChainState]) -> Total
         ensures { total_value result ≡ min (held_at (map part_of chains.now) self.now) most_burned }
     {
         let who = sovereign_account(self.there, self.here);
-        over_places(Figure::Account(who), chains, self.kept.as_slice())
+        over_places(name, Figure::Account(who), chains, self.kept.as_slice())
     }
 
     /// What is on its way to the chain as deposits.
@@ -119,13 +121,13 @@ impl Cover {
     }
 
     /// What the chain has, with what is on its way back as withdrawals.
-    fn standing(&self, found: &mut LastFound, chains: &[ChainState]) -> Total
+    fn standing(&self, found: &mut LastFound, name: &mut AssetId, chains: &[ChainState]) -> Total
         requires { IsRightOf found.old (map part_of chains.now) }
         ensures right { IsRightOf found.new (map part_of chains.now) }
         ensures standing { total_value result
             ≡ min (standing_at (map part_of chains.now) self.now) most_burned }
     {
-        standing_over(found, chains, self.there, self.own.as_slice())
+        standing_over(found, name, chains, self.there, self.own.as_slice())
     }
 
     /// What the chain has, with what is on its way to it and back.
@@ -150,8 +152,9 @@ fn owed_over(
         ≡ min (owed_at (map part_of chains.now)
         (record { here = here; there = there; own = own.now; kept = kept.now })) most_burned }
 {
+    let mut name = no_name();
     let mut found = LastFound::nothing();
-    let placed = over_places(Figure::Placed, chains, own);
+    let placed = over_places(&mut name, Figure::Placed, chains, own);
     let coming = sent_over(&mut found, Carried::Deposits, here, chains, kept);
     let leaving = sent_over(&mut found, Carried::Withdrawals, there, chains, own);
     placed.sum(coming).sum(leaving)
@@ -160,6 +163,7 @@ fn owed_over(
 /// What stands at a chain's own places, with what is on its way back to the reserve as withdrawals.
 fn standing_over(
     found: &mut LastFound,
+    name: &mut AssetId,
     chains: &[ChainState],
     there: ChainId,
     own: &[Place],
@@ -170,7 +174,7 @@ fn standing_over(
         + places.over_places (Sent Withdrawals (Some there)) (map part_of chains.now) own.now)
         most_burned }
 {
-    let placed = over_places(Figure::Placed, chains, own);
+    let placed = over_places(name, Figure::Placed, chains, own);
     let leaving = sent_over(found, Carried::Withdrawals, there, chains, own);
     placed.sum(leaving)
 }
@@ -189,7 +193,7 @@ pub fn backing_at(chains: &[ChainState], cover: &Option<Cover>) -> Backing
             owed: none(),
         },
         Some(cover) => Backing {
-            held: cover.held(chains),
+            held: cover.held(&mut no_name(), chains),
             owed: cover.owed(chains),
         },
     }
@@ -210,7 +214,12 @@ pub(crate) fn touched(stale: &[bool], cover: &Option<Cover>) -> (bool, bool)
 }
 
 /// What the chain of a derivative has, with what is on its way back as withdrawals; 0 where there is none.
-pub(crate) fn standing(found: &mut LastFound, chains: &[ChainState], cover: &Option<Cover>) -> Total
+pub(crate) fn standing(
+    found: &mut LastFound,
+    name: &mut AssetId,
+    chains: &[ChainState],
+    cover: &Option<Cover>,
+) -> Total
     requires { IsRightOf found.old (map part_of chains.now) }
     ensures right { IsRightOf found.new (map part_of chains.now) }
     ensures standing { total_value result
@@ -218,18 +227,18 @@ pub(crate) fn standing(found: &mut LastFound, chains: &[ChainState], cover: &Opt
 {
     match cover {
         None => none(),
-        Some(cover) => cover.standing(found, chains),
+        Some(cover) => cover.standing(found, name, chains),
     }
 }
 
 /// What the account of a derivative's chain has at the reserve; 0 where there is none.
-pub(crate) fn held(chains: &[ChainState], cover: &Option<Cover>) -> Total
+pub(crate) fn held(name: &mut AssetId, chains: &[ChainState], cover: &Option<Cover>) -> Total
     ensures { total_value result
         ≡ min (of_cover (held_at (map part_of chains.now)) cover.now) most_burned }
 {
     match cover {
         None => none(),
-        Some(cover) => cover.held(chains),
+        Some(cover) => cover.held(name, chains),
     }
 }
 

@@ -6,6 +6,8 @@ ghost use Rattle.supply_audit.specs.Renewed.{HasFigures, IsRenewed};
 
 use crate::cover::{Cover, CoverFigures, coming, held, standing, touched};
 use crate::last_found::LastFound;
+use crate::places::no_name;
+use asset_lists::AssetId;
 use chain_state::ChainState;
 
 /// Chains whose figures are read, and what was found last of the messages between them: for derivatives of one chain and one reserve these
@@ -16,6 +18,7 @@ pub struct FigureReader<'a> {
     pub chains: &'a [ChainState],
     coming: LastFound,
     leaving: LastFound,
+    name: AssetId,
     ghost coming_right: { IsRightOf coming (map part_of chains.now) },
     ghost leaving_right: { IsRightOf leaving (map part_of chains.now) },
 }
@@ -29,6 +32,7 @@ impl<'a> FigureReader<'a> {
             chains,
             coming: LastFound::nothing(),
             leaving: LastFound::nothing(),
+            name: no_name(),
         }
     }
 
@@ -38,9 +42,9 @@ impl<'a> FigureReader<'a> {
         ensures figures { HasFigures result (map part_of self.old.chains.now) cover.now }
     {
         CoverFigures {
-            held: held(self.chains, cover),
+            held: held(&mut self.name, self.chains, cover),
             coming: coming(&mut self.coming, self.chains, cover),
-            standing: standing(&mut self.leaving, self.chains, cover),
+            standing: standing(&mut self.leaving, &mut self.name, self.chains, cover),
         }
     }
 
@@ -58,11 +62,11 @@ impl<'a> FigureReader<'a> {
         let (own, kept) = touched(stale, cover);
         let mut figures = known;
         if kept {
-            figures.held = held(self.chains, cover);
+            figures.held = held(&mut self.name, self.chains, cover);
             figures.coming = coming(&mut self.coming, self.chains, cover);
         }
         if own {
-            figures.standing = standing(&mut self.leaving, self.chains, cover);
+            figures.standing = standing(&mut self.leaving, &mut self.name, self.chains, cover);
         }
         figures
     }

@@ -13,10 +13,12 @@ ghost use Rattle.supply_audit.specs.RowPlaces as at;
 use crate::Place;
 use crate::figures::{Carried, Figure};
 use crate::last_found::LastFound;
+use crate::messages::sent;
 use crate::places::figure;
 use crate::table::row_supply;
 use crate::totals::{no_supply, none, sum};
 use asset_bundles::Total;
+use asset_lists::AssetId;
 use chain_ids::ChainId;
 use chain_state::ChainState;
 use ledgers::Supply;
@@ -30,36 +32,52 @@ pub(crate) fn chain_of(chains: &[ChainState], number: usize) -> Option<&ChainSta
 }
 
 /// A figure of the row at this place of a chain's list.
-fn row_share(which: Figure, chain: &ChainState, row: usize) -> Total
+fn row_share(name: &mut AssetId, which: Figure, chain: &ChainState, row: usize) -> Total
     ensures { total_value result ≡ min (share_in which row (Some (part_of chain.now))) most_burned }
 {
     match chain.rows().get(row) {
         None => none(),
-        Some(row) => figure(which, chain, &row.id, row.kind),
+        Some(row) => figure(name, which, chain, &row.id, row.kind),
     }
 }
 
 /// A figure of the row at a place.
-fn place_share(which: Figure, chains: &[ChainState], place: Place) -> Total
+fn place_share(name: &mut AssetId, which: Figure, chains: &[ChainState], place: Place) -> Total
     ensures { total_value result
         ≡ min (place_share which (map part_of chains.now) place) most_burned }
 {
     match chain_of(chains, place.chain) {
         None => none(),
-        Some(chain) => row_share(which, chain, place.row),
+        Some(chain) => row_share(name, which, chain, place.row),
     }
 }
 
-/// A figure of the rows at these places. It saturates at 2^160-1.
-pub(crate) fn over_places(which: Figure, chains: &[ChainState], places: &[Place]) -> Total
+/// A figure of the rows at these places. It saturates at 2^160-1. `name` has room for an id.
+pub(crate) fn over_places(
+    name: &mut AssetId,
+    which: Figure,
+    chains: &[ChainState],
+    places: &[Place],
+) -> Total
     ensures { total_value result
         ≡ min (over_places which (map part_of chains.now) places.now) most_burned }
 {
     let mut total = none();
     for place in places {
-        total = total.sum(place_share(which, chains, *place));
+        total = total.sum(place_share(name, which, chains, *place));
     }
     total
+}
+
+/// What was sent to a chain of the row at this place of a chain's list.
+fn row_sent(what: Carried, to: ChainId, chain: &ChainState, row: usize) -> Total
+    ensures { total_value result
+        ≡ min (share_in (Sent what (Some to)) row (Some (part_of chain.now))) most_burned }
+{
+    match chain.rows().get(row) {
+        None => none(),
+        Some(row) => sent(what, Some(to), &row.id, row.kind, chain.queues()),
+    }
 }
 
 /// What was sent to a chain from a place. Where no message waits, the row isn't looked at.
@@ -78,7 +96,10 @@ fn place_sent(
     if found.is_idle(chains, place.chain, to) {
         return none();
     }
-    place_share(Figure::Sent(what, Some(to)), chains, place)
+    match chain_of(chains, place.chain) {
+        None => none(),
+        Some(chain) => row_sent(what, to, chain, place.row),
+    }
 }
 
 /// What was sent to a chain from these places. It saturates at 2^160-1. Messages from one chain are looked at once for all of its places, where

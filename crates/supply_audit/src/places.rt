@@ -65,15 +65,44 @@ pub(crate) fn named(id: &Location) -> AssetId
     AssetId::Concrete(id.copy())
 }
 
-/// A figure of a chain under an id. It saturates at 2^160-1.
-pub(crate) fn figure(figure: Figure, chain: &ChainState, id: &Location, kind: Kind) -> Total
+/// The place that looks: room for a name. An id is a large value, so it is filled where it stands.
+pub(crate) fn no_name() -> AssetId {
+    AssetId::Concrete(Location::here())
+}
+
+/// Becomes the asset that an id names, where it is bytes.
+fn become_named(name: &mut AssetId, id: &Location)
+    ensures { name.new ≡ Concrete id.now }
+{
+    *name = named(id);
+}
+
+/// Becomes the asset that an id names.
+fn rename(name: &mut AssetId, id: &Location)
+    ensures { name.new ≡ Concrete id.now }
+{
+    match name {
+        AssetId::Concrete(place) => place.assign(id),
+        AssetId::Abstract(_) => become_named(name, id),
+    }
+}
+
+/// A figure of a chain under an id. It saturates at 2^160-1. `name` has room for the id.
+pub(crate) fn figure(
+    name: &mut AssetId,
+    figure: Figure,
+    chain: &ChainState,
+    id: &Location,
+    kind: Kind,
+) -> Total
     ensures { total_value result
         ≡ min (places.figure figure (part_of chain.now) (Concrete id.now) kind) most_burned }
 {
+    rename(name, id);
     match figure {
-        Figure::Placed => placed(chain, &named(id), kind),
-        Figure::Burned => burned(chain.burns(), &named(id), kind),
-        Figure::Account(who) => none().plus(account(chain.ledger(), &who, &named(id), kind)),
+        Figure::Placed => placed(chain, name, kind),
+        Figure::Burned => burned(chain.burns(), name, kind),
+        Figure::Account(who) => none().plus(account(chain.ledger(), &who, name, kind)),
         Figure::Sent(what, to) => sent(what, to, id, kind, chain.queues()),
     }
 }
@@ -108,6 +137,7 @@ fn context_of(chain: &ChainState) -> Junctions
 
 /// What a row counts for.
 fn row_share(
+    name: &mut AssetId,
     which: Figure,
     chain: &ChainState,
     context: &Junctions,
@@ -124,7 +154,7 @@ fn row_share(
     if !is_row_of(context, home, id, kind, row) {
         return none();
     }
-    figure(which, chain, &row.id, row.kind)
+    figure(name, which, chain, &row.id, row.kind)
 }
 
 /// A figure of the asset of this path and kind, over the rows that list it. It saturates at 2^160-1.
@@ -140,10 +170,11 @@ pub(crate) fn over_rows(
         (places.figure which (part_of chain.now))) most_burned }
 {
     let context = context_of(chain);
+    let mut name = no_name();
     let mut total = none();
     let rows = chain.rows();
     for row in rows {
-        total = total.sum(row_share(which, chain, &context, home, id, kind, row));
+        total = total.sum(row_share(&mut name, which, chain, &context, home, id, kind, row));
     }
     total
 }
