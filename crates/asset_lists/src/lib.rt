@@ -14,5 +14,5 @@ pub use laws::{
     law_of_exact_asset_orders, law_of_exact_list_test, law_of_insertion, law_of_reanchored_lists,
     law_of_rising,
 };
-pub use list::{Assets, MAX_ASSETS, copied, is_rising, push_asset};
+pub use list::{Assets, MAX_ASSETS, copied, is_rising, push_asset, push_place};
 pub use units::{Asset, AssetId, Fun, Instance, Kind};

@@ -8,7 +8,7 @@ ghost use Rattle.weight_trader.specs.Closing.{coins, is_paid};
 
 use crate::rate::{Rate, price};
 use asset_bundles::AssetBundle;
-use asset_lists::{Asset, AssetId, Fun};
+use asset_lists::{Asset, AssetId, Fun, push_place};
 use locations::Location;
 use operands::Weight;
 use std::marker::Model;
@@ -84,6 +84,11 @@ impl Purchases {
             id: AssetId::Concrete(self.rate.asset.copy()),
             fun: Fun::Fungible(amount),
         }
+    }
+
+    /// Puts so much of the asset that is paid with at the end of a list that has room for it.
+    pub(crate) fn push_coins(&self, list: &mut Vec<Asset>, amount: u128) {
+        push_place(list, &self.rate.asset, Fun::Fungible(amount));
     }
 
     /// Whether the payment has the price of the weight.

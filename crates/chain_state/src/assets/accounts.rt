@@ -75,7 +75,7 @@ impl ChainState {
     {
         // For the prover alone: an amount has 128 bits.
         let _have = self.held_at(fee, who);
-        let list = Assets::one(*self.events.allocator(), fee.copy())?;
+        let list = Assets::of_one(*self.events.allocator(), fee)?;
         self.withdraw_list(&list, who)
     }
 

@@ -18,7 +18,7 @@ use crate::ChainState;
 use crate::fees::fee_excess::FeeExcess;
 use crate::fees::wide::{Wide, parted};
 use asset_bundles::{Cause, Total};
-use asset_lists::{Asset, AssetId, Fun, Kind};
+use asset_lists::{Asset, AssetId, Fun, Kind, push_asset};
 use exec_base::Event;
 use std::alloc::AllocError;
 
@@ -29,10 +29,8 @@ fn push_coins(list: &mut Vec<Asset>, id: &AssetId, amount: u128) -> Result<(), A
     if amount == 0 {
         return Ok(());
     }
-    list.push(Asset {
-        id: id.copy(),
-        fun: Fun::Fungible(amount),
-    })?;
+    list.reserve(1)?;
+    push_asset(list, id, Fun::Fungible(amount));
     Ok(())
 }
 

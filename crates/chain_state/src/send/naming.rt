@@ -33,10 +33,12 @@ fn all_reanchored(
 {
     let mut all = Vec::new(alloc);
     for asset in list {
-        let Some(seen) = asset.reanchored(target, context) else {
+        all.reserve(1)?;
+        let last = all.len();
+        all.push_reserved(Asset::zero());
+        if !asset.reanchor_into(target, context, &mut all[last]) {
             return Ok(None);
-        };
-        all.push(seen)?;
+        }
     }
     Ok(Some(all))
 }
