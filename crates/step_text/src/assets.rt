@@ -11,9 +11,10 @@ use std::alloc::{AllocError, Global};
 use std::fmt::Write;
 
 /// The origin register.
-pub(crate) fn origin_text(alloc: Global, origin: &Option<Location>) -> Result<String, AllocError>
-    ensures { IfOk result (λ text. string_bytes text ≡ origin_text origin.now) }
-{
+pub(crate) fn origin_text(
+    alloc: Global,
+    origin: &Option<Box<Location>>,
+) -> Result<String, AllocError> {
     match origin {
         None => format!(in alloc; "-"),
         Some(l) => location_text(alloc, l),

@@ -117,10 +117,7 @@ fn push_burned(
     path: &Junctions,
     amount: Total,
     cause: Cause,
-) -> Result<(), AllocError>
-    ensures { OnOk result (string_bytes text.new
-        ≡ string_bytes text.old ++ event_line (Event.Burned kind path.now amount cause)) }
-{
+) -> Result<(), AllocError> {
     let kind = kind_name(kind);
     let path = path_text(alloc, path)?;
     let amount = Shown(amount);
@@ -133,15 +130,11 @@ fn push_burned(
 fn push_end(
     alloc: Global,
     text: &mut String,
-    origin: &Option<Location>,
+    origin: &Option<Box<Location>>,
     topic: &Option<[u8; 32]>,
     surplus: Weight,
     refunded: Weight,
-) -> Result<(), AllocError>
-    ensures { OnOk result (string_bytes text.new
-        ≡ string_bytes text.old ++ event_line
-        (Event.End origin.now topic.now surplus refunded)) }
-{
+) -> Result<(), AllocError> {
     let origin = origin_text(alloc, origin)?;
     let topic = topic_text(alloc, topic)?;
     write!(

@@ -129,18 +129,8 @@ fn refund<H: Host>(r: &mut Registers, h: &mut H) -> Result<(), AllocError>
     }
 }
 
-/// The same origin.
-fn same(origin: &Option<Location>) -> Option<Location>
-    ensures { result ≡ origin.now }
-{
-    match origin {
-        Some(origin) => Some(origin.copy()),
-        None => None,
-    }
-}
-
 /// Refunds what is left of the surplus, tells of the end, and settles the fees.
-fn wind_up<H: Host>(r: &mut Registers, h: &mut H) -> Result<(), AllocError>
+fn wind_up<H: Host>(alloc: Global, r: &mut Registers, h: &mut H) -> Result<(), AllocError>
     requires ready { IsReady refund_surplus (machine r.old (H.part h.old)) }
     ensures ok { OnOk result (machine r.new (H.part h.new)
         ≡ wound_up (machine r.old (H.part h.old))) }
@@ -148,8 +138,12 @@ fn wind_up<H: Host>(r: &mut Registers, h: &mut H) -> Result<(), AllocError>
         (machine r.new (H.part h.new))) }
 {
     refund(r, h)?;
+    let origin = match &r.origin {
+        Some(origin) => Some(Box::new(alloc, origin.copy())?),
+        None => None,
+    };
     h.event(Event::End {
-        origin: same(&r.origin),
+        origin,
         topic: r.topic,
         surplus: r.surplus,
         refunded: r.refunded,
@@ -174,7 +168,7 @@ pub(crate) fn close<H: Host>(
         (H.part h.new)) }
 {
     law_of_readiness(); // For the prover alone.
-    match wind_up(r, h) {
+    match wind_up(alloc, r, h) {
         Ok(()) => {
             let ended = outcome(weight, r);
             trap_rest(alloc, r, h)?;

@@ -155,21 +155,20 @@ impl ChainState {
     }
 
     /// The line of so much of a listed asset that is booked as saturated.
-    fn above_line(&self, above: &FeeExcess) -> Event
+    fn above_line(&self, above: &FeeExcess) -> Result<Event, AllocError>
         requires listed { IsTrue (lists (listing self.now.settings.rows) (listed_of above.now.0)) }
-        ensures { result ≡ burned_line (part_of self.now)
-            (λ unit. Cause.Saturated) (asset_of_amount above.now) }
     {
         let asset = Asset {
             id: above.id().copy(),
             fun: Fun::Fungible(0),
         };
-        Event::Burned {
-            kind: Kind::Fungible,
-            path: self.path(&asset),
-            amount: above.total(),
-            cause: Cause::Saturated,
-        }
+        Event::burned(
+            *self.events.allocator(),
+            Kind::Fungible,
+            self.path(&asset),
+            above.total(),
+            Cause::Saturated,
+        )
     }
 
     /// The lines of what is booked as saturated.
@@ -181,7 +180,7 @@ impl ChainState {
     {
         let mut lines = Vec::new(*self.events.allocator());
         for one in above {
-            lines.push(self.above_line(one))?;
+            lines.push(self.above_line(one)?)?;
         }
         Ok(lines)
     }

@@ -31,7 +31,7 @@ impl ChainState {
             id: AssetId::Concrete(asset),
             fun: Fun::Fungible(amount),
         };
-        lines.push(self.line(&goods, Some(Cause::Saturated)))?;
+        lines.push(self.line(&goods, Some(Cause::Saturated))?)?;
         Ok(lines)
     }
 

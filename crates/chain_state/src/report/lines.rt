@@ -45,19 +45,20 @@ impl ChainState {
 
     /// The line of a listed asset that is burned.
     #[tactic(auto, using(crate::proofs::BurnedLines::small_total))]
-    pub(crate) fn line(&self, asset: &Asset, cause: Option<Cause>) -> Event
+    pub(crate) fn line(&self, asset: &Asset, cause: Option<Cause>) -> Result<Event, AllocError>
         requires { IsTrue (lists (listing self.now.settings.rows) (listed_of (unit_of asset.now))) }
-        ensures { result ≡ burned_line (part_of self.now) (cause_by cause) asset.now }
     {
-        Event::Burned {
-            kind: asset.kind(),
-            path: self.path(asset),
-            amount: Total {
-                low: asset.amount(),
-                high: 0,
-            },
-            cause: cause_by(cause, asset),
-        }
+        let amount = Total {
+            low: asset.amount(),
+            high: 0,
+        };
+        Event::burned(
+            *self.events.allocator(),
+            asset.kind(),
+            self.path(asset),
+            amount,
+            cause_by(cause, asset),
+        )
     }
 
     /// The lines of listed assets that are burned.
@@ -73,7 +74,7 @@ impl ChainState {
     {
         let mut lines = Vec::new(*self.events.allocator());
         for asset in list {
-            lines.push(self.line(asset, cause))?;
+            lines.push(self.line(asset, cause)?)?;
         }
         Ok(lines)
     }
