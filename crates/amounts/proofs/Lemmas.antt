@@ -311,7 +311,7 @@ module _ {X : Type 0} where
       let same : y ≡ x = cc in let here : f y ≡ f x = ap f same in let all = sum_by-cons f y ys in omega (arith, here, all)
   one_at_most f (y ∷ ys) (suc i) x at = let rest = one_at_most f ys i x at in let all = sum_by-cons f y ys in omega (arith, rest, all)
 
-  -- two elements at different places have together at most the sum
+  -- two elements at different indices have together at most the sum
   pub two_at_most : (f : X → ℕ) (xs : List X) (i j : ℕ) (x y : X) → slice_get xs i ≡ Some x → slice_get xs j ≡ Some y → (i ≡ j → ⊥) → f x + f y ≤ sum_by f xs
   two_at_most f [] i j x y at_i at_j apart = absurd (cc)
   two_at_most f (z ∷ zs) zero zero x y at_i at_j apart = absurd (apart refl)

@@ -1,4 +1,4 @@
--- A map made of entries, as a `BTreeMap` keeps them: at a key that stands twice the first entry counts.
+-- A map made of entries, as a `BTreeMap` keeps them: at a key that is there twice the first entry counts.
 use Rattle.std.specs.Prelude.{ℕ, List, [], ◌∷◌}
 use Rattle.std.specs.declared.cmp.Ordering.{Ordering}
 use Rattle.amounts.specs.Amounts.{Amounts, empty, with_amount}

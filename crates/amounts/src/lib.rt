@@ -1,6 +1,6 @@
 //! Finite maps from keys to amounts above 0, and the laws of their sums.
 //!
-//! The maps stand in `specs/`: contracts speak of what a bundle, an account or a book holds by them. There is
+//! The maps are in `specs/`: contracts speak of what a bundle, an account or a book holds by them. There is
 //! nothing to run here. Each function has an empty body, and its contract is a law.
 #![tactic(auto)]
 

@@ -16,7 +16,7 @@ use Rattle.asset_lists.specs.Units.{instance_fields, instance_cmp, asset_id_cmp,
 pub instance_total : IsTotalOrder instance_cmp
 instance_total = on_total instance_fields fields_total
 
--- an id as its variant, its place and its bytes, of which one counts
+-- an id as its variant, its location and its bytes, of which one counts
 variant_of : AssetId → ℕ
 variant_of (Concrete l) = 0
 variant_of (Abstract b) = 1

@@ -69,7 +69,7 @@ unit_cmp = then_cmp (on (λ (u : Unit). kind_index u.1) nat_cmp)
 abbrev pub asset_cmp : Asset → Asset → Ordering
 asset_cmp = then_cmp (on unit_of unit_cmp) (on amount_of nat_cmp)
 
--- the unit of a stands before that of b
+-- the unit of a comes before that of b
 abbrev pub is_before : Asset → Asset → Bool
 is_before a b = is_lt (unit_cmp (unit_of a) (unit_of b))
 

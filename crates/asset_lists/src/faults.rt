@@ -22,7 +22,7 @@ pub enum ListFault {
 /// Why a list of assets has no names at another chain.
 #[derive(Clone, Copy, Debug, PartialEq, Eq, Error)]
 pub enum ReanchorFault {
-    /// An id is bytes, or the target can't name its place.
+    /// An id is bytes, or the target can't name its location.
     #[error("an asset that the target can't name")]
     NotReanchored,
     /// Two assets would be the same.

@@ -26,7 +26,7 @@ pub fn law_of_exact_list_test()
     ensures { TestsLists }
 {}
 
-/// A list rises exactly where each asset stands before the later ones, and then no unit is in it twice.
+/// A list rises exactly where each asset comes before the later ones, and then no unit is in it twice.
 pub fn law_of_rising()
     ensures places { (xs : List Asset) → IsTrue (is_rising xs) ↔ AreInOrder xs }
     ensures once { (xs : List Asset) (unit : Unit)
@@ -42,7 +42,7 @@ pub fn law_of_insertion()
 {}
 
 /// A list that is reanchored has the ids that the target gives each asset. The relation of the call tells one list, the
-/// one that is computed, and what is computed stands in the relation; and where the call is refused, but for memory,
+/// one that is computed, and what is computed is in the relation; and where the call is refused, but for memory,
 /// none is computed.
 pub fn law_of_reanchored_lists()
     ensures list { (all new : List Asset) → IsReanchoredList all new → IsAssetList new }

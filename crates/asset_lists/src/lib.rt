@@ -5,7 +5,6 @@ mod faults;
 mod filters;
 mod laws;
 mod list;
-mod reanchor;
 mod units;
 
 pub use faults::{ListFault, ReanchorFault};
@@ -14,5 +13,5 @@ pub use laws::{
     law_of_exact_asset_orders, law_of_exact_list_test, law_of_insertion, law_of_reanchored_lists,
     law_of_rising,
 };
-pub use list::{Assets, MAX_ASSETS, copied, is_rising, push_asset};
+pub use list::{Assets, MAX_ASSETS, copied, is_rising, push_asset, push_place, push_reanchored};
 pub use units::{Asset, AssetId, Fun, Instance, Kind};

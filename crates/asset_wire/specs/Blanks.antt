@@ -3,7 +3,7 @@ use Rattle.std.specs.Prelude.{◌≡◌, []}
 use Rattle.asset_lists.specs.declared.units.AssetId.{AssetId}
 use Rattle.asset_lists.specs.declared.units.AssetId.TheVariants.{Concrete, Abstract}
 
--- a place with no junctions
+-- a location with no junctions
 abbrev pub IsBlank : AssetId → Type 0
 IsBlank (Concrete place) = place.interior ≡ []
 IsBlank (Abstract bytes) = ⊥

@@ -25,7 +25,7 @@ use Rattle.operands.specs.declared.version.Version.TheVariants.{V3, V4}
 
 -- ---- ids
 
--- In version 4 an id is a location. Bytes that name no place have no spelling there, as FitsId says.
+-- In version 4 an id is a location. Bytes that name no location have no spelling there, as FitsId says.
 abbrev pub asset_id : Version → AssetId → List ℕ
 asset_id V3 (Concrete place) = 0 ∷ location place
 asset_id V3 (Abstract bytes) = 1 ∷ bytes

@@ -1,4 +1,4 @@
-//! The readers behind the public ones. Where they leave the cursor after a refusal isn't said.
+//! The readers that the public ones call. Where they leave the cursor after a refusal isn't said.
 
 ghost use Rattle.std.specs.Prelude.{◌≡◌, [], ◌≤◌};
 ghost use Rattle.scale_codec.specs.Reading.{made1, take_at, repeated};
@@ -8,7 +8,7 @@ ghost use Rattle.asset_lists.specs.declared.units.AssetId.TheVariants.{Concrete,
 ghost use Rattle.asset_wire.specs.Blanks.{IsBlank};
 ghost use Rattle.asset_wire.specs.Reading.{asset_id_at, instance_at, positive_amount_at, fun_at, asset_at, assets_at, wild_fun_at, wild_at, filter_at};
 
-// As in location_wire: places and amounts are read in line, bytes and instances aren't.
+// As in location_wire: locations and amounts are read inline, bytes and instances aren't.
 
 use crate::{Version, WireFault};
 use asset_lists::{Asset, AssetId, Assets, Filter, Fun, Instance, MAX_ASSETS, Wild, WildFun};
@@ -17,7 +17,7 @@ use locations::{Junctions, Location};
 use scale_codec::{Cursor, NoSpelling};
 use std::alloc::Global;
 
-/// A place, into an id that has one with no junctions.
+/// A location, into an id that has one with no junctions.
 #[inline(always)]
 fn fill_place(c: &mut Cursor<'_>, id: &mut AssetId) -> Result<(), NoSpelling>
     requires { IsBlank id.old }
@@ -29,7 +29,7 @@ fn fill_place(c: &mut Cursor<'_>, id: &mut AssetId) -> Result<(), NoSpelling>
     }
 }
 
-/// 32 bytes that name no place.
+/// 32 bytes that name no location.
 #[inline(never)]
 fn fill_bytes(c: &mut Cursor<'_>, id: &mut AssetId) -> Result<(), NoSpelling>
     ensures { Filled result (made1 (take_at 32) Abstract c.old) id.new c.new }
@@ -102,7 +102,7 @@ fn take_amount(c: &mut Cursor<'_>) -> Result<u128, NoSpelling>
     Ok(amount)
 }
 
-/// An amount or an instance, into its place.
+/// An amount or an instance, into its slot.
 #[tactic(auto, unfolding(crate::specs::Reading::fun_at))]
 #[inline(always)]
 fn fill_fun(c: &mut Cursor<'_>, fun: &mut Fun) -> Result<(), NoSpelling>

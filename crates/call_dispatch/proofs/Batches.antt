@@ -1,4 +1,4 @@
--- A batch from its first call on: what it did, that it can be moved back, and what stands where memory was refused.
+-- A batch from its first call on: what it did, that it can be moved back, and what the state is where memory was refused.
 use Rattle.std.proofs.Common.{◌≡◌, ℕ, List, [], ◌∷◌, length, Option, Some, None, Result, Ok, Err, refl, sym, ap, ◌∙◌, subst, arith}
 use Rattle.std.specs.Prelude.{OnErr}
 use Rattle.call_dispatch.specs.declared.call.Call.TheVariants.{Remark, Transfer, Fail, Batch}
@@ -11,7 +11,7 @@ use Rattle.call_dispatch.proofs.Lemmas.ShiftLaws.{accepted, enough_held, restore
 use Rattle.call_dispatch.specs.TakingBack.{taken_back, CanTakeBack, HadNumber}
 use Rattle.call_dispatch.proofs.Lemmas.DispatchLaws.{items_fail, item_fails}
 
--- what stands after an error is what stood at first
+-- the state after an error is the one at first
 swapped : RowAmounts → Done → Done
 swapped first (now, Success) = (now, Success)
 swapped first (now, Error code) = (first, Error code)

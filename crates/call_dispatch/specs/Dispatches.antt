@@ -1,7 +1,7 @@
 -- What a call does for an account: the next map of (account, row) to amount, and the answer. This project's own rule.
 --     dispatch m floors rows who c      rows: those that are there and fungible; floors: what must stay of them
 --     HasDone m floors rows who items now      all of these items were done, one after another, and none failed
---     IsInterrupted m floors rows who c now      what stands where memory was refused
+--     IsInterrupted m floors rows who c now      the state where memory was refused
 use Rattle.std.specs.Prelude.{◌≡◌, ◌==◌, ℕ, Bool, false, List, [], ◌∷◌, ◌++◌, Option, Some, None}
 use Rattle.std.specs.List.{list_any}
 use Rattle.amounts.specs.Amounts.{total}
@@ -43,12 +43,12 @@ done_by batch m floors rows who (Batch items) = batch m items
 unfoldable pub dispatch_item : RowAmounts → Floors → List ℕ → List ℕ → Item → Done
 dispatch_item = done_by (λ m none. (m, Success))
 
--- what comes next; or an answer, and then the first map stands
+-- what comes next; or an answer, and then the map is the first one
 abbrev pub next_or : RowAmounts → Done → (RowAmounts → Done) → Done
 next_or first (now, Success) next = next now
 next_or first (now, Error code) next = (first, Error code)
 
--- One item after another. Where one fails, what stood at first stands.
+-- One item after another. Where one fails, the map is the first one.
 unfoldable pub dispatch_items : RowAmounts → RowAmounts → Floors → List ℕ → List ℕ → List Item
     → Done
 dispatch_items first m floors rows who [] = (m, Success)
@@ -71,7 +71,7 @@ items_of (Transfer row dest n) = []
 items_of (Fail code) = []
 items_of (Batch items) = items
 
--- a front of these items was done, and no more
+-- a prefix of these items was done, and no more
 pub record HasDoneFront (m : RowAmounts) (floors : Floors) (rows who : List ℕ) (items : List Item)
     (now : RowAmounts) : Type 0 where
   pub front : List Item
@@ -79,7 +79,7 @@ pub record HasDoneFront (m : RowAmounts) (floors : Floors) (rows who : List ℕ)
   pub all : items ≡ front ++ back
   pub done : HasDone m floors rows who front now
 
--- a front of the batch was done, and no more; no other call is done in part
+-- a prefix of the batch was done, and no more; no other call is done in part
 abbrev pub IsInterrupted : RowAmounts → Floors → List ℕ → List ℕ → AnyCall → RowAmounts → Type 0
 IsInterrupted m floors rows who c now = HasDoneFront m floors rows who (items_of c) now
 

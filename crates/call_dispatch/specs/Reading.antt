@@ -40,7 +40,7 @@ call_forms = item_forms ++ made1 batch_at Batch ∷ []
 unfoldable pub call_at : Reader AnyCall
 call_at = indexed_at call_forms
 
--- a call with nothing behind it
+-- a call with nothing after it
 abbrev pub alone : Option (AnyCall × List ℕ) → Result AnyCall CallFault
 alone None = Err NotACall
 alone (Some (call, [])) = Ok call

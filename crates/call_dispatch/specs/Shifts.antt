@@ -1,4 +1,4 @@
--- Amounts that stand under an account and the number of an asset's row, and moving them. This project's own rule.
+-- Amounts by an account and the number of an asset's row, and moving them. This project's own rule.
 --     AccountRow      an account, by its bytes, and the number of a row
 --     RowAmounts      a map of (account, row) to amount
 --     Floors      what must stay with an account of a row

@@ -44,7 +44,7 @@ item = form (λ none. [])
 abbrev pub FitsItem : Item → Type 0
 FitsItem = FitsForm (λ none. ⊥)
 
--- at most 8 items, behind their number
+-- at most 8 items, after their number
 abbrev pub FitsItems : List Item → Type 0
 FitsItems items = (length items ≤ 8) × AllByRecursion FitsItem items
 

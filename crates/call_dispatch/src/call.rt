@@ -4,14 +4,14 @@ use crate::PositiveAmount;
 use plain_lists::BoundedVec;
 use std::convert::Infallible;
 
-/// A call that a chain is asked to make for an account. `B` is what a batch holds: a batch stands in no other batch.
+/// A call that a chain is asked to make for an account. `B` is what a batch holds: no batch is in another batch.
 #[derive(Debug, Drop, PartialEq, Eq)]
 pub enum Call<B = Batch> {
     /// Does nothing, and carries at most 1,024 bytes.
     Remark(BoundedVec<u8, 1024>),
     /// Moves an amount of an asset to another account.
     Transfer {
-        /// The place of the asset in the chain's listing, from 0.
+        /// The index of the asset in the chain's listing, from 0.
         row: u32,
         /// The account that receives.
         dest: [u8; 32],

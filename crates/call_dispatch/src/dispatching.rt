@@ -78,7 +78,7 @@ fn take_back<M: Mover>(m: &mut M, who: &[u8; 32], c: &Call<NoBatch>) -> Result<(
     }
 }
 
-/// Does these calls in order: all of them; or none, where one fails. Each stands until what is behind it has failed, and is then moved back.
+/// Does these calls in order: all of them; or none, where one fails. Each is kept until one after it fails, and is then moved back.
 fn dispatch_items<M: Mover>(
     m: &mut M,
     who: &[u8; 32],
@@ -107,8 +107,8 @@ fn dispatch_items<M: Mover>(
     }
 }
 
-/// Does the call for the account. A batch does its calls in order; where one fails, the batch answers so, and no move of it stands.
-/// Where memory is refused, a front of a batch may have been done.
+/// Does the call for the account. A batch does its calls in order; where one fails, the batch answers so, and none of its moves is kept.
+/// Where memory is refused, a prefix of a batch may have been done.
 #[tactic(auto, unfolding(crate::specs::Dispatches::dispatch))]
 pub fn dispatch<M: Mover>(m: &mut M, who: &[u8; 32], c: &Call) -> Result<CallEnd, AllocError>
     ensures ok { IfOk result (λ end. (M.amounts m.new, end)

@@ -6,7 +6,7 @@ use thiserror::Error;
 /// Why bytes aren't read as a call.
 #[derive(Clone, Copy, Debug, PartialEq, Eq, Error)]
 pub enum CallFault {
-    /// The bytes aren't one call with nothing behind it.
+    /// The bytes aren't one call with nothing after it.
     #[error("not a call")]
     NotACall,
     /// Out of memory.

@@ -39,7 +39,7 @@ pub fn law_of_dispatches()
         → (dispatch m floors rows who c).1 ≡ Error code → (dispatch m floors rows who c).0 ≡ m }
 {}
 
-/// The same of what stands where memory was refused.
+/// The same of the state where memory was refused.
 pub fn law_of_interruptions()
     ensures sums { (m now : RowAmounts) (floors : Floors) (rows who : List ℕ) (c : AnyCall)
         → IsInterrupted m floors rows who c now

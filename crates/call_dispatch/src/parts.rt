@@ -1,4 +1,4 @@
-//! The readers behind `read_call`. Where they leave the cursor after a refusal isn't said.
+//! The readers that `read_call` calls. Where they leave the cursor after a refusal isn't said.
 
 ghost use Rattle.std.specs.Prelude.{◌≡◌, ◌^◌, vec_len, IfOk};
 ghost use Rattle.scale_codec.specs.Reading.{made3, below_at, take_at, repeated};

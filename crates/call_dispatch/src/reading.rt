@@ -11,7 +11,7 @@ use crate::{Call, CallFault};
 use scale_codec::{Cursor, WireFault};
 use std::alloc::Global;
 
-/// The call that the bytes are. `NotACall` comes exactly where they aren't one call with nothing behind it.
+/// The call that the bytes are. `NotACall` comes exactly where they aren't one call with nothing after it.
 #[tactic(auto, using(crate::proofs::Lemmas::CallLaws::is_answer))]
 pub fn read_call(alloc: Global, bytes: &[u8]) -> Result<Call, CallFault>
     ensures read { (result ≡ Err CallFault.Memory) ⊎ (result ≡ call_of bytes.now) }

@@ -13,7 +13,7 @@ use Rattle.xcm_program.specs.declared.instruction.Instruction.TheOpen.{Instructi
 abbrev pub Layer : Type 0
 Layer = Instruction-F Instruction
 
--- ---- the fields behind an index, with an empty program in the place of the one inside, which stands last
+-- ---- the fields after an index, with an empty program instead of the one inside, which comes last
 
 abbrev pub forms0 : Version → List (Reader Layer)
 forms0 v = made1 (assets_at v) Instruction-F.WithdrawAsset

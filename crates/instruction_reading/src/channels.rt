@@ -1,4 +1,4 @@
-//! Instructions about channels. Each puts the fields behind the number, in their order, into the place for the instruction.
+//! Instructions about channels. Each puts the fields after the number, in their order, into the slot for the instruction.
 
 ghost use Rattle.std.specs.Prelude.{◌^◌};
 ghost use Rattle.scale_codec.specs.Reading.{below_at, made1, made3};
@@ -45,7 +45,7 @@ pub(crate) fn fill_hrmp_channel_accepted(
     Ok(())
 }
 
-/// Who closes it, its front and its end.
+/// Who closes it, its sender and its recipient.
 pub(crate) fn fill_hrmp_channel_closing(
     c: &mut Cursor<'_>,
     slot: &mut Instruction,

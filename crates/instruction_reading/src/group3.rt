@@ -15,7 +15,7 @@ use scale_codec::Cursor;
 use std::alloc::Global;
 use xcm_program::Instruction;
 
-/// The fields behind the number, and an empty program inside, into the place for the instruction.
+/// The fields after the number, and an empty program inside, into the slot for the instruction.
 #[tactic(auto, unfolding(crate::specs::Reading::group3_at))]
 pub(crate) fn fill_group3(
     alloc: Global,

@@ -1,4 +1,4 @@
-//! Instructions about the holding and fees. Each puts the fields behind the number, in their order, into the place for the instruction.
+//! Instructions about the holding and fees. Each puts the fields after the number, in their order, into the slot for the instruction.
 
 ghost use Rattle.std.specs.Prelude.{◌≡◌};
 ghost use Rattle.scale_codec.specs.Reading.{made1, made2, made3, flag_at};

@@ -1,4 +1,4 @@
-//! What stands in a place until it is read.
+//! What is in a slot until it is read into.
 
 ghost use Rattle.std.specs.Prelude.{◌≡◌, []};
 
@@ -23,7 +23,7 @@ pub(crate) fn empty_place() -> Location
     }
 }
 
-/// Puts an instruction into its place. What stood there is dropped here alone, so that no reader has to look through all that an
+/// Puts an instruction into its slot. What was there is dropped here alone, so that no reader has to look through all that an
 /// instruction may keep.
 #[inline(always)]
 pub(crate) fn put(slot: &mut Instruction, instruction: Instruction)

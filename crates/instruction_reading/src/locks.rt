@@ -1,4 +1,4 @@
-//! Instructions about locks. Each puts the fields behind the number, in their order, into the place for the instruction.
+//! Instructions about locks. Each puts the fields after the number, in their order, into the slot for the instruction.
 
 ghost use Rattle.std.specs.Prelude.{◌≡◌};
 ghost use Rattle.scale_codec.specs.Reading.{made2};

@@ -1,4 +1,4 @@
-//! Instructions about the origin and other consensus systems. Each puts the fields behind the number, in their order, into the place for the instruction.
+//! Instructions about the origin and other consensus systems. Each puts the fields after the number, in their order, into the slot for the instruction.
 
 ghost use Rattle.std.specs.Prelude.{◌≡◌, []};
 ghost use Rattle.scale_codec.specs.Reading.{made1, made2, optional_at};
@@ -73,7 +73,7 @@ pub(crate) fn fill_unpaid_execution(
     Ok(())
 }
 
-/// The system, and the place in it.
+/// The system, and the location in it.
 pub(crate) fn fill_export_message(
     alloc: Global,
     c: &mut Cursor<'_>,

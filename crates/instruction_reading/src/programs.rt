@@ -1,4 +1,4 @@
-//! Instructions about the run of the program. Each puts the fields behind the number, in their order, into the place for the instruction.
+//! Instructions about the run of the program. Each puts the fields after the number, in their order, into the slot for the instruction.
 
 ghost use Rattle.std.specs.Prelude.{◌^◌, []};
 ghost use Rattle.scale_codec.specs.Reading.{below_at, take_at, flag_at, pure_reader, made1, made3};
@@ -46,20 +46,21 @@ pub(crate) fn fill_trap(c: &mut Cursor<'_>, slot: &mut Instruction) -> Result<()
     Ok(())
 }
 
-/// No field in front of the program.
+/// No field before the program.
 pub(crate) fn fill_set_error_handler(
     alloc: Global,
     c: &mut Cursor<'_>,
     slot: &mut Instruction,
 ) -> Result<(), WireFault>
-    ensures { FilledHead result (pure_reader (Instruction-F.SetErrorHandler []) c.old) slot.new c.new }
+    ensures { FilledHead result (pure_reader (Instruction-F.SetErrorHandler []) c.old) slot.new
+        c.new }
 {
     let xcm = nothing_inside(alloc);
     put(slot, Instruction::SetErrorHandler { xcm });
     Ok(())
 }
 
-/// No field in front of the program.
+/// No field before the program.
 pub(crate) fn fill_set_appendix(
     alloc: Global,
     c: &mut Cursor<'_>,

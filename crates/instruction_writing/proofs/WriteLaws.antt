@@ -1,4 +1,4 @@
--- The number of an instruction stands first.
+-- The number of an instruction comes first.
 use Rattle.std.proofs.Common.{◌≡◌, ℕ, List, [], ◌∷◌, ◌++◌, Result, Ok, Err, refl, sym, ap, ◌∙◌, append_assoc}
 use Rattle.operands.specs.declared.version.Version.{Version}
 use Rattle.scale_codec.specs.Answers.{Drafted, Appends}

@@ -1,4 +1,4 @@
--- What stands behind the index of an instruction, up to the program inside.
+-- What follows the index of an instruction, up to the program inside.
 use Rattle.std.specs.Prelude.{ℕ, List, drop}
 use Rattle.operands.specs.declared.version.Version.{Version}
 use Rattle.xcm_program.specs.declared.instruction.Instruction.TheOpen.{Instruction-F}

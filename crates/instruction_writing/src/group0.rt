@@ -15,7 +15,7 @@ use std::alloc::AllocError;
 use xcm_format::{put_bytes, put_optional_location, put_origin_kind, put_response, put_weight};
 use xcm_program::Instruction;
 
-/// What stands behind the index, up to the program inside.
+/// What follows the index, up to the program inside.
 #[tactic(auto, unfolding(xcm_format::specs::Programs::head))]
 pub(crate) fn put_group0(o: &mut Draft, i: &Instruction, v: Version) -> Result<(), AllocError>
     requires high { index (out-Instruction i.now) < 8 }

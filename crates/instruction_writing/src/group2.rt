@@ -16,7 +16,7 @@ use std::alloc::AllocError;
 use xcm_format::{put_query_info, put_weight_limit};
 use xcm_program::Instruction;
 
-/// What stands behind the index, up to the program inside.
+/// What follows the index, up to the program inside.
 #[tactic(auto, unfolding(xcm_format::specs::Programs::head))]
 pub(crate) fn put_group2(o: &mut Draft, i: &Instruction, v: Version) -> Result<(), AllocError>
     requires low { 16 ≤ index (out-Instruction i.now) }

@@ -15,7 +15,7 @@ use std::alloc::AllocError;
 use xcm_format::{put_optional_failure, put_optional_location, put_weight};
 use xcm_program::Instruction;
 
-/// What stands behind the index, up to the program inside.
+/// What follows the index, up to the program inside.
 #[tactic(auto, unfolding(xcm_format::specs::Programs::head))]
 pub(crate) fn put_group3(o: &mut Draft, i: &Instruction, v: Version) -> Result<(), AllocError>
     requires low { 24 ≤ index (out-Instruction i.now) }

@@ -17,7 +17,7 @@ use std::alloc::AllocError;
 use xcm_format::{put_bytes, put_maybe_error, put_query_info};
 use xcm_program::Instruction;
 
-/// What stands behind the index, up to the program inside.
+/// What follows the index, up to the program inside.
 #[tactic(auto, unfolding(xcm_format::specs::Programs::head))]
 pub(crate) fn put_group4(o: &mut Draft, i: &Instruction, v: Version) -> Result<(), AllocError>
     requires low { 32 ≤ index (out-Instruction i.now) }

@@ -1,4 +1,4 @@
-//! The index, and the fields behind it.
+//! The index, and the fields after it.
 
 ghost use Rattle.std.specs.Prelude.{◌≡◌};
 ghost use Rattle.scale_codec.specs.Answers.{Appends, Puts};
@@ -19,7 +19,7 @@ use scale_codec::Draft;
 use std::alloc::AllocError;
 use xcm_program::Instruction;
 
-/// What stands behind the index, by the groups of the index.
+/// What follows the index, by the groups of the index.
 fn put_fields(o: &mut Draft, i: &Instruction, v: Version) -> Result<(), AllocError>
     requires named { IsNamedHead v Instruction (out-Instruction i.now) }
     requires amount { HasAmount Instruction (out-Instruction i.now) }
@@ -37,7 +37,7 @@ fn put_fields(o: &mut Draft, i: &Instruction, v: Version) -> Result<(), AllocErr
     }
 }
 
-/// Appends the one spelling of the instruction in the version to a draft, up to the program inside, which stands last. The version must
+/// Appends the one spelling of the instruction in the version to a draft, up to the program inside, which comes last. The version must
 /// have one: it can say each asset id outside that program, and no amount is 0.
 pub fn put_head(o: &mut Draft, i: &Instruction, v: Version) -> Result<(), AllocError>
     requires named { IsNamedHead v Instruction (out-Instruction i.now) }

@@ -1,4 +1,4 @@
-//! Fields that stand together in several instructions.
+//! Fields that several instructions have together.
 
 ghost use Rattle.std.specs.Prelude.{◌++◌, ◌<◌, ◌^◌, ⊤};
 ghost use Rattle.scale_codec.specs.Spelling.{compact, flag};

@@ -231,7 +231,7 @@ named_not_0x j x is digits e =
     let both : 48 ≡ get_or (x.0 ++ codes "(" ++ x.1 ++ codes ")") 0 0 = ap (λ (t : List ℕ). get_or t 0 0) (e ∙ text_named j x is) in
     named_front x.0 x.1 both (named_name j x is).1
 
--- behind 0x stands the spelling
+-- after 0x comes the spelling
 pub text_behind_0x : (j : Junction) (digits : List ℕ) → codes "0x" ++ digits ≡ junction_text j → digits ≡ encode_lower (junction j)
 text_behind_0x j digits e = by_name (named j) refl
   where
@@ -257,7 +257,7 @@ bytes_at (x ∷ xs) h (suc i) = bytes_at xs h.1 i
 pub decode_spelled : (xs : List ℕ) → AreBytes xs → decode_of (encode_lower xs) ≡ Ok xs
 decode_spelled xs h = decode_of-encode_lower xs (bytes_at xs h)
 
--- ---- each name with what stands in its parentheses
+-- ---- each name with what is in its parentheses
 
 abbrev pub Read : (ℕ → Junction) → Option ℕ → Junction → Type 0
 Read f o j = (n : ℕ) × (o ≡ Some n) × (f n ≡ j)
@@ -306,7 +306,7 @@ by_index c [] h i lt e = absurd (omega arith)
 by_index c (x ∷ xs) h zero lt e = let p = and_parts (not (eqb x c)) (lacks c xs) h in eqb-false x c (not_byte c x p.0) e
 by_index c (x ∷ xs) h (suc i) lt e = let p = and_parts (not (eqb x c)) (lacks c xs) h in by_index c xs p.1 i (omega arith) e
 
--- the text in front of the first parenthesis, and behind it
+-- the text before the first parenthesis, and after it
 pub cut_at : (part name inside : List ℕ) (r : Option (Bor (List ℕ) × Bor (List ℕ))) → IsSplitOnceResult 40 part r → lacks 40 name ≡ true → part ≡ name ++ codes "(" ++ inside ++ codes ")"
     → MatchOption r ⊥ (λ x. (x.0.now ≡ name) × (x.1.now ≡ inside ++ codes ")"))
 cut_at part name inside r h lack e =
@@ -326,7 +326,7 @@ spelled_read j bytes r new h is got =
 
 -- ---- the junctions, one by one
 
--- the text at a place is that of the junction at that place
+-- the text at an index is that of the junction at that index
 pub picked : (parts : List (Bor (List ℕ))) (js : List Junction) (i : ℕ) (d : Bor (List ℕ)) → i < length parts → map (λ x. x.now) parts ≡ map junction_text js → AllByRecursion IsJunction js
     → (j : Junction) × IsJunction j × ((get_or parts i d).now ≡ junction_text j) × (take i js ++ j ∷ [] ≡ take (i + 1) js)
 picked [] js i d lt e all = absurd (omega arith)
@@ -484,7 +484,7 @@ named_same j k x h i e f =
           p.1 ∙ ap GlobalConsensus same ∙ sym q.1
     ]
 
--- in front of the first parenthesis, and behind it
+-- before the first parenthesis, and after it
 cut_same : (a b c d : List ℕ) → lacks 40 a ≡ true → lacks 40 c ≡ true → a ++ 40 ∷ b ≡ c ++ 40 ∷ d → (a ≡ c) × (b ≡ d)
 cut_same [] b [] d h k e = (refl, cc e)
 cut_same [] b (y ∷ c) d h k e = let p = and_parts (not (eqb y 40)) (lacks 40 c) k in absurd (eqb-false y 40 (not_byte 40 y p.0) (cc e))

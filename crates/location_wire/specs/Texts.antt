@@ -42,7 +42,7 @@ shown j None = hex_text (junction j)
 unfoldable pub junction_text : Junction → List ℕ
 junction_text j = shown j (named j)
 
--- each behind a slash
+-- a slash before each
 abbrev pub path_step_text : Junction → List ℕ
 path_step_text j = codes "/" ++ junction_text j
 

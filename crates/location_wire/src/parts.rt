@@ -1,4 +1,4 @@
-//! The readers behind the public ones. Where they leave the cursor after a refusal isn't said.
+//! The readers that the public ones call. Where they leave the cursor after a refusal isn't said.
 
 ghost use Rattle.std.specs.Prelude.{◌≡◌, [], ◌≤◌, ◌^◌};
 ghost use Rattle.locations.specs.declared.grammar.Junction.TheVariants.{Parachain, AccountId32, AccountIndex64, AccountKey20, PalletInstance, GeneralIndex, GeneralKey, Plurality, GlobalConsensus};
@@ -109,7 +109,7 @@ fn fill_parachain(c: &mut Cursor<'_>, slot: &mut Junction) -> Result<(), NoSpell
     Ok(())
 }
 
-/// An account of 32 bytes, behind its network.
+/// An account of 32 bytes, after its network.
 #[inline(never)]
 fn fill_account32(c: &mut Cursor<'_>, slot: &mut Junction) -> Result<(), NoSpelling>
     ensures { Filled result (made2 (optional_at network_at) (take_at 32) AccountId32 c.old) slot.new
@@ -121,7 +121,7 @@ fn fill_account32(c: &mut Cursor<'_>, slot: &mut Junction) -> Result<(), NoSpell
     Ok(())
 }
 
-/// An account by its number, behind its network.
+/// An account by its number, after its network.
 #[inline(never)]
 fn fill_account_index(c: &mut Cursor<'_>, slot: &mut Junction) -> Result<(), NoSpelling>
     ensures { Filled result (made2 (optional_at network_at) (below_at (2 ^ 64)) AccountIndex64
@@ -133,7 +133,7 @@ fn fill_account_index(c: &mut Cursor<'_>, slot: &mut Junction) -> Result<(), NoS
     Ok(())
 }
 
-/// An account of 20 bytes, behind its network.
+/// An account of 20 bytes, after its network.
 #[inline(never)]
 fn fill_account20(c: &mut Cursor<'_>, slot: &mut Junction) -> Result<(), NoSpelling>
     ensures { Filled result (made2 (optional_at network_at) (take_at 20) AccountKey20 c.old)
@@ -161,7 +161,7 @@ fn fill_general_index(c: &mut Cursor<'_>, slot: &mut Junction) -> Result<(), NoS
     Ok(())
 }
 
-/// A key of 32 bytes, behind its length.
+/// A key of 32 bytes, after its length.
 #[inline(never)]
 fn fill_general_key(c: &mut Cursor<'_>, slot: &mut Junction) -> Result<(), NoSpelling>
     ensures { Filled result (made2 u8_at (take_at 32) GeneralKey c.old) slot.new c.new }
@@ -192,7 +192,7 @@ fn fill_consensus(c: &mut Cursor<'_>, slot: &mut Junction) -> Result<(), NoSpell
     Ok(())
 }
 
-/// The junction at the front, into its place.
+/// The junction at the front, into its slot.
 #[tactic(auto, unfolding(crate::specs::Reading::junction_at))]
 #[inline(always)]
 fn fill_junction(c: &mut Cursor<'_>, slot: &mut Junction) -> Result<(), NoSpelling>
@@ -239,7 +239,7 @@ fn fill_several(c: &mut Cursor<'_>, count: u8, junctions: &mut Junctions) -> Res
     Ok(())
 }
 
-/// The junctions behind their number, into an empty list.
+/// The junctions after their number, into an empty list.
 #[tactic(auto, unfolding(crate::specs::Reading::junctions_at))]
 #[inline(always)]
 pub fn fill_junctions(c: &mut Cursor<'_>, junctions: &mut Junctions) -> Result<(), NoSpelling>
@@ -264,7 +264,7 @@ pub fn fill_location(c: &mut Cursor<'_>, place: &mut Location) -> Result<(), NoS
     fill_junctions(c, &mut place.interior)
 }
 
-/// The junctions behind their number.
+/// The junctions after their number.
 pub fn take_junctions(c: &mut Cursor<'_>) -> Result<Junctions, NoSpelling>
     ensures { Got result (junctions_at c.old) c.new }
 {

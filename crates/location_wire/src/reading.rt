@@ -33,7 +33,7 @@ pub fn read_junction(c: &mut Cursor<'_>) -> Result<Junction, NoSpelling>
     c.settle(start, read)
 }
 
-/// The junctions at the front of what is left, at most eight behind their number. `NoSpelling` comes exactly where no prefix
+/// The junctions at the front of what is left, at most eight after their number. `NoSpelling` comes exactly where no prefix
 /// spells such a list; the cursor is then where it was.
 #[tactic(auto, using(scale_codec::proofs::Lemmas::ReadLaws::is_read, crate::proofs::Lemmas::FieldLaws::junctions_reads))]
 pub fn read_junctions(c: &mut Cursor<'_>) -> Result<Junctions, NoSpelling>

@@ -79,7 +79,7 @@ fn push_junction(alloc: Global, text: &mut String, step: &Junction) -> Result<()
     }
 }
 
-/// Appends each junction behind a slash.
+/// Appends each junction, with a slash before it.
 fn push_steps(alloc: Global, text: &mut String, items: &[Junction]) -> Result<(), AllocError>
     ensures { OnOk result (string_bytes text.new
         ≡ string_bytes text.old ++ joined (map path_step_text items.now)) }
@@ -91,7 +91,7 @@ fn push_steps(alloc: Global, text: &mut String, items: &[Junction]) -> Result<()
     Ok(())
 }
 
-/// The text of a location, as `1/Parachain(2000)`: its parents, then each junction behind a slash.
+/// The text of a location, as `1/Parachain(2000)`: its parents, then each junction with a slash before it.
 pub fn location_text(alloc: Global, l: &Location) -> Result<String, AllocError>
     ensures { IfOk result (λ text. string_bytes text ≡ location_text l.now) }
 {
@@ -101,7 +101,7 @@ pub fn location_text(alloc: Global, l: &Location) -> Result<String, AllocError>
     Ok(text)
 }
 
-/// The text of a path, as `/GlobalConsensus(Polkadot)/Parachain(2000)`: each junction behind a slash; the empty path is `/`.
+/// The text of a path, as `/GlobalConsensus(Polkadot)/Parachain(2000)`: each junction with a slash before it; the empty path is `/`.
 pub fn path_text(alloc: Global, p: &Junctions) -> Result<String, AllocError>
     ensures { IfOk result (λ text. string_bytes text ≡ path_text p.now) }
 {

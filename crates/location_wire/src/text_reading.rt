@@ -106,7 +106,7 @@ fn global_of_text(inside: &str) -> Option<Junction>
     Some(Junction::GlobalConsensus(network))
 }
 
-/// What is behind the `0x` at the front.
+/// What follows the `0x` at the front.
 fn behind_0x(text: &str) -> Option<&str>
     ensures { MatchOption result ((rest : List ℕ) → text.now ≢ codes "0x" ++ rest)
         (λ x. text.now ≡ codes "0x" ++ x.now) }

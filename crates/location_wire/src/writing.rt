@@ -150,7 +150,7 @@ pub fn put_junction(o: &mut Draft, step: &Junction) -> Result<(), AllocError>
     }
 }
 
-/// Appends the junctions behind their number.
+/// Appends the junctions after their number.
 pub fn put_junctions(o: &mut Draft, interior: &Junctions) -> Result<(), AllocError>
     ensures { Puts junctions FitsJunctions interior.now result o.old o.new }
 {

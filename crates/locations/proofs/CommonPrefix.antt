@@ -1,4 +1,4 @@
--- How far two lists of junctions go together, place by place.
+-- How many junctions two lists have in common from the front on, index by index.
 use Rattle.std.proofs.Common.{◌≡◌, refl, ℕ, ◌+◌, ◌<◌, ◌≤◌, min, List, [], ◌∷◌, length, get_or, drop, length-drop, Bool, true, false, ◌⊎◌, inl, inr, arith}
 use Rattle.std.proofs.lemmas.Bool.{cases_lt}
 use Rattle.std.proofs.lemmas.List.Sums.{common_prefix_len-drop_yes, common_prefix_len-drop_no}
@@ -18,7 +18,7 @@ unlike_by false _ = refl
 pub unlike : (x y : Junction) → (x ≡ y → ⊥) → same_junction x y ≡ false
 unlike x y differ = unlike_by (same_junction x y) (λ t. differ ((junction_decides x y).0 t))
 
--- one place more, where the junctions are equal
+-- one junction more, where the junctions are equal
 pub goes_on : (xs ys : List Junction) (k : ℕ) (d : Junction) → k < min (length xs) (length ys) → get_or xs k d ≡ get_or ys k d
     → together xs ys ≡ k + together (drop k xs) (drop k ys)
     → together xs ys ≡ (k + 1) + together (drop (k + 1) xs) (drop (k + 1) ys)

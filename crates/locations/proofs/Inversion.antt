@@ -7,7 +7,7 @@ use Rattle.locations.specs.declared.relative.Location.{Location}
 use Rattle.locations.specs.Chains.{last}
 use Rattle.locations.specs.Steps.{last_known, inverted}
 
--- with at most eight blanks to take from
+-- with at most eight `OnlyChild` to take from
 known_with_blanks : (n : ℕ) (context : List Junction) → n ≤ 8
     → take (n - length context) (replicate 8 OnlyChild) ++ last n context ≡ last_known n context
 known_with_blanks n context few =

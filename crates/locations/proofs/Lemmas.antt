@@ -39,7 +39,7 @@ length-last_known n context =
       length-drop (length context - n) context,
     )
 
--- how far two lists of junctions go together
+-- how many junctions two lists have in common from the front on
 abbrev pub together : List Junction → List Junction → ℕ
 together = common_prefix_len same_junction
 
@@ -47,7 +47,7 @@ together = common_prefix_len same_junction
 abbrev pub place : ℕ → List Junction → Location
 place parents interior = record { parents = parents; interior = interior }
 
--- ---- the element at a place of a list that is put together
+-- ---- the element at an index of a concatenated list
 module _ {X : Type 0} where
   pub get_in_take : (n : ℕ) (xs : List X) (i : ℕ) → i < n → slice_get (take n xs) i ≡ slice_get xs i
   get_in_take zero xs i h = absurd (omega (arith, h))
@@ -161,7 +161,7 @@ known : (context : List Junction) (n : ℕ) → n ≤ length context → last_kn
 known context n within =
     ap (λ k. replicate k OnlyChild ++ last n context) (let none : n - length context ≡ 0 = omega arith in none)
 
--- the way down, behind what is shared, is the path
+-- the way down, after what is shared, is the path
 down_way : (context : List Junction) (l target : Location) → HasPath context target → l.parents ≤ target.parents
     → without_last target.parents context ++ way_down l target context ≡ path_of context l
 down_way context l target target_placed down =
@@ -215,7 +215,7 @@ apart_one_more true x y a xs ys k differ rest left right =
     rest (sym (ap (slice_get (x ∷ xs)) more) ∙ left) (sym (ap (slice_get (y ∷ ys)) more) ∙ right)
 apart_one_more false x y a xs ys k differ rest left right = differ refl (some_inside x y (left ∙ sym right))
 
--- behind what they have in common, two lists don't go on alike
+-- after what they have in common, two lists don't go on alike
 apart_after : (xs ys : List Junction) (a : Junction) → slice_get xs (together xs ys) ≡ Some a → slice_get ys (together xs ys) ≡ Some a → ⊥
 apart_after [] ys a left right = cc
 apart_after (x ∷ xs) [] a left right = cc
@@ -276,7 +276,7 @@ keeps_normal context l target r seen named normal =
       })
     ]
 
--- of two names of one place, the one with more parents leads back
+-- of two names of one location, the one with more parents leads back
 not_fewer : (context : List Junction) (l m : Location) → HasPath context m → TurnsAway context m
     → path_of context l ≡ path_of context m → l.parents < m.parents → ⊥
 not_fewer context l m placed turned same fewer =

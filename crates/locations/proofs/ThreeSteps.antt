@@ -23,7 +23,7 @@ then_simplified_cond : (context : List Junction) (b : Bool) (x y : Result Locati
 then_simplified_cond context true x y = refl
 then_simplified_cond context false x y = refl
 
--- a location behind both limits
+-- a location past both limits
 abbrev pub limited : ℕ → List Junction → Result Location LocationFault
 limited parents interior =
     cond (nat_lt 8 (length interior)) (Err Full) (cond (nat_lt 255 parents) (Err TooHigh) (Ok (place parents interior)))

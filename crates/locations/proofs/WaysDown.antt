@@ -1,4 +1,4 @@
--- The way down from the highest point that a target reaches is put together from blanks, what is known of the context, and the location's own.
+-- The way down from the highest point that a target reaches is put together from `OnlyChild` junctions, what is known of the context, and the location's own.
 use Rattle.std.proofs.Common.{◌≡◌, sym, ap, ◌∙◌, ℕ, ◌+◌, ◌-◌, ◌<◌, ◌≤◌, List, [], ◌++◌, length, take, replicate, append-nil, arith, inl, inr}
 use Rattle.std.specs.Prelude.{min}
 use Rattle.std.proofs.Math.Seq.{take-append-add}
@@ -11,7 +11,7 @@ use Rattle.locations.specs.Chains.{last}
 use Rattle.locations.specs.Steps.{last_known}
 use Rattle.locations.specs.Reanchoring.{way_down}
 
--- the first so many of blanks with what is known behind them
+-- the first so many of a list of `OnlyChild` followed by what is known
 first_known : (missing above : ℕ) (known : List Junction) → missing ≤ 8
     → take (min above missing) (replicate 8 OnlyChild) ++ take (above - min above missing) known ≡ take above (replicate missing OnlyChild ++ known)
 first_known missing above known few =

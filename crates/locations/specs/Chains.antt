@@ -1,5 +1,5 @@
 -- A chain's context is the list of junctions from the root of all consensus systems to the chain.
--- The path of a location at a chain is the same list for the place that the location names.
+-- The path of a location at a chain is the same list for what the location names.
 -- Source: the XCM format's locations ("parents" and "interior"), and this project's own word "path".
 use Rattle.std.specs.Prelude.{◌≡◌, ◌≢◌, ℕ, ◌-◌, ◌<◌, ◌≤◌, nat_lt, nat_le, Bool, false, ◌&&◌, not, List, ◌++◌, length, take, drop, Option, Some, None, slice_get}
 use Rattle.std.specs.List.{All, list_all}
@@ -40,7 +40,7 @@ abbrev pub TurnsAway : List Junction → Location → Type 0
 TurnsAway context l = (first : Junction) → 0 < l.parents → slice_get l.interior 0 ≡ Some first
     → slice_get context (length context - l.parents) ≢ Some first
 
--- the shortest name of its place at a chain
+-- the shortest of the names that a chain has for one path
 pub record IsNormal (context : List Junction) (l : Location) : Type 0 where
   pub inside : HasPath context l
   pub named : All (λ j. j ≢ OnlyChild) l.interior

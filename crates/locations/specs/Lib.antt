@@ -1,5 +1,7 @@
 pub mod Order
 pub mod OrderLaws
+pub mod Hashing
+pub mod HashLaws
 pub mod DerivedOrder
 pub mod Chains
 pub mod Steps

@@ -39,7 +39,7 @@ network_fields (Ethereum chain) = one 7 ∷ one chain ∷ []
 network_fields BitcoinCore = one 8 ∷ []
 network_fields BitcoinCash = one 9 ∷ []
 
--- no network stands before each network
+-- no network comes before each network
 abbrev pub any_network_fields : Option NetworkId → List (List ℕ)
 any_network_fields None = one 0 ∷ []
 any_network_fields (Some network) = one 1 ∷ network_fields network

@@ -1,5 +1,5 @@
--- The law of paths: reanchoring keeps the place, and a normal name is the only one of its place.
--- It stands over the closed form and the path alone, for lists of any length.
+-- The law of paths: reanchoring keeps the path, and a normal location is the only one of its path.
+-- It is stated over the closed form and the path alone, for lists of any length.
 use Rattle.std.specs.Prelude.{◌≡◌, ◌≢◌, List, Ok}
 use Rattle.std.specs.List.{All}
 use Rattle.locations.specs.declared.grammar.Junction.{Junction}

@@ -1,4 +1,4 @@
--- What a location becomes when another chain, the target, looks at the same place. This is a closed
+-- What a location becomes when another chain, the target, names the same thing. This is a closed
 -- form: it knows of no steps. With p parents and junctions J of the location, q parents and junctions T
 -- of the target, and I the last q junctions of the context, OnlyChild for each one missing:
 --     q > 8     refused
@@ -16,11 +16,11 @@ use Rattle.locations.specs.declared.faults.LocationFault.TheVariants.{Full, TooH
 use Rattle.locations.specs.Chains.{same_junction}
 use Rattle.locations.specs.Steps.{last_known, shortened}
 
--- the parents of a place above all that location and target share
+-- the parents of a location above all that location and target share
 abbrev pub raised_parents : Location → Location → ℕ
 raised_parents l target = length target.interior + l.parents - target.parents
 
--- the way down to the place from the highest point that the target reaches
+-- the way down to the location from the highest point that the target reaches
 abbrev pub way_down : Location → Location → List Junction → List Junction
 way_down l target context = take (target.parents - l.parents) (last_known target.parents context) ++ l.interior
 

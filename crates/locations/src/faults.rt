@@ -6,7 +6,7 @@ use thiserror::Error;
 #[error("more than eight junctions")]
 pub struct Full;
 
-/// Why a location can't be put behind another one, or seen from another chain.
+/// Why a location can't be prefixed with another one, or seen from another chain.
 #[derive(Clone, Copy, Debug, PartialEq, Eq, Error)]
 pub enum LocationFault {
     /// It would have more than eight junctions, or the way back would.

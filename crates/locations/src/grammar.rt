@@ -1,4 +1,8 @@
 //! The names that a location is made of: networks, bodies and junctions.
+ghost use Rattle.std.specs.Prelude.{◌≡◌, fold};
+ghost use Rattle.locations.specs.Hashing.{junction_input};
+
+use std::hash::Hasher;
 
 /// A consensus network, in the order of the XCM format.
 #[derive(Clone, Copy, Debug, PartialEq, Eq, PartialOrd, Ord)]
@@ -36,7 +40,7 @@ pub enum NetworkId {
 /// A body of people that decides together.
 #[derive(Clone, Copy, Debug, PartialEq, Eq, PartialOrd, Ord)]
 pub enum BodyId {
-    /// The only body of its place.
+    /// The only body of its chain.
     Unit,
     /// A body with a name of four bytes.
     Moniker([u8; 4]),
@@ -91,7 +95,7 @@ pub enum BodyPart {
     },
 }
 
-/// One step of a location, from a chain or a place on it to a place inside.
+/// One step of a location, from a chain or a part of it to a part inside.
 #[derive(Clone, Copy, Debug, PartialEq, Eq, PartialOrd, Ord)]
 pub enum Junction {
     /// A parachain of the relay chain, by its number.
@@ -117,9 +121,9 @@ pub enum Junction {
         /// The account's 20 bytes.
         key: [u8; 20],
     },
-    /// A pallet of the chain, by its place in the runtime.
+    /// A pallet of the chain, by its index in the runtime.
     PalletInstance(u8),
-    /// A number that the place above gives its meaning.
+    /// A number whose meaning the location above it gives.
     GeneralIndex(u128),
     /// A key of which the first `length` bytes count.
     GeneralKey {
@@ -128,7 +132,7 @@ pub enum Junction {
         /// The key's bytes, those that count first.
         key: [u8; 32],
     },
-    /// The one child that a place is taken to have where its name isn't known.
+    /// The one child that a location is taken to have where the child's name isn't known.
     OnlyChild,
     /// A part of a body.
     Plurality {
@@ -141,7 +145,27 @@ pub enum Junction {
     GlobalConsensus(NetworkId),
 }
 
-/// What stands where no junction does.
+impl Junction {
+    /// Hashes the number or the bytes that it says.
+    pub(crate) fn feed<H: Hasher>(&self, state: &mut H)
+        ensures { state.new ≡ fold H.write state.old (junction_input self.now) }
+    {
+        match self {
+            Junction::Parachain(para) => state.write_u32(*para),
+            Junction::AccountId32 { network: _, id } => state.write(id),
+            Junction::AccountIndex64 { network: _, index } => state.write_u64(*index),
+            Junction::AccountKey20 { network: _, key } => state.write(key),
+            Junction::PalletInstance(index) => state.write_u8(*index),
+            Junction::GeneralIndex(index) => state.write_u128(*index),
+            Junction::GeneralKey { length: _, key } => state.write(key),
+            Junction::OnlyChild => {}
+            Junction::Plurality { id: _, part: _ } => {}
+            Junction::GlobalConsensus(_) => {}
+        }
+    }
+}
+
+/// What fills a slot that has no junction.
 impl Default for Junction {
     ghost use Rattle.std.specs.Prelude.{◌≡◌};
     ghost use Rattle.locations.specs.declared.grammar.Junction.TheVariants.{Parachain};

@@ -1,5 +1,5 @@
 //! The list of junctions of a location.
-ghost use Rattle.std.specs.Prelude.{◌≡◌, [], ◌∷◌, ◌++◌, ◌+◌, length, drop, replicate, ◌<◌, ◌≤◌, ◌↔◌, IsTrue, IsOk, IfOk, OnOk, OnErr, refl};
+ghost use Rattle.std.specs.Prelude.{◌≡◌, ◌≢◌, [], ◌∷◌, ◌++◌, ◌+◌, length, drop, replicate, ◌<◌, ◌≤◌, ◌↔◌, IsTrue, IsOk, IfOk, OnOk, OnErr, refl};
 ghost use Rattle.std.specs.List.{common_prefix_len};
 ghost use Rattle.std.specs.Borrow.{sem};
 ghost use Rattle.locations.specs.Lending.{LendsPlaces};
@@ -14,6 +14,7 @@ ghost use Rattle.locations.specs.OrderLaws.{junctions_total};
 use crate::{Full, Junction};
 use arrayvec::ArrayVec;
 use std::cmp::Ordering;
+use std::hash::{Hash, Hasher};
 use std::marker::Model;
 
 /// How many junctions a location holds at most, by the XCM format.
@@ -62,7 +63,7 @@ impl Junctions {
         Junctions::from_few(self.items())
     }
 
-    /// Becomes the same junctions, in its place.
+    /// Becomes the same junctions, in place.
     pub fn assign(&mut self, other: &Junctions)
         ensures { self.new ≡ other.now }
     {
@@ -93,7 +94,7 @@ impl Junctions {
         Ok(())
     }
 
-    /// The junctions that there are, for writing, and no place behind them. The list stays as long as it is.
+    /// The junctions that there are, for writing, and none of the free slots. The list stays as long as it is.
     pub fn places(&mut self) -> &mut [Junction]
         ensures* writes_back { sem 𝓛 (LendsPlaces self.entry result) }
         ensures value { result.now ≡ self.old }
@@ -194,6 +195,31 @@ pub(crate) fn common_length(ours: &[Junction], theirs: &[Junction]) -> usize
     shorter
 }
 
+/// Whether two junctions are of one kind that is a number, and of different numbers: a quick test of what is surely not equal.
+pub fn are_apart(a: &Junction, b: &Junction) -> bool
+    ensures { IsTrue result → a.now ≢ b.now }
+{
+    match (a, b) {
+        (Junction::Parachain(a), Junction::Parachain(b)) => a != b,
+        (Junction::PalletInstance(a), Junction::PalletInstance(b)) => a != b,
+        (Junction::GeneralIndex(a), Junction::GeneralIndex(b)) => a != b,
+        _ => false,
+    }
+}
+
+/// Whether two lists are of different lengths, or end with different numbers: that is what lists of junctions differ in most often.
+pub(crate) fn are_lists_apart(a: &[Junction], b: &[Junction]) -> bool
+    ensures { IsTrue result → a.now ≢ b.now }
+{
+    if a.len() != b.len() {
+        return true;
+    }
+    if a.is_empty() {
+        return false;
+    }
+    are_apart(&a[a.len() - 1], &b[b.len() - 1])
+}
+
 impl PartialEq for Junctions {
     ghost eq = { eq_by_cmp junctions_cmp };
 
@@ -231,5 +257,21 @@ impl Ord for Junctions {
     fn cmp(&self, other: &Junctions) -> Ordering {
         let (ours, theirs) = (self.items(), other.items());
         ours.len().cmp(&theirs.len()).then(ours.cmp(theirs))
+    }
+}
+
+/// Hashes what each junction says.
+impl Hash for Junctions {
+    ghost use Rattle.locations.specs.Hashing.{junctions_input};
+    ghost use Rattle.locations.specs.HashLaws.{junctions_alike};
+
+    ghost hash_input = { junctions_input };
+
+    ghost respects_eq = { junctions_alike };
+
+    fn hash<H: Hasher>(&self, state: &mut H) {
+        for junction in self.items() {
+            junction.feed(state);
+        }
     }
 }

@@ -1,4 +1,4 @@
-//! What holds of the definitions themselves: the order is exact, and reanchoring keeps the place.
+//! What holds of the definitions themselves: the order is exact, and reanchoring keeps the path.
 ghost use Rattle.locations.specs.Order.{network_cmp, body_cmp, part_cmp, junction_cmp, junctions_cmp, location_cmp, IsExactOrder};
 ghost use Rattle.locations.specs.DerivedOrder.{IsDerivedOrder};
 ghost use Rattle.locations.specs.PathLaw.{KeepsPath, KeepsNormal, HasOneName};

@@ -1,17 +1,14 @@
 //! Where a chain, an account or a part of a chain lies, as the XCM format names it.
 #![tactic(auto)]
 
-mod chain_path;
 mod faults;
 mod grammar;
 mod interior;
 mod laws;
-mod reanchor;
 mod relative;
 
 pub use faults::{Full, LocationFault, PathFault};
 pub use grammar::{BodyId, BodyPart, Junction, NetworkId};
-pub use interior::{Junctions, MAX_JUNCTIONS};
+pub use interior::{Junctions, MAX_JUNCTIONS, are_apart};
 pub use laws::{law_of_derived_order, law_of_exact_location_orders, law_of_paths};
-pub use reanchor::invert_target;
-pub use relative::Location;
+pub use relative::{Location, invert_target};

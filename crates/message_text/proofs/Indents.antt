@@ -1,4 +1,4 @@
--- Two spaces more stand as well behind as in front.
+-- Two more spaces after an indent are the same as two before it.
 use Rattle.std.proofs.Common.{◌≡◌, ℕ, zero, suc, ◌++◌, codes, refl, ap}
 use Rattle.message_text.specs.Lines.{indent}
 

@@ -27,7 +27,7 @@ own_fields-map n f _ = refl
 
 -- ---- the text
 
--- what stands in the program inside, by the text of each instruction
+-- what is in the program inside, by the text of each instruction
 abbrev pub texts : Option (List Instruction) → Option (List (ℕ → List ℕ))
 texts o = option_map (map instruction_text) o
 
@@ -66,7 +66,7 @@ two_deeper : (level : ℕ) (p : List Instruction)
 two_deeper level [] = refl
 two_deeper level (i ∷ p) = λ k. instruction_text i (two_more level k) ++ two_deeper level p k
 
--- where no program stands inside
+-- where there is no program inside
 pub none_text : (i : Instruction) (level : ℕ) → inner_of i ≡ None
     → instruction_text i level
     ≡ line level (instruction_name (out-Instruction i)) ++ own_fields (level + 1) (out-Instruction i)
@@ -74,7 +74,7 @@ none_text i level inside =
     text_by i level None inside
     ∙ ap (λ t. line level (instruction_name (out-Instruction i)) ++ t) (append-nil (own_fields (level + 1) (out-Instruction i)))
 
--- where this one does
+-- where this one is
 pub some_text : (i : Instruction) (level : ℕ) (p : List Instruction) → inner_of i ≡ Some p
     → instruction_text i level
     ≡ line level (instruction_name (out-Instruction i)) ++ (own_fields (level + 1) (out-Instruction i)

@@ -1,4 +1,4 @@
--- The fields that take more than one line: lists of assets, filters, queries and what answers them. What belongs to a field stands one level
+-- The fields that take more than one line: lists of assets, filters, queries and what answers them. What belongs to a field is one level
 -- deeper. This project's own rule; the names are the XCM format's.
 use Rattle.std.specs.Prelude.{ℕ, ◌+◌, List, [], ◌∷◌, ◌++◌, codes, decimal, flat_map}
 use Rattle.location_wire.specs.Texts.{hex_text, location_text}
@@ -69,7 +69,7 @@ response_name (Version _) = codes "Version"
 response_name (PalletsInfo _) = codes "PalletsInfo"
 response_name (DispatchResult _) = codes "DispatchResult"
 
--- what stands behind the name
+-- what follows the name
 unfoldable pub response_value : Response → List ℕ
 response_value Null = []
 response_value (Assets _) = []
@@ -78,7 +78,7 @@ response_value (Version version) = codes " " ++ decimal version
 response_value (PalletsInfo _) = []
 response_value (DispatchResult status) = codes " " ++ status_text status
 
--- what stands below it
+-- what is below it
 unfoldable pub response_lines : ℕ → Response → List ℕ
 response_lines level Null = []
 response_lines level (Assets list) = asset_lines level list

@@ -127,6 +127,6 @@ instruction_text =
     fold-Instruction (ℕ → List ℕ) (λ l level. line level (instruction_name l)
     ++ (own_fields (level + 1) l ++ nested_at (level + 1) (inner l)))
 
--- one instruction behind the other
+-- one instruction after the other
 abbrev pub program_text : ℕ → List Instruction → List ℕ
 program_text level program = joined (map (λ i. instruction_text i level) program)

@@ -1,5 +1,5 @@
--- The values of fields that stand on one line. Locations, amounts and errors are written as a report writes them; bytes are lower-case hex
--- behind `0x`. This project's own rule; the names are the XCM format's.
+-- The values of fields that are on one line. Locations, amounts and errors are written as a report writes them; bytes are lower-case hex
+-- after `0x`. This project's own rule; the names are the XCM format's.
 use Rattle.std.specs.Prelude.{ℕ, Bool, true, false, List, [], ◌∷◌, ◌++◌, Option, Some, None, codes, decimal}
 use Rattle.locations.specs.declared.grammar.NetworkId.{NetworkId}
 use Rattle.locations.specs.declared.grammar.Junction.{Junction}

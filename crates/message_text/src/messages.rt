@@ -52,8 +52,8 @@ fn push_program(
 }
 
 /// A message as a tree: a line for each instruction with its name, one level (two spaces) deeper a line for each of its fields, and below
-/// `xcm` the program inside. The first line stands at this level. Locations, amounts and errors are written as in a report, bytes as
-/// lower-case hex behind `0x`, weights as ref_time in picoseconds and proof_size in bytes. An `Err` is out of memory.
+/// `xcm` the program inside. The first line is at this level. Locations, amounts and errors are written as in a report, bytes as
+/// lower-case hex after `0x`, weights as ref_time in picoseconds and proof_size in bytes. An `Err` is out of memory.
 pub fn message_text(alloc: Global, level: u32, program: &Program) -> Result<String, AllocError>
     requires { level + 2 * deep_count program.now < 2 ^ 32 }
     ensures { IfOk result (λ text. string_bytes text ≡ program_text level program.now) }

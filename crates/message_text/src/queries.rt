@@ -96,7 +96,7 @@ fn response_name(response: &Response) -> &'static str
     }
 }
 
-/// What stands behind the name.
+/// What follows the name.
 #[tactic(auto, unfolding(crate::specs::Fields::response_value))]
 fn response_value(alloc: Global, response: &Response) -> Result<String, AllocError>
     ensures { IfOk result (λ text. string_bytes text ≡ response_value response.now) }
@@ -115,7 +115,7 @@ fn response_value(alloc: Global, response: &Response) -> Result<String, AllocErr
     }
 }
 
-/// Appends what stands below a response.
+/// Appends what is below a response.
 #[tactic(auto, unfolding(crate::specs::Fields::response_lines))]
 fn push_response_lines(
     alloc: Global,

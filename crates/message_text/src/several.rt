@@ -15,7 +15,7 @@ use locations::Location;
 use operands::WeightLimit;
 use std::alloc::{AllocError, Global};
 
-/// Appends a list of assets, and the place that this name says.
+/// Appends a list of assets, and the location that this name says.
 pub(crate) fn push_assets_for(
     alloc: Global,
     text: &mut String,
@@ -33,7 +33,7 @@ pub(crate) fn push_assets_for(
     push_location(alloc, text, level, name, place)
 }
 
-/// Appends which assets are taken, and the place that this name says.
+/// Appends which assets are taken, and the location that this name says.
 pub(crate) fn push_taken_for(
     alloc: Global,
     text: &mut String,
@@ -51,7 +51,7 @@ pub(crate) fn push_taken_for(
     push_location(alloc, text, level, name, place)
 }
 
-/// Appends an asset, and the place that this name says.
+/// Appends an asset, and the location that this name says.
 pub(crate) fn push_asset_for(
     alloc: Global,
     text: &mut String,

@@ -1,4 +1,4 @@
-//! The values of fields that stand on one line.
+//! The values of fields that are on one line.
 ghost use Rattle.std.specs.Prelude.{◌≡◌, IfOk, string_bytes};
 ghost use Rattle.location_wire.specs.Texts.{hex_text};
 ghost use Rattle.asset_wire.specs.Spelling.{instance};
@@ -48,7 +48,7 @@ pub(crate) fn wild_fun_text(fun: WildFun) -> &'static str
     }
 }
 
-/// Bytes in lower-case hex behind `0x`. An `Err` is out of memory.
+/// Bytes in lower-case hex after `0x`. An `Err` is out of memory.
 pub fn hex_text(alloc: Global, bytes: &[u8]) -> Result<String, AllocError>
     ensures { IfOk result (λ text. string_bytes text ≡ hex_text bytes.now) }
 {

@@ -6,7 +6,7 @@ ghost use Rattle.operands.specs.Texts.{error_text};
 use std::fmt;
 
 /// Why an instruction failed (XCM format: `Error`, in the order of its indices). Its text is its name; that of `Trap`
-/// has the code behind it, as `Trap(5)`.
+/// has the code after it, as `Trap(5)`.
 #[derive(Clone, Copy, Debug, PartialEq, Eq)]
 pub enum XcmError {
     /// A number went past the range of its type.

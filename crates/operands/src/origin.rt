@@ -5,7 +5,7 @@
 pub enum OriginKind {
     /// The origin that is native to the location, as another chain's own.
     Native,
-    /// The account that stands for the location.
+    /// The account of the location.
     SovereignAccount,
     /// The chain's root, where the location may be that.
     Superuser,

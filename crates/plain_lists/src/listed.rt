@@ -5,7 +5,7 @@ ghost use Rattle.std.specs.Prelude.{◌≡◌, ◌<◌, length, slice_set, slice
 use std::marker::Model;
 use std::mem;
 
-/// A `Vec` that contracts see as the list of its elements, without capacity or place in memory.
+/// A `Vec` that contracts see as the list of its elements, without capacity or address in memory.
 #[derive(Debug, Drop)]
 pub struct Listed<T> {
     items: Vec<T>,
@@ -37,7 +37,7 @@ impl<T> Listed<T> {
         self.items.as_slice()
     }
 
-    /// Puts an element in the place of the one at `index`, which must be there, and hands that one back. It takes no memory.
+    /// Replaces the element at `index`, which must be there, and returns the old one. It takes no memory.
     pub fn replace(&mut self, index: usize, item: T) -> T
         requires { index < length self.old }
         ensures list { self.new ≡ slice_set self.old index item }

@@ -33,7 +33,7 @@ known : (v : Version) → IsKnown (version_byte v)
 known V3 = inl refl
 known V4 = inr refl
 
--- what is read of a message behind its version byte
+-- what is read of a message after its version byte
 read_again : (v : Version) (rest : List ℕ) (program : List Instruction) → IsMessage (version_byte v ∷ rest) program → readable_at v rest ≡ Some (program, [])
 unfolding message
 read_again v rest program m =
@@ -49,7 +49,7 @@ is_message v rest program short e =
     let t = (program_reads v).takes rest program [] e in
     (v, record { short = short; text = ap (λ (w : List ℕ). version_byte v ∷ w) (t.0 ∙ append-nil (program_spelling v program)); readable = t.1 })
 
--- ---- behind a known version
+-- ---- after a known version
 
 abbrev Told : List ℕ → Result (List Instruction) MessageFault → Type 0
 Told bytes answer = MatchResult answer (IsDecoded bytes) (IsCause bytes)

@@ -27,7 +27,7 @@ clear_count = deep_count_one-is ClearOrigin ∙ ap (λ (l : Instruction-F Instru
 pub clear_depth : depth_one ClearOrigin ≡ 0
 clear_depth = depth_one-is ClearOrigin ∙ ap (λ (l : Instruction-F Instruction). depth_inside (inner l)) clear-out
 
--- what stands before the rest
+-- what comes before the rest
 pub front_written : (v : Version) (first : Instruction) (rest : List Instruction) (old version counted one two : List ℕ) → version ≡ old ++ byte (version_byte v) → counted ≡ version ++ compact (length rest + 2)
     → one ≡ counted ++ instruction_spelling v first → two ≡ one ++ instruction_spelling v ClearOrigin → two ++ joined (map (instruction_spelling v) rest) ≡ old ++ message v (forwarded first rest)
 unfolding message

@@ -7,11 +7,11 @@ use Rattle.xcm_program.specs.declared.instruction.Instruction.{Instruction, roll
 use Rattle.xcm_program.specs.Measure.{inner, with_inner}
 use Rattle.instruction_reading.specs.Reading.{Layer, head_at}
 
--- from how many instructions there may be, and the bytes: a program, how many there may still be, and the bytes behind it
+-- from how many instructions there may be, and the bytes: a program, how many there may still be, and the bytes after it
 abbrev pub Nested : Type 0
 Nested = ℕ → List ℕ → Option (List Instruction × (ℕ × List ℕ))
 
--- a head, with the program inside read behind it where it has one
+-- a head, with the program inside read after it where it has one
 abbrev pub closed : Nested → ℕ → Layer × List ℕ → Option (List Instruction) → Option (Instruction × (ℕ × List ℕ))
 closed nested left h None = Some (roll-Instruction h.0, (left, h.1))
 closed nested left h (Some _) = nested left h.1 >>= λ p. Some (roll-Instruction (with_inner h.0 p.0), p.1)

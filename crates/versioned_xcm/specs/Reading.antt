@@ -8,7 +8,7 @@ use Rattle.versioned_xcm.specs.Programs.{readable_at}
 use Rattle.versioned_xcm.specs.declared.faults.MessageFault.{MessageFault}
 use Rattle.versioned_xcm.specs.declared.faults.MessageFault.TheVariants.{TooLong, UnknownVersion, NotAMessage, NotConvertible}
 
--- nothing stands behind, and both versions can say it
+-- nothing follows, and both versions can say it
 abbrev pub program_at_end : Option (List Instruction × List ℕ) → Result (List Instruction) MessageFault
 program_at_end None = Err NotAMessage
 program_at_end (Some (program, [])) = if is_convertible program then Ok program else Err NotConvertible

@@ -1,4 +1,4 @@
-//! The laws of the heads of instructions: what stands in front of the program inside.
+//! The laws of the heads of instructions: what comes before the program inside.
 
 ghost use Rattle.std.specs.Prelude.{◌≡◌, ◌++◌, ℕ, List, [], Option, Some};
 ghost use Rattle.operands.specs.declared.version.Version.{Version};
@@ -9,7 +9,7 @@ ghost use Rattle.xcm_program.specs.Conversions.{HasAmount};
 ghost use Rattle.xcm_format.specs.Writable.{IsNamedHead};
 ghost use Rattle.instruction_reading.specs.Reading.{Layer, head_at};
 
-/// The reader takes the head of each instruction that fits, whatever follows it, and nothing else. In the place of the program inside it
+/// The reader takes the head of each instruction that fits, whatever follows it, and nothing else. Instead of the program inside it
 /// gives an empty one.
 pub fn law_of_heads()
     ensures takes { (v : Version) (bytes : List ℕ) (l : Layer) (rest : List ℕ)

@@ -25,7 +25,7 @@ fn take_head(alloc: Global, c: &mut Cursor<'_>, v: Version) -> Result<Instructio
     Ok(instruction)
 }
 
-/// The instruction at the front of what is left, as the version spells it, up to the program inside: that stands last, isn't read, and
+/// The instruction at the front of what is left, as the version spells it, up to the program inside: that comes last, isn't read, and
 /// is empty in what is returned. `NoSpelling` comes exactly where no prefix spells an instruction so far. After a refusal the cursor
 /// is where it was.
 pub fn read_head(alloc: Global, c: &mut Cursor<'_>, v: Version) -> Result<Instruction, WireFault>
@@ -39,7 +39,7 @@ pub fn read_head(alloc: Global, c: &mut Cursor<'_>, v: Version) -> Result<Instru
     c.settle(start, read)
 }
 
-/// Appends the one spelling of the instruction in the version, up to the program inside, which stands last. The version must have one:
+/// Appends the one spelling of the instruction in the version, up to the program inside, which comes last. The version must have one:
 /// it can say each asset id outside that program, and no amount is 0. Where memory is refused, `o` is as before.
 pub fn write_head(o: &mut Out, i: &Instruction, v: Version) -> Result<(), AllocError>
     requires named { IsNamedHead v Instruction (out-Instruction i.now) }

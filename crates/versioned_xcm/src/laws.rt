@@ -27,7 +27,7 @@ pub fn law_of_round_trip()
         → is_convertible program ≡ true → message_of bytes ≡ Ok program }
 {}
 
-/// What `encode_forwarded` answers is decoded to the program that it stands for, where no asset id of the first instruction and of the rest
+/// What `encode_forwarded` answers is decoded to the program that it is the message of, where no asset id of the first instruction and of the rest
 /// is bytes. So what waits for delivery can be kept as its bytes.
 pub fn law_of_forwarding()
     ensures { (v : Version) (bytes : List ℕ) (first : Instruction) (rest : List Instruction)

@@ -19,7 +19,7 @@ pub const MAX_DEPTH: u32 = 8;
 /// The most instructions of a program, those of nested programs counted. This project's own rule.
 pub const MAX_INSTRUCTIONS: u32 = 100;
 
-/// An instruction into the place for it, and how many there may still be.
+/// An instruction into its slot, and how many there may still be.
 #[cycle(program)]
 #[tactic(auto, unfolding(crate::specs::Programs::instruction_at))]
 fn fill_instruction(

@@ -13,7 +13,7 @@ use std::alloc::AllocError;
 use xcm_format::Version;
 use xcm_program::{Instruction, Program, inner};
 
-/// As `write_instruction`, into a draft: the head, and the program inside behind it.
+/// As `write_instruction`, into a draft: the head, and the program inside after it.
 #[cycle(written)]
 pub(crate) fn put_instruction(o: &mut Draft, i: &Instruction, v: Version) -> Result<(), AllocError>
     requires few { deep_count_one i.now < 2 ^ 32 }

@@ -1,4 +1,4 @@
--- Past the last form there is none.
+-- After the last form there is none.
 use Rattle.std.proofs.Common.{◌≡◌, ℕ, zero, suc, ◌≤◌, List, [], ◌∷◌, length, None, refl, arith}
 use Rattle.scale_codec.specs.Reading.{Reader, reader_by_index}
 

@@ -16,7 +16,7 @@ version_byte V4 = 4
 unfoldable pub message : Version → List Instruction → List ℕ
 message v program = version_byte v ∷ program_spelling v program
 
--- few instructions, nested not too deep
+-- few instructions, not nested too deeply
 pub record IsSmall (program : List Instruction) : Type 0 where
   pub few : deep_count program ≤ 100
   pub low : depth program ≤ 8

@@ -14,7 +14,7 @@ use Rattle.xcm_program.specs.declared.instruction.Instruction.TheOpen.{Instructi
 use Rattle.xcm_program.specs.Measure.{inner}
 use Rattle.xcm_program.specs.Everywhere.{Everywhere}
 
--- ---- an instruction without the program inside, which stands last
+-- ---- an instruction without the program inside, which comes last
 
 -- the index, and the fields in order
 unfoldable pub head : {X : Type 0} → Version → Instruction-F X → List ℕ
@@ -115,7 +115,7 @@ FitsHead _ _ = ⊤
 abbrev pub counted_texts : List (List ℕ) → List ℕ
 counted_texts texts = compact (length texts) ++ joined texts
 
--- what stands behind the head
+-- what follows the head
 abbrev pub behind : Option (List (List ℕ)) → List ℕ
 behind None = []
 behind (Some texts) = counted_texts texts

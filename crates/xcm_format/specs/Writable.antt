@@ -45,7 +45,7 @@ IsNamedHead v X _ = ⊤
 abbrev pub IsNamedOne : Version → Instruction → Type 0
 IsNamedOne v = Everywhere (IsNamedHead v)
 
--- what a caller owes who writes a program: the types keep the other bounds
+-- what a caller that writes a program has to ensure; the types ensure the other bounds
 pub record IsWritable (v : Version) (program : List Instruction) : Type 0 where
   pub few : deep_count program < 2 ^ 32
   pub named : AllByRecursion (IsNamedOne v) program

@@ -1,4 +1,4 @@
-//! The readers behind the public ones, for the readers of instructions too. Where they leave the cursor after a refusal isn't said.
+//! The readers that the public ones call, for the readers of instructions too. Where they leave the cursor after a refusal isn't said.
 
 ghost use Rattle.std.specs.Prelude.{◌≡◌, vec_len, IfOk};
 ghost use Rattle.scale_codec.specs.Reading.{optional_at, repeated};
@@ -132,7 +132,7 @@ pub fn take_optional_location(c: &mut Cursor<'_>) -> Result<Option<Location>, No
     }
 }
 
-/// At most `MOST` bytes behind their number. Memory is taken when they are all there, and not by their number.
+/// At most `MOST` bytes after their number. Memory is taken when they are all there, and not by their number.
 #[tactic(auto, unfolding(crate::specs::Reading::bytes_at))]
 pub fn take_bytes<const MOST: usize>(
     alloc: Global,

@@ -24,7 +24,7 @@ use scale_codec::{Cursor, NoSpelling};
 use std::alloc::Global;
 
 /// The weight at the front of what is left: two compact numbers, picoseconds and bytes. `NoSpelling` comes exactly where no prefix
-/// spells one; the cursor then stands where it stood.
+/// spells one; the cursor is then where it was.
 #[tactic(auto, using(scale_codec::proofs::Lemmas::ReadLaws::is_read, crate::proofs::Lemmas::OperandLaws::FieldLaws::weight_reads))]
 pub fn read_weight(c: &mut Cursor<'_>) -> Result<Weight, NoSpelling>
     ensures read { Gives result (weight_at c.old) c.old c.new }
@@ -35,8 +35,8 @@ pub fn read_weight(c: &mut Cursor<'_>) -> Result<Weight, NoSpelling>
     c.settle(start, read)
 }
 
-/// The limit of a weight at the front of what is left. `NoSpelling` comes exactly where no prefix spells one; the cursor then stands
-/// where it stood.
+/// The limit of a weight at the front of what is left. `NoSpelling` comes exactly where no prefix spells one; the cursor is then
+/// where it was.
 #[tactic(auto, using(scale_codec::proofs::Lemmas::ReadLaws::is_read, crate::proofs::Lemmas::OperandLaws::FieldLaws::weight_limit_reads))]
 pub fn read_weight_limit(c: &mut Cursor<'_>) -> Result<WeightLimit, NoSpelling>
     ensures read { Gives result (weight_limit_at c.old) c.old c.new }
@@ -47,8 +47,8 @@ pub fn read_weight_limit(c: &mut Cursor<'_>) -> Result<WeightLimit, NoSpelling>
     c.settle(start, read)
 }
 
-/// The kind of origin at the front of what is left. `NoSpelling` comes exactly where no prefix spells one; the cursor then stands
-/// where it stood.
+/// The kind of origin at the front of what is left. `NoSpelling` comes exactly where no prefix spells one; the cursor is then
+/// where it was.
 #[tactic(auto, using(scale_codec::proofs::Lemmas::ReadLaws::is_read, crate::proofs::Lemmas::OperandLaws::FieldLaws::origin_kind_reads))]
 pub fn read_origin_kind(c: &mut Cursor<'_>) -> Result<OriginKind, NoSpelling>
     ensures read { Gives result (origin_kind_at c.old) c.old c.new }
@@ -59,8 +59,8 @@ pub fn read_origin_kind(c: &mut Cursor<'_>) -> Result<OriginKind, NoSpelling>
     c.settle(start, read)
 }
 
-/// The error at the front of what is left. `NoSpelling` comes exactly where no prefix spells one; the cursor then stands where it
-/// stood.
+/// The error at the front of what is left. `NoSpelling` comes exactly where no prefix spells one; the cursor is then where it
+/// was.
 #[tactic(auto, using(scale_codec::proofs::Lemmas::ReadLaws::is_read, crate::proofs::Lemmas::OperandLaws::FieldLaws::error_reads))]
 pub fn read_error(c: &mut Cursor<'_>) -> Result<XcmError, NoSpelling>
     ensures read { Gives result (error_at c.old) c.old c.new }
@@ -72,7 +72,7 @@ pub fn read_error(c: &mut Cursor<'_>) -> Result<XcmError, NoSpelling>
 }
 
 /// Where an execution failed, and why: the index of an instruction and its error, at the front of what is left. `NoSpelling` comes
-/// exactly where no prefix spells them; the cursor then stands where it stood.
+/// exactly where no prefix spells them; the cursor is then where it was.
 #[tactic(auto, using(scale_codec::proofs::Lemmas::ReadLaws::is_read, crate::proofs::Lemmas::OperandLaws::FieldLaws::failure_reads))]
 pub fn read_failure(c: &mut Cursor<'_>) -> Result<(u32, XcmError), NoSpelling>
     ensures read { Gives result (failure_at c.old) c.old c.new }
@@ -84,7 +84,7 @@ pub fn read_failure(c: &mut Cursor<'_>) -> Result<(u32, XcmError), NoSpelling>
 }
 
 /// Where an execution failed, and why, or that it didn't, at the front of what is left. `NoSpelling` comes exactly where no prefix
-/// spells that; the cursor then stands where it stood.
+/// spells that; the cursor is then where it was.
 #[tactic(auto, using(scale_codec::proofs::Lemmas::ReadLaws::is_read, crate::proofs::Lemmas::OperandLaws::FieldLaws::optional_failure_reads))]
 pub fn read_optional_failure(c: &mut Cursor<'_>) -> Result<Option<(u32, XcmError)>, NoSpelling>
     ensures read { Gives result (optional_at failure_at c.old) c.old c.new }
@@ -96,7 +96,7 @@ pub fn read_optional_failure(c: &mut Cursor<'_>) -> Result<Option<(u32, XcmError
 }
 
 /// A location that may be left out, at the front of what is left. `NoSpelling` comes exactly where no prefix spells one or its
-/// absence; the cursor then stands where it stood.
+/// absence; the cursor is then where it was.
 #[tactic(auto, using(scale_codec::proofs::Lemmas::ReadLaws::is_read, crate::proofs::Lemmas::OperandLaws::FieldLaws::optional_location_reads))]
 pub fn read_optional_location(c: &mut Cursor<'_>) -> Result<Option<Location>, NoSpelling>
     ensures read { Gives result (optional_at location_at c.old) c.old c.new }
@@ -107,8 +107,8 @@ pub fn read_optional_location(c: &mut Cursor<'_>) -> Result<Option<Location>, No
     c.settle(start, read)
 }
 
-/// The bytes at the front of what is left, behind their number. `NoSpelling` comes exactly where no prefix spells at most `MOST`
-/// bytes. Memory is taken when they are all there, and not by their number. After a refusal the cursor stands where it stood.
+/// The bytes at the front of what is left, after their number. `NoSpelling` comes exactly where no prefix spells at most `MOST`
+/// bytes. Memory is taken when they are all there, and not by their number. After a refusal the cursor is where it was.
 pub fn read_bytes<const MOST: usize>(
     alloc: Global,
     c: &mut Cursor<'_>,
@@ -123,7 +123,7 @@ pub fn read_bytes<const MOST: usize>(
 }
 
 /// How a call ended, at the front of what is left. `NoSpelling` comes exactly where no prefix spells that, as where there are more
-/// than 128 bytes of an error. After a refusal the cursor stands where it stood.
+/// than 128 bytes of an error. After a refusal the cursor is where it was.
 #[tactic(auto, using(scale_codec::proofs::Lemmas::ReadLaws::is_read_or_fails, crate::proofs::Lemmas::OperandLaws::FieldLaws::maybe_error_reads))]
 pub fn read_maybe_error(alloc: Global, c: &mut Cursor<'_>) -> Result<MaybeError, WireFault>
     ensures read { GivesOrFails result (maybe_error_at c.old) c.old c.new }
@@ -135,7 +135,7 @@ pub fn read_maybe_error(alloc: Global, c: &mut Cursor<'_>) -> Result<MaybeError,
 }
 
 /// The pallet at the front of what is left. `NoSpelling` comes exactly where no prefix spells one, as where a name has more than 48
-/// bytes. After a refusal the cursor stands where it stood.
+/// bytes. After a refusal the cursor is where it was.
 #[tactic(auto, using(scale_codec::proofs::Lemmas::ReadLaws::is_read_or_fails, crate::proofs::Lemmas::OperandLaws::FieldLaws::pallet_info_reads))]
 pub fn read_pallet_info(alloc: Global, c: &mut Cursor<'_>) -> Result<PalletInfo, WireFault>
     ensures read { GivesOrFails result (pallet_info_at c.old) c.old c.new }
@@ -147,7 +147,7 @@ pub fn read_pallet_info(alloc: Global, c: &mut Cursor<'_>) -> Result<PalletInfo,
 }
 
 /// Where a response goes and what it answers, at the front of what is left. `NoSpelling` comes exactly where no prefix spells that;
-/// the cursor then stands where it stood.
+/// the cursor is then where it was.
 #[tactic(auto, using(scale_codec::proofs::Lemmas::ReadLaws::is_read, crate::proofs::Lemmas::OperandLaws::FieldLaws::query_info_reads))]
 pub fn read_query_info(c: &mut Cursor<'_>) -> Result<QueryInfo, NoSpelling>
     ensures read { Gives result (query_info_at c.old) c.old c.new }
@@ -159,7 +159,7 @@ pub fn read_query_info(c: &mut Cursor<'_>) -> Result<QueryInfo, NoSpelling>
 }
 
 /// The response at the front of what is left, as the version spells it. `NoSpelling` comes exactly where no prefix spells one, as
-/// where there are more than 64 pallets. After a refusal the cursor stands where it stood.
+/// where there are more than 64 pallets. After a refusal the cursor is where it was.
 pub fn read_response(alloc: Global, c: &mut Cursor<'_>, v: Version) -> Result<Response, WireFault>
     ensures read { GivesOrFails result (response_at v c.old) c.old c.new }
     ensures spelling { IsReadOrFails (response v) (FitsResponse v) result c.old c.new }

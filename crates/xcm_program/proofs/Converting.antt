@@ -12,6 +12,6 @@ convertible-not i h = sym (is_convertible_one-is i ∙ ap (λ (b : Bool). b && c
 pub convertible-by : (i : Instruction) (nested : Option (List Instruction)) → names_concrete_ids (out-Instruction i) ≡ true → nested ≡ inner_of i → convertible_inside nested ≡ is_convertible_one i
 convertible-by i nested h inside = sym (is_convertible_one-is i ∙ ap (λ (b : Bool). b && convertible_inside (inner_of i)) h ∙ ap convertible_inside (sym inside))
 
--- the instruction at k, and what stands behind it
+-- the instruction at k, and what follows it
 pub convertible-at : (p : List Instruction) (k : ℕ) (i : Instruction) → k < length p → i ≡ get_or p k i → is_convertible (drop k p) ≡ is_convertible_one i && is_convertible (drop (k + 1) p)
 convertible-at p k i lt at = rw (add-one, drop-cons p k i lt) (ap (λ (j : Instruction). is_convertible_one j && is_convertible (drop (suc k) p)) (sym at))

@@ -1,5 +1,6 @@
 -- Lemmas that proofs cite, in this crate and above it: one layer of a fold over instructions, one layer of a fact of all instructions,
 -- and an induction over programs. A reader of the contracts may skip this file.
+pub mod NamesFit
 -- ---- parts of a layer, with f of each instruction in it
 use Rattle.std.proofs.Common.{◌≡◌, ℕ, zero, suc, ◌+◌, ◌<◌, ◌≤◌, max, Bool, true, ◌&&◌, List, [], ◌∷◌, length, map, get_or, drop, Option, Some, None, refl, sym, ap, subst, ◌∙◌, add-one, arith, drop-cons}
 use Rattle.std.specs.Option.{option_map}
@@ -188,7 +189,7 @@ inside-map : {X Y : Type 0} (v : X → Y) (P : Y → Type 0) (o : Option (List X
 inside-map v P None = refl
 inside-map v P (Some p) = each-map v P p
 
--- Q says the same of a layer whatever stands in it
+-- Q says the same of a layer whatever is in it
 abbrev pub IsOfLayer : ((X : Type 0) → Instruction-F X → Type 0) → Type 1
 IsOfLayer Q = (X Y : Type 0) (v : X → Y) (l : Instruction-F X) → Q X l ≡ Q Y (map-Instruction X Y v l)
 
@@ -221,7 +222,7 @@ amounts_open = everywhere_open HasAmount HasAmount-IsOfLayer
 pub amounts_here : (i : Instruction) → HasAmount Instruction (out-Instruction i) → AllInside HasAmounts (inner_of i) → HasAmounts i
 amounts_here = everywhere_here HasAmount HasAmount-IsOfLayer
 
--- ---- what a fact of programs says of the first head, where it goes over to what stands inside and behind, holds everywhere
+-- ---- what a fact of programs says of the first head, where it goes over to what is inside and after, holds everywhere
 
 pub behind_less : (n : ℕ) (i : Instruction) (rest : List Instruction) → deep_count (i ∷ rest) ≤ suc n → (deep_count_inside (inner_of i) ≤ n) × (deep_count rest ≤ n)
 behind_less n i rest few = let c = deep_count_one-is i in (omega (arith, c, few), omega (arith, c, few))

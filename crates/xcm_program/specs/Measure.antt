@@ -1,10 +1,10 @@
--- How large programs are, by what stands inside one layer of an instruction. This project's own rule; "deep" counts through all
+-- How large programs are, by what is inside one layer of an instruction. This project's own rule; "deep" counts through all
 -- nested programs.
 use Rattle.std.specs.Prelude.{ℕ, ◌+◌, max, List, [], ◌∷◌, map, Option, Some, None}
 use Rattle.xcm_program.specs.declared.instruction.Instruction.{Instruction, out-Instruction, fold-Instruction}
 use Rattle.xcm_program.specs.declared.instruction.Instruction.TheOpen.{Instruction-F}
 
--- the program inside, which stands last in each instruction that has one
+-- the program inside, which is the last field of each instruction that has one
 abbrev pub inner : {X : Type 0} → Instruction-F X → Option (List X)
 inner (Instruction-F.TransferReserveAsset list place xcm) = Some xcm
 inner (Instruction-F.DepositReserveAsset taken place xcm) = Some xcm
@@ -29,7 +29,7 @@ with_inner layer program = layer
 abbrev pub inner_of : Instruction → Option (List Instruction)
 inner_of i = inner (out-Instruction i)
 
--- ---- sums and greatest of what stands inside
+-- ---- sums and greatest of what is inside
 
 abbrev pub sum_of_list : List ℕ → ℕ
 sum_of_list [] = 0

@@ -7,7 +7,7 @@ use Rattle.xcm_program.specs.declared.instruction.Instruction.{Instruction, fold
 use Rattle.xcm_program.specs.declared.instruction.Instruction.TheOpen.{Instruction-F}
 use Rattle.xcm_program.specs.Measure.{sum_of_list, sum_inside}
 
--- the program that may run behind this one on the same chain
+-- the program that may run after this one on the same chain
 abbrev pub kept : {X : Type 0} → Instruction-F X → Option (List X)
 kept (Instruction-F.SetErrorHandler xcm) = Some xcm
 kept (Instruction-F.SetAppendix xcm) = Some xcm

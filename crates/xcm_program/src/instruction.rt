@@ -5,6 +5,7 @@ ghost use Rattle.xcm_program.specs.declared.instruction.Instruction.{out-Instruc
 ghost use Rattle.xcm_program.specs.Indices.{index};
 ghost use Rattle.xcm_program.specs.Texts.{instruction_name};
 
+use crate::names::instruction_name_at;
 use asset_lists::{Asset, Assets, Filter};
 use locations::{Junction, Junctions, Location, NetworkId};
 use operands::{
@@ -12,7 +13,7 @@ use operands::{
 };
 use plain_lists::Listed;
 
-/// An instruction (XCM format, versions 3 and 4), in the order of the indices. A program stands last among an instruction's fields.
+/// An instruction (XCM format, versions 3 and 4), in the order of the indices. A program is the last of an instruction's fields.
 #[derive(Debug, Drop, PartialEq, Eq)]
 pub enum Instruction {
     /// Takes assets from the origin's account into the holding register.
@@ -54,7 +55,7 @@ pub enum Instruction {
         assets: Assets,
         /// The other chain.
         dest: Location,
-        /// What runs there behind the notice.
+        /// What runs there after the notice.
         xcm: Program,
     },
     /// Dispatches a call of the chain.
@@ -84,9 +85,9 @@ pub enum Instruction {
     HrmpChannelClosing {
         /// The chain that closes it.
         initiator: u32,
-        /// The chain at its front.
+        /// The chain that sends on it.
         sender: u32,
-        /// The chain at its end.
+        /// The chain that receives on it.
         recipient: u32,
     },
     /// Empties the origin register.
@@ -114,7 +115,7 @@ pub enum Instruction {
         assets: Filter,
         /// The other chain.
         dest: Location,
-        /// What runs there behind the notice.
+        /// What runs there after the notice.
         xcm: Program,
     },
     /// Exchanges assets of the holding register for others.
@@ -132,7 +133,7 @@ pub enum Instruction {
         assets: Filter,
         /// The reserve.
         reserve: Location,
-        /// What runs there behind the withdrawal.
+        /// What runs there after the withdrawal.
         xcm: Program,
     },
     /// Teleports assets of the holding register to another chain.
@@ -141,7 +142,7 @@ pub enum Instruction {
         assets: Filter,
         /// The other chain.
         dest: Location,
-        /// What runs there behind the arrival.
+        /// What runs there after the arrival.
         xcm: Program,
     },
     /// Reports assets of the holding register.
@@ -165,7 +166,7 @@ pub enum Instruction {
         /// The program.
         xcm: Program,
     },
-    /// Sets the program that runs behind this one.
+    /// Sets the program that runs after this one.
     SetAppendix {
         /// The program.
         xcm: Program,
@@ -254,7 +255,7 @@ pub enum Instruction {
     ExportMessage {
         /// The system.
         network: NetworkId,
-        /// The place in it.
+        /// The location in it.
         destination: Junctions,
         /// The program.
         xcm: Program,
@@ -289,7 +290,7 @@ pub enum Instruction {
     },
     /// Says how fees for sending are paid.
     SetFeesMode {
-        /// Whether from the origin's account, in place of the holding register.
+        /// Whether from the origin's account, instead of the holding register.
         jit_withdraw: bool,
     },
     /// Sets the topic register.
@@ -299,7 +300,7 @@ pub enum Instruction {
     },
     /// Empties the topic register.
     ClearTopic,
-    /// Sets the origin to another that it may stand for.
+    /// Sets the origin to another that it may act as.
     AliasOrigin {
         /// The other.
         target: Location,
@@ -317,7 +318,7 @@ pub enum Instruction {
 pub type Program = Listed<Instruction>;
 
 impl Instruction {
-    /// The index that stands first in the instruction's spelling (XCM format), below 48.
+    /// The index that the instruction's spelling begins with (XCM format), below 48.
     pub fn index(&self) -> u8
         ensures { result ≡ index (out-Instruction self.now) }
     {
@@ -374,58 +375,10 @@ impl Instruction {
     }
 
     /// The name in the XCM format.
+    #[tactic(auto, using(crate::proofs::Lemmas::NamesFit::names_fit))]
     pub fn name(&self) -> &'static str
         ensures { result.now ≡ instruction_name (out-Instruction self.now) }
     {
-        match self {
-            Instruction::WithdrawAsset { .. } => "WithdrawAsset",
-            Instruction::ReserveAssetDeposited { .. } => "ReserveAssetDeposited",
-            Instruction::ReceiveTeleportedAsset { .. } => "ReceiveTeleportedAsset",
-            Instruction::QueryResponse { .. } => "QueryResponse",
-            Instruction::TransferAsset { .. } => "TransferAsset",
-            Instruction::TransferReserveAsset { .. } => "TransferReserveAsset",
-            Instruction::Transact { .. } => "Transact",
-            Instruction::HrmpNewChannelOpenRequest { .. } => "HrmpNewChannelOpenRequest",
-            Instruction::HrmpChannelAccepted { .. } => "HrmpChannelAccepted",
-            Instruction::HrmpChannelClosing { .. } => "HrmpChannelClosing",
-            Instruction::ClearOrigin => "ClearOrigin",
-            Instruction::DescendOrigin { .. } => "DescendOrigin",
-            Instruction::ReportError { .. } => "ReportError",
-            Instruction::DepositAsset { .. } => "DepositAsset",
-            Instruction::DepositReserveAsset { .. } => "DepositReserveAsset",
-            Instruction::ExchangeAsset { .. } => "ExchangeAsset",
-            Instruction::InitiateReserveWithdraw { .. } => "InitiateReserveWithdraw",
-            Instruction::InitiateTeleport { .. } => "InitiateTeleport",
-            Instruction::ReportHolding { .. } => "ReportHolding",
-            Instruction::BuyExecution { .. } => "BuyExecution",
-            Instruction::RefundSurplus => "RefundSurplus",
-            Instruction::SetErrorHandler { .. } => "SetErrorHandler",
-            Instruction::SetAppendix { .. } => "SetAppendix",
-            Instruction::ClearError => "ClearError",
-            Instruction::ClaimAsset { .. } => "ClaimAsset",
-            Instruction::Trap { .. } => "Trap",
-            Instruction::SubscribeVersion { .. } => "SubscribeVersion",
-            Instruction::UnsubscribeVersion => "UnsubscribeVersion",
-            Instruction::BurnAsset { .. } => "BurnAsset",
-            Instruction::ExpectAsset { .. } => "ExpectAsset",
-            Instruction::ExpectOrigin { .. } => "ExpectOrigin",
-            Instruction::ExpectError { .. } => "ExpectError",
-            Instruction::ExpectTransactStatus { .. } => "ExpectTransactStatus",
-            Instruction::QueryPallet { .. } => "QueryPallet",
-            Instruction::ExpectPallet { .. } => "ExpectPallet",
-            Instruction::ReportTransactStatus { .. } => "ReportTransactStatus",
-            Instruction::ClearTransactStatus => "ClearTransactStatus",
-            Instruction::UniversalOrigin { .. } => "UniversalOrigin",
-            Instruction::ExportMessage { .. } => "ExportMessage",
-            Instruction::LockAsset { .. } => "LockAsset",
-            Instruction::UnlockAsset { .. } => "UnlockAsset",
-            Instruction::NoteUnlockable { .. } => "NoteUnlockable",
-            Instruction::RequestUnlock { .. } => "RequestUnlock",
-            Instruction::SetFeesMode { .. } => "SetFeesMode",
-            Instruction::SetTopic { .. } => "SetTopic",
-            Instruction::ClearTopic => "ClearTopic",
-            Instruction::AliasOrigin { .. } => "AliasOrigin",
-            Instruction::UnpaidExecution { .. } => "UnpaidExecution",
-        }
+        instruction_name_at(self.index())
     }
 }

@@ -24,7 +24,7 @@ pub fn inner(instruction: &Instruction) -> Option<&Program>
     }
 }
 
-/// The program inside that may run behind this one on the same chain: the handler or the appendix that the instruction sets.
+/// The program inside that may run after this one on the same chain: the handler or the appendix that the instruction sets.
 pub fn kept(instruction: &Instruction) -> Option<&Program>
     ensures { option_copied result ≡ kept (out-Instruction instruction.now) }
 {

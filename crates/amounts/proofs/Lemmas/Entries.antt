@@ -42,7 +42,7 @@ module _ {K : Type 0} {R : K → K → Ordering} (o : IsKeyOrder R) where
   pub from_entries-rows : (m : Amounts R) → from_entries (rows m) ≡ m
   from_entries-rows m = same_amounts o _ _ (λ q. amount-from_entries (rows m) q ∙ ap (λ f. unwrap_or f 0) (lookup-find R q (rows m)) ∙ find-rows m q)
 
-  -- where the keys strictly rise, no key stands twice, and the entries may be added up
+  -- where the keys strictly rise, no key is there twice, and the entries may be added up
   pub from_entries-from_rows : (es : List (K × ℕ)) → IsStrictlySortedBy R (keys_of es) → from_entries {R = R} es ≡ from_rows es
   from_entries-from_rows es rising = same_amounts o _ _ (λ q.
       amount-from_entries es q ∙ ap (λ f. unwrap_or f 0) (lookup-find R q es) ∙ sym (sum_where-find o q es (is_sorted_of_keys R es rising)) ∙ sym (amount-from_rows o es q))

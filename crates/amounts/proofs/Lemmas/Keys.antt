@@ -1,4 +1,4 @@
--- The orders of the keys that maps of amounts are made over: numbers, lists, pairs, and keys that stand for other keys.
+-- The orders of the keys that maps of amounts are made over: numbers, lists, pairs, and keys that represent other keys.
 use Rattle.std.specs.Prelude.{◌≡◌, refl}
 use Rattle.std.specs.Ordering.{nat_cmp, on, then_cmp, ordering_then}
 use Rattle.std.specs.declared.cmp.Ordering.{Ordering}

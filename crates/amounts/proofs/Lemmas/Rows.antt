@@ -188,7 +188,7 @@ module _ {K : Type 0} {R : K → K → Ordering} (o : IsKeyOrder R) where
         | false ↦ λ t. added_none (p k) _ _ rest
       ] refl
 
-  -- a row put in its place takes the place of the one with its key
+  -- a row that is inserted replaces the one with its key
   pub sum_where-put : (p : K → Bool) (k : K) (v : ℕ) (es : List (K × ℕ)) → T (is_sorted R es)
       → sum_where p (raised_rows (put R k v es)) + amount_if (p k) (raised (find R k es)) ≡ sum_where p (raised_rows es) + amount_if (p k) (suc v)
   sum_where-put p k v [] h = elim (p k) as (λ b. (amount_if b (suc v) + 0) + amount_if b 0 ≡ 0 + amount_if b (suc v)) [ true ↦ omega arith | false ↦ refl ]

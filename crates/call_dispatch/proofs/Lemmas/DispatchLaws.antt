@@ -89,7 +89,7 @@ module _ (floors : Floors) (rows who : List ℕ) where
     of_items (Fail code) p = tt
     of_items (Batch items) p = p
 
-    -- what stands where memory was refused is what a front of the batch leaves
+    -- the state where memory was refused is what a prefix of the batch leaves
     pub interrupted_keeps : (m : RowAmounts) (c : AnyCall) (now : RowAmounts) → OfCall P c → IsInterrupted m floors rows who c now → Q m now
     interrupted_keeps m c now p h =
         let all = all_in_front h.front h.back (subst (AllByRecursion (OfItem P)) h.all (of_items c p)) in
@@ -192,7 +192,7 @@ unnamed_call (Transfer row dest n) other e = not_named row other e
 unnamed_call (Fail code) other e = tt
 unnamed_call (Batch items) other e = unnamed_items items other e
 
--- ---- the laws, of a dispatch and of what stands where memory was refused
+-- ---- the laws, of a dispatch and of the state where memory was refused
 module _ (m : RowAmounts) (floors : Floors) (rows who : List ℕ) (c : AnyCall) where
   -- by any test that asks for no account
   pub total-dispatch : (p : AccountRow → Bool) → ((a b : List ℕ) (row : ℕ) → p (a, row) ≡ p (b, row)) → total p (dispatch m floors rows who c).0 ≡ total p m

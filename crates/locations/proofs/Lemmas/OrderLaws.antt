@@ -1,5 +1,5 @@
 -- Lemmas on the definitions of `specs/OrderLaws.antt`: what proofs cite.
-use Rattle.std.specs.Prelude.{◌≡◌, ℕ, List, [], ◌∷◌, length, Option, Some, None, refl, get_or}
+use Rattle.std.specs.Prelude.{◌≡◌, ℕ, Bool, true, false, List, [], ◌∷◌, length, Option, Some, None, refl, get_or}
 use Rattle.std.proofs.Common.{sym, ap, ◌∙◌}
 use Rattle.std.specs.declared.cmp.Ordering.{Ordering}
 use Rattle.std.specs.declared.cmp.Ordering.TheVariants.{Less, Equal, Greater}
@@ -19,7 +19,7 @@ use Rattle.locations.specs.declared.relative.Location.{Location}
 use Rattle.locations.specs.Order.{network_fields, any_network_fields, body_fields, part_fields, junction_fields, fields_cmp, network_cmp, body_cmp, part_cmp, junction_cmp, junctions_cmp, location_cmp, IsExactOrder}
 use Rattle.locations.specs.OrderLaws.{fields_total, junction_total, junctions_total, location_total}
 
--- the bytes or the number at a place
+-- the bytes or the number at an index
 abbrev bytes_at : ℕ → List (List ℕ) → List ℕ
 bytes_at i fields = get_or fields i []
 
@@ -79,7 +79,7 @@ part_back (Fraction nom denom) = refl
 part_back (AtLeastProportion nom denom) = refl
 part_back (MoreThanProportion nom denom) = refl
 
--- the fields at a place, and the bytes or the number that stand there alone
+-- the fields at an index, and the bytes or the number that are alone there
 abbrev at : ℕ → List (List (List ℕ)) → List (List ℕ)
 at i fs = get_or fs i []
 
@@ -128,7 +128,7 @@ part_exact = on_exact part_fields part_of part_back fields_exact
 pub junction_exact : IsAntisymmetric junction_cmp
 junction_exact = on_exact junction_fields junction_of junction_back (slice_cmp-IsAntisymmetric fields_exact)
 
--- a tie of two orders one after the other is a tie of both
+-- a tie of an order with a second one for its ties is a tie of both
 pub first_tie : (a b : Ordering) → ordering_then a b ≡ Equal → a ≡ Equal
 first_tie Less b tie = tie
 first_tie Equal b tie = refl
@@ -153,6 +153,11 @@ pub tie_decides : {K : Type 0} {R : K → K → Ordering} → IsTotalOrder R →
     → (x y : K) → Decides (eq_by_cmp R x y) (x ≡ y)
 tie_decides {R = R} total exact x y =
     (λ same. exact x y ((Equal-is (R x y)).0 same), λ same. ap (λ z. eq_by_cmp R x z) (sym same) ∙ ap is_eq (tied_itself total x))
+
+-- a test of what isn't so fails
+pub undecided : {P : Type 0} {b : Bool} → Decides b P → (P → ⊥) → false ≡ b
+undecided {b = true} told not_so = absurd (not_so (told.0 refl))
+undecided {b = false} told not_so = refl
 
 pub junctions_decides : (xs ys : List Junction) → Decides (eq_by_cmp junctions_cmp xs ys) (xs ≡ ys)
 junctions_decides = tie_decides junctions_total junctions_exact

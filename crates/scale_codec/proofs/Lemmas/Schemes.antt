@@ -203,7 +203,7 @@ module _ {X : Type 0} (text : X → List ℕ) (Fits : X → Type 0) where
       let n : 0 + a.0.0 ≡ a.0.0 = omega arith in
       (b.0 ∙ rw n at t.0, t.1)
 
-  -- one of several forms: each form is in its place, and each value is read again
+  -- one of several forms: each form is at its index, and each value is read again
   pub indexed_reads : (rs : List (Reader X)) → AllFormed 0 rs → ((x : X) (rest : List ℕ) → Fits x → indexed_at rs (text x ++ rest) ≡ Some (x, rest)) → Reads text Fits (indexed_at rs)
   indexed_reads rs all again = record { takes = indexed_takes rs all; again = again }
 

@@ -1,5 +1,5 @@
--- How a `Listed` holds its elements, so that a type may lead back to itself through one.
--- Contracts see a `Listed` as a list: its shape is the list with the elements left out, and the elements stand in it in order.
+-- How a `Listed` holds its elements, so that a type may contain itself through one.
+-- Contracts see a `Listed` as a list: its shape is the list with the elements left out, and its elements are in order.
 --     the_former, the_weighed, the_empty     those of lists
 --     the_items, the_items_listed     the elements, which are the whole value
 --     the_places     in memory it owns and lends what its one field, a `Vec`, owns and lends, element by element

@@ -26,7 +26,7 @@ nested_writable v i p is named amounts few =
       },
     )
 
--- a value has a spelling, and a draft has it behind what it had
+-- a value has a spelling, and a draft has it after what it had
 abbrev pub IsPut : {X : Type 0} → (X → List ℕ) → (X → Type 0) → X → Drafted → Drafted → Type 0
 IsPut t F x old new = (new.kept ≡ old.kept) × ((new.text ≡ old.text ++ t x) × F x)
 

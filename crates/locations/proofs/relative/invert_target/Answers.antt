@@ -1,6 +1,6 @@
 use Rattle.std.proofs.Common.{ap, length, arith}
 use Rattle.locations.proofs.Inversion.{made_inverted}
-use Rattle.locations.proofs.reanchor.invert_target.Goals as goal
+use Rattle.locations.proofs.relative.invert_target.Goals as goal
 
 pub returns-clause-inverted : goal.returns-clause-inverted
 returns-clause-inverted c = (
