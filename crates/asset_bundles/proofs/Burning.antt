@@ -195,7 +195,7 @@ booked_is k cause n old new booked listed range =
     same_books _ _ (listed_rows new ∙ booked_keys k cause n old new booked ∙ sym (listed_rows old) ∙ sym (listed-Booked (book_of_rows old) (single (k, cause) n)))
     (booked_burns k cause n old new booked listed range)
 
--- ---- the place of a row
+-- ---- the index of a row
 pub row_more : (k : Listed) (rs : List BookRow) (i : ℕ) (r : BookRow) → i < length rs → r ≡ get_or rs i r → is_other_row k r ≡ true
     → prefix_len (is_other_row k) rs ≡ i + prefix_len (is_other_row k) (drop i rs) → prefix_len (is_other_row k) rs ≡ (i + 1) + prefix_len (is_other_row k) (drop (i + 1) rs)
 row_more k rs i r inside at_i other so_far =

@@ -23,7 +23,7 @@ further done left h = omega (arith, h)
 behind : (done : ℕ) (units : List (Unit × ℕ)) → drop 20 (drop (done * 20) units) ≡ drop ((done + 1) * 20) units
 behind done units = drop-drop 20 (done * 20) units ∙ ap (λ n. drop n units) (omega arith)
 
--- the next piece is trapped behind those before it
+-- the next piece is trapped after those before it
 pub next_piece : (traps more whole : List Trap) (t : Trap) (count done number next : ℕ) (origin : Location) (units : List (Unit × ℕ))
     → more ≡ traps ++ t ∷ [] → t ≡ record { number = number; origin = origin; goods = from_rows (take 20 (drop (done * 20) units)) } → next ≡ number_after number → done < count
     → traps ++ traps_of (count - done) number origin (drop (done * 20) units) ≡ whole

@@ -23,7 +23,7 @@ use Rattle.asset_bundles.proofs.Lemmas.Bundles.{unit_keys}
 use Rattle.asset_bundles.proofs.Lemmas.BundleLaws.{found-holding, amount-bundle_of}
 use Rattle.plain_lists.proofs.Lemmas.Facts.{and_false as not_both, equal_then_equal as tie_id}
 
--- ---- a list at one place
+-- ---- a list at one index
 pub at_place : (xs : List Asset) (i : ℕ) (a : Asset) → i < length xs → a ≡ get_or xs i a → drop i xs ≡ a ∷ drop (i + 1) xs
 at_place xs i a inside is = drop-cons xs i a inside ∙ ap (λ x. x ∷ drop (suc i) xs) (sym is) ∙ ap (λ n. a ∷ drop n xs) (sym (add-one i))
 

@@ -1,4 +1,4 @@
--- One asset given up in its place, as the bundle that is left.
+-- One asset given up in place, as the bundle that is left.
 use Rattle.std.proofs.Common.{◌≡◌, ℕ, zero, suc, ◌+◌, ◌-◌, ◌<◌, ◌≤◌, Bool, true, false, List, [], ◌∷◌, length, get_or, drop, refl, sym, ap, ◌∙◌, subst, arith}
 use Rattle.std.specs.Prelude.{if◌then◌else◌, not, Some, slice_set, remove}
 use Rattle.std.specs.List.{prefix_len, AllByRecursion}
@@ -24,7 +24,7 @@ use Rattle.asset_bundles.specs.Portions.{fun_with, asset_with, with_remainder, c
 use Rattle.asset_bundles.proofs.Lemmas.Portions.{FitsInstances}
 use Rattle.asset_bundles.proofs.Parts.{bundle_of-changed, changed_holding}
 
--- ---- the place
+-- ---- the index
 pub place_more : (u : Unit) (xs : List Asset) (k : ℕ) (b : Asset) → k < length xs → b ≡ get_or xs k b → is_other u b ≡ true
     → prefix_len (is_other u) xs ≡ k + prefix_len (is_other u) (drop k xs) → prefix_len (is_other u) xs ≡ (k + 1) + prefix_len (is_other u) (drop (k + 1) xs)
 place_more u xs k b inside at_k other so_far =

@@ -122,7 +122,7 @@ pub changed_more : (f : Unit → ℕ → ℕ) (xs : List Asset) (i n : ℕ) (a :
 changed_more f xs i n a so_far next inside is amount pushed before =
     pushed ∙ ap (λ ys. ys ++ with_remainder a n []) before ∙ ap (λ m. changed f (take i xs) ++ with_remainder a m []) amount ∙ sym (changed_take f xs i a inside is)
 
--- behind what is there already
+-- after what is there already
 pub changed_behind : (f : Unit → ℕ → ℕ) (front xs : List Asset) (i n : ℕ) (a : Asset) (so_far next : List Asset) → i < length xs → a ≡ get_or xs i a → n ≡ f (unit_of a) (amount_of a)
     → next ≡ so_far ++ with_remainder a n [] → so_far ≡ front ++ changed f (take i xs) → next ≡ front ++ changed f (take (i + 1) xs)
 changed_behind f front xs i n a so_far next inside is amount pushed before =

@@ -15,7 +15,7 @@ use Rattle.asset_bundles.proofs.SumFacts.{is_rising_of, no_zero_of}
 pub once_held : (xs : List Asset) → IsHolding xs → (u : Unit) → occurrences u xs ≤ 1
 once_held xs h u = once_each xs (is_rising_of xs h.rising) u
 
--- the part that the code cuts out, its first place and its length kept within the list
+-- the part that the code cuts out, its first index and its length kept within the list
 pub part_is : (xs : List Asset) (from most first count : ℕ) → first ≡ min from (length xs) → count ≡ min most (length (take (length xs - first) (drop first xs)))
     → take count (take (length xs - first) (drop first xs)) ≡ take most (drop from xs)
 part_is xs from most first count front few =

@@ -1,4 +1,4 @@
--- Traps by their places: one more behind the others, the last ones dropped, and one taken out.
+-- Traps by their positions: one more after the others, the last ones dropped, and one taken out.
 use Rattle.std.proofs.Common.{◌≡◌, ℕ, zero, suc, ◌+◌, ◌<◌, ◌≤◌, ◌↔◌, Bool, true, false, cond, List, [], ◌∷◌, ◌++◌, BTreeMap, length, take, Option, Some, None, IfSome, refl, sym, ap, ◌∙◌, subst, arith, true≢false, length-append}
 use Rattle.std.specs.Prelude.{IsTrue, IsSome, IfNone}
 use Rattle.std.specs.declared.cmp.Ordering.TheVariants.{Less, Greater}
@@ -50,7 +50,7 @@ all_values : (P : Trap → Type 0) (rows : List TrapRow) → AllByRecursion (λ 
 all_values P [] all = tt
 all_values P (r ∷ rows) all = (all.0, all_values P rows all.1)
 
--- ---- a place behind all
+-- ---- a position after all
 pub below_place : (rows : List TrapRow) (last place : ℕ) → place ≡ last + 1 → AllByRecursion (λ q. is_lt (nat_cmp last q) ≡ false) (keys_of rows) → AllByRecursion (λ (r : TrapRow). r.0 < place) rows
 below_place rows last place next all =
     all_keys (λ q. q < place) rows (all_map (λ q not_above. (let le = ge_from_not_lt last q not_above in omega (arith, le, next))) (keys_of rows) all)
@@ -64,7 +64,7 @@ inserted_behind (r ∷ rows) place t below =
 pub pushed_rows : (rows new : List TrapRow) (place : ℕ) (t : Trap) → AllByRecursion (λ (r : TrapRow). r.0 < place) rows → new ≡ insert_entry nat_cmp rows place t → new ≡ rows ++ (place, t) ∷ []
 pushed_rows rows new place t below is = is ∙ inserted_behind rows place t below
 
--- ---- more places listed
+-- ---- more positions listed
 pub listed_kept : (index more : List DigestPlace) (k : DigestPlace) → ((q : DigestPlace) → is_listed more q ≡ cond (eq_by_cmp digest_place_cmp k q) true (is_listed index q))
     → (q : DigestPlace) → is_listed index q ≡ true → is_listed more q ≡ true
 listed_kept index more k updates q there =
@@ -89,7 +89,7 @@ pub placed_fewer : (rows new : List TrapRow) (index : List DigestPlace) → IsSt
     → ArePlaced rows index → ArePlaced new index
 placed_fewer rows new index rising part placed = record { rising = rising; listed = λ p t at. placed.listed p t (part p t at) }
 
--- what is there after a place was taken out was there before, and elsewhere
+-- what is there after a position was taken out was there before, and elsewhere
 other_place : (rows new : List TrapRow) (place : ℕ) → ((p : ℕ) → trap_at new p ≡ cond (eq_by_cmp nat_cmp place p) None (trap_at rows p))
     → (p : ℕ) (t : Trap) → trap_at new p ≡ Some t → (eq_by_cmp nat_cmp place p ≡ false) × (trap_at rows p ≡ Some t)
 other_place rows new place updates p t at = by (eq_by_cmp nat_cmp place p) refl (sym (updates p) ∙ at)
@@ -133,7 +133,7 @@ one_fewer old rows new m n (Some p) more within so_far variant popped =
     let left : length new ≡ n = omega (arith, more, long, one) in
     sym (front_of new (p ∷ [])) ∙ ap (take (length new)) (sym popped ∙ so_far) ∙ front_take (length new) m old (omega (arith, long, one)) ∙ ap (λ k. take k old) left
 
--- ---- each trap is found at its place
+-- ---- each trap is found at its position
 keys_found : (P : ℕ → Type 0) (rows : List TrapRow) (place : ℕ) (t : Trap) → trap_at rows place ≡ Some t → AllByRecursion P (keys_of rows) → P place
 keys_found P [] place t at all = absurd (cc)
 keys_found P (r ∷ rows) place t at all = by (λ there. keys_found P rows place t there all.1) (eq_by_cmp nat_cmp place r.0) refl at
@@ -156,7 +156,7 @@ all_found (r ∷ rows) rising = (
   all_both (λ q less at. past_first r rows q less at) rows (all_keys (λ k. nat_cmp r.0 k ≡ Less) rows rising.0) (all_found rows rising.1),
 )
 
--- ---- a trap, and those before and behind it
+-- ---- a trap, and those before and after it
 record Opened (rows : List TrapRow) (place : ℕ) (t : Trap) : Type 0 where
   front : List TrapRow
   back : List TrapRow
@@ -202,7 +202,7 @@ is_taken list origin rows new place oldest rising left =
 pub none_fits : (list : List Asset) (origin : Location) (rows : List TrapRow) → IsStrictlySortedBy nat_cmp (keys_of rows) → NoneAt list origin rows → NoneFits list origin (values_of rows)
 none_fits list origin rows rising none = all_values (λ t. Fits list origin t → ⊥) rows (all_map (λ q at. none q.0 q.1 at) rows (all_found rows rising))
 
--- the places that are left stay listed where only the one that was taken out no longer is
+-- the positions that are left stay listed where only the one that was taken out no longer is
 pub placed_taken : (rows new : List TrapRow) (index less : List DigestPlace) (k : DigestPlace) → IsStrictlySortedBy nat_cmp (keys_of new)
     → ((p : ℕ) → trap_at new p ≡ cond (eq_by_cmp nat_cmp k.1 p) None (trap_at rows p))
     → ((q : DigestPlace) → is_listed less q ≡ cond (eq_by_cmp digest_place_cmp k q) false (is_listed index q)) → ArePlaced rows index → ArePlaced new less
@@ -217,7 +217,7 @@ placed_taken rows new index less k rising updates dropped placed = record {
         absurd (true≢false (sym (subst (λ q. eq_by_cmp nat_cmp k.1 q ≡ true) one (same_key number_keys k.1)) ∙ other))
     by p t other there false apart = dropped (digest_of t, p) ∙ ap (λ b. cond b false (is_listed index (digest_of t, p))) apart ∙ there
 
--- ---- a trap that is tested at its place
+-- ---- a trap that is tested at its position
 pub fits_here : (list : List Asset) (origin : Location) (rows : List TrapRow) (place : ℕ) (t : Trap) (test : Bool) → Some t ≡ trap_at rows place → (IsTrue test ↔ Fits list origin t)
     → IsTrue test ↔ FitsAt list origin rows place
 fits_here list origin rows place t test here says = (

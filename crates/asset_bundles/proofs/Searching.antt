@@ -1,4 +1,4 @@
--- The search for the oldest trap that fits, through the places under its digest.
+-- The search for the oldest trap that fits, through the positions under its digest.
 use Rattle.std.proofs.Common.{◌≡◌, ℕ, zero, suc, ◌≤◌, Bool, true, false, cond, ◌||◌, filter, List, [], ◌∷◌, Some, refl, sym, ap, ◌∙◌, subst, arith, true≢false}
 use Rattle.std.specs.declared.cmp.Ordering.{Ordering}
 use Rattle.std.specs.declared.cmp.Ordering.TheVariants.{Less, Equal, Greater}
@@ -32,7 +32,7 @@ same_digest list origin t is_list fits =
     let goods : held_assets t.goods ≡ list = ap held_assets fits.1 ∙ held_assets-holding list (holding_of_list list is_list) in
     λ i. digest (fits.0 i) (goods i)
 
--- ---- keys by digest, then by place
+-- ---- keys by digest, then by position
 digests_le : (k q : DigestPlace) → is_gt (digest_place_cmp k q) ≡ false → k.0 ≤ q.0
 digests_le k q h = le_from_not_gt k.0 q.0 (first_le (nat_cmp k.0 q.0) (nat_cmp k.1 q.1) h)
 
@@ -89,7 +89,7 @@ module _ (list : List Asset) (origin : Location) (rows : List TrapRow) (sought :
     rising = subst (IsStrictlySortedBy digest_place_cmp) (sym is) (IsStrictlySortedBy-filter digest_place_cmp in_range index rising);
   }
 
-  -- the first of these keys, or one behind it
+  -- the first of these keys, or one after it
   first_or_later : (k q : DigestPlace) (rest : List DigestPlace) (P : Type 0) → (q ≡ k → P) → (is_listed rest q ≡ true → P) → is_listed (k ∷ rest) q ≡ true → P
   first_or_later k q rest P here later there = by (eq_by_cmp digest_place_cmp q k) refl there
     where
@@ -112,7 +112,7 @@ module _ (list : List Asset) (origin : Location) (rows : List TrapRow) (sought :
   pub nothing_left : IsAhead list origin rows sought [] → NoneAt list origin rows
   nothing_left h p t at fits = true≢false (sym (h.ahead p t at fits))
 
-  -- where the next key is of another digest, no place of this one is left
+  -- where the next key is of another digest, no position of this one is left
   pub digest_left : (k : DigestPlace) (rest : List DigestPlace) → IsAhead list origin rows sought (k ∷ rest) → (k.0 ≡ sought → ⊥) → NoneAt list origin rows
   unfolding IsStrictlySortedBy
   digest_left k rest h other p t at fits =

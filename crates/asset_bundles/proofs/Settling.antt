@@ -1,4 +1,4 @@
--- The running sums after traps came or went, written back into their place.
+-- The running sums after traps came or went, written back in place.
 use Rattle.std.proofs.Common.{◌≡◌, ℕ, zero, suc, List, [], ◌∷◌, ◌++◌, map, length, take, refl, ap, ◌∙◌, arith}
 use Rattle.std.specs.Prelude.{min}
 use Rattle.asset_lists.specs.declared.units.Asset.{Asset}

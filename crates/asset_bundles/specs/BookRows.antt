@@ -37,6 +37,17 @@ abbrev pub total_at : Listed → Cause → List BookRow → ℕ
 total_at k cause [] = 0
 total_at k cause (r ∷ rs) = if eq_by_cmp listed_cmp k (row_key r) then total_value (total_for cause r) else total_at k cause rs
 
+-- what was burned for all causes together: of the asset of a row, and of the first row of an asset
+abbrev pub row_causes : BookRow → ℕ
+row_causes r =
+    total_value (total_for Cause.BurnAsset r) + total_value (total_for Cause.LostTeleport r)
+    + total_value (total_for Cause.Merged r) + total_value (total_for Cause.Saturated r)
+
+abbrev pub causes_at : Listed → List BookRow → ℕ
+causes_at k rs =
+    total_at k Cause.BurnAsset rs + total_at k Cause.LostTeleport rs + total_at k Cause.Merged rs
+    + total_at k Cause.Saturated rs
+
 -- no total is above the most that it holds
 abbrev pub AreInRange : List BookRow → Type 0
 AreInRange rs = (k : Listed) (cause : Cause) → total_at k cause rs ≤ most_burned

@@ -1,10 +1,12 @@
 -- The book of burns: for each listed asset and each cause a total, which saturates at 2^160-1. This is the
 -- project's own rule.
-use Rattle.std.specs.Prelude.{ℕ, ◌-◌, ◌^◌, ◌<◌, ◌≤◌, min, Bool, IsTrue, List, Option, Some, None}
+use Rattle.std.specs.Prelude.{ℕ, ◌+◌, ◌-◌, ◌^◌, ◌<◌, ◌≤◌, min, Bool, IsTrue, List, Option, Some, None}
 use Rattle.std.specs.Ordering.{nat_cmp, on, then_cmp, eq_by_cmp}
 use Rattle.std.specs.declared.cmp.Ordering.{Ordering}
 use Rattle.amounts.specs.Amounts.{Amounts, amount, merge, map_keys}
+use Rattle.asset_lists.specs.declared.units.AssetId.{AssetId}
 use Rattle.asset_lists.specs.declared.units.Instance.{Instance}
+use Rattle.asset_lists.specs.declared.units.Kind.{Kind}
 use Rattle.asset_lists.specs.Units.{Unit}
 use Rattle.asset_lists.specs.Listed.{Listed, listed_cmp, listed_of, lists}
 use Rattle.asset_bundles.specs.Bundles.{Bundle}
@@ -32,6 +34,12 @@ Burns = Amounts burn_cmp
 pub record Book : Type 0 where
   pub listed : List Listed
   pub burns : Burns
+
+-- what was burned of an asset, for all causes together
+abbrev pub burned_by_any_cause : Burns → AssetId → Kind → ℕ
+burned_by_any_cause burns id kind =
+    amount burns ((id, kind), Cause.BurnAsset) + amount burns ((id, kind), Cause.LostTeleport)
+    + amount burns ((id, kind), Cause.Merged) + amount burns ((id, kind), Cause.Saturated)
 
 -- why units above the limits of a bundle are given up
 abbrev pub excess_cause : Option Instance → Cause

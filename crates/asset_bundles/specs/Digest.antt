@@ -5,9 +5,8 @@ use Rattle.std.specs.List.{flat_map}
 use Rattle.std.specs.Hash as fed
 use Rattle.std.specs.Hash.{HashWrites}
 use Rattle.std.specs.Hash.DefaultHasher as sip
-use Rattle.locations.specs.declared.grammar.Junction.{Junction}
-use Rattle.locations.specs.declared.grammar.Junction.TheVariants.{Parachain, AccountId32, AccountIndex64, AccountKey20, PalletInstance, GeneralIndex, GeneralKey, OnlyChild, Plurality, GlobalConsensus}
 use Rattle.locations.specs.declared.relative.Location.{Location}
+use Rattle.locations.specs.Hashing.{location_input}
 use Rattle.asset_lists.specs.declared.units.AssetId.{AssetId}
 use Rattle.asset_lists.specs.declared.units.AssetId.TheVariants.{Concrete, Abstract}
 use Rattle.asset_lists.specs.declared.units.Instance.{Instance}
@@ -18,23 +17,8 @@ use Rattle.asset_lists.specs.declared.units.Asset.{Asset}
 use Rattle.asset_bundles.specs.Bundles.{held_assets}
 use Rattle.asset_bundles.specs.declared.trap.Trap.{Trap}
 
-abbrev pub junction_writes : Junction → HashWrites
-junction_writes (Parachain para) = fed.u32 para
-junction_writes (AccountId32 network id) = id ∷ []
-junction_writes (AccountIndex64 network index) = fed.u64 index
-junction_writes (AccountKey20 network key) = key ∷ []
-junction_writes (PalletInstance index) = fed.u8 index
-junction_writes (GeneralIndex index) = fed.u128 index
-junction_writes (GeneralKey len key) = key ∷ []
-junction_writes OnlyChild = []
-junction_writes (Plurality id part) = []
-junction_writes (GlobalConsensus network) = []
-
-abbrev pub place_writes : Location → HashWrites
-place_writes l = fed.u8 l.parents ++ flat_map junction_writes l.interior
-
 abbrev pub id_writes : AssetId → HashWrites
-id_writes (Concrete place) = place_writes place
+id_writes (Concrete place) = location_input place
 id_writes (Abstract bytes) = bytes ∷ []
 
 abbrev pub instance_writes : Instance → HashWrites
@@ -54,7 +38,7 @@ asset_writes a = id_writes a.id ++ fun_writes a.fun
 
 -- the digest of an origin and a list
 unfoldable pub digest : Location → List Asset → ℕ
-digest origin list = sip.finish (fold sip.write sip.initial (place_writes origin ++ flat_map asset_writes list))
+digest origin list = sip.finish (fold sip.write sip.initial (location_input origin ++ flat_map asset_writes list))
 
 -- that of what a trap has
 abbrev pub digest_of : Trap → ℕ

@@ -1,4 +1,4 @@
--- Traps by their places, and the oldest that fits. Each trap has a place, which is higher than those before it.
+-- Traps by their positions, and the oldest that fits. Each trap has a position, which is higher than those before it.
 use Rattle.std.specs.Prelude.{◌≡◌, ℕ, ◌<◌, Bool, true, List, [], ◌∷◌, ◌++◌, Option, Some}
 use Rattle.std.specs.declared.cmp.Ordering.{Ordering}
 use Rattle.std.specs.Ordering.{nat_cmp, on, then_cmp, eq_by_cmp}
@@ -11,34 +11,34 @@ use Rattle.asset_bundles.specs.declared.trap.Trap.{Trap}
 use Rattle.asset_bundles.specs.Traps.{Fits, NoneFits}
 use Rattle.asset_bundles.specs.Digest.{digest_of}
 
--- a place and its trap
+-- a position and its trap
 abbrev pub TrapRow : Type 0
 TrapRow = ℕ × Trap
 
--- others may stand behind the rows
+-- others may follow the rows
 abbrev pub IsLonger : List TrapRow → List TrapRow → Type 0
 IsLonger old new = (more : List TrapRow) × (new ≡ old ++ more)
 
--- one trap stands behind the rows
+-- one trap follows the rows
 abbrev pub IsOneLonger : List TrapRow → Trap → List TrapRow → Type 0
 IsOneLonger old t new = (place : ℕ) × (new ≡ old ++ (place, t) ∷ [])
 
--- the trap at a place
+-- the trap at a position
 abbrev pub trap_at : List TrapRow → ℕ → Option Trap
 trap_at rows place = lookup (eq_by_cmp nat_cmp place) rows
 
--- a digest, and a place under it
+-- a digest, and a position under it
 abbrev pub DigestPlace : Type 0
 DigestPlace = ℕ × ℕ
 
 abbrev pub digest_place_cmp : DigestPlace → DigestPlace → Ordering
 digest_place_cmp = then_cmp (on (λ (k : DigestPlace). k.0) nat_cmp) (on (λ (k : DigestPlace). k.1) nat_cmp)
 
--- a place is listed under a digest
+-- a position is listed under a digest
 abbrev pub is_listed : List DigestPlace → DigestPlace → Bool
 is_listed index k = list_any (eq_by_cmp digest_place_cmp k) index
 
--- the places rise, and each is listed under the digest of its trap. Others may be listed too
+-- the positions rise, and each is listed under the digest of its trap. Others may be listed too
 pub record ArePlaced (rows : List TrapRow) (index : List DigestPlace) : Type 0 where
   pub rising : IsStrictlySortedBy nat_cmp (keys_of rows)
   pub listed : (place : ℕ) (t : Trap) → trap_at rows place ≡ Some t → is_listed index (digest_of t, place) ≡ true
@@ -47,7 +47,7 @@ pub record ArePlaced (rows : List TrapRow) (index : List DigestPlace) : Type 0 w
 abbrev pub NoneAt : List Asset → Location → List TrapRow → Type 0
 NoneAt list origin rows = (place : ℕ) (t : Trap) → trap_at rows place ≡ Some t → Fits list origin t → ⊥
 
--- the trap at this place fits
+-- the trap at this position fits
 pub record FitsAt (list : List Asset) (origin : Location) (rows : List TrapRow) (place : ℕ) : Type 0 where
   pub trap : Trap
   pub here : trap_at rows place ≡ Some trap

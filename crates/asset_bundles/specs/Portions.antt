@@ -20,7 +20,7 @@ fun_with (Fun.NonFungible instance) n = Fun.NonFungible instance
 abbrev pub asset_with : Asset → ℕ → Asset
 asset_with a n = record { id = a.id; fun = fun_with a.fun n }
 
--- in front of others, if the amount isn't 0
+-- put before others, if the amount isn't 0
 abbrev pub with_remainder : Asset → ℕ → List Asset → List Asset
 with_remainder a zero rest = rest
 with_remainder a (suc n) rest = asset_with a (suc n) ∷ rest

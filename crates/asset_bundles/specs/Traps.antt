@@ -37,7 +37,7 @@ traps_of (suc count) number origin units =
 abbrev pub pieces_of : ℕ → Location → Bundle → List Trap
 pieces_of number origin goods = traps_of (piece_count (length (rows goods))) number origin (rows goods)
 
--- the store behind which a bundle was trapped
+-- the store after a bundle was trapped
 abbrev pub with_trapped : Store → Location → Bundle → Store
 with_trapped store origin goods = record {
   traps = store.traps ++ pieces_of store.next origin goods;

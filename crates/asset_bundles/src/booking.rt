@@ -1,13 +1,13 @@
 //! Burns written into the book, and read.
-ghost use Rattle.std.specs.Prelude.{◌≡◌, ◌≤◌, length, IsTrue, IfOk};
+ghost use Rattle.std.specs.Prelude.{◌≡◌, ◌≤◌, min, length, IsTrue, IfOk};
 ghost use Rattle.std.specs.List.{prefix_len};
 ghost use Rattle.std.specs.Ordering.{eq_by_cmp, nat_cmp};
 ghost use Rattle.amounts.specs.Amounts.{amount, single, empty};
 ghost use Rattle.asset_bundles.specs.Totals.{total_value};
 ghost use Rattle.asset_bundles.specs.declared.book.Cause.{Cause};
-ghost use Rattle.asset_bundles.specs.Books.{Booked};
+ghost use Rattle.asset_bundles.specs.Books.{Booked, burned_by_any_cause, most_burned};
 ghost use Rattle.asset_lists.specs.Listed.{Listed, listed_cmp, kind_number, lists};
-ghost use Rattle.asset_bundles.specs.BookRows.{row_key, book_keys_in, total_for, total_at, is_other_row, IsBurned, IsBooked};
+ghost use Rattle.asset_bundles.specs.BookRows.{row_key, row_causes, book_keys_in, causes_at, total_for, total_at, is_other_row, IsBurned, IsBooked};
 
 use crate::book::BookRow;
 use crate::{BurnBook, Cause, Total};
@@ -49,6 +49,16 @@ impl BookRow {
         }
     }
 
+    /// What was burned for all causes together. It saturates at 2^160-1.
+    fn sum(&self) -> Total
+        ensures { total_value result ≡ min (row_causes self.now) most_burned }
+    {
+        self.burned
+            .sum(self.lost)
+            .sum(self.merged)
+            .sum(self.saturated)
+    }
+
     /// Adds to what was burned for a cause.
     fn add(&mut self, cause: Cause, amount: u128)
         ensures { IsBurned cause amount self.old self.new }
@@ -62,7 +72,7 @@ impl BookRow {
     }
 }
 
-/// Where the row of an asset is: how many others stand before it.
+/// Where the row of an asset is: how many others come before it.
 fn place_of(rows: &[BookRow], id: &AssetId, kind: Kind) -> usize
     ensures place { result ≡ prefix_len (is_other_row (id.now, kind)) rows.now }
     ensures within { result ≤ length rows.now }
@@ -98,6 +108,18 @@ fn total_in(rows: &[BookRow], id: &AssetId, kind: Kind, cause: Cause) -> Total
     Total::ZERO
 }
 
+/// What was burned of an asset for all causes together, by its row. It saturates at 2^160-1.
+fn sum_in(rows: &[BookRow], id: &AssetId, kind: Kind) -> Total
+    ensures { total_value result ≡ min (causes_at (id.now, kind) rows.now) most_burned }
+{
+    for row in rows {
+        if row.is_of(id, kind) {
+            return row.sum();
+        }
+    }
+    Total::ZERO
+}
+
 /// A row for each asset, of which nothing was burned.
 fn new_rows(alloc: Global, assets: &[(AssetId, Kind)]) -> Result<Vec<BookRow>, AllocError>
     ensures keys { IfOk result (λ rows. book_keys_in rows.items ≡ assets.now) }
@@ -124,6 +146,14 @@ impl BurnBook {
         ensures { total_value result ≡ amount self.now.burns ((id.now, kind), cause) }
     {
         total_in(self.rows.as_slice(), id, kind, cause)
+    }
+
+    /// What was burned of an asset for all causes together; 0 where the book doesn't list it. It saturates at 2^160-1.
+    pub fn burned(&self, id: &AssetId, kind: Kind) -> Total
+        ensures { total_value result ≡ min (burned_by_any_cause self.now.burns id.now kind)
+            most_burned }
+    {
+        sum_in(self.rows.as_slice(), id, kind)
     }
 
     /// Books so much of a listed asset, in its smallest unit. No memory is taken.

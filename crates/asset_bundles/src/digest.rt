@@ -1,48 +1,20 @@
 //! Digests of an origin and a list of assets, by which traps are found. Two may have one digest, so what is found is compared.
 ghost use Rattle.std.specs.Prelude.{◌≡◌, fold};
 ghost use Rattle.std.specs.List.{flat_map};
-ghost use Rattle.asset_bundles.specs.Digest.{digest, place_writes, junction_writes, asset_writes, id_writes, fun_writes, instance_writes};
+ghost use Rattle.asset_bundles.specs.Digest.{digest, asset_writes, id_writes, fun_writes, instance_writes};
 
 use asset_lists::{Asset, AssetId, Fun, Instance};
-use locations::{Junction, Location};
-use std::hash::{DefaultHasher, Hasher};
+use locations::Location;
+use std::hash::{DefaultHasher, Hash, Hasher};
 
 /// The digest of an origin and a list. It takes no memory.
 pub(crate) fn digest(origin: &Location, list: &[Asset]) -> u64
     ensures { result ≡ digest origin.now list.now }
 {
     let mut state = DefaultHasher::new();
-    write_place(origin, &mut state);
+    origin.hash(&mut state);
     write_assets(list, &mut state);
     state.finish()
-}
-
-/// How high the place lies, and what its junctions say.
-fn write_place<H: Hasher>(place: &Location, state: &mut H)
-    ensures { state.new ≡ fold H.write state.old (place_writes place.now) }
-{
-    state.write_u8(place.parents);
-    for junction in place.interior.items() {
-        write_junction(junction, state);
-    }
-}
-
-/// The number or the bytes of a junction.
-fn write_junction<H: Hasher>(junction: &Junction, state: &mut H)
-    ensures { state.new ≡ fold H.write state.old (junction_writes junction.now) }
-{
-    match junction {
-        Junction::Parachain(para) => state.write_u32(*para),
-        Junction::AccountId32 { network: _, id } => state.write(id),
-        Junction::AccountIndex64 { network: _, index } => state.write_u64(*index),
-        Junction::AccountKey20 { network: _, key } => state.write(key),
-        Junction::PalletInstance(index) => state.write_u8(*index),
-        Junction::GeneralIndex(index) => state.write_u128(*index),
-        Junction::GeneralKey { length: _, key } => state.write(key),
-        Junction::OnlyChild => {}
-        Junction::Plurality { id: _, part: _ } => {}
-        Junction::GlobalConsensus(_) => {}
-    }
 }
 
 /// Each asset.
@@ -62,12 +34,12 @@ fn write_asset<H: Hasher>(asset: &Asset, state: &mut H)
     write_fun(&asset.fun, state);
 }
 
-/// The place or the bytes of an id.
+/// The location or the bytes of an id.
 fn write_id<H: Hasher>(id: &AssetId, state: &mut H)
     ensures { state.new ≡ fold H.write state.old (id_writes id.now) }
 {
     match id {
-        AssetId::Concrete(place) => write_place(place, state),
+        AssetId::Concrete(place) => place.hash(state),
         AssetId::Abstract(bytes) => state.write(bytes),
     }
 }

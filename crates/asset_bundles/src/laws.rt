@@ -20,7 +20,7 @@ ghost use Rattle.asset_bundles.specs.Landing.{renamed, Renamed, StayApart};
 ghost use Rattle.asset_bundles.specs.Books.{Burn, Burns, Book, most_burned, Booked, AreTotals, AreListed, burned_for, given_up, is_unit_where, is_burn_where};
 
 /// A bundle and the list of its assets in holding order tell the same. Each unit is in the list at most
-/// once, and it has each unit that the bundle holds; 20 assets or fewer, from any place on, are a list that
+/// once, and it has each unit that the bundle holds; 20 assets or fewer, from any index on, are a list that
 /// an instruction may speak of.
 pub fn law_of_bundles()
     ensures list { (xs : List Asset) → IsHolding xs → held_assets (bundle_of xs) ≡ xs }

@@ -24,6 +24,7 @@ mod totals;
 mod trap;
 mod trap_laws;
 mod units;
+mod wide_sum;
 
 pub use book::{BurnBook, Cause};
 pub use bundle::AssetBundle;
@@ -38,3 +39,4 @@ pub use totals::Total;
 pub use trap::Trap;
 pub use trap_laws::law_of_traps;
 pub use units::Units;
+pub use wide_sum::WideSum;

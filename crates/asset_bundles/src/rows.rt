@@ -14,7 +14,7 @@ use std::collections::btree_map::Values;
 use std::collections::{BTreeMap, BTreeSet};
 use std::marker::Model;
 
-/// Traps, oldest first. Each has a place, which is higher than those before it, and is listed by the digest of what it has.
+/// Traps, oldest first. Each has a position, which is higher than those before it, and is listed by the digest of what it has.
 #[derive(Drop)]
 pub(crate) struct TrapRows {
     traps: BTreeMap<u64, Trap>,
@@ -55,7 +55,7 @@ impl TrapRows {
         self.traps.values()
     }
 
-    /// Puts traps behind the others: all of them, or none where memory is refused.
+    /// Puts traps after the others: all of them, or none where memory is refused.
     pub(crate) fn append(&mut self, traps: Vec<Trap>) -> Result<(), AllocError>
         ensures { MatchResult result
             (λ _. self.new ≡ self.old ++ traps.items)
@@ -85,7 +85,7 @@ impl TrapRows {
     }
 }
 
-/// Puts traps behind the others, one by one. Where memory is refused, those that were put there stay.
+/// Puts traps after the others, one by one. Where memory is refused, those that were put there stay.
 fn push_all(
     rows: &mut BTreeMap<u64, Trap>,
     places: &mut BTreeSet<(u64, u64)>,
@@ -103,7 +103,7 @@ fn push_all(
     Ok(())
 }
 
-/// Puts a trap behind the others. Its place may be listed where memory is refused.
+/// Puts a trap after the others. Its position may be listed where memory is refused.
 fn push(
     rows: &mut BTreeMap<u64, Trap>,
     places: &mut BTreeSet<(u64, u64)>,
@@ -122,7 +122,7 @@ fn push(
     Ok(())
 }
 
-/// A place behind all traps. It fails only behind the place 2^64-1.
+/// A position after all traps. It fails only after the position 2^64-1.
 fn place_behind(rows: &BTreeMap<u64, Trap>) -> Result<u64, AllocError>
     ensures { IfOk result (λ place. AllByRecursion (λ row. row.0 < place) rows.now.entries) }
 {
@@ -147,7 +147,7 @@ fn cut_back(rows: &mut BTreeMap<u64, Trap>, places: &BTreeSet<(u64, u64)>, count
     }
 }
 
-/// The digest and the place of the oldest trap with that origin and that list.
+/// The digest and the position of the oldest trap with that origin and that list.
 fn oldest(
     rows: &BTreeMap<u64, Trap>,
     places: &BTreeSet<(u64, u64)>,
@@ -171,7 +171,7 @@ fn oldest(
     None
 }
 
-/// Whether there is a trap at the place, with that origin and that list.
+/// Whether there is a trap at the position, with that origin and that list.
 fn fits_at(rows: &BTreeMap<u64, Trap>, place: u64, list: &Assets, origin: &Location) -> bool
     ensures { IsTrue result ↔ FitsAt list.now origin.now rows.now.entries place }
 {

@@ -8,7 +8,7 @@ use crate::items::is_same_unit;
 use crate::portions::set_amount;
 use asset_lists::Asset;
 
-/// Where the unit of this asset is: how many others stand before it.
+/// Where the unit of this asset is: how many others come before it.
 fn place_of(items: &[Asset], asset: &Asset) -> usize
     ensures place { result ≡ prefix_len (is_other (unit_of asset.now)) items.now }
     ensures within { result ≤ length items.now }

@@ -90,7 +90,7 @@ impl TrapStore {
         }
     }
 
-    /// The traps of these units are put behind the others.
+    /// The traps of these units are put after the others.
     fn take_in(&mut self, goods: &Units, origin: &Location) -> Result<u64, AllocError>
         ensures { MatchResult result
             (λ number. (number ≡ self.old.next)

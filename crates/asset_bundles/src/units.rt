@@ -82,7 +82,7 @@ impl Units {
         self.items.as_slice()
     }
 
-    /// The units behind the first `from` in holding order, at most `most` of them. The whole stays as it is, so
+    /// The units after the first `from` in holding order, at most `most` of them. The whole stays as it is, so
     /// that nothing is lost where memory is refused for a later part: keep all the parts, or the whole. An
     /// `Err` is out of memory.
     pub fn part(&self, from: usize, most: usize) -> Result<Units, AllocError>

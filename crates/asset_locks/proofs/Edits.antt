@@ -1,4 +1,4 @@
--- A list whose keys strictly rise, changed at the place of a key: the entry put there, or the entries but that one.
+-- A list whose keys strictly rise, changed at the index of a key: the entry put there, or the entries but that one.
 use Rattle.std.proofs.Common.{◌≡◌, ℕ, zero, suc, ◌<◌, ◌≤◌, Bool, true, false, not, List, [], ◌∷◌, length, map, get_or, set, Some, None, refl, sym, ap, ◌∙◌, arith, T}
 use Rattle.std.specs.Prelude.{if◌then◌else◌, ◌&&◌}
 use Rattle.std.specs.List.{insert, remove}
@@ -13,7 +13,7 @@ use Rattle.amounts.proofs.Lemmas.Rows.{IsKeyOrder}
 use Rattle.plain_lists.proofs.Lemmas.Facts.{and_first as first, and_second as second, is_less as is_Less}
 
 module _ {K X : Type 0} {R : K → K → Ordering} (o : IsKeyOrder R) (row : X → K × ℕ) (k : K) where
-  -- the key of the element at a place, whatever stands for none
+  -- the key of the element at an index, whatever default is given
   KeyIs : List X → ℕ → Type 0
   KeyIs xs i = (d : X) → (row (get_or xs i d)).0 ≡ k
 

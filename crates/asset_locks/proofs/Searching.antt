@@ -110,7 +110,7 @@ module _ (asset : LockedAsset) where
   order_of_rest [] (suc n) h = tt
   order_of_rest (x ∷ xs) (suc n) h = order_of_rest xs n (second _ _ h)
 
-  -- behind a lock of a later asset there is none of the asset
+  -- after a lock of a later asset there is none of the asset
   later : (r s t : Ordering) → ordering_then r s ≡ Less → (r ≡ Equal → t ≡ Less) → (r ≡ Less → t ≡ Less) → t ≡ Less
   later Less s t e same less = less refl
   later Equal s t e same less = same refl

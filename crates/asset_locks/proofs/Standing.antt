@@ -1,4 +1,4 @@
--- The locks after the list of them is changed at one place.
+-- The locks after the list of them is changed at one index.
 use Rattle.std.proofs.Common.{◌≡◌, ℕ, ◌<◌, ◌≤◌, Bool, true, false, not, List, [], ◌∷◌, map, get_or, set, Some, None, refl, sym, ap, ◌∙◌, subst, arith, T}
 use Rattle.std.specs.Prelude.{if◌then◌else◌, Option, unwrap_or, max}
 use Rattle.std.specs.Ordering.{eq_by_cmp}
@@ -46,7 +46,7 @@ module _ {K : Type 0} {R : K → K → Ordering} (o : IsKeyOrder R) where
   pub amount_found : (k : K) (es : List (K × ℕ)) (r : Option ℕ) → find R k es ≡ r → amount (from_entries {R = R} es) k ≡ unwrap_or r 0
   amount_found k es r is = amount-from_entries o es k ∙ ap (λ f. unwrap_or f 0) (lookup-find k es ∙ is)
 
--- ---- a list of locks with another amount at a place, one more, one less
+-- ---- a list of locks with another amount at an index, one more, one less
 module _ (locks : List Lock) (order : AreSortedLocks locks) (key : LockKey) (place : ℕ) where
   pub amount_at : IsAt locks key place → (d : Lock) → amount (locks_in locks) key ≡ (get_or locks place d).amount
   amount_at at d = amount_found lock_keys key (map lock_row_of locks) _ (find_at lock_keys lock_row_of key locks place d order.rising at.within at.is)
@@ -90,7 +90,7 @@ module _ (locks : List Lock) (order : AreSortedLocks locks) (key : LockKey) (pla
   pub remove_is : IsAt locks key place → locks_in (remove locks place) ≡ with_amount (locks_in locks) key 0
   remove_is at = ap (λ es. from_entries {R = lock_cmp} es) (remove_rows at) ∙ with_none lock_keys key (map lock_row_of locks)
 
--- ---- what the code does at a place
+-- ---- what the code does at an index
 as_it_was : {K : Type 0} {R : K → K → Ordering} (o : IsKeyOrder R) (m : Amounts R) (k : K) (v : ℕ) → v ≡ amount m k → with_amount m k v ≡ m
 as_it_was {R = R} o m k v is = same_amounts o (with_amount m k v) m (λ q.
     amount-with_amount o m k v q

@@ -68,7 +68,7 @@ lock_at key l = amount l.locks key
 abbrev pub is_lock_of : LockedAsset → LockKey → Bool
 is_lock_of asset key = eq_by_cmp locked_asset_cmp asset (asset_of key)
 
--- how much of an asset an account must keep: the greatest lock, since locks overlie one another
+-- how much of an asset an account must keep: the greatest lock, since the same amount may be under several locks
 unfoldable pub floor : List ℕ → Location → LocksAndNotes → ℕ
 floor who id l = greatest_amount (is_lock_of (who, id)) l.locks
 

@@ -1,4 +1,4 @@
--- The locks as the code keeps them: in the order of their keys, none of 0; and where the lock of a key stands among them.
+-- The locks as the code keeps them: in the order of their keys, none of 0; and the index of the lock of a key among them.
 use Rattle.std.specs.Prelude.{◌≡◌, ℕ, ◌<◌, ◌≤◌, List, map, length, T}
 use Rattle.std.specs.List.{HoldsAt, AllWithin}
 use Rattle.std.specs.FinMap.{is_sorted}
@@ -25,12 +25,12 @@ pub record AreSortedLocks (locks : List Lock) : Type 0 where
   pub rising : T (is_sorted lock_cmp (map lock_row_of locks))
   pub positive : IsPositive (map lock_row_of locks)
 
--- the lock of the key stands at the place
+-- the lock of the key is at the index
 pub record IsAt (locks : List Lock) (key : LockKey) (place : ℕ) : Type 0 where
   pub within : place < length locks
   pub is : HoldsAt (λ lock. key_of lock ≡ key) locks place
 
--- there is no lock of the key, and it would stand at the place
+-- there is no lock of the key, and it would go to the index
 pub record IsGapFor (locks : List Lock) (key : LockKey) (place : ℕ) : Type 0 where
   pub within : place ≤ length locks
   pub before : AllWithin (λ lock. lock_cmp (key_of lock) key ≡ Less) locks 0 place

@@ -1,6 +1,6 @@
 -- Exchanges with the pools of a chain: which pool serves, what goes to it and comes of it, and what the accounts and the goods are
 -- afterwards. This project's own rule.
---     place      where a pool stands in the chain's list of pools
+--     place      the index of a pool in the chain's list of pools
 --     give       the list of what is offered
 --     want       the list of what is wanted
 use Rattle.std.specs.Prelude.{ℕ, ◌-◌, ◌*◌, Bool, not, ◌&&◌, ◌||◌, List, [], ◌∷◌, codes, length, Option, Some, None, option_and_then, position, slice_get}
@@ -25,7 +25,7 @@ use Rattle.asset_pools.specs.declared.exchanges.Exchange.{Exchange}
 
 -- ---- pools
 
--- the account of the pool at a place
+-- the account of the pool at an index
 abbrev pub pool_account : ℕ → List ℕ
 pool_account place = labelled (codes "pool") place
 
@@ -56,7 +56,7 @@ has_pair a b pool =
 abbrev pub reserve : Held → List ℕ → AssetId → ℕ
 reserve held account id = amount held (account, coin id)
 
--- the product of the two reserves of the pool at a place
+-- the product of the two reserves of the pool at an index
 abbrev pub reserve_product : Held → ℕ → Pool → ℕ
 reserve_product held place pool =
     reserve held (pool_account place) (Concrete pool.first)
@@ -74,7 +74,7 @@ one_fungible [] = None
 one_fungible (a ∷ []) = amount_of_one a.id a.fun
 one_fungible (a ∷ b ∷ rest) = None
 
--- with the pool at a place, whose reserves are what its account has
+-- with the pool at an index, whose reserves are what its account has
 abbrev pub exchange_with : Held → AssetId × ℕ → AssetId × ℕ → Bool → ℕ → Pool → Option Exchange
 exchange_with held give want maximal place pool =
     option_map

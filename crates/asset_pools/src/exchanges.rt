@@ -6,10 +6,10 @@ use crate::{Deal, Pool, deal_at, pool_account};
 use asset_lists::{Asset, AssetId, Fun};
 use ledgers::Ledger;
 
-/// What an exchange moves: where the pool stands in its chain's list, the two assets, and how much of each.
+/// What an exchange moves: the pool's index in its chain's list, the two assets, and how much of each.
 #[derive(Debug, Drop)]
 pub struct Exchange {
-    /// Where the pool stands.
+    /// The pool's index in its chain's list.
     pub place: u32,
     /// The asset that goes to the pool.
     pub given: AssetId,
@@ -32,7 +32,7 @@ fn one_fungible(list: &[Asset]) -> Option<(AssetId, u128)>
     }
 }
 
-/// The exchange with the pool at a place, whose reserves are what its account has.
+/// The exchange with the pool at an index, whose reserves are what its account has.
 #[tactic(auto, using(crate::proofs::Lemmas::Keeping::no_exchange))]
 fn exchange_with(
     ledger: &Ledger,
@@ -60,7 +60,7 @@ fn exchange_with(
     })
 }
 
-/// Where the first pool stands that has the two assets.
+/// The index of the first pool that has the two assets.
 fn place_of_pair(pools: &[Pool], a: &AssetId, b: &AssetId) -> Option<usize>
     ensures { result ≡ position (has_pair a.now b.now) pools.now }
 {

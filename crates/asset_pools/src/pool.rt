@@ -9,15 +9,15 @@ use locations::Location;
 /// A pool of two fungible assets that the chain lists, as the network document has it. Its reserves are what its account has of the two.
 #[derive(Debug, Drop)]
 pub struct Pool {
-    /// The place that defines the first asset.
+    /// The location that defines the first asset.
     pub first: Location,
-    /// The place that defines the second asset, another one.
+    /// The location that defines the second asset, another one.
     pub second: Location,
     /// How many thousandths of what is given don't count.
     pub fee: u32,
 }
 
-/// The account of the pool at this place in its chain's list, of 32 bytes.
+/// The account of the pool at this index in its chain's list, of 32 bytes.
 pub fn pool_account(place: u32) -> [u8; 32]
     ensures { result ≡ pool_account place }
 {
@@ -36,7 +36,7 @@ pub fn is_pool_account(pools: &[Pool], account: &[u8; 32]) -> bool
     (0..pools.len()).any(|place| *account == pool_account(place as u32))
 }
 
-/// Whether the id is that of the place.
+/// Whether the id is this location.
 fn is_of(id: &AssetId, place: &Location) -> bool
     ensures { result ≡ same_id id.now (Concrete place.now) }
 {

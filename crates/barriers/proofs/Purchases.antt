@@ -11,7 +11,7 @@ use Rattle.operands.specs.declared.weight.WeightLimit.{WeightLimit}
 use Rattle.xcm_program.specs.declared.instruction.Instruction.{Instruction, out-Instruction, roll-Instruction, roll-out-Instruction}
 use Rattle.barriers.specs.Barriers.{is_paid_execution, purchase_index, with_limit, limited, with_limit_at}
 
--- the instruction with its new limit, put in the place of the old one
+-- the instruction with its new limit, put where the old one was
 pub limit_set : (limit : WeightLimit) (p : List Instruction) (k : ℕ) (old between new : Instruction) → Some old ≡ slice_get p k → out-Instruction new ≡ with_limit limit (out-Instruction old)
     → set (set p k between) k new ≡ with_limit_at limit k p
 limit_set limit p k old between new at layer =

@@ -48,11 +48,11 @@ abbrev pub buys : {X : Type 0} → Weight → Instruction-F X → Bool
 buys weight (Instruction-F.BuyExecution _ limit) = is_within_limit weight limit
 buys weight _ = false
 
--- how many ClearOrigins stand first
+-- how many ClearOrigins come first
 abbrev pub leading_clears : List Instruction → ℕ
 leading_clears program = prefix_len (λ i. clears_origin (out-Instruction i)) program
 
--- where the purchase has to stand: right behind the ClearOrigins that follow instruction 0, of which there may be none
+-- where the purchase has to be: right after the ClearOrigins that follow instruction 0, of which there may be none
 abbrev pub purchase_index : List Instruction → ℕ
 purchase_index program = 1 + leading_clears (drop 1 program)
 
@@ -60,7 +60,7 @@ abbrev pub is_paid_execution : Weight → List Instruction → Bool
 is_paid_execution weight program =
     holds_at brings_few program 0 && nat_le (purchase_index program) 4 && holds_at (buys weight) program (purchase_index program)
 
--- a BuyExecution with this limit in place of its own
+-- a BuyExecution with this limit instead of its own
 abbrev pub with_limit : {X : Type 0} → WeightLimit → Instruction-F X → Instruction-F X
 with_limit limit (Instruction-F.BuyExecution fees _) = Instruction-F.BuyExecution fees limit
 with_limit limit layer = layer

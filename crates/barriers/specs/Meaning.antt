@@ -18,7 +18,7 @@ abbrev pub IsWithinLimit : Weight → WeightLimit → Type 0
 IsWithinLimit weight Unlimited = ⊤
 IsWithinLimit weight (Limited most) = IsWeightWithin weight most
 
--- at the index stands an instruction of which this holds
+-- at the index is an instruction of which this holds
 abbrev pub HoldsAt : (Instruction-F Instruction → Type 0) → List Instruction → ℕ → Type 0
 HoldsAt P program index = IsSomeAnd (slice_get program index) (λ i. P (out-Instruction i))
 

@@ -17,7 +17,7 @@ pub type Origins = Listed<Location>;
 pub enum Barrier {
     /// Allows where the credit is at least the weight, in both dimensions.
     Credit,
-    /// Allows where the program brings at most two assets and then, behind ClearOrigins alone and at index 4 at most, buys at least
+    /// Allows where the program brings at most two assets and then, after ClearOrigins alone and at index 4 at most, buys at least
     /// its weight. What it buys is then set to the weight.
     Paid,
     /// Allows these origins where the program asks for unpaid execution of at least its weight.

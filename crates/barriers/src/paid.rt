@@ -25,8 +25,8 @@ pub(crate) fn fits(weight: Weight, limit: WeightLimit) -> bool
 
 /// The index of the BuyExecution by which a program pays for its weight.
 pub(crate) fn purchase(program: &[Instruction], weight: Weight) -> Option<usize>
-    ensures place { result ≡ (if is_paid_execution weight program.now then Some (purchase_index program.now)
-        else None) }
+    ensures place { result ≡
+        (if is_paid_execution weight program.now then Some (purchase_index program.now) else None) }
     ensures within { IfSome result (λ index. index < length program.now) }
 {
     let index = purchase_index(program);
@@ -37,7 +37,7 @@ pub(crate) fn purchase(program: &[Instruction], weight: Weight) -> Option<usize>
     }
 }
 
-/// Where a purchase has to stand.
+/// Where a purchase has to be.
 fn purchase_index(program: &[Instruction]) -> usize
     ensures { result ≡ purchase_index program.now }
 {
@@ -107,7 +107,7 @@ pub(crate) fn set_limit(program: &mut Program, index: usize, weight: Weight)
     drop(program.replace(index, with_limit(bought, WeightLimit::Limited(weight))));
 }
 
-/// A BuyExecution with this limit in place of its own.
+/// A BuyExecution with this limit instead of its own.
 fn with_limit(instruction: Instruction, limit: WeightLimit) -> Instruction
     ensures { out-Instruction result ≡ with_limit limit (out-Instruction instruction) }
 {

@@ -1,4 +1,4 @@
--- A message goes behind the others of its channel, and the oldest is taken: what that does to the sums over channels.
+-- A message goes after the others of its channel, and the oldest is taken: what that does to the sums over channels.
 use Rattle.std.specs.Prelude.{◌+◌, Bool, if◌then◌else◌, List, [], ◌∷◌, ◌++◌, Option, Some, None}
 use Rattle.std.specs.List.{list_any}
 use Rattle.chain_ids.specs.declared.chain.ChainId.{ChainId}

@@ -1,16 +1,16 @@
 -- Checking accounts. A chain that issues an asset may keep one for it: a record of a number, which rises with each teleport of the asset away from
--- the chain and falls with each that comes in. It is nobody's account and no place. This project's own rule.
+-- the chain and falls with each that comes in. It is nobody's account, and holds nothing. This project's own rule.
 --
 --   before, now    an asset's account before a change and after it, where there is one
 --   away           what there is of the asset under way from homes and at its other homes, or a part of it
---   here           what the account's chain has of it at all places but the channels
+--   here           what the account's chain has of it everywhere but in the channels
 use Rattle.std.specs.Prelude.{◌≡◌, ℕ, ◌+◌, ◌-◌, ◌^◌, ◌<◌, ◌≤◌, if◌then◌else◌, List, [], ◌∷◌, Option, Some, None, slice_get}
 use Rattle.trust_tables.specs.declared.rows.AssetRow.{AssetRow}
 use Rattle.law_coherence.specs.UniversalAssets.{UniversalAsset, every}
 use Rattle.law_coherence.specs.Networks.{Table, is_native_row}
 use Rattle.law_coherence.specs.Parts.{Part, WorldView, stock, population}
 
--- the account of the asset's row, which stands at the row's place
+-- the account of the asset's row, which is at the row's index
 abbrev pub account_in : Table → UniversalAsset → List AssetRow → List (Option ℕ) → Option ℕ
 account_in t a [] checking = None
 account_in t a (row ∷ rows) [] = None
@@ -41,7 +41,7 @@ pub data IsWithinStart (start now : Option ℕ) (here_first here : ℕ) : Type 0
 abbrev pub AllWithin : WorldView → WorldView → Type 0
 AllWithin first w = (k : ℕ) (p q : Part) (a : UniversalAsset) → slice_get first k ≡ Some p → slice_get w k ≡ Some q → IsWithinStart (checking_at a p) (checking_at a q) (stock a every p) (stock a every q)
 
--- even with all that its chain has it doesn't come to the end of its type
+-- even with all that its chain has it doesn't reach the most of its type
 abbrev pub AllBounded : WorldView → Type 0
 AllBounded w = (k : ℕ) (p : Part) (a : UniversalAsset) (amount : ℕ) → slice_get w k ≡ Some p → checking_at a p ≡ Some amount → amount + stock a every p < 2 ^ 128 - 1
 

@@ -1,4 +1,4 @@
--- The first world of a network in which no cause is found: it is backed, no instance stands at two homes, and its checking accounts cover what
+-- The first world of a network in which no cause is found: it is backed, no instance is at two homes, and its checking accounts cover what
 -- there is elsewhere.
 use Rattle.std.specs.Prelude.{◌≡◌, ℕ, ◌^◌, ◌<◌, ◌≤◌, List, [], ◌∷◌, map, Some}
 use Rattle.amounts.specs.Amounts.{amount, rows, empty}

@@ -19,7 +19,7 @@ pub record IsKept (genesis w : WorldView) : Type 0 where
   pub cover : NoCoverShrinks genesis w
   pub small : (k : ℕ) (p : Part) (row : AssetRow) → slice_get w k ≡ Some p → IsIn p.table.rows row → stock (asset_of_row p.table row) every p + burned (asset_of_row p.table row) p < 2 ^ 127
   pub once : (k : ℕ) (p : Part) (row : AssetRow) (instance : Instance) → slice_get w k ≡ Some p → IsIn p.table.rows row → stock (asset_of_row p.table row) (just (Some instance)) p ≤ 1
-  -- over all homes and teleports under way, no unit stands more often than at first, and an instance at most once
+  -- over all homes and teleports under way, no unit is there more often than at first, and an instance at most once
   pub rare : (a : UniversalAsset) (choice : Choice) → population a choice w ≤ population a choice genesis
   pub single : (a : UniversalAsset) (instance : Instance) → population a (just (Some instance)) w ≤ 1
   -- each checking account is at least what there is of its asset at the other homes, and under way from any home

@@ -17,7 +17,7 @@ use Rattle.trust_tables.specs.Chains.{path_of_site}
 use Rattle.trust_tables.specs.Accounts.{IsChain}
 use Rattle.law_coherence.specs.UniversalAssets.{UniversalAsset}
 
--- where a chain stands and what it lists
+-- where a chain is and what it lists
 pub record Table : Type 0 where
   pub site : Site
   pub rows : List AssetRow
@@ -25,7 +25,7 @@ pub record Table : Type 0 where
 abbrev pub context_of : Table → List Junction
 context_of t = path_of_site t.site
 
--- the element stands in the list
+-- the element is in the list
 abbrev pub IsIn : {A : Type 0} → List A → A → Type 0
 IsIn xs x = (i : ℕ) × (slice_get xs i ≡ Some x)
 

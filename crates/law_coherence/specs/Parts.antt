@@ -33,7 +33,7 @@ pub record Part : Type 0 where
   pub parked : List Bundle
   pub holding : Bundle
   pub burns : Burns
-  -- for each row of the table, its checking account: it is a record, and no place
+  -- for each row of the table, its checking account: it is a record, and holds nothing
   pub checking : List (Option ℕ)
   pub outgoing : List Channel
 
@@ -44,7 +44,7 @@ chain_of_part p = p.table.site.chain
 abbrev pub in_bundle : Table → UniversalAsset → Choice → Bundle → ℕ
 in_bundle t a choice b = total (is_unit_at (context_of t) a choice) b
 
--- all places but the channels
+-- everything but the channels
 unfoldable pub stock : UniversalAsset → Choice → Part → ℕ
 stock a choice p =
     total (λ (h : Holder). is_unit_at (context_of p.table) a choice h.1) p.held
@@ -73,7 +73,7 @@ held_for chain a count p = account_amount (sovereign_account (chain_of_part p) c
 unfoldable pub burned : UniversalAsset → Part → ℕ
 burned a p = total (is_burn_at (context_of p.table) a) p.burns
 
--- all places but the channels, and for the whole asset also what was burned
+-- everything but the channels, and for the whole asset also what was burned
 abbrev pub debt : UniversalAsset → Count → Part → ℕ
 debt a Whole p = stock a every p + burned a p
 debt a (Only instance) p = stock a (just (Some instance)) p

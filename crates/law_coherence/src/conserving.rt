@@ -59,7 +59,7 @@ pub fn law_of_trusted_cargoes()
         → IsTrusted (Deposit b) p q }
 {}
 
-/// No chain has more of a listed asset, burned ones included, than its supply, nor an instance more often than it stands at homes.
+/// No chain has more of a listed asset, burned ones included, than its supply, nor an instance more often than it is at homes.
 pub fn law_of_stock_within_supply()
     ensures whole { (w : WorldView) (agrees : Agrees (tables_of w)) → Backed w
         → (k : ℕ) (p : Part) (row : AssetRow) → slice_get w k ≡ Some p → IsIn p.table.rows row

@@ -18,7 +18,7 @@ call_end rows held floors who c = (called rows held floors who c).1
 unfoldable pub held_called : List AssetRow → Held → Floors → List ℕ → AnyCall → Held
 held_called rows held floors who c = with_row_amounts rows held (called rows held floors who c).0
 
--- what stands where memory was refused: a front of a batch was done
+-- what is left where memory was refused: a prefix of a batch was done
 pub record IsHeldInPart (rows : List AssetRow) (held : Held) (floors : Floors) (who : List ℕ)
     (c : AnyCall) (now : Held) : Type 0 where
   pub amounts : RowAmounts

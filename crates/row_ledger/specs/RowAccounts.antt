@@ -1,6 +1,6 @@
 -- What accounts hold of a chain's fungible rows, by the number of the row; and what they hold once those amounts changed. This project's
 -- own rule.
---     fungible_rows rows      the rows that are fungible, by their place in the listing, from 0
+--     fungible_rows rows      the rows that are fungible, by their index in the listing, from 0
 --     row_amounts rows held      what each account has of each of them
 --     with_row_amounts rows held m      what accounts hold with these amounts of the fungible rows, and all else as it is
 use Rattle.std.specs.Prelude.{ℕ, suc, Bool, true, false, not, is_some, if◌then◌else◌, List, [], ◌∷◌, Option, Some, None, slice_get, unwrap_or}
@@ -26,7 +26,7 @@ abbrev pub is_fungible_row : Option AssetRow → Bool
 is_fungible_row None = false
 is_fungible_row (Some row) = is_fungible row
 
--- the places of the fungible rows, counted on from n
+-- the indices of the fungible rows, counted on from n
 abbrev pub fungible_from : ℕ → List AssetRow → List ℕ
 fungible_from n [] = []
 fungible_from n (row ∷ rows) =

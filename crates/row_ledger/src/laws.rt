@@ -41,7 +41,7 @@ pub fn law_of_moved_rows()
         ≡ moved_between ledger.held (unit_of a) from to (amount_of a) }
 {}
 
-/// A call leaves each sum over all accounts as it is, and lowers no account but the caller's; so does what stands of it where memory was
+/// A call leaves each sum over all accounts as it is, and lowers no account but the caller's; so does the part of it that was done where memory was
 /// refused. It leaves each account what must stay there of the unit's row. A call that fails changes nothing.
 pub fn law_of_calls_of_accounts()
     ensures sums { (rows : List AssetRow) (held : Held) (floors : Floors) (who : List ℕ)

@@ -54,7 +54,7 @@ fn move_amount(
     }
 }
 
-/// Moves an amount of a row, by its number, from one account of the ledger to another, or refuses it and changes nothing. No asset stands in
+/// Moves an amount of a row, by its number, from one account of the ledger to another, or refuses it and changes nothing. No asset is in
 /// two of the rows.
 pub fn shift_row(
     alloc: Global,

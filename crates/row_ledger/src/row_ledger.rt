@@ -11,7 +11,7 @@ use ledgers::Ledger;
 use std::alloc::AllocError;
 use trust_tables::AssetRow;
 
-/// A ledger, and the rows by whose numbers calls name what they move. No asset stands in two rows.
+/// A ledger, and the rows by whose numbers calls name what they move. No asset is in two rows.
 #[derive(Drop)]
 pub struct RowLedger {
     rows: Vec<AssetRow>,
@@ -85,7 +85,7 @@ impl RowLedger {
     ghost use Rattle.row_ledger.specs.RowAccounts.{no_floors};
     ghost use Rattle.row_ledger.specs.Calls.{call_end, held_called, IsHeldInPart};
 
-    /// Does a call for an account. Where memory is refused a front of a batch may have been done.
+    /// Does a call for an account. Where memory is refused a prefix of a batch may have been done.
     pub fn call(&mut self, who: &[u8; 32], call: &Call) -> Result<CallEnd, AllocError>
         ensures rows { self.new.rows.items ≡ self.old.rows.items }
         ensures listed { self.new.ledger.listed ≡ self.old.ledger.listed }

@@ -65,7 +65,7 @@ abbrev pub parent_at : ChainId → Option (List ℕ)
 parent_at Relay = None
 parent_at (Para own) = Some parent_account
 
--- the account of the place that many parents up and these junctions down
+-- the account of the location that many parents up and these junctions down
 abbrev pub account_at : Site → ℕ → List Junction → Option (List ℕ)
 account_at site zero (AccountId32 named id ∷ []) = if is_of_network site.network named then Some id else None
 account_at site zero (Parachain number ∷ []) = child_at site.chain number

@@ -1,4 +1,4 @@
--- Where the chains of a network stand: from the root of all networks, and as seen from one another.
+-- The locations of the chains of a network: from the root of all networks, and as seen from one another.
 -- Source: the XCM format's rule that a chain's universal location names its network and then, on a parachain, its number.
 use Rattle.std.specs.Prelude.{if◌then◌else◌, ◌==◌, List, [], ◌∷◌, Option, Some, None}
 use Rattle.locations.specs.declared.grammar.Junction.{Junction}

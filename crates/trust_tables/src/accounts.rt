@@ -24,7 +24,7 @@ pub fn account_of(l: &Location, site: &Site) -> Option<[u8; 32]>
     }
 }
 
-/// Whether an account is that of a whole chain, on whatever chain it stands. It takes no memory.
+/// Whether an account is that of a whole chain, on whatever chain it is. It takes no memory.
 pub fn is_sovereign(account: &[u8; 32]) -> bool
     ensures { IsTrue result ↔ IsSovereign account.now }
 {

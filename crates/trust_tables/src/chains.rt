@@ -1,4 +1,4 @@
-//! The chains of a network, and where each stands.
+//! The chains of a network, and where each is.
 ghost use Rattle.std.specs.Prelude.{◌≡◌, ◌≢◌, ◌<◌, ◌++◌, [], ◌∷◌, length, Some};
 ghost use Rattle.trust_tables.specs.Chains as chains;
 ghost use Rattle.trust_tables.specs.Chains.{path_of_site};
@@ -6,7 +6,7 @@ ghost use Rattle.trust_tables.specs.Chains.{path_of_site};
 use chain_ids::ChainId;
 use locations::{Junction, Junctions, Location, NetworkId};
 
-/// Where a chain stands: its network, and which chain of it.
+/// Where a chain is: its network, and which chain of it.
 #[derive(Clone, Copy, Debug, PartialEq, Eq)]
 pub struct Site {
     /// The network that the chain belongs to.

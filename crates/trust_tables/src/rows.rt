@@ -10,15 +10,15 @@ use std::alloc::{AllocError, Global};
 /// The part that a chain plays for an asset that it lists.
 #[derive(Debug, Drop)]
 pub enum AssetRole {
-    /// The asset is at home here.
+    /// This chain is a home of the asset: the asset is native here.
     Native {
         /// The chains to and from which it may be teleported.
         partners: Listed<ChainId>,
-        /// How much of the asset may stand at its other homes, in its smallest unit; none where the chain keeps no
+        /// How much of the asset may be at its other homes, in its smallest unit; none where the chain keeps no
         /// such record. It is a record, not an account of anybody.
         checking: Option<u128>,
     },
-    /// The asset stands for one that is kept in this chain's sovereign account at the reserve.
+    /// The asset is a derivative of one that is kept in this chain's sovereign account at the reserve.
     Derivative {
         /// The chain at which the asset is at home.
         reserve: ChainId,

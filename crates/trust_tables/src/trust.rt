@@ -10,7 +10,7 @@ use crate::{AssetRole, AssetRow, ChainId, Site};
 use asset_lists::{Asset, AssetId};
 use locations::{Junction, Junctions, Location};
 
-/// The place of the first row whose id is the asset's and whose kind fits. It takes no memory.
+/// The index of the first row whose id is the asset's and whose kind fits. It takes no memory.
 pub fn find_row(rows: &[AssetRow], a: &Asset) -> Option<usize>
     ensures { result ≡ position (is_row_of a.now) rows.now }
 {

@@ -74,7 +74,7 @@ tie_first Greater = refl
 pub coin_tie : (a b : Location) → eq_by_cmp unit_cmp (Concrete a, None) (Concrete b, None) ≡ eq_by_cmp location_cmp a b
 coin_tie a b = tie_first (location_cmp a b)
 
--- a unit is the coin of a place, or no rate's
+-- a unit is the coin of a location, or no rate's
 pub coin_or_none : (u : Unit) → ((asset : Location) × (u ≡ (Concrete asset, None))) ⊎ ((rate : Rate) → eq_by_cmp unit_cmp (coin_of rate) u ≡ false)
 coin_or_none (Concrete asset, None) = inl (asset, refl)
 coin_or_none (Abstract bytes, None) = inr (λ rate. refl)

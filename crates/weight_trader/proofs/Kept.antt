@@ -31,7 +31,7 @@ count-kept p k i nested lt at inside =
     let c = ap deep_count_inside inside in
     omega (arith, a, b, c)
 
--- what is summed up over the instructions before the place k, of the whole program
+-- what is summed up over the instructions before the index k, of the whole program
 pub record IsSumBefore (unit : Weight) (whole p : List Instruction) (k instructions ref_time proof_size : ℕ) : Type 0 where
   pub instructions_is : instructions + kept_count (drop k p) ≡ kept_count whole
   pub ref_time_is : ref_time + weight_in (λ w. w.ref_time) unit.ref_time (drop k p) ≡ weight_in (λ w. w.ref_time) unit.ref_time whole

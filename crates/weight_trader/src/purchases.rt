@@ -1,5 +1,5 @@
 //! What is bought at one rate.
-ghost use Rattle.std.specs.Prelude.{◌≡◌, ◌≤◌, ◌&&◌, min};
+ghost use Rattle.std.specs.Prelude.{◌≡◌, ◌≤◌, ◌<◌, ◌&&◌, [], ◌∷◌, ◌++◌, min, vec_len, vec_capacity};
 ghost use Rattle.amounts.specs.Amounts.{amount};
 ghost use Rattle.weight_trader.specs.Prices.{price};
 ghost use Rattle.weight_trader.specs.Purchases.{new_line, coin_of, is_in, is_covered, with_purchase, excess, unspent_at};
@@ -8,7 +8,7 @@ ghost use Rattle.weight_trader.specs.Closing.{coins, is_paid};
 
 use crate::rate::{Rate, price};
 use asset_bundles::AssetBundle;
-use asset_lists::{Asset, AssetId, Fun};
+use asset_lists::{Asset, AssetId, Fun, push_place};
 use locations::Location;
 use operands::Weight;
 use std::marker::Model;
@@ -84,6 +84,14 @@ impl Purchases {
             id: AssetId::Concrete(self.rate.asset.copy()),
             fun: Fun::Fungible(amount),
         }
+    }
+
+    /// Puts so much of the asset that is paid with at the end of a list that has room for it.
+    pub(crate) fn push_coins(&self, list: &mut Vec<Asset>, amount: u128)
+        requires room { vec_len list.old < vec_capacity list.old }
+        ensures { list.new.items ≡ list.old.items ++ coins self.now.rate amount ∷ [] }
+    {
+        push_place(list, &self.rate.asset, Fun::Fungible(amount));
     }
 
     /// Whether the payment has the price of the weight.

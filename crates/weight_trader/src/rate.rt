@@ -14,7 +14,7 @@ const MEBIBYTE: u128 = 1_048_576;
 /// What weight costs in one asset, in both dimensions.
 #[derive(Debug, Drop)]
 pub struct Rate {
-    /// What is paid with: the place that defines the asset.
+    /// What is paid with: the location that defines the asset.
     pub asset: Location,
     /// The price of a second of computation, in the asset's smallest unit.
     pub per_second: u64,

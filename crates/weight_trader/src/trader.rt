@@ -76,7 +76,8 @@ fn paid_assets(alloc: Global, lines: &[Purchases]) -> Result<Vec<Asset>, AllocEr
     let mut assets = Vec::new(alloc);
     for line in lines {
         if line.is_paid() {
-            assets.push(line.coins(line.paid()))?;
+            assets.reserve(1)?;
+            line.push_coins(&mut assets, line.paid());
         }
     }
     Ok(assets)

@@ -50,7 +50,7 @@ held_assets-holding xs h = ap assets_of_rows (rows-holding xs h) ∙ assets_back
 pub goods-holding : (xs : List Asset) → IsHolding xs → IsGoods (bundle_of xs)
 goods-holding xs h = ap bundle_of (held_assets-holding xs h)
 
--- what is held of a unit is found at its one place
+-- what is held of a unit is found at its one index
 pub found-holding : (xs : List Asset) (u : Unit) → IsHolding xs → found u xs ≡ amount (bundle_of xs) u
 found-holding xs u h = sym (sum_where-find unit_keys u (rows_of xs) (is_sorted_of_keys unit_cmp (rows_of xs) h.rising)) ∙ sym (amount-bundle_of xs u)
 

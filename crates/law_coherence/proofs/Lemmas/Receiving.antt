@@ -36,7 +36,7 @@ use Rattle.law_coherence.specs.Cargoes.{IsDepositFor}
 table_same : (x y : Table) → Some x ≡ Some y → x ≡ y
 table_same x y e = cc
 
--- an asset of the unit stands in the list
+-- an asset of the unit is in the list
 asset_of_unit : (xs : List Asset) (v : Unit) → 0 < sum_where (eq_by_cmp unit_cmp v) (rows_of xs) → (a : Asset) × IsIn xs a × (unit_of a ≡ v)
 asset_of_unit [] v some = absurd (omega (arith, some))
 asset_of_unit (a ∷ xs) v some =

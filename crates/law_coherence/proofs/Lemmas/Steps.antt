@@ -16,7 +16,7 @@ use Rattle.law_coherence.proofs.Lemmas.Checking.{home_of_account, accounted_alon
 use Rattle.law_coherence.specs.Steps.{tables_of, KeepsBut, none_but, KeepsBacking, IsSafe, IsExchange, SafeStep}
 use Rattle.plain_lists.proofs.Lemmas.Facts.{same_some as some_same, same_some_number as some_number}
 
--- ---- places of a list after a write
+-- ---- indices of a list after a write
 pub get_set_same : (w : WorldView) (c : ℕ) (p q : Part) → slice_get w c ≡ Some p → slice_get (slice_set w c q) c ≡ Some q
 get_set_same [] c p q h = absurd (cc h)
 get_set_same (x ∷ xs) zero p q h = refl
@@ -216,7 +216,7 @@ module _ (w : WorldView) (agrees : Agrees (tables_of w)) where
     within = all_within w i p q at safe;
   }
 
--- where a chain stands after two writes
+-- where a chain is after two writes
 pub data Spot (w : WorldView) (i j : ℕ) (p q : Part) (k : ℕ) (x : Part) : Type 0 where
   AtFirst : k ≡ i → p ≡ x → Spot w i j p q k x
   AtSecond : k ≡ j → q ≡ x → Spot w i j p q k x
@@ -248,7 +248,7 @@ module _ (w : WorldView) (agrees : Agrees (tables_of w)) (i j : ℕ) (p p' q q' 
   other_was : (k : ℕ) (x : Part) → slice_get w k ≡ Some x → Was w k x none_but
   other_was k x at = record { old = x; at = at; keeps = keeps_itself none_but x }
 
-  -- the part that stood where the first was written, and the second
+  -- the part that was where the first was written, and the second
   first_old : (k : ℕ) (c : Part) → slice_get w k ≡ Some c → k ≡ i → p ≡ c
   first_old k c at ki = some_same p c (sym at_i ∙ ap (slice_get w) (sym ki) ∙ at)
 

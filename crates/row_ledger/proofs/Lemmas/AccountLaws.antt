@@ -42,7 +42,7 @@ row_says [] r k e = absurd cc
 row_says (x ∷ xs) zero k e = (let same : listed_row x ≡ k = cc in ap (λ (l : Listed). (l.0, None)) same)
 row_says (x ∷ xs) (suc r) k e = row_says xs r k e
 
--- what stands at the number of an asset is that asset
+-- what is at the number of an asset is that asset
 number_at : (listed : List Listed) (k : Listed) (r : ℕ) → number_in listed k ≡ Some r → slice_get listed r ≡ Some k
 number_at listed k r e =
     let p = position-Some (eq_by_cmp listed_cmp k) listed r k e in
@@ -80,7 +80,7 @@ no_instance : (o : Option AssetRow) → (unit_of_row o).1 ≡ None
 no_instance None = refl
 no_instance (Some row) = refl
 
--- an asset that isn't listed twice is found where it stands
+-- an asset that isn't listed twice is found at its index
 all_at : (e : Listed → Bool) (xs : List Listed) (r : ℕ) (k : Listed) → AllByRecursion (λ (x : Listed). e x ≡ false) xs → slice_get xs r ≡ Some k → e k ≡ false
 all_at e [] r k all at = absurd cc
 all_at e (x ∷ xs) zero k all at = (let same : x ≡ k = cc in subst (λ (y : Listed). e y ≡ false) same all.0)
@@ -251,7 +251,7 @@ module _ (rows : List AssetRow) (held : Held) (floors : Floors) (who : List ℕ)
   error_called code e = ap (with_row_amounts rows held) (error_stays floors (fungible_rows rows) who (row_amounts rows held) c code e) ∙ held_again rows held
 
   module _ (now : Held) (h : IsHeldInPart rows held floors who c now) where
-    -- what stands is what a batch of that front would leave
+    -- what is left is what a batch of that prefix would leave
     pub front_called : now ≡ held_called rows held floors who (Batch h.interrupted.front)
     unfolding held_called dispatch
     front_called = h.is ∙ ap (λ (d : Done). with_row_amounts rows held d.0) (sym h.interrupted.done)
@@ -359,7 +359,7 @@ transferred_one ledger from to a = same_amounts holder_keys _ _ (λ q.
     let less = amount-minus holder_keys ledger.held (from, unit_of a) (amount_of a) q in
     omega (arith, sum, left, given, got, more, less))
 
--- ---- what stays with an account
+-- ---- what an account keeps
 module _ (rows : List AssetRow) (held : Held) (m : RowAmounts) where
   row_at_most : (u : Unit) (row : ℕ) → row_of_unit rows u ≡ Some row → (one : List ℕ) → amount m (one, row) ≤ amount (with_row_amounts rows held m) (one, u)
   unfolding with_row_amounts

@@ -61,7 +61,7 @@ account_by site (Para own) (Para number) l at is = ap (λ m. account_of m site) 
 pub account_of-location_of : (site : Site) (chain : ChainId) (l : Location) → location_of site.chain chain ≡ Some l → account_of l site ≡ Some (sovereign_account site.chain chain)
 account_of-location_of site chain l is = account_by site site.chain chain l refl is
 
--- the number that stands in four bytes behind a label of four letters
+-- the number in the four bytes after a label of four letters
 abbrev number_in : List ℕ → ℕ
 number_in account = from_le_bytes w32 (take 4 (drop 4 account))
 

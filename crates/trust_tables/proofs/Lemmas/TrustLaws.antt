@@ -58,7 +58,7 @@ past_end : {A : Type 0} (xs : List A) (i : ℕ) (b : Bool) → nat_lt i (length 
 past_end xs i true e = refl
 past_end xs i false e = slice_get_past xs i (ltb-false i (length xs) e)
 
--- the row at the place that is found
+-- the row at the index that is found
 pub row_at-position : (rows : List AssetRow) (a : Asset) → option_and_then (slice_get rows) (position (is_row_of a) rows) ≡ row_of rows a
 row_at-position rows a = sym (find_at (is_row_of a) rows ∙ past_end rows (position_or_len (is_row_of a) rows) _ refl)
 
@@ -99,7 +99,7 @@ place_listed : (rows : List AssetRow) (a : Asset) → position_or_len (eq_by_cmp
 place_listed [] a = refl
 place_listed (row ∷ rows) a = λ i. cond {A = ℕ} (not (row_listed a row i)) (1 + place_listed rows a i) 0
 
--- the place of the asset in the listing is that of its row
+-- the index of the asset in the listing is that of its row
 pub position_listed : (rows : List AssetRow) (a : Asset) → position (eq_by_cmp listed_cmp (listed_of (unit_of a))) (listing rows) ≡ position (is_row_of a) rows
 position_listed rows a = λ i. cond {A = Option ℕ} (nat_lt (place_listed rows a i) (listing_length rows i)) (Some (place_listed rows a i)) None
 
