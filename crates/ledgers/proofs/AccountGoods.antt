@@ -1,10 +1,16 @@
 -- What the rows of an account say, as a list: each unit once, and in all what the account holds.
-use Rattle.std.proofs.Common.{◌≡◌, ℕ, zero, suc, ◌+◌, ◌<◌, ◌≤◌, Bool, true, false, not, ◌&&◌, ◌||◌, cond, if◌then◌else◌, List, [], ◌∷◌, ◌++◌, ◌⊎◌, inl, inr, length, drop, append_assoc, refl, sym, ap, ◌∙◌, subst, arith, true≢false}
-use Rattle.std.specs.Prelude.{Option, None, Some, unwrap_or, slice_get, nat_lt, nat_eq, ⊤}
-use Rattle.std.specs.Ordering.{eq_by_cmp}
+use Rattle.std.proofs.Common.{◌≡◌, ℕ, ◌+◌, ◌<◌, ◌≤◌, Bool, true, false, not, ◌&&◌, ◌||◌, cond, if◌then◌else◌, List, [], ◌∷◌, ◌++◌, ◌⊎◌, inl, inr, append_assoc, refl, sym, ap, ◌∙◌, subst, arith, true≢false}
+use Rattle.std.specs.Prelude.{Option, None, Some, unwrap_or, slice_get, nat_lt, ⊤}
+use Rattle.std.specs.Ordering.{eq_by_cmp, nat_cmp, is_eq, is_gt, is_le, ordering_then}
+use Rattle.std.specs.declared.cmp.Ordering.{Ordering}
+use Rattle.std.specs.declared.cmp.Ordering.TheVariants.{Less, Equal, Greater}
+use Rattle.std.specs.declared.ops.Bound.TheVariants.{Included, Unbounded}
+use Rattle.std.specs.BTreeMap.Range.{range_contains, entries_between}
+use Rattle.std.specs.List.{AllByRecursion}
 use Rattle.std.specs.Cmp.{eq_by_cmp_equiv}
 use Rattle.std.specs.Map.{keys_of, lookup}
 use Rattle.std.specs.List.Sorted.{IsStrictlySortedBy}
+use Rattle.std.proofs.lemmas.Bool.Decides.{nat_tests}
 use Rattle.std.proofs.lemmas.Bool.{and_parts, and_from, cases_Bool}
 use Rattle.std.proofs.lemmas.List.Sums.{sum_by-append}
 use Rattle.amounts.specs.Rows.{sum_where, amount_if}
@@ -25,15 +31,16 @@ use Rattle.asset_bundles.proofs.Lemmas.Bundles.{unit_keys}
 use Rattle.asset_bundles.proofs.Lemmas.BundleLaws.{same_bundles, amount-bundle_of}
 use Rattle.asset_lists.specs.Listed.{Listed}
 use Rattle.ledgers.specs.Ledgers.{Holder, account_cmp, holder_cmp, Held, is_account, account_goods, number_in}
-use Rattle.ledgers.specs.LedgerRows.{AmountKey, OwnerKey, owner_key_cmp, amount_in_row, owner_at, owned, held_in, IsOnce}
+use Rattle.ledgers.specs.LedgerRows.{AmountKey, amount_key_cmp, OwnerKey, owner_key_cmp, amount_in_row, owner_at, owned, held_in, IsOnce}
 use Rattle.ledgers.specs.AccountGoods.{IsUnsortedListOf, is_amount, fungible_of, fungible_held_at, owned_instance, instance_held_at}
 use Rattle.ledgers.proofs.Lemmas.{holder_keys, account_keys}
-use Rattle.ledgers.proofs.RowLookups.{owner_keys, none_behind, same_owner_row}
+use Rattle.ledgers.proofs.RowLookups.{amount_keys, owner_keys, same_as, none_behind, same_owner_row}
 use Rattle.ledgers.proofs.RowAmounts.{held-fungible, held-no_fungible, held-instance, held-no_instance}
 use Rattle.ledgers.proofs.Numbers.{number_at, no_number}
 use Rattle.ledgers.proofs.Totals.{total_one}
 use Rattle.ledgers.proofs.AccountMoves.{none_zero, counted_first}
-use Rattle.plain_lists.proofs.Lemmas.Facts.{positive_not_zero as above_zero, false_where_not_true as not_true}
+use Rattle.ledgers.proofs.NextRows.{not_behind}
+use Rattle.plain_lists.proofs.Lemmas.Facts.{positive_not_zero as above_zero, false_where_not_true as not_true, first_not_greater as first_le, equal_told}
 
 -- ---- what an account holds of a unit
 pub amount-account_goods : (who : List ℕ) (held : Held) (u : Unit) → amount (account_goods who held) u ≡ amount held (who, u)
@@ -58,7 +65,7 @@ one_within true true n e h = omega (arith, h)
 one_within true false n e h = absurd (true≢false (sym e))
 one_within false c n e h = omega arith
 
--- where nothing is 0, a unit stands no oftener than its amounts add up to
+-- where nothing is 0, a unit is there no oftener than its amounts add up to
 count_within : (u : Unit) (xs : List Asset) → has_zero xs ≡ false → occurrences u xs ≤ sum_at u xs
 unfolding sum_at
 count_within u [] none = omega arith
@@ -143,105 +150,173 @@ count_offered u (Some a) rest none few = by (cases_Bool (is_of u a))
         let nothing : cond {A = ℕ} (is_of u a) 1 0 ≡ 0 = ap (λ b. cond {A = ℕ} b 1 0) f in
         omega (arith, count, few, nothing)
 
-zero_plus : (n : ℕ) → 0 + n ≡ n
-zero_plus n = omega arith
+-- ---- fungible assets, row by row
+fungible_in : List Listed → List ℕ → AmountKey × ℕ → Option Asset
+fungible_in listed who row = if eq_by_cmp account_cmp who row.0.0 then fungible_held_at (slice_get listed row.0.1) row.1 else None
 
-plus_zero : (n : ℕ) → n ≡ n + 0
-plus_zero n = omega arith
+pub fungibles_in : List Listed → List ℕ → List (AmountKey × ℕ) → List Asset
+fungibles_in listed who [] = []
+fungibles_in listed who (row ∷ rows) = offered (fungible_in listed who row) (fungibles_in listed who rows)
 
-moved_on : (k j : ℕ) → suc k + j ≡ k + suc j
-moved_on k j = omega arith
+same_asset : (x y : Asset) → Some x ≡ Some y → x ≡ y
+same_asset x y e = cc
 
--- ---- fungible assets, by their numbers from k on
-pub fungibles_from : List Listed → List (AmountKey × ℕ) → List ℕ → ℕ → List Asset
-fungibles_from [] amounts who k = []
-fungibles_from (asset ∷ listed) amounts who k = offered (fungible_held_at (Some asset) (amount_in_row amounts (k, who))) (fungibles_from listed amounts who (suc k))
-
-module _ (amounts : List (AmountKey × ℕ)) (who : List ℕ) where
-  fungible_above : (id : AssetId) (kind : Kind) (n : ℕ) → IsAbove (fungible_of id kind n)
+module _ (listed : List Listed) (who : List ℕ) where
+  fungible_above : (o : Option Listed) (n : ℕ) → IsAbove (fungible_held_at o n)
   unfolding IsAbove
-  fungible_above id Kind.Fungible n = above_if n _ (λ h. h)
-  fungible_above id Kind.Class n = tt
+  fungible_above None n = tt
+  fungible_above (Some (id, Kind.Fungible)) n = above_if n _ (λ h. h)
+  fungible_above (Some (id, Kind.Class)) n = tt
 
-  fungibles_no_zero : (listed : List Listed) (k : ℕ) → has_zero (fungibles_from listed amounts who k) ≡ false
-  unfolding fungibles_from
-  fungibles_no_zero [] k = refl
-  fungibles_no_zero (asset ∷ listed) k = no_zero_offered _ _ (fungible_above asset.0 asset.1 _) (fungibles_no_zero listed (suc k))
+  row_above : (row : AmountKey × ℕ) → IsAbove (fungible_in listed who row)
+  unfolding fungible_in IsAbove
+  row_above row = elim (eq_by_cmp account_cmp who row.0.0) as (λ b. IsAbove (if b then fungible_held_at (slice_get listed row.0.1) row.1 else None)) [
+    | true ↦ fungible_above (slice_get listed row.0.1) row.1
+    | false ↦ tt
+  ]
 
-  newly_other : (u : Unit) (id : AssetId) (kind : Kind) (n : ℕ) → (kind ≡ Kind.Fungible → u ≡ (id, None) → ⊥) → newly u (fungible_of id kind n) ≡ 0
+  fungibles_no_zero : (rows : List (AmountKey × ℕ)) → has_zero (fungibles_in listed who rows) ≡ false
+  unfolding fungibles_in
+  fungibles_no_zero [] = refl
+  fungibles_no_zero (row ∷ rows) = no_zero_offered _ _ (row_above row) (fungibles_no_zero rows)
+
+  newly_fungible : (u : Unit) (id : AssetId) (n : ℕ) → newly u (fungible_of id Kind.Fungible n) ≡ amount_if (eq_by_cmp unit_cmp u (id, None)) n
+  newly_fungible u id n = newly_if u n (record { id = id; fun = Fun.Fungible n }) (λ _. refl)
+
+  no_fungible : (u : Unit) (o : Option Listed) (n : ℕ) → ((id : AssetId) → o ≡ Some (id, Kind.Fungible) → u ≡ (id, None) → ⊥) → newly u (fungible_held_at o n) ≡ 0
   unfolding newly
-  newly_other u id Kind.Fungible n other = newly_if u n _ (λ _. refl) ∙ other_units u (id, None) n (other refl)
-  newly_other u id Kind.Class n other = refl
+  no_fungible u None n none = refl
+  no_fungible u (Some (id, Kind.Fungible)) n none = newly_fungible u id n ∙ other_units u (id, None) n (none id refl)
+  no_fungible u (Some (id, Kind.Class)) n none = refl
 
-  -- a unit of none of the assets
-  fungibles_none : (u : Unit) (listed : List Listed) (k : ℕ) → ((j : ℕ) (id : AssetId) → slice_get listed j ≡ Some (id, Kind.Fungible) → u ≡ (id, None) → ⊥)
-      → sum_at u (fungibles_from listed amounts who k) ≡ 0
-  unfolding fungibles_from sum_at
-  fungibles_none u [] k none = refl
-  fungibles_none u (asset ∷ listed) k none =
-      let here = newly_other u asset.0 asset.1 (amount_in_row amounts (k, who)) (λ kinds units. none 0 asset.0 (ap (λ x. Some (asset.0, x)) kinds) units) in
-      let rest = fungibles_none u listed (suc k) (λ j id at. none (suc j) id at) in
-      sum_offered u (fungible_held_at (Some asset) (amount_in_row amounts (k, who))) (fungibles_from listed amounts who (suc k)) ∙ omega (arith, here, rest)
+  no_row : (u : Unit) (row : AmountKey × ℕ) → (eq_by_cmp account_cmp who row.0.0 ≡ true → (id : AssetId) → slice_get listed row.0.1 ≡ Some (id, Kind.Fungible) → u ≡ (id, None) → ⊥) → newly u (fungible_in listed who row) ≡ 0
+  unfolding newly fungible_in
+  no_row u row none = elim (cases_Bool (eq_by_cmp account_cmp who row.0.0)) [
+    | inl t ↦ ap (λ b. newly u (if b then fungible_held_at (slice_get listed row.0.1) row.1 else None)) t ∙ no_fungible u (slice_get listed row.0.1) row.1 (none t)
+    | inr f ↦ ap (λ b. newly u (if b then fungible_held_at (slice_get listed row.0.1) row.1 else None)) f
+  ]
 
-  IsOnce-rest : (asset : Listed) (listed : List Listed) → IsOnce (asset ∷ listed) → IsOnce listed
-  IsOnce-rest asset listed once = record { place = λ i j x at there. (let places = once.place (suc i) (suc j) x at there in omega (arith, places)) }
+  -- a unit of none of the rows
+  fungibles_none : (u : Unit) → ((m : ℕ) (id : AssetId) → slice_get listed m ≡ Some (id, Kind.Fungible) → u ≡ (id, None) → ⊥) → (rows : List (AmountKey × ℕ)) → sum_at u (fungibles_in listed who rows) ≡ 0
+  unfolding fungibles_in sum_at
+  fungibles_none u none [] = refl
+  fungibles_none u none (row ∷ rows) =
+      let here = no_row u row (λ _ id at. none row.0.1 id at) in
+      let rest = fungibles_none u none rows in
+      sum_offered u (fungible_in listed who row) (fungibles_in listed who rows) ∙ omega (arith, here, rest)
 
-  rest_lacks : (id : AssetId) (listed : List Listed) → IsOnce ((id, Kind.Fungible) ∷ listed) → (u : Unit) → u ≡ (id, None)
-      → (j : ℕ) (other : AssetId) → slice_get listed j ≡ Some (other, Kind.Fungible) → u ≡ (other, None) → ⊥
-  rest_lacks id listed once u is j other at units =
-      let ids : other ≡ id = ap (λ (v : Unit). v.0) (sym units ∙ is) in
-      let places = once.place 0 (suc j) (id, Kind.Fungible) refl (at ∙ ap (λ x. Some (x, Kind.Fungible)) ids) in
-      absurd (omega (arith, places))
-
-  -- the unit of the asset at a place
-  fungibles_at : (id : AssetId) (listed : List Listed) (k j : ℕ) → IsOnce listed → slice_get listed j ≡ Some (id, Kind.Fungible)
-      → sum_at (id, None) (fungibles_from listed amounts who k) ≡ amount_in_row amounts (k + j, who)
-  unfolding fungibles_from sum_at
-  fungibles_at id [] k j once at = absurd (cc)
-  fungibles_at id (asset ∷ listed) k zero once at =
-      let is : asset ≡ (id, Kind.Fungible) = here_is asset at in
-      let first : newly (id, None) (fungible_held_at (Some asset) (amount_in_row amounts (k, who))) ≡ amount_in_row amounts (k, who) =
-      ap (λ (x : Listed). newly (id, None) (fungible_held_at (Some x) (amount_in_row amounts (k, who)))) is ∙ newly_if (id, None) (amount_in_row amounts (k, who)) (record { id = id; fun = Fun.Fungible (amount_in_row amounts (k, who)) }) (λ _. refl) ∙ same_units (id, None) (id, None) _ refl in
-      let rest = fungibles_none (id, None) listed (suc k) (rest_lacks id listed (subst (λ x. IsOnce (x ∷ listed)) is once) (id, None) refl) in
-      sum_offered (id, None) (fungible_held_at (Some asset) (amount_in_row amounts (k, who))) (fungibles_from listed amounts who (suc k)) ∙ omega (arith, first, rest)
-      ∙ ap (λ n. amount_in_row amounts (n, who)) (plus_zero k)
-    where
-      here_is : (x : Listed) → Some x ≡ Some (id, Kind.Fungible) → x ≡ (id, Kind.Fungible)
-      here_is x e = cc
-  fungibles_at id (asset ∷ listed) k (suc j) once at =
-      let first = newly_other (id, None) asset.0 asset.1 (amount_in_row amounts (k, who)) (λ kinds units.
-      let ids : id ≡ asset.0 = ap (λ (v : Unit). v.0) units in
-      let places = once.place 0 (suc j) (id, Kind.Fungible) (λ i. Some (sym ids i, kinds i)) at in absurd (omega (arith, places))) in
-      let rest = fungibles_at id listed (suc k) j (IsOnce-rest asset listed once) at in
-      sum_offered (id, None) (fungible_held_at (Some asset) (amount_in_row amounts (k, who))) (fungibles_from listed amounts who (suc k)) ∙ omega (arith, first, rest)
-      ∙ ap (λ n. amount_in_row amounts (n, who)) (moved_on k j)
+  -- what the list has for a row is the unit of its asset, of the account
+  pub record IsOf (row : AmountKey × ℕ) (a : Asset) : Type 0 where
+    pub id : AssetId
+    pub at : slice_get listed row.0.1 ≡ Some (id, Kind.Fungible)
+    pub unit : unit_of a ≡ (id, None)
+    pub account : eq_by_cmp account_cmp who row.0.0 ≡ true
 
   fungible_unit : (id : AssetId) (n : ℕ) (a : Asset) → fungible_of id Kind.Fungible n ≡ Some a → unit_of a ≡ (id, None)
   fungible_unit id n a = by (nat_lt 0 n)
     where
-      same : (x y : Asset) → Some x ≡ Some y → x ≡ y
-      same x y e = cc
-
       by : (b : Bool) → (if b then Some (record { id = id; fun = Fun.Fungible n }) else None) ≡ Some a → unit_of a ≡ (id, None)
-      by true e = ap unit_of (sym (same (record { id = id; fun = Fun.Fungible n }) a e))
+      by true e = ap unit_of (sym (same_asset (record { id = id; fun = Fun.Fungible n }) a e))
       by false e = absurd (cc)
 
-  fungibles_once : (u : Unit) (listed : List Listed) (k : ℕ) → IsOnce listed → occurrences u (fungibles_from listed amounts who k) ≤ 1
-  unfolding fungibles_from offered
-  fungibles_once u [] k once = omega arith
-  fungibles_once u ((id, Kind.Fungible) ∷ listed) k once =
-      count_offered u (fungible_of id Kind.Fungible (amount_in_row amounts (k, who))) (fungibles_from listed amounts who (suc k))
-      (λ a made is. none_counted u (fungibles_from listed amounts who (suc k)) (fungibles_no_zero listed (suc k)) (fungibles_none u listed (suc k) (rest_lacks id listed once u (is ∙ fungible_unit id (amount_in_row amounts (k, who)) a made))))
-      (fungibles_once u listed (suc k) (IsOnce-rest (id, Kind.Fungible) listed once))
-  fungibles_once u ((id, Kind.Class) ∷ listed) k once = fungibles_once u listed (suc k) (IsOnce-rest (id, Kind.Class) listed once)
+  row_is_of : (row : AmountKey × ℕ) (a : Asset) → fungible_in listed who row ≡ Some a → IsOf row a
+  unfolding fungible_in
+  row_is_of row a = by (eq_by_cmp account_cmp who row.0.0) refl
+    where
+      of_asset : (o : Option Listed) → slice_get listed row.0.1 ≡ o → eq_by_cmp account_cmp who row.0.0 ≡ true → fungible_held_at o row.1 ≡ Some a → IsOf row a
+      of_asset None e t made = absurd (cc)
+      of_asset (Some (id, Kind.Fungible)) e t made = record { id = id; at = e; unit = fungible_unit id row.1 a made; account = t }
+      of_asset (Some (id, Kind.Class)) e t made = absurd (cc)
 
--- from the asset at a place on
-pub fungibles_next : (listed : List Listed) (amounts : List (AmountKey × ℕ)) (who : List ℕ) (j k : ℕ) → j < length listed
-    → fungibles_from (drop j listed) amounts who k ≡ offered (fungible_held_at (slice_get listed j) (amount_in_row amounts (k, who))) (fungibles_from (drop (suc j) listed) amounts who (suc k))
-unfolding fungibles_from
-fungibles_next [] amounts who j k inside = absurd (omega (arith, inside))
-fungibles_next (asset ∷ listed) amounts who zero k inside = refl
-fungibles_next (asset ∷ listed) amounts who (suc j) k inside = fungibles_next listed amounts who j k (omega (arith, inside))
+      by : (b : Bool) → eq_by_cmp account_cmp who row.0.0 ≡ b → (if b then fungible_held_at (slice_get listed row.0.1) row.1 else None) ≡ Some a → IsOf row a
+      by true t made = of_asset (slice_get listed row.0.1) refl t made
+      by false f made = absurd (cc)
+
+  module _ (once : IsOnce listed) (n : ℕ) (id : AssetId) (at : slice_get listed n ≡ Some (id, Kind.Fungible)) where
+    -- the unit of an asset: what its row says
+    fungibles_at : (rows : List (AmountKey × ℕ)) → IsStrictlySortedBy amount_key_cmp (keys_of rows) → sum_at (id, None) (fungibles_in listed who rows) ≡ amount_in_row rows (who, n)
+    unfolding fungibles_in fungible_in sum_at IsStrictlySortedBy
+    fungibles_at [] sorted = refl
+    fungibles_at (row ∷ rows) sorted =
+        let further = fungibles_at rows sorted.1 in
+        sum_offered (id, None) (fungible_in listed who row) (fungibles_in listed who rows)
+        ∙ elim (cases_Bool (eq_by_cmp amount_key_cmp (who, n) row.0)) [
+          | inl t ↦ (
+              let keys : ◌≡◌ {A = AmountKey} (who, n) row.0 = key_same amount_keys (who, n) row.0 t in
+              let here : slice_get listed row.0.1 ≡ Some (id, Kind.Fungible) = subst (λ m. slice_get listed m ≡ Some (id, Kind.Fungible)) (ap (λ (k : AmountKey). k.1) keys) at in
+              let account = same_as account_keys who row.0.0 (ap (λ (k : AmountKey). k.0) keys) in
+              let first : newly (id, None) (fungible_in listed who row) ≡ row.1 =
+              ap (λ b. newly (id, None) (if b then fungible_held_at (slice_get listed row.0.1) row.1 else None)) account
+              ∙ ap (λ o. newly (id, None) (fungible_held_at o row.1)) here ∙ newly_fungible (id, None) id row.1 ∙ same_units (id, None) (id, None) row.1 refl in
+              let behind : amount_in_row rows (who, n) ≡ 0 = ap (λ o. unwrap_or o 0) (none_behind amount_keys (who, n) row.0 rows sorted.0 t) in
+              let found : amount_in_row (row ∷ rows) (who, n) ≡ row.1 = ap (λ b. unwrap_or (if b then Some row.1 else lookup (eq_by_cmp amount_key_cmp (who, n)) rows) 0) t in
+              omega (arith, first, further, behind, found))
+          | inr f ↦ (
+              let first = no_row (id, None) row (λ account other there units.
+              let places : n ≡ row.0.1 = once.place n row.0.1 (id, Kind.Fungible) at (there ∙ ap (λ (v : Unit). Some (v.0, Kind.Fungible)) (sym units)) in
+              true≢false (sym (same_as amount_keys (who, n) row.0 (λ i. (key_same account_keys who row.0.0 account i, places i))) ∙ f)) in
+              let found : amount_in_row (row ∷ rows) (who, n) ≡ amount_in_row rows (who, n) = ap (λ b. unwrap_or (if b then Some row.1 else lookup (eq_by_cmp amount_key_cmp (who, n)) rows) 0) f in
+              omega (arith, first, further, found))
+        ]
+
+  fungibles_once : IsOnce listed → (u : Unit) (rows : List (AmountKey × ℕ)) → IsStrictlySortedBy amount_key_cmp (keys_of rows) → occurrences u (fungibles_in listed who rows) ≤ 1
+  unfolding fungibles_in IsStrictlySortedBy
+  fungibles_once once u [] sorted = omega arith
+  fungibles_once once u (row ∷ rows) sorted =
+      count_offered u (fungible_in listed who row) (fungibles_in listed who rows)
+      (λ a made is.
+      let of_row = row_is_of row a made in
+      let keys : eq_by_cmp amount_key_cmp (who, row.0.1) row.0 ≡ true = same_as amount_keys (who, row.0.1) row.0 (λ i. (key_same account_keys who row.0.0 of_row.account i, row.0.1)) in
+      none_counted u (fungibles_in listed who rows) (fungibles_no_zero rows)
+      (ap (λ v. sum_at v (fungibles_in listed who rows)) (is ∙ of_row.unit) ∙ fungibles_at once row.0.1 of_row.id of_row.at rows sorted.1 ∙ ap (λ o. unwrap_or o 0) (none_behind amount_keys (who, row.0.1) row.0 rows sorted.0 keys)))
+      (fungibles_once once u rows sorted.1)
+
+-- ---- the rows of one account among those of all
+first_in_range : (who : List ℕ) (k : AmountKey) → eq_by_cmp account_cmp who k.0 ≡ true → range_contains amount_key_cmp (Included (who, 0)) Unbounded k ≡ true
+first_in_range who k t = and_from _ _ (ap (λ o. is_le (ordering_then o (nat_cmp 0 k.1))) (equal_told (account_cmp who k.0) t) ∙ least k.1) refl
+  where
+    least : (n : ℕ) → is_le (nat_cmp 0 n) ≡ true
+    least n = grind (arith, nat_tests)
+
+-- rows from the account's first possible one on
+pub from_first : (listed : List Listed) (who : List ℕ) (rows : List (AmountKey × ℕ)) → fungibles_in listed who (entries_between amount_key_cmp (Included (who, 0)) Unbounded rows) ≡ fungibles_in listed who rows
+unfolding fungibles_in fungible_in offered
+from_first listed who [] = refl
+from_first listed who (row ∷ rows) = by (range_contains amount_key_cmp (Included (who, 0)) Unbounded row.0) refl (from_first listed who rows)
+  where
+    left_out : range_contains amount_key_cmp (Included (who, 0)) Unbounded row.0 ≡ false → fungible_in listed who row ≡ None
+    left_out out = elim (cases_Bool (eq_by_cmp account_cmp who row.0.0)) [
+      | inl t ↦ absurd (true≢false (sym (first_in_range who row.0 t) ∙ out))
+      | inr f ↦ ap (λ b. if b then fungible_held_at (slice_get listed row.0.1) row.1 else None) f
+    ]
+
+    by : (b : Bool) → range_contains amount_key_cmp (Included (who, 0)) Unbounded row.0 ≡ b → fungibles_in listed who (entries_between amount_key_cmp (Included (who, 0)) Unbounded rows) ≡ fungibles_in listed who rows
+        → fungibles_in listed who (cond b (row ∷ entries_between amount_key_cmp (Included (who, 0)) Unbounded rows) (entries_between amount_key_cmp (Included (who, 0)) Unbounded rows)) ≡ fungibles_in listed who (row ∷ rows)
+    by true t further = ap (offered (fungible_in listed who row)) further
+    by false f further = further ∙ sym (ap (λ o. offered o (fungibles_in listed who rows)) (left_out f))
+
+-- where the next row is of another account, the account has no row that is left
+pub none_left : (listed : List Listed) (who : List ℕ) (row : AmountKey × ℕ) (rows : List (AmountKey × ℕ)) → account_cmp who row.0.0 ≡ Less → AllByRecursion (λ q. amount_key_cmp row.0 q ≡ Less) (keys_of rows)
+    → fungibles_in listed who (row ∷ rows) ≡ []
+unfolding fungibles_in fungible_in offered
+none_left listed who row rows less later =
+    ap (λ b. offered (if b then fungible_held_at (slice_get listed row.0.1) row.1 else None) (fungibles_in listed who rows)) (ap is_eq less) ∙ further rows later
+  where
+    further : (es : List (AmountKey × ℕ)) → AllByRecursion (λ q. amount_key_cmp row.0 q ≡ Less) (keys_of es) → fungibles_in listed who es ≡ []
+    further [] later = refl
+    further (e ∷ es) later =
+        ap (λ b. offered (if b then fungible_held_at (slice_get listed e.0.1) e.1 else None) (fungibles_in listed who es))
+        (not_true _ (λ t. not_behind row.0 e.0 later.0 (subst (λ w. account_cmp w row.0.0 ≡ Less) (key_same account_keys who e.0.0 t) less)))
+        ∙ further es later.1
+
+-- a row that is no earlier than the account's first possible one, and not the account's, is of a later account
+pub of_later : (who : List ℕ) (k : AmountKey) → is_gt (amount_key_cmp (who, 0) k) ≡ false → eq_by_cmp account_cmp who k.0 ≡ false → account_cmp who k.0 ≡ Less
+of_later who k from other = by (account_cmp who k.0) (first_le (account_cmp who k.0) (nat_cmp 0 k.1) from) other
+  where
+    by : (o : Ordering) → is_gt o ≡ false → is_eq o ≡ false → o ≡ Less
+    by Less h e = refl
+    by Equal h e = absurd (true≢false e)
+    by Greater h e = absurd (true≢false h)
 
 -- ---- instances, row by row
 pub instances_from : List Listed → List ℕ → List (OwnerKey × Option (List ℕ)) → List Asset
@@ -303,7 +378,7 @@ module _ (listed : List Listed) (who : List ℕ) where
               let first : newly (id, Some i) (instance_held_at (slice_get listed row.0.0) row.0.1 (owned who row.1)) ≡ owned who row.1 =
               ap (λ o. newly (id, Some i) (instance_held_at o row.0.1 (owned who row.1))) here ∙ newly_class (id, Some i) id row.0.1 row.1
               ∙ same_units (id, Some i) (id, Some row.0.1) _ (λ j. (id, Some ((keys j).1))) in
-              let behind : owned who (owner_at rows (n, i)) ≡ 0 = ap (λ o. owned who (unwrap_or o None)) (none_behind listed once who id i n at row.0 rows sorted.0 t) in
+              let behind : owned who (owner_at rows (n, i)) ≡ 0 = ap (λ o. owned who (unwrap_or o None)) (none_behind owner_keys (n, i) row.0 rows sorted.0 t) in
               let found : owned who (owner_at (row ∷ rows) (n, i)) ≡ owned who row.1 = ap (λ b. owned who (unwrap_or (if b then Some row.1 else lookup (eq_by_cmp owner_key_cmp (n, i)) rows) None)) t in
               omega (arith, first, further, behind, found))
           | inr f ↦ (
@@ -318,13 +393,13 @@ module _ (listed : List Listed) (who : List ℕ) where
 
 -- ---- what the rows list is what the account holds
 module _ (listed : List Listed) (once : IsOnce listed) (amounts : List (AmountKey × ℕ)) (owners : List (OwnerKey × Option (List ℕ))) (sorted : IsStrictlySortedBy owner_key_cmp (keys_of owners)) (who : List ℕ) where
-  fungible_sum : (id : AssetId) → sum_at (id, None) (fungibles_from listed amounts who 0) ≡ amount (held_in listed amounts owners) (who, (id, None))
-  fungible_sum id = elim (number_in listed (id, Kind.Fungible)) as (λ o. number_in listed (id, Kind.Fungible) ≡ o → sum_at (id, None) (fungibles_from listed amounts who 0) ≡ amount (held_in listed amounts owners) (who, (id, None))) [
+  fungible_sum : IsStrictlySortedBy amount_key_cmp (keys_of amounts) → (id : AssetId) → sum_at (id, None) (fungibles_in listed who amounts) ≡ amount (held_in listed amounts owners) (who, (id, None))
+  fungible_sum in_order id = elim (number_in listed (id, Kind.Fungible)) as (λ o. number_in listed (id, Kind.Fungible) ≡ o → sum_at (id, None) (fungibles_in listed who amounts) ≡ amount (held_in listed amounts owners) (who, (id, None))) [
     | None ↦ λ e.
-        fungibles_none amounts who (id, None) listed 0 (λ j other at units. no_number listed (id, Kind.Fungible) e j (at ∙ ap (λ (v : Unit). Some (v.0, Kind.Fungible)) (sym units)))
+        fungibles_none listed who (id, None) (λ j other at units. no_number listed (id, Kind.Fungible) e j (at ∙ ap (λ (v : Unit). Some (v.0, Kind.Fungible)) (sym units))) amounts
         ∙ sym (held-no_fungible listed once amounts owners who id (no_number listed (id, Kind.Fungible) e))
     | Some n ↦ λ e. (let at = number_at listed (id, Kind.Fungible) n e in
-        fungibles_at amounts who id listed 0 n once at ∙ ap (λ m. amount_in_row amounts (m, who)) (zero_plus n) ∙ sym (held-fungible listed once amounts owners n who id at))
+        fungibles_at listed who once n id at amounts in_order ∙ sym (held-fungible listed once amounts owners n who id at))
   ] refl
 
   instance_sum : (id : AssetId) (i : Instance) → sum_at (id, Some i) (instances_from listed who owners) ≡ amount (held_in listed amounts owners) (who, (id, Some i))
@@ -336,17 +411,17 @@ module _ (listed : List Listed) (once : IsOnce listed) (amounts : List (AmountKe
         instances_at listed who once n id i at owners sorted ∙ sym (held-instance listed once amounts owners sorted n who id i at))
   ] refl
 
-  pub fungibles_listed : IsUnsortedListOf (restriction is_amount (account_goods who (held_in listed amounts owners))) (fungibles_from listed amounts who 0)
+  pub fungibles_listed : IsStrictlySortedBy amount_key_cmp (keys_of amounts) → IsUnsortedListOf (restriction is_amount (account_goods who (held_in listed amounts owners))) (fungibles_in listed who amounts)
   unfolding sum_at
-  fungibles_listed = record {
-    once = λ u. fungibles_once amounts who u listed 0 once;
-    no_zero = fungibles_no_zero amounts who listed 0;
-    whole = same_bundles _ _ (λ u. amount-bundle_of (fungibles_from listed amounts who 0) u ∙ by u.0 u.1 ∙ sym (amount-restriction unit_keys is_amount (account_goods who (held_in listed amounts owners)) u));
+  fungibles_listed in_order = record {
+    once = λ u. fungibles_once listed who once u amounts in_order;
+    no_zero = fungibles_no_zero listed who amounts;
+    whole = same_bundles _ _ (λ u. amount-bundle_of (fungibles_in listed who amounts) u ∙ by u.0 u.1 ∙ sym (amount-restriction unit_keys is_amount (account_goods who (held_in listed amounts owners)) u));
   }
     where
-      by : (id : AssetId) (x : Option Instance) → sum_where (eq_by_cmp unit_cmp (id, x)) (rows_of (fungibles_from listed amounts who 0)) ≡ amount_if (is_amount (id, x)) (amount (account_goods who (held_in listed amounts owners)) (id, x))
-      by id None = fungible_sum id ∙ sym (amount-account_goods who (held_in listed amounts owners) (id, None))
-      by id (Some i) = fungibles_none amounts who (id, Some i) listed 0 (λ j other at units. (let parts : Some i ≡ None = ap (λ (v : Unit). v.1) units in absurd (cc)))
+      by : (id : AssetId) (x : Option Instance) → sum_where (eq_by_cmp unit_cmp (id, x)) (rows_of (fungibles_in listed who amounts)) ≡ amount_if (is_amount (id, x)) (amount (account_goods who (held_in listed amounts owners)) (id, x))
+      by id None = fungible_sum in_order id ∙ sym (amount-account_goods who (held_in listed amounts owners) (id, None))
+      by id (Some i) = fungibles_none listed who (id, Some i) (λ j other at units. (let parts : Some i ≡ None = ap (λ (v : Unit). v.1) units in absurd (cc))) amounts
 
   pub instances_listed : IsUnsortedListOf (restriction (λ u. not (is_amount u)) (account_goods who (held_in listed amounts owners))) (instances_from listed who owners)
   unfolding sum_at
@@ -421,12 +496,14 @@ pub all_listed : (xs : List Asset) → xs ++ [] ≡ xs
 all_listed [] = refl
 all_listed (a ∷ xs) = ap (λ ys. a ∷ ys) (all_listed xs)
 
-pub none_from : (listed : List Listed) (amounts : List (AmountKey × ℕ)) (who : List ℕ) (j k : ℕ) → length listed ≤ j → fungibles_from (drop j listed) amounts who k ≡ []
-unfolding fungibles_from
-none_from [] amounts who zero k past = refl
-none_from [] amounts who (suc j) k past = refl
-none_from (asset ∷ listed) amounts who zero k past = absurd (omega (arith, past))
-none_from (asset ∷ listed) amounts who (suc j) k past = none_from listed amounts who j k (omega (arith, past))
+pub fungibles_next : (listed : List Listed) (who : List ℕ) (row : AmountKey × ℕ) (rows : List (AmountKey × ℕ)) → eq_by_cmp account_cmp who row.0.0 ≡ true
+    → fungibles_in listed who (row ∷ rows) ≡ offered (fungible_held_at (slice_get listed row.0.1) row.1) (fungibles_in listed who rows)
+unfolding fungibles_in fungible_in
+fungibles_next listed who row rows t = ap (λ b. offered (if b then fungible_held_at (slice_get listed row.0.1) row.1 else None) (fungibles_in listed who rows)) t
+
+pub no_fungibles : (listed : List Listed) (who : List ℕ) → fungibles_in listed who [] ≡ []
+unfolding fungibles_in
+no_fungibles listed who = refl
 
 pub no_instances : (listed : List Listed) (who : List ℕ) → instances_from listed who [] ≡ []
 unfolding instances_from

@@ -1,4 +1,4 @@
--- Accounts compared eight bytes at a time: the numbers of eight bytes stand as the bytes do.
+-- Accounts compared eight bytes at a time: the numbers of eight bytes are ordered as the bytes are.
 use Rattle.std.proofs.Common.{◌≡◌, ℕ, suc, zero, ◌+◌, ◌*◌, ◌<◌, List, [], ◌∷◌, length, take, drop, refl, sym, ap, ◌∙◌, arith}
 use Rattle.std.specs.List.{AllByRecursion}
 use Rattle.std.specs.Slice.Scan.{big_endian}
@@ -87,25 +87,24 @@ decides Less q apart = refl
 decides Equal q apart = absurd (cc)
 decides Greater q apart = refl
 
-joined : (xs ys : List ℕ) → length xs ≡ 32 → length ys ≡ 32 → (p q r s : Ordering) → p ≡ at_place 0 xs ys → q ≡ at_place 8 xs ys → r ≡ at_place 16 xs ys → s ≡ at_place 24 xs ys
-    → ordering_then p (ordering_then q (ordering_then r s)) ≡ account_cmp xs ys
-joined xs ys all both p q r s at_p at_q at_r at_s =
-    (λ i. ordering_then (at_p i) (ordering_then (at_q i) (ordering_then (at_r i) (at_s i)))) ∙ four_parts xs ys all both
-
 -- the first part that isn't the same decides
-pub first_decides : (xs ys : List ℕ) → length xs ≡ 32 → length ys ≡ 32 → (p : Ordering) → p ≡ at_place 0 xs ys → is_ne p ≡ true → p ≡ account_cmp xs ys
-first_decides xs ys all both p at_p apart = sym (decides p _ apart) ∙ joined xs ys all both p _ _ _ at_p refl refl refl
+module _ (xs ys : List ℕ) (all : length xs ≡ 32) (both : length ys ≡ 32) where
+  pub first_decides : is_ne (at_place 0 xs ys) ≡ true → at_place 0 xs ys ≡ account_cmp xs ys
+  first_decides apart = sym (decides (at_place 0 xs ys) _ apart) ∙ four_parts xs ys all both
 
-pub second_decides : (xs ys : List ℕ) → length xs ≡ 32 → length ys ≡ 32 → (p q : Ordering) → p ≡ at_place 0 xs ys → is_ne p ≡ false → q ≡ at_place 8 xs ys → is_ne q ≡ true → q ≡ account_cmp xs ys
-second_decides xs ys all both p q at_p same at_q apart =
-    sym (decides q _ apart) ∙ sym (tied p _ same) ∙ joined xs ys all both p q _ _ at_p at_q refl refl
+  pub second_decides : is_ne (at_place 0 xs ys) ≡ false → is_ne (at_place 8 xs ys) ≡ true → at_place 8 xs ys ≡ account_cmp xs ys
+  second_decides same apart = sym (decides (at_place 8 xs ys) _ apart) ∙ sym (tied (at_place 0 xs ys) _ same) ∙ four_parts xs ys all both
 
-pub third_decides : (xs ys : List ℕ) → length xs ≡ 32 → length ys ≡ 32 → (p q r : Ordering) → p ≡ at_place 0 xs ys → is_ne p ≡ false → q ≡ at_place 8 xs ys → is_ne q ≡ false
-    → r ≡ at_place 16 xs ys → is_ne r ≡ true → r ≡ account_cmp xs ys
-third_decides xs ys all both p q r at_p same at_q alike at_r apart =
-    sym (decides r _ apart) ∙ sym (tied q _ alike) ∙ sym (tied p _ same) ∙ joined xs ys all both p q r _ at_p at_q at_r refl
+  pub third_decides : is_ne (at_place 0 xs ys) ≡ false → is_ne (at_place 8 xs ys) ≡ false → is_ne (at_place 16 xs ys) ≡ true → at_place 16 xs ys ≡ account_cmp xs ys
+  third_decides same alike apart = sym (decides (at_place 16 xs ys) _ apart) ∙ sym (tied (at_place 8 xs ys) _ alike) ∙ sym (tied (at_place 0 xs ys) _ same) ∙ four_parts xs ys all both
 
-pub last_decides : (xs ys : List ℕ) → length xs ≡ 32 → length ys ≡ 32 → (p q r s : Ordering) → p ≡ at_place 0 xs ys → is_ne p ≡ false → q ≡ at_place 8 xs ys → is_ne q ≡ false
-    → r ≡ at_place 16 xs ys → is_ne r ≡ false → s ≡ at_place 24 xs ys → s ≡ account_cmp xs ys
-last_decides xs ys all both p q r s at_p same at_q alike at_r again at_s =
-    sym (tied r _ again) ∙ sym (tied q _ alike) ∙ sym (tied p _ same) ∙ joined xs ys all both p q r s at_p at_q at_r at_s
+  pub last_decides : is_ne (at_place 0 xs ys) ≡ false → is_ne (at_place 8 xs ys) ≡ false → is_ne (at_place 16 xs ys) ≡ false → at_place 24 xs ys ≡ account_cmp xs ys
+  last_decides same alike again = sym (tied (at_place 16 xs ys) _ again) ∙ sym (tied (at_place 8 xs ys) _ alike) ∙ sym (tied (at_place 0 xs ys) _ same) ∙ four_parts xs ys all both
+
+  pub all_same : is_ne (at_place 0 xs ys) ≡ false → is_ne (at_place 8 xs ys) ≡ false → is_ne (at_place 16 xs ys) ≡ false → is_ne (at_place 24 xs ys) ≡ false → Equal ≡ account_cmp xs ys
+  all_same same alike again too = equal (at_place 24 xs ys) too ∙ last_decides same alike again
+    where
+      equal : (o : Ordering) → is_ne o ≡ false → Equal ≡ o
+      equal Less h = absurd (cc)
+      equal Equal h = refl
+      equal Greater h = absurd (cc)

@@ -30,7 +30,7 @@ module _ (p : Holder → Bool) where
   amounts_most : (listed : List Listed) (rows : List (AmountKey × ℕ)) (rest : List (Holder × ℕ)) → AreSmall rows → sum_where p (amount_rows listed rows rest) ≤ (2 ^ 128 - 1) * length rows + sum_where p rest
   amounts_most listed [] rest small = omega arith
   amounts_most listed (row ∷ rows) rest small =
-      let one = amount_most (slice_get listed row.0.0) row.0.1 row.1 (amount_rows listed rows rest) small.0 in
+      let one = amount_most (slice_get listed row.0.1) row.0.0 row.1 (amount_rows listed rows rest) small.0 in
       let more = amounts_most listed rows rest small.1 in
       omega (arith, one, more)
 
@@ -85,7 +85,7 @@ class_amount w cls (Some asset) who v rest = class_fungible w cls asset.0 asset.
 class_amounts : (w : List ℕ) (cls : AssetId) (listed : List Listed) (rows : List (AmountKey × ℕ)) (rest : List (Holder × ℕ))
     → sum_where (λ h. is_account w h && is_holding_of (cls, Kind.Class) h) (amount_rows listed rows rest) ≡ sum_where (λ h. is_account w h && is_holding_of (cls, Kind.Class) h) rest
 class_amounts w cls listed [] rest = refl
-class_amounts w cls listed (row ∷ rows) rest = class_amount w cls (slice_get listed row.0.0) row.0.1 row.1 (amount_rows listed rows rest) ∙ class_amounts w cls listed rows rest
+class_amounts w cls listed (row ∷ rows) rest = class_amount w cls (slice_get listed row.0.1) row.0.0 row.1 (amount_rows listed rows rest) ∙ class_amounts w cls listed rows rest
 
 pub count_bound : (listed : List Listed) (amounts : List (AmountKey × ℕ)) (owners : List (OwnerKey × Option (List ℕ))) (w : List ℕ) (cls : AssetId) → length owners < 2 ^ 63
     → account_sum_of w (cls, Kind.Class) (held_in listed amounts owners) < 2 ^ 63

@@ -1,8 +1,7 @@
 -- An account holds something where one of its rows says more than 0.
-use Rattle.std.proofs.Common.{◌≡◌, ℕ, zero, suc, ◌<◌, Bool, true, false, ◌&&◌, if◌then◌else◌, List, ◌∷◌, length, IfSome, refl, sym, ap, ◌∙◌, arith, true≢false}
+use Rattle.std.proofs.Common.{◌≡◌, ℕ, zero, suc, ◌<◌, Bool, true, false, ◌&&◌, if◌then◌else◌, List, ◌∷◌, refl, sym, ap, ◌∙◌, arith, true≢false}
 use Rattle.std.specs.Prelude.{Option, None, Some, unwrap_or, slice_get, IsSome, MatchOption}
-use Rattle.std.specs.Ordering.{eq_by_cmp, is_eq}
-use Rattle.std.specs.declared.cmp.Ordering.TheVariants.{Less}
+use Rattle.std.specs.Ordering.{eq_by_cmp}
 use Rattle.std.specs.Map.{lookup}
 use Rattle.std.proofs.lemmas.Bool.{and_parts}
 use Rattle.amounts.specs.Amounts.{amount}
@@ -11,18 +10,18 @@ use Rattle.amounts.proofs.Lemmas.{key_same}
 use Rattle.asset_lists.specs.declared.units.AssetId.{AssetId}
 use Rattle.asset_lists.specs.declared.units.Instance.{Instance}
 use Rattle.asset_lists.specs.Listed.{Listed, listed_of}
-use Rattle.ledgers.specs.declared.sums.Sum.{Sum}
-use Rattle.ledgers.specs.Ledgers.{account_cmp, is_account, is_holding_of, holding_of, number_in, IsAfter, IsNext}
-use Rattle.ledgers.specs.LedgerRows.{AmountKey, amount_key_cmp, OwnerKey, amount_in_row, held_in, IsSound, IsBefore, IsNextRow}
+use Rattle.asset_bundles.specs.declared.wide_sum.WideSum.{WideSum}
+use Rattle.ledgers.specs.Ledgers.{is_account, is_holding_of, holding_of, number_in, IsAfter, IsNext}
+use Rattle.ledgers.specs.LedgerRows.{AmountKey, amount_key_cmp, OwnerKey, amount_in_row, held_in, IsSound, IsNextRow}
 use Rattle.ledgers.proofs.Lemmas.{holder_keys, account_keys}
-use Rattle.ledgers.proofs.RowLookups.{amount_keys, same_as}
+use Rattle.ledgers.proofs.RowLookups.{amount_keys}
 use Rattle.ledgers.proofs.Numbers.{number_at, at_number}
 use Rattle.ledgers.proofs.RowChanges.{held_listed, row_at_least}
-use Rattle.ledgers.proofs.Reading.{part_is, inside}
+use Rattle.ledgers.proofs.Reading.{part_is}
 use Rattle.ledgers.proofs.Totals.{total_none}
 
-module _ (listed : List Listed) (amounts : List (AmountKey × ℕ)) (owners : List (OwnerKey × Option (List ℕ))) (sums : List Sum) (sound : IsSound listed amounts owners sums) where
-  row_holds : (n : ℕ) (who : List ℕ) → 0 < amount_in_row amounts (n, who) → 0 < holding_of who (held_in listed amounts owners)
+module _ (listed : List Listed) (amounts : List (AmountKey × ℕ)) (owners : List (OwnerKey × Option (List ℕ))) (sums : List WideSum) (sound : IsSound listed amounts owners sums) where
+  row_holds : (n : ℕ) (who : List ℕ) → 0 < amount_in_row amounts (who, n) → 0 < holding_of who (held_in listed amounts owners)
   row_holds n who some = elim (slice_get listed n) as (λ o. slice_get listed n ≡ o → IsSome o → 0 < holding_of who (held_in listed amounts owners)) [
     | None ↦ λ at there. absurd (true≢false (sym there))
     | Some asset ↦ λ at there. (
@@ -31,13 +30,7 @@ module _ (listed : List Listed) (amounts : List (AmountKey × ℕ)) (owners : Li
         omega (arith, some, part, most))
   ] refl (sound.numbered n who some)
 
-  pub number_below : (k : AmountKey) → 0 < amount_in_row amounts k → k.0 < length listed
-  number_below k some = elim (slice_get listed k.0) as (λ o. slice_get listed k.0 ≡ o → IsSome o → k.0 < length listed) [
-    | None ↦ λ at there. absurd (true≢false (sym there))
-    | Some asset ↦ λ at there. inside listed k.0 asset at
-  ] refl (sound.numbered k.0 k.1 some)
-
-  none_held_of : (who : List ℕ) → ((n : ℕ) → amount_in_row amounts (n, who) ≡ 0) → (id : AssetId) (x : Option Instance) → amount (held_in listed amounts owners) (who, (id, x)) ≡ 0
+  none_held_of : (who : List ℕ) → ((n : ℕ) → amount_in_row amounts (who, n) ≡ 0) → (id : AssetId) (x : Option Instance) → amount (held_in listed amounts owners) (who, (id, x)) ≡ 0
   none_held_of who none id x = elim (number_in listed (listed_of (id, x))) as (λ o. number_in listed (listed_of (id, x)) ≡ o → amount (held_in listed amounts owners) (who, (id, x)) ≡ 0) [
     | None ↦ λ e. held_listed listed amounts owners sums sound who id x e
     | Some n ↦ λ e. (
@@ -46,7 +39,7 @@ module _ (listed : List Listed) (amounts : List (AmountKey × ℕ)) (owners : Li
         omega (arith, most, zeros))
   ] refl
 
-  pub none_holds : (who : List ℕ) → ((n : ℕ) → amount_in_row amounts (n, who) ≡ 0) → holding_of who (held_in listed amounts owners) ≡ 0
+  pub none_holds : (who : List ℕ) → ((n : ℕ) → amount_in_row amounts (who, n) ≡ 0) → holding_of who (held_in listed amounts owners) ≡ 0
   none_holds who none = total_none holder_keys (is_account who) (held_in listed amounts owners) (λ h passes.
       ap (λ w. amount (held_in listed amounts owners) (w, h.1)) (sym (key_same account_keys who h.0 passes)) ∙ none_held_of who none h.1.0 h.1.1)
 
@@ -54,13 +47,13 @@ module _ (listed : List Listed) (amounts : List (AmountKey × ℕ)) (owners : Li
   next_held after who row = record {
     holds = row_holds row.number who row.has;
     later = row.later;
-    least = λ w later some before. (let none = none_holds w (λ n. row.least (n, w) later before) in absurd (omega (arith, some, none)));
+    least = λ w later some before. (let none = none_holds w (λ n. row.least (w, n) later before) in absurd (omega (arith, some, none)));
   }
 
   -- what the rows say of the next account, of what is held
-  pub next_read : (after o : Option (List ℕ)) → MatchOption o ((k : AmountKey) → IsAfter after k.1 → amount_in_row amounts k ≡ 0) (IsNextRow after amounts)
+  pub next_read : (after o : Option (List ℕ)) → MatchOption o ((k : AmountKey) → IsAfter after k.0 → amount_in_row amounts k ≡ 0) (IsNextRow after amounts)
       → MatchOption o ((who : List ℕ) → IsAfter after who → holding_of who (held_in listed amounts owners) ≡ 0) (IsNext after (held_in listed amounts owners))
-  next_read after None none = λ who later. none_holds who (λ n. none (n, who) later)
+  next_read after None none = λ who later. none_holds who (λ n. none (who, n) later)
   next_read after (Some who) row = next_held after who row
 
 -- ---- rows passed one after the other
@@ -75,22 +68,3 @@ row_passed e rest k none = by (eq_by_cmp amount_key_cmp k e.0) refl
     by : (b : Bool) → eq_by_cmp amount_key_cmp k e.0 ≡ b → 0 < unwrap_or (if b then Some e.1 else lookup (eq_by_cmp amount_key_cmp k) rest) 0 → 0 < amount_in_row rest k
     by true t some = absurd (none (key_same amount_keys k e.0 t) some)
     by false t some = some
-
-pub not_before_itself : (who w : List ℕ) → who ≡ w → account_cmp who w ≡ Less → ⊥
-not_before_itself who w is less = true≢false (sym (same_as account_keys who w is) ∙ ap is_eq less)
-
-pub before_both : (who w : List ℕ) (next : Option (List ℕ)) → account_cmp who w ≡ Less → IsBefore w next → IsBefore who next
-before_both who w None less before = tt
-before_both who w (Some b) less before = account_keys.total.trans who w b less before
-
--- nothing is ahead where no row is left
-pub none_ahead : (rows : List (AmountKey × ℕ)) (after next : Option (List ℕ)) → IfSome next (λ who. IsAfter after who × ((n : ℕ) × (0 < amount_in_row rows (n, who))))
-    → ((k : AmountKey) → IsAfter after k.1 → IsBefore k.1 next → 0 < amount_in_row rows k → 0 < 0)
-    → MatchOption next ((k : AmountKey) → IsAfter after k.1 → amount_in_row rows k ≡ 0) (IsNextRow after rows)
-none_ahead rows after None met ahead = λ k later. nothing (amount_in_row rows k) (ahead k later tt)
-none_ahead rows after (Some who) met ahead = record {
-  number = met.1.0;
-  has = met.1.1;
-  later = met.0;
-  least = λ k later before. nothing (amount_in_row rows k) (ahead k later before);
-}

@@ -1,4 +1,4 @@
--- What stands in the list when the next account's assets do.
+-- What the list has once it has the next account's assets.
 use Rattle.std.proofs.Common.{◌≡◌, ◌∙◌, ℕ, List, [], ◌++◌, map, Option, Some, None, sym, ap}
 use Rattle.std.proofs.lemmas.List.{map-append}
 use Rattle.amounts.specs.Amounts.{rows}

@@ -1,6 +1,6 @@
--- The numbers of listed assets: places in a list in which nothing stands twice.
+-- The numbers of listed assets: indices in a list in which nothing is twice.
 use Rattle.std.proofs.Common.{◌≡◌, ℕ, zero, suc, ◌+◌, ◌<◌, Bool, true, false, not, cond, List, [], ◌∷◌, length, get_or, refl, sym, ap, ◌∙◌, subst, arith}
-use Rattle.std.specs.Prelude.{Option, None, Some, MatchOption, slice_get, nat_lt}
+use Rattle.std.specs.Prelude.{None, Some, slice_get}
 use Rattle.std.specs.Ordering.{eq_by_cmp}
 use Rattle.std.specs.List.{position_or_len}
 use Rattle.std.proofs.lemmas.List.Quantifiers.{position-Some}
@@ -10,7 +10,7 @@ use Rattle.asset_lists.specs.Listed.{Listed, listed_cmp}
 use Rattle.asset_bundles.proofs.Lemmas.{listed_keys}
 use Rattle.ledgers.specs.Ledgers.{number_in}
 use Rattle.ledgers.specs.LedgerRows.{IsOnce}
-use Rattle.plain_lists.proofs.Lemmas.Facts.{at_none, found_some, none_if}
+use Rattle.plain_lists.proofs.Lemmas.Facts.{found_some}
 
 pub number_at : (listed : List Listed) (k : Listed) (n : ℕ) → number_in listed k ≡ Some n → slice_get listed n ≡ Some k
 number_at listed k n is =

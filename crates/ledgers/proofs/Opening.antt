@@ -19,8 +19,8 @@ use Rattle.asset_bundles.specs.Bundles.{Bundle, assets_of_rows, held_assets}
 use Rattle.asset_bundles.proofs.Lemmas.Bundles.{unit_keys}
 use Rattle.asset_lists.specs.Listed.{Listed, listed_cmp, listed_of, lists}
 use Rattle.asset_bundles.proofs.Lemmas.{listed_keys}
-use Rattle.ledgers.specs.declared.sums.Sum.{Sum}
-use Rattle.ledgers.specs.Sums.{sum_value}
+use Rattle.asset_bundles.specs.declared.wide_sum.WideSum.{WideSum}
+use Rattle.asset_bundles.specs.Totals.{wide_value}
 use Rattle.asset_bundles.specs.Books.{AreListed}
 use Rattle.ledgers.specs.Ledgers.{Holder, Held, is_account, is_holding_of, owners_of, number_in, is_barred, is_barred_fun, barred}
 use Rattle.ledgers.specs.LedgerRows.{owner_key_cmp, held_in, IsSound}
@@ -52,7 +52,7 @@ no_rows : IsStrictlySortedBy owner_key_cmp []
 unfolding IsStrictlySortedBy
 no_rows = tt
 
-pub opened : (listed : List Listed) (sums : List Sum) → IsDistinct (eq_by_cmp listed_cmp) listed → length sums ≡ length listed → ((k : ℕ) (s : Sum) → slice_get sums k ≡ Some s → sum_value s ≡ 0) → IsSound listed [] [] sums
+pub opened : (listed : List Listed) (sums : List WideSum) → IsDistinct (eq_by_cmp listed_cmp) listed → length sums ≡ length listed → ((k : ℕ) (s : WideSum) → slice_get sums k ≡ Some s → wide_value s ≡ 0) → IsSound listed [] [] sums
 opened listed sums distinct many zeros = record {
   once = record { place = once_place listed distinct };
   small = tt;

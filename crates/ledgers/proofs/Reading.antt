@@ -12,9 +12,9 @@ use Rattle.asset_lists.specs.declared.units.Kind.{Kind}
 use Rattle.asset_lists.specs.Units.{Unit, unit_cmp}
 use Rattle.asset_bundles.proofs.Lemmas.Bundles.{unit_keys}
 use Rattle.asset_lists.specs.Listed.{Listed, listed_of}
-use Rattle.ledgers.specs.declared.sums.Sum.{Sum}
+use Rattle.asset_bundles.specs.declared.wide_sum.WideSum.{WideSum}
 use Rattle.ledgers.specs.declared.faults.DepositFault.{DepositFault}
-use Rattle.ledgers.specs.Sums.{sum_value}
+use Rattle.asset_bundles.specs.Totals.{wide_value}
 use Rattle.ledgers.specs.Ledgers.{Holder, account_cmp, holder_cmp, Held, is_account, is_holding_of, sum_of, account_sum_of, owners_of, IsOwner, number_in, is_barred}
 use Rattle.ledgers.specs.LedgerFaults.{IsBarred}
 use Rattle.asset_lists.specs.declared.units.Asset.{Asset}
@@ -47,8 +47,8 @@ inside [] i x h = absurd (cc)
 inside (y ∷ xs) zero x h = omega arith
 inside (y ∷ xs) (suc i) x h = let rest = inside xs i x h in omega (arith, rest)
 
-module _ (listed : List Listed) (amounts : List (AmountKey × ℕ)) (owners : List (OwnerKey × Option (List ℕ))) (sums : List Sum) (sound : IsSound listed amounts owners sums) where
-  pub part_is : (n : ℕ) (who : List ℕ) (id : AssetId) (kind : Kind) → number_in listed (id, kind) ≡ Some n → amount_in_row amounts (n, who) ≡ account_sum_of who (id, kind) (held_in listed amounts owners)
+module _ (listed : List Listed) (amounts : List (AmountKey × ℕ)) (owners : List (OwnerKey × Option (List ℕ))) (sums : List WideSum) (sound : IsSound listed amounts owners sums) where
+  pub part_is : (n : ℕ) (who : List ℕ) (id : AssetId) (kind : Kind) → number_in listed (id, kind) ≡ Some n → amount_in_row amounts (who, n) ≡ account_sum_of who (id, kind) (held_in listed amounts owners)
   part_is n who id Kind.Fungible is = sym (held-fungible listed sound.once amounts owners n who id (number_at listed (id, Kind.Fungible) n is)) ∙ sym (fungible_part (held_in listed amounts owners) who id)
   part_is n who id Kind.Class is = sound.counted n who id (number_at listed (id, Kind.Class) n is)
 
@@ -63,7 +63,7 @@ module _ (listed : List Listed) (amounts : List (AmountKey × ℕ)) (owners : Li
   pub sum_none : (asset : Listed) → number_in listed asset ≡ None → sum_of asset (held_in listed amounts owners) ≡ 0
   sum_none asset none = total_none holder_keys (is_holding_of asset) (held_in listed amounts owners) (nothing_held asset none)
 
-  pub sum_is : (n : ℕ) (asset : Listed) (s : Sum) → number_in listed asset ≡ Some n → s ≡ get_or sums n s → sum_value s ≡ sum_of asset (held_in listed amounts owners)
+  pub sum_is : (n : ℕ) (asset : Listed) (s : WideSum) → number_in listed asset ≡ Some n → s ≡ get_or sums n s → wide_value s ≡ sum_of asset (held_in listed amounts owners)
   sum_is n asset s is at =
       let place = number_at listed asset n is in
       let within = inside listed n asset place in

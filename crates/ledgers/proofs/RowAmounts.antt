@@ -17,7 +17,7 @@ use Rattle.ledgers.proofs.RowLookups.{shown, lookup-amounts, lookup-past_amounts
 
 module _ (listed : List Listed) (once : IsOnce listed) (amounts : List (AmountKey × ℕ)) (owners : List (OwnerKey × Option (List ℕ))) where
   pub held-fungible : (n : ℕ) (who : List ℕ) (id : AssetId) → slice_get listed n ≡ Some (id, Kind.Fungible)
-      → amount (held_in listed amounts owners) (who, (id, None)) ≡ amount_in_row amounts (n, who)
+      → amount (held_in listed amounts owners) (who, (id, None)) ≡ amount_in_row amounts (who, n)
   unfolding held_in
   held-fungible n who id at =
       let past : lookup (eq_by_cmp holder_cmp (who, (id, None))) (owner_rows listed owners) ≡ None = lookup-past_owners listed (who, (id, None)) (λ m w other i e h. (let units : None ≡ Some i = ap (λ (k : Holder). k.1.1) h in absurd (cc))) owners in

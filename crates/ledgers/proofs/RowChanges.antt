@@ -13,8 +13,8 @@ use Rattle.asset_lists.specs.declared.units.Kind.{Kind}
 use Rattle.asset_lists.specs.declared.units.Fun.{Fun}
 use Rattle.asset_lists.specs.Units.{Unit, instance_in, amount_in}
 use Rattle.asset_lists.specs.Listed.{Listed, listed_of}
-use Rattle.ledgers.specs.declared.sums.Sum.{Sum}
-use Rattle.ledgers.specs.Sums.{sum_value}
+use Rattle.asset_bundles.specs.declared.wide_sum.WideSum.{WideSum}
+use Rattle.asset_bundles.specs.Totals.{wide_value}
 use Rattle.ledgers.specs.Ledgers.{account_cmp, is_account, is_holding_of, sum_of, account_sum_of, number_in}
 use Rattle.ledgers.specs.LedgerRows.{AmountKey, amount_key_cmp, OwnerKey, owner_key_cmp, amount_in_row, owner_at, owned, OwnerIs, held_in, AreSmall, IsSumWritten, IsSound, HasAmountRow, HasOwnerRow, HasInstanceRow}
 use Rattle.ledgers.specs.RowState.{may_take}
@@ -25,16 +25,15 @@ use Rattle.ledgers.proofs.RowMoves.{same_rows, held-with_amount, held-with_owner
 use Rattle.ledgers.proofs.Numbers.{number_at, no_number}
 use Rattle.ledgers.proofs.Soundness.{is_its_asset, IsWrite, still_sound}
 use Rattle.ledgers.proofs.Bounds.{sum_bound, count_bound}
-use Rattle.plain_lists.proofs.Lemmas.Facts.{one_at_most as owned_most}
 
 is_owner : (b : Bool) → 1 ≤ (if b then 1 else 0) → b ≡ true
 is_owner true h = refl
 is_owner false h = absurd (omega (arith, h))
 
 -- ---- what one account has of an asset, and the rows
-module _ (listed : List Listed) (amounts : List (AmountKey × ℕ)) (owners : List (OwnerKey × Option (List ℕ))) (sums : List Sum) (sound : IsSound listed amounts owners sums) where
+module _ (listed : List Listed) (amounts : List (AmountKey × ℕ)) (owners : List (OwnerKey × Option (List ℕ))) (sums : List WideSum) (sound : IsSound listed amounts owners sums) where
   -- a row has what is held of its unit, at least
-  pub row_at_least : (n : ℕ) (who : List ℕ) (id : AssetId) (x : Option Instance) → slice_get listed n ≡ Some (listed_of (id, x)) → amount (held_in listed amounts owners) (who, (id, x)) ≤ amount_in_row amounts (n, who)
+  pub row_at_least : (n : ℕ) (who : List ℕ) (id : AssetId) (x : Option Instance) → slice_get listed n ≡ Some (listed_of (id, x)) → amount (held_in listed amounts owners) (who, (id, x)) ≤ amount_in_row amounts (who, n)
   row_at_least n who id None at = (let same = held-fungible listed sound.once amounts owners n who id at in omega (arith, same))
   row_at_least n who id (Some i) at =
       let passes = and_from (is_account who (who, (id, Some i))) (is_holding_of (id, Kind.Class) (who, (id, Some i))) (same_key account_keys who) (is_its_asset (id, Kind.Class) (id, Some i) refl) in
@@ -43,7 +42,7 @@ module _ (listed : List Listed) (amounts : List (AmountKey × ℕ)) (owners : Li
       omega (arith, most, count)
 
   -- and so has the running sum
-  pub sum_at_least : (n : ℕ) (who : List ℕ) (unit : Unit) (s : Sum) → slice_get listed n ≡ Some (listed_of unit) → slice_get sums n ≡ Some s → amount (held_in listed amounts owners) (who, unit) ≤ sum_value s
+  pub sum_at_least : (n : ℕ) (who : List ℕ) (unit : Unit) (s : WideSum) → slice_get listed n ≡ Some (listed_of unit) → slice_get sums n ≡ Some s → amount (held_in listed amounts owners) (who, unit) ≤ wide_value s
   sum_at_least n who unit s at is =
       let most = amount_at_most holder_keys (is_holding_of (listed_of unit)) (held_in listed amounts owners) (who, unit) (is_its_asset (listed_of unit) unit refl) in
       let sum = sound.summed n (listed_of unit) s at is in
@@ -55,7 +54,7 @@ module _ (listed : List Listed) (amounts : List (AmountKey × ℕ)) (owners : Li
   held_listed who id (Some i) none = held-no_instance listed sound.once amounts owners who id i (no_number listed (id, Kind.Class) none)
 
   -- what the rows say of one account and unit
-  pub held_fungible : (n : ℕ) (who : List ℕ) (id : AssetId) → number_in listed (id, Kind.Fungible) ≡ Some n → amount_in_row amounts (n, who) ≡ amount (held_in listed amounts owners) (who, (id, None))
+  pub held_fungible : (n : ℕ) (who : List ℕ) (id : AssetId) → number_in listed (id, Kind.Fungible) ≡ Some n → amount_in_row amounts (who, n) ≡ amount (held_in listed amounts owners) (who, (id, None))
   held_fungible n who id is = sym (held-fungible listed sound.once amounts owners n who id (number_at listed (id, Kind.Fungible) n is))
 
   pub held_instance : (n : ℕ) (who : List ℕ) (id : AssetId) (i : Instance) → number_in listed (id, Kind.Class) ≡ Some n → owned who (owner_at owners (n, i)) ≡ amount (held_in listed amounts owners) (who, (id, Some i))
@@ -73,8 +72,8 @@ module _ (listed : List Listed) (amounts : List (AmountKey × ℕ)) (owners : Li
           once = sound.once;
           small = small;
           sorted = sorted;
-          counted = λ n who id at. same_amount (n, who) ∙ sound.counted n who id at ∙ sym (ap (account_sum_of who (id, Kind.Class)) held);
-          numbered = λ n who some. sound.numbered n who (subst (λ v. 0 < v) (same_amount (n, who)) some);
+          counted = λ n who id at. same_amount (who, n) ∙ sound.counted n who id at ∙ sym (ap (account_sum_of who (id, Kind.Class)) held);
+          numbered = λ n who some. sound.numbered n who (subst (λ v. 0 < v) (same_amount (who, n)) some);
           as_many = sound.as_many;
           summed = λ n asset s at is. sound.summed n asset s at is ∙ sym (ap (sum_of asset) held);
         },
@@ -84,19 +83,19 @@ module _ (listed : List Listed) (amounts : List (AmountKey × ℕ)) (owners : Li
   module _ (more_amounts : List (AmountKey × ℕ)) (more_owners : List (OwnerKey × Option (List ℕ))) (sorted : IsStrictlySortedBy owner_key_cmp (keys_of more_owners))
       (n : ℕ) (who : List ℕ) (id : AssetId) where
     taken_held : (fun : Fun) → slice_get listed n ≡ Some (listed_of (id, instance_in fun)) → amount_in fun ≤ amount (held_in listed amounts owners) (who, (id, instance_in fun))
-        → ((q : AmountKey) → amount_in_row more_amounts q ≡ (if eq_by_cmp amount_key_cmp (n, who) q then amount_in_row amounts (n, who) - amount_in fun else amount_in_row amounts q))
+        → ((q : AmountKey) → amount_in_row more_amounts q ≡ (if eq_by_cmp amount_key_cmp (who, n) q then amount_in_row amounts (who, n) - amount_in fun else amount_in_row amounts q))
         → OwnerIs (instance_in fun) n None owners more_owners
         → held_in listed more_amounts more_owners ≡ minus (held_in listed amounts owners) (who, (id, instance_in fun)) (amount_in fun)
     unfolding minus
     taken_held (Fun.Fungible a) at enough wrote owner =
-        held-with_amount listed sound.once amounts more_amounts owners more_owners sound.sorted sorted n who id (amount_in_row amounts (n, who) - a) at wrote owner
+        held-with_amount listed sound.once amounts more_amounts owners more_owners sound.sorted sorted n who id (amount_in_row amounts (who, n) - a) at wrote owner
         ∙ ap (λ v. with_amount (held_in listed amounts owners) (who, (id, None)) (v - a)) (sym (held-fungible listed sound.once amounts owners n who id at))
     taken_held (Fun.NonFungible i) at enough wrote owner =
         held-with_owner listed sound.once amounts more_amounts owners more_owners sound.sorted sorted n who id i (amount (held_in listed amounts owners) (who, (id, Some i)) - 1) None at
-        (λ m w other. wrote (m, w) ∙ elsewhere m w other) owner (means (owner_at owners (n, i)) (held-instance listed sound.once amounts owners sound.sorted n who id i at))
+        (λ m w other. wrote (w, m) ∙ elsewhere m w other) owner (means (owner_at owners (n, i)) (held-instance listed sound.once amounts owners sound.sorted n who id i at))
       where
-        elsewhere : (m : ℕ) (w : List ℕ) → (n ≡ m → ⊥) → (if eq_by_cmp amount_key_cmp (n, who) (m, w) then amount_in_row amounts (n, who) - 1 else amount_in_row amounts (m, w)) ≡ amount_in_row amounts (m, w)
-        elsewhere m w other = ap (λ b. if b then amount_in_row amounts (n, who) - 1 else amount_in_row amounts (m, w)) (apart amount_keys (n, who) (m, w) (λ e. other (ap (λ (k : AmountKey). k.0) e)))
+        elsewhere : (m : ℕ) (w : List ℕ) → (n ≡ m → ⊥) → (if eq_by_cmp amount_key_cmp (who, n) (w, m) then amount_in_row amounts (who, n) - 1 else amount_in_row amounts (w, m)) ≡ amount_in_row amounts (w, m)
+        elsewhere m w other = ap (λ b. if b then amount_in_row amounts (who, n) - 1 else amount_in_row amounts (w, m)) (apart amount_keys (who, n) (w, m) (λ e. other (ap (λ (k : AmountKey). k.1) e)))
 
         left : (h : ℕ) (b : Bool) → h ≡ (if b then 1 else 0) → h - 1 ≡ 0
         left h true e = omega (arith, e)
@@ -115,9 +114,9 @@ module _ (listed : List Listed) (amounts : List (AmountKey × ℕ)) (owners : Li
     taken_row next had row a e le most = omega (arith, e, le, most)
 
     pub taken : (fun : Fun) → number_in listed (listed_of (id, instance_in fun)) ≡ Some n → amount_in fun ≤ amount (held_in listed amounts owners) (who, (id, instance_in fun))
-        → ((q : AmountKey) → amount_in_row more_amounts q ≡ (if eq_by_cmp amount_key_cmp (n, who) q then amount_in_row amounts (n, who) - amount_in fun else amount_in_row amounts q))
+        → ((q : AmountKey) → amount_in_row more_amounts q ≡ (if eq_by_cmp amount_key_cmp (who, n) q then amount_in_row amounts (who, n) - amount_in fun else amount_in_row amounts q))
         → OwnerIs (instance_in fun) n None owners more_owners → AreSmall more_amounts
-        → (more_sums : List Sum) → (s : Sum) × (t : Sum) × IsSumWritten n sums more_sums s t × (sum_value t ≡ sum_value s - amount_in fun)
+        → (more_sums : List WideSum) → (s : WideSum) × (t : WideSum) × IsSumWritten n sums more_sums s t × (wide_value t ≡ wide_value s - amount_in fun)
         → (held_in listed more_amounts more_owners ≡ minus (held_in listed amounts owners) (who, (id, instance_in fun)) (amount_in fun)) × IsSound listed more_amounts more_owners more_sums
     unfolding minus
     taken fun is enough wrote owner small more_sums (s, t, sum, lowered) =
@@ -125,7 +124,7 @@ module _ (listed : List Listed) (amounts : List (AmountKey × ℕ)) (owners : Li
         let held = taken_held fun at enough wrote owner in
         let row = row_at_least n who id (instance_in fun) at in
         let most = sum_at_least n who (id, instance_in fun) s at sum.was in
-        let write : IsWrite listed amounts more_amounts owners more_owners sums n who (id, instance_in fun) (amount (held_in listed amounts owners) (who, (id, instance_in fun)) - amount_in fun) (amount_in_row amounts (n, who) - amount_in fun) s t =
+        let write : IsWrite listed amounts more_amounts owners more_owners sums n who (id, instance_in fun) (amount (held_in listed amounts owners) (who, (id, instance_in fun)) - amount_in fun) (amount_in_row amounts (who, n) - amount_in fun) s t =
         record {
           at = at;
           held = held;
@@ -151,19 +150,19 @@ module _ (listed : List Listed) (amounts : List (AmountKey × ℕ)) (owners : Li
             absurd (omega (arith, has, nobody))
 
     given_held : (fun : Fun) → slice_get listed n ≡ Some (listed_of (id, instance_in fun)) → may_take fun who (id, instance_in fun) (held_in listed amounts owners)
-        → ((q : AmountKey) → amount_in_row more_amounts q ≡ (if eq_by_cmp amount_key_cmp (n, who) q then amount_in_row amounts (n, who) + amount_in fun else amount_in_row amounts q))
+        → ((q : AmountKey) → amount_in_row more_amounts q ≡ (if eq_by_cmp amount_key_cmp (who, n) q then amount_in_row amounts (who, n) + amount_in fun else amount_in_row amounts q))
         → OwnerIs (instance_in fun) n (Some who) owners more_owners
         → held_in listed more_amounts more_owners ≡ plus (held_in listed amounts owners) (who, (id, instance_in fun)) (amount_in fun)
     unfolding plus
     given_held (Fun.Fungible a) at may wrote owner =
-        held-with_amount listed sound.once amounts more_amounts owners more_owners sound.sorted sorted n who id (amount_in_row amounts (n, who) + a) at wrote owner
+        held-with_amount listed sound.once amounts more_amounts owners more_owners sound.sorted sorted n who id (amount_in_row amounts (who, n) + a) at wrote owner
         ∙ ap (λ v. with_amount (held_in listed amounts owners) (who, (id, None)) (v + a)) (sym (held-fungible listed sound.once amounts owners n who id at))
     given_held (Fun.NonFungible i) at may wrote owner =
         held-with_owner listed sound.once amounts more_amounts owners more_owners sound.sorted sorted n who id i (amount (held_in listed amounts owners) (who, (id, Some i)) + 1) (Some who) at
-        (λ m w other. wrote (m, w) ∙ elsewhere m w other) owner means
+        (λ m w other. wrote (w, m) ∙ elsewhere m w other) owner means
       where
-        elsewhere : (m : ℕ) (w : List ℕ) → (n ≡ m → ⊥) → (if eq_by_cmp amount_key_cmp (n, who) (m, w) then amount_in_row amounts (n, who) + 1 else amount_in_row amounts (m, w)) ≡ amount_in_row amounts (m, w)
-        elsewhere m w other = ap (λ b. if b then amount_in_row amounts (n, who) + 1 else amount_in_row amounts (m, w)) (apart amount_keys (n, who) (m, w) (λ e. other (ap (λ (k : AmountKey). k.0) e)))
+        elsewhere : (m : ℕ) (w : List ℕ) → (n ≡ m → ⊥) → (if eq_by_cmp amount_key_cmp (who, n) (w, m) then amount_in_row amounts (who, n) + 1 else amount_in_row amounts (w, m)) ≡ amount_in_row amounts (w, m)
+        elsewhere m w other = ap (λ b. if b then amount_in_row amounts (who, n) + 1 else amount_in_row amounts (w, m)) (apart amount_keys (who, n) (w, m) (λ e. other (ap (λ (k : AmountKey). k.1) e)))
 
         one : (h : ℕ) → h ≡ 0 → h + 1 ≡ 1
         one h e = omega (arith, e)
@@ -173,7 +172,7 @@ module _ (listed : List Listed) (amounts : List (AmountKey × ℕ)) (owners : Li
 
     -- the row of the account and the running sum have room for it
     pub row_room : (fun : Fun) → number_in listed (listed_of (id, instance_in fun)) ≡ Some n → may_take fun who (id, instance_in fun) (held_in listed amounts owners) → length owners < 2 ^ 63
-        → amount_in_row amounts (n, who) + amount_in fun < 2 ^ 128
+        → amount_in_row amounts (who, n) + amount_in fun < 2 ^ 128
     row_room (Fun.Fungible a) is may few =
         let same = held-fungible listed sound.once amounts owners n who id (number_at listed (id, Kind.Fungible) n is) in
         omega (arith, same, may)
@@ -182,7 +181,7 @@ module _ (listed : List Listed) (amounts : List (AmountKey × ℕ)) (owners : Li
         let most = count_bound listed amounts owners who id few in
         omega (arith, count, most)
 
-    pub sum_room : (unit : Unit) (a : ℕ) → a < 2 ^ 128 → number_in listed (listed_of unit) ≡ Some n → length amounts < 2 ^ 63 → length owners < 2 ^ 63 → (s : Sum) → slice_get sums n ≡ Some s → sum_value s + a < 2 ^ 192
+    pub sum_room : (unit : Unit) (a : ℕ) → a < 2 ^ 128 → number_in listed (listed_of unit) ≡ Some n → length amounts < 2 ^ 63 → length owners < 2 ^ 63 → (s : WideSum) → slice_get sums n ≡ Some s → wide_value s + a < 2 ^ 192
     sum_room unit a fits is few few_owners s was =
         let sum = sound.summed n (listed_of unit) s (number_at listed (listed_of unit) n is) was in
         let most = sum_bound listed amounts owners (is_holding_of (listed_of unit)) sound.small few few_owners in
@@ -192,15 +191,15 @@ module _ (listed : List Listed) (amounts : List (AmountKey × ℕ)) (owners : Li
     given_row next had row a e = omega (arith, e)
 
     pub given : (fun : Fun) → number_in listed (listed_of (id, instance_in fun)) ≡ Some n → may_take fun who (id, instance_in fun) (held_in listed amounts owners)
-        → ((q : AmountKey) → amount_in_row more_amounts q ≡ (if eq_by_cmp amount_key_cmp (n, who) q then amount_in_row amounts (n, who) + amount_in fun else amount_in_row amounts q))
+        → ((q : AmountKey) → amount_in_row more_amounts q ≡ (if eq_by_cmp amount_key_cmp (who, n) q then amount_in_row amounts (who, n) + amount_in fun else amount_in_row amounts q))
         → OwnerIs (instance_in fun) n (Some who) owners more_owners → AreSmall more_amounts
-        → (more_sums : List Sum) → (s : Sum) × (t : Sum) × IsSumWritten n sums more_sums s t × (sum_value t ≡ sum_value s + amount_in fun)
+        → (more_sums : List WideSum) → (s : WideSum) × (t : WideSum) × IsSumWritten n sums more_sums s t × (wide_value t ≡ wide_value s + amount_in fun)
         → (held_in listed more_amounts more_owners ≡ plus (held_in listed amounts owners) (who, (id, instance_in fun)) (amount_in fun)) × IsSound listed more_amounts more_owners more_sums
     unfolding plus
     given fun is may wrote owner small more_sums (s, t, sum, raised) =
         let at = number_at listed (listed_of (id, instance_in fun)) n is in
         let held = given_held fun at may wrote owner in
-        let write : IsWrite listed amounts more_amounts owners more_owners sums n who (id, instance_in fun) (amount (held_in listed amounts owners) (who, (id, instance_in fun)) + amount_in fun) (amount_in_row amounts (n, who) + amount_in fun) s t =
+        let write : IsWrite listed amounts more_amounts owners more_owners sums n who (id, instance_in fun) (amount (held_in listed amounts owners) (who, (id, instance_in fun)) + amount_in fun) (amount_in_row amounts (who, n) + amount_in fun) s t =
         record {
           at = at;
           held = held;
@@ -214,11 +213,11 @@ module _ (listed : List Listed) (amounts : List (AmountKey × ℕ)) (owners : Li
         (held, subst (IsSound listed more_amounts more_owners) (sym sum.written) (still_sound listed amounts more_amounts owners more_owners sums n who (id, instance_in fun) _ _ s t sound write))
 
 -- ---- in the words of the code
-module _ (listed : List Listed) (amounts : List (AmountKey × ℕ)) (owners : List (OwnerKey × Option (List ℕ))) (sums : List Sum) (sound : IsSound listed amounts owners sums) (n : ℕ) (who : List ℕ) (id : AssetId) (fun : Fun) where
-  pub held_of_amount : (a : ℕ) → Some n ≡ number_in listed (listed_of (id, instance_in fun)) → fun ≡ Fun.Fungible a → amount_in_row amounts (n, who) ≡ amount (held_in listed amounts owners) (who, (id, instance_in fun))
+module _ (listed : List Listed) (amounts : List (AmountKey × ℕ)) (owners : List (OwnerKey × Option (List ℕ))) (sums : List WideSum) (sound : IsSound listed amounts owners sums) (n : ℕ) (who : List ℕ) (id : AssetId) (fun : Fun) where
+  pub held_of_amount : (a : ℕ) → Some n ≡ number_in listed (listed_of (id, instance_in fun)) → fun ≡ Fun.Fungible a → amount_in_row amounts (who, n) ≡ amount (held_in listed amounts owners) (who, (id, instance_in fun))
   held_of_amount a is e =
-      let at : (f : Fun) → f ≡ Fun.Fungible a → Some n ≡ number_in listed (listed_of (id, instance_in f)) → amount_in_row amounts (n, who) ≡ amount (held_in listed amounts owners) (who, (id, instance_in f)) =
-      λ f h. subst (λ g. Some n ≡ number_in listed (listed_of (id, instance_in g)) → amount_in_row amounts (n, who) ≡ amount (held_in listed amounts owners) (who, (id, instance_in g))) (sym h)
+      let at : (f : Fun) → f ≡ Fun.Fungible a → Some n ≡ number_in listed (listed_of (id, instance_in f)) → amount_in_row amounts (who, n) ≡ amount (held_in listed amounts owners) (who, (id, instance_in f)) =
+      λ f h. subst (λ g. Some n ≡ number_in listed (listed_of (id, instance_in g)) → amount_in_row amounts (who, n) ≡ amount (held_in listed amounts owners) (who, (id, instance_in g))) (sym h)
       (λ num. held_fungible listed amounts owners sums sound n who id (sym num)) in
       at fun e is
 
@@ -249,7 +248,7 @@ owner_row_there rows k who h = there (lookup (eq_by_cmp owner_key_cmp k) rows) h
     there None h = absurd (omega (arith, h))
     there (Some v) h = refl
 
-pub instance_row_there : (listed : List Listed) (amounts : List (AmountKey × ℕ)) (owners : List (OwnerKey × Option (List ℕ))) (sums : List Sum) → IsSound listed amounts owners sums → (n : ℕ) (who : List ℕ) (id : AssetId) (x : Option Instance)
+pub instance_row_there : (listed : List Listed) (amounts : List (AmountKey × ℕ)) (owners : List (OwnerKey × Option (List ℕ))) (sums : List WideSum) → IsSound listed amounts owners sums → (n : ℕ) (who : List ℕ) (id : AssetId) (x : Option Instance)
     → number_in listed (listed_of (id, x)) ≡ Some n → 0 < amount (held_in listed amounts owners) (who, (id, x)) → HasInstanceRow owners n x
 instance_row_there listed amounts owners sums sound n who id None is some = tt
 instance_row_there listed amounts owners sums sound n who id (Some i) is some =

@@ -25,7 +25,7 @@ use Rattle.ledgers.specs.LedgerRows.{IsOnce, owned, AmountKey, amount_key_cmp, O
 use Rattle.plain_lists.proofs.Lemmas.Facts.{false_where_not_true as not_true, same_bools as both_ways}
 
 pub amount_keys : IsKeyOrder amount_key_cmp
-amount_keys = pair_keys number_keys account_keys
+amount_keys = pair_keys account_keys number_keys
 
 instances_in_order : IsKeyOrder instance_cmp
 instances_in_order = record { total = instance_total; exact = instance_exact }
@@ -46,6 +46,14 @@ same_as {R = R} o j k e = subst (λ x. eq_by_cmp R j x ≡ true) e (same_key o j
 passed : {X : Type 0} (b : Bool) (x y : Option X) → b ≡ false → (if b then x else y) ≡ y
 passed true x y h = absurd (true≢false h)
 passed false x y h = refl
+
+-- rows after the one that is found have other keys
+pub none_behind : {K X : Type 0} {R : K → K → Ordering} (o : IsKeyOrder R) (j k : K) (rows : List (K × X)) → AllByRecursion (λ q. R k q ≡ Less) (keys_of rows) → eq_by_cmp R j k ≡ true → lookup (eq_by_cmp R j) rows ≡ None
+none_behind o j k [] later here = refl
+none_behind {R = R} o j k (row ∷ rows) later here =
+    let keys = key_same o j k here in
+    let less : R j row.0 ≡ Less = ap (λ q. R q row.0) keys ∙ later.0 in
+    passed _ (Some row.1) _ (ap is_eq less) ∙ none_behind o j k rows later.1 here
 
 -- the id and the kind in what the list has at a place
 id_in : Option Listed → AssetId → AssetId
@@ -68,38 +76,38 @@ same_kinds x y e = ap (λ o. kind_in o x.1) e
 module _ (listed : List Listed) (once : IsOnce listed) (who : List ℕ) (id : AssetId) (n : ℕ) (at : slice_get listed n ≡ Some (id, Kind.Fungible)) where
   -- where the asset has a number, its rows are those under this number
   same_row : (m : ℕ) (w : List ℕ) (other : AssetId) → slice_get listed m ≡ Some (other, Kind.Fungible)
-      → eq_by_cmp holder_cmp (who, (id, None)) (w, (other, None)) ≡ eq_by_cmp amount_key_cmp (n, who) (m, w)
+      → eq_by_cmp holder_cmp (who, (id, None)) (w, (other, None)) ≡ eq_by_cmp amount_key_cmp (who, n) (w, m)
   same_row m w other there = both_ways _ _
       (λ t.
       let holders = key_same holder_keys (who, (id, None)) (w, (other, None)) t in
       let ids : id ≡ other = ap (λ (h : Holder). h.1.0) holders in
       let places : n ≡ m = once.place n m (id, Kind.Fungible) at (there ∙ ap (λ x. Some (x, Kind.Fungible)) (sym ids)) in
-      same_as amount_keys (n, who) (m, w) (λ i. (places i, ap (λ (h : Holder). h.0) holders i)))
+      same_as amount_keys (who, n) (w, m) (λ i. (ap (λ (h : Holder). h.0) holders i, places i)))
       (λ t.
-      let keys = key_same amount_keys (n, who) (m, w) t in
-      let here : slice_get listed m ≡ Some (id, Kind.Fungible) = subst (λ k. slice_get listed k ≡ Some (id, Kind.Fungible)) (ap (λ (k : AmountKey). k.0) keys) at in
+      let keys = key_same amount_keys (who, n) (w, m) t in
+      let here : slice_get listed m ≡ Some (id, Kind.Fungible) = subst (λ k. slice_get listed k ≡ Some (id, Kind.Fungible)) (ap (λ (k : AmountKey). k.1) keys) at in
       let ids : id ≡ other = same_ids (id, Kind.Fungible) (other, Kind.Fungible) (sym here ∙ there) in
-      same_as holder_keys (who, (id, None)) (w, (other, None)) (λ i. (ap (λ (k : AmountKey). k.1) keys i, (ids i, None))))
+      same_as holder_keys (who, (id, None)) (w, (other, None)) (λ i. (ap (λ (k : AmountKey). k.0) keys i, (ids i, None))))
 
-  other_row : (m : ℕ) (w : List ℕ) → (slice_get listed m ≡ Some (id, Kind.Fungible) → ⊥) → eq_by_cmp amount_key_cmp (n, who) (m, w) ≡ false
-  other_row m w none = apart amount_keys (n, who) (m, w) (λ e. none (subst (λ k. slice_get listed k ≡ Some (id, Kind.Fungible)) (ap (λ (k : AmountKey). k.0) e) at))
+  other_row : (m : ℕ) (w : List ℕ) → (slice_get listed m ≡ Some (id, Kind.Fungible) → ⊥) → eq_by_cmp amount_key_cmp (who, n) (w, m) ≡ false
+  other_row m w none = apart amount_keys (who, n) (w, m) (λ e. none (subst (λ k. slice_get listed k ≡ Some (id, Kind.Fungible)) (ap (λ (k : AmountKey). k.1) e) at))
 
   placed : (m : ℕ) (w : List ℕ) (v : ℕ) (other : AssetId) (kind : Kind) (more : List (Holder × ℕ)) (found : Option ℕ) → slice_get listed m ≡ Some (other, kind)
       → lookup (eq_by_cmp holder_cmp (who, (id, None))) more ≡ found
-      → lookup (eq_by_cmp holder_cmp (who, (id, None))) (fungible_row other kind w v more) ≡ (if eq_by_cmp amount_key_cmp (n, who) (m, w) then Some v else found)
+      → lookup (eq_by_cmp holder_cmp (who, (id, None))) (fungible_row other kind w v more) ≡ (if eq_by_cmp amount_key_cmp (who, n) (w, m) then Some v else found)
   placed m w v other Kind.Fungible more found e further = λ i. if same_row m w other e i then Some v else further i
   placed m w v other Kind.Class more found e further =
       further ∙ sym (passed _ (Some v) found (other_row m w (λ here. (let two = same_kinds (other, Kind.Class) (id, Kind.Fungible) (sym e ∙ here) in absurd (cc)))))
 
   pub lookup-amounts : (rows : List (AmountKey × ℕ)) (rest : List (Holder × ℕ)) → lookup (eq_by_cmp holder_cmp (who, (id, None))) rest ≡ None
-      → lookup (eq_by_cmp holder_cmp (who, (id, None))) (amount_rows listed rows rest) ≡ lookup (eq_by_cmp amount_key_cmp (n, who)) rows
+      → lookup (eq_by_cmp holder_cmp (who, (id, None))) (amount_rows listed rows rest) ≡ lookup (eq_by_cmp amount_key_cmp (who, n)) rows
   lookup-amounts [] rest none = none
   lookup-amounts (row ∷ rows) rest none =
       let further = lookup-amounts rows rest none in
-      elim (slice_get listed row.0.0) as (λ o. slice_get listed row.0.0 ≡ o → lookup (eq_by_cmp holder_cmp (who, (id, None))) (amount_row o row.0.1 row.1 (amount_rows listed rows rest))
-      ≡ (if eq_by_cmp amount_key_cmp (n, who) row.0 then Some row.1 else lookup (eq_by_cmp amount_key_cmp (n, who)) rows)) [
-        | None ↦ λ e. further ∙ sym (passed _ (Some row.1) _ (other_row row.0.0 row.0.1 (λ here. (let two : None ≡ Some (id, Kind.Fungible) = sym e ∙ here in absurd (cc)))))
-        | Some asset ↦ λ e. placed row.0.0 row.0.1 row.1 asset.0 asset.1 (amount_rows listed rows rest) _ e further
+      elim (slice_get listed row.0.1) as (λ o. slice_get listed row.0.1 ≡ o → lookup (eq_by_cmp holder_cmp (who, (id, None))) (amount_row o row.0.0 row.1 (amount_rows listed rows rest))
+      ≡ (if eq_by_cmp amount_key_cmp (who, n) row.0 then Some row.1 else lookup (eq_by_cmp amount_key_cmp (who, n)) rows)) [
+        | None ↦ λ e. further ∙ sym (passed _ (Some row.1) _ (other_row row.0.1 row.0.0 (λ here. (let two : None ≡ Some (id, Kind.Fungible) = sym e ∙ here in absurd (cc)))))
+        | Some asset ↦ λ e. placed row.0.1 row.0.0 row.1 asset.0 asset.1 (amount_rows listed rows rest) _ e further
       ] refl
 
 -- ---- keys that no row has
@@ -116,9 +124,9 @@ module _ (listed : List Listed) (h : Holder) where
     lookup-past_amounts [] = refl
     lookup-past_amounts (row ∷ rows) =
         let further = lookup-past_amounts rows in
-        elim (slice_get listed row.0.0) as (λ o. slice_get listed row.0.0 ≡ o → lookup (eq_by_cmp holder_cmp h) (amount_row o row.0.1 row.1 (amount_rows listed rows rest)) ≡ lookup (eq_by_cmp holder_cmp h) rest) [
+        elim (slice_get listed row.0.1) as (λ o. slice_get listed row.0.1 ≡ o → lookup (eq_by_cmp holder_cmp h) (amount_row o row.0.0 row.1 (amount_rows listed rows rest)) ≡ lookup (eq_by_cmp holder_cmp h) rest) [
           | None ↦ λ e. further
-          | Some asset ↦ λ e. past_amount row.0.0 row.0.1 row.1 asset.0 asset.1 (amount_rows listed rows rest) e further
+          | Some asset ↦ λ e. past_amount row.0.1 row.0.0 row.1 asset.0 asset.1 (amount_rows listed rows rest) e further
         ] refl
 
   -- instances of classes only
@@ -155,20 +163,11 @@ module _ (listed : List Listed) (once : IsOnce listed) (who : List ℕ) (id : As
   here_listed : (m : ℕ) (i : Instance) → eq_by_cmp owner_key_cmp (n, instance) (m, i) ≡ true → slice_get listed m ≡ Some (id, Kind.Class)
   here_listed m i t = subst (λ k. slice_get listed k ≡ Some (id, Kind.Class)) (ap (λ (k : OwnerKey). k.0) (key_same owner_keys (n, instance) (m, i) t)) at
 
-  -- rows behind the one that is found have other keys
-  pub none_behind : (k : OwnerKey) (rows : List (OwnerKey × Option (List ℕ))) → AllByRecursion (λ q. owner_key_cmp k q ≡ Less) (keys_of rows) → eq_by_cmp owner_key_cmp (n, instance) k ≡ true
-      → lookup (eq_by_cmp owner_key_cmp (n, instance)) rows ≡ None
-  none_behind k [] later here = refl
-  none_behind k (row ∷ rows) later here =
-      let keys = key_same owner_keys (n, instance) k here in
-      let less : owner_key_cmp (n, instance) row.0 ≡ Less = ap (λ q. owner_key_cmp q row.0) keys ∙ later.0 in
-      passed _ (Some row.1) _ (ap is_eq less) ∙ none_behind k rows later.1 here
-
   -- the amount that the rows show at the account and the instance
   unfoldable pub shown : List (Holder × ℕ) → ℕ
   shown rows = unwrap_or (lookup (eq_by_cmp holder_cmp (who, (id, Some instance))) rows) 0
 
-  -- the row of the instance itself: what is behind it shows nothing
+  -- the row of the instance itself: what follows it shows nothing
   shown_here : (w : List ℕ) (i : Instance) (other : AssetId) (more : List (Holder × ℕ)) → id ≡ other → instance ≡ i → shown more ≡ 0
       → shown (((w, (other, Some i)), 1) ∷ more) ≡ owned who (Some w)
   unfolding shown
@@ -194,7 +193,7 @@ module _ (listed : List Listed) (once : IsOnce listed) (who : List ℕ) (id : As
       none (ap (λ (h : Holder). h.1.0) holders) (same_instances instance i (ap (λ (h : Holder). h.1.1) holders))) in
       ap (λ o. unwrap_or o 0) (passed _ (Some 1) _ test)
 
-  -- the row of a class, in front of what is behind it
+  -- the row of a class, before what follows it
   shown_class : (m : ℕ) (i : Instance) (owner : Option (List ℕ)) (other : AssetId) (rows : List (OwnerKey × Option (List ℕ))) → slice_get listed m ≡ Some (other, Kind.Class)
       → AllByRecursion (λ q. owner_key_cmp (m, i) q ≡ Less) (keys_of rows)
       → shown (owner_rows listed rows) ≡ owned who (unwrap_or (lookup (eq_by_cmp owner_key_cmp (n, instance)) rows) None)
@@ -203,7 +202,7 @@ module _ (listed : List Listed) (once : IsOnce listed) (who : List ℕ) (id : As
   shown_class m i owner other rows e later further =
       elim (eq_by_cmp owner_key_cmp (n, instance) (m, i)) as (λ b. eq_by_cmp owner_key_cmp (n, instance) (m, i) ≡ b → shown (instance_row other Kind.Class i owner (owner_rows listed rows))
       ≡ owned who (unwrap_or (if b then Some owner else lookup (eq_by_cmp owner_key_cmp (n, instance)) rows) None)) [
-        | true ↦ λ t. here owner (key_same owner_keys (n, instance) (m, i) t) (further ∙ ap (λ o. owned who (unwrap_or o None)) (none_behind (m, i) rows later t))
+        | true ↦ λ t. here owner (key_same owner_keys (n, instance) (m, i) t) (further ∙ ap (λ o. owned who (unwrap_or o None)) (none_behind owner_keys (n, instance) (m, i) rows later t))
         | false ↦ λ t. past owner t
       ] refl
     where

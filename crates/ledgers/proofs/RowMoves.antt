@@ -27,7 +27,7 @@ module _ (listed : List Listed) (once : IsOnce listed)
     (amounts more_amounts : List (AmountKey × ℕ)) (owners more_owners : List (OwnerKey × Option (List ℕ)))
     (sorted : IsStrictlySortedBy owner_key_cmp (keys_of owners)) (more_sorted : IsStrictlySortedBy owner_key_cmp (keys_of more_owners)) where
   -- what stays at a unit whose rows stay
-  pub same_fungible : (w : List ℕ) (id : AssetId) → ((m : ℕ) → slice_get listed m ≡ Some (id, Kind.Fungible) → amount_in_row more_amounts (m, w) ≡ amount_in_row amounts (m, w))
+  pub same_fungible : (w : List ℕ) (id : AssetId) → ((m : ℕ) → slice_get listed m ≡ Some (id, Kind.Fungible) → amount_in_row more_amounts (w, m) ≡ amount_in_row amounts (w, m))
       → amount (held_in listed more_amounts more_owners) (w, (id, None)) ≡ amount (held_in listed amounts owners) (w, (id, None))
   same_fungible w id same =
       elim (number_in listed (id, Kind.Fungible)) as (λ o. number_in listed (id, Kind.Fungible) ≡ o → amount (held_in listed more_amounts more_owners) (w, (id, None)) ≡ amount (held_in listed amounts owners) (w, (id, None))) [
@@ -58,27 +58,27 @@ module _ (listed : List Listed) (once : IsOnce listed)
   same_rows same_amount same_owner = same_amounts holder_keys _ _ (λ h. by h.0 h.1.0 h.1.1)
     where
       by : (w : List ℕ) (id : AssetId) (x : Option Instance) → amount (held_in listed more_amounts more_owners) (w, (id, x)) ≡ amount (held_in listed amounts owners) (w, (id, x))
-      by w id None = same_fungible w id (λ m at. same_amount (m, w))
+      by w id None = same_fungible w id (λ m at. same_amount (w, m))
       by w id (Some i) = same_instance w id i (λ m at. same_owner (m, i))
 
   -- ---- the amount of a fungible asset
   module _ (n : ℕ) (who : List ℕ) (id : AssetId) (v : ℕ) (at : slice_get listed n ≡ Some (id, Kind.Fungible))
-      (wrote : (q : AmountKey) → amount_in_row more_amounts q ≡ (if eq_by_cmp amount_key_cmp (n, who) q then v else amount_in_row amounts q))
+      (wrote : (q : AmountKey) → amount_in_row more_amounts q ≡ (if eq_by_cmp amount_key_cmp (who, n) q then v else amount_in_row amounts q))
       (kept : (q : OwnerKey) → owner_at more_owners q ≡ owner_at owners q) where
     fungible_here : (w : List ℕ) (other : AssetId) (m : ℕ) → slice_get listed m ≡ Some (other, Kind.Fungible)
         → amount (held_in listed more_amounts more_owners) (w, (other, None)) ≡ (if eq_by_cmp holder_cmp (w, (other, None)) (who, (id, None)) then v else amount (held_in listed amounts owners) (w, (other, None)))
     fungible_here w other m there =
-        let tests : eq_by_cmp amount_key_cmp (n, who) (m, w) ≡ eq_by_cmp holder_cmp (w, (other, None)) (who, (id, None)) = both_ways _ _
+        let tests : eq_by_cmp amount_key_cmp (who, n) (w, m) ≡ eq_by_cmp holder_cmp (w, (other, None)) (who, (id, None)) = both_ways _ _
         (λ t.
-        let keys = key_same amount_keys (n, who) (m, w) t in
-        let here : slice_get listed m ≡ Some (id, Kind.Fungible) = subst (λ k. slice_get listed k ≡ Some (id, Kind.Fungible)) (ap (λ (k : AmountKey). k.0) keys) at in
+        let keys = key_same amount_keys (who, n) (w, m) t in
+        let here : slice_get listed m ≡ Some (id, Kind.Fungible) = subst (λ k. slice_get listed k ≡ Some (id, Kind.Fungible)) (ap (λ (k : AmountKey). k.1) keys) at in
         let ids : other ≡ id = same_ids (other, Kind.Fungible) (id, Kind.Fungible) (sym there ∙ here) in
-        same_as holder_keys (w, (other, None)) (who, (id, None)) (λ i. (sym (ap (λ (k : AmountKey). k.1) keys) i, (ids i, None))))
+        same_as holder_keys (w, (other, None)) (who, (id, None)) (λ i. (sym (ap (λ (k : AmountKey). k.0) keys) i, (ids i, None))))
         (λ t.
         let holders = key_same holder_keys (w, (other, None)) (who, (id, None)) t in
         let places : n ≡ m = once.place n m (id, Kind.Fungible) at (there ∙ ap (λ x. Some (x, Kind.Fungible)) (ap (λ (h : Holder). h.1.0) holders)) in
-        same_as amount_keys (n, who) (m, w) (λ i. (places i, sym (ap (λ (h : Holder). h.0) holders) i))) in
-        held-fungible listed once more_amounts more_owners m w other there ∙ wrote (m, w)
+        same_as amount_keys (who, n) (w, m) (λ i. (sym (ap (λ (h : Holder). h.0) holders) i, places i))) in
+        held-fungible listed once more_amounts more_owners m w other there ∙ wrote (w, m)
         ∙ (λ i. if tests i then v else sym (held-fungible listed once amounts owners m w other there) i)
 
     fungible_nowhere : (w : List ℕ) (other : AssetId) → ((m : ℕ) → slice_get listed m ≡ Some (other, Kind.Fungible) → ⊥)
@@ -104,7 +104,7 @@ module _ (listed : List Listed) (once : IsOnce listed)
 
   -- ---- the owner of an instance
   module _ (n : ℕ) (who : List ℕ) (id : AssetId) (i : Instance) (v : ℕ) (owner : Option (List ℕ)) (at : slice_get listed n ≡ Some (id, Kind.Class))
-      (kept : (m : ℕ) (w : List ℕ) → (n ≡ m → ⊥) → amount_in_row more_amounts (m, w) ≡ amount_in_row amounts (m, w))
+      (kept : (m : ℕ) (w : List ℕ) → (n ≡ m → ⊥) → amount_in_row more_amounts (w, m) ≡ amount_in_row amounts (w, m))
       (wrote : (q : OwnerKey) → owner_at more_owners q ≡ (if eq_by_cmp owner_key_cmp (n, i) q then owner else owner_at owners q))
       (means : (w : List ℕ) → owned w owner ≡ (if eq_by_cmp account_cmp w who then v else owned w (owner_at owners (n, i)))) where
     instance_here : (w : List ℕ) (other : AssetId) (j : Instance) (m : ℕ) → slice_get listed m ≡ Some (other, Kind.Class)

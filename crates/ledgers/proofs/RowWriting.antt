@@ -1,6 +1,6 @@
--- What stands in rows after one is written.
-use Rattle.std.proofs.Common.{◌≡◌, ℕ, ◌-◌, ◌^◌, ◌<◌, ◌≤◌, Bool, true, false, List, [], ◌∷◌, refl, sym, ap, ◌∙◌, subst, arith, true≢false}
-use Rattle.std.specs.Prelude.{Option, None, Some, unwrap_or, IsSome, is_some, if◌then◌else◌}
+-- What rows say after one is written.
+use Rattle.std.proofs.Common.{◌≡◌, ℕ, ◌-◌, ◌^◌, ◌<◌, ◌≤◌, Bool, true, false, List, [], ◌∷◌, BTreeMap, refl, sym, ap, ◌∙◌, subst, arith, true≢false}
+use Rattle.std.specs.Prelude.{Option, None, Some, unwrap_or, IsSome, is_some, if◌then◌else◌, Result, Ok, Err, OnErr}
 use Rattle.std.specs.Ordering.{eq_by_cmp, match_ordering}
 use Rattle.std.specs.declared.cmp.Ordering.{Ordering}
 use Rattle.std.specs.declared.cmp.Ordering.TheVariants.{Less, Equal, Greater}
@@ -46,19 +46,19 @@ small_set test v [] h small = small
 small_set test v (e ∷ es) h small =
     elim (test e.0) as (λ b. AreSmall (if b then (e.0, v) ∷ es else e ∷ set_value test es v)) [ true ↦ (h, small.1) | false ↦ (small.0, small_set test v es h small.1) ]
 
--- a row that is found says what stands at its key
-pub found_says : (rows : List (AmountKey × ℕ)) (number have : ℕ) (who key : List ℕ) → Some have ≡ lookup (eq_by_cmp amount_key_cmp (number, key)) rows → key ≡ who → have ≡ amount_in_row rows (number, who)
-found_says rows number have who key found same = ap (λ o. unwrap_or o 0) found ∙ ap (λ w. amount_in_row rows (number, w)) same
+-- a row that is found says what is kept under its key
+pub found_says : (rows : List (AmountKey × ℕ)) (number have : ℕ) (who key : List ℕ) → Some have ≡ lookup (eq_by_cmp amount_key_cmp (key, number)) rows → key ≡ who → have ≡ amount_in_row rows (who, number)
+found_says rows number have who key found same = ap (λ o. unwrap_or o 0) found ∙ ap (λ w. amount_in_row rows (w, number)) same
 
 -- and a row of the account is one at a key of the same number and account
-pub there_too : (rows : List (AmountKey × ℕ)) (number : ℕ) (who key : List ℕ) → key ≡ who → HasAmountRow rows (number, who) → HasAmountRow rows (number, key)
-there_too rows number who key same there = subst (λ w. HasAmountRow rows (number, w)) (sym same) there
+pub there_too : (rows : List (AmountKey × ℕ)) (number : ℕ) (who key : List ℕ) → key ≡ who → HasAmountRow rows (who, number) → HasAmountRow rows (key, number)
+there_too rows number who key same there = subst (λ w. HasAmountRow rows (w, number)) (sym same) there
 
 -- small amounts stay small where one of them is written anew
 pub small_written : (old new : List (AmountKey × ℕ)) (test : AmountKey → Bool) (v : ℕ) → new ≡ set_value test old v → v ≤ 2 ^ 128 - 1 → AreSmall old → AreSmall new
 small_written old new test v set most small = subst AreSmall (sym set) (small_set test v old most small)
 
--- what stands in a row of small ones is small
+-- what a row of small ones says is small
 pub small_at : (rows : List (AmountKey × ℕ)) (k : AmountKey) → AreSmall rows → amount_in_row rows k ≤ 2 ^ 128 - 1
 small_at [] k small = omega arith
 small_at (row ∷ rows) k small =
@@ -87,3 +87,20 @@ nothing_lost R o k v es fs removed says q =
 
 pub no_amount : (n : ℕ) → n ≤ 0 → n ≡ 0
 no_amount n h = omega (arith, h)
+
+-- a row that is made or written, by the names of the code
+pub written_at : (old new with : BTreeMap AmountKey ℕ) → new ≡ with → (number v w : ℕ) (who key : List ℕ) → key ≡ who → v ≡ w
+    → ((q : AmountKey) → lookup (eq_by_cmp amount_key_cmp q) with.entries ≡ (if eq_by_cmp amount_key_cmp (key, number) q then Some v else lookup (eq_by_cmp amount_key_cmp q) old.entries))
+    → (q : AmountKey) → amount_in_row new.entries q ≡ (if eq_by_cmp amount_key_cmp (who, number) q then w else amount_in_row old.entries q)
+written_at old new with is number v w who key same says wrote q =
+    ap (λ (m : BTreeMap AmountKey ℕ). amount_in_row m.entries q) is ∙ ap (λ o. unwrap_or o 0) (wrote q) ∙ parted (eq_by_cmp amount_key_cmp (key, number) q)
+    ∙ (λ i. if eq_by_cmp amount_key_cmp (same i, number) q then says i else amount_in_row old.entries q)
+  where
+    parted : (b : Bool) → unwrap_or (if b then Some v else lookup (eq_by_cmp amount_key_cmp q) old.entries) 0 ≡ (if b then v else amount_in_row old.entries q)
+    parted true = refl
+    parted false = refl
+
+-- what holds in any case holds where an error comes
+pub on_err : {A B : Type 0} (r : Result A B) (P : Type 0) → P → OnErr r P
+on_err (Ok x) P holds = tt
+on_err (Err e) P holds = holds

@@ -20,8 +20,8 @@ use Rattle.asset_lists.specs.UnitLaws.{asset_id_total}
 use Rattle.asset_lists.proofs.Lemmas.UnitLaws.{asset_id_exact}
 use Rattle.asset_bundles.specs.Bundles.{is_asset, is_kind}
 use Rattle.asset_lists.specs.Listed.{Listed, kind_of, listed_of}
-use Rattle.ledgers.specs.declared.sums.Sum.{Sum}
-use Rattle.ledgers.specs.Sums.{sum_value}
+use Rattle.asset_bundles.specs.declared.wide_sum.WideSum.{WideSum}
+use Rattle.asset_bundles.specs.Totals.{wide_value}
 use Rattle.ledgers.specs.Ledgers.{Holder, account_cmp, is_account, is_holding_of, sum_of, account_sum_of}
 use Rattle.ledgers.specs.LedgerRows.{AmountKey, amount_key_cmp, OwnerKey, owner_key_cmp, amount_in_row, held_in, IsOnce, AreSmall, IsSound}
 use Rattle.ledgers.proofs.Lemmas.{holder_keys, account_keys}
@@ -69,15 +69,15 @@ module _ (listed : List Listed) (once : IsOnce listed) (n : ℕ) (who : List ℕ
       here_is : (k : Listed) → Some k ≡ Some (listed_of unit) → k ≡ listed_of unit
       here_is k e = cc
 
-  same_holding : (m : ℕ) (w : List ℕ) (asset : Listed) → slice_get listed m ≡ Some asset → (is_account w (who, unit) && is_holding_of asset (who, unit)) ≡ eq_by_cmp amount_key_cmp (n, who) (m, w)
+  same_holding : (m : ℕ) (w : List ℕ) (asset : Listed) → slice_get listed m ≡ Some asset → (is_account w (who, unit) && is_holding_of asset (who, unit)) ≡ eq_by_cmp amount_key_cmp (who, n) (w, m)
   same_holding m w asset there = both_ways _ _
       (λ t.
       let parts = and_parts (eq_by_cmp account_cmp w who) (is_asset asset.0 asset.1 unit) t in
       let places : n ≡ m = key_same number_keys n m (sym (same_place m asset there) ∙ parts.1) in
-      same_as amount_keys (n, who) (m, w) (λ i. (places i, sym (key_same account_keys w who parts.0) i)))
+      same_as amount_keys (who, n) (w, m) (λ i. (sym (key_same account_keys w who parts.0) i, places i)))
       (λ t.
-      let keys = key_same amount_keys (n, who) (m, w) t in
-      and_from _ _ (same_as account_keys w who (sym (ap (λ (k : AmountKey). k.1) keys))) (same_place m asset there ∙ same_as number_keys n m (ap (λ (k : AmountKey). k.0) keys)))
+      let keys = key_same amount_keys (who, n) (w, m) t in
+      and_from _ _ (same_as account_keys w who (sym (ap (λ (k : AmountKey). k.0) keys))) (same_place m asset there ∙ same_as number_keys n m (ap (λ (k : AmountKey). k.1) keys)))
 
 if_moved : (b : Bool) (row next part more v had : ℕ) → row ≡ part → next + had ≡ row + v → more + amount_if b had ≡ part + amount_if b v → (if b then next else row) ≡ more
 if_moved true row next part more v had e f g = omega (arith, e, f, g)
@@ -103,17 +103,17 @@ if_raised true total more v had s next e h f g = omega (arith, e, f, g)
 if_raised false total more v had s next e h f g = absurd (true≢false (sym h))
 
 -- what is so of the rows is so after one amount is written: its row changes as it does, and so does the sum of its asset
-pub record IsWrite (listed : List Listed) (amounts more_amounts : List (AmountKey × ℕ)) (owners more_owners : List (OwnerKey × Option (List ℕ))) (sums : List Sum) (n : ℕ) (who : List ℕ) (unit : Unit) (v : ℕ) (next : ℕ) (s t : Sum) : Type 0 where
+pub record IsWrite (listed : List Listed) (amounts more_amounts : List (AmountKey × ℕ)) (owners more_owners : List (OwnerKey × Option (List ℕ))) (sums : List WideSum) (n : ℕ) (who : List ℕ) (unit : Unit) (v : ℕ) (next : ℕ) (s t : WideSum) : Type 0 where
   pub at : slice_get listed n ≡ Some (listed_of unit)
   pub held : held_in listed more_amounts more_owners ≡ with_amount (held_in listed amounts owners) (who, unit) v
-  pub wrote : (q : AmountKey) → amount_in_row more_amounts q ≡ (if eq_by_cmp amount_key_cmp (n, who) q then next else amount_in_row amounts q)
-  pub row : next + amount (held_in listed amounts owners) (who, unit) ≡ amount_in_row amounts (n, who) + v
+  pub wrote : (q : AmountKey) → amount_in_row more_amounts q ≡ (if eq_by_cmp amount_key_cmp (who, n) q then next else amount_in_row amounts q)
+  pub row : next + amount (held_in listed amounts owners) (who, unit) ≡ amount_in_row amounts (who, n) + v
   pub small : AreSmall more_amounts
   pub sorted : IsStrictlySortedBy owner_key_cmp (keys_of more_owners)
   pub sum_was : slice_get sums n ≡ Some s
-  pub sum : sum_value t + amount (held_in listed amounts owners) (who, unit) ≡ sum_value s + v
+  pub sum : wide_value t + amount (held_in listed amounts owners) (who, unit) ≡ wide_value s + v
 
-pub still_sound : (listed : List Listed) (amounts more_amounts : List (AmountKey × ℕ)) (owners more_owners : List (OwnerKey × Option (List ℕ))) (sums : List Sum) (n : ℕ) (who : List ℕ) (unit : Unit) (v next : ℕ) (s t : Sum)
+pub still_sound : (listed : List Listed) (amounts more_amounts : List (AmountKey × ℕ)) (owners more_owners : List (OwnerKey × Option (List ℕ))) (sums : List WideSum) (n : ℕ) (who : List ℕ) (unit : Unit) (v next : ℕ) (s t : WideSum)
     → IsSound listed amounts owners sums → IsWrite listed amounts more_amounts owners more_owners sums n who unit v next s t
     → IsSound listed more_amounts more_owners (set sums n t)
 still_sound listed amounts more_amounts owners more_owners sums n who unit v next s t sound write = record {
@@ -132,36 +132,36 @@ still_sound listed amounts more_amounts owners more_owners sums n who unit v nex
     totals : (p : Holder → Bool) → total p (held_in listed more_amounts more_owners) + amount_if (p (who, unit)) (amount (held_in listed amounts owners) (who, unit)) ≡ total p (held_in listed amounts owners) + amount_if (p (who, unit)) v
     totals p = ap (λ h. total p h + amount_if (p (who, unit)) (amount (held_in listed amounts owners) (who, unit))) write.held ∙ total-with_amount holder_keys p (held_in listed amounts owners) (who, unit) v
 
-    counted : (m : ℕ) (w : List ℕ) (id : AssetId) → slice_get listed m ≡ Some (id, Kind.Class) → amount_in_row more_amounts (m, w) ≡ account_sum_of w (id, Kind.Class) (held_in listed more_amounts more_owners)
+    counted : (m : ℕ) (w : List ℕ) (id : AssetId) → slice_get listed m ≡ Some (id, Kind.Class) → amount_in_row more_amounts (w, m) ≡ account_sum_of w (id, Kind.Class) (held_in listed more_amounts more_owners)
     counted m w id there =
         let same = same_holding listed sound.once n who unit write.at m w (id, Kind.Class) there in
         let whole = totals (λ h. is_account w h && is_holding_of (id, Kind.Class) h) in
-        write.wrote (m, w)
-        ∙ if_here (eq_by_cmp amount_key_cmp (n, who) (m, w)) refl (sym same) (sound.counted m w id there) whole
+        write.wrote (w, m)
+        ∙ if_here (eq_by_cmp amount_key_cmp (who, n) (w, m)) refl (sym same) (sound.counted m w id there) whole
       where
-        if_here : (b : Bool) → eq_by_cmp amount_key_cmp (n, who) (m, w) ≡ b → eq_by_cmp amount_key_cmp (n, who) (m, w) ≡ (is_account w (who, unit) && is_holding_of (id, Kind.Class) (who, unit))
-            → amount_in_row amounts (m, w) ≡ account_sum_of w (id, Kind.Class) (held_in listed amounts owners)
+        if_here : (b : Bool) → eq_by_cmp amount_key_cmp (who, n) (w, m) ≡ b → eq_by_cmp amount_key_cmp (who, n) (w, m) ≡ (is_account w (who, unit) && is_holding_of (id, Kind.Class) (who, unit))
+            → amount_in_row amounts (w, m) ≡ account_sum_of w (id, Kind.Class) (held_in listed amounts owners)
             → account_sum_of w (id, Kind.Class) (held_in listed more_amounts more_owners) + amount_if (is_account w (who, unit) && is_holding_of (id, Kind.Class) (who, unit)) (amount (held_in listed amounts owners) (who, unit))
             ≡ account_sum_of w (id, Kind.Class) (held_in listed amounts owners) + amount_if (is_account w (who, unit) && is_holding_of (id, Kind.Class) (who, unit)) v
-            → (if b then next else amount_in_row amounts (m, w)) ≡ account_sum_of w (id, Kind.Class) (held_in listed more_amounts more_owners)
+            → (if b then next else amount_in_row amounts (w, m)) ≡ account_sum_of w (id, Kind.Class) (held_in listed more_amounts more_owners)
         if_here true e same count whole =
             let passes : (is_account w (who, unit) && is_holding_of (id, Kind.Class) (who, unit)) ≡ true = sym same ∙ e in
-            let keys = key_same amount_keys (n, who) (m, w) e in
+            let keys = key_same amount_keys (who, n) (w, m) e in
             let row : next + amount (held_in listed amounts owners) (who, unit) ≡ account_sum_of w (id, Kind.Class) (held_in listed amounts owners) + v = write.row ∙ ap (λ k. amount_in_row amounts k + v) keys ∙ ap (λ k. k + v) count in
             if_raised _ _ _ v _ _ next whole passes refl row
         if_here false e same count whole = count ∙ sym (if_summed _ _ _ v _ whole (sym same ∙ e))
 
-    numbered : (m : ℕ) (w : List ℕ) → 0 < amount_in_row more_amounts (m, w) → IsSome (slice_get listed m)
-    numbered m w some = by (eq_by_cmp amount_key_cmp (n, who) (m, w)) refl
+    numbered : (m : ℕ) (w : List ℕ) → 0 < amount_in_row more_amounts (w, m) → IsSome (slice_get listed m)
+    numbered m w some = by (eq_by_cmp amount_key_cmp (who, n) (w, m)) refl
       where
-        by : (b : Bool) → eq_by_cmp amount_key_cmp (n, who) (m, w) ≡ b → IsSome (slice_get listed m)
-        by true e = subst (λ k. IsSome (slice_get listed k)) (ap (λ (k : AmountKey). k.0) (key_same amount_keys (n, who) (m, w) e)) (subst IsSome (sym write.at) refl)
-        by false e = sound.numbered m w (subst (λ v. 0 < v) (write.wrote (m, w) ∙ ap (λ b. if b then next else amount_in_row amounts (m, w)) e) some)
+        by : (b : Bool) → eq_by_cmp amount_key_cmp (who, n) (w, m) ≡ b → IsSome (slice_get listed m)
+        by true e = subst (λ k. IsSome (slice_get listed k)) (ap (λ (k : AmountKey). k.1) (key_same amount_keys (who, n) (w, m) e)) (subst IsSome (sym write.at) refl)
+        by false e = sound.numbered m w (subst (λ v. 0 < v) (write.wrote (w, m) ∙ ap (λ b. if b then next else amount_in_row amounts (w, m)) e) some)
 
-    summed : (m : ℕ) (asset : Listed) (x : Sum) → slice_get listed m ≡ Some asset → slice_get (set sums n t) m ≡ Some x → sum_value x ≡ sum_of asset (held_in listed more_amounts more_owners)
+    summed : (m : ℕ) (asset : Listed) (x : WideSum) → slice_get listed m ≡ Some asset → slice_get (set sums n t) m ≡ Some x → wide_value x ≡ sum_of asset (held_in listed more_amounts more_owners)
     summed m asset x there is =
         let same = same_place listed sound.once n who unit write.at m asset there in
         elim (slice_get-set sums n m t x is) [
-          | inl here ↦ ap sum_value (sym here.1) ∙ if_raised _ _ _ v _ (sum_value s) (sum_value t) (totals (is_holding_of asset)) (same ∙ same_as number_keys n m here.0) (sound.summed m asset s there (ap (slice_get sums) (sym here.0) ∙ write.sum_was)) write.sum
+          | inl here ↦ ap wide_value (sym here.1) ∙ if_raised _ _ _ v _ (wide_value s) (wide_value t) (totals (is_holding_of asset)) (same ∙ same_as number_keys n m here.0) (sound.summed m asset s there (ap (slice_get sums) (sym here.0) ∙ write.sum_was)) write.sum
           | inr other ↦ sound.summed m asset x there other.1 ∙ sym (if_summed _ _ _ v _ (totals (is_holding_of asset)) (same ∙ apart number_keys n m other.0))
         ]

@@ -23,7 +23,7 @@ places : (k : Listed) (xs : List ListedAsset) → position_or_len (λ a. eq_by_c
 places k [] = refl
 places k (x ∷ xs) = ap (λ n. cond {A = ℕ} (not (eq_by_cmp listed_cmp k (listed_key_of x))) (1 + n) 0) (places k xs)
 
--- the place of an asset in the table is its number
+-- the index of an asset in the table is its number
 pub table_number : (xs : List ListedAsset) (a : ListedAsset) → position (eq_by_cmp row_cmp a) xs ≡ number_in (table_keys xs) (listed_key_of a)
 table_number xs a = λ i. cond (nat_lt (places (listed_key_of a) xs i) (sym (keys_length xs) i)) (Some (places (listed_key_of a) xs i)) None
 
@@ -39,7 +39,7 @@ not_concrete (x ∷ xs) zero bytes kind at = clash (Concrete x.id) (ap (λ (o : 
     clash a e = absurd (cc)
 not_concrete (x ∷ xs) (suc n) bytes kind at = not_concrete xs n bytes kind at
 
--- what isn't a place isn't listed
+-- what isn't an index isn't listed
 pub no_abstract : (xs : List ListedAsset) (bytes : List ℕ) (kind : Kind) → None ≡ number_in (table_keys xs) (Abstract bytes, kind)
 no_abstract xs bytes kind =
     elim (number_in (table_keys xs) (Abstract bytes, kind)) as (λ o. number_in (table_keys xs) (Abstract bytes, kind) ≡ o → None ≡ o) [
@@ -47,7 +47,7 @@ no_abstract xs bytes kind =
       | Some n ↦ λ e. absurd (not_concrete xs n bytes kind (number_at (table_keys xs) (Abstract bytes, kind) n e))
     ] refl
 
--- an asset that stands further on in a list without repeats isn't among the first
+-- an asset that is further on in a list without repeats isn't among the first
 met : (k : Listed) (xs : List Listed) → AllByRecursion (λ y. eq_by_cmp listed_cmp k y ≡ false) xs → (front back : List Listed) (y : Listed) → xs ≡ front ++ y ∷ back → eq_by_cmp listed_cmp k y ≡ false
 met k [] all [] back y e = absurd (cc)
 met k [] all (x ∷ front) back y e = absurd (cc)
@@ -69,7 +69,7 @@ keys_push : (xs : List ListedAsset) (a : ListedAsset) (rest : List Listed) → t
 keys_push [] a rest = refl
 keys_push (x ∷ xs) a rest = ap (λ ys. listed_key_of x ∷ ys) (keys_push xs a rest)
 
--- one more asset goes behind the others
+-- one more asset goes after the others
 pub one_more_asset : (all : List Listed) → IsDistinct (eq_by_cmp listed_cmp) all → (xs : List ListedAsset) (a : ListedAsset) (rest : List Listed) → table_keys xs ++ listed_key_of a ∷ rest ≡ all
     → table_keys (insert_key (eq_by_cmp row_cmp) xs a) ++ rest ≡ all
 one_more_asset all distinct xs a rest e =

@@ -17,7 +17,7 @@ use Rattle.asset_lists.specs.Lists.{has_zero}
 use Rattle.asset_bundles.specs.Bundles.{bundle_of}
 use Rattle.asset_bundles.proofs.Lemmas.Bundles.{unit_keys}
 use Rattle.asset_lists.specs.Listed.{Listed, listed_of, lists}
-use Rattle.ledgers.specs.declared.sums.Sum.{Sum}
+use Rattle.asset_bundles.specs.declared.wide_sum.WideSum.{WideSum}
 use Rattle.ledgers.specs.Ledgers.{Holder, account_cmp, holder_cmp, Held, Accounts, held_by, owners_of, number_in, overflow, is_barred, barred, Transferred}
 use Rattle.ledgers.specs.LedgerFaults.{IsBarred, IsTransferBar, IsTransferFault}
 use Rattle.ledgers.specs.declared.faults.DepositFault.{DepositFault}
@@ -63,13 +63,13 @@ owned_alone who w (Some x) some other =
       | inr there ↦ (let none : owned who (Some x) ≡ 0 = ap (λ b. if b then 1 else 0) there in absurd (omega (arith, none, some)))
     ]
 
-module _ (listed : List Listed) (amounts : List (AmountKey × ℕ)) (owners : List (OwnerKey × Option (List ℕ))) (sums : List Sum) (sound : IsSound listed amounts owners sums) where
+module _ (listed : List Listed) (amounts : List (AmountKey × ℕ)) (owners : List (OwnerKey × Option (List ℕ))) (sums : List WideSum) (sound : IsSound listed amounts owners sums) where
   pub held_most : (who : List ℕ) (id : AssetId) (x : Option Instance) → amount (held_in listed amounts owners) (who, (id, x)) ≤ 2 ^ 128 - 1
   held_most who id None =
       elim (number_in listed (id, Kind.Fungible)) as (λ o. number_in listed (id, Kind.Fungible) ≡ o → amount (held_in listed amounts owners) (who, (id, None)) ≤ 2 ^ 128 - 1) [
         | None ↦ λ e. (let none = held_listed listed amounts owners sums sound who id None e in omega (arith, none))
         | Some n ↦ λ e. (let same = held-fungible listed sound.once amounts owners n who id (number_at listed (id, Kind.Fungible) n e) in
-            let most = small_at amounts (n, who) sound.small in omega (arith, same, most))
+            let most = small_at amounts (who, n) sound.small in omega (arith, same, most))
       ] refl
   held_most who id (Some i) =
       elim (number_in listed (id, Kind.Class)) as (λ o. number_in listed (id, Kind.Class) ≡ o → amount (held_in listed amounts owners) (who, (id, Some i)) ≤ 2 ^ 128 - 1) [
@@ -211,7 +211,7 @@ has_held_by held who xs has = subst (λ m. IsWithin m held) (held_by_rows who xs
 rows_within : (who : List ℕ) (xs : List Asset) (q : Holder) → sum_where (eq_by_cmp holder_cmp q) (account_rows who xs) ≤ amount (held_by who (bundle_of xs)) q
 rows_within who xs q = same_rows_at _ _ (amount-held_by who xs q)
 
-module _ (listed : List Listed) (amounts : List (AmountKey × ℕ)) (owners : List (OwnerKey × Option (List ℕ))) (sums : List Sum) (sound : IsSound listed amounts owners sums) where
+module _ (listed : List Listed) (amounts : List (AmountKey × ℕ)) (owners : List (OwnerKey × Option (List ℕ))) (sums : List WideSum) (sound : IsSound listed amounts owners sums) where
   pub self_fits : (who : List ℕ) (xs : List Asset) → HasAll (held_in listed amounts owners) who xs → overflow (difference (held_in listed amounts owners) (held_by who (bundle_of xs))) who xs ≡ None
   self_fits who xs has =
       no_self_overflow who (held_in listed amounts owners) (held_by who (bundle_of xs)) (difference (held_in listed amounts owners) (held_by who (bundle_of xs)))

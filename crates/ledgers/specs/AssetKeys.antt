@@ -10,7 +10,7 @@ use Rattle.asset_bundles.proofs.Lemmas.{listed_keys}
 use Rattle.amounts.proofs.Lemmas.{key_same}
 use Rattle.ledgers.specs.declared.listed_asset.ListedAsset.{ListedAsset}
 use Rattle.ledgers.specs.AssetTable.{listed_key_of, row_cmp}
-use Rattle.ledgers.specs.AssetHash.{location_input}
+use Rattle.locations.specs.Hashing.{location_input}
 
 concrete_place : AssetId → Location → Location
 concrete_place (Concrete place) other = place

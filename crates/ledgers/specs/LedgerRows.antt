@@ -1,5 +1,5 @@
--- The rows that a ledger keeps, as what its accounts hold. Amounts stand by asset number and account, and owners
--- by asset number and instance. For a class the amount is how many instances the account has: it is kept beside
+-- The rows that a ledger keeps, as what its accounts hold. Amounts are kept by account and asset number, and owners
+-- by class number and instance. For a class the amount is how many instances the account has: it is kept beside
 -- the owners, which say the same.
 use Rattle.std.specs.Prelude.{◌≡◌, ℕ, ◌-◌, ◌^◌, ◌<◌, ◌≤◌, if◌then◌else◌, List, [], ◌∷◌, length, slice_get, slice_set, Option, None, Some, unwrap_or, IsSome, ⊤}
 use Rattle.std.specs.Ordering.{nat_cmp, on, then_cmp, eq_by_cmp}
@@ -14,16 +14,16 @@ use Rattle.asset_lists.specs.declared.units.AssetId.{AssetId}
 use Rattle.asset_lists.specs.declared.units.Instance.{Instance}
 use Rattle.asset_lists.specs.declared.units.Kind.{Kind}
 use Rattle.asset_lists.specs.Listed.{Listed}
-use Rattle.ledgers.specs.declared.sums.Sum.{Sum}
-use Rattle.ledgers.specs.Sums.{sum_value}
+use Rattle.asset_bundles.specs.declared.wide_sum.WideSum.{WideSum}
+use Rattle.asset_bundles.specs.Totals.{wide_value}
 use Rattle.ledgers.specs.Ledgers.{Holder, account_cmp, Held, sum_of, account_sum_of, IsAfter}
 
--- an asset's number and an account
+-- an account and an asset's number
 abbrev pub AmountKey : Type 0
-AmountKey = ℕ × List ℕ
+AmountKey = List ℕ × ℕ
 
 abbrev pub amount_key_cmp : AmountKey → AmountKey → Ordering
-amount_key_cmp = then_cmp (on (λ (k : AmountKey). k.0) nat_cmp) (on (λ (k : AmountKey). k.1) account_cmp)
+amount_key_cmp = then_cmp (on (λ (k : AmountKey). k.0) account_cmp) (on (λ (k : AmountKey). k.1) nat_cmp)
 
 -- a class's number and an instance
 abbrev pub OwnerKey : Type 0
@@ -62,7 +62,7 @@ amount_row (Some asset) who amount rest = fungible_row asset.0 asset.1 who amoun
 
 abbrev pub amount_rows : List Listed → List (AmountKey × ℕ) → List (Holder × ℕ) → List (Holder × ℕ)
 amount_rows listed [] rest = rest
-amount_rows listed (row ∷ rows) rest = amount_row (slice_get listed row.0.0) row.0.1 row.1 (amount_rows listed rows rest)
+amount_rows listed (row ∷ rows) rest = amount_row (slice_get listed row.0.1) row.0.0 row.1 (amount_rows listed rows rest)
 
 -- the row of an instance that has an owner, in front of others
 abbrev pub instance_row : AssetId → Kind → Instance → Option (List ℕ) → List (Holder × ℕ) → List (Holder × ℕ)
@@ -89,7 +89,7 @@ pub record IsOnce (listed : List Listed) : Type 0 where
 abbrev pub AreSmall : List (AmountKey × ℕ) → Type 0
 AreSmall rows = AllByRecursion (λ (row : AmountKey × ℕ). row.1 ≤ 2 ^ 128 - 1) rows
 
--- a row stands there, whatever it says
+-- there is a row, whatever it says
 abbrev pub HasAmountRow : List (AmountKey × ℕ) → AmountKey → Type 0
 HasAmountRow rows k = IsSome (lookup (eq_by_cmp amount_key_cmp k) rows)
 
@@ -101,35 +101,24 @@ HasInstanceRow rows n None = ⊤
 HasInstanceRow rows n (Some i) = HasOwnerRow rows (n, i)
 
 -- a running sum is another one
-pub record IsSumWritten (n : ℕ) (old new : List Sum) (s t : Sum) : Type 0 where
+pub record IsSumWritten (n : ℕ) (old new : List WideSum) (s t : WideSum) : Type 0 where
   pub was : slice_get old n ≡ Some s
   pub written : new ≡ slice_set old n t
 
 -- counts and running sums are those of what is held, and only listed assets have amounts
-pub record IsSound (listed : List Listed) (amounts : List (AmountKey × ℕ)) (owners : List (OwnerKey × Option (List ℕ))) (sums : List Sum) : Type 0 where
+pub record IsSound (listed : List Listed) (amounts : List (AmountKey × ℕ)) (owners : List (OwnerKey × Option (List ℕ))) (sums : List WideSum) : Type 0 where
   pub once : IsOnce listed
   pub small : AreSmall amounts
   pub sorted : IsStrictlySortedBy owner_key_cmp (keys_of owners)
-  pub counted : (n : ℕ) (who : List ℕ) (id : AssetId) → slice_get listed n ≡ Some (id, Kind.Class) → amount_in_row amounts (n, who) ≡ account_sum_of who (id, Kind.Class) (held_in listed amounts owners)
-  pub numbered : (n : ℕ) (who : List ℕ) → 0 < amount_in_row amounts (n, who) → IsSome (slice_get listed n)
+  pub counted : (n : ℕ) (who : List ℕ) (id : AssetId) → slice_get listed n ≡ Some (id, Kind.Class) → amount_in_row amounts (who, n) ≡ account_sum_of who (id, Kind.Class) (held_in listed amounts owners)
+  pub numbered : (n : ℕ) (who : List ℕ) → 0 < amount_in_row amounts (who, n) → IsSome (slice_get listed n)
   pub as_many : length sums ≡ length listed
-  pub summed : (n : ℕ) (asset : Listed) (s : Sum) → slice_get listed n ≡ Some asset → slice_get sums n ≡ Some s → sum_value s ≡ sum_of asset (held_in listed amounts owners)
+  pub summed : (n : ℕ) (asset : Listed) (s : WideSum) → slice_get listed n ≡ Some asset → slice_get sums n ≡ Some s → wide_value s ≡ sum_of asset (held_in listed amounts owners)
 
 -- ---- accounts in order
--- before an account, or any account where none is given
-abbrev pub IsBefore : List ℕ → Option (List ℕ) → Type 0
-IsBefore who None = ⊤
-IsBefore who (Some b) = account_cmp who b ≡ Less
-
 -- the first account after another of which a row says more than 0
 pub record IsNextRow (after : Option (List ℕ)) (rows : List (AmountKey × ℕ)) (who : List ℕ) : Type 0 where
   pub number : ℕ
-  pub has : 0 < amount_in_row rows (number, who)
+  pub has : 0 < amount_in_row rows (who, number)
   pub later : IsAfter after who
-  pub least : (k : AmountKey) → IsAfter after k.1 → IsBefore k.1 (Some who) → amount_in_row rows k ≡ 0
-
--- the first account after another of which the row of a number says more than 0
-pub record IsNextOf (rows : List (AmountKey × ℕ)) (n : ℕ) (after who : List ℕ) : Type 0 where
-  pub has : 0 < amount_in_row rows (n, who)
-  pub later : account_cmp after who ≡ Less
-  pub least : (w : List ℕ) → account_cmp after w ≡ Less → account_cmp w who ≡ Less → amount_in_row rows (n, w) ≡ 0
+  pub least : (k : AmountKey) → IsAfter after k.0 → account_cmp k.0 who ≡ Less → amount_in_row rows k ≡ 0

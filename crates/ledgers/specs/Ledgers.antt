@@ -1,5 +1,5 @@
 -- The ledger of a chain: which assets the chain lists, and what each account holds of them.
--- Source: the accounts behind xcm-executor's asset transactors. That an amount ends at 2^128-1, that an
+-- Source: the accounts that xcm-executor's asset transactors move assets of. That an amount ends at 2^128-1, that an
 -- instance has one owner, and the order of refusals are this project's own rules.
 use Rattle.std.specs.Prelude.{◌≡◌, ℕ, ◌+◌, ◌-◌, ◌^◌, ◌<◌, ◌&&◌, Bool, nat_lt, if◌then◌else◌, List, [], ◌∷◌, Option, None, Some, ⊤}
 use Rattle.std.specs.Ordering.{nat_cmp, on, then_cmp, eq_by_cmp}
@@ -41,7 +41,7 @@ pub record Accounts : Type 0 where
 abbrev pub listed_pair : Location × Kind → Listed
 listed_pair row = (Concrete row.0, row.1)
 
--- the place of an asset in the list
+-- the index of an asset in the list
 abbrev pub number_in : List Listed → Listed → Option ℕ
 number_in listed asset = position (eq_by_cmp listed_cmp asset) listed
 

@@ -1,9 +1,7 @@
 pub mod Ledgers
 pub mod AccountKeys
-pub mod AssetHash
 pub mod AssetTable
 pub mod AssetKeys
-pub mod Sums
 pub mod LedgerRows
 pub mod RowState
 pub mod AccountRows

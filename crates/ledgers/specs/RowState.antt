@@ -20,7 +20,7 @@ AreSound r = IsSound r.assets r.amounts.entries r.owners.entries r.sums.items
 
 -- the rows that a deposit of the asset writes are there
 abbrev pub HasDepositRows : Rows → List ℕ → Asset → Type 0
-HasDepositRows r who a = (n : ℕ) → number_in r.assets (listed_of (unit_of a)) ≡ Some n → HasAmountRow r.amounts.entries (n, who) × HasInstanceRow r.owners.entries n (instance_in a.fun)
+HasDepositRows r who a = (n : ℕ) → number_in r.assets (listed_of (unit_of a)) ≡ Some n → HasAmountRow r.amounts.entries (who, n) × HasInstanceRow r.owners.entries n (instance_in a.fun)
 
 -- rows that are there stay
 pub record KeepsRows (old new : Rows) : Type 0 where

@@ -2,7 +2,7 @@
 ghost use Rattle.std.specs.Prelude.{◌≡◌, ◌+◌, ◌<◌, ◌≤◌, refl, take, drop, length};
 ghost use Rattle.std.specs.List.{AllByRecursion};
 ghost use Rattle.std.specs.Slice.Scan.{big_endian};
-ghost use Rattle.std.specs.Ordering.{eq_by_cmp, as_partial_cmp};
+ghost use Rattle.std.specs.Ordering.{eq_by_cmp, as_partial_cmp, is_lt, is_ne};
 ghost use Rattle.std.specs.Cmp.{partial_equiv_from_equiv, eq_by_cmp_equiv, po};
 ghost use Rattle.ledgers.specs.Ledgers.{account_cmp};
 ghost use Rattle.ledgers.specs.AccountKeys.{accounts_total};
@@ -10,9 +10,9 @@ ghost use Rattle.ledgers.specs.AccountKeys.{accounts_total};
 use std::cmp::Ordering;
 use std::marker::Model;
 
-/// The 32 bytes of an account, compared eight at a time.
+/// The 32 bytes of an account as a key of sorted maps: in the order of the bytes, and compared eight at a time.
 #[derive(Drop)]
-pub(crate) struct AccountKey {
+pub struct AccountKey {
     bytes: [u8; 32],
 }
 
@@ -26,10 +26,24 @@ impl Model for AccountKey {
 
 impl AccountKey {
     /// The key of an account.
-    pub(crate) fn of(who: &[u8; 32]) -> AccountKey
+    pub fn of(who: &[u8; 32]) -> AccountKey
         ensures { result ≡ who.now }
     {
         AccountKey { bytes: *who }
+    }
+
+    /// Whether it is this account's.
+    pub(crate) fn is(&self, who: &[u8; 32]) -> bool
+        ensures { result ≡ eq_by_cmp account_cmp who.now self.now }
+    {
+        order(who, &self.bytes).is_eq()
+    }
+
+    /// Whether it is a later account's.
+    pub(crate) fn is_after(&self, who: &[u8; 32]) -> bool
+        ensures { result ≡ is_lt (account_cmp who.now self.now) }
+    {
+        order(who, &self.bytes).is_lt()
     }
 
     /// The account's bytes.
@@ -78,26 +92,34 @@ impl Ord for AccountKey {
     }
 }
 
-/// How two accounts stand by their bytes.
+/// How two accounts are ordered by their bytes.
 fn order(a: &[u8; 32], b: &[u8; 32]) -> Ordering
     ensures { result ≡ account_cmp a.now b.now }
 {
-    let first = part_order(a, b, 0);
-    if first.is_ne() {
-        return first;
+    if are_apart(a, b, 0) {
+        return part_order(a, b, 0);
     }
-    let second = part_order(a, b, 8);
-    if second.is_ne() {
-        return second;
+    if are_apart(a, b, 8) {
+        return part_order(a, b, 8);
     }
-    let third = part_order(a, b, 16);
-    if third.is_ne() {
-        return third;
+    if are_apart(a, b, 16) {
+        return part_order(a, b, 16);
     }
-    part_order(a, b, 24)
+    if are_apart(a, b, 24) {
+        return part_order(a, b, 24);
+    }
+    Ordering::Equal
 }
 
-/// How the eight bytes from a place on stand.
+/// Whether the eight bytes from an index on differ.
+fn are_apart(a: &[u8; 32], b: &[u8; 32], at: usize) -> bool
+    requires { at + 8 ≤ 32 }
+    ensures { result ≡ is_ne (account_cmp (take 8 (drop at a.now)) (take 8 (drop at b.now))) }
+{
+    word(a, at) != word(b, at)
+}
+
+/// How the eight bytes from an index on are ordered.
 fn part_order(a: &[u8; 32], b: &[u8; 32], at: usize) -> Ordering
     requires { at + 8 ≤ 32 }
     ensures { result ≡ account_cmp (take 8 (drop at a.now)) (take 8 (drop at b.now)) }
@@ -105,7 +127,7 @@ fn part_order(a: &[u8; 32], b: &[u8; 32], at: usize) -> Ordering
     word(a, at).cmp(&word(b, at))
 }
 
-/// The number of the eight bytes from a place on, the high one first.
+/// The number of the eight bytes from an index on, the high one first.
 fn word(bytes: &[u8; 32], at: usize) -> u64
     requires { at + 8 ≤ 32 }
     ensures value { result ≡ big_endian 0 (take 8 (drop at bytes.now)) }

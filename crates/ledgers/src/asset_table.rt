@@ -12,7 +12,7 @@ use locations::Location;
 use std::alloc::{AllocError, Global};
 use std::marker::Model;
 
-/// The assets that a chain lists, each once. The place of an asset is its number.
+/// The assets that a chain lists, each once. The index of an asset is its number.
 #[derive(Drop)]
 pub struct AssetTable {
     assets: IndexSet<ListedAsset>,

@@ -13,7 +13,9 @@ ghost use Rattle.ledgers.specs.Ledgers.{listed_pair, number_in, sum_of, account_
 ghost use Rattle.ledgers.specs.LedgerFaults.{IsFirstBarred, IsLedgerFault, IsDepositFault, IsTransferable, IsTransferBar, IsTransferFault};
 
 use crate::asset_table::AssetTable;
-use crate::list_moves::{barred, give_all, make_all_room, overflow, shortage, sweep_all, take_all};
+use crate::list_moves::{
+    barred, give_all, make_all_room, overflow, put_all, shortage, sweep_all, take_all,
+};
 use crate::next_account::next_holder;
 use crate::rows::Rows;
 use crate::sums::zero_sums;
@@ -67,7 +69,7 @@ impl Ledger {
         Ok(Ledger { rows })
     }
 
-    /// The place of an asset in the list; None where it isn't listed.
+    /// The index of an asset in the list; None where it isn't listed.
     pub fn number_of(&self, id: &AssetId, kind: Kind) -> Option<u32>
         ensures number { result ≡ number_in self.now.listed (id.now, kind) }
     {
@@ -130,13 +132,13 @@ impl Ledger {
     }
 
     /// The first account by bytes that holds something, of those after the given one; None where there is
-    /// none. Only the first of all takes time in proportion to the rows of all accounts.
+    /// none. It is found by one search.
     pub fn next_account(&self, after: Option<&[u8; 32]>) -> Option<[u8; 32]>
         ensures next { MatchOption result
             (NoneNext (option_copied after.entry) self.now.held)
             (IsNext (option_copied after.entry) self.now.held) }
     {
-        next_holder(&self.rows.amounts, self.rows.assets.len(), after)
+        next_holder(&self.rows.amounts, after)
     }
 
     /// What an account holds, in holding order: fungibles by id, then instances by id and instance. An `Err`
@@ -247,10 +249,9 @@ impl Ledger {
         ensures back { IfErr result (λ back. back ≡ goods) }
         ensures kept { OnErr result (self.new ≡ self.old) }
     {
-        let Ok(()) = make_all_room(&mut self.rows, who, goods.items()) else {
+        let Ok(()) = put_all(&mut self.rows, who, goods.items()) else {
             return Err(goods);
         };
-        give_all(&mut self.rows, who, goods.items());
         goods.melt();
         Ok(())
     }

@@ -1,7 +1,6 @@
 //! What the accounts of a chain hold.
 #![tactic(auto)]
 
-mod account_goods;
 mod account_key;
 mod asset_table;
 mod faults;
@@ -12,12 +11,12 @@ mod listed_asset;
 mod listing;
 mod next_account;
 mod row_moves;
-mod row_state;
 mod row_writes;
 mod rows;
 mod sums;
 mod supplies;
 
+pub use account_key::AccountKey;
 pub use asset_bundles::{Trap, TrapStore, Unknown, law_of_traps};
 pub use asset_table::AssetTable;
 pub use faults::{DepositFault, LedgerFault, TransferFault};

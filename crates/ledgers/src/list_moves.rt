@@ -1,5 +1,5 @@
 //! Lists of assets moved into an account or out of it.
-ghost use Rattle.std.specs.Prelude.{◌≡◌, None, OnOk, IsTrue, IsFalse, MatchOption};
+ghost use Rattle.std.specs.Prelude.{◌≡◌, None, OnOk, OnErr, IsTrue, IsFalse, MatchOption};
 ghost use Rattle.std.specs.List.{list_all};
 ghost use Rattle.amounts.specs.Amounts.{plus_all, minus_all};
 ghost use Rattle.asset_lists.specs.Units.{unit_of};
@@ -120,4 +120,26 @@ pub(crate) fn give_all(rows: &mut Rows, who: &[u8; 32], list: &[Asset])
     for asset in list {
         rows.give(who, asset);
     }
+}
+
+/// Gives the listed assets to an account that may take them, and makes their rows where there are none. An `Err` is
+/// out of memory, and then nothing was given.
+pub(crate) fn put_all(rows: &mut Rows, who: &[u8; 32], list: &[Asset]) -> Result<(), AllocError>
+    requires sound { AreSound rows.old }
+    requires listed { IsTrue (list_all (λ a. lists rows.old.assets (listed_of (unit_of a)))
+        list.now) }
+    requires may { MayTakeAll (rows_held rows.old) who.now list.now }
+    requires once { IsTrue (is_rising list.now) }
+    ensures sound { AreSound rows.new }
+    ensures assets { rows.new.assets ≡ rows.old.assets }
+    ensures held { OnOk result (rows_held rows.new
+        ≡ plus_all (rows_held rows.old) (account_rows who.now list.now)) }
+    ensures kept { OnErr result (rows_held rows.new ≡ rows_held rows.old) }
+{
+    if list.len() == 1 {
+        return rows.put(who, &list[0]);
+    }
+    make_all_room(rows, who, list)?;
+    give_all(rows, who, list);
+    Ok(())
 }

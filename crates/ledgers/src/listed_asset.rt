@@ -1,15 +1,14 @@
 //! What a chain lists.
-ghost use Rattle.std.specs.Prelude.{◌≡◌, fold};
+ghost use Rattle.std.specs.Prelude.{◌≡◌};
 ghost use Rattle.std.specs.Ordering.{eq_by_cmp, nat_cmp};
 ghost use Rattle.asset_lists.specs.Listed.{kind_number};
-ghost use Rattle.ledgers.specs.AssetHash.{junction_input, location_input};
 
 use asset_lists::Kind;
 use indexmap::Equivalent;
-use locations::{Junction, Location};
+use locations::Location;
 use std::hash::{Hash, Hasher};
 
-/// An asset that a chain lists: a place that has amounts, or a class of instances.
+/// An asset that a chain lists: a location that has amounts, or a class of instances.
 #[derive(Debug, Drop)]
 pub(crate) struct ListedAsset {
     pub(crate) id: Location,
@@ -38,7 +37,7 @@ impl Eq for ListedAsset {
 }
 
 impl Hash for ListedAsset {
-    ghost use Rattle.ledgers.specs.AssetHash.{location_input};
+    ghost use Rattle.locations.specs.Hashing.{location_input};
     ghost use Rattle.ledgers.specs.AssetKeys.{hashed_alike};
 
     ghost hash_input = { λ a. location_input a.id };
@@ -46,11 +45,11 @@ impl Hash for ListedAsset {
     ghost respects_eq = { hashed_alike };
 
     fn hash<H: Hasher>(&self, state: &mut H) {
-        hash_location(&self.id, state);
+        self.id.hash(state);
     }
 }
 
-/// An asset that is looked up in a list, with its place lent.
+/// An asset that is looked up in a list, with its location lent.
 #[derive(Clone, Copy)]
 pub(crate) struct Sought<'a> {
     pub(crate) id: &'a Location,
@@ -62,7 +61,8 @@ impl PartialEq for Sought<'_> {
     ghost use Rattle.std.specs.Ordering.{eq_by_cmp};
     ghost use Rattle.ledgers.specs.AssetTable.{row_cmp, rows_total, listed_asset_of};
 
-    ghost eq = { λ a b. eq_by_cmp row_cmp (listed_asset_of a.id.now a.kind) (listed_asset_of b.id.now b.kind) };
+    ghost eq = { λ a b. eq_by_cmp row_cmp (listed_asset_of a.id.now a.kind)
+        (listed_asset_of b.id.now b.kind) };
 
     ghost laws = { partial_equiv_from_equiv (on_equiv
         (λ a. listed_asset_of a.id.now a.kind) (eq_by_cmp_equiv rows_total)) };
@@ -80,7 +80,7 @@ impl Eq for Sought<'_> {
 }
 
 impl Hash for Sought<'_> {
-    ghost use Rattle.ledgers.specs.AssetHash.{location_input};
+    ghost use Rattle.locations.specs.Hashing.{location_input};
     ghost use Rattle.ledgers.specs.AssetTable.{listed_asset_of};
     ghost use Rattle.ledgers.specs.AssetKeys.{hashed_alike};
 
@@ -90,7 +90,7 @@ impl Hash for Sought<'_> {
         (listed_asset_of b.id.now b.kind) };
 
     fn hash<H: Hasher>(&self, state: &mut H) {
-        hash_location(self.id, state);
+        self.id.hash(state);
     }
 }
 
@@ -104,7 +104,8 @@ impl Equivalent<ListedAsset> for Sought<'_> {
 
     ghost respects_hash = { λ q k. hashed_alike (listed_asset_of q.id.now q.kind) k };
 
-    ghost respects_eq = { λ q. (eq_by_cmp_equiv rows_total).congr (listed_asset_of q.id.now q.kind) };
+    ghost respects_eq = { λ q. (eq_by_cmp_equiv rows_total).congr
+        (listed_asset_of q.id.now q.kind) };
 
     fn equivalent(&self, key: &ListedAsset) -> bool {
         *self.id == key.id && is_same_kind(self.kind, key.kind)
@@ -120,33 +121,5 @@ fn is_same_kind(kind: Kind, other: Kind) -> bool
         (Kind::Fungible, Kind::Class) => false,
         (Kind::Class, Kind::Fungible) => false,
         (Kind::Class, Kind::Class) => true,
-    }
-}
-
-/// Hashes how high the place lies, and what each junction says.
-fn hash_location<H: Hasher>(location: &Location, state: &mut H)
-    ensures { state.new ≡ fold H.write state.old (location_input location.now) }
-{
-    state.write_u8(location.parents);
-    for junction in location.interior.items() {
-        hash_junction(junction, state);
-    }
-}
-
-/// Hashes the number or the bytes of a junction.
-fn hash_junction<H: Hasher>(junction: &Junction, state: &mut H)
-    ensures { state.new ≡ fold H.write state.old (junction_input junction.now) }
-{
-    match junction {
-        Junction::Parachain(para) => state.write_u32(*para),
-        Junction::AccountId32 { network: _, id } => state.write(id),
-        Junction::AccountIndex64 { network: _, index } => state.write_u64(*index),
-        Junction::AccountKey20 { network: _, key } => state.write(key),
-        Junction::PalletInstance(index) => state.write_u8(*index),
-        Junction::GeneralIndex(index) => state.write_u128(*index),
-        Junction::GeneralKey { length: _, key } => state.write(key),
-        Junction::OnlyChild => {}
-        Junction::Plurality { id: _, part: _ } => {}
-        Junction::GlobalConsensus(_) => {}
     }
 }

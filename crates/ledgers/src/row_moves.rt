@@ -4,12 +4,12 @@ ghost use Rattle.std.specs.Map.{keys_of};
 ghost use Rattle.std.specs.List.Sorted.{IsStrictlySortedBy};
 ghost use Rattle.asset_lists.specs.Units.{amount_of, instance_in};
 ghost use Rattle.asset_lists.specs.Listed.{kind_of};
-ghost use Rattle.ledgers.specs.Sums.{sum_value};
+ghost use Rattle.asset_bundles.specs.Totals.{wide_value};
 ghost use Rattle.ledgers.specs.LedgerRows.{OwnerKey, owner_key_cmp, owner_at, owned, OwnerIs, HasOwnerRow, HasInstanceRow, IsSumWritten};
 
 use crate::row_writes::{OwnerRows, make_owner_row, sweep_owner, write_owner};
 use crate::rows::Rows;
-use crate::sums::Sum;
+use asset_bundles::WideSum;
 use asset_lists::{Asset, Fun, Kind};
 use std::alloc::AllocError;
 
@@ -92,11 +92,12 @@ pub(crate) fn make_instance_row(
 }
 
 /// Lowers the running sum of an asset.
-pub(crate) fn lower_sum(sums: &mut Vec<Sum>, number: u32, amount: u128)
+pub(crate) fn lower_sum(sums: &mut Vec<WideSum>, number: u32, amount: u128)
     requires within { number < length sums.old.items }
-    requires enough { (s : Sum) → slice_get sums.old.items number ≡ Some s → amount ≤ sum_value s }
-    ensures { (s : Sum) × (t : Sum) × IsSumWritten number sums.old.items sums.new.items s t
-        × (sum_value t ≡ sum_value s - amount) }
+    requires enough { (s : WideSum) → slice_get sums.old.items number ≡ Some s
+        → amount ≤ wide_value s }
+    ensures { (s : WideSum) × (t : WideSum) × IsSumWritten number sums.old.items sums.new.items s t
+        × (wide_value t ≡ wide_value s - amount) }
 {
     let place = number as usize;
     let sum = sums[place];
@@ -104,12 +105,12 @@ pub(crate) fn lower_sum(sums: &mut Vec<Sum>, number: u32, amount: u128)
 }
 
 /// Raises the running sum of an asset.
-pub(crate) fn raise_sum(sums: &mut Vec<Sum>, number: u32, amount: u128)
+pub(crate) fn raise_sum(sums: &mut Vec<WideSum>, number: u32, amount: u128)
     requires within { number < length sums.old.items }
-    requires room { (s : Sum) → slice_get sums.old.items number ≡ Some s
-        → sum_value s + amount < 2 ^ 192 }
-    ensures { (s : Sum) × (t : Sum) × IsSumWritten number sums.old.items sums.new.items s t
-        × (sum_value t ≡ sum_value s + amount) }
+    requires room { (s : WideSum) → slice_get sums.old.items number ≡ Some s
+        → wide_value s + amount < 2 ^ 192 }
+    ensures { (s : WideSum) × (t : WideSum) × IsSumWritten number sums.old.items sums.new.items s t
+        × (wide_value t ≡ wide_value s + amount) }
 {
     let place = number as usize;
     let sum = sums[place];

@@ -1,5 +1,5 @@
-//! Rows read and written, one at a time. A row is made before it is written, so that writing takes no memory.
-ghost use Rattle.std.specs.Prelude.{◌≡◌, ◌+◌, ◌-◌, ◌^◌, ◌≤◌, OnOk, if◌then◌else◌};
+//! Rows read and written, one at a time. A row is made before it is written, so that writing takes no memory; only `add_amount` does both.
+ghost use Rattle.std.specs.Prelude.{◌≡◌, ◌+◌, ◌-◌, ◌^◌, ◌≤◌, OnOk, OnErr, if◌then◌else◌};
 ghost use Rattle.std.specs.Ordering.{eq_by_cmp};
 ghost use Rattle.std.specs.Map.{keys_of};
 ghost use Rattle.std.specs.List.Sorted.{IsStrictlySortedBy};
@@ -10,17 +10,17 @@ use asset_lists::Instance;
 use std::alloc::AllocError;
 use std::collections::BTreeMap;
 
-/// What each account has of each asset, by the asset's number and the account. A row may say 0.
-pub(crate) type AmountRows = BTreeMap<(u32, AccountKey), u128>;
+/// What each account has of each asset, by the account and the asset's number. A row may say 0.
+pub(crate) type AmountRows = BTreeMap<(AccountKey, u32), u128>;
 
 /// Who owns each instance, by its class's number and the instance. A row may name nobody.
 pub(crate) type OwnerRows = BTreeMap<(u32, Instance), Option<[u8; 32]>>;
 
 /// The amount in a row, 0 where there is none.
 pub(crate) fn amount_in(rows: &AmountRows, number: u32, who: &[u8; 32]) -> u128
-    ensures { result ≡ amount_in_row rows.now.entries (number, who.now) }
+    ensures { result ≡ amount_in_row rows.now.entries (who.now, number) }
 {
-    rows.get(&(number, AccountKey::of(who)))
+    rows.get(&(AccountKey::of(who), number))
         .copied()
         .unwrap_or(0)
 }
@@ -35,10 +35,10 @@ pub(crate) fn make_amount_row(
         → amount_in_row rows.new.entries q ≡ amount_in_row rows.old.entries q }
     ensures stay { (q : AmountKey)
         → HasAmountRow rows.old.entries q → HasAmountRow rows.new.entries q }
-    ensures made { OnOk result (HasAmountRow rows.new.entries (number, who.now)) }
+    ensures made { OnOk result (HasAmountRow rows.new.entries (who.now, number)) }
     ensures small { AreSmall rows.old.entries → AreSmall rows.new.entries }
 {
-    let key = (number, AccountKey::of(who));
+    let key = (AccountKey::of(who), number);
     if rows.contains_key(&key) {
         return Ok(());
     }
@@ -48,16 +48,16 @@ pub(crate) fn make_amount_row(
 
 /// Lowers the amount of a row that has as much.
 pub(crate) fn lower_amount(rows: &mut AmountRows, number: u32, who: &[u8; 32], amount: u128)
-    requires there { HasAmountRow rows.old.entries (number, who.now) }
-    requires enough { amount ≤ amount_in_row rows.old.entries (number, who.now) }
+    requires there { HasAmountRow rows.old.entries (who.now, number) }
+    requires enough { amount ≤ amount_in_row rows.old.entries (who.now, number) }
     ensures wrote { (q : AmountKey) → amount_in_row rows.new.entries q
-        ≡ (if eq_by_cmp amount_key_cmp (number, who.now) q then amount_in_row rows.old.entries
-        (number, who.now) - amount else amount_in_row rows.old.entries q) }
+        ≡ (if eq_by_cmp amount_key_cmp (who.now, number) q then amount_in_row rows.old.entries
+        (who.now, number) - amount else amount_in_row rows.old.entries q) }
     ensures stay { (q : AmountKey)
         → HasAmountRow rows.old.entries q → HasAmountRow rows.new.entries q }
     ensures small { AreSmall rows.old.entries → AreSmall rows.new.entries }
 {
-    match rows.get_mut(&(number, AccountKey::of(who))) {
+    match rows.get_mut(&(AccountKey::of(who), number)) {
         Some(have) => *have -= amount,
         None => unreachable!(),
     }
@@ -65,19 +65,40 @@ pub(crate) fn lower_amount(rows: &mut AmountRows, number: u32, who: &[u8; 32], a
 
 /// Raises the amount of a row that is there.
 pub(crate) fn raise_amount(rows: &mut AmountRows, number: u32, who: &[u8; 32], amount: u128)
-    requires there { HasAmountRow rows.old.entries (number, who.now) }
-    requires room { amount_in_row rows.old.entries (number, who.now) + amount ≤ 2 ^ 128 - 1 }
+    requires there { HasAmountRow rows.old.entries (who.now, number) }
+    requires room { amount_in_row rows.old.entries (who.now, number) + amount ≤ 2 ^ 128 - 1 }
     ensures wrote { (q : AmountKey) → amount_in_row rows.new.entries q
-        ≡ (if eq_by_cmp amount_key_cmp (number, who.now) q then amount_in_row rows.old.entries
-        (number, who.now) + amount else amount_in_row rows.old.entries q) }
+        ≡ (if eq_by_cmp amount_key_cmp (who.now, number) q then amount_in_row rows.old.entries
+        (who.now, number) + amount else amount_in_row rows.old.entries q) }
     ensures stay { (q : AmountKey)
         → HasAmountRow rows.old.entries q → HasAmountRow rows.new.entries q }
     ensures small { AreSmall rows.old.entries → AreSmall rows.new.entries }
 {
-    match rows.get_mut(&(number, AccountKey::of(who))) {
+    match rows.get_mut(&(AccountKey::of(who), number)) {
         Some(have) => *have += amount,
         None => unreachable!(),
     }
+}
+
+/// Raises the amount of a row, and makes the row where there is none. An `Err` is out of memory, and then all rows
+/// say what they said.
+pub(crate) fn add_amount(
+    rows: &mut AmountRows,
+    number: u32,
+    who: &[u8; 32],
+    amount: u128,
+) -> Result<(), AllocError>
+    requires { amount_in_row rows.old.entries (who.now, number) + amount ≤ 2 ^ 128 - 1 }
+    ensures wrote { OnOk result ((q : AmountKey) → amount_in_row rows.new.entries q
+        ≡ (if eq_by_cmp amount_key_cmp (who.now, number) q then amount_in_row rows.old.entries
+        (who.now, number) + amount else amount_in_row rows.old.entries q)) }
+    ensures same { OnErr result ((q : AmountKey)
+        → amount_in_row rows.new.entries q ≡ amount_in_row rows.old.entries q) }
+    ensures small { AreSmall rows.old.entries → AreSmall rows.new.entries }
+{
+    let have = rows.entry((AccountKey::of(who), number))?.or_insert(0);
+    *have += amount;
+    Ok(())
 }
 
 /// Takes a row that says 0 out.
@@ -89,7 +110,7 @@ pub(crate) fn sweep_amount(rows: &mut AmountRows, number: u32, who: &[u8; 32])
     if amount_in(rows, number, who) > 0 {
         return;
     }
-    rows.remove(&(number, AccountKey::of(who)));
+    rows.remove(&(AccountKey::of(who), number));
 }
 
 /// The owner of an instance.

@@ -5,7 +5,7 @@ use asset_bundles::Total;
 /// What a network has of an asset, in its smallest unit; for a class the number of instances. Each total saturates at 2^160-1.
 #[derive(Clone, Copy, Debug, PartialEq, Eq)]
 pub struct Supply {
-    /// What stands at its homes, in accounts, traps, fees and parked bundles.
+    /// What is at its homes, in accounts, traps, fees and parked bundles.
     pub home: Total,
     /// What is on its way as teleports that a home sent.
     pub flight: Total,

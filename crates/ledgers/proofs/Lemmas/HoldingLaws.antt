@@ -36,7 +36,7 @@ same_account Less u e h = cc
 same_account Equal u e h = h
 same_account Greater u e h = cc
 
--- a row behind one of the account
+-- a row after one of the account
 below_on : (who : List ℕ) (e f : Row) (es : List Row) (c : Bool) → is_account who f.0 ≡ c → is_account who e.0 ≡ true → is_lt (holder_cmp e.0 f.0) ≡ true
     → below_all unit_cmp e.0.1 (units (rows_of_account who es)) ≡ true → below_all unit_cmp e.0.1 (units (rows_of_account who (f ∷ es))) ≡ true
 below_on who e f es true k t less rest =

@@ -13,7 +13,6 @@ use Rattle.amounts.proofs.Lemmas.{same_key}
 use Rattle.ledgers.specs.Ledgers.{Holder, account_cmp, holder_cmp, is_account, IsAfter}
 use Rattle.ledgers.proofs.Lemmas.{account_keys}
 use Rattle.ledgers.proofs.Lemmas.Shown.{is_upto, shown, rows_of_account}
-use Rattle.plain_lists.proofs.Lemmas.Facts.{less_told as less_is}
 
 abbrev Row : Type 0
 Row = Holder × ℕ
@@ -60,7 +59,7 @@ upto_or_after (Some a) w h = by (account_cmp a w) refl
     by Equal e = absurd (true≢false (sym (ap (λ o. not (is_lt o)) e) ∙ h))
     by Greater e = absurd (true≢false (sym (ap (λ o. not (is_lt o)) e) ∙ h))
 
--- ---- rows behind one of an account after `after`
+-- ---- rows after one of an account after `after`
 behind : (after : Option (List ℕ)) (e : Row) (es : List Row) → IsAfter after e.0.0 → below_all holder_cmp e.0 es ≡ true → shown after es ≡ []
 behind after e [] h b = refl
 behind after e (f ∷ es) h b =

@@ -1,17 +1,21 @@
 use Rattle.std.proofs.Common.{sym, ◌∙◌}
-use Rattle.ledgers.proofs.AccountOrders.{second_decides, third_decides, last_decides}
+use Rattle.ledgers.proofs.AccountOrders.{first_decides, second_decides, third_decides, last_decides, all_same}
 use Rattle.ledgers.proofs.account_key.order.Goals as goal
 
-pub returns-then-is_ne-2 : goal.returns-then-is_ne-2
-returns-then-is_ne-2 c =
-    second_decides _ _ c.told-a c.told-b _ _ c.part_order-first.ensures (sym c.is_ne.ensures ∙ c.if-is_ne.false) c.part_order-second.ensures (sym c.is_ne-2.ensures ∙ c.if-is_ne-2.true)
+pub returns-then-are_apart : goal.returns-then-are_apart
+returns-then-are_apart c = c.part_order.ensures ∙ first_decides _ _ c.told-a c.told-b (sym c.are_apart.ensures ∙ c.if-are_apart.true)
 
-pub returns-then-is_ne-3 : goal.returns-then-is_ne-3
-returns-then-is_ne-3 c =
-    third_decides _ _ c.told-a c.told-b _ _ _ c.part_order-first.ensures (sym c.is_ne.ensures ∙ c.if-is_ne.false) c.part_order-second.ensures (sym c.is_ne-2.ensures ∙ c.if-is_ne-2.false)
-    c.part_order-third.ensures (sym c.is_ne-3.ensures ∙ c.if-is_ne-3.true)
+pub returns-then-are_apart-2 : goal.returns-then-are_apart-2
+returns-then-are_apart-2 c = c.part_order-then-are_apart-2.ensures ∙ second_decides _ _ c.told-a c.told-b (sym c.are_apart.ensures ∙ c.if-are_apart.false) (sym c.are_apart-2.ensures ∙ c.if-are_apart-2.true)
+
+pub returns-then-are_apart-3 : goal.returns-then-are_apart-3
+returns-then-are_apart-3 c =
+    c.part_order-then-are_apart-3.ensures ∙ third_decides _ _ c.told-a c.told-b (sym c.are_apart.ensures ∙ c.if-are_apart.false) (sym c.are_apart-2.ensures ∙ c.if-are_apart-2.false) (sym c.are_apart-3.ensures ∙ c.if-are_apart-3.true)
+
+pub returns-then-are_apart-4 : goal.returns-then-are_apart-4
+returns-then-are_apart-4 c =
+    c.part_order-then-are_apart-4.ensures ∙ last_decides _ _ c.told-a c.told-b (sym c.are_apart.ensures ∙ c.if-are_apart.false) (sym c.are_apart-2.ensures ∙ c.if-are_apart-2.false) (sym c.are_apart-3.ensures ∙ c.if-are_apart-3.false)
 
 pub returns : goal.returns
 returns c =
-    last_decides _ _ c.told-a c.told-b _ _ _ _ c.part_order-first.ensures (sym c.is_ne.ensures ∙ c.if-is_ne.false) c.part_order-second.ensures (sym c.is_ne-2.ensures ∙ c.if-is_ne-2.false)
-    c.part_order-third.ensures (sym c.is_ne-3.ensures ∙ c.if-is_ne-3.false) c.part_order.ensures
+    all_same _ _ c.told-a c.told-b (sym c.are_apart.ensures ∙ c.if-are_apart.false) (sym c.are_apart-2.ensures ∙ c.if-are_apart-2.false) (sym c.are_apart-3.ensures ∙ c.if-are_apart-3.false) (sym c.are_apart-4.ensures ∙ c.if-are_apart-4.false)

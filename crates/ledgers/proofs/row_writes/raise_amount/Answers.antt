@@ -1,5 +1,5 @@
-use Rattle.std.proofs.Common.{◌≡◌, ◌+◌, arith}
-use Rattle.ledgers.specs.LedgerRows.{amount_key_cmp, amount_in_row}
+use Rattle.std.proofs.Common.{◌+◌, arith}
+use Rattle.ledgers.specs.LedgerRows.{amount_key_cmp}
 use Rattle.ledgers.proofs.RowWriting.{rows_stay, found_says, there_too, small_written}
 use Rattle.ledgers.proofs.row_writes.raise_amount.Goals as goal
 
@@ -11,7 +11,7 @@ overflow_add-have c =
 pub returns-clause-stay : goal.returns-clause-stay
 returns-clause-stay c =
     let v = c.in-Some.have.now + c.args.amount in
-    rows_stay amount_key_cmp (c.args.number, c.of.result) v _ _ ((c.get_mut.follows.holds v).3 (there_too c.args.rows.now.entries c.args.number c.args.who.now c.of.result c.of.ensures c.requires.there)).0
+    rows_stay amount_key_cmp (c.of.result, c.args.number) v _ _ ((c.get_mut.follows.holds v).3 (there_too c.args.rows.now.entries c.args.number c.args.who.now c.of.result c.of.ensures c.requires.there)).0
 
 pub returns-clause-small : goal.returns-clause-small
 returns-clause-small c = λ small.

@@ -1,11 +1,10 @@
-use Rattle.std.proofs.Common.{◌≡◌, ℕ, ◌+◌, ◌<◌, ◌≤◌, ◌^◌, ◌-◌, None, Some, sym, ap, ◌∙◌, subst, arith}
+use Rattle.std.proofs.Common.{None, sym, ap, ◌∙◌, subst, arith}
 use Rattle.std.specs.Prelude.{IsSome}
-use Rattle.amounts.specs.Amounts.{amount, minus}
+use Rattle.amounts.specs.Amounts.{amount}
 use Rattle.asset_lists.specs.declared.units.AssetId.{AssetId}
 use Rattle.asset_lists.specs.declared.units.Kind.{Kind}
 use Rattle.ledgers.specs.Ledgers.{Accounts, Held, number_in}
-use Rattle.ledgers.specs.RowState.{rows_held, accounts_in}
-use Rattle.ledgers.specs.LedgerRows.{HasAmountRow}
+use Rattle.ledgers.specs.RowState.{rows_held}
 use Rattle.ledgers.proofs.Exchanging.{less_there, listed_still, row_still}
 use Rattle.ledgers.proofs.ledger.Ledger.exchange.Goals as goal
 

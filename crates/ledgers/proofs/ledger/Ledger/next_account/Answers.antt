@@ -1,13 +1,8 @@
-use Rattle.std.proofs.Common.{◌<◌, option_copied, sym, subst}
+use Rattle.std.proofs.Common.{option_copied, subst}
 use Rattle.std.specs.Prelude.{MatchOption}
 use Rattle.ledgers.specs.Ledgers.{Accounts, NoneNext, IsNext}
-use Rattle.ledgers.proofs.NextAccounts.{next_read, number_below}
+use Rattle.ledgers.proofs.NextAccounts.{next_read}
 use Rattle.ledgers.proofs.ledger.Ledger.next_account.Goals as goal
-
-pub next_holder-requires : goal.next_holder-requires
-next_holder-requires c = λ k some.
-    let r = c.self.inside.rows in
-    subst (λ n. k.0 < n) (sym c.len.ensures) (number_below r.assets r.amounts.entries r.owners.entries r.sums.items c.self.invariant k some)
 
 pub returns : goal.returns
 returns c =

@@ -2,7 +2,7 @@ use Rattle.std.proofs.Common.{◌≡◌, ℕ, ◌-◌, refl, sym, ap, ◌∙◌,
 use Rattle.std.specs.Prelude.{Option, None, Some}
 use Rattle.asset_lists.specs.Units.{instance_in}
 use Rattle.asset_lists.specs.Listed.{listed_of}
-use Rattle.ledgers.specs.Sums.{sum_value}
+use Rattle.asset_bundles.specs.Totals.{wide_value}
 use Rattle.ledgers.specs.LedgerRows.{amount_in_row}
 use Rattle.ledgers.proofs.Numbers.{number_at}
 use Rattle.ledgers.proofs.RowChanges.{held_listed, row_at_least, sum_at_least, taken, wrote_as, amount_row_there, instance_row_there}
@@ -31,7 +31,7 @@ lower_amount-requires-clause-there c =
     let r = c.args.self.now in
     let at = number_at r.assets (listed_of (c.args.asset.now.id, instance_in c.args.asset.now.fun)) c.in-Some.number (sym c.in-Some.ensures) in
     let row = row_at_least r.assets r.amounts.entries r.owners.entries r.sums.items c.requires.sound c.in-Some.number c.args.who.now c.args.asset.now.id (instance_in c.args.asset.now.fun) at in
-    amount_row_there r.amounts.entries (c.in-Some.number, c.args.who.now) (omega (arith, row, c.requires.some, c.requires.enough))
+    amount_row_there r.amounts.entries (c.args.who.now, c.in-Some.number) (omega (arith, row, c.requires.some, c.requires.enough))
 
 pub set_owner-requires : goal.set_owner-requires
 set_owner-requires c =
@@ -52,7 +52,7 @@ returns c =
     let sum = c.lower_sum.ensures in
     let whole = taken r.assets r.amounts.entries r.owners.entries r.sums.items c.requires.sound c.lower_amount.new.rows.entries c.set_owner.new.rows.entries
     (c.set_owner.ensures.sorted c.requires.sound.sorted) c.in-Some.number c.args.who.now a.id a.fun (sym c.in-Some.ensures) c.requires.enough
-    (wrote_as r.amounts.entries c.lower_amount.new.rows.entries (c.in-Some.number, c.args.who.now) _ _ (ap (λ n. amount_in_row r.amounts.entries (c.in-Some.number, c.args.who.now) - n) c.amount_of-amount.ensures) c.lower_amount.ensures.wrote)
+    (wrote_as r.amounts.entries c.lower_amount.new.rows.entries (c.args.who.now, c.in-Some.number) _ _ (ap (λ n. amount_in_row r.amounts.entries (c.args.who.now, c.in-Some.number) - n) c.amount_of-amount.ensures) c.lower_amount.ensures.wrote)
     c.set_owner.ensures.wrote (c.lower_amount.ensures.small c.requires.sound.small)
-    c.lower_sum.new.sums.items (sum.0, sum.1, sum.2, sum.3 ∙ ap (λ n. sum_value sum.0 - n) c.amount_of-amount.ensures) in
+    c.lower_sum.new.sums.items (sum.0, sum.1, sum.2, sum.3 ∙ ap (λ n. wide_value sum.0 - n) c.amount_of-amount.ensures) in
     record { sound = whole.1; stay = record { assets = refl; amounts = c.lower_amount.ensures.stay; owners = c.set_owner.ensures.stay }; held = whole.0 }
