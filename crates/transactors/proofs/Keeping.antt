@@ -9,7 +9,6 @@ use Rattle.amounts.proofs.Lemmas.Rows.{IsKeyOrder}
 use Rattle.amounts.specs.Amounts.{amount, difference}
 use Rattle.amounts.proofs.Lemmas.AmountLaws.{total_alike, amount-total}
 use Rattle.amounts.proofs.Lemmas.{same_key, key_same, amount-merge, amount-difference}
-use Rattle.locations.specs.declared.relative.Location.{Location}
 use Rattle.asset_lists.specs.declared.units.Asset.{Asset}
 use Rattle.asset_lists.specs.Units.{Unit, unit_of, unit_cmp, amount_of}
 use Rattle.asset_bundles.specs.Bundles.{Bundle, rows_of, bundle_of, IsHolding, found}
@@ -17,9 +16,7 @@ use Rattle.asset_bundles.proofs.Lemmas.Bundles.{unit_keys}
 use Rattle.asset_bundles.proofs.Lemmas.BundleLaws.{found-holding}
 use Rattle.ledgers.specs.Ledgers.{Holder, account_cmp, holder_cmp, Held, Accounts, held_by, Withdrawn, Deposited}
 use Rattle.ledgers.proofs.Lemmas.{account_keys, holder_keys, held_by_total, less_other}
-use Rattle.trust_tables.specs.declared.chains.Site.{Site}
 use Rattle.trust_tables.specs.declared.rows.AssetRow.{AssetRow}
-use Rattle.trust_tables.specs.Accounts.{account_of}
 use Rattle.transactors.specs.Floors.{UnitFloors, KeepsFloors}
 use Rattle.transactors.specs.Checks.{check_out}
 use Rattle.transactors.specs.Moves.{first_move_fault, ledger_at_account, after_withdrawal, after_deposit, after_transfer, withdraw_fault, transfer_fault}
@@ -46,15 +43,15 @@ at_most : (have n floor : ℕ) → nat_lt have (n + floor) ≡ false → n + flo
 at_most have n floor h = grind (arith, h)
 
 -- ---- what may be given
-module _ (rows : List AssetRow) (site : Site) (floors : UnitFloors) (held : Held) (from : Location) (who : List ℕ) (is : account_of from site ≡ Some who) where
-  covered : (list : List Asset) (u : Unit) → first_move_fault (check_out rows site floors held from) list ≡ None → (found u list ≡ 0) ⊎ (found u list + floors who u ≤ amount held (who, u))
+module _ (rows : List AssetRow) (floors : UnitFloors) (held : Held) (from : Option (List ℕ)) (who : List ℕ) (is : from ≡ Some who) where
+  covered : (list : List Asset) (u : Unit) → first_move_fault (check_out rows floors held from) list ≡ None → (found u list ≡ 0) ⊎ (found u list + floors who u ≤ amount held (who, u))
   covered [] u ok = inl refl
   covered (a ∷ rest) u ok =
       let parts = both_none _ _ ok in
       elim (cases_Bool (eq_by_cmp unit_cmp u (unit_of a))) [
         | inl t ↦ (
             let same : u ≡ unit_of a = key_same unit_keys u (unit_of a) t in
-            let enough = at_most (amount held (who, unit_of a)) (amount_of a) (floors who (unit_of a)) (nothing_lacked rows site floors held from who a is parts.0) in
+            let enough = at_most (amount held (who, unit_of a)) (amount_of a) (floors who (unit_of a)) (nothing_lacked rows floors held from who a is parts.0) in
             let here : amount_of a + floors who u ≤ amount held (who, u) = subst (λ (v : Unit). amount_of a + floors who v ≤ amount held (who, v)) (sym same) enough in
             inr (subst (λ b. unwrap_or (if b then Some (amount_of a) else find unit_cmp u (rows_of rest)) 0 + floors who u ≤ amount held (who, u)) (sym t) here))
         | inr f ↦ subst (λ b. (unwrap_or (if b then Some (amount_of a) else find unit_cmp u (rows_of rest)) 0 ≡ 0)
@@ -62,7 +59,7 @@ module _ (rows : List AssetRow) (site : Site) (floors : UnitFloors) (held : Held
             (covered rest u parts.1)
       ]
 
-  left_to : (list : List Asset) (u : Unit) → IsHolding list → first_move_fault (check_out rows site floors held from) list ≡ None → floors who u ≤ amount held (who, u)
+  left_to : (list : List Asset) (u : Unit) → IsHolding list → first_move_fault (check_out rows floors held from) list ≡ None → floors who u ≤ amount held (who, u)
       → floors who u ≤ amount (difference held (held_by who (bundle_of list))) (who, u)
   left_to list u once ok had =
       let left = amount-difference holder_keys held (held_by who (bundle_of list)) (who, u) in
@@ -70,7 +67,7 @@ module _ (rows : List AssetRow) (site : Site) (floors : UnitFloors) (held : Held
       let all = found-holding list u once in
       ⊎_elim (λ (none : found u list ≡ 0). omega (arith, left, here, all, none, had)) (λ (some : found u list + floors who u ≤ amount held (who, u)). omega (arith, left, here, all, some)) (covered list u ok)
 
-  out_kept : (list : List Asset) → IsHolding list → first_move_fault (check_out rows site floors held from) list ≡ None → KeepsFloors floors held → KeepsFloors floors (difference held (held_by who (bundle_of list)))
+  out_kept : (list : List Asset) → IsHolding list → first_move_fault (check_out rows floors held from) list ≡ None → KeepsFloors floors held → KeepsFloors floors (difference held (held_by who (bundle_of list)))
   out_kept list once ok keeps one u =
       elim (cases_Bool (eq_by_cmp account_cmp who one)) [
         | inl same ↦ (
@@ -83,24 +80,17 @@ module _ (rows : List AssetRow) (site : Site) (floors : UnitFloors) (held : Held
       ]
 
 -- ---- moves
-given_at : (rows : List AssetRow) (site : Site) (floors : UnitFloors) (ledger : Accounts) (list : List Asset) (from : Location) (o : Option (List ℕ)) → account_of from site ≡ o → IsHolding list
-    → first_move_fault (check_out rows site floors ledger.held from) list ≡ None → KeepsFloors floors ledger.held → KeepsFloors floors (ledger_at_account o (λ account. Withdrawn account list ledger) ledger).held
-given_at rows site floors ledger list from None is once ok keeps = keeps
-given_at rows site floors ledger list from (Some who) is once ok keeps = out_kept rows site floors ledger.held from who is list once ok keeps
+pub given_keeps : (rows : List AssetRow) (floors : UnitFloors) (ledger : Accounts) (list : List Asset) (from : Option (List ℕ)) → IsHolding list
+    → withdraw_fault rows floors ledger list from ≡ None → KeepsFloors floors ledger.held → KeepsFloors floors (after_withdrawal list from ledger).held
+given_keeps rows floors ledger list None once ok keeps = keeps
+given_keeps rows floors ledger list (Some who) once ok keeps = out_kept rows floors ledger.held (Some who) who refl list once ok keeps
 
-pub given_keeps : (rows : List AssetRow) (site : Site) (floors : UnitFloors) (ledger : Accounts) (list : List Asset) (from : Location) → IsHolding list
-    → withdraw_fault rows site floors ledger list from ≡ None → KeepsFloors floors ledger.held → KeepsFloors floors (after_withdrawal site list from ledger).held
-given_keeps rows site floors ledger list from once ok keeps = given_at rows site floors ledger list from (account_of from site) refl once ok keeps
-
-got_at : (floors : UnitFloors) (ledger : Accounts) (goods : Bundle) (o : Option (List ℕ)) → KeepsFloors floors ledger.held → KeepsFloors floors (ledger_at_account o (λ account. Deposited account goods ledger) ledger).held
-got_at floors ledger goods None keeps = keeps
-got_at floors ledger goods (Some to) keeps =
+pub got_keeps : (floors : UnitFloors) (ledger : Accounts) (goods : Bundle) (to : Option (List ℕ)) → KeepsFloors floors ledger.held → KeepsFloors floors (after_deposit goods to ledger).held
+got_keeps floors ledger goods None keeps = keeps
+got_keeps floors ledger goods (Some to) keeps =
     λ who u. let had = keeps who u in let more = amount-merge holder_keys ledger.held (held_by to goods) (who, u) in omega (arith, had, more)
 
-pub got_keeps : (site : Site) (floors : UnitFloors) (ledger : Accounts) (goods : Bundle) (to : Location) → KeepsFloors floors ledger.held → KeepsFloors floors (after_deposit site goods to ledger).held
-got_keeps site floors ledger goods to keeps = got_at floors ledger goods (account_of to site) keeps
-
-pub moved_keeps : (rows : List AssetRow) (site : Site) (floors : UnitFloors) (ledger : Accounts) (list : List Asset) (from to : Location) → IsHolding list
-    → transfer_fault rows site floors ledger list from to ≡ None → KeepsFloors floors ledger.held → KeepsFloors floors (after_transfer site list from to ledger).held
-moved_keeps rows site floors ledger list from to once ok keeps =
-    got_keeps site floors (after_withdrawal site list from ledger) (bundle_of list) to (given_keeps rows site floors ledger list from once (both_none _ _ ok).0 keeps)
+pub moved_keeps : (rows : List AssetRow) (floors : UnitFloors) (ledger : Accounts) (list : List Asset) (from to : Option (List ℕ)) → IsHolding list
+    → transfer_fault rows floors ledger list from to ≡ None → KeepsFloors floors ledger.held → KeepsFloors floors (after_transfer list from to ledger).held
+moved_keeps rows floors ledger list from to once ok keeps =
+    got_keeps floors (after_withdrawal list from ledger) (bundle_of list) to (given_keeps rows floors ledger list from once (both_none _ _ ok).0 keeps)

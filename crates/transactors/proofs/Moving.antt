@@ -5,13 +5,10 @@ use Rattle.std.specs.List.{list_all}
 use Rattle.std.proofs.lemmas.Bool.{and_from, and_parts}
 use Rattle.std.proofs.lemmas.List.{drop_more}
 use Rattle.amounts.specs.Amounts.{amount}
-use Rattle.locations.specs.declared.relative.Location.{Location}
 use Rattle.asset_lists.specs.declared.units.Asset.{Asset}
 use Rattle.asset_lists.specs.Units.{unit_of, amount_of}
 use Rattle.asset_lists.specs.Listed.{Listed, listed_of, lists}
-use Rattle.trust_tables.specs.declared.chains.Site.{Site}
 use Rattle.trust_tables.specs.declared.rows.AssetRow.{AssetRow}
-use Rattle.trust_tables.specs.Accounts.{account_of}
 use Rattle.trust_tables.specs.Trust.{row_of, listed_row}
 use Rattle.trust_tables.proofs.Lemmas.TrustLaws.{row_found}
 use Rattle.ledgers.specs.Ledgers.{Held, Accounts, Withdrawn, shortage, barred, is_barred}
@@ -19,9 +16,9 @@ use Rattle.ledgers.specs.LedgerFaults.{IsBarred, IsFirstBarred}
 use Rattle.ledgers.specs.declared.faults.DepositFault.{DepositFault}
 use Rattle.transactors.specs.Floors.{UnitFloors}
 use Rattle.transactors.specs.declared.faults.MoveFault.{MoveFault}
-use Rattle.transactors.specs.declared.faults.MoveFault.TheVariants.{NotHandled, NoAccount, Refused}
+use Rattle.transactors.specs.declared.faults.MoveFault.TheVariants.{NotHandled, NoAccount, Refused, Memory}
 use Rattle.transactors.specs.Checks.{accepted, is_unhandled, is_short_of, account_fault, move_fault, check_in, check_out}
-use Rattle.transactors.specs.Moves.{earlier_fault, first_move_fault, withdraw_fault, transfer_fault, ledger_at_account, after_withdrawal, are_listed}
+use Rattle.transactors.specs.Moves.{earlier_fault, first_move_fault, withdraw_fault, transfer_fault, ledger_at_account, after_withdrawal, are_listed, Moves}
 use Rattle.plain_lists.proofs.Lemmas.Facts.{none_if}
 
 -- ---- answers
@@ -37,6 +34,13 @@ told_back (Some fault) = refl
 pub fault_is : (o : Option MoveFault) (fault : MoveFault) → Err fault ≡ accepted o → o ≡ Some fault
 unfolding fault_told
 fault_is o fault is = sym (told_back o) ∙ ap fault_told (sym is)
+
+-- a list that isn't moved
+pub refuses : {A : Type 0} (o : Option MoveFault) (answer : A) (after before : Accounts) (fault : MoveFault) → o ≡ Some fault → Moves o answer after before (Err fault) before
+refuses o answer after before NotHandled h = (h, refl)
+refuses o answer after before NoAccount h = (h, refl)
+refuses o answer after before Refused h = (h, refl)
+refuses o answer after before Memory h = refl
 
 -- ---- the first fault
 pub both_none : (x rest : Option MoveFault) → earlier_fault x rest ≡ None → (x ≡ None) × (rest ≡ None)
@@ -57,23 +61,23 @@ nobody : (account : Option (List ℕ)) (refused : List ℕ → Bool) → account
 nobody account refused none h = (let e : Some NoAccount ≡ None = ap (λ o. account_fault o refused) (sym none) ∙ h in absurd (cc))
 
 -- without an account only nothing is moved
-pub nobody_gives : (rows : List AssetRow) (site : Site) (floors : UnitFloors) (held : Held) (who : Location) (list : List Asset) → account_of who site ≡ None → first_move_fault (check_out rows site floors held who) list ≡ None → list ≡ []
-nobody_gives rows site floors held who [] none h = refl
-nobody_gives rows site floors held who (a ∷ rest) none h =
-    absurd (nobody (account_of who site) (λ account. is_short_of floors held account a) none (handled_and (is_some (row_of rows a)) (account_of who site) (λ account. is_short_of floors held account a) (both_none _ _ h).0).1)
+pub nobody_gives : (rows : List AssetRow) (floors : UnitFloors) (held : Held) (who : Option (List ℕ)) (list : List Asset) → who ≡ None → first_move_fault (check_out rows floors held who) list ≡ None → list ≡ []
+nobody_gives rows floors held who [] none h = refl
+nobody_gives rows floors held who (a ∷ rest) none h =
+    absurd (nobody who (λ account. is_short_of floors held account a) none (handled_and (is_some (row_of rows a)) who (λ account. is_short_of floors held account a) (both_none _ _ h).0).1)
 
-pub nobody_takes : (rows : List AssetRow) (site : Site) (held : Held) (who : Location) (list : List Asset) → account_of who site ≡ None → first_move_fault (check_in rows site held who) list ≡ None → list ≡ []
-nobody_takes rows site held who [] none h = refl
-nobody_takes rows site held who (a ∷ rest) none h =
-    absurd (nobody (account_of who site) (λ account. is_barred held account a) none (handled_and (is_some (row_of rows a)) (account_of who site) (λ account. is_barred held account a) (both_none _ _ h).0).1)
+pub nobody_takes : (rows : List AssetRow) (held : Held) (who : Option (List ℕ)) (list : List Asset) → who ≡ None → first_move_fault (check_in rows held who) list ≡ None → list ≡ []
+nobody_takes rows held who [] none h = refl
+nobody_takes rows held who (a ∷ rest) none h =
+    absurd (nobody who (λ account. is_barred held account a) none (handled_and (is_some (row_of rows a)) who (λ account. is_barred held account a) (both_none _ _ h).0).1)
 
 -- without an account no asset that is handled is taken
-nobody_takes_any : (rows : List AssetRow) (site : Site) (held : Held) (who : Location) (list : List Asset) → account_of who site ≡ None → list_all (λ a. is_some (row_of rows a)) list ≡ true → (list ≡ [] → ⊥)
-    → first_move_fault (check_in rows site held who) list ≡ Some NoAccount
-nobody_takes_any rows site held who [] none handled some = absurd (some refl)
-nobody_takes_any rows site held who (a ∷ rest) none handled some =
+nobody_takes_any : (rows : List AssetRow) (held : Held) (who : Option (List ℕ)) (list : List Asset) → who ≡ None → list_all (λ a. is_some (row_of rows a)) list ≡ true → (list ≡ [] → ⊥)
+    → first_move_fault (check_in rows held who) list ≡ Some NoAccount
+nobody_takes_any rows held who [] none handled some = absurd (some refl)
+nobody_takes_any rows held who (a ∷ rest) none handled some =
     let here = (and_parts (is_some (row_of rows a)) (list_all (λ b. is_some (row_of rows b)) rest) handled).0 in
-    λ i. earlier_fault (move_fault (here i) (none i) (λ account. is_barred held account a)) (first_move_fault (check_in rows site held who) rest)
+    λ i. earlier_fault (move_fault (here i) (none i) (λ account. is_barred held account a)) (first_move_fault (check_in rows held who) rest)
 
 -- ---- an account that can give all
 no_lack : (who : List ℕ) (account : Option (List ℕ)) (refused : List ℕ → Bool) → account ≡ Some who → account_fault account refused ≡ None → refused who ≡ false
@@ -84,36 +88,36 @@ no_lack who account refused is h =
       | false ↦ λ g. refl
     ] e)
 
-pub nothing_lacked : (rows : List AssetRow) (site : Site) (floors : UnitFloors) (held : Held) (from : Location) (who : List ℕ) (a : Asset) → account_of from site ≡ Some who
-    → check_out rows site floors held from a ≡ None → is_short_of floors held who a ≡ false
-nothing_lacked rows site floors held from who a is h =
-    let here = handled_and (is_some (row_of rows a)) (account_of from site) (λ account. is_short_of floors held account a) h in
-    no_lack who (account_of from site) (λ account. is_short_of floors held account a) is here.1
+pub nothing_lacked : (rows : List AssetRow) (floors : UnitFloors) (held : Held) (from : Option (List ℕ)) (who : List ℕ) (a : Asset) → from ≡ Some who
+    → check_out rows floors held from a ≡ None → is_short_of floors held who a ≡ false
+nothing_lacked rows floors held from who a is h =
+    let here = handled_and (is_some (row_of rows a)) from (λ account. is_short_of floors held account a) h in
+    no_lack who from (λ account. is_short_of floors held account a) is here.1
 
 -- what has the amount and the floor has the amount
 less_too : (have n floor : ℕ) → nat_lt have (n + floor) ≡ false → nat_lt have n ≡ false
 less_too have n floor h = grind (arith, h)
 
-pub enough_given : (rows : List AssetRow) (site : Site) (floors : UnitFloors) (held : Held) (from : Location) (who : List ℕ) (list : List Asset) → account_of from site ≡ Some who
-    → first_move_fault (check_out rows site floors held from) list ≡ None → shortage held who list ≡ None
-enough_given rows site floors held from who [] is h = refl
-enough_given rows site floors held from who (a ∷ rest) is h =
+pub enough_given : (rows : List AssetRow) (floors : UnitFloors) (held : Held) (from : Option (List ℕ)) (who : List ℕ) (list : List Asset) → from ≡ Some who
+    → first_move_fault (check_out rows floors held from) list ≡ None → shortage held who list ≡ None
+enough_given rows floors held from who [] is h = refl
+enough_given rows floors held from who (a ∷ rest) is h =
     let parts = both_none _ _ h in
-    let has = nothing_lacked rows site floors held from who a is parts.0 in
+    let has = nothing_lacked rows floors held from who a is parts.0 in
     let enough = less_too (amount held (who, unit_of a)) (amount_of a) (floors who (unit_of a)) has in
-    ap (λ b. if b then Some (amount held (who, unit_of a)) else shortage held who rest) enough ∙ enough_given rows site floors held from who rest is parts.1
+    ap (λ b. if b then Some (amount held (who, unit_of a)) else shortage held who rest) enough ∙ enough_given rows floors held from who rest is parts.1
 
-rows_given : (rows : List AssetRow) (site : Site) (floors : UnitFloors) (held : Held) (who : Location) (list : List Asset) → first_move_fault (check_out rows site floors held who) list ≡ None → list_all (λ a. is_some (row_of rows a)) list ≡ true
-rows_given rows site floors held who [] h = refl
-rows_given rows site floors held who (a ∷ rest) h =
+rows_given : (rows : List AssetRow) (floors : UnitFloors) (held : Held) (who : Option (List ℕ)) (list : List Asset) → first_move_fault (check_out rows floors held who) list ≡ None → list_all (λ a. is_some (row_of rows a)) list ≡ true
+rows_given rows floors held who [] h = refl
+rows_given rows floors held who (a ∷ rest) h =
     let parts = both_none _ _ h in
-    and_from _ _ (handled_and (is_some (row_of rows a)) (account_of who site) (λ account. is_short_of floors held account a) parts.0).0 (rows_given rows site floors held who rest parts.1)
+    and_from _ _ (handled_and (is_some (row_of rows a)) who (λ account. is_short_of floors held account a) parts.0).0 (rows_given rows floors held who rest parts.1)
 
-pub rows_taken : (rows : List AssetRow) (site : Site) (held : Held) (who : Location) (list : List Asset) → first_move_fault (check_in rows site held who) list ≡ None → list_all (λ a. is_some (row_of rows a)) list ≡ true
-rows_taken rows site held who [] h = refl
-rows_taken rows site held who (a ∷ rest) h =
+pub rows_taken : (rows : List AssetRow) (held : Held) (who : Option (List ℕ)) (list : List Asset) → first_move_fault (check_in rows held who) list ≡ None → list_all (λ a. is_some (row_of rows a)) list ≡ true
+rows_taken rows held who [] h = refl
+rows_taken rows held who (a ∷ rest) h =
     let parts = both_none _ _ h in
-    and_from _ _ (handled_and (is_some (row_of rows a)) (account_of who site) (λ account. is_barred held account a) parts.0).0 (rows_taken rows site held who rest parts.1)
+    and_from _ _ (handled_and (is_some (row_of rows a)) who (λ account. is_barred held account a) parts.0).0 (rows_taken rows held who rest parts.1)
 
 -- ---- what has a row is listed
 row_there : (o : Option AssetRow) → is_some o ≡ true → (row : AssetRow) × (o ≡ Some row)
@@ -149,40 +153,40 @@ take_here true true a rest found h e = refl
 take_here true false a rest found h e = e
 take_here false bar a rest found h e = absurd (true≢false (sym h))
 
-refused_as_barred : (rows : List AssetRow) (site : Site) (held : Held) (who : Location) (to : List ℕ) (list : List Asset) → account_of who site ≡ Some to → list_all (λ a. is_some (row_of rows a)) list ≡ true
-    → first_move_fault (check_in rows site held who) list ≡ refused_if (barred held to list)
+refused_as_barred : (rows : List AssetRow) (held : Held) (who : Option (List ℕ)) (to : List ℕ) (list : List Asset) → who ≡ Some to → list_all (λ a. is_some (row_of rows a)) list ≡ true
+    → first_move_fault (check_in rows held who) list ≡ refused_if (barred held to list)
 unfolding refused_if
-refused_as_barred rows site held who to [] is h = refl
-refused_as_barred rows site held who to (a ∷ rest) is h =
+refused_as_barred rows held who to [] is h = refl
+refused_as_barred rows held who to (a ∷ rest) is h =
     let parts = and_parts (is_some (row_of rows a)) (list_all (λ b. is_some (row_of rows b)) rest) h in
-    ap (λ o. earlier_fault (if is_some (row_of rows a) then account_fault o (λ account. is_barred held account a) else Some NotHandled) (first_move_fault (check_in rows site held who) rest)) is
-    ∙ take_here (is_some (row_of rows a)) (is_barred held to a) a (first_move_fault (check_in rows site held who) rest) (barred held to rest) parts.0 (refused_as_barred rows site held who to rest is parts.1)
+    ap (λ o. earlier_fault (if is_some (row_of rows a) then account_fault o (λ account. is_barred held account a) else Some NotHandled) (first_move_fault (check_in rows held who) rest)) is
+    ∙ take_here (is_some (row_of rows a)) (is_barred held to a) a (first_move_fault (check_in rows held who) rest) (barred held to rest) parts.0 (refused_as_barred rows held who to rest is parts.1)
 
-taker_free : (rows : List AssetRow) (site : Site) (held : Held) (who : Location) (to : List ℕ) (list : List Asset) → account_of who site ≡ Some to → list_all (λ a. is_some (row_of rows a)) list ≡ true → barred held to list ≡ None
-    → first_move_fault (check_in rows site held who) list ≡ None
+taker_free : (rows : List AssetRow) (held : Held) (who : Option (List ℕ)) (to : List ℕ) (list : List Asset) → who ≡ Some to → list_all (λ a. is_some (row_of rows a)) list ≡ true → barred held to list ≡ None
+    → first_move_fault (check_in rows held who) list ≡ None
 unfolding refused_if
-taker_free rows site held who to list is all free = refused_as_barred rows site held who to list is all ∙ ap refused_if free
+taker_free rows held who to list is all free = refused_as_barred rows held who to list is all ∙ ap refused_if free
 
 some_refused : (P : Asset → Type 0) (o : Option Asset) → IsSomeAnd o P → refused_if o ≡ Some Refused
 unfolding refused_if
 some_refused P None h = absurd h
 some_refused P (Some a) h = refl
 
-taker_barred : (rows : List AssetRow) (site : Site) (held : Held) (who : Location) (to : List ℕ) (list : List Asset) (fault : DepositFault) → account_of who site ≡ Some to → list_all (λ a. is_some (row_of rows a)) list ≡ true
-    → IsFirstBarred held to list fault → first_move_fault (check_in rows site held who) list ≡ Some Refused
-taker_barred rows site held who to list fault is all bar =
-    refused_as_barred rows site held who to list is all ∙ some_refused (λ a. IsBarred held to a fault) (barred held to list) bar
+taker_barred : (rows : List AssetRow) (held : Held) (who : Option (List ℕ)) (to : List ℕ) (list : List Asset) (fault : DepositFault) → who ≡ Some to → list_all (λ a. is_some (row_of rows a)) list ≡ true
+    → IsFirstBarred held to list fault → first_move_fault (check_in rows held who) list ≡ Some Refused
+taker_barred rows held who to list fault is all bar =
+    refused_as_barred rows held who to list is all ∙ some_refused (λ a. IsBarred held to a fault) (barred held to list) bar
 
 none_refused : (o : Option Asset) → refused_if o ≡ None → o ≡ None
 unfolding refused_if
 none_refused None h = refl
 none_refused (Some a) h = absurd (cc)
 
-pub none_bars : (rows : List AssetRow) (site : Site) (held : Held) (who : Location) (to : List ℕ) (list : List Asset) → account_of who site ≡ Some to → first_move_fault (check_in rows site held who) list ≡ None → barred held to list ≡ None
-none_bars rows site held who to list is taken =
-    none_refused (barred held to list) (sym (refused_as_barred rows site held who to list is (rows_taken rows site held who list taken)) ∙ taken)
+pub none_bars : (rows : List AssetRow) (held : Held) (who : Option (List ℕ)) (to : List ℕ) (list : List Asset) → who ≡ Some to → first_move_fault (check_in rows held who) list ≡ None → barred held to list ≡ None
+none_bars rows held who to list is taken =
+    none_refused (barred held to list) (sym (refused_as_barred rows held who to list is (rows_taken rows held who list taken)) ∙ taken)
 
--- ---- one transactor behind another
+-- ---- one transactor after another
 account_decides : (account : Option (List ℕ)) (refused : List ℕ → Bool) → is_unhandled (accepted (account_fault account refused)) ≡ false
 account_decides None refused = refl
 account_decides (Some who) refused =
@@ -219,34 +223,34 @@ pub some_items : (list : List Asset) → (length list == 0) ≡ false → list �
 some_items list h none = true≢false (sym (ap (λ xs. length xs == 0) none) ∙ h)
 
 -- ---- a list that the giver can give
-module _ (rows : List AssetRow) (site : Site) (floors : UnitFloors) (ledger : Accounts) (list : List Asset) (from to : Location)
-    (told : Option MoveFault) (told_is : told ≡ withdraw_fault rows site floors ledger list from) (none : (fault : MoveFault) → told ≡ Some fault → ⊥) where
-  gives : withdraw_fault rows site floors ledger list from ≡ None
+module _ (rows : List AssetRow) (floors : UnitFloors) (ledger : Accounts) (list : List Asset) (from to : Option (List ℕ))
+    (told : Option MoveFault) (told_is : told ≡ withdraw_fault rows floors ledger list from) (none : (fault : MoveFault) → told ≡ Some fault → ⊥) where
+  gives : withdraw_fault rows floors ledger list from ≡ None
   gives = sym told_is ∙ none_if told none
 
   -- somebody gives what isn't nothing
-  pub giver_there : (list ≡ [] → ⊥) → account_of from site ≡ None → ⊥
-  giver_there some nobody = some (nobody_gives rows site floors ledger.held from list nobody gives)
+  pub giver_there : (list ≡ [] → ⊥) → from ≡ None → ⊥
+  giver_there some nobody = some (nobody_gives rows floors ledger.held from list nobody gives)
 
-  pub giver_has : (giver : List ℕ) → account_of from site ≡ Some giver → shortage ledger.held giver list ≡ None
-  giver_has giver is = enough_given rows site floors ledger.held from giver list is gives
+  pub giver_has : (giver : List ℕ) → from ≡ Some giver → shortage ledger.held giver list ≡ None
+  giver_has giver is = enough_given rows floors ledger.held from giver list is gives
 
   -- the receiver decides
-  taker_decides : (o : Option MoveFault) → first_move_fault (check_in rows site (after_withdrawal site list from ledger).held to) list ≡ o → o ≡ transfer_fault rows site floors ledger list from to
+  taker_decides : (o : Option MoveFault) → first_move_fault (check_in rows (after_withdrawal list from ledger).held to) list ≡ o → o ≡ transfer_fault rows floors ledger list from to
   taker_decides o takes = sym (passed_first _ _ gives ∙ takes)
 
-  pub no_taker : (list ≡ [] → ⊥) → account_of to site ≡ None → Some NoAccount ≡ transfer_fault rows site floors ledger list from to
+  pub no_taker : (list ≡ [] → ⊥) → to ≡ None → Some NoAccount ≡ transfer_fault rows floors ledger list from to
   no_taker some nobody =
-      taker_decides (Some NoAccount) (nobody_takes_any rows site (after_withdrawal site list from ledger).held to list nobody (rows_given rows site floors ledger.held from list gives) some)
+      taker_decides (Some NoAccount) (nobody_takes_any rows (after_withdrawal list from ledger).held to list nobody (rows_given rows floors ledger.held from list gives) some)
 
-  module _ (giver taker : List ℕ) (giver_is : account_of from site ≡ Some giver) (taker_is : account_of to site ≡ Some taker) where
-    decides_after : (o : Option MoveFault) → first_move_fault (check_in rows site (Withdrawn giver list ledger).held to) list ≡ o → o ≡ transfer_fault rows site floors ledger list from to
-    decides_after o takes = taker_decides o (ap (λ (a : Option (List ℕ)). first_move_fault (check_in rows site (ledger_at_account a (λ account. Withdrawn account list ledger) ledger).held to) list) giver_is ∙ takes)
+  module _ (giver taker : List ℕ) (giver_is : from ≡ Some giver) (taker_is : to ≡ Some taker) where
+    decides_after : (o : Option MoveFault) → first_move_fault (check_in rows (Withdrawn giver list ledger).held to) list ≡ o → o ≡ transfer_fault rows floors ledger list from to
+    decides_after o takes = taker_decides o (ap (λ (a : Option (List ℕ)). first_move_fault (check_in rows (ledger_at_account a (λ account. Withdrawn account list ledger) ledger).held to) list) giver_is ∙ takes)
 
-    pub both_free : barred (Withdrawn giver list ledger).held taker list ≡ None → None ≡ transfer_fault rows site floors ledger list from to
+    pub both_free : barred (Withdrawn giver list ledger).held taker list ≡ None → None ≡ transfer_fault rows floors ledger list from to
     both_free free =
-        decides_after None (taker_free rows site (Withdrawn giver list ledger).held to taker list taker_is (rows_given rows site floors ledger.held from list gives) free)
+        decides_after None (taker_free rows (Withdrawn giver list ledger).held to taker list taker_is (rows_given rows floors ledger.held from list gives) free)
 
-    pub taker_refuses : (fault : DepositFault) → IsFirstBarred (Withdrawn giver list ledger).held taker list fault → Some Refused ≡ transfer_fault rows site floors ledger list from to
+    pub taker_refuses : (fault : DepositFault) → IsFirstBarred (Withdrawn giver list ledger).held taker list fault → Some Refused ≡ transfer_fault rows floors ledger list from to
     taker_refuses fault bar =
-        decides_after (Some Refused) (taker_barred rows site (Withdrawn giver list ledger).held to taker list fault taker_is (rows_given rows site floors ledger.held from list gives) bar)
+        decides_after (Some Refused) (taker_barred rows (Withdrawn giver list ledger).held to taker list fault taker_is (rows_given rows floors ledger.held from list gives) bar)

@@ -5,13 +5,10 @@ use Rattle.amounts.specs.Rows.{rows_at}
 use Rattle.amounts.specs.Amounts.{empty, rows, from_rows, plus_all, merge, difference, map_keys}
 use Rattle.amounts.proofs.Lemmas.AmountLaws.{amount-empty, same_amounts}
 use Rattle.amounts.proofs.Lemmas.{rows-from_rows, merge-empty, amount-difference}
-use Rattle.locations.specs.declared.relative.Location.{Location}
 use Rattle.asset_lists.specs.Units.{Unit, unit_cmp}
 use Rattle.asset_bundles.specs.Bundles.{bundle_of}
 use Rattle.asset_bundles.proofs.Lemmas.Bundles.{unit_keys}
 use Rattle.asset_bundles.proofs.Lemmas.BundleLaws.{bundle_of-none}
-use Rattle.trust_tables.specs.declared.chains.Site.{Site}
-use Rattle.trust_tables.specs.Accounts.{account_of}
 use Rattle.ledgers.specs.Ledgers.{Held, Accounts, held_by, Withdrawn, Deposited}
 use Rattle.ledgers.proofs.Lemmas.{holder_keys}
 use Rattle.transactors.specs.Moves.{ledger_at_account, after_transfer}
@@ -39,6 +36,6 @@ nothing_got : (ledger : Accounts) (o : Option (List ℕ)) → ledger_at_account 
 nothing_got ledger None = refl
 nothing_got ledger (Some who) = λ i. record { listed = ledger.listed; held = (ap (merge ledger.held) (no_goods who) ∙ merge-empty holder_keys ledger.held) i }
 
-pub nothing_moved : (site : Site) (ledger : Accounts) (from to : Location) → ledger ≡ after_transfer site [] from to ledger
-nothing_moved site ledger from to =
-    sym (ap (λ l. ledger_at_account (account_of to site) (λ who. Deposited who (bundle_of []) l) l) (nothing_given ledger (account_of from site)) ∙ nothing_got ledger (account_of to site))
+pub nothing_moved : (ledger : Accounts) (from to : Option (List ℕ)) → ledger ≡ after_transfer [] from to ledger
+nothing_moved ledger from to =
+    sym (ap (λ l. ledger_at_account to (λ who. Deposited who (bundle_of []) l) l) (nothing_given ledger from) ∙ nothing_got ledger to)

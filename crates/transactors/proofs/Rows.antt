@@ -1,4 +1,4 @@
--- Rows of one kind, and rows behind rows.
+-- Rows of one kind, and rows after rows.
 use Rattle.std.proofs.Common.{◌≡◌, ℕ, Bool, true, false, ◌&&◌, ◌||◌, if◌then◌else◌, List, [], ◌∷◌, ◌++◌, refl, sym, ap, ◌∙◌}
 use Rattle.std.specs.Prelude.{Option, None, Some, is_some, slice_get, position, option_and_then}
 use Rattle.std.proofs.lemmas.List.Quantifiers.{position-Some}
@@ -25,7 +25,7 @@ found rows a (Some n) e =
     let at = position-Some (is_row_of a) rows n some_row e in
     ap is_some (slice_get-get_or rows n some_row at.0)
 
--- a place is found exactly where a row is
+-- an index is found exactly where a row is
 pub found_row : (rows : List AssetRow) (a : Asset) → is_some (position (is_row_of a) rows) ≡ is_some (row_of rows a)
 found_row rows a = sym (found rows a (position (is_row_of a) rows) refl) ∙ ap is_some (row_at-position rows a)
 
@@ -33,7 +33,7 @@ some_or : (b : Bool) (row : AssetRow) (o : Option AssetRow) → is_some (if b th
 some_or true row o = refl
 some_or false row o = refl
 
--- a row that stands in front, if it does
+-- a row that comes first, if it does
 in_front : (b : Bool) (a : Asset) (row : AssetRow) (rows : List AssetRow)
     → is_some (row_of (if b then row ∷ rows else rows) a) ≡ (if b then is_row_of a row || is_some (row_of rows a) else is_some (row_of rows a))
 in_front true a row rows = some_or (is_row_of a row) row (row_of rows a)

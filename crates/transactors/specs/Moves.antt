@@ -1,16 +1,13 @@
--- Why a list isn't moved, and the ledger that a move leaves. Source: xcm-executor's asset transactors; that a list is moved whole or not at
+-- Why a list isn't moved, and the ledger that a move leaves. `None` in place of an account is a location that has none. Source: xcm-executor's asset transactors; that a list is moved whole or not at
 -- all, and the order in which its assets are looked at, are this project's own rule.
 use Rattle.std.specs.Prelude.{◌≡◌, ℕ, Bool, List, [], ◌∷◌, Option, Some, None, Result, Ok, Err}
 use Rattle.std.specs.List.{list_all}
-use Rattle.locations.specs.declared.relative.Location.{Location}
 use Rattle.asset_lists.specs.declared.units.Asset.{Asset}
 use Rattle.asset_lists.specs.Listed.{Listed, lists}
 use Rattle.asset_bundles.specs.Bundles.{Bundle, bundle_of, held_assets}
 use Rattle.ledgers.specs.Ledgers.{Accounts, Withdrawn, Deposited}
-use Rattle.trust_tables.specs.declared.chains.Site.{Site}
 use Rattle.trust_tables.specs.declared.rows.AssetRow.{AssetRow}
 use Rattle.trust_tables.specs.Trust.{listed_row}
-use Rattle.trust_tables.specs.Accounts.{account_of}
 use Rattle.transactors.specs.declared.faults.MoveFault.{MoveFault}
 use Rattle.transactors.specs.declared.faults.MoveFault.TheVariants.{NotHandled, NoAccount, Refused, Memory}
 use Rattle.transactors.specs.Floors.{UnitFloors}
@@ -31,11 +28,11 @@ abbrev pub first_move_fault : (Asset → Option MoveFault) → List Asset → Op
 first_move_fault check [] = None
 first_move_fault check (a ∷ rest) = earlier_fault (check a) (first_move_fault check rest)
 
-abbrev pub withdraw_fault : List AssetRow → Site → UnitFloors → Accounts → List Asset → Location → Option MoveFault
-withdraw_fault rows site floors ledger list who = first_move_fault (check_out rows site floors ledger.held who) list
+abbrev pub withdraw_fault : List AssetRow → UnitFloors → Accounts → List Asset → Option (List ℕ) → Option MoveFault
+withdraw_fault rows floors ledger list from = first_move_fault (check_out rows floors ledger.held from) list
 
-abbrev pub deposit_fault : List AssetRow → Site → Accounts → Bundle → Location → Option MoveFault
-deposit_fault rows site ledger goods who = first_move_fault (check_in rows site ledger.held who) (held_assets goods)
+abbrev pub deposit_fault : List AssetRow → Accounts → Bundle → Option (List ℕ) → Option MoveFault
+deposit_fault rows ledger goods to = first_move_fault (check_in rows ledger.held to) (held_assets goods)
 
 -- ---- what a move leaves. Where there is no account, nothing was moved
 
@@ -43,20 +40,20 @@ abbrev pub ledger_at_account : Option (List ℕ) → (List ℕ → Accounts) →
 ledger_at_account None change ledger = ledger
 ledger_at_account (Some who) change ledger = change who
 
-abbrev pub after_withdrawal : Site → List Asset → Location → Accounts → Accounts
-after_withdrawal site list who ledger = ledger_at_account (account_of who site) (λ account. Withdrawn account list ledger) ledger
+abbrev pub after_withdrawal : List Asset → Option (List ℕ) → Accounts → Accounts
+after_withdrawal list from ledger = ledger_at_account from (λ account. Withdrawn account list ledger) ledger
 
-abbrev pub after_deposit : Site → Bundle → Location → Accounts → Accounts
-after_deposit site goods who ledger = ledger_at_account (account_of who site) (λ account. Deposited account goods ledger) ledger
+abbrev pub after_deposit : Bundle → Option (List ℕ) → Accounts → Accounts
+after_deposit goods to ledger = ledger_at_account to (λ account. Deposited account goods ledger) ledger
 
 -- the giving, and then the taking
-abbrev pub after_transfer : Site → List Asset → Location → Location → Accounts → Accounts
-after_transfer site list from to ledger = after_deposit site (bundle_of list) to (after_withdrawal site list from ledger)
+abbrev pub after_transfer : List Asset → Option (List ℕ) → Option (List ℕ) → Accounts → Accounts
+after_transfer list from to ledger = after_deposit (bundle_of list) to (after_withdrawal list from ledger)
 
 -- all assets for the giver first, and then all for the receiver as it is after the giving
-abbrev pub transfer_fault : List AssetRow → Site → UnitFloors → Accounts → List Asset → Location → Location → Option MoveFault
-transfer_fault rows site floors ledger list from to =
-    earlier_fault (withdraw_fault rows site floors ledger list from) (first_move_fault (check_in rows site (after_withdrawal site list from ledger).held to) list)
+abbrev pub transfer_fault : List AssetRow → UnitFloors → Accounts → List Asset → Option (List ℕ) → Option (List ℕ) → Option MoveFault
+transfer_fault rows floors ledger list from to =
+    earlier_fault (withdraw_fault rows floors ledger list from) (first_move_fault (check_in rows (after_withdrawal list from ledger).held to) list)
 
 -- ---- answers. Memory may be refused always, and then nothing changes
 

@@ -57,15 +57,33 @@ impl<'a, T: Transactor> Transactor for Floored<'a, T> {
     }
 
     fn check_in(&self, ledger: &Ledger, a: &Asset, who: &Location) -> Result<(), MoveFault> {
-        self.inner.check_in(ledger, a, who)
+        self.check_account_in(ledger, a, self.account(who))
     }
 
     fn check_out(&self, ledger: &Ledger, a: &Asset, who: &Location) -> Result<(), MoveFault> {
-        self.inner.check_out(ledger, a, who)?;
-        let Some(account) = self.inner.account(who) else {
+        self.check_account_out(ledger, a, self.account(who))
+    }
+
+    fn check_account_in(
+        &self,
+        ledger: &Ledger,
+        a: &Asset,
+        account: Option<[u8; 32]>,
+    ) -> Result<(), MoveFault> {
+        self.inner.check_account_in(ledger, a, account)
+    }
+
+    fn check_account_out(
+        &self,
+        ledger: &Ledger,
+        a: &Asset,
+        account: Option<[u8; 32]>,
+    ) -> Result<(), MoveFault> {
+        self.inner.check_account_out(ledger, a, account)?;
+        let Some(who) = account else {
             unreachable!();
         };
-        if falls_below(self.locks, ledger, &account, a) {
+        if falls_below(self.locks, ledger, &who, a) {
             return Err(MoveFault::Refused);
         }
         Ok(())

@@ -1,11 +1,9 @@
 //! Laws of the transactors, as the contracts of functions that do nothing.
-ghost use Rattle.std.specs.Prelude.{◌≡◌, ◌++◌, List, None, is_some};
-ghost use Rattle.locations.specs.declared.relative.Location.{Location};
+ghost use Rattle.std.specs.Prelude.{◌≡◌, ◌++◌, ℕ, List, Option, None, is_some};
 ghost use Rattle.asset_lists.specs.declared.units.Asset.{Asset};
 ghost use Rattle.asset_lists.specs.declared.units.Kind.{Kind};
 ghost use Rattle.asset_bundles.specs.Bundles.{Bundle, IsHolding};
 ghost use Rattle.ledgers.specs.Ledgers.{Accounts};
-ghost use Rattle.trust_tables.specs.declared.chains.Site.{Site};
 ghost use Rattle.trust_tables.specs.declared.rows.AssetRow.{AssetRow};
 ghost use Rattle.trust_tables.specs.Trust.{row_of};
 ghost use Rattle.transactors.specs.Floors.{UnitFloors, KeepsFloors};
@@ -20,20 +18,20 @@ pub fn law_of_kinds_covering_rows()
 {}
 
 /// Where each account has its floors, it has them after a list was withdrawn or moved that wasn't refused, and after
-/// anything was deposited.
+/// anything was deposited; also where a location has no account.
 pub fn law_of_floors_of_moves()
-    ensures withdrawn { (rows : List AssetRow) (site : Site) (floors : UnitFloors)
-        (ledger : Accounts) (list : List Asset) (who : Location) → IsHolding list
-        → withdraw_fault rows site floors ledger list who ≡ None
+    ensures withdrawn { (rows : List AssetRow) (floors : UnitFloors)
+        (ledger : Accounts) (list : List Asset) (from : Option (List ℕ)) → IsHolding list
+        → withdraw_fault rows floors ledger list from ≡ None
         → KeepsFloors floors ledger.held
-        → KeepsFloors floors (after_withdrawal site list who ledger).held }
-    ensures deposited { (site : Site) (floors : UnitFloors)
-        (ledger : Accounts) (goods : Bundle) (who : Location)
+        → KeepsFloors floors (after_withdrawal list from ledger).held }
+    ensures deposited { (floors : UnitFloors)
+        (ledger : Accounts) (goods : Bundle) (to : Option (List ℕ))
         → KeepsFloors floors ledger.held
-        → KeepsFloors floors (after_deposit site goods who ledger).held }
-    ensures transferred { (rows : List AssetRow) (site : Site) (floors : UnitFloors)
-        (ledger : Accounts) (list : List Asset) (from to : Location) → IsHolding list
-        → transfer_fault rows site floors ledger list from to ≡ None
+        → KeepsFloors floors (after_deposit goods to ledger).held }
+    ensures transferred { (rows : List AssetRow) (floors : UnitFloors)
+        (ledger : Accounts) (list : List Asset) (from to : Option (List ℕ)) → IsHolding list
+        → transfer_fault rows floors ledger list from to ≡ None
         → KeepsFloors floors ledger.held
-        → KeepsFloors floors (after_transfer site list from to ledger).held }
+        → KeepsFloors floors (after_transfer list from to ledger).held }
 {}

@@ -1,6 +1,7 @@
-//! Whole lists that are moved: all of a list, or nothing.
+//! Whole lists that are moved: all of a list, or nothing. The account of each location is looked up once.
 ghost use Rattle.std.specs.Prelude.{◌≡◌, None, IsTrue, IfOk, IfErr, OnOk, OnErr};
 ghost use Rattle.asset_bundles.specs.Bundles.{bundle_of};
+ghost use Rattle.trust_tables.specs.Accounts.{account_of};
 ghost use Rattle.transactors.specs.Moves.{are_listed, withdraw_fault, deposit_fault, transfer_fault, after_withdrawal, after_deposit, after_transfer, Moves, MovesIn};
 
 use crate::{MoveFault, Transactor, deposit_fault, transfer_fault, withdraw_fault};
@@ -21,35 +22,37 @@ pub fn withdraw_all<T: Transactor>(
 ) -> Result<AssetBundle, MoveFault>
     requires agrees { T.agrees t.now }
     ensures step { Moves
-        (withdraw_fault (T.rows t.now) (T.site t.now) (T.floors t.now) ledger.old list.now who.now)
-        (bundle_of list.now) (after_withdrawal (T.site t.now) list.now who.now ledger.old)
+        (withdraw_fault (T.rows t.now) (T.floors t.now) ledger.old list.now
+        (account_of who.now (T.site t.now)))
+        (bundle_of list.now)
+        (after_withdrawal list.now (account_of who.now (T.site t.now)) ledger.old)
         ledger.old result ledger.new }
 {
-    if let Some(fault) = withdraw_fault(t, ledger, list, who) {
+    let from = t.account(who);
+    if let Some(fault) = withdraw_fault(t, ledger, list, from) {
         return Err(fault);
     }
-    let goods = withdraw_checked(alloc, t, ledger, list, who)?;
+    let goods = withdraw_checked(alloc, t, ledger, list, from)?;
     Ok(goods)
 }
 
-/// Takes the listed assets out of the location's account, where `withdraw_fault` is None: all of them, or none. An
-/// `Err` is out of memory.
+/// Takes the listed assets out of the account, where `withdraw_fault` is None: all of them, or none. An `Err` is out
+/// of memory.
 pub fn withdraw_checked<T: Transactor>(
     alloc: Global,
     t: &T,
     ledger: &mut Ledger,
     list: &Assets,
-    who: &Location,
+    from: Option<[u8; 32]>,
 ) -> Result<AssetBundle, AllocError>
-    requires agrees { T.agrees t.now }
-    requires free { withdraw_fault (T.rows t.now) (T.site t.now) (T.floors t.now)
-        ledger.old list.now who.now ≡ None }
+    requires free { withdraw_fault (T.rows t.now) (T.floors t.now) ledger.old list.now from
+        ≡ None }
     ensures goods { IfOk result (λ goods. goods ≡ bundle_of list.now) }
     ensures withdrawn { OnOk result
-        (ledger.new ≡ after_withdrawal (T.site t.now) list.now who.now ledger.old) }
+        (ledger.new ≡ after_withdrawal list.now from ledger.old) }
     ensures kept { OnErr result (ledger.new ≡ ledger.old) }
 {
-    let Some(account) = t.account(who) else {
+    let Some(account) = from else {
         return Ok(AssetBundle::empty(alloc));
     };
     ledger.withdraw_checked(&account, list)
@@ -66,37 +69,35 @@ pub fn deposit_all<T: Transactor>(
     requires agrees { T.agrees t.now }
     requires listed { IsTrue (are_listed ledger.old.listed (T.rows t.now)) }
     ensures step { MovesIn
-        (deposit_fault (T.rows t.now) (T.site t.now) ledger.old goods who.now)
-        goods (after_deposit (T.site t.now) goods who.now ledger.old)
+        (deposit_fault (T.rows t.now) ledger.old goods (account_of who.now (T.site t.now)))
+        goods (after_deposit goods (account_of who.now (T.site t.now)) ledger.old)
         ledger.old result ledger.new }
 {
-    if let Some(fault) = deposit_fault(t, ledger, &goods, who) {
+    let to = t.account(who);
+    if let Some(fault) = deposit_fault(t, ledger, &goods, to) {
         return Err((goods, fault));
     }
-    match deposit_checked(t, ledger, goods, who) {
+    match deposit_checked(t, ledger, goods, to) {
         Ok(()) => Ok(()),
         Err(goods) => Err((goods, MoveFault::Memory)),
     }
 }
 
-/// Puts goods into the location's account, where `deposit_fault` is None: all of them, or none, and then they are
-/// handed back, out of memory. The ledger lists each row that is handled.
+/// Puts goods into the account, where `deposit_fault` is None: all of them, or none, and then they are handed back,
+/// out of memory. The ledger lists each row that is handled.
 pub fn deposit_checked<T: Transactor>(
     t: &T,
     ledger: &mut Ledger,
     goods: AssetBundle,
-    who: &Location,
+    to: Option<[u8; 32]>,
 ) -> Result<(), AssetBundle>
-    requires agrees { T.agrees t.now }
     requires listed { IsTrue (are_listed ledger.old.listed (T.rows t.now)) }
-    requires free { deposit_fault (T.rows t.now) (T.site t.now)
-        ledger.old goods who.now ≡ None }
-    ensures deposited { OnOk result
-        (ledger.new ≡ after_deposit (T.site t.now) goods who.now ledger.old) }
+    requires free { deposit_fault (T.rows t.now) ledger.old goods to ≡ None }
+    ensures deposited { OnOk result (ledger.new ≡ after_deposit goods to ledger.old) }
     ensures back { IfErr result (λ back. back ≡ goods) }
     ensures kept { OnErr result (ledger.new ≡ ledger.old) }
 {
-    let Some(account) = t.account(who) else {
+    let Some(account) = to else {
         goods.melt();
         return Ok(());
     };
@@ -116,38 +117,40 @@ pub fn transfer_all<T: Transactor>(
 ) -> Result<(), MoveFault>
     requires agrees { T.agrees t.now }
     ensures step { Moves
-        (transfer_fault (T.rows t.now) (T.site t.now) (T.floors t.now)
-        ledger.old list.now from.now to.now)
-        tt (after_transfer (T.site t.now) list.now from.now to.now ledger.old)
+        (transfer_fault (T.rows t.now) (T.floors t.now) ledger.old list.now
+        (account_of from.now (T.site t.now)) (account_of to.now (T.site t.now)))
+        tt (after_transfer list.now (account_of from.now (T.site t.now))
+        (account_of to.now (T.site t.now)) ledger.old)
         ledger.old result ledger.new }
 {
-    if let Some(fault) = transfer_fault(t, ledger, list, from, to) {
+    let giver = t.account(from);
+    let taker = t.account(to);
+    if let Some(fault) = transfer_fault(t, ledger, list, giver, taker) {
         return Err(fault);
     }
-    transfer_checked(t, ledger, list, from, to)?;
+    transfer_checked(t, ledger, list, giver, taker)?;
     Ok(())
 }
 
-/// Moves the listed assets from one location's account to another's, where `transfer_fault` is None: all of them, or
-/// none. An `Err` is out of memory.
+/// Moves the listed assets from one account to another, where `transfer_fault` is None: all of them, or none. An
+/// `Err` is out of memory.
 pub fn transfer_checked<T: Transactor>(
     t: &T,
     ledger: &mut Ledger,
     list: &Assets,
-    from: &Location,
-    to: &Location,
+    from: Option<[u8; 32]>,
+    to: Option<[u8; 32]>,
 ) -> Result<(), AllocError>
-    requires agrees { T.agrees t.now }
-    requires free { transfer_fault (T.rows t.now) (T.site t.now) (T.floors t.now)
-        ledger.old list.now from.now to.now ≡ None }
+    requires free { transfer_fault (T.rows t.now) (T.floors t.now) ledger.old list.now from to
+        ≡ None }
     ensures transferred { OnOk result
-        (ledger.new ≡ after_transfer (T.site t.now) list.now from.now to.now ledger.old) }
+        (ledger.new ≡ after_transfer list.now from to ledger.old) }
     ensures kept { OnErr result (ledger.new ≡ ledger.old) }
 {
-    let Some(giver) = t.account(from) else {
+    let Some(giver) = from else {
         return Ok(());
     };
-    let Some(taker) = t.account(to) else {
+    let Some(taker) = to else {
         return Ok(());
     };
     ledger.transfer_checked(&giver, &taker, list)

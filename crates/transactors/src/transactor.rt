@@ -4,7 +4,9 @@ use asset_lists::Asset;
 use ledgers::Ledger;
 use locations::Location;
 
-/// What moves assets of some of a chain's rows in and out of the accounts of locations. Source: xcm-executor's asset transactors.
+/// What moves assets of some of a chain's rows in and out of the accounts of locations. A check is made of a location, or of the account
+/// that `account` answers where that was looked up before.
+/// Source: xcm-executor's asset transactors.
 pub trait Transactor {
     ghost use Rattle.std.specs.Prelude.{◌≡◌, List};
     ghost use Rattle.trust_tables.specs.declared.chains.Site.{Site};
@@ -13,7 +15,7 @@ pub trait Transactor {
     ghost use Rattle.transactors.specs.Floors.{UnitFloors};
     ghost use Rattle.transactors.specs.Checks.{accepted, check_in, check_out};
 
-    /// Where the chain stands.
+    /// Where the chain is.
     ghost site: { Self → Site };
 
     /// The rows that are handled.
@@ -22,7 +24,7 @@ pub trait Transactor {
     /// How much of each unit each account must keep.
     ghost floors: { Self → UnitFloors };
 
-    /// Whether all parts of it stand at one chain, and have the same floors.
+    /// Whether all parts of it are of one chain, and have the same floors.
     ghost agrees: { Self → Type 0 };
 
     /// The account that the location has on the chain.
@@ -33,14 +35,37 @@ pub trait Transactor {
     /// Whether a deposit of that one asset alone into the location's account would be taken. It takes no memory.
     fn check_in(&self, ledger: &Ledger, a: &Asset, who: &Location) -> Result<(), MoveFault>
         requires agrees { agrees self.now }
-        ensures checked { result ≡ accepted (check_in (rows self.now) (site self.now)
-            ledger.now.held who.now a.now) };
+        ensures checked { result ≡ accepted (check_in (rows self.now) ledger.now.held
+            (account_of who.now (site self.now)) a.now) };
 
     /// Whether a withdrawal of that one asset alone from the location's account would be made: the account must have
     /// the amount and its floor together. It takes no memory.
     fn check_out(&self, ledger: &Ledger, a: &Asset, who: &Location) -> Result<(), MoveFault>
         requires agrees { agrees self.now }
+        ensures checked { result ≡ accepted (check_out (rows self.now) (floors self.now)
+            ledger.now.held (account_of who.now (site self.now)) a.now) };
+
+    /// Whether a deposit of that one asset alone into the account would be taken; `None` is a location without
+    /// account. It takes no memory.
+    fn check_account_in(
+        &self,
+        ledger: &Ledger,
+        a: &Asset,
+        account: Option<[u8; 32]>,
+    ) -> Result<(), MoveFault>
+        requires agrees { agrees self.now }
         ensures checked { result
-            ≡ accepted (check_out (rows self.now) (site self.now) (floors self.now)
-            ledger.now.held who.now a.now) };
+            ≡ accepted (check_in (rows self.now) ledger.now.held account a.now) };
+
+    /// Whether a withdrawal of that one asset alone from the account would be made: the account must have the amount
+    /// and its floor together; `None` is a location without account. It takes no memory.
+    fn check_account_out(
+        &self,
+        ledger: &Ledger,
+        a: &Asset,
+        account: Option<[u8; 32]>,
+    ) -> Result<(), MoveFault>
+        requires agrees { agrees self.now }
+        ensures checked { result
+            ≡ accepted (check_out (rows self.now) (floors self.now) ledger.now.held account a.now) };
 }

@@ -68,7 +68,7 @@ fn checked_out(
 pub struct Fungibles<'a> {
     /// The chain's rows.
     pub rows: &'a [AssetRow],
-    /// Where the chain stands.
+    /// Where the chain is.
     pub site: &'a Site,
 }
 
@@ -91,21 +91,29 @@ impl<'a> Transactor for Fungibles<'a> {
     }
 
     fn check_in(&self, ledger: &Ledger, a: &Asset, who: &Location) -> Result<(), MoveFault> {
-        checked_in(
-            handles(Kind::Fungible, self.rows, a),
-            account_of(who, self.site),
-            ledger,
-            a,
-        )
+        self.check_account_in(ledger, a, self.account(who))
     }
 
     fn check_out(&self, ledger: &Ledger, a: &Asset, who: &Location) -> Result<(), MoveFault> {
-        checked_out(
-            handles(Kind::Fungible, self.rows, a),
-            account_of(who, self.site),
-            ledger,
-            a,
-        )
+        self.check_account_out(ledger, a, self.account(who))
+    }
+
+    fn check_account_in(
+        &self,
+        ledger: &Ledger,
+        a: &Asset,
+        account: Option<[u8; 32]>,
+    ) -> Result<(), MoveFault> {
+        checked_in(handles(Kind::Fungible, self.rows, a), account, ledger, a)
+    }
+
+    fn check_account_out(
+        &self,
+        ledger: &Ledger,
+        a: &Asset,
+        account: Option<[u8; 32]>,
+    ) -> Result<(), MoveFault> {
+        checked_out(handles(Kind::Fungible, self.rows, a), account, ledger, a)
     }
 }
 
@@ -114,7 +122,7 @@ impl<'a> Transactor for Fungibles<'a> {
 pub struct Instances<'a> {
     /// The chain's rows.
     pub rows: &'a [AssetRow],
-    /// Where the chain stands.
+    /// Where the chain is.
     pub site: &'a Site,
 }
 
@@ -137,21 +145,29 @@ impl<'a> Transactor for Instances<'a> {
     }
 
     fn check_in(&self, ledger: &Ledger, a: &Asset, who: &Location) -> Result<(), MoveFault> {
-        checked_in(
-            handles(Kind::Class, self.rows, a),
-            account_of(who, self.site),
-            ledger,
-            a,
-        )
+        self.check_account_in(ledger, a, self.account(who))
     }
 
     fn check_out(&self, ledger: &Ledger, a: &Asset, who: &Location) -> Result<(), MoveFault> {
-        checked_out(
-            handles(Kind::Class, self.rows, a),
-            account_of(who, self.site),
-            ledger,
-            a,
-        )
+        self.check_account_out(ledger, a, self.account(who))
+    }
+
+    fn check_account_in(
+        &self,
+        ledger: &Ledger,
+        a: &Asset,
+        account: Option<[u8; 32]>,
+    ) -> Result<(), MoveFault> {
+        checked_in(handles(Kind::Class, self.rows, a), account, ledger, a)
+    }
+
+    fn check_account_out(
+        &self,
+        ledger: &Ledger,
+        a: &Asset,
+        account: Option<[u8; 32]>,
+    ) -> Result<(), MoveFault> {
+        checked_out(handles(Kind::Class, self.rows, a), account, ledger, a)
     }
 }
 
@@ -165,7 +181,7 @@ fn is_unhandled(answer: &Result<(), MoveFault>) -> bool
     }
 }
 
-/// Moves what the first handles, and else what the second does. Both stand at one chain, and have the
+/// Moves what the first handles, and else what the second does. Both are of one chain, and have the
 /// same floors.
 #[derive(Clone, Copy)]
 pub struct FirstThat<A, B> {
@@ -192,17 +208,35 @@ impl<A: Transactor, B: Transactor> Transactor for FirstThat<A, B> {
     }
 
     fn check_in(&self, ledger: &Ledger, a: &Asset, who: &Location) -> Result<(), MoveFault> {
-        let answer = self.first.check_in(ledger, a, who);
+        self.check_account_in(ledger, a, self.account(who))
+    }
+
+    fn check_out(&self, ledger: &Ledger, a: &Asset, who: &Location) -> Result<(), MoveFault> {
+        self.check_account_out(ledger, a, self.account(who))
+    }
+
+    fn check_account_in(
+        &self,
+        ledger: &Ledger,
+        a: &Asset,
+        account: Option<[u8; 32]>,
+    ) -> Result<(), MoveFault> {
+        let answer = self.first.check_account_in(ledger, a, account);
         if is_unhandled(&answer) {
-            return self.second.check_in(ledger, a, who);
+            return self.second.check_account_in(ledger, a, account);
         }
         answer
     }
 
-    fn check_out(&self, ledger: &Ledger, a: &Asset, who: &Location) -> Result<(), MoveFault> {
-        let answer = self.first.check_out(ledger, a, who);
+    fn check_account_out(
+        &self,
+        ledger: &Ledger,
+        a: &Asset,
+        account: Option<[u8; 32]>,
+    ) -> Result<(), MoveFault> {
+        let answer = self.first.check_account_out(ledger, a, account);
         if is_unhandled(&answer) {
-            return self.second.check_out(ledger, a, who);
+            return self.second.check_account_out(ledger, a, account);
         }
         answer
     }

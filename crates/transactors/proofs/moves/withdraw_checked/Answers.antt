@@ -10,18 +10,16 @@ use Rattle.plain_lists.proofs.Lemmas.Facts.{none_if}
 pub withdraw_checked-requires : goal.withdraw_checked-requires
 withdraw_checked-requires g c =
     let rows = g.T.Transactor.rows c.args.t.now in
-    let site = g.T.Transactor.site c.args.t.now in
     let floors = g.T.Transactor.floors c.args.t.now in
-    record { enough = enough_given rows site floors c.args.ledger.now.held c.args.who.now c.in-Some.account c.args.list.now (sym c.account.ensures.account ∙ c.in-Some.is) c.requires.free }
+    record { enough = enough_given rows floors c.args.ledger.now.held c.args.from c.in-Some.account c.args.list.now c.in-Some.is c.requires.free }
 
 pub returns-in_default : goal.returns-in_default
 returns-in_default g c =
     let rows = g.T.Transactor.rows c.args.t.now in
-    let site = g.T.Transactor.site c.args.t.now in
     let floors = g.T.Transactor.floors c.args.t.now in
     let ledger = c.args.ledger.now in
-    let nobody = sym c.account.ensures.account ∙ none_if c.account.result c.in_default.not-Some in
-    let nothing = nobody_gives rows site floors ledger.held c.args.who.now c.args.list.now nobody c.requires.free in
+    let nobody = none_if c.args.from c.in_default.not-Some in
+    let nothing = nobody_gives rows floors ledger.held c.args.from c.args.list.now nobody c.requires.free in
     record {
       goods = c.empty.ensures ∙ sym bundle_of-none ∙ ap bundle_of (sym nothing);
       withdrawn = sym (ap (λ o. ledger_at_account o (λ account. Withdrawn account c.args.list.now ledger) ledger) nobody);

@@ -5,5 +5,5 @@ use Rattle.transactors.proofs.refusals.deposit_fault.Given as goal
 
 abbrev pub invariant-loop-asset : goal.invariant-loop-asset
 invariant-loop-asset g l =
-    first_move_fault (check_in (g.T.Transactor.rows l.t) (g.T.Transactor.site l.t) l.ledger.held l.who) l.asset-items
-    ≡ first_move_fault (check_in (g.T.Transactor.rows l.t) (g.T.Transactor.site l.t) l.ledger.held l.who) (drop l.asset-index l.asset-items)
+    first_move_fault (check_in (g.T.Transactor.rows l.t) l.ledger.held l.to) l.asset-items
+    ≡ first_move_fault (check_in (g.T.Transactor.rows l.t) l.ledger.held l.to) (drop l.asset-index l.asset-items)

@@ -5,35 +5,35 @@ use Rattle.transactors.proofs.refusals.transfer_fault.Goals as goal
 
 pub unreachable-requires : goal.unreachable-requires
 unreachable-requires g c =
-    giver_there (g.T.Transactor.rows c.args.t.now) (g.T.Transactor.site c.args.t.now) (g.T.Transactor.floors c.args.t.now) c.args.ledger.now c.args.list.now c.args.from.now c.args.to.now
+    giver_there (g.T.Transactor.rows c.args.t.now) (g.T.Transactor.floors c.args.t.now) c.args.ledger.now c.args.list.now c.args.from c.args.to
     c.withdraw_fault.result c.withdraw_fault.ensures.fault c.in_default.not-Some
-    (λ none. some_items c.items.result.now (sym c.is_empty.ensures ∙ c.if-is_empty.false) (c.items.ensures.value ∙ none)) (sym c.account.ensures.account ∙ c.in_default-account.is)
+    (λ none. some_items c.items.result.now (sym c.is_empty.ensures ∙ c.if-is_empty.false) (c.items.ensures.value ∙ none)) c.in_default-from.is
 
-pub returns-in_default-account-2 : goal.returns-in_default-account-2
-returns-in_default-account-2 g c = record {
-  fault = no_taker (g.T.Transactor.rows c.args.t.now) (g.T.Transactor.site c.args.t.now) (g.T.Transactor.floors c.args.t.now) c.args.ledger.now c.args.list.now c.args.from.now c.args.to.now
+pub returns-in_default-to : goal.returns-in_default-to
+returns-in_default-to g c = record {
+  fault = no_taker (g.T.Transactor.rows c.args.t.now) (g.T.Transactor.floors c.args.t.now) c.args.ledger.now c.args.list.now c.args.from c.args.to
       c.withdraw_fault.result c.withdraw_fault.ensures.fault c.in_default.not-Some
-      (λ none. some_items c.items.result.now (sym c.is_empty.ensures ∙ c.if-is_empty.false) (c.items.ensures.value ∙ none)) (sym c.account-2.ensures.account ∙ c.in_default-account-2.is);
+      (λ none. some_items c.items.result.now (sym c.is_empty.ensures ∙ c.if-is_empty.false) (c.items.ensures.value ∙ none)) c.in_default-to.is;
 }
 
 pub transfer_overflow-requires : goal.transfer_overflow-requires
 transfer_overflow-requires g c = record {
-  enough = giver_has (g.T.Transactor.rows c.args.t.now) (g.T.Transactor.site c.args.t.now) (g.T.Transactor.floors c.args.t.now) c.args.ledger.now c.args.list.now c.args.from.now c.args.to.now
+  enough = giver_has (g.T.Transactor.rows c.args.t.now) (g.T.Transactor.floors c.args.t.now) c.args.ledger.now c.args.list.now c.args.from c.args.to
       c.withdraw_fault.result c.withdraw_fault.ensures.fault c.in_default.not-Some
-      c.in-Some-account.giver (sym c.account.ensures.account ∙ c.in-Some-account.is);
+      c.in-Some-from.giver c.in-Some-from.is;
 }
 
 pub returns-in-None : goal.returns-in-None
 returns-in-None g c = record {
-  fault = both_free (g.T.Transactor.rows c.args.t.now) (g.T.Transactor.site c.args.t.now) (g.T.Transactor.floors c.args.t.now) c.args.ledger.now c.args.list.now c.args.from.now c.args.to.now
+  fault = both_free (g.T.Transactor.rows c.args.t.now) (g.T.Transactor.floors c.args.t.now) c.args.ledger.now c.args.list.now c.args.from c.args.to
       c.withdraw_fault.result c.withdraw_fault.ensures.fault c.in_default.not-Some
-      c.in-Some-account.giver c.in-Some-account-2.taker (sym c.account.ensures.account ∙ c.in-Some-account.is) (sym c.account-2.ensures.account ∙ c.in-Some-account-2.is) c.in-None.ensures.overflow;
+      c.in-Some-from.giver c.in-Some-to.taker c.in-Some-from.is c.in-Some-to.is c.in-None.ensures.overflow;
 }
 
 pub returns-in-Some-transfer_overflow : goal.returns-in-Some-transfer_overflow
 returns-in-Some-transfer_overflow g c = record {
-  fault = taker_refuses (g.T.Transactor.rows c.args.t.now) (g.T.Transactor.site c.args.t.now) (g.T.Transactor.floors c.args.t.now) c.args.ledger.now c.args.list.now c.args.from.now c.args.to.now
+  fault = taker_refuses (g.T.Transactor.rows c.args.t.now) (g.T.Transactor.floors c.args.t.now) c.args.ledger.now c.args.list.now c.args.from c.args.to
       c.withdraw_fault.result c.withdraw_fault.ensures.fault c.in_default.not-Some
-      c.in-Some-account.giver c.in-Some-account-2.taker (sym c.account.ensures.account ∙ c.in-Some-account.is) (sym c.account-2.ensures.account ∙ c.in-Some-account-2.is)
+      c.in-Some-from.giver c.in-Some-to.taker c.in-Some-from.is c.in-Some-to.is
       (DepositFault.Overflow c.in-Some-transfer_overflow.field-0) c.in-Some-transfer_overflow.ensures.overflow;
 }

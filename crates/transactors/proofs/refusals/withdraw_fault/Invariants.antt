@@ -5,5 +5,5 @@ use Rattle.transactors.proofs.refusals.withdraw_fault.Given as goal
 
 abbrev pub invariant-loop-asset : goal.invariant-loop-asset
 invariant-loop-asset g l =
-    first_move_fault (check_out (g.T.Transactor.rows l.t) (g.T.Transactor.site l.t) (g.T.Transactor.floors l.t) l.ledger.held l.who) l.asset-items
-    ≡ first_move_fault (check_out (g.T.Transactor.rows l.t) (g.T.Transactor.site l.t) (g.T.Transactor.floors l.t) l.ledger.held l.who) (drop l.asset-index l.asset-items)
+    first_move_fault (check_out (g.T.Transactor.rows l.t) (g.T.Transactor.floors l.t) l.ledger.held l.from) l.asset-items
+    ≡ first_move_fault (check_out (g.T.Transactor.rows l.t) (g.T.Transactor.floors l.t) l.ledger.held l.from) (drop l.asset-index l.asset-items)
