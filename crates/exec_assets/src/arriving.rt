@@ -50,7 +50,8 @@ fn receive<H: Host>(
     assets: &Assets,
     teleport: bool,
 ) -> Result<Result<(), XcmError>, AllocError>
-    requires ready { IsReadyFor (arrival_instruction teleport assets.now) (machine r.old (H.part h.old)) }
+    requires ready { IsReadyFor (arrival_instruction teleport assets.now)
+        (machine r.old (H.part h.old)) }
     ensures ok { IfOk result (λ answer. Ran (arrival_instruction teleport assets.now)
         (machine r.old (H.part h.old)) answer (machine r.new (H.part h.new))) }
     ensures err { OnErr result (LeftOnOom (arrival_instruction teleport assets.now)

@@ -13,7 +13,7 @@ use Rattle.exec_base.specs.declared.event.Event.{Event}
 use Rattle.exec_base.specs.Part.{ChainPart}
 use Rattle.exec_base.specs.Host.{floor_of}
 
--- what must stay of accounts: what is locked there of a fungible row
+-- what accounts must keep: what is locked there of a fungible row
 abbrev pub floors_of : ChainPart → Floors
 floors_of p k = if is_fungible_row (slice_get p.rows k.1) then floor_of p k.0 (unit_at p.rows k.1) else 0
 
@@ -46,7 +46,7 @@ dispatched p who c = record p {
   pending_events = p.pending_events ++ call_line p who c ∷ [];
 }
 
--- where memory was refused: a front of a batch was done, and no line is kept back
+-- where memory was refused: a prefix of a batch was done, and no line is kept back
 pub record IsDispatchedInPart (p : ChainPart) (who : List ℕ) (c : AnyCall) (now : ChainPart)
     : Type 0 where
   pub held : Held

@@ -280,7 +280,7 @@ buy_refusal p w payment = no_line_refusal (paying w payment p.lines)
 unfoldable pub unspent : ChainPart → Weight → Bundle → Bundle
 unspent p w payment = option_map_or (λ (line : Line). unspent_at w payment line) (paying w payment p.lines) payment
 
--- so much of a fungible asset that would have passed the end
+-- so much of a fungible asset that would have passed 2^128-1
 abbrev pub above : Listed → ℕ → Bundle
 above asset n = bundle_of (record { id = asset.0; fun = Fun.Fungible n } ∷ [])
 
@@ -406,7 +406,7 @@ fungible_id _ _ = None
 abbrev pub lock_id : Asset → Option Location
 lock_id a = fungible_id a.id a.fun
 
--- the lock of an asset on the account of a place, that the unlocker may let fall
+-- the lock of an asset on the account of a location, that the unlocker may let fall
 abbrev pub lock_key : ChainPart → Asset → Location → Location → Option LockKey
 lock_key p a owner unlocker =
     option_and_then (λ (id : Location). option_map (λ (who : List ℕ). let key : LockKey = (who, id, unlocker) in key) (account_of owner p.site)) (lock_id a)
@@ -417,7 +417,7 @@ is_lockable p a key =
     is_some (row_of p.rows a)
     && (not (is_pool_account p.pools key.0) && nat_le (amount_of a) (amount p.held (key.0, unit_of a)))
 
--- a place, and an asset, as the destination names them
+-- a location, and an asset, as the destination names them
 abbrev pub place_seen : ChainPart → Location → Location → Option Location
 place_seen p dest place = querier_from (reanchored place dest (path_of_site p.site))
 
@@ -445,7 +445,7 @@ unlock_refusal p a target from = where_locks p (unless (option_map_or (λ (k : L
 unfoldable pub asset_unlocked : ChainPart → Asset → Location → Location → ChainPart
 asset_unlocked p a target from = record p { locked = option_map_or (λ (k : LockKey). Unlocked k (amount_of a) p.locked) (lock_key p a target from) p.locked }
 
--- the account that a place's last junction names
+-- the account that a location's last junction names
 abbrev pub last_account : List Junction → Option (List ℕ)
 last_account [] = None
 last_account (AccountId32 network id ∷ []) = Some id
@@ -460,7 +460,7 @@ note_refusal p a owner from = where_locks p (unless (is_some (note_key a owner f
 unfoldable pub asset_noted : ChainPart → Asset → Location → Location → ChainPart
 asset_noted p a owner from = record p { locked = option_map_or (λ (k : NoteKey). Noted k (amount_of a) p.locked) (note_key a owner from) p.locked }
 
--- the account of a place on the chain itself that is just an account
+-- the account of a location on the chain itself that is just an account
 abbrev pub own_account : Location → Option (List ℕ)
 own_account l = at l.parents l.interior
   where

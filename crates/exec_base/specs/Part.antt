@@ -1,4 +1,4 @@
--- A chain's part of the world, as contracts see it: what it lists, what stands where, what it sends, and what is told.
+-- A chain's part of the world, as contracts see it: what it lists, what is where, what it sends, and what is told.
 use Rattle.std.specs.Prelude.{ℕ, Bool, List, Option}
 use Rattle.chain_ids.specs.declared.chain.ChainId.{ChainId}
 use Rattle.operands.specs.declared.pallet.PalletInfo.{PalletInfo}

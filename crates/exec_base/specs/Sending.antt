@@ -55,14 +55,14 @@ abbrev pub sent_event : ChainPart → Option Outgoing → List Event
 sent_event p None = []
 sent_event p (Some c) = Event.Sent p.site.chain c.channel.to c.next ∷ []
 
--- the message stands last in its channel
+-- the message is the last in its channel
 unfoldable pub sent : ChainPart → Location → List Instruction → Cargo → ChainPart
 sent p dest program cargo =
     record p { channels = change_first (leads_to_location p dest) (with_waiting program cargo) p.channels; pending_events = p.pending_events ++ sent_event p (channel_to_location p dest) }
 
 -- ---- the programs
 
--- what a program must be that is sent with two instructions in front: both versions can say it, no amount is 0, and it isn't too large
+-- what a program must be that is sent with two instructions before it: both versions can say it, no amount is 0, and it isn't too large
 -- to be counted
 pub record IsForwardable (program : List Instruction) : Type 0 where
   pub few : deep_count program < 2 ^ 32 - 2
@@ -93,7 +93,7 @@ abbrev pub named_refusal : ChainPart → Location → Option (List Instruction) 
 named_refusal p dest None = Some error.ReanchorFailed
 named_refusal p dest (Some program) = send_refusal p dest true program
 
--- it stands last in its channel, and nothing goes with it
+-- it is the last in its channel, and nothing goes with it
 abbrev pub named_sent : ChainPart → Location → Option (List Instruction) → ChainPart
 named_sent p dest None = p
 named_sent p dest (Some program) = sent p dest program Cargo.Nothing

@@ -32,7 +32,7 @@ pub trait Host {
     /// The chain's part of the world.
     ghost part: { Self → ChainPart };
 
-    /// Where the chain stands.
+    /// Where the chain is.
     fn site(&self) -> &Site
         ensures { result.now ≡ (part self.now).site };
 
@@ -47,7 +47,8 @@ pub trait Host {
 
     /// Takes assets out of an account.
     fn withdraw(&mut self, a: &Assets, who: &Location) -> Result<AssetBundle, HostFault>
-        ensures step { AnswersOrRefuses (withdraw_refusal (part self.old) a.now who.now) (bundle_of a.now)
+        ensures step { AnswersOrRefuses (withdraw_refusal (part self.old) a.now who.now)
+            (bundle_of a.now)
             (withdrawn (part self.old) a.now who.now) (part self.old) result (part self.new) };
 
     /// Puts goods into an account.
@@ -85,7 +86,8 @@ pub trait Host {
         xcm: &Program,
     ) -> Result<u64, HostFault>
         requires forwardable { IsForwardable xcm.now }
-        ensures step { AnswersOrRefuses (transfer_out_refusal (part self.old) a.now from.now dest.now
+        ensures step { AnswersOrRefuses
+            (transfer_out_refusal (part self.old) a.now from.now dest.now
             xcm.now) (number_to (part self.old) dest.now)
             (transferred_out (part self.old) a.now from.now dest.now xcm.now) (part self.old) result
             (part self.new) };
@@ -98,7 +100,8 @@ pub trait Host {
         xcm: &Program,
     ) -> Result<u64, (AssetBundle, HostFault)>
         requires forwardable { IsForwardable xcm.now }
-        ensures step { TakesGoodsOrRefuses (deposit_out_refusal (part self.old) goods dest.now xcm.now) goods
+        ensures step { TakesGoodsOrRefuses
+            (deposit_out_refusal (part self.old) goods dest.now xcm.now) goods
             (number_to (part self.old) dest.now)
             (deposited_out (part self.old) goods dest.now xcm.now) (part self.old) result
             (part self.new) };
@@ -112,8 +115,8 @@ pub trait Host {
         xcm: &Program,
     ) -> Result<u64, (AssetBundle, HostFault)>
         requires forwardable { IsForwardable xcm.now }
-        ensures step { TakesGoodsOrRefuses (ship_refusal (part self.old) goods way dest.now xcm.now) goods
-            (number_to (part self.old) dest.now)
+        ensures step { TakesGoodsOrRefuses (ship_refusal (part self.old) goods way dest.now xcm.now)
+            goods (number_to (part self.old) dest.now)
             (shipped (part self.old) goods way dest.now xcm.now) (part self.old) result
             (part self.new) };
 
@@ -156,14 +159,14 @@ pub trait Host {
 
     /// Gives back what was paid for the weight.
     fn refund(&mut self, w: Weight) -> Result<AssetBundle, AllocError>
-        ensures step { AnswersWithinMemory (refund_goods (part self.old) w) (refunded (part self.old) w)
-            (part self.old) result (part self.new) };
+        ensures step { AnswersWithinMemory (refund_goods (part self.old) w)
+            (refunded (part self.old) w) (part self.old) result (part self.new) };
 
     /// Joins goods into a bundle, and books what it can't hold.
     fn join(&mut self, into: &mut AssetBundle, goods: AssetBundle) -> Result<(), AssetBundle>
         requires listed { AreListed (listing (part self.old).rows) (Excess into.old goods) }
-        ensures step { Keeps goods (bundles_joined (part self.old) into.old goods) (part self.old) result
-            (part self.new) }
+        ensures step { Keeps goods (bundles_joined (part self.old) into.old goods) (part self.old)
+            result (part self.new) }
         ensures into { JoinedInto goods into.old result into.new };
 
     /// Burns goods.
@@ -174,7 +177,8 @@ pub trait Host {
 
     /// Takes a trap that has this origin and this list.
     fn claim(&mut self, a: &Assets, origin: &Location) -> Result<AssetBundle, HostFault>
-        ensures step { AnswersOrRefuses (claim_refusal (part self.old) a.now origin.now) (bundle_of a.now)
+        ensures step { AnswersOrRefuses (claim_refusal (part self.old) a.now origin.now)
+            (bundle_of a.now)
             (claimed (part self.old) a.now origin.now) (part self.old) result (part self.new) };
 
     /// Traps goods, which aren't empty.
@@ -185,7 +189,8 @@ pub trait Host {
 
     /// Puts paid fees into the fee account.
     fn settle(&mut self) -> Result<(), AllocError>
-        ensures step { AnswersWithinMemory tt (settled (part self.old)) (part self.old) result (part self.new) };
+        ensures step { AnswersWithinMemory tt (settled (part self.old)) (part self.old) result
+            (part self.new) };
 
     /// Keeps a bundle, without memory.
     fn park(&mut self, goods: AssetBundle)
@@ -225,7 +230,7 @@ pub trait Host {
     fn calls(&self) -> bool
         ensures { result ≡ (part self.now).calls };
 
-    /// Does a call for an account, and keeps the line back that tells of it. Where memory is refused a front of a batch may have been done.
+    /// Does a call for an account, and keeps the line back that tells of it. Where memory is refused, a prefix of a batch may have been done.
     /// Where the chain serves no calls it changes nothing.
     fn dispatch(&mut self, who: &[u8; 32], call: &Call) -> Result<CallEnd, AllocError>
         ensures step { Dispatches (part self.old).calls (part self.old) who.now call.now result
@@ -244,14 +249,16 @@ pub trait Host {
     ) -> Result<u64, HostFault>
         requires forwardable { IsForwardable
             (roll-Instruction (Instruction-F.LockAsset asset.now unlocker.now) ∷ []) }
-        ensures step { AnswersOrRefuses (lock_refusal (part self.old) asset.now owner.now unlocker.now)
+        ensures step { AnswersOrRefuses
+            (lock_refusal (part self.old) asset.now owner.now unlocker.now)
             (number_to (part self.old) unlocker.now)
             (asset_locked (part self.old) asset.now owner.now unlocker.now) (part self.old) result
             (part self.new) };
 
     /// Lets a lock fall, of which `from` is the unlocker.
     fn unlock(&mut self, asset: &Asset, target: &Location, from: &Location) -> Result<(), HostFault>
-        ensures step { AnswersOrRefuses (unlock_refusal (part self.old) asset.now target.now from.now) tt
+        ensures step { AnswersOrRefuses
+            (unlock_refusal (part self.old) asset.now target.now from.now) tt
             (asset_unlocked (part self.old) asset.now target.now from.now) (part self.old) result
             (part self.new) };
 
@@ -259,8 +266,8 @@ pub trait Host {
     fn note(&mut self, asset: &Asset, owner: &Location, from: &Location) -> Result<(), HostFault>
         requires forwardable { IsForwardable
             (roll-Instruction (Instruction-F.NoteUnlockable asset.now owner.now) ∷ []) }
-        ensures step { AnswersOrRefuses (note_refusal (part self.old) asset.now owner.now from.now) tt
-            (asset_noted (part self.old) asset.now owner.now from.now) (part self.old) result
+        ensures step { AnswersOrRefuses (note_refusal (part self.old) asset.now owner.now from.now)
+            tt (asset_noted (part self.old) asset.now owner.now from.now) (part self.old) result
             (part self.new) };
 
     /// Asks the locker to let a lock fall that is noted, and lowers the note.
@@ -272,7 +279,8 @@ pub trait Host {
     ) -> Result<u64, HostFault>
         requires forwardable { IsForwardable
             (roll-Instruction (Instruction-F.RequestUnlock asset.now locker.now) ∷ []) }
-        ensures step { AnswersOrRefuses (request_refusal (part self.old) asset.now owner.now locker.now)
+        ensures step { AnswersOrRefuses
+            (request_refusal (part self.old) asset.now owner.now locker.now)
             (number_to (part self.old) locker.now)
             (asset_requested (part self.old) asset.now owner.now locker.now) (part self.old) result
             (part self.new) };
@@ -285,12 +293,13 @@ pub trait Host {
         want: &Assets,
         maximal: bool,
     ) -> Result<AssetBundle, (AssetBundle, HostFault)>
-        ensures step { TakesGoodsOrRefuses (exchange_refusal (part self.old) give want.now maximal) give
-            (exchange_goods (part self.old) give want.now maximal)
+        ensures step { TakesGoodsOrRefuses (exchange_refusal (part self.old) give want.now maximal)
+            give (exchange_goods (part self.old) give want.now maximal)
             (exchanged (part self.old) give want.now maximal) (part self.old) result
             (part self.new) };
 
-    /// Tells an event, and behind it what is kept back.
+    /// Tells an event, and after it what is kept back.
     fn event(&mut self, e: Event) -> Result<(), AllocError>
-        ensures step { AnswersWithinMemory tt (told (part self.old) e) (part self.old) result (part self.new) };
+        ensures step { AnswersWithinMemory tt (told (part self.old) e) (part self.old) result
+            (part self.new) };
 }

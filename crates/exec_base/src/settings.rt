@@ -7,7 +7,7 @@ use trust_tables::{AssetRow, Site};
 /// What the network document says of a chain, which no call of the chain changes.
 #[derive(Drop)]
 pub struct Settings {
-    /// Where the chain stands.
+    /// Where the chain is.
     pub site: Site,
     /// The assets that it lists.
     pub rows: Listed<AssetRow>,

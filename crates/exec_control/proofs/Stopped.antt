@@ -1,4 +1,4 @@
--- What stands where memory was refused in a dispatch.
+-- What is left where memory was refused in a dispatch.
 use Rattle.std.proofs.Common.{◌≡◌, ◌⊎◌, inl, inr, ℕ, Bool, true, List, Option, Some, Result, Ok, Err, refl, sym, ap, ◌∙◌, subst}
 use Rattle.std.specs.Prelude.{OnErr}
 use Rattle.locations.specs.declared.relative.Location.{Location}

@@ -1,10 +1,9 @@
 //! What the expectations compare. Nothing here takes memory.
-ghost use Rattle.std.specs.Prelude.{◌≡◌, ◌==◌, Some, find};
+ghost use Rattle.std.specs.Prelude.{◌≡◌, ◌==◌, true, Some, find};
 ghost use Rattle.std.specs.Option.{option_copied};
 ghost use Rattle.trust_tables.specs.Chains.{path_of_site};
 ghost use Rattle.std.specs.Str.{bytes_eq};
 ghost use Rattle.xcm_format.specs.Parts.{FitsError, failure, bytes};
-ghost use Rattle.exec_control.specs.Numbers as numbers;
 ghost use Rattle.exec_rules.specs.Origins as origins;
 ghost use Rattle.exec_rules.specs.Expectations as expectations;
 
@@ -34,66 +33,24 @@ pub(crate) fn is_original(r: &Registers) -> bool
     }
 }
 
-/// The number of an error in the format.
-fn error_number(error: &XcmError) -> u8
-    ensures { result ≡ numbers.error_number error.now }
+/// For the prover alone: the code of a Trap fits.
+fn fits(error: &XcmError)
+    ensures { FitsError error.now }
 {
-    match error {
-        XcmError::Overflow => 0,
-        XcmError::Unimplemented => 1,
-        XcmError::UntrustedReserveLocation => 2,
-        XcmError::UntrustedTeleportLocation => 3,
-        XcmError::LocationFull => 4,
-        XcmError::LocationNotInvertible => 5,
-        XcmError::BadOrigin => 6,
-        XcmError::InvalidLocation => 7,
-        XcmError::AssetNotFound => 8,
-        XcmError::FailedToTransactAsset => 9,
-        XcmError::NotWithdrawable => 10,
-        XcmError::LocationCannotHold => 11,
-        XcmError::ExceedsMaxMessageSize => 12,
-        XcmError::DestinationUnsupported => 13,
-        XcmError::Transport => 14,
-        XcmError::Unroutable => 15,
-        XcmError::UnknownClaim => 16,
-        XcmError::FailedToDecode => 17,
-        XcmError::MaxWeightInvalid => 18,
-        XcmError::NotHoldingFees => 19,
-        XcmError::TooExpensive => 20,
-        XcmError::Trap(_) => 21,
-        XcmError::ExpectationFalse => 22,
-        XcmError::PalletNotFound => 23,
-        XcmError::NameMismatch => 24,
-        XcmError::VersionIncompatible => 25,
-        XcmError::HoldingWouldOverflow => 26,
-        XcmError::ExportError => 27,
-        XcmError::ReanchorFailed => 28,
-        XcmError::NoDeal => 29,
-        XcmError::FeesNotMet => 30,
-        XcmError::LockError => 31,
-        XcmError::NoPermission => 32,
-        XcmError::Unanchored => 33,
-        XcmError::NotDepositable => 34,
-    }
-}
-
-/// The code of a Trap, and 0 for any other error.
-fn trap_code(error: &XcmError) -> u64
-    ensures code { result ≡ numbers.trap_code error.now }
-    ensures fits { FitsError error.now }
-{
-    match error {
-        XcmError::Trap(code) => *code,
-        _ => 0,
+    if let XcmError::Trap(code) = error {
+        let _code = *code;
     }
 }
 
 /// Whether two errors are one and the same.
 fn is_same_error(a: &XcmError, b: &XcmError) -> bool
-    ensures same { result ≡ numbers.is_same_error a.now b.now }
+    ensures told { result ≡ true → a.now ≡ b.now }
+    ensures same { a.now ≡ b.now → result ≡ true }
     ensures fits { FitsError a.now × FitsError b.now }
 {
-    trap_code(a) == trap_code(b) && error_number(a) == error_number(b)
+    fits(a);
+    fits(b);
+    a == b
 }
 
 /// Whether two failures have one spelling.

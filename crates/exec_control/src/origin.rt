@@ -51,7 +51,7 @@ pub fn descend_origin<H: Host>(
     }
 }
 
-/// The place below, where it has at most 8 junctions.
+/// The location below, where it has at most 8 junctions.
 fn descended(who: &Location, interior: &Junctions) -> Option<Location>
     ensures { MatchOption result
         (fits_below who.now interior.now ≡ false)

@@ -39,7 +39,7 @@ pub fn clear_transact_status<H: Host>(
     Ok(Ok(()))
 }
 
-/// 43 SetFeesMode: sets whether delivery fees come from the origin's account, in place of the holding register.
+/// 43 SetFeesMode: sets whether delivery fees come from the origin's account, instead of the holding register.
 pub fn set_fees_mode<H: Host>(
     r: &mut Registers,
     h: &mut H,

@@ -150,7 +150,7 @@ pub fn export_message<H: Host>(
     Ok(Err(XcmError::Unroutable))
 }
 
-/// 46 AliasOrigin: no origin may stand for another.
+/// 46 AliasOrigin: no origin may act as another.
 pub fn alias_origin<H: Host>(
     r: &mut Registers,
     h: &mut H,

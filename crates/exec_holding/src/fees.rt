@@ -48,7 +48,7 @@ pub fn charge<H: Host>(
     }
 }
 
-/// Puts the fee in the slot back to where it came from, behind a refusal, or parks it where memory is refused.
+/// Puts the fee in the slot back to where it came from, after a refusal, or parks it where memory is refused.
 pub fn give_back<H: Host>(r: &mut Registers, h: &mut H) -> Result<(), AllocError>
     requires refundable { IsRefundable (machine r.old (H.part h.old)) }
     ensures ok { OnOk result (machine r.new (H.part h.new)

@@ -82,7 +82,7 @@ pub fn take_asset(
     ensures ok { IfOk result (λ taken. TakesAsset asset.now holding.old taken holding.new) }
     ensures err { OnErr result (holding.new ≡ holding.old) }
 {
-    let list = Assets::one(alloc, asset.copy())?;
+    let list = Assets::of_one(alloc, asset)?;
     match holding.try_take(&list) {
         Ok(goods) => Ok(Some(goods)),
         Err(TakeFault::NotHeld) => Ok(None),

@@ -118,7 +118,7 @@ ends_untrapped m none =
     ap (λ (p : ChainPart). p.traps) (none_is_trapped (length (rows last.regs.holding)) (settled told_part) (trapped (settled told_part) last.regs.holding (owner_of last.regs)) none)
     ∙ settled_traps told_part ∙ told_traps last.part (end_event last.regs)
 
--- ---- weights behind the last refund
+-- ---- weights after the last refund
 kept_behind : (most : Weight) (c d : Control) → Steers {X = Instruction} (λ p. p) Instruction-F.RefundSurplus c d → (IsWithin c.surplus most) × (IsWithin c.refunded c.surplus)
     → (IsWithin d.surplus most) × (IsWithin d.refunded d.surplus)
 kept_behind most c d (inl same) k = subst (λ (e : Control). (IsWithin e.surplus most) × (IsWithin e.refunded e.surplus)) (sym same) k

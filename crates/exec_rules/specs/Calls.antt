@@ -71,7 +71,7 @@ call_done m most None account = m
 call_done m most (Some c) None = m
 call_done m most (Some c) (Some account) = with_call m most c account
 
--- a front of a batch was done, and the registers are as they were
+-- a prefix of a batch was done, and the registers are as they were
 pub record CallStopped (m : Machine) (c : AnyCall) (account : List ℕ) (now : Machine) : Type 0 where
   pub part : ChainPart
   pub in_part : IsDispatchedInPart m.part account c part

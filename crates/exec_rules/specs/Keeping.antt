@@ -34,7 +34,7 @@ abbrev pub IsAheadOf : (Instruction → Type 0) → Stage → Type 0
 IsAheadOf Q (At part place x behind m) = AllAhead Q (x ∷ behind) (control_of m.regs)
 IsAheadOf Q (Ended m) = AllAhead Q [] (control_of m.regs)
 
--- it goes over to what an instruction keeps
+-- it carries over to what an instruction keeps
 abbrev pub GoesInside : (Instruction → Type 0) → Type 0
 GoesInside Q = (x : Instruction) → Q x → AllInside Q (kept (out-Instruction x))
 

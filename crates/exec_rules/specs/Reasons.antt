@@ -1,4 +1,4 @@
--- Why an instruction makes a call where it does, and what stands between two machines that calls lead from and to. This project's own
+-- Why an instruction makes a call where it does, and what relates two machines that calls lead from and to. This project's own
 -- vocabulary.
 use Rattle.std.specs.List.{AllByRecursion}
 use Rattle.std.specs.Prelude.{◌≡◌, ◌⊎◌, ⊤, ℕ, Bool, true, false, IsTrue, List, [], ◌∷◌, Option, Some, None}
@@ -169,7 +169,7 @@ abbrev pub HaveReasons : Instruction-F Instruction → Machine → List MachineC
 HaveReasons l m [] t = ⊤
 HaveReasons l m (c ∷ cs) t = HasReason Moment.Inside l m t c × HaveReasons l m cs (after c t)
 
--- what may have been asked where memory stops an instruction: goods came, or were taken out, and are put aside, or a front of a call's batch was
+-- what may have been asked where memory stops an instruction: goods came, or were taken out, and are put aside, or a prefix of a call's batch was
 -- done; nothing else is changed yet
 abbrev pub ComesBeforeStop : MachineCall → Type 0
 ComesBeforeStop MachineCall.Join = ⊥

@@ -1,6 +1,6 @@
 -- The run of a program. Source: xcm-executor's documentation of handlers, appendices and surplus.
 --
---   stage      where a run stands: before an instruction, with those of its program behind it; or at its end
+--   stage      where a run is: before an instruction, with those of its program after it; or at its end
 --   next       one instruction taken
 --   run        as many taken as there may be
 --   reaches    a run comes from one stage to another
@@ -25,7 +25,7 @@ use Rattle.exec_rules.specs.Machine.{Machine, Rules, Performed, weight_added}
 abbrev pub failed_with : ℕ → XcmError → Weight → Registers → Registers
 failed_with place e unused r = record r { error = Some (place, e); surplus = weight_added r.surplus unused }
 
--- the instructions behind it don't run
+-- the instructions after it don't run
 abbrev pub failed : ℕ → XcmError → List Instruction → Registers → Registers
 failed place e behind r = failed_with place e (weight_sum r.rule behind) r
 
@@ -39,7 +39,7 @@ handler_dropped r = record r { handler = []; handler_weight = no_weight; surplus
 abbrev pub without_appendix : Registers → Registers
 without_appendix r = record r { appendix = []; appendix_weight = no_weight }
 
--- ---- where a run stands
+-- ---- where a run is
 
 pub data Stage : Type 0 where
   At : Part → ℕ → Instruction → List Instruction → Machine → Stage
@@ -104,7 +104,7 @@ abbrev pub still_to_run : Stage → ℕ
 still_to_run (At part place x behind m) = deep_count (x ∷ behind) + deep_count m.regs.handler + deep_count m.regs.appendix
 still_to_run (Ended m) = deep_count m.regs.handler + deep_count m.regs.appendix
 
--- a run stands before an instruction; it is over
+-- a run is before an instruction; it is over
 abbrev pub IsUnderWay : Stage → Type 0
 IsUnderWay (At part place x behind m) = ⊤
 IsUnderWay (Ended m) = ⊥

@@ -25,9 +25,9 @@ ghost use Rattle.exec_rules.specs.Execution.{first_stage, last_machine, executed
 
 use crate::{law_of_orderly_instructions, law_of_orderly_runs, law_of_readiness};
 
-/// What is admitted weighs what is said; its run begins balanced with that weight, so wherever it comes the surplus is at most the weight,
-/// and what was refunded at most the surplus, behind the last refund too; from a chain at rest it is ready for whichever instruction comes next; it ends, and leaves the chain at rest. A program that isn't admitted changes nothing. At the end no fee is left aside,
-/// nothing is left with the trader, and a holding is trapped just where it isn't empty.
+/// What is admitted weighs what is said. Its run begins balanced with that weight, so wherever it comes the surplus is at most the weight, and what was
+/// refunded at most the surplus, after the last refund too. From a chain at rest it is ready for whichever instruction comes next, and leaves the chain at
+/// rest. It ends: no fee is left aside, nothing with the trader, and a holding is trapped just where it isn't empty. What isn't admitted changes nothing.
 pub fn law_of_admission()
     ensures weighed { (rules : ChainRules) (origin : Location) (credit : Weight)
         (queries : List OpenQuery) (program : List Instruction) (a : Admitted)

@@ -20,7 +20,7 @@ ghost use Rattle.exec_rules.specs.Reasons.{HaveReasons, IsLedTo};
 use crate::law_of_orderly_runs;
 
 /// An instruction is refused by the first of its calls that is refused, and else leaves what they leave, with the registers that it changes. Each
-/// call has its reason, and where memory stops an instruction, accepted calls have led there, which change nothing else yet or did a front of a
+/// call has its reason, and where memory stops an instruction, accepted calls have led there, which change nothing else yet or did a prefix of a
 /// call's batch.
 pub fn law_of_instructions_as_calls()
     ensures refused { (l : Instruction-F Instruction) (m : Machine)

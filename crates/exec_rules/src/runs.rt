@@ -10,7 +10,7 @@ ghost use Rattle.exec_rules.specs.Accounts.{IsBalanced, IsAffordable, KeepsAccou
 ghost use Rattle.exec_rules.specs.Keeping.{LeavesAll, IsAheadOf};
 
 /// Where instructions steer a run only as they may: each instruction is taken at most once, so every run ends, and a run from a stage
-/// that it reaches is the same run. Wherever it stands, the surplus is at most the weight that was admitted, what was refunded is at most
+/// that it reaches is the same run. Wherever it is, the surplus is at most the weight that was admitted, what was refunded is at most
 /// the surplus, and the next instruction may be taken. A refused instruction changes no
 /// register but the error, the surplus and those of the handler and the appendix, and nothing of the chain but what is told.
 pub fn law_of_orderly_runs()

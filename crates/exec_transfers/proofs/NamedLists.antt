@@ -86,7 +86,7 @@ pub no_zero_held : (b : Bundle) → has_zero (held_assets b) ≡ false
 unfolding held_assets
 no_zero_held b = no_zero_at (rows b) (rows_positive b)
 
--- what a target names, with a test of ids in place of the rest
+-- what a target names, with a test of ids instead of the rest
 not_zero_by : (a : Asset) (o : Option AssetId) (others : List Asset) → is_zero a ≡ false → has_zero others ≡ false → has_zero (with_named (option_map (λ (id : AssetId). record { id = id; fun = a.fun }) o) others) ≡ false
 not_zero_by a None others h k = k
 not_zero_by a (Some id) others h k = or_false _ _ h k

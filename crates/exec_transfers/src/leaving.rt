@@ -216,7 +216,8 @@ pub fn initiate_teleport<H: Host>(
     ensures ok { IfOk result
         (λ answer. Ran (Instruction-F.InitiateTeleport assets.now dest.now xcm.now)
         (machine r.old (H.part h.old)) answer (machine r.new (H.part h.new))) }
-    ensures err { OnErr result (LeftOnOom (Instruction-F.InitiateTeleport assets.now dest.now xcm.now)
+    ensures err { OnErr result
+        (LeftOnOom (Instruction-F.InitiateTeleport assets.now dest.now xcm.now)
         (machine r.old (H.part h.old)) (machine r.new (H.part h.new))) }
 {
     send_away(alloc, r, h, Way::Teleport, assets, dest, xcm)

@@ -27,7 +27,7 @@ fn named_assets(
     Ok(named)
 }
 
-/// Whether each asset stands before the next.
+/// Whether each asset comes before the next.
 fn is_rising(items: &[Asset]) -> bool
     ensures { result ≡ is_rising items.now }
 {

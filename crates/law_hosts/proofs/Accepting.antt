@@ -55,7 +55,7 @@ use Rattle.law_hosts.proofs.Trading.{above_at, above_total, conserves_purchase, 
 burn_passes : (k : Burn) → IsTrue (is_burn_of k.0 k)
 burn_passes k = same_key listed_keys k.0
 
--- burns that are part of some goods pass no end
+-- burns that are part of some goods pass no maximum
 books_below : (p : ChainPart) (goods : Bundle) (more : Burns) → ((k : Listed) → total (is_burn_of k) more ≤ total (is_unit_of k) goods)
     → ((k : Listed) → whole (eq_by_cmp listed_cmp k) p + total (is_unit_of k) goods ≤ most_burned) → BooksBelow p more
 books_below p goods more part room k =
@@ -158,7 +158,7 @@ makes_arriving list true = refl
 makes_arriving list false = refl
 
 module _ (withdraws : Withdraws) (moves : MovesAreKept) (l : Instruction-F Instruction) (m : Machine) (steady : IsSteady m) (lists : HasWithdrawalList l) (fees : HasFeeLists m.part) (room : HasRoomFor empty m) (plain : makes l ≡ false) where
-  -- the end of a sum of burns isn't passed
+  -- the maximum of a sum of burns isn't passed
   room_at : (t : MachineWithGoods) → Whole m t → (k : Listed) → whole_at (eq_by_cmp listed_cmp k) t ≤ most_burned
   room_at t w k = let e = w (eq_by_cmp listed_cmp k) in let r = room k in omega (arith, e, r)
 

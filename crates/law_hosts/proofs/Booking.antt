@@ -96,7 +96,7 @@ conserves_taken_fee p test =
     let none = total-empty unit_keys (is_unit_where test) in
     omega (arith, none)
 
--- sums that don't reach their end
+-- sums that don't reach their maximum
 fees_below : (p : ChainPart) → KeepsBelow p → fees_with p.fees p.fee_slot ≡ merge p.fees p.fee_slot
 unfolding fees_with
 fees_below p below = ap (merge p.fees) (same_amounts unit_keys _ _ (λ unit.

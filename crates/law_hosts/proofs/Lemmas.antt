@@ -241,7 +241,7 @@ pub dispatched_floors : (p : ChainPart) (who : List ℕ) (c : AnyCall) → Holds
 unfolding dispatched
 dispatched_floors p who c floors = held_floors p who c floors
 
--- what stands where memory was refused is what a batch of a front would leave
+-- what is left where memory was refused is what a batch of a prefix would leave
 pub in_part_floors : (p : ChainPart) (who : List ℕ) (c : AnyCall) (now : ChainPart) → IsDispatchedInPart p who c now → HoldsFloors p → HoldsFloors now
 in_part_floors p who c now h floors =
     subst HoldsFloors (sym h.is)

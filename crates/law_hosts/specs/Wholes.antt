@@ -2,7 +2,7 @@
 -- in or out have the same sum before and after. This project's own vocabulary.
 --
 --   t          a test of units; their amounts are summed up, an instance as 1
---   test       a test of listed assets: a unit counts where its asset passes, and so does a burn, since the book of burns knows no instances
+--   test       a test of listed assets: a unit counts where its asset passes, and so does a burn, since the book of burns doesn't tell instances apart
 use Rattle.std.specs.Prelude.{◌≡◌, ℕ, ◌+◌, ◌-◌, ◌^◌, ◌≤◌, ◌&&◌, Bool, false, List, Option, Some, None, ⊤}
 use Rattle.std.specs.Ordering.{eq_by_cmp}
 use Rattle.std.specs.List.{sum_by}
@@ -69,11 +69,11 @@ Conserves goods_in goods_out before now =
 
 -- ---- what a law needs of a chain
 
--- no sum of burns passes its end by these
+-- no sum of burns passes its maximum by these
 abbrev pub BooksBelow : ChainPart → Burns → Type 0
 BooksBelow p more = AreTotals (merge p.burns more)
 
--- no sum of kept delivery fees passes its end by what the slot holds
+-- no sum of kept delivery fees passes its maximum by what the slot holds
 abbrev pub KeepsBelow : ChainPart → Type 0
 KeepsBelow p = (unit : Unit) → amount p.fees unit + amount p.fee_slot unit ≤ most_burned
 
@@ -81,7 +81,7 @@ KeepsBelow p = (unit : Unit) → amount p.fees unit + amount p.fee_slot unit ≤
 abbrev pub IsFeeAccountWithin : ChainPart → Type 0
 IsFeeAccountWithin p = (unit : Unit) → amount p.held (p.fee_account, unit) ≤ 2 ^ 128 - 1
 
--- no sum of burns passes its end by what a purchase books
+-- no sum of burns passes its maximum by what a purchase books
 abbrev pub BuysBelow : ChainPart → Weight → Bundle → Type 0
 BuysBelow p w payment = (line : Line) → paying w payment p.lines ≡ Some line → BooksBelow p (burned_for Cause.Saturated (above (listed_of (coin_of line.rate)) (excess w line)))
 

@@ -22,7 +22,7 @@ pub fn law_of_floors_under_moves()
         → HoldsFloors (got p goods who) }
 {}
 
-/// A call that is dispatched for an account leaves each account at least its floor of each asset, and so does what stands of it where memory
+/// A call that is dispatched for an account leaves each account at least its floor of each asset, and so does the part of it that was done where memory
 /// was refused.
 pub fn law_of_floors_under_calls()
     ensures dispatched { (p : ChainPart) (who : List ℕ) (c : AnyCall) → HoldsFloors p

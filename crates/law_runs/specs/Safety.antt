@@ -60,7 +60,7 @@ IsSpared m = Spares (origins m) m.part.site
 abbrev pub hold : Machine → Sum
 hold m t = total t m.regs.holding
 
--- places and holding
+-- the chain and the holding
 abbrev pub has : (Unit → Bool) → Machine → ℕ
 has t m = in_places t m.part + hold m t
 
@@ -108,7 +108,7 @@ pub record Safely (m n : Machine) : Type 0 where
   pub links : links_of n.part.channels ≡ links_of m.part.channels
   pub cargo : m.part.cargo.cargo ≡ cargos.Nothing → n.part.cargo.cargo ≡ cargos.Nothing
 
--- what an instruction relies on: no other chain's account is charged, no sum passes its end, what is held is listed, and the chain is one of
+-- what an instruction relies on: no other chain's account is charged, no sum passes its maximum, what is held is listed, and the chain is one of
 -- the network's
 pub record MeetsPremises (n : List Table) (m : Machine) : Type 0 where
   pub spared : IsSpared m

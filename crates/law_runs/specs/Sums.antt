@@ -1,10 +1,10 @@
--- What a chain has at its places, in sums over any test of units, and what a change of the chain does to these sums. This project's own
+-- What a chain has outside its channels, in sums over any test of units, and what a change of the chain does to these sums. This project's own
 -- vocabulary.
 --
 --   t          a test of units; their amounts are summed up, an instance as 1
---   test       a test of listed assets, since the book of burns knows no instances
---   ins, outs  what comes to the places from outside them, and what goes away from them, by any test
--- ---- the places
+--   test       a test of listed assets, since the book of burns doesn't tell instances apart
+--   ins, outs  what comes to the chain from outside, and what goes away from it, by any test
+-- ---- where units are
 use Rattle.std.specs.Prelude.{ℕ, ◌+◌, ◌^◌, ◌≤◌, Bool, List, Option}
 use Rattle.std.specs.Ordering.{eq_by_cmp}
 use Rattle.std.specs.List.{sum_by}
@@ -54,7 +54,7 @@ kept_of p = record {
   cargo = p.cargo.cargo;
 }
 
--- at all places but the channels: accounts, traps, fees and parked bundles
+-- everywhere but in the channels: accounts, traps, fees and parked bundles
 unfoldable pub in_kept : (Unit → Bool) → Kept → ℕ
 in_kept t k =
     total (λ (h : Holder). t h.1) k.held

@@ -15,7 +15,7 @@ use Rattle.exec_rules.specs.Machine.{Machine}
 use Rattle.law_coherence.specs.Networks.{Table}
 use Rattle.law_coherence.specs.Parts.{Cargo, Nothing, Deposit, Withdrawal, Teleport, Channel, Part}
 
--- where a chain stands and what it lists
+-- where a chain is and what it lists
 abbrev pub table_of : ChainPart → Table
 table_of p = record { site = p.site; rows = p.rows }
 

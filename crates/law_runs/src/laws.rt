@@ -20,7 +20,7 @@ use ledgers::law_of_ledgers;
 use weight_trader::law_of_conserved_payments;
 
 /// Where the chains agree, each accepted instruction is a safe change of its chain, with what the run holds counted, and leaves the run where the
-/// next one is; so is a run, wherever it comes, and its end; and what stands where memory was refused inside an instruction.
+/// next one is; so is a run, wherever it comes, and its end; and what is left where memory was refused inside an instruction.
 pub fn law_of_safe_runs()
     ensures done { (n : List Table) (x : Instruction) (m : Machine)
         → Agrees n → AreLists x → refusal_of x m ≡ None → Goes n m (xcm.done x m) }

@@ -1,4 +1,4 @@
--- The instruction of a list that is taken next, and the ones behind it, which stay while it is executed in its place.
+-- The instruction of a list that is taken next, and the ones after it, which stay while it is executed in place.
 use Rattle.std.proofs.Common.{◌≡◌, ℕ, ◌+◌, ◌-◌, ◌<◌, ◌≤◌, List, [], ◌∷◌, length, drop, take, sym, ap, ◌∙◌, arith, length-drop}
 use Rattle.std.specs.Prelude.{slice_index_or, slice_set}
 use Rattle.std.proofs.lemmas.List.{drop_more, drop_all, drop-set-lt, take_all}

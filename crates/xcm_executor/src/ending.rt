@@ -12,7 +12,7 @@ ghost use Rattle.xcm_executor.specs.Running.{wound_up, HaltedBefore};
 
 use asset_bundles::AssetBundle;
 use exec_assets::refund_surplus;
-use exec_base::{Event, Host, Registers};
+use exec_base::{Boxed, Event, Host, Registers};
 use exec_rules::law_of_readiness;
 use locations::Location;
 use operands::Weight;
@@ -45,7 +45,7 @@ fn take_held(alloc: Global, r: &mut Registers) -> AssetBundle
     mem::replace(&mut r.holding, AssetBundle::empty(alloc))
 }
 
-/// Lets the registers go, of which what was held was taken out.
+/// Drops the registers, of which what was held was taken out.
 pub(crate) fn let_go(r: Registers) {
     let Registers {
         holding,
@@ -129,18 +129,18 @@ fn refund<H: Host>(r: &mut Registers, h: &mut H) -> Result<(), AllocError>
     }
 }
 
-/// The same origin.
-fn same(origin: &Option<Location>) -> Option<Location>
-    ensures { result ≡ origin.now }
+/// The same origin, in a place of its own.
+fn same(alloc: Global, origin: &Option<Location>) -> Result<Option<Boxed<Location>>, AllocError>
+    ensures { IfOk result (λ copy. copy ≡ origin.now) }
 {
     match origin {
-        Some(origin) => Some(origin.copy()),
-        None => None,
+        Some(origin) => Ok(Some(Boxed::new(alloc, origin.copy())?)),
+        None => Ok(None),
     }
 }
 
 /// Refunds what is left of the surplus, tells of the end, and settles the fees.
-fn wind_up<H: Host>(r: &mut Registers, h: &mut H) -> Result<(), AllocError>
+fn wind_up<H: Host>(alloc: Global, r: &mut Registers, h: &mut H) -> Result<(), AllocError>
     requires ready { IsReady refund_surplus (machine r.old (H.part h.old)) }
     ensures ok { OnOk result (machine r.new (H.part h.new)
         ≡ wound_up (machine r.old (H.part h.old))) }
@@ -148,8 +148,9 @@ fn wind_up<H: Host>(r: &mut Registers, h: &mut H) -> Result<(), AllocError>
         (machine r.new (H.part h.new))) }
 {
     refund(r, h)?;
+    let origin = same(alloc, &r.origin)?;
     h.event(Event::End {
-        origin: same(&r.origin),
+        origin,
         topic: r.topic,
         surplus: r.surplus,
         refunded: r.refunded,
@@ -174,7 +175,7 @@ pub(crate) fn close<H: Host>(
         (H.part h.new)) }
 {
     law_of_readiness(); // For the prover alone.
-    match wind_up(r, h) {
+    match wind_up(alloc, r, h) {
         Ok(()) => {
             let ended = outcome(weight, r);
             trap_rest(alloc, r, h)?;

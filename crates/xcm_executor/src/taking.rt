@@ -88,7 +88,8 @@ fn take<H: Host>(
     requires ready { IsReady instruction.old (machine r.old (H.part h.old)) }
     ensures ok { IfOk result (λ error. IsTaken xcm part place instruction.old
         (machine r.old (H.part h.old)) error (machine r.new (H.part h.new))) }
-    ensures err { OnErr result (Halted xcm leaves_on_oom instruction.old (machine r.old (H.part h.old))
+    ensures err { OnErr result
+        (Halted xcm leaves_on_oom instruction.old (machine r.old (H.part h.old))
         (machine r.new (H.part h.new))) }
 {
     let number = instruction.index();

@@ -124,7 +124,7 @@ ran_balances most x behind c d e b =
       small = b.small;
     }
 
--- an instruction failed, and these behind it are given up
+-- an instruction failed, and those after it are given up
 pub failed_balances : (most : Weight) (x : Instruction) (behind : List Instruction) (c : Control) → Balances most (x ∷ behind) c → Balances most [] (record c { surplus = weight_added c.surplus (weight_sum c.rule behind) })
 failed_balances most x behind c b = record {
   in_time = gives_up ref_time (λ v w. refl) (λ r p. refl) (λ v w h. h.ref_time) refl most.ref_time _ c (weight_sum c.rule behind) (omega arith) b.in_time;

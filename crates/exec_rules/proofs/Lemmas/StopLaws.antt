@@ -180,7 +180,7 @@ not_joined : (l : Instruction-F Instruction) (m : Machine) (rule : Location → 
     → ((who : Location) → m.regs.origin ≡ Some who → rule who ≡ None → IsLedTo l m (parking m (change who) goods)) → IsLedTo l m now
 not_joined l m rule change goods now is stops led = lead_as l m (between m) now _ stops.1 (came_by l m m.regs.origin rule change goods refl (sym is ∙ stops.0) led)
 
--- a front of a batch was done
+-- a prefix of a batch was done
 call_stops : (m now : Machine) (kind : OriginKind) (most : Weight) (bytes : List ℕ) (who : Location) (c : Option AnyCall) (o : Option (List ℕ)) → m.regs.origin ≡ Some who → caller_in m kind who ≡ o → CallStops m c o now → IsLedTo (Instruction-F.Transact kind most bytes) m now
 call_stops m now kind most bytes who None o is e stops = absurd stops
 call_stops m now kind most bytes who (Some c) None is e stops = absurd stops

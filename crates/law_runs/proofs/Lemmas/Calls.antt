@@ -136,7 +136,7 @@ most_is = refl
 burn_passes : (k : Burn) → IsTrue (is_burn_of k.0 k)
 burn_passes k = same_key listed_keys k.0
 
--- burns that are part of what goes in pass no end
+-- burns that are part of what goes in pass no maximum
 pub below : (p : ChainPart) (ins : Sum) (more : Burns) → HasRoom ins p → ((k : Listed) → total (is_burn_of k) more ≤ ins (is_unit_of k)) → AreTotals (merge p.burns more)
 below p ins more room part k =
     let sum = amount-merge burn_keys p.burns more k in

@@ -29,7 +29,7 @@ use Rattle.law_coherence.proofs.Lemmas.Checking.{risen_by_none}
 use Rattle.law_runs.specs.Views.{table_of}
 use Rattle.plain_lists.proofs.Lemmas.Facts.{and_true, false_not_true as not_false}
 
--- with less in it; it ends at 0
+-- with less in it; it doesn't fall below 0
 abbrev pub fallen : ℕ → Option ℕ → Option ℕ
 fallen less None = None
 fallen less (Some amount) = Some (amount - less)

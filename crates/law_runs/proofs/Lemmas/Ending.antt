@@ -35,7 +35,7 @@ use Rattle.law_runs.proofs.Lemmas.Calls.{call_then, call_with, still, room_kept,
 use Rattle.law_runs.specs.Safety.{hold}
 use Rattle.law_runs.proofs.Lemmas.Accepted.{pooled, hold_pooled, nothing_in_hand, taking_fee}
 
--- ---- what is paid for weight stays below its end
+-- ---- what is paid for weight stays below its maximum
 refunded_within : (p : ChainPart) (w : Weight) → AreWithinEnd p.lines → AreWithinEnd (refunded p w).lines
 unfolding refunded Refunded
 refunded_within p w h = changed_all (λ (line : Line). line.paid ≤ 2 ^ 128 - 1) (is_refunded w) (without_refund w) (λ line le. omega (arith, le)) p.lines h

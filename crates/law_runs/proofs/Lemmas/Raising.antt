@@ -1,4 +1,4 @@
--- Lemmas: where each checking account, with all that its chain has, is below its end, no teleport of what is held is refused for it.
+-- Lemmas: where each checking account, with all that its chain has, is below its maximum, no teleport of what is held is refused for it.
 -- A reader may skip this file.
 use Rattle.std.proofs.Common.{◌≡◌, ℕ, zero, suc, ◌+◌, ◌-◌, ◌^◌, ◌<◌, ◌≤◌, Bool, true, false, List, [], ◌∷◌, length, Option, Some, None, get_or, refl, sym, ap, ◌∙◌, subst, arith}
 use Rattle.std.specs.Prelude.{IsTrue, ◌&&◌, find, is_some, nat_le, position, if◌then◌else◌, slice_get}
@@ -51,7 +51,7 @@ use Rattle.law_runs.proofs.Lemmas.Checks.{partner_native, found_partner, of_row,
 use Rattle.law_runs.proofs.Lemmas.Shipping.{partners_hold}
 use Rattle.plain_lists.proofs.Lemmas.Facts.{false_not_true as not_false}
 
--- each account, with all that the chain has of its asset, is below its end
+-- each account, with all that the chain has of its asset, is below its maximum
 abbrev pub MayRise : Machine → Type 0
 MayRise m = (a : UniversalAsset) (amount : ℕ) → checking_at a (view m) ≡ Some amount → amount + stock a every (view m) < 2 ^ 128 - 1
 

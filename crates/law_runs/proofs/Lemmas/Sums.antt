@@ -28,7 +28,7 @@ nobody who = ⊥
 abbrev pub only : Option (List ℕ) → List ℕ → Type 0
 only o who = o ≡ Some who
 
--- what goes in is at the places afterwards, but for what goes out and for what is gone; and what is gone is in the book
+-- what goes in is on the chain afterwards, but for what goes out and for what is gone; and what is gone is in the book
 pub record Call (may : List ℕ → Type 0) (ins outs : Sum) (p q : ChainPart) : Type 0 where
   pub site : q.site ≡ p.site
   pub rows : q.rows ≡ p.rows
