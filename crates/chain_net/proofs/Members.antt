@@ -1,4 +1,4 @@
--- The world that chains stand for, place by place.
+-- The world of some chains, index by index.
 use Rattle.std.proofs.Common.{◌≡◌, ℕ, zero, suc, ◌+◌, ◌<◌, Bool, true, false, List, [], ◌∷◌, length, get_or, map, Option, Some, None, refl, sym, ap, ◌∙◌, subst, arith}
 use Rattle.std.specs.Prelude.{slice_get, slice_set, cond, not, nat_lt, nat_eq, IfSome}
 use Rattle.std.specs.List.{position, position_or_len}
@@ -43,7 +43,7 @@ names_many : (ss : List ChainState) → length (names_of ss) ≡ length ss
 names_many [] = refl
 names_many (s ∷ ss) = ap suc (names_many ss)
 
--- where a chain stands, by the names alone
+-- the index of a chain, by the names alone
 pub place_named : (rs : List ChainRules) (ss : List ChainState) (names : List ChainId) (chain : ChainId) → length rs ≡ length ss → names_of ss ≡ names
     → position (λ (n : ChainId). same_chain n chain) names ≡ place_of (world_in rs ss) chain
 place_named rs ss names chain same named =
@@ -63,7 +63,7 @@ place_there ss names chain o named e =
     let many = names_many ss in
     subst (λ (n : ℕ). IfSome o (λ place. place < n)) (ap length (sym named) ∙ many) (place_within (λ (n : ChainId). same_chain n chain) names o e)
 
--- ---- one place
+-- ---- one index
 pub member_at : (rs : List ChainRules) (ss : List ChainState) (i : ℕ) (r : ChainRules) (s : ChainState) → slice_get rs i ≡ Some r → slice_get ss i ≡ Some s → slice_get (world_in rs ss) i ≡ Some (member_in r s)
 member_at [] ss i r s at_r at_s = absurd (nothing_some r at_r)
 member_at (x ∷ rs) [] i r s at_r at_s = absurd (nothing_some s at_s)

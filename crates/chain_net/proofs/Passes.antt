@@ -22,7 +22,7 @@ use Rattle.chain_net.specs.Passing.{AreChanged, run_at, IsPassed, IsPassStopped}
 use Rattle.chain_net.proofs.Members.{at_place, got_set, got_other, set_many}
 use Rattle.plain_lists.proofs.Lemmas.Facts.{same_some}
 
--- ---- places that are written one after the other
+-- ---- indices that are written one after the other
 module _ {X : Type 0} where
   pub set_twice : (xs : List X) (i : ℕ) (x y : X) → slice_set (slice_set xs i x) i y ≡ slice_set xs i y
   set_twice [] i x y = refl
@@ -39,7 +39,7 @@ module _ {X : Type 0} where
   pub set_thrice : (xs : List X) (i j : ℕ) (a b d : X) → (i ≡ j → ⊥) → slice_set (slice_set (slice_set xs j a) i b) j d ≡ slice_set (slice_set xs i b) j d
   set_thrice xs i j a b d apart = ap (λ ws. slice_set ws j d) (set_apart xs i j b a apart) ∙ set_twice (slice_set xs i b) j a d
 
-  -- what is seen at one place behind a write at another
+  -- what is at one index after a write at another
   pub seen_behind : (xs : List X) (i j : ℕ) (a s : X) → (i ≡ j → ⊥) → i < length xs → s ≡ get_or (slice_set xs j a) i s → slice_get xs i ≡ Some s
   seen_behind xs i j a s apart lt is =
       let many = set_many xs j a in
@@ -93,7 +93,7 @@ module _ (rules : ChainRules) (from : ChainId) (message : Waiting) (i j : ℕ) (
   pub stopped_first : IsStoppedThere rules from message (part_of r) (part_of a) left → IsPassStopped rules from message i j xs (slice_set (slice_set xs j a) i b)
   stopped_first stopped = record { both = two a stays _ (set_apart xs i j b a apart); left = left; stopped = stopped; sender_is = lost }
 
-  -- a message that ran stands at its end
+  -- a message that ran is at its end
   ran_stands : (outcome : Outcome) → IsActed (run_at rules from message (part_of r)) outcome left (part_of a) → IsStoppedThere rules from message (part_of r) (part_of a) left
   ran_stands outcome h = ((executed rules (name_at (part_of r).site.chain from) no_weight message.program (arrived from (part_of r) message)).1, inr (inr refl), h.2, h.1)
 

@@ -131,7 +131,7 @@ message_run P p q from site number l program r same named read is h =
     (ap (λ o. option_map_or (λ (k : Location). k) o nowhere) (named ∙ ap (λ (s : Site). location_of s.chain from) same))
     (read_program program r read) (is ∙ ap (λ (s : Site). told p (events.Message from s.chain number)) same) h
 
--- where a message stopped, it stood somewhere
+-- where a message stopped, it was at some point
 pub stands : (rules : ChainRules) (from : ChainId) (message : Waiting) (p q : ChainPart) → IsUnread rules (name_at p.site.chain from) message.program (begun from message.cargo p) (arrived from p message) q → StandsAt rules from message p q
 stands rules from message p q h = ⊎_elim (λ e. inl e) (λ e. inr (inl e)) h
 

@@ -47,7 +47,7 @@ pub both : (a b : Bool) → IsTrue (a && b) → IsTrue a × IsTrue b
 both true b h = (refl, h)
 both false b h = absurd cc
 
--- all chains behind one are above it
+-- all chains after one are above it
 above_all : (a : ChainId) (xs : List ChainId) → IsTrue (rise a xs) → (j : ℕ) (d : ChainId) → j < length xs → number a < number (get_or xs j d)
 above_all a [] h j d lt = absurd (omega (arith, lt))
 above_all a (x ∷ xs) h zero d lt = above a x (both (comes_before a x) (rise x xs) h).0

@@ -1,4 +1,4 @@
--- What the places of channels say: where a message waits, and which channel is the next.
+-- What the positions of channels say: where a message waits, and which channel is the next.
 use Rattle.std.proofs.Common.{◌≡◌, ℕ, zero, suc, ◌+◌, ◌<◌, Bool, true, false, cond, List, [], ◌∷◌, ◌++◌, length, drop, get_or, map, Option, Some, None, refl, sym, ap, ◌∙◌, arith}
 use Rattle.std.specs.Prelude.{if◌then◌else◌, nat_lt, not, is_some, slice_get, find, option_map}
 use Rattle.std.specs.Option.{option_map_or, option_and_then}
@@ -25,13 +25,13 @@ use Rattle.chain_net.proofs.Members.{member_at, something, somebody, members_wit
 use Rattle.chain_net.proofs.Drains.{waits_nowhere, waits_to_nowhere, waiting_at}
 use Rattle.plain_lists.proofs.Lemmas.Facts.{same_some}
 
--- ---- places in lists
+-- ---- indices in lists
 module _ {X Y : Type 0} (f : X → Y) (p : Y → Bool) where
   far_mapped : (xs : List X) → position_or_len p (map f xs) ≡ position_or_len (λ x. p (f x)) xs
   far_mapped [] = refl
   far_mapped (x ∷ xs) = ap (λ (n : ℕ). cond (not (p (f x))) (1 + n) 0) (far_mapped xs)
 
-  -- the first place in a list of what elements give
+  -- the first index in a list of what elements give
   pub place_mapped : (xs : List X) → position p (map f xs) ≡ position (λ x. p (f x)) xs
   place_mapped xs =
       ap (λ (n : ℕ). cond (nat_lt n (length (map f xs))) (Some n) None) (far_mapped xs)
@@ -68,7 +68,7 @@ module _ {X Y : Type 0} (f : X → Option Y) where
     given_one d y is e =
         ap (λ ys. ys ++ filter_map f (drop (i + 1) xs)) is ∙ joined all y (filter_map f (drop (i + 1) xs)) ∙ ap (λ ys. all ++ ys) (sym (next_at d (Some y) e)) ∙ so_far
 
--- ---- the same channels, the same places
+-- ---- the same channels, the same positions
 abbrev link_by : List ChainId → List (List Channel) → ChannelSpec → Option Link
 link_by names lists entry =
     option_and_then (λ (sender : ℕ). option_and_then (λ (receiver : ℕ). option_and_then (link_at entry sender) (slice_get lists sender)) (place_among names entry.channel.to))
@@ -91,7 +91,7 @@ links_stay names xs ys (e ∷ es) same =
     let rest = links_stay names xs ys es same in
     λ k. cons_option (one k) (rest k)
 
--- ---- a message waits where the channel stands
+-- ---- a message waits where the channel is
 seen_oldest : (o : Option Outgoing) → is_some (option_and_then oldest o) ≡ option_map_or (λ (c : Outgoing). is_some (oldest c)) o false
 seen_oldest None = refl
 seen_oldest (Some c) = refl

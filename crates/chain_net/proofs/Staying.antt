@@ -31,7 +31,7 @@ use Rattle.chain_net.proofs.Shipments.{abandoned_said}
 use Rattle.chain_net.proofs.Members.{got_other}
 use Rattle.plain_lists.proofs.Lemmas.Facts.{same_some}
 
--- ---- one chain in place of another that says the same
+-- ---- one chain instead of another that says the same
 pub set_channels : (xs : List ChainState) (i : ℕ) (s new : ChainState) → slice_get xs i ≡ Some s → fixed_of (part_of new) ≡ fixed_of (part_of s) → map channels_of_state (slice_set xs i new) ≡ map channels_of_state xs
 set_channels [] i s new at same = refl
 set_channels (z ∷ zs) zero s new at same = ap (λ (cs : List Channel). cs ∷ map channels_of_state zs) (ap (λ (x : Fixed). x.channels) same ∙ ap channels_of_state (sym (same_some z s at)))

@@ -11,7 +11,7 @@ use Rattle.exec_rules.specs.Execution.{IsAbandoned}
 use Rattle.network_steps.specs.declared.step_result.StepResult.{StepResult}
 use Rattle.network_steps.specs.Acting.{Acted}
 
--- what a program left behind it: its outcome, what was left of the cargo, and the chain
+-- what a program left: its outcome, what was left of the cargo, and the chain
 abbrev pub IsActed : Acted → Outcome → Cargo → ChainPart → Type 0
 IsActed a outcome left now = (outcome ≡ a.outcome) × (left ≡ a.left) × (now ≡ a.part)
 

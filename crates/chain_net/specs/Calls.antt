@@ -1,4 +1,4 @@
--- Calls of a network, one behind another. This project's own rule.
+-- Calls of a network, one after another. This project's own rule.
 use Rattle.std.specs.Prelude.{◌≡◌}
 use Rattle.network_steps.specs.declared.step_result.StepResult.{StepResult}
 use Rattle.law_independence.specs.Acts.{Act, stepped_by}
@@ -11,7 +11,7 @@ pub record IsCalled (act : Act) (answer : StepResult) (old new : Net) : Type 0 w
   pub world_is : world_of new ≡ (stepped_by (world_of old) act).world
   pub trace_is : trace_of new ≡ (stepped_by (world_of old) act).trace
 
--- two calls, one behind the other
+-- two calls, one after the other
 pub record AreCalled (s t : Act) (first : Net) : Type 0 where
   pub first_answer : StepResult
   pub second_answer : StepResult

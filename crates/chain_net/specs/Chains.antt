@@ -1,4 +1,4 @@
--- The world that chains and their rules stand for. This project's own.
+-- The world of some chains and their rules. This project's own.
 use Rattle.std.specs.Prelude.{List, [], ◌∷◌, map}
 use Rattle.chain_ids.specs.declared.chain.ChainId.{ChainId}
 use Rattle.exec_rules.specs.declared.rules.ChainRules.{ChainRules}

@@ -1,4 +1,4 @@
--- Where the channels of a network stand, each with the places at which it is found: its sender's among the chains, and its own among the
+-- The positions of the channels of a network, each with two indices: its sender's among the chains, and its own among the
 -- channels that lead from the sender. No step changes them. This project's own.
 use Rattle.std.specs.Prelude.{ℕ, Bool, false, List, map, Option, option_map, is_some, slice_get}
 use Rattle.std.specs.Option.{option_map_or, option_and_then}
@@ -17,11 +17,11 @@ use Rattle.chain_net.specs.declared.links.Link.{Link}
 abbrev pub channels_of_state : ChainState → List Channel
 channels_of_state state = map (λ (c : Outgoing). c.channel) (part_of state).channels
 
--- the place of a chain among these
+-- the index of a chain among these
 abbrev pub place_among : List ChainId → ChainId → Option ℕ
 place_among names chain = position (λ (name : ChainId). same_chain name chain) names
 
--- the place of the first of these channels that leads to the chain
+-- the index of the first of these channels that leads to the chain
 abbrev pub place_towards : ChainId → List Channel → Option ℕ
 place_towards to channels = position (λ (c : Channel). same_chain c.to to) channels
 
@@ -30,17 +30,17 @@ abbrev pub link_at : ChannelSpec → ℕ → List Channel → Option Link
 link_at entry sender channels =
     option_map (λ (channel : ℕ). record { from = entry.from; to = entry.channel.to; sender = sender; channel = channel }) (place_towards entry.channel.to channels)
 
--- where it stands; None where it doesn't lead from one of these chains to another
+-- its position; None where it doesn't lead from one of these chains to another
 abbrev pub link_of : List ChainId → List ChainState → ChannelSpec → Option Link
 link_of names states entry =
     option_and_then (λ (sender : ℕ). option_and_then (λ (receiver : ℕ). option_and_then (λ (state : ChainState). link_at entry sender (channels_of_state state))
     (slice_get states sender)) (place_among names entry.channel.to)) (place_among names entry.from)
 
--- where they stand, but for those that don't
+-- their positions, but for those that don't
 abbrev pub found_links : List ChainId → List ChainState → List ChannelSpec → List Link
 found_links names states entries = filter_map (link_of names states) entries
 
--- whether a message waits where the channel stands
+-- whether a message waits where the channel is
 abbrev pub waits_at : List ChainState → Link → Bool
 waits_at states link =
     option_map_or (λ (state : ChainState). option_map_or (λ (c : Outgoing). is_some (oldest c)) (slice_get (part_of state).channels link.channel) false) (slice_get states link.sender) false

@@ -1,4 +1,4 @@
--- What a network stands for. This project's own.
+-- The world of a network, and what it was opened with. This project's own.
 --
 --   world_of       its chains, each with its rules and its part of the world
 --   spec_of        the network document that it was opened with
@@ -22,7 +22,7 @@ spec_of n = n.spec
 abbrev pub is_stopped : Net → Bool
 is_stopped n = n.stopped
 
--- what was told last at the chain of that place
+-- what was told last at the chain of that index
 abbrev pub told_at : Option ℕ → World → List Event
 told_at acted w = option_map_or (λ (place : ℕ). option_map_or (λ (m : Member). m.part.events) (slice_get w place) []) acted []
 

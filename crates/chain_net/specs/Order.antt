@@ -3,7 +3,7 @@ use Rattle.std.specs.Prelude.{Bool, true, ◌&&◌, List, [], ◌∷◌}
 use Rattle.chain_ids.specs.declared.chain.ChainId.{ChainId}
 use Rattle.network_steps.specs.Tests.{comes_before}
 
--- each chain behind the one before it
+-- each chain after the one before it
 abbrev pub rise : ChainId → List ChainId → Bool
 rise before [] = true
 rise before (c ∷ cs) = comes_before before c && rise c cs

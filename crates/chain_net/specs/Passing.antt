@@ -16,15 +16,15 @@ use Rattle.chain_net.specs.Chains.{name_of}
 use Rattle.chain_net.specs.Sound.{IsListedCargo, IsBetweenSteps}
 use Rattle.law_nets.specs.Stops.{arrived, IsStoppedThere}
 
--- the chain of a place is another one
+-- the chain of an index is another one
 abbrev pub IsOtherChain : List ChainState → ℕ → ChainId → Type 0
 IsOtherChain states place chain = (state : ChainState) → slice_get states place ≡ Some state → name_of state ≡ chain → ⊥
 
--- the chain of a place lists what the cargo ships
+-- the chain of an index lists what the cargo ships
 abbrev pub IsCarried : List ChainState → ℕ → Cargo → Type 0
 IsCarried states place cargo = (state : ChainState) → slice_get states place ≡ Some state → IsListedCargo (listing (part_of state).rows) cargo
 
--- two chains in place of a sender and a receiver
+-- two chains instead of a sender and a receiver
 pub record AreChanged (sender receiver : ℕ) (before now : List ChainState) : Type 0 where
   pub old_sender : ChainState
   pub old_receiver : ChainState

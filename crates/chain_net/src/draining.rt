@@ -21,7 +21,7 @@ use law_steps::law_of_drains_that_end;
 use std::alloc::AllocError;
 
 impl Net {
-    /// Whether a message waits where the channel stands.
+    /// Whether a message waits where the channel is.
     fn waits(&self, link: &Link) -> bool
         ensures { result ≡ waits_at self.now.chains.items link.now }
     {
@@ -34,7 +34,7 @@ impl Net {
         !queue.waiting.is_empty()
     }
 
-    /// The first channel on which a message waits, with its places.
+    /// The first channel on which a message waits, with its position.
     fn first_waiting(&self) -> Option<&Link>
         ensures { option_copied result
             ≡ find (waits_at self.now.chains.items) self.now.links.items }

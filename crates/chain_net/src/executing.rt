@@ -48,8 +48,8 @@ pub(crate) fn answer_to(fault: MessageFault) -> Result<StepResult, AllocError>
 
 impl Net {
     /// Has a message executed for a local account of the chain, with the chain's limit as its credit: NoSuchChain; SovereignCaller, where
-    /// the account is that of a whole chain or of one of the chain's pools; Message, where the bytes are no message; or Ran. `Err` is out of memory: then the network is
-    /// stopped.
+    /// the account is that of a whole chain or of one of the chain's pools; Message, where the bytes are no message; or Ran. `Err` is out of
+    /// memory: then the network is stopped.
     pub fn exec(
         &mut self,
         chain: ChainId,

@@ -9,7 +9,7 @@ ghost use Rattle.chain_net.specs.Nets.{world_of};
 use crate::Net;
 use chain_ids::ChainId;
 
-/// Where the chain stands among these, which rise; `None` where it isn't one of them. It takes no memory.
+/// The index of the chain among these, which rise; `None` where it isn't one of them. It takes no memory.
 pub(crate) fn place_in(names: &[ChainId], chain: ChainId) -> Option<usize>
     requires order { IsTrue (are_in_order names.now) }
     ensures { result ≡ position (λ name. same_chain name chain) names.now }
@@ -21,7 +21,7 @@ pub(crate) fn place_in(names: &[ChainId], chain: ChainId) -> Option<usize>
 }
 
 impl Net {
-    /// Where the chain of that number stands; `None` where the network has no such chain. It takes no memory.
+    /// The index of the chain of that number; `None` where the network has no such chain. It takes no memory.
     pub(crate) fn place(&self, chain: ChainId) -> Option<usize>
         ensures place { result ≡ place_of (world_of self.now) chain }
         ensures there { IfSome result (λ place. place < length self.now.chains.items) }

@@ -1,4 +1,4 @@
-//! What led to a network, and which of its calls may change places: laws, as the contracts of functions that do nothing.
+//! What led to a network, and which of its calls may be swapped: laws, as the contracts of functions that do nothing.
 ghost use Rattle.std.specs.Prelude.{◌≡◌, false};
 ghost use Rattle.law_independence.specs.Acts.{Act, acts_at};
 ghost use Rattle.law_independence.specs.Freedom.{TakesFreely};
@@ -21,7 +21,7 @@ pub fn law_of_reached_nets()
     law_of_networks_with_pasts();
 }
 
-/// Two calls of `exec`, `deliver` or `claim` that act at different chains may change places: from networks that stand for one world, both orders
+/// Two calls of `exec`, `deliver` or `claim` that act at different chains may be swapped: from networks of one world, both orders
 /// give each call the same answer and the same trace, and lead to the same world. Where one of them delivers from a channel of the other's
 /// chain, that channel must not be empty, and no send of the other on it may answer Transport.
 pub fn law_of_swapped_calls()

@@ -1,4 +1,4 @@
-//! Where the channels of a network stand.
+//! The positions of the channels of a network.
 ghost use Rattle.std.specs.Prelude.{◌≡◌, IsTrue, IfOk};
 ghost use Rattle.std.specs.List.{position};
 ghost use Rattle.chain_queues.specs.Queues.{is_led_to};
@@ -12,34 +12,34 @@ use chain_state::ChainState;
 use network_spec::ChannelSpec;
 use std::alloc::{AllocError, Global};
 
-/// A channel of a network, with the places at which it is found.
+/// A channel of a network, with the indices at which it is found.
 #[derive(Clone, Copy)]
 pub(crate) struct Link {
     /// The chain that sends on it.
     pub(crate) from: ChainId,
     /// The chain that it leads to.
     pub(crate) to: ChainId,
-    /// The place of the sender among the chains.
+    /// The index of the sender among the chains.
     pub(crate) sender: usize,
-    /// The place of the channel among those that lead from the sender.
+    /// The index of the channel among those that lead from the sender.
     pub(crate) channel: usize,
 }
 
-/// The place of the first of these channels that leads to the chain.
+/// The index of the first of these channels that leads to the chain.
 fn place_to(queues: &[Queue], to: ChainId) -> Option<usize>
     ensures { result ≡ position (is_led_to to) queues.now }
 {
     queues.iter().position(|queue| queue.channel.to == to)
 }
 
-/// The place of the first channel that leads from the chain to that one.
+/// The index of the first channel that leads from the chain to that one.
 fn place_towards(chain: &ChainState, to: ChainId) -> Option<usize>
     ensures { result ≡ links.place_towards to (links.channels_of_state chain.now) }
 {
     place_to(chain.queues().channels(), to)
 }
 
-/// Where the channel stands; `None` where it doesn't lead from one of these chains to another.
+/// The channel's position; `None` where it doesn't lead from one of these chains to another.
 fn link_of(names: &[ChainId], chains: &[ChainState], entry: &ChannelSpec) -> Option<Link>
     requires order { IsTrue (are_in_order names.now) }
     ensures { result ≡ links.link_of names.now chains.now entry.now }
@@ -58,7 +58,7 @@ fn link_of(names: &[ChainId], chains: &[ChainState], entry: &ChannelSpec) -> Opt
     })
 }
 
-/// Where the channels stand, but for those that don't lead from one of these chains to another.
+/// The positions of the channels, but for those that don't lead from one of these chains to another.
 pub(crate) fn all_links(
     alloc: Global,
     names: &[ChainId],

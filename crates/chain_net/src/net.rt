@@ -14,7 +14,7 @@ use network_spec::NetworkSpec;
 
 /// A network of chains: what its document says, and each chain's state, in the order of the document, with how it runs programs. The
 /// chains rise: the relay chain, then parachains by their numbers. Unless it is stopped, steps led from the first world of the
-/// document to where it stands, so what holds behind any steps holds of it.
+/// document to where it is, so what holds after any steps holds of it.
 #[derive(Drop)]
 pub struct Net {
     pub(crate) spec: NetworkSpec,

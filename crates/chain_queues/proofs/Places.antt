@@ -1,4 +1,4 @@
--- The place of the channel to a chain, among the queues and among what they mean.
+-- The index of the channel to a chain, among the queues and among what they mean.
 use Rattle.std.proofs.Common.{◌≡◌, ℕ, zero, suc, ◌+◌, ◌<◌, true, false, cond, List, [], ◌∷◌, length, map, get_or, set, Some, None, refl, sym, ap, ◌∙◌, arith}
 use Rattle.std.specs.Prelude.{◌≤◌, ◌==◌, nat_lt, not, if◌then◌else◌}
 use Rattle.std.specs.List.{position, position_or_len}
@@ -32,7 +32,7 @@ module _ (to : ChainId) where
   pub stays : (g : Outgoing → Outgoing) (qs : List Queue) → position (is_led_to to) qs ≡ None → map outgoing_of qs ≡ change_first (leads_to to) g (map outgoing_of qs)
   stays g qs e = sym (changed_nowhere (leads_to to) g (map outgoing_of qs) (place qs ∙ e))
 
-  -- the queue at the place is the channel
+  -- the queue at the index is the channel
   pub somewhere : (qs : List Queue) (k : ℕ) (q : Queue) → position (is_led_to to) qs ≡ Some k → q ≡ get_or qs k q → channel_to to (map outgoing_of qs) ≡ Some (outgoing_of q)
   somewhere qs k q e at = found_at (leads_to to) (map outgoing_of qs) k (outgoing_of q) (place qs ∙ e) (got qs k q at)
 

@@ -45,7 +45,7 @@ impl Queues {
         self.list.as_slice()
     }
 
-    /// The place of the first channel that leads to the chain.
+    /// The index of the first channel that leads to the chain.
     fn place_to(&self, to: ChainId) -> Option<usize>
         ensures { result ≡ position (is_led_to to) self.now.list.items }
     {
@@ -68,17 +68,10 @@ impl Queues {
         ensures refused { IfErr result
             (λ fault. push_refusal size (channel_to to (channels_of self.now)) ≡ Some fault) }
     {
-        let Some(place) = self.place_to(to) else {
-            return Err(PushFault::NoChannel);
-        };
-        let queue = &self.list[place];
-        if (queue.channel.max_size as usize) < size {
-            return Err(PushFault::TooLarge);
+        match self.place_to(to) {
+            None => Err(PushFault::NoChannel),
+            Some(place) => self.list[place].check(size),
         }
-        if queue.is_full() {
-            return Err(PushFault::Full);
-        }
-        Ok(())
     }
 
     /// Whether the bytes begin with the byte of the version of the channel that leads to the chain; where none does, any do.
@@ -114,13 +107,14 @@ impl Queues {
         ensures handed_back { IfErr result (λ refusal. refusal.0 ≡ cargo) }
         ensures kept { OnErr result (channels_of self.new ≡ channels_of self.old) }
     {
-        if let Err(fault) = self.check(to, bytes.len()) {
-            return Err((cargo, fault));
-        }
         let Some(place) = self.place_to(to) else {
             return Err((cargo, PushFault::NoChannel));
         };
-        Ok(self.list[place].push(bytes, cargo))
+        let queue = &mut self.list[place];
+        if let Err(fault) = queue.check(bytes.len()) {
+            return Err((cargo, fault));
+        }
+        Ok(queue.push(bytes, cargo))
     }
 
     /// Takes the oldest message that waits for the chain; `None` where no channel leads there, or where none waits. It takes no memory,

@@ -1,10 +1,11 @@
 //! One channel.
-ghost use Rattle.std.specs.Prelude.{◌≡◌, ◌<◌, ◌==◌, IfOk, IsTrue, length, option_map};
+ghost use Rattle.std.specs.Prelude.{◌≡◌, ◌<◌, ◌==◌, None, Some, IfOk, IfErr, OnOk, IsTrue, length, option_map};
 ghost use Rattle.channel_parts.specs.Channels.{opened, with_waiting};
 ghost use Rattle.versioned_xcm.specs.Reading.{message_of};
 ghost use Rattle.chain_queues.specs.Decoded.{decodes, is_spelled_in, program_read};
-ghost use Rattle.chain_queues.specs.Queues.{waiting_of, outgoing_of, oldest, without_oldest};
+ghost use Rattle.chain_queues.specs.Queues.{waiting_of, outgoing_of, push_refusal, oldest, without_oldest};
 
+use crate::faults::PushFault;
 use crate::queues::{Queue, Queued};
 use channel_parts::{Cargo, Channel};
 use std::alloc::{AllocError, Global};
@@ -28,6 +29,21 @@ impl Queue {
         ensures { result ≡ (length self.now.waiting.items == self.now.channel.capacity) }
     {
         self.waiting.len() == self.channel.capacity as usize
+    }
+
+    /// Whether a message of so many bytes would be taken. It takes no memory.
+    pub fn check(&self, size: usize) -> Result<(), PushFault>
+        ensures taken { OnOk result (push_refusal size (Some (outgoing_of self.now)) ≡ None) }
+        ensures refused { IfErr result
+            (λ fault. push_refusal size (Some (outgoing_of self.now)) ≡ Some fault) }
+    {
+        if (self.channel.max_size as usize) < size {
+            return Err(PushFault::TooLarge);
+        }
+        if self.is_full() {
+            return Err(PushFault::Full);
+        }
+        Ok(())
     }
 
     /// Puts a message last and answers its number. It takes no memory.

@@ -54,7 +54,7 @@ listed_path context rows a all listed =
 not_less : (n m : ℕ) → nat_le n m ≡ true → m < n → ⊥
 not_less n m h less = grind (arith, h, less)
 
--- a place with a path has no reason to have none
+-- a location with a path has no reason to have none
 pub no_fault : (context : List Junction) (row : AssetRow) (l : Location) (fault : PathFault) → has_path context row ≡ true → l ≡ row.id → IsPathFault context l fault → ⊥
 no_fault context row l PathFault.PastRoot has same h =
     let parts = and_parts (nat_le row.id.parents (length context)) (nat_le (length (path_of context row.id)) 8) has in

@@ -20,6 +20,6 @@ found rows a (Some n) e =
     let at = position-Some (is_row_of a) rows n some_row e in
     ap is_some (slice_get-get_or rows n some_row at.0)
 
--- a place is found exactly where a row is
+-- an index is found exactly where a row is
 pub found_row : (rows : List AssetRow) (a : Asset) → is_some (position (is_row_of a) rows) ≡ is_some (row_of rows a)
 found_row rows a = sym (found rows a (position (is_row_of a) rows) refl) ∙ ap is_some (row_at-position rows a)

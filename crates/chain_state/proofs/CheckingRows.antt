@@ -44,7 +44,7 @@ module _ (f : ℕ → ℕ → ℕ) (a : Asset) where
       let e = earlier row rows k none in
       ap (λ b. changed_here b c cs (changed_rows f a rows cs)) e.0 ∙ ap (λ ds. c ∷ ds) (past_at rows cs k (omega (arith, inside)) e.1 (omega (arith, past)))
 
-  -- a row without place in the list
+  -- a row that isn't in the list
   pub past_row : (rows : List AssetRow) (cs : List (Option ℕ)) (k : ℕ) → position (is_row_of a) rows ≡ Some k → length cs ≤ k → changed_rows f a rows cs ≡ cs
   past_row rows cs k at past = let first = position-Some (is_row_of a) rows k some_row at in past_at rows cs k first.0 first.2 past
 

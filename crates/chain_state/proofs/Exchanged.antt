@@ -40,7 +40,7 @@ pub exchange_refused : (p : ChainPart) (give : Bundle) (want : List Asset) (maxi
 unfolding exchange_refusal
 exchange_refused p give want maximal none = ap (λ (o : Option Exchange). unless (is_some o) error.NoDeal None) none
 
--- what accounts must keep stays with them
+-- what accounts must keep, they keep
 pub floors_exchanged : (pools : List Pool) (locked : LocksAndNotes) (before now : Accounts) (give : Bundle) (want : List Asset) (maximal : Bool) (result : Result Bundle (Bundle × ExchangeFault)) → MakesExchange pools before give want maximal result now
     → NoPoolLocks pools locked → HasFloors locked before.held → HasFloors locked now.held
 floors_exchanged pools locked before now give want maximal (Ok got) made free floors =

@@ -1,4 +1,4 @@
--- What a chain's accounts must keep stays with them, whatever moves.
+-- What a chain's accounts must keep, they keep, whatever moves.
 use Rattle.std.proofs.Common.{◌≡◌, ℕ, ◌+◌, ◌-◌, ◌^◌, ◌≤◌, ◌||◌, Bool, true, false, if◌then◌else◌, List, Option, Some, None, Result, Ok, Err, refl, sym, ap, ◌∙◌, subst, arith}
 use Rattle.std.specs.Prelude.{nat_le, OnOk, OnErr, slice_get}
 use Rattle.std.specs.List.{IsDistinct}

@@ -1,4 +1,4 @@
--- What the facts of a chain's state rest on stays.
+-- What the facts of a chain's state rest on doesn't change.
 use Rattle.std.proofs.Common.{◌≡◌, Bool, true, false, ◌&&◌, if◌then◌else◌, List, [], ◌∷◌, refl, ap}
 use Rattle.plain_lists.specs.Firsts.{change_first}
 use Rattle.channel_parts.specs.Channels.{Outgoing}

@@ -1,4 +1,4 @@
--- A lock that may be set, or a note that may be asked for, isn't refused for itself; what is sent of it stands in its channel.
+-- A lock that may be set, or a note that may be asked for, isn't refused for itself; what is sent of it is in its channel.
 use Rattle.std.proofs.Common.{◌≡◌, ◌++◌, ◌+◌, ◌<◌, ℕ, Bool, true, false, ◌&&◌, List, [], ◌∷◌, refl, sym, ap, ◌∙◌, subst, arith}
 use Rattle.std.specs.Prelude.{Option, None, Some, Err, nat_le, nat_eq, IsFalse}
 use Rattle.std.specs.Option.{option_map, option_map_or}
@@ -60,7 +60,7 @@ request_goes p a owner locker key m =
 pub told_goes : (p : ChainPart) (dest : Location) (o : Option (List Instruction)) (to : ChainId) (bytes : List ℕ) → IsTold p dest o to bytes → named_refusal p dest o ≡ None
 told_goes p dest o to bytes t = ap (named_refusal p dest) t.is ∙ unrefused_by p dest t.program to bytes t.taken
 
--- ---- what stands then
+-- ---- what is then left
 abbrev pub posted_at : ChainId → List ℕ → ℕ → ChainPart → ChainPart
 posted_at to bytes n q = record q { channels = pushed to (program_read (message_of bytes)) Cargo.Nothing q.channels; pending_events = q.pending_events ++ Event.Sent q.site.chain to n ∷ [] }
 
@@ -110,7 +110,7 @@ one_forwardable l flat places some = record {
   amounts = (amounts_here (roll-Instruction l) (subst (HasAmount Instruction) (sym (out-roll-Instruction l)) some) (subst (λ (x : Instruction-F Instruction). AllInside HasAmounts (inner x)) (sym (out-roll-Instruction l)) (subst (AllInside HasAmounts) (sym flat) tt)), tt);
 }
 
--- an asset as the receiver names it has a place, and its amount
+-- an asset as the receiver names it has a location, and its amount
 moved_by : (a b : Asset) (o : Option AssetId) → ((id : AssetId) → o ≡ Some id → is_concrete_id id ≡ true) → option_map (λ id. record { id = id; fun = a.fun }) o ≡ Some b → (is_concrete_id b.id ≡ true) × (is_zero b ≡ is_zero a)
 moved_by a b None places e = absurd cc
 moved_by a b (Some id) places e = (

@@ -115,7 +115,7 @@ same_after Fungible c f = refl
 same_after Class None f = refl
 same_after Class (Some n) f = refl
 
--- a change keeps where they stand
+-- a change keeps where they are
 pub kept_checked : (f : ℕ → ℕ → ℕ) (a : Asset) (rows : List AssetRow) (cs : List (Option ℕ)) → are_checked rows (changed_rows f a rows cs) ≡ are_checked rows cs
 kept_checked f a [] cs = refl
 kept_checked f a (row ∷ rows) [] = refl
@@ -181,7 +181,7 @@ all_agree f g table cs (e ∷ es) rising checked agree =
     ap (changed_all f (assets_of_rows es) table) (agree_at f g a table cs agree.0)
     ∙ all_agree f g table (changed_rows g a table cs) es rising.1 (kept_checked g a table cs ∙ checked) (others_agree f g g e table cs es checked rising.0 agree.1)
 
--- ---- no account is raised past the end
+-- ---- no account is raised past the maximum
 room_for : (n a most : ℕ) → nat_le (n + a) most ≡ true → min (n + a) most ≡ n + a
 room_for n a most fits = grind (arith, fits)
 

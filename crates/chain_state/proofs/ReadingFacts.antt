@@ -18,7 +18,7 @@ total_fits high low above below = omega (arith, above, below)
 pub raised_sum : (high low more : ℕ) → high < 2 ^ 32 → low < 2 ^ 128 → min (high * 2 ^ 128 + low + more) most_burned ≡ high * 2 ^ 128 + low + min more (most_burned - (high * 2 ^ 128 + low))
 raised_sum high low more above below = room_is (high * 2 ^ 128 + low) more most_burned (total_fits high low above below)
 
--- what is found from a place on
+-- what is found from an index on
 module _ (u : Unit) (fees : List Fee) where
   abbrev pub Left : ℕ → Type 0
   Left i = find unit_cmp u fees ≡ find unit_cmp u (drop i fees)

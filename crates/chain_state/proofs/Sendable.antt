@@ -1,6 +1,8 @@
 -- What a channel accepts.
 use Rattle.std.proofs.Common.{◌≡◌, ℕ, ◌<◌, ◌≤◌, Vec, Global, Bool, true, false, ◌&&◌, List, length, map, refl, sym, ap, ◌∙◌, subst, arith, inl, inr, min, true≢false}
-use Rattle.std.specs.Prelude.{Option, None, Some, Result, Ok, Err, nat_le, nat_lt, MatchResult}
+use Rattle.std.specs.Prelude.{Option, None, Some, Result, Ok, Err, nat_le, nat_lt, ◌==◌, not, if◌then◌else◌, MatchResult}
+use Rattle.std.specs.Option.{option_map}
+use Rattle.std.proofs.lemmas.Bool.Decides.{nat_tests}
 use Rattle.std.proofs.lemmas.List.{length-map}
 use Rattle.locations.specs.declared.relative.Location.{Location}
 use Rattle.chain_ids.specs.declared.chain.ChainId.{ChainId}
@@ -18,6 +20,7 @@ use Rattle.versioned_xcm.specs.declared.faults.EncodeFault.TheVariants.{ExceedsL
 use Rattle.versioned_xcm.specs.Message.{IsEncodeCause}
 use Rattle.versioned_xcm.specs.Reading.{message_of}
 use Rattle.chain_queues.specs.declared.queues.Queue.{Queue}
+use Rattle.chain_queues.specs.declared.faults.PushFault.TheVariants.{TooLarge, Full}
 use Rattle.chain_queues.specs.Decoded.{is_spelled_in}
 use Rattle.chain_queues.specs.Queues.{waiting_of, outgoing_of, push_refusal}
 use Rattle.exec_base.specs.declared.faults.HostFault.{HostFault}
@@ -26,11 +29,11 @@ use Rattle.asset_lists.specs.declared.units.Asset.{Asset}
 use Rattle.asset_lists.specs.declared.faults.ListFault.{ListFault}
 use Rattle.asset_lists.specs.Lists.{has_zero, is_rising, IsListFault}
 use Rattle.exec_base.specs.Sending.{unless, channel_to_location, channel_refusal, send_refusal, listed_refusal, listed_program, IsForwardable}
-use Rattle.chain_state.specs.Sends.{IsAccepted, IsAcceptedByChannel, IsSendFault}
+use Rattle.chain_state.specs.Sends.{push_error, IsAccepted, IsAcceptedByChannel, IsSendFault}
 use Rattle.plain_lists.proofs.Lemmas.Facts.{and_false as never, at_most_told as within}
 
 -- by the length of the message and what waits
-abbrev pub by_size : Queue → ℕ → Option XcmError
+abbrev by_size : Queue → ℕ → Option XcmError
 by_size q size = unless (nat_le size q.channel.max_size) error.ExceedsMaxMessageSize (unless (nat_lt (length q.waiting.items) q.channel.capacity) error.Transport None)
 
 beyond : (n m : ℕ) → m < n → nat_le n m ≡ false
@@ -45,7 +48,7 @@ past_least n m lt = grind (arith, lt)
 refusal_with : Queue → Bool → Option XcmError
 refusal_with q b = unless b error.ExceedsMaxMessageSize (unless (nat_lt (length (map waiting_of q.waiting.items)) q.channel.capacity) error.Transport None)
 
-pub size_decides : (q : Queue) (bytes : List ℕ) (program : List Instruction) → IsMessageIn q.channel.version bytes program → channel_refusal (Some (outgoing_of q)) true program ≡ by_size q (length bytes)
+size_decides : (q : Queue) (bytes : List ℕ) (program : List Instruction) → IsMessageIn q.channel.version bytes program → channel_refusal (Some (outgoing_of q)) true program ≡ by_size q (length bytes)
 unfolding refusal_with
 size_decides q bytes program is =
     ap (λ b. refusal_with q (b && (nat_le (depth program) 8 && nat_le (length (message q.channel.version program)) (min 65536 q.channel.max_size)))) (within (deep_count program) 100 is.readable.small.few)
@@ -64,18 +67,28 @@ limits_refuse q program (inr (inr long)) =
     ap (refusal_with q) (ap (λ b. nat_le (deep_count program) 100 && (nat_le (depth program) 8 && b)) (past_least (length (message q.channel.version program)) q.channel.max_size long)
     ∙ ap (λ b. nat_le (deep_count program) 100 && b) (never (nat_le (depth program) 8)) ∙ never (nat_le (deep_count program) 100))
 
-free_by : (q : Queue) (n : ℕ) → (nat_le n q.channel.max_size ≡ true) → (nat_lt (length q.waiting.items) q.channel.capacity ≡ true) → push_refusal n (Some (outgoing_of q)) ≡ None
-free_by q n small room = (let long : length (map waiting_of q.waiting.items) ≡ length q.waiting.items = length-map q.waiting.items waiting_of in grind (arith, small, room, long))
+-- the rule asks what the channel does
+fits : (n m : ℕ) → nat_le n m ≡ not (nat_lt m n)
+fits n m = grind (arith, nat_tests)
 
-passes : (b : Bool) (e : XcmError) (next : Option XcmError) → unless b e next ≡ None → (b ≡ true) × (next ≡ None)
-passes true e next h = (refl, h)
-passes false e next h = absurd (cc)
+has_place : (n m : ℕ) → n ≤ m → nat_lt n m ≡ not (n == m)
+has_place n m h = grind (arith, nat_tests, h)
 
-pub is_free : (q : Queue) (n : ℕ) → by_size q n ≡ None → push_refusal n (Some (outgoing_of q)) ≡ None
-is_free q n none =
-    let first = passes (nat_le n q.channel.max_size) error.ExceedsMaxMessageSize _ none in
-    let second = passes (nat_lt (length q.waiting.items) q.channel.capacity) error.Transport None first.1 in
-    free_by q n first.0 second.0
+by_tests : (large full : Bool) → unless (not large) error.ExceedsMaxMessageSize (unless (not full) error.Transport None) ≡ option_map push_error (if large then Some TooLarge else (if full then Some Full else None))
+by_tests true full = refl
+by_tests false true = refl
+by_tests false false = refl
+
+by_push : (q : Queue) (n : ℕ) → by_size q n ≡ option_map push_error (push_refusal n (Some (outgoing_of q)))
+by_push q n =
+    let long : length (map waiting_of q.waiting.items) ≡ length q.waiting.items = length-map q.waiting.items waiting_of in
+    let room = has_place (length q.waiting.items) q.channel.capacity q.within ∙ ap (λ (m : ℕ). not (m == q.channel.capacity)) (sym long) in
+    (λ i. unless (fits n q.channel.max_size i) error.ExceedsMaxMessageSize (unless (room i) error.Transport None))
+    ∙ by_tests (nat_lt q.channel.max_size n) (length (map waiting_of q.waiting.items) == q.channel.capacity)
+
+pub push_decides : (q : Queue) (bytes : List ℕ) (program : List Instruction) → IsMessageIn q.channel.version bytes program
+    → channel_refusal (Some (outgoing_of q)) true program ≡ option_map push_error (push_refusal (length bytes) (Some (outgoing_of q)))
+push_decides q bytes program is = size_decides q bytes program is ∙ by_push q (length bytes)
 
 -- a message begins with the byte of its version
 begun : (v : Version) (program : List Instruction) → is_spelled_in v (message v program) ≡ true
@@ -83,8 +96,8 @@ unfolding message
 begun V3 program = refl
 begun V4 program = refl
 
-pub accepts : (q : Queue) (bytes : List ℕ) (program : List Instruction) → IsMessageIn q.channel.version bytes program → message_of bytes ≡ Ok program → by_size q (length bytes) ≡ None → IsAccepted (outgoing_of q) program q.channel.to bytes
-accepts q bytes program is meaning none = record { leads = refl; meaning = meaning; spelled = ap (is_spelled_in q.channel.version) is.text ∙ begun q.channel.version program; unrefused = size_decides q bytes program is ∙ none; free = is_free q (length bytes) none }
+pub accepts : (q : Queue) (bytes : List ℕ) (program : List Instruction) → IsMessageIn q.channel.version bytes program → message_of bytes ≡ Ok program → push_refusal (length bytes) (Some (outgoing_of q)) ≡ None → IsAccepted (outgoing_of q) program q.channel.to bytes
+accepts q bytes program is meaning free = record { leads = refl; meaning = meaning; spelled = ap (is_spelled_in q.channel.version) is.text ∙ begun q.channel.version program; unrefused = push_decides q bytes program is ∙ ap (option_map push_error) free; free = free }
 
 -- ---- the channel to a location
 pub unrouted : (p : ChainPart) (dest : Location) (few : Bool) (program : List Instruction) → channel_to_location p dest ≡ None → send_refusal p dest few program ≡ Some error.Unroutable

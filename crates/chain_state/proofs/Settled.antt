@@ -126,7 +126,7 @@ kept_row : (fees : List Fee) (u : Unit) → 0 < amount (kept_goods fees) u → h
 unfolding kept_goods
 kept_row fees u some = found_row fees u (subst (λ n. 0 < n) (amount-from_rows unit_keys fees u) some)
 
--- where all fees have rows, so has what fits and what would pass the end
+-- where all fees have rows, so has what fits and what would pass the maximum
 module _ (p : ChainPart) (fees : List Fee) (rowed : HaveRowsFor fees (all_fees p)) where
   pub fits_rowed : HaveRowsFor fees (fees_within p)
   fits_rowed u some = (let is = within_at p u in rowed u (omega (arith, is, some)))
@@ -171,7 +171,7 @@ module _ (p : ChainPart) (payments : List Asset) (few : length (keys_of (rows_of
       let is = payments_at u in
       found_row (rows_of payments) u (omega (arith, some, all, none, is))
 
-  -- the rows of what fits, and of what would pass the end, are at most the one of what was paid
+  -- the rows of what fits, and of what would pass the maximum, are at most the one of what was paid
   pub payments_within : rows (fees_within p) ≡ some_rows (amount (fees_within p)) (rows_of payments)
   payments_within = rows_are (fees_within p) (rows_of payments) (rising_none (keys_of (rows_of payments)) few) (fits_rowed p (rows_of payments) payments_rowed)
 
@@ -237,7 +237,7 @@ module _ (p : ChainPart) (id : AssetId) (n : ℕ) (paid : bundle_of (record { id
   pub lone_kept : 0 ≡ amount p.fees (id, None)
   lone_kept = sym (ap (λ (b : Bundle). amount b (id, None)) clear ∙ amount-empty unit_keys (id, None))
 
-  -- so much of it is the one row of what fits, or of what would pass the end
+  -- so much of it is the one row of what fits, or of what would pass the maximum
   pub lone_within : (fits : ℕ) → fits ≡ amount (fees_within p) (id, None) → rows_of (some_coins id fits) ≡ rows (fees_within p)
   lone_within fits is =
       coins_more [] id fits ∙ ap (some_row (id, None)) is ∙ sym (append-nil (some_row (id, None) (amount (fees_within p) (id, None))))
@@ -271,7 +271,7 @@ pub no_zero : (xs : List Asset) → IsPositive (rows_of xs) → has_zero xs ≡ 
 no_zero [] positive = refl
 no_zero (x ∷ xs) positive = ap (λ b. b || has_zero xs) (not_zero (amount_of x) positive.0) ∙ no_zero xs positive.1
 
--- an id that names no place pays no rate
+-- an id that names no location pays no rate
 pub no_place : (bytes : List ℕ) (lines : List Line) → 0 ≡ amount (paid_goods lines) (Abstract bytes, None)
 unfolding paid_goods
 no_place bytes lines = sym (amount-from_rows unit_keys (map (λ (line : Line). (coin_of line.rate, line.paid)) lines) (Abstract bytes, None) ∙ none_paid lines) where

@@ -49,12 +49,12 @@ use Rattle.plain_lists.proofs.Lemmas.Facts.{either_second as or_true}
 ledger_is : (f : ChainState) → f.ledger ≡ accounts_of (part_of f)
 ledger_is f = λ i. record { listed = f.ledger_lists i; held = f.ledger.held }
 
-none_mapped : (o : Option MoveFault) → option_map error_of o ≡ None → o ≡ None
+pub none_mapped : (o : Option MoveFault) → option_map error_of o ≡ None → o ≡ None
 none_mapped None h = refl
 none_mapped (Some fault) h = absurd (cc)
 
 -- ---- what stays
--- what holds before and after a move holds of whatever stands now
+-- what holds before and after a move holds of whatever is there now
 after_move : {A : Type 0} (P : Accounts → Type 0) (fault : Option MoveFault) (answer : A) (after before : Accounts) (r : Result A MoveFault) (now : Accounts)
     → Moves fault answer after before r now → P before → (fault ≡ None → P after) → P now
 after_move P fault answer after before (Ok out) now m was is = subst P (sym m.2) (is m.0)
@@ -72,14 +72,14 @@ same_listing : (o : Option (List ℕ)) (change : List ℕ → Accounts) (l : Acc
 same_listing None change l same = refl
 same_listing (Some who) change l same = same who
 
-pub withdrawn_lists : (site : Site) (list : List Asset) (who : Location) (l : Accounts) → (moves.after_withdrawal site list who l).listed ≡ l.listed
-withdrawn_lists site list who l = same_listing (account_of who site) (λ account. Withdrawn account list l) l (λ account. refl)
+pub withdrawn_lists : (list : List Asset) (from : Option (List ℕ)) (l : Accounts) → (moves.after_withdrawal list from l).listed ≡ l.listed
+withdrawn_lists list from l = same_listing from (λ account. Withdrawn account list l) l (λ account. refl)
 
-pub deposited_lists : (site : Site) (goods : Bundle) (who : Location) (l : Accounts) → (moves.after_deposit site goods who l).listed ≡ l.listed
-deposited_lists site goods who l = same_listing (account_of who site) (λ account. Deposited account goods l) l (λ account. refl)
+pub deposited_lists : (goods : Bundle) (to : Option (List ℕ)) (l : Accounts) → (moves.after_deposit goods to l).listed ≡ l.listed
+deposited_lists goods to l = same_listing to (λ account. Deposited account goods l) l (λ account. refl)
 
-pub transferred_lists : (site : Site) (list : List Asset) (from to : Location) (l : Accounts) → (moves.after_transfer site list from to l).listed ≡ l.listed
-transferred_lists site list from to l = deposited_lists site (bundle_of list) to (moves.after_withdrawal site list from l) ∙ withdrawn_lists site list from l
+pub transferred_lists : (list : List Asset) (from to : Option (List ℕ)) (l : Accounts) → (moves.after_transfer list from to l).listed ≡ l.listed
+transferred_lists list from to l = deposited_lists (bundle_of list) to (moves.after_withdrawal list from l) ∙ withdrawn_lists list from l
 
 -- floors: those of the locks, as a transactor has them
 not_less : (n m : ℕ) → n ≤ m → max 0 n ≤ m
@@ -138,7 +138,7 @@ fee_returns p fee who list (Ok out) now is price small m =
     ∙ drawn_back p fee who (account_of who p.site) refl price small free
 fee_returns p fee who list (Err e) now is price small m = tt
 
--- ---- the moves that the transactors of a chain make
+-- ---- the moves that the transactors of a chain make, of accounts that depend on its site or don't
 -- why one is refused, what it leaves, and that it leaves the listing
 abbrev pub Move : Type 0
 Move = record {
@@ -147,25 +147,25 @@ Move = record {
   lists : (site : Site) (l : Accounts) → (leaves site l).listed ≡ l.listed;
 }
 
-abbrev pub withdrawal : List Asset → Location → Move
-withdrawal list who = record {
-  fault = λ rows site floors l. withdraw_fault rows site floors l list who;
-  leaves = λ site l. moves.after_withdrawal site list who l;
-  lists = λ site l. withdrawn_lists site list who l;
+abbrev pub withdrawal : List Asset → (Site → Option (List ℕ)) → Move
+withdrawal list from = record {
+  fault = λ rows site floors l. withdraw_fault rows floors l list (from site);
+  leaves = λ site l. moves.after_withdrawal list (from site) l;
+  lists = λ site l. withdrawn_lists list (from site) l;
 }
 
-abbrev pub deposit : Bundle → Location → Move
-deposit goods who = record {
-  fault = λ rows site floors l. deposit_fault rows site l goods who;
-  leaves = λ site l. moves.after_deposit site goods who l;
-  lists = λ site l. deposited_lists site goods who l;
+abbrev pub deposit : Bundle → (Site → Option (List ℕ)) → Move
+deposit goods to = record {
+  fault = λ rows site floors l. deposit_fault rows l goods (to site);
+  leaves = λ site l. moves.after_deposit goods (to site) l;
+  lists = λ site l. deposited_lists goods (to site) l;
 }
 
-abbrev pub transfer : List Asset → Location → Location → Move
+abbrev pub transfer : List Asset → (Site → Option (List ℕ)) → (Site → Option (List ℕ)) → Move
 transfer list from to = record {
-  fault = λ rows site floors l. transfer_fault rows site floors l list from to;
-  leaves = λ site l. moves.after_transfer site list from to l;
-  lists = λ site l. transferred_lists site list from to l;
+  fault = λ rows site floors l. transfer_fault rows floors l list (from site) (to site);
+  leaves = λ site l. moves.after_transfer list (from site) (to site) l;
+  lists = λ site l. transferred_lists list (from site) (to site) l;
 }
 
 -- that transactors have the rows, the site and the locks of the chain
@@ -213,14 +213,13 @@ module _ (f : ChainState) {one two : List AssetRow} {site other : Site} {kept : 
     abbrev KeepThem : Type 0
     KeepThem = (rows : List AssetRow) (at : Site) (least : UnitFloors) → move.fault rows at least f.ledger ≡ None → floors.KeepsFloors least f.ledger.held → floors.KeepsFloors least (move.leaves at f.ledger).held
 
+    -- they refuse as those of the chain's part would
+    pub fault_is : move.fault (handled_rows (part_of f)) f.settings.site (kept_floors (part_of f)) (accounts_of (part_of f)) ≡ fault
+    fault_is = λ i. move.fault (rows_of_kind Kind.Fungible (sym are.first_rows i) ++ rows_of_kind Kind.Class (sym are.second_rows i)) (sym are.first_site i) (higher_floors no_unit_floors (locked_floors (sym are.locks i))) (sym (ledger_is f) i)
+
     -- the host refuses just what they refuse
     pub refuses : (refusal : Option XcmError) → IsTold refusal → refusal ≡ option_map error_of fault
-    refuses refusal told =
-        told
-        ∙ (λ i. option_map error_of (move.fault (rows_of_kind Kind.Fungible (sym are.first_rows i) ++ rows_of_kind Kind.Class (sym are.second_rows i)) (sym are.first_site i) (higher_floors no_unit_floors (locked_floors (sym are.locks i))) (sym (ledger_is f) i)))
-
-    pub is_free : (refusal : Option XcmError) → IsTold refusal → refusal ≡ None → fault ≡ None
-    is_free refusal told free = none_mapped fault (sym (refuses refusal told) ∙ free)
+    refuses refusal told = told ∙ ap (option_map error_of) fault_is
 
     -- and has what they leave
     leaves : (left : ChainPart) → IsLeft left → record (part_of f) { held = after.held } ≡ left

@@ -52,56 +52,56 @@ first_told fault check [] same = refl
 first_told fault check (a ∷ rest) same = (λ i. or_else (same a i) (first_told fault check rest same i)) ∙ joined (check a) (moves.first_move_fault check rest)
 
 module _ (kinds : (rows : List AssetRow) (a : Asset) → is_some (row_of (rows_of_kind Kind.Fungible rows ++ rows_of_kind Kind.Class rows) a) ≡ is_some (row_of rows a)) where
-  give_told : (p : ChainPart) (who : Location) (a : Asset) → debit_fault p (account_of who p.site) a ≡ option_map error_of (check_out (handled_rows p) p.site (kept_floors p) p.held who a)
-  give_told p who a =
-      told (is_some (row_of p.rows a)) (account_of who p.site)
+  give_told : (p : ChainPart) (from : Option (List ℕ)) (a : Asset) → debit_fault p from a ≡ option_map error_of (check_out (handled_rows p) (kept_floors p) p.held from a)
+  give_told p from a =
+      told (is_some (row_of p.rows a)) from
       (λ w. unless (nat_le (amount_of a + floor_of p w (unit_of a)) (amount p.held (w, unit_of a))) error.FailedToTransactAsset None)
       (λ w. is_short_of (kept_floors p) p.held w a)
       (λ w. ap (λ b. unless b error.FailedToTransactAsset None) (has_enough (amount p.held (w, unit_of a)) (amount_of a) (floor_of p w (unit_of a))) ∙ refused_if (is_short_of (kept_floors p) p.held w a))
-      ∙ ap (λ b. option_map error_of (move_fault b (account_of who p.site) (λ w. is_short_of (kept_floors p) p.held w a))) (sym (kinds p.rows a))
+      ∙ ap (λ b. option_map error_of (move_fault b from (λ w. is_short_of (kept_floors p) p.held w a))) (sym (kinds p.rows a))
 
-  take_told : (p : ChainPart) (held : Held) (who : Location) (a : Asset) → credit_fault (record p { held = held }) (account_of who p.site) a ≡ option_map error_of (check_in (handled_rows p) p.site held who a)
-  take_told p held who a =
-      told (is_some (row_of p.rows a)) (account_of who p.site)
+  take_told : (p : ChainPart) (held : Held) (to : Option (List ℕ)) (a : Asset) → credit_fault (record p { held = held }) to a ≡ option_map error_of (check_in (handled_rows p) held to a)
+  take_told p held to a =
+      told (is_some (row_of p.rows a)) to
       (λ w. unless (not (is_barred held w a)) error.FailedToTransactAsset None)
       (λ w. is_barred held w a)
       (λ w. refused_if (is_barred held w a))
-      ∙ ap (λ b. option_map error_of (move_fault b (account_of who p.site) (λ w. is_barred held w a))) (sym (kinds p.rows a))
+      ∙ ap (λ b. option_map error_of (move_fault b to (λ w. is_barred held w a))) (sym (kinds p.rows a))
 
   -- ---- lists
-  pub withdraw_told : (p : ChainPart) (list : List Asset) (who : Location) → withdraw_refusal p list who ≡ option_map error_of (withdraw_fault (handled_rows p) p.site (kept_floors p) (accounts_of p) list who)
+  pub withdraw_told : (p : ChainPart) (list : List Asset) (who : Location) → withdraw_refusal p list who ≡ option_map error_of (withdraw_fault (handled_rows p) (kept_floors p) (accounts_of p) list (account_of who p.site))
   unfolding withdraw_refusal
-  withdraw_told p list who = first_told (debit_fault p (account_of who p.site)) (check_out (handled_rows p) p.site (kept_floors p) p.held who) list (give_told p who)
+  withdraw_told p list who = first_told (debit_fault p (account_of who p.site)) (check_out (handled_rows p) (kept_floors p) p.held (account_of who p.site)) list (give_told p (account_of who p.site))
 
-  pub deposit_told : (p : ChainPart) (goods : Bundle) (who : Location) → deposit_refusal p goods who ≡ option_map error_of (deposit_fault (handled_rows p) p.site (accounts_of p) goods who)
+  pub deposit_told : (p : ChainPart) (goods : Bundle) (who : Location) → deposit_refusal p goods who ≡ option_map error_of (deposit_fault (handled_rows p) (accounts_of p) goods (account_of who p.site))
   unfolding deposit_refusal
-  deposit_told p goods who = first_told (credit_fault p (account_of who p.site)) (check_in (handled_rows p) p.site p.held who) (held_assets goods) (take_told p p.held who)
+  deposit_told p goods who = first_told (credit_fault p (account_of who p.site)) (check_in (handled_rows p) p.held (account_of who p.site)) (held_assets goods) (take_told p p.held (account_of who p.site))
 
 -- ---- what is left
 at_held : (o : Option (List ℕ)) (change : List ℕ → Accounts) (l : Accounts) → at_account o (λ who. (change who).held) l.held ≡ (moves.ledger_at_account o change l).held
 at_held None change l = refl
 at_held (Some who) change l = refl
 
-pub given_left : (p : ChainPart) (list : List Asset) (who : Location) → given p list who ≡ record p { held = (moves.after_withdrawal p.site list who (accounts_of p)).held }
+pub given_left : (p : ChainPart) (list : List Asset) (who : Location) → given p list who ≡ record p { held = (moves.after_withdrawal list (account_of who p.site) (accounts_of p)).held }
 given_left p list who = λ i. record p { held = at_held (account_of who p.site) (λ account. Withdrawn account list (accounts_of p)) (accounts_of p) i }
 
-pub deposited_left : (p : ChainPart) (goods : Bundle) (who : Location) → deposited p goods who ≡ record p { held = (moves.after_deposit p.site goods who (accounts_of p)).held }
+pub deposited_left : (p : ChainPart) (goods : Bundle) (who : Location) → deposited p goods who ≡ record p { held = (moves.after_deposit goods (account_of who p.site) (accounts_of p)).held }
 unfolding deposited
 deposited_left p goods who = λ i. record p { held = at_held (account_of who p.site) (λ account. Deposited account goods (accounts_of p)) (accounts_of p) i }
 
-pub transferred_left : (p : ChainPart) (list : List Asset) (from to : Location) → transferred p list from to ≡ record p { held = (moves.after_transfer p.site list from to (accounts_of p)).held }
+pub transferred_left : (p : ChainPart) (list : List Asset) (from to : Location) → transferred p list from to ≡ record p { held = (moves.after_transfer list (account_of from p.site) (account_of to p.site) (accounts_of p)).held }
 unfolding transferred
 transferred_left p list from to =
-    let l = moves.after_withdrawal p.site list from (accounts_of p) in
+    let l = moves.after_withdrawal list (account_of from p.site) (accounts_of p) in
     (λ i. got (given_left p list from i) (bundle_of list) to)
     ∙ (λ i. record p { held = at_held (account_of to p.site) (λ account. Deposited account (bundle_of list) l) l i })
 
 module _ (kinds : (rows : List AssetRow) (a : Asset) → is_some (row_of (rows_of_kind Kind.Fungible rows ++ rows_of_kind Kind.Class rows) a) ≡ is_some (row_of rows a)) where
-  pub transfer_told : (p : ChainPart) (list : List Asset) (from to : Location) → transfer_refusal p list from to ≡ option_map error_of (transfer_fault (handled_rows p) p.site (kept_floors p) (accounts_of p) list from to)
+  pub transfer_told : (p : ChainPart) (list : List Asset) (from to : Location) → transfer_refusal p list from to ≡ option_map error_of (transfer_fault (handled_rows p) (kept_floors p) (accounts_of p) list (account_of from p.site) (account_of to p.site))
   unfolding transfer_refusal withdraw_refusal
   transfer_told p list from to =
-      let left = (moves.after_withdrawal p.site list from (accounts_of p)).held in
+      let left = (moves.after_withdrawal list (account_of from p.site) (accounts_of p)).held in
       (λ i. or_else (withdraw_told kinds p list from i) (first_fault (credit_fault (given_left p list from i) (account_of to p.site)) list))
-      ∙ ap (or_else (option_map error_of (withdraw_fault (handled_rows p) p.site (kept_floors p) (accounts_of p) list from)))
-      (first_told (credit_fault (record p { held = left }) (account_of to p.site)) (check_in (handled_rows p) p.site left to) list (take_told kinds p left to))
-      ∙ joined (withdraw_fault (handled_rows p) p.site (kept_floors p) (accounts_of p) list from) (moves.first_move_fault (check_in (handled_rows p) p.site left to) list)
+      ∙ ap (or_else (option_map error_of (withdraw_fault (handled_rows p) (kept_floors p) (accounts_of p) list (account_of from p.site))))
+      (first_told (credit_fault (record p { held = left }) (account_of to p.site)) (check_in (handled_rows p) left (account_of to p.site)) list (take_told kinds p left (account_of to p.site)))
+      ∙ joined (withdraw_fault (handled_rows p) (kept_floors p) (accounts_of p) list (account_of from p.site)) (moves.first_move_fault (check_in (handled_rows p) left (account_of to p.site)) list)

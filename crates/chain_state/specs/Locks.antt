@@ -14,7 +14,7 @@ use Rattle.exec_base.specs.Sending.{unless}
 use Rattle.exec_base.specs.Host.{where_locks, lock_key, is_lockable, request_key}
 use Rattle.chain_state.specs.Sends.{IsAcceptedByChannel}
 
--- the asset may be locked under the key; or it may not, whatever comes behind
+-- the asset may be locked under the key; or it may not, whatever comes after
 pub record MayLock (p : ChainPart) (a : Asset) (owner unlocker : Location) (key : LockKey) : Type 0 where
   pub on : p.locks ≡ true
   pub is : lock_key p a owner unlocker ≡ Some key
@@ -24,7 +24,7 @@ abbrev pub MayNotLock : ChainPart → Asset → Location → Location → Type 0
 MayNotLock p a owner unlocker =
     (rest : Option XcmError) → where_locks p (unless (option_map_or (is_lockable p a) (lock_key p a owner unlocker) false) error.LockError rest) ≡ Some error.LockError
 
--- so much is noted under the key; or it isn't, whatever comes behind
+-- so much is noted under the key; or it isn't, whatever comes after
 pub record MayRequest (p : ChainPart) (a : Asset) (owner locker : Location) (key : NoteKey) : Type 0 where
   pub on : p.locks ≡ true
   pub is : request_key a owner locker ≡ Some key

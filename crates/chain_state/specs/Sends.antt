@@ -3,12 +3,15 @@ use Rattle.std.specs.Prelude.{◌≡◌, ℕ, true, List, length, Option, Some, 
 use Rattle.locations.specs.declared.relative.Location.{Location}
 use Rattle.chain_ids.specs.declared.chain.ChainId.{ChainId}
 use Rattle.operands.specs.declared.error.XcmError.{XcmError}
+use Rattle.operands.specs.declared.error.XcmError.TheVariants as error
 use Rattle.asset_lists.specs.declared.units.Asset.{Asset}
 use Rattle.asset_bundles.specs.declared.shipment.Way.{Way}
 use Rattle.xcm_program.specs.declared.instruction.Instruction.{Instruction}
 use Rattle.xcm_program.specs.declared.instruction.Instruction.TheOpen.{Instruction-F}
 use Rattle.channel_parts.specs.Channels.{Outgoing}
 use Rattle.versioned_xcm.specs.Reading.{message_of}
+use Rattle.chain_queues.specs.declared.faults.PushFault.{PushFault}
+use Rattle.chain_queues.specs.declared.faults.PushFault.TheVariants.{NoChannel, TooLarge, Full}
 use Rattle.chain_queues.specs.Decoded.{is_spelled_in}
 use Rattle.chain_queues.specs.Queues.{push_refusal}
 use Rattle.exec_base.specs.declared.faults.HostFault.{HostFault}
@@ -16,6 +19,12 @@ use Rattle.exec_base.specs.declared.faults.HostFault.TheVariants.{Xcm, Memory}
 use Rattle.exec_base.specs.Part.{ChainPart}
 use Rattle.exec_base.specs.Sending.{channel_to_location, channel_refusal, led_by}
 use Rattle.chain_state.specs.declared.send.arrivals.ArrivalKind.{ArrivalKind}
+
+-- the error of a message that its channel doesn't take
+abbrev pub push_error : PushFault → XcmError
+push_error NoChannel = error.Unroutable
+push_error TooLarge = error.ExceedsMaxMessageSize
+push_error Full = error.Transport
 
 -- the bytes mean the program and are of the channel's version, the rule doesn't refuse it, and the channel takes them
 pub record IsAccepted (channel : Outgoing) (program : List Instruction) (to : ChainId) (bytes : List ℕ) : Type 0 where

@@ -1,5 +1,5 @@
 -- Fees as they are settled. This project's own.
-use Rattle.std.specs.Prelude.{ℕ, ◌+◌, ◌*◌, ◌^◌, Bool, nat_lt, if◌then◌else◌, List, [], ◌∷◌}
+use Rattle.std.specs.Prelude.{ℕ, Bool, nat_lt, if◌then◌else◌, List, [], ◌∷◌}
 use Rattle.std.specs.List.{list_all}
 use Rattle.asset_lists.specs.declared.units.AssetId.{AssetId}
 use Rattle.asset_lists.specs.declared.units.Fun.{Fun}
@@ -7,10 +7,6 @@ use Rattle.asset_lists.specs.declared.units.Asset.{Asset}
 use Rattle.asset_lists.specs.Units.{Unit}
 use Rattle.asset_lists.specs.Listed.{Listed, listed_of, lists}
 use Rattle.asset_bundles.specs.Bundles.{fun_of}
-use Rattle.chain_state.specs.declared.fees.wide.Wide.{Wide}
-
-abbrev pub wide_value : Wide → ℕ
-wide_value w = w.high * 2 ^ 128 + w.low
 
 -- each unit is of a listed asset
 abbrev pub are_units_listed : List Listed → List (Unit × ℕ) → Bool

@@ -28,7 +28,7 @@ impl Host for ChainState {
     }
 
     fn withdraw(&mut self, a: &Assets, who: &Location) -> Result<AssetBundle, HostFault> {
-        self.withdraw_from(a, who)
+        self.withdraw(a, who)
     }
 
     fn deposit(
@@ -36,11 +36,11 @@ impl Host for ChainState {
         goods: AssetBundle,
         who: &Location,
     ) -> Result<(), (AssetBundle, HostFault)> {
-        self.deposit_goods(goods, who)
+        self.deposit(goods, who)
     }
 
     fn transfer(&mut self, a: &Assets, from: &Location, to: &Location) -> Result<(), HostFault> {
-        self.transfer_list(a, from, to)
+        self.transfer(a, from, to)
     }
 
     fn receive(
@@ -49,7 +49,7 @@ impl Host for ChainState {
         from: &Location,
         teleport: bool,
     ) -> Result<AssetBundle, HostFault> {
-        self.receive_from(a, from, teleport)
+        self.receive(a, from, teleport)
     }
 
     fn transfer_out(
@@ -59,7 +59,7 @@ impl Host for ChainState {
         dest: &Location,
         xcm: &Program,
     ) -> Result<u64, HostFault> {
-        self.transfer_at(a, from, dest, xcm)
+        self.transfer_out(a, from, dest, xcm)
     }
 
     fn deposit_out(
@@ -68,7 +68,7 @@ impl Host for ChainState {
         dest: &Location,
         xcm: &Program,
     ) -> Result<u64, (AssetBundle, HostFault)> {
-        self.deposit_at(goods, dest, xcm)
+        self.deposit_out(goods, dest, xcm)
     }
 
     fn ship_out(
@@ -78,7 +78,7 @@ impl Host for ChainState {
         dest: &Location,
         xcm: &Program,
     ) -> Result<u64, (AssetBundle, HostFault)> {
-        self.ship_at(goods, way, dest, xcm)
+        self.ship_out(goods, way, dest, xcm)
     }
 
     fn respond(
@@ -87,15 +87,15 @@ impl Host for ChainState {
         response: Response,
         querier: Option<&Location>,
     ) -> Result<u64, HostFault> {
-        self.respond_to(to, response, querier)
+        self.respond(to, response, querier)
     }
 
     fn routes(&self, dest: &Location) -> bool {
-        self.leads_to(dest)
+        self.routes(dest)
     }
 
     fn answer(&mut self, from: &Location, query: u64) -> Result<bool, AllocError> {
-        self.close_query(from, query)
+        self.answer(from, query)
     }
 
     fn buy(
@@ -103,59 +103,59 @@ impl Host for ChainState {
         w: Weight,
         payment: AssetBundle,
     ) -> Result<AssetBundle, (AssetBundle, HostFault)> {
-        self.buy_weight(w, payment)
+        self.buy(w, payment)
     }
 
     fn refund_of(&self, w: Weight) -> Option<(Location, u128)> {
-        self.refund_for(w)
+        self.refund_of(w)
     }
 
     fn refund(&mut self, w: Weight) -> Result<AssetBundle, AllocError> {
-        self.refund_weight(w)
+        self.refund(w)
     }
 
     fn join(&mut self, into: &mut AssetBundle, goods: AssetBundle) -> Result<(), AssetBundle> {
-        self.join_goods(into, goods)
+        self.join(into, goods)
     }
 
     fn burn(&mut self, goods: AssetBundle) -> Result<(), AssetBundle> {
-        self.burn_goods(goods)
+        self.burn(goods)
     }
 
     fn claim(&mut self, a: &Assets, origin: &Location) -> Result<AssetBundle, HostFault> {
-        self.claim_trap(a, origin)
+        self.claim(a, origin)
     }
 
     fn trap(&mut self, goods: AssetBundle, origin: &Location) -> Result<(), AssetBundle> {
-        self.trap_goods(goods, origin)
+        self.trap(goods, origin)
     }
 
     fn settle(&mut self) -> Result<(), AllocError> {
-        self.settle_fees()
+        self.settle()
     }
 
     fn park(&mut self, goods: AssetBundle) {
-        self.park_goods(goods);
+        self.park(goods);
     }
 
     fn fee_of(&self, dest: &Location) -> Option<Asset> {
-        self.fee_to(dest)
+        self.fee_of(dest)
     }
 
     fn hold_fee(&mut self, goods: AssetBundle) {
-        self.hold_in_slot(goods);
+        self.hold_fee(goods);
     }
 
     fn take_fee(&mut self) -> AssetBundle {
-        self.take_from_slot()
+        self.take_fee()
     }
 
     fn keep_fee(&mut self) {
-        self.keep_slot();
+        self.keep_fee();
     }
 
     fn draw_fee(&mut self, fee: &Asset, who: &Location) -> Result<AssetBundle, HostFault> {
-        self.withdraw_fee(fee, who)
+        self.draw_fee(fee, who)
     }
 
     fn calls(&self) -> bool {
@@ -163,7 +163,7 @@ impl Host for ChainState {
     }
 
     fn dispatch(&mut self, who: &[u8; 32], call: &Call) -> Result<CallEnd, AllocError> {
-        self.dispatch_call(who, call)
+        self.dispatch(who, call)
     }
 
     fn locks(&self) -> bool {
@@ -176,7 +176,7 @@ impl Host for ChainState {
         owner: &Location,
         unlocker: &Location,
     ) -> Result<u64, HostFault> {
-        self.lock_for(asset, owner, unlocker)
+        self.lock(asset, owner, unlocker)
     }
 
     fn unlock(
@@ -185,11 +185,11 @@ impl Host for ChainState {
         target: &Location,
         from: &Location,
     ) -> Result<(), HostFault> {
-        self.unlock_for(asset, target, from)
+        self.unlock(asset, target, from)
     }
 
     fn note(&mut self, asset: &Asset, owner: &Location, from: &Location) -> Result<(), HostFault> {
-        self.note_for(asset, owner, from)
+        self.note(asset, owner, from)
     }
 
     fn request(
@@ -198,7 +198,7 @@ impl Host for ChainState {
         owner: &Location,
         locker: &Location,
     ) -> Result<u64, HostFault> {
-        self.request_for(asset, owner, locker)
+        self.request(asset, owner, locker)
     }
 
     fn exchange(
@@ -207,11 +207,11 @@ impl Host for ChainState {
         want: &Assets,
         maximal: bool,
     ) -> Result<AssetBundle, (AssetBundle, HostFault)> {
-        self.exchange_for(give, want, maximal)
+        self.exchange(give, want, maximal)
     }
 
     #[inline(always)]
     fn event(&mut self, e: Event) -> Result<(), AllocError> {
-        self.tell(e)
+        self.event(e)
     }
 }

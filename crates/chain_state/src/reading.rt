@@ -16,7 +16,7 @@ use operands::{OpenQuery, PalletInfo};
 use trust_tables::{AssetRow, Site};
 
 impl ChainState {
-    /// Where the chain stands.
+    /// Where the chain is.
     pub fn site(&self) -> &Site
         ensures { result.now ≡ (part_of self.now).site }
     {

@@ -22,7 +22,7 @@ use ledgers::{Ledger, TrapStore};
 use operands::OpenQuery;
 use weight_trader::Trader;
 
-/// A chain of the network: what its document says, what stands at it, what it sends, and what is told. No two rows list one asset, the
+/// A chain of the network: what its document says, what is at it, what it sends, and what is told. No two rows list one asset, the
 /// id of each has a path, and there are at most 64 pallets and 16 pools; each account has what is locked on it, and nothing is locked on a
 /// pool's; the ledger and the book list what the rows list; each rate's asset is listed; each channel's fee is an amount above 0 of a fungible asset
 /// that is listed; just the fungible ones of the listed assets have a row of kept fees, and what is in the fee slot has one; the spare
@@ -34,7 +34,7 @@ pub struct ChainState {
     pub(crate) ledger: Ledger,
     pub(crate) traps: TrapStore,
     pub(crate) trader: Trader,
-    /// It takes the trader's place when fees are settled, since no trader can be closed without memory.
+    /// It replaces the trader when fees are settled, since no trader can be closed without memory.
     pub(crate) spare: Trader,
     pub(crate) fee_slot: Units,
     pub(crate) fees: FeeRows,

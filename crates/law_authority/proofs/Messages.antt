@@ -1,4 +1,4 @@
--- A message of one of the seven shapes lowers its origin's account alone, and pools': what isn't behind ClearOrigin is one instruction.
+-- A message of one of the seven shapes lowers its origin's account alone, and pools': what doesn't follow ClearOrigin is one instruction.
 use Rattle.std.proofs.Common.{◌≡◌, ℕ, zero, suc, ◌+◌, true, List, [], ◌∷◌, Option, Some, None, Result, Ok, Err, ⊎_elim, refl, sym, ap, ◌∙◌, subst}
 use Rattle.std.specs.Prelude.{⊤}
 use Rattle.chain_ids.specs.declared.chain.ChainId.{ChainId}
@@ -46,7 +46,7 @@ module _ (rules : ChainRules) (origin : Location) (p : ChainPart) where
   abbrev start : Machine
   start = first_machine rules origin p
 
-  -- where the run stands, and whatever is left where memory is refused there
+  -- where the run is, and whatever is left where memory is refused there
   abbrev Safe : Stage → Type 0
   Safe (At part place x behind m) = SpendsOnly may p m.part × ((left : Machine) → Halted xcm leaves_on_oom x m left → SpendsOnly may p left.part)
   Safe (Ended m) = SpendsOnly may p m.part
@@ -76,7 +76,7 @@ module _ (rules : ChainRules) (origin : Location) (p : ChainPart) where
   unfolding told
   told_first x = let first = first_lowers x in record { settings = first.settings; spends = first.spends; burns = first.burns }
 
-  -- behind ClearOrigin
+  -- after ClearOrigin
   cleared_no_speaker : (m : Machine) → SpendsOnly may p m.part → HasNoSpeaker may p (between (xcm.done (roll-Instruction Instruction-F.ClearOrigin) m))
   cleared_no_speaker m h = subst (λ (l : Instruction-F Instruction). HasNoSpeaker may p (between (done l m))) (sym (out-roll-Instruction Instruction-F.ClearOrigin)) (record { silent = refl; lowers = h })
 
@@ -173,7 +173,7 @@ module _ (rules : ChainRules) (origin : Location) (p : ChainPart) where
       let ran = safe_at here there cargo a (run xcm (first_stage rules origin a p)) shape (still_to_run (first_stage rules origin a p), refl) in
       then_spends (IsSpeaker may) p last.part now (lowers_of (run xcm (first_stage rules origin a p)) ran) (at_end_lowers may last now e)) h
 
-  -- ---- once two instructions were taken, the origin register is empty wherever the run stands
+  -- ---- once two instructions were taken, the origin register is empty wherever the run is
   abbrev Silent : Stage → Type 0
   Silent (At part place x behind m) = m.regs.origin ≡ None
   Silent (Ended m) = ⊤

@@ -5,7 +5,7 @@ use Rattle.network_steps.specs.Worlds.{Member, World, place_of, Stepped}
 use Rattle.law_authority.specs.Origins.{SpendsOf}
 use Rattle.network_steps.specs.Steps.{name_at, Link, drain, Step, Exec, Deliver, Drain, next_world}
 
--- the account for which a step speaks, at the member at a place: an execution for its caller, on its chain; a delivery for the sending
+-- the account for which a step speaks, at the member at an index: an execution for its caller, on its chain; a delivery for the sending
 -- chain, whose location has an account at the receiver; no other step for any
 abbrev pub SpeaksFor : World → Step → ℕ → Member → List ℕ → Type 0
 SpeaksFor w (Exec chain account bytes) place member who = (place_of w chain ≡ Some place) × (who ≡ account)

@@ -40,8 +40,8 @@ use law_steps::{
 };
 use versioned_xcm::law_of_messages;
 
-/// Each account has at least its floor of each asset, and no pool's account a lock, wherever a run comes, behind each execution, and where memory is refused and the run
-/// stops; the lists of the program are in order, as the type of lists says.
+/// Each account has at least its floor of each asset, and no pool's account a lock, wherever a run comes, after each execution, and where
+/// memory is refused and the run stops; the lists of the program are in order, as the type of lists says.
 pub fn law_of_kept_floors()
     ensures reached { (g h : Stage) → Reaches xcm g h
         → IsAheadOf AreLists g → KeepsChainFloors (machine_of g).part → KeepsChainFloors (machine_of h).part }
@@ -79,7 +79,7 @@ pub fn law_of_kept_worlds()
 }
 
 /// Only UnlockAsset lowers a lock, and only where the origin is the lock's unlocker; so it is where memory is refused in an instruction too.
-/// The end of a run lowers none. A run lowers only locks whose unlocker is its origin or stands below it.
+/// The end of a run lowers none. A run lowers only locks whose unlocker is its origin or is below it.
 pub fn law_of_falling_locks()
     ensures done { (x : Instruction) (m : Machine)
         → FallsOnly (LetsFall x m) m.part.locked (xcm.done x m).part.locked }

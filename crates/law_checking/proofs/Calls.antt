@@ -63,7 +63,7 @@ nothing q = total-empty unit_keys q
 less_within : (q : Unit → Bool) (b c : Bundle) → IsWithin b c → total q b ≤ total q c
 less_within q b c within = let e = total-difference unit_keys q c b within in omega (arith, e)
 
--- ---- where the places stay
+-- ---- where what the chain has stays
 abbrev KeepsPlaces : MachineCall → Type 0
 KeepsPlaces (MachineCall.Withdraw list who) = ⊥
 KeepsPlaces (MachineCall.Draw fee who) = ⊥
@@ -105,7 +105,7 @@ places_stay MachineCall.Settle t q h = absurd h
 places_stay (MachineCall.Trap who) t q h = absurd h
 places_stay _ t q h = refl
 
--- ---- places that change by themselves
+-- ---- parts that change by themselves
 deposited_places : (t : MachineWithGoods) (dest : Location) (xcm : List Instruction) (q : Unit → Bool) → in_places q (after (MachineCall.DepositOut dest xcm) t).part ≡ in_places q (deposited t.part t.goods dest)
 unfolding in_kept deposited_out deposited sent
 deposited_places t dest xcm q = refl
@@ -262,7 +262,7 @@ module _ (withdraws : Withdraws) (moves : MovesAreKept) (trapping : Trapping) (m
   fewer (MachineCall.Request a owner locker) t plain asks ok within q = let same = places_stay (MachineCall.Request a owner locker) t q tt in omega (arith, same)
   fewer (MachineCall.Tell e) t plain asks ok within q = let same = places_stay (MachineCall.Tell e) t q tt in omega (arith, same)
 
--- ---- what is paid for weight stays below its end
+-- ---- what is paid for weight stays below its maximum
 module _ (ends : EndsAreKept) where
   bought_within : (lines : List Line) (w : Weight) (payment : Bundle) (o : Option Line) → AreWithinEnd lines → AreWithinEnd (option_map_or (λ (line : Line). Bought w payment lines) o lines)
   bought_within lines w payment None h = h

@@ -54,7 +54,7 @@ use Rattle.law_checking.proofs.Runs.{IsBoundedPart}
 same_account : (x y : Option ℕ) → Some x ≡ Some y → x ≡ y
 same_account x y e = cc
 
--- the account at a place is its row's
+-- the account at an index is its row's
 account_at : (rows : List AssetRow) (place : ℕ) (row : AssetRow) (n : ℕ) → slice_get rows place ≡ Some row → slice_get (map row_checking rows) place ≡ Some (Some n) → row_checking row ≡ Some n
 account_at rows place row n at there = same_account (row_checking row) (Some n) (sym (slice_get-map row_checking rows place ∙ ap (option_map row_checking) at) ∙ there)
 

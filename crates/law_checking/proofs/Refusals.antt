@@ -1,4 +1,4 @@
--- No instruction is refused because a checking account would pass its end, where each has room for all that the chain has.
+-- No instruction is refused because a checking account would pass its maximum, where each has room for all that the chain has.
 use Rattle.std.proofs.Common.{◌≡◌, ℕ, Bool, true, false, List, [], ◌∷◌, length, Option, Some, None, refl, sym, subst, arith}
 use Rattle.std.specs.Prelude.{IsTrue, ◌&&◌, if◌then◌else◌, is_some, nat_le}
 use Rattle.locations.specs.declared.relative.Location.{Location}

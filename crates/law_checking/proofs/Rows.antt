@@ -1,4 +1,4 @@
--- Checking accounts by the places of their rows: what a list that is teleported does to each, and what is refused for it.
+-- Checking accounts by the indices of their rows: what a list that is teleported does to each, and what is refused for it.
 use Rattle.std.proofs.Common.{◌≡◌, ℕ, zero, suc, ◌+◌, ◌-◌, ◌^◌, ◌<◌, ◌≤◌, Bool, true, false, List, [], ◌∷◌, Option, Some, None, get_or, refl, sym, ap, ◌∙◌, subst, cond, arith}
 use Rattle.std.specs.Prelude.{if◌then◌else◌, nat_le, position, slice_get}
 use Rattle.std.specs.List.{AllByRecursion, IsDistinct}
@@ -57,7 +57,7 @@ one_listing a x y h k =
     let same : ◌≡◌ {A = Listed} (listed_row x) (listed_row y) = λ i. (ids i, kinds i) in
     subst (λ (l : Listed). eq_by_cmp listed_cmp (listed_row x) l ≡ true) same (same_key listed_keys (listed_row x))
 
--- no row behind its row is of the asset
+-- no row after its row is of the asset
 none_behind : (a : Asset) (first row : AssetRow) (rows : List AssetRow) (place : ℕ) → AllByRecursion (λ (l : Listed). eq_by_cmp listed_cmp (listed_row first) l ≡ false) (listing rows)
     → is_row_of a first ≡ true → slice_get rows place ≡ Some row → is_row_of a row ≡ true → ⊥
 none_behind a first row [] place apart is at here = absurd (cc at)

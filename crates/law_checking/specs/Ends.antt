@@ -1,4 +1,4 @@
--- Checking accounts and their end. This project's own rule.
+-- Checking accounts and their maximum. This project's own rule.
 use Rattle.std.specs.Prelude.{◌≡◌, ◌≢◌, ℕ, ◌+◌, ◌-◌, ◌^◌, ◌<◌, Bool, List, Some, slice_get}
 use Rattle.std.specs.List.{AllByRecursion}
 use Rattle.std.specs.Ordering.{eq_by_cmp}
@@ -28,18 +28,18 @@ abbrev pub is_of_row : AssetRow → Unit → Bool
 is_of_row row unit = eq_by_cmp listed_cmp (listed_of unit) (listed_row row)
 
 -- each checking account, with all that its chain has of the asset and with what is held, is below
--- the end of an account, which is 2^128-1
+-- the maximum of an account, which is 2^128-1
 abbrev pub AreBelowEnd : Sum → ChainPart → Type 0
 AreBelowEnd held p =
     (place : ℕ) (row : AssetRow) (amount : ℕ)
     → slice_get p.rows place ≡ Some row → slice_get p.checking place ≡ Some (Some amount)
     → amount + (in_places (is_of_row row) p + held (is_of_row row)) < 2 ^ 128 - 1
 
--- no instruction is refused because a checking account would pass its end
+-- no instruction is refused because a checking account would pass its maximum
 abbrev pub IsNeverTooFull : Machine → Type 0
 IsNeverTooFull m = (x : Instruction) → refusal_of x m ≢ Some error.NotDepositable
 
--- where a run stands, with what it holds
+-- where a run is, with what it holds
 pub record MayTeleport (m : Machine) : Type 0 where
   pub below : AreBelowEnd (hold m) m.part
   pub never : IsNeverTooFull m
@@ -50,7 +50,7 @@ abbrev pub AllBelowEnd : World → Type 0
 AllBelowEnd w = AllByRecursion (λ (m : Member). AreBelowEnd none m.part) w
 
 -- whatever the steps: in every world, wherever the run of a local execution or of a delivered message
--- stands, and where memory is refused to it
+-- is, and where memory is refused to it
 pub record StayBelowEnd (order : List Link) (w : World) (steps : List Step) : Type 0 where
   pub in_worlds : AllByRecursion AllBelowEnd (worlds order w steps)
   pub executions : (account : List ℕ) (program : List Instruction)

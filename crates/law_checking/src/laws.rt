@@ -15,7 +15,7 @@ use weight_trader::law_of_conserved_payments;
 
 /// In every network that may open, coherent or not, whatever the steps: each checking account, with all that its chain
 /// has of the asset, is below 2^128-1, in every world, inside each run with what it holds, and where memory is refused.
-/// So no instruction is ever refused because a checking account would pass its end: `NotDepositable` never comes.
+/// So no instruction is ever refused because a checking account would pass its maximum: `NotDepositable` never comes.
 pub fn law_of_checking_accounts()
     ensures { (spec : NetworkSpec) (steps : List Step) → IsOpenable spec
         → StayBelowEnd (order_of spec) (first_world spec) steps }

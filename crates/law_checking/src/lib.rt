@@ -1,4 +1,4 @@
-//! Checking accounts stay below their end: a law of every network, coherent or not.
+//! Checking accounts stay below their maximum: a law of every network, coherent or not.
 #![tactic(auto)]
 
 mod laws;

@@ -1,5 +1,5 @@
--- A frame of a chain: what a delivery does meanwhile at the chain that it takes from. The oldest message of a channel goes, and a teleport that
--- was lost is booked. No call of the chain's host hangs on it.
+-- A frame of a chain is what a delivery does meanwhile at the chain that it takes from. The oldest message of a channel goes, and a teleport that
+-- was lost is booked. No call of the chain's host depends on it.
 use Rattle.std.proofs.Common.{◌≡◌, ℕ, Bool, List, [], ◌∷◌, ◌++◌, Option, Some, None, refl, sym, ap, ◌∙◌, map}
 use Rattle.std.specs.Prelude.{position, remove, option_and_then}
 use Rattle.std.specs.Option.{option_map_or}
@@ -39,7 +39,7 @@ use Rattle.exec_base.specs.Pools.{exchange_at, exchanged}
 use Rattle.law_independence.specs.Beside.{beside}
 use Rattle.law_independence.proofs.Channels.{IsThere, read_popped, sent_swap}
 
--- ---- lines of burns tell the place of a chain, and read no more of it
+-- ---- lines of burns tell the location of a chain, and read no more of it
 path_same : (p q : ChainPart) → p.site ≡ q.site → (id : AssetId) → asset_path_in p id ≡ asset_path_in q id
 path_same p q same (AssetId.Concrete l) = ap (λ (s : Site). path_of (path_of_site s) l) same
 path_same p q same (AssetId.Abstract bytes) = refl
@@ -53,7 +53,7 @@ unfolding burned_lines
 lines_same p q same cause goods =
     mapped_same (burned_line p cause) (burned_line q cause) (λ a. ap (λ path. Event.Burned (kind_of (instance_in a.fun)) path (total_of (amount_of a)) (cause (unit_of a))) (path_same p q same a.id)) (held_assets goods)
 
--- ---- burns are sums: two bookings change places
+-- ---- burns are sums: two bookings may be swapped
 same_book : (book : Book) (m : Burns) → (let b : Book = record { listed = book.listed; burns = (Booked book m).burns } in b) ≡ Booked book m
 unfolding Booked
 same_book book m = refl

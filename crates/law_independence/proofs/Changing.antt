@@ -1,4 +1,4 @@
--- Two acts at different chains may change places.
+-- Two acts at different chains may be swapped.
 use Rattle.std.proofs.Common.{◌≡◌, ℕ, Bool, true, false, List, Option, Some, None, ⊎_elim, refl, sym, ap, ◌∙◌, subst}
 use Rattle.std.specs.Prelude.{◌==◌, if◌then◌else◌, slice_get}
 use Rattle.std.specs.Option.{option_map}
@@ -78,7 +78,7 @@ frames_swap None (Some b) apart lost more p m = refl
 frames_swap (Some a) None apart lost more p m = refl
 frames_swap (Some a) (Some b) apart lost more p m = swap_at a.0 b.0 a.1 b.1 lost more (apart a.0 b.0 a.1 b.1 refl refl) p m
 
--- ---- a frame at an act's own place
+-- ---- a frame at an act's own chain
 own_place : (w : World) (chain from : ChainId) (i k : ℕ) → place_of w chain ≡ Some i → place_of w from ≡ Some k → i ≡ k → from ≡ chain
 own_place w chain from i k at_i at_k same =
     let m = member_at w chain i at_i in
@@ -101,7 +101,7 @@ not_empty w s t b from to j free takes same at_j =
 
 module _ (kept : (w : World) (t : Act) → all_settings (stepped_by w t).world ≡ all_settings w) where
   module _ (w : World) (s t : Act) (apart : acts_at s ≡ acts_at t → ⊥) (free_s : TakesFreely w s t) (free_t : TakesFreely w t s) where
-    -- t's move doesn't hang on what s does where it takes from
+    -- t's move doesn't depend on what s does where it takes from
     steady_second : (a : Moves w s) (b : Moves w t) (lost : Bundle) → IsSteady b.move.run (framed_at a.move.source lost b.move.place) b.member
     steady_second a b lost =
         steady_by w t b a.move.source lost

@@ -80,7 +80,7 @@ module _ (test : Channel → Bool) (to : ChainId) where
         ]
       ]
 
-  -- where the channel has a front, a message is put last as well behind it as without it
+  -- where the channel isn't empty, a message is put last alike whether the oldest is there or was taken
   module _ (program : List Instruction) (cargo : Cargo) where
     queue_swap : (q : List Waiting) (x : Waiting) → (first_of q ≡ None → ⊥) → drop 1 q ++ x ∷ [] ≡ drop 1 (q ++ x ∷ [])
     queue_swap [] x some = absurd (some refl)
@@ -152,7 +152,7 @@ module _ (test : Channel → Bool) (to : ChainId) (on : Bool) (is_on : (c : Chan
   one_refused : (c : Outgoing) → (channel_refusal (Some c) few program ≡ Some error.Transport → ⊥) → channel_refusal (Some (without_oldest c)) few program ≡ channel_refusal (Some c) few program
   one_refused c calm = calm_full (few && is_sendable c program) (nat_lt (length c.queue) c.channel.capacity) (nat_lt (length (drop 1 c.queue)) c.channel.capacity) (room_kept c.queue c.channel.capacity) calm
 
-  -- a message less makes no difference to a send that the channel doesn't refuse
+  -- one message fewer makes no difference to a send that the channel doesn't refuse
   pub refused_popped : (cs : List Outgoing) → IsNoTransport on (channel_refusal (find (by_channel test) cs) few program)
       → channel_refusal (find (by_channel test) (popped to cs)) few program ≡ channel_refusal (find (by_channel test) cs) few program
   refused_popped [] no_transport = refl

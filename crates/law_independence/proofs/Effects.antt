@@ -1,4 +1,4 @@
--- What an instruction asks of a chain, what it refuses and what it leaves don't hang on a frame, where no send on the frame's channel answers
+-- What an instruction asks of a chain, what it refuses and what it leaves don't depend on a frame, where no send on the frame's channel answers
 -- Transport.
 use Rattle.std.proofs.Common.{◌≡◌, ℕ, Bool, true, false, List, [], ◌∷◌, ◌++◌, length, Option, Some, None, inl, inr, ⊎_elim, refl, sym, ap, ◌∙◌, subst}
 use Rattle.std.specs.Prelude.{nat_le, is_some}
@@ -47,7 +47,7 @@ use Rattle.law_independence.proofs.Keeping.{View, with_sent, call_kept}
 use Rattle.law_independence.proofs.Calls.{framed, locked_framed, unlocked_framed, noted_framed, requested_framed, joined_framed, burnt_framed, bought_framed, exchanged_framed, refunded_framed, claimed_framed, answered_framed, withdrawn_framed, received_framed, deposited_framed, transferred_framed, transferred_out_framed, deposited_out_framed, shipped_framed, responded_framed, told_framed, trapped_framed, settled_framed, fee_to_framed, querier_framed}
 use Rattle.law_independence.proofs.Refusals.{or_else_same, framed_machine, fee_framed, here_to, transfer_out_refused, deposit_out_refused, ship_refused, respond_refused, lock_refused, request_refused}
 
--- what a delivery finds on a channel, it finds behind a send
+-- what a delivery finds on a channel, it finds after a send
 finds_kept : (to : ChainId) (v : View) (dest : Location) (program : List Instruction) (cargo : Cargo) → IsThere to v.channels → IsThere to (with_sent dest program cargo v).channels
 finds_kept to v dest program cargo there = λ e. there (sym (found_sent _ to program cargo v.channels there) ∙ e)
 

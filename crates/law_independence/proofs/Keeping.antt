@@ -1,4 +1,4 @@
--- What a run leaves of a chain's place and channels: the place stays, and messages are only put last.
+-- What a run leaves of a chain's location and channels: the location stays, and messages are only put last.
 use Rattle.std.proofs.Common.{ℕ, List, [], ◌∷◌, refl, sym, subst}
 use Rattle.locations.specs.declared.relative.Location.{Location}
 use Rattle.operands.specs.declared.weight.Weight.{Weight}

@@ -1,5 +1,5 @@
 -- What an act that isn't refused does to a world: it puts a new part at its chain, and frames the chain that it takes from. Two of them at different
--- places come to the same world in both orders, where neither hangs on the other's frame.
+-- chains come to the same world in both orders, where neither depends on the other's frame.
 use Rattle.std.proofs.Common.{◌≡◌, ℕ, zero, suc, Bool, true, false, List, [], ◌∷◌, Option, Some, None, refl, sym, ap, ◌∙◌, subst, ⊎_elim}
 use Rattle.std.specs.Prelude.{◌==◌, if◌then◌else◌, slice_get, slice_set}
 use Rattle.std.specs.Option.{option_map, option_map_or}
@@ -44,11 +44,11 @@ same_world (x ∷ xs) (y ∷ ys) same = ap (λ (a : Member). a ∷ xs) (one x y 
     one : (a b : Member) → Some a ≡ Some b → a ≡ b
     one a b e = cc
 
--- ---- a frame at a place
+-- ---- a frame at an index
 abbrev pub framed_member : ChainId → Bundle → Member → Member
 framed_member to lost m = with_part (framed to lost m.part) m
 
--- the place of the chain that is taken from, and the chain to which the channel leads
+-- the index of the chain that is taken from, and the chain to which the channel leads
 abbrev pub Source : Type 0
 Source = Option (ℕ × ChainId)
 
@@ -118,7 +118,7 @@ moved_here a w m e =
 pub moved_other : (a : Move) (w : World) (m : Member) (p : ℕ) → (p ≡ a.place → ⊥) → slice_get (moved_world a w m) p ≡ option_map (framed_at a.source (a.run m).lost p) (slice_get w p)
 moved_other a w m p n = set_other (framed_world a.source (a.run m).lost w) a.place p (moved_member a m) n ∙ framed_read a.source (a.run m).lost w p
 
--- a run doesn't hang on a change of its member
+-- a run doesn't depend on a change of its member
 pub record IsSteady (run : Member → Left) (change : Member → Member) (m : Member) : Type 0 where
   pub answer : (run (change m)).answer ≡ (run m).answer
   pub trace : (run (change m)).trace ≡ (run m).trace

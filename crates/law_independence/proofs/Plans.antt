@@ -85,7 +85,7 @@ member_there v w same p b at_b =
       | Some a ↦ λ e. (a, refl)
     ] (same_said v w same p)
 
--- a place that is found has a member
+-- an index that is found has a member
 pub member_at : (w : World) (chain : ChainId) (i : ℕ) → place_of w chain ≡ Some i → (m : Member) × (slice_get w i ≡ Some m)
 member_at [] chain i at = absurd cc
 member_at (x ∷ xs) chain i at = let found = position-Some (λ (m : Member). same_chain (chain_of m) chain) (x ∷ xs) i x at in (get_or (x ∷ xs) i x, slice_get-get_or (x ∷ xs) i x found.0)
@@ -113,7 +113,7 @@ pub record Moves (w : World) (t : Act) : Type 0 where
   pub place : place_of w (acts_at t) ≡ Some move.place
   pub source : move.source ≡ source_of w (takes_from t)
   pub does : (v : World) (m : Member) → IsAlike w v t → slice_get v move.place ≡ Some m → stepped_by v t ≡ moved move v m
-  -- it doesn't hang on a frame of its member
+  -- it doesn't depend on a frame of its member
   pub steady : (to : ChainId) (lost : Bundle) → IsThere to member.part.channels → SendsCalmly w t to → IsSteady move.run (framed_member to lost) member
   -- and leaves what is found on its member's channels
   pub finds : (to : ChainId) → IsThere to member.part.channels → (let after = move.run member in found_to to after.part.channels) ≡ found_to to member.part.channels

@@ -1,4 +1,4 @@
--- What a call of a chain's host refuses doesn't hang on a frame, where no send on the frame's channel answers Transport.
+-- What a call of a chain's host refuses doesn't depend on a frame, where no send on the frame's channel answers Transport.
 use Rattle.std.proofs.Common.{◌≡◌, ℕ, Bool, true, false, List, length, Option, Some, None, refl, sym, ap, ◌∙◌}
 use Rattle.std.specs.Prelude.{if◌then◌else◌, nat_le, is_some}
 use Rattle.std.specs.Option.{option_map_or}

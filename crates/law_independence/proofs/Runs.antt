@@ -1,4 +1,4 @@
--- A run doesn't hang on a frame, where the frame's channel has a front before it and no send on it answers Transport.
+-- A run doesn't depend on a frame, where the frame's channel isn't empty before it and no send on it answers Transport.
 use Rattle.std.proofs.Common.{◌≡◌, ℕ, zero, suc, ◌+◌, Bool, true, false, List, [], ◌∷◌, Option, Some, None, Result, Ok, Err, refl, sym, ap, ◌∙◌}
 use Rattle.std.specs.Prelude.{if◌then◌else◌, nat_eq, length}
 use Rattle.std.specs.Option.{option_and_then, option_map}

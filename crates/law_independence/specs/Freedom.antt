@@ -1,4 +1,4 @@
--- When two acts at different chains may change places. This project's own rule.
+-- When two acts at different chains may be swapped. This project's own rule.
 --
 --   sends on a channel      an instruction that sends, to a location by which its chain names the channel's other end
 --   sends calmly            no send of an act on a channel answers Transport, which is what a full channel answers
@@ -38,7 +38,7 @@ use Rattle.law_independence.specs.Acts.{Act, acts_at, takes_from, stepped_by, me
 abbrev pub sends_on : ChainId → ChainId → Instruction-F Instruction → Bool
 sends_on here to l = option_map_or (λ (dest : Location). is_location_of here to dest) (destination l) false
 
--- where a run stands: not before a send on the chain's channel to that chain which answers Transport
+-- where a run is: not before a send on the chain's channel to that chain which answers Transport
 abbrev pub IsCalmAt : ChainId → Stage → Type 0
 IsCalmAt to (At part place x behind m) = sends_on m.part.site.chain to (out-Instruction x) ≡ true → refusal_of x m ≡ Some error.Transport → ⊥
 IsCalmAt to (Ended m) = ⊤

@@ -1,4 +1,4 @@
-//! Which steps may change places: laws, as the contracts of functions that do nothing.
+//! Which steps may be swapped: laws, as the contracts of functions that do nothing.
 ghost use Rattle.std.specs.Prelude.{◌≡◌, ℕ, List, Some, None};
 ghost use Rattle.asset_bundles.specs.Bundles.{Bundle};
 ghost use Rattle.chain_ids.specs.declared.chain.ChainId.{ChainId};
@@ -33,7 +33,7 @@ pub fn law_of_runs_beside_deliveries()
         → oldest_to to (acted rules origin credit program p).part.channels ≡ Some x }
 {}
 
-/// In every network, coherent or not, two steps that act at different chains may change places: both orders lead to the same world, and each
+/// In every network, coherent or not, two steps that act at different chains may be swapped: both orders lead to the same world, and each
 /// step has the same answer and the same trace in both. An execution acts at its chain, a delivery at its receiver, a claim at its sender.
 /// Where one of them takes from a channel of the other's chain, it must not find that channel empty, and no send of the other on it may
 /// answer Transport.
@@ -46,7 +46,7 @@ pub fn law_of_independence()
     law_of_constant_settings();
 }
 
-/// Executions and claims at different chains may change places, whatever they answer.
+/// Executions and claims at different chains may be swapped, whatever they answer.
 pub fn law_of_local_acts()
     ensures free { (w : World) (s t : Act)
         → (acts_at s ≡ acts_at t → ⊥) → takes_from s ≡ None → takes_from t ≡ None → AreFree w s t }

@@ -1,4 +1,4 @@
-//! Steps of a network that act at different chains may change places: laws of every network, coherent or not.
+//! Steps of a network that act at different chains may be swapped: laws of every network, coherent or not.
 #![tactic(auto)]
 
 mod laws;

@@ -1,4 +1,4 @@
--- Lemmas: a call of a host burns no excess where nothing passes its end. A reader may skip this file.
+-- Lemmas: a call of a host burns no excess where nothing passes its maximum. A reader may skip this file.
 use Rattle.std.proofs.Common.{◌≡◌, ℕ, ◌+◌, ◌-◌, ◌^◌, ◌≤◌, Bool, true, false, List, [], ◌∷◌, ◌++◌, Option, Some, None, map, refl, sym, ap, ◌∙◌, subst, arith}
 use Rattle.std.specs.Prelude.{nat_le, find, position, remove, if◌then◌else◌}
 use Rattle.std.specs.Option.{option_map_or}
@@ -126,7 +126,7 @@ paid_in_places : (t : Unit → Bool) (p : ChainPart) → total t (paid_goods p.l
 unfolding in_kept
 paid_in_places t p = omega arith
 
--- of each unit the places and the payment have no more than one bundle may hold
+-- of each unit the chain and the payment have no more than one bundle may hold
 abbrev pub FitsWith : Bundle → ChainPart → Type 0
 FitsWith b p = (u : Unit) → in_places (just_unit u) p + total (just_unit u) b ≤ most_of u.1
 

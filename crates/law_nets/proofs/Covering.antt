@@ -1,4 +1,4 @@
--- Lemmas: a run for an account of the chain itself is covered, wherever it stands, and so is the run of a delivered message. A reader may skip this
+-- Lemmas: a run for an account of the chain itself is covered, wherever it is, and so is the run of a delivered message. A reader may skip this
 -- file.
 use Rattle.std.proofs.Common.{◌≡◌, ⊎_elim, ℕ, zero, suc, ◌+◌, true, List, [], ◌∷◌, Option, Some, None, refl, sym, ap, ◌∙◌, subst}
 use Rattle.locations.specs.declared.relative.Location.{Location}
@@ -103,7 +103,7 @@ to_appendix_from : (appendix : List Instruction) (m : Machine) → appendix ≡ 
 to_appendix_from [] m none_left = from_end m
 to_appendix_from (x ∷ behind) m none_left = absurd cc
 
--- ---- behind ClearOrigin
+-- ---- after ClearOrigin
 own_origin_none : IsOwnOrigin None
 own_origin_none l e = absurd cc
 

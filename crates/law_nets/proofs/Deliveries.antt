@@ -244,7 +244,7 @@ module _ (laws : LawsBelow) (shapes : ShapeLaws) (decodes : Decodes) (first : Wo
   done_same : (l : Instruction-F Instruction) → xcm.done (roll-Instruction l) m0 ≡ done l m0
   done_same l = ap (λ (f : Instruction-F Instruction). done f m0) (out-roll-Instruction l)
 
-  -- ---- behind its first instruction
+  -- ---- after its first instruction
   abbrev stage1 : Admitted → Stage
   stage1 a = next xcm (first_stage r.rules (name_at (chain_of r) (chain_of s)) a (arrives s r x))
 
@@ -270,7 +270,7 @@ module _ (laws : LawsBelow) (shapes : ShapeLaws) (decodes : Decodes) (first : Wo
       subst (λ (r : List AssetRow). burned_where (unlisted r) k.part + (in_places (is_unit_where (unlisted r)) k.part + hold k (is_unit_where (unlisted r))) ≡ 0) (sym x.rows)
       (let one = x.amounts (is_unit_where (unlisted p0.rows)) in let two = x.books (unlisted p0.rows) in omega (arith, one, two, listed))
 
-  -- ---- ClearOrigin and more come behind it
+  -- ---- ClearOrigin and more come after it
   led_view : (a : Admitted) → Admits a → (l : Instruction-F Instruction) (behind : List Instruction) → a.program ≡ led_by l behind → refused l m0 ≡ None → view (machine_of (stage1 a)) ≡ view (done l m0)
   led_view a ok l behind is way =
       let d = xcm.done (roll-Instruction l) m0 in
@@ -416,7 +416,7 @@ module _ (laws : LawsBelow) (shapes : ShapeLaws) (decodes : Decodes) (first : Wo
       (λ (alone : IsAlone a.program). by_first a ok alone.what [] alone.is (λ way. alone_end a ok alone.what alone.kind alone.is way))
       (λ (claim : IsLedByClaim a.program). by_first a ok (Instruction-F.ClaimAsset claim.list claim.ticket) (second ∷ claim.behind) claim.is (λ way. claim_end a ok claim.list claim.ticket claim.behind claim.is way)) l
 
-  -- wherever its run stands
+  -- wherever its run is
   pub delivery_stands : (a : Admitted) → admitted r.rules (name_at (chain_of r) (chain_of s)) no_weight (arrives s r x).queries x.program ≡ Ok a → StandsAll (arrives s r x) (first_stage r.rules (name_at (chain_of r) (chain_of s)) a (arrives s r x))
   delivery_stands a ok = by_cargo a ok x.cargo (shapes.admits s.part.site (chain_of r) x.program x.cargo r.rules origin no_weight p0.queries a shape ok)
 
@@ -426,7 +426,7 @@ module _ (laws : LawsBelow) (shapes : ShapeLaws) (decodes : Decodes) (first : Wo
       let g = first_stage r.rules origin a p0 in
       end_no_excess laws (tables_of (views w)) agrees p0 (last_machine r.rules origin a p0) (delivery_stands a ok (run xcm g) (still_to_run g, refl)).0
 
-  -- the receiver's part behind it
+  -- the receiver's part after it
   pub delivery_no_excess : BurnsNoExcess (arrives s r x) (executed r.rules (name_at (chain_of r) (chain_of s)) no_weight x.program (arrives s r x)).1
   delivery_no_excess = by_admission (admitted r.rules origin no_weight p0.queries x.program) refl
 

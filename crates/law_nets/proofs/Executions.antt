@@ -72,7 +72,7 @@ module _ (laws : LawsBelow) (shapes : ShapeLaws) (decodes : Decodes) (first : Wo
       let m0 = first_machine m.rules (caller account) p0 in
       fits_all m0 (kept_fits first (views w) (kept_by first genesis once (views w) reached.history) k m0 (seen_at w k m at)) (nothing_listed p0 sound.listed empty refl)
 
-  -- wherever its run stands
+  -- wherever its run is
   pub execution_stands : (a : Admitted) → admitted m.rules (caller account) m.rules.limit (begun (chain_of m) cargos.Nothing m.part).queries program ≡ Ok a
       → StandsAll (begun (chain_of m) cargos.Nothing m.part) (first_stage m.rules (caller account) a (begun (chain_of m) cargos.Nothing m.part))
   execution_stands a e =
@@ -91,7 +91,7 @@ module _ (laws : LawsBelow) (shapes : ShapeLaws) (decodes : Decodes) (first : Wo
       let g = first_stage m.rules (caller account) a p0 in
       end_no_excess laws (tables_of (views w)) agrees p0 (last_machine m.rules (caller account) a p0) (execution_stands a e (run xcm g) (still_to_run g, refl)).0
 
-  -- the chain's part behind it
+  -- the chain's part after it
   pub execution_no_excess : BurnsNoExcess (begun (chain_of m) cargos.Nothing m.part) (executed_by m.rules (caller account) (admitted m.rules (caller account) m.rules.limit (begun (chain_of m) cargos.Nothing m.part).queries program) (begun (chain_of m) cargos.Nothing m.part)).1
   execution_no_excess = by_admission (admitted m.rules (caller account) m.rules.limit p0.queries program) refl
 

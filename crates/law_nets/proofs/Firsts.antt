@@ -1,4 +1,4 @@
--- Lemmas: where the run of a delivered message stands, and that it burns no excess. A reader may skip this file.
+-- Lemmas: where the run of a delivered message is, and that it burns no excess. A reader may skip this file.
 use Rattle.std.proofs.Common.{◌≡◌, ℕ, zero, suc, ◌+◌, List, [], ◌∷◌, Some, None, refl, sym, ap, ◌∙◌, subst}
 use Rattle.locations.specs.declared.relative.Location.{Location}
 use Rattle.operands.specs.declared.error.XcmError.{XcmError}
@@ -96,7 +96,7 @@ module _ (laws : LawsBelow) (n : List Table) (agrees : Agrees n) (rules : ChainR
       ends_standing (alone laws n agrees rules origin p a balanced x d) (alone_next laws n agrees rules origin p a balanced x is way no_appendix)
       (told_stands d (Event.Ran parts.Program 0 (index (out-Instruction x)) None) (without_appendix (handler_dropped d.regs)) refl behind_it) h count reach
 
-  -- ClearOrigin and more come behind it
+  -- ClearOrigin and more come after it
   pub led_stands : (x : Instruction) (behind : List Instruction) → IsSetBehind laws n agrees rules origin p a balanced x behind → StandsWell p (first_machine rules origin p) → StandsWell p (xcm.done x (first_machine rules origin p)) → StandsAll p (first_stage rules origin a p)
   led_stands x behind s begins behind_it h (zero, reach) = begins_standing x (second ∷ behind) s.is begins (λ again. behind_it.no_excess) h reach
   led_stands x behind s begins behind_it h (suc zero, reach) =

@@ -42,7 +42,7 @@ use Rattle.law_steps.proofs.Lemmas.Rooms.{IsSmall, places_at_most, sum_rises, li
 abbrev pub just_unit : Unit → Unit → Bool
 just_unit u = eq_by_cmp unit_cmp u
 
--- of each unit no more than one bundle may hold: its places and the holding together
+-- of each unit no more than one bundle may hold: the chain and the holding together
 abbrev pub FitsBundle : Machine → Type 0
 FitsBundle m = (u : Unit) → has (just_unit u) m ≤ most_of u.1
 

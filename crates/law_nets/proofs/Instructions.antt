@@ -1,4 +1,4 @@
--- Lemmas: an accepted instruction of a own_origin origin burns no excess, where of each unit no more is there than one bundle may hold. A reader
+-- Lemmas: an accepted instruction for an origin of the chain's own burns no excess, where of each unit no more is there than one bundle may hold. A reader
 -- may skip this file.
 use Rattle.std.proofs.Common.{◌≡◌, ℕ, inr, sym, subst, ◌+◌, ◌≤◌, List, None, refl, arith}
 use Rattle.amounts.specs.Amounts.{total}
@@ -43,7 +43,7 @@ more_no_excess may m p goods x fits same =
 
 -- ---- each call
 
--- of each unit the places, the holding and the hand have no more than one bundle may hold
+-- of each unit the chain, the holding and the hand have no more than one bundle may hold
 abbrev pub FitsInHand : MachineWithGoods → Type 0
 FitsInHand t = (u : Unit) → in_places (just_unit u) t.part + (total (just_unit u) t.regs.holding + total (just_unit u) t.goods) ≤ most_of u.1
 

@@ -22,7 +22,7 @@ use Rattle.asset_bundles.proofs.Lemmas.Bundles.{unit_keys}
 use Rattle.asset_bundles.proofs.Lemmas.BundleLaws.{amount-bundle_of}
 use Rattle.law_runs.proofs.Lemmas.Shipping.{IsNamedList}
 
--- ---- by places
+-- ---- by indices
 pub at_each : {A : Type 0} (P : A → Type 0) (xs : List A) → ((k : ℕ) (x : A) → slice_get xs k ≡ Some x → P x) → AllByRecursion P xs
 at_each P [] h = tt
 at_each P (x ∷ xs) h = (h 0 x refl, at_each P xs (λ k y e. h (suc k) y e))

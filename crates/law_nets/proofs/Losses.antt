@@ -36,7 +36,7 @@ module _ (rules : ChainRules) (origin : Location) (p : ChainPart) (list : List A
   way : refusal_of (roll-Instruction (Instruction-F.ReceiveTeleportedAsset list)) (first_machine rules origin p) ≡ None
   way = ap (λ (l : Instruction-F Instruction). refused l (first_machine rules origin p)) (out-roll-Instruction (Instruction-F.ReceiveTeleportedAsset list)) ∙ accepted
 
-  -- where the run stands behind it
+  -- where the run is after it
   abbrev behind_call : List Instruction → Stage
   behind_call behind = by_answer xcm parts.Program 0 call (roll-Instruction Instruction-F.ClearOrigin ∷ behind) (first_machine rules origin p) None
 

@@ -60,7 +60,7 @@ none_held = ap length (rows-from_rows unit_keys [] tt tt)
 room_first : (rules : ChainRules) (origin : Location) (p : ChainPart) (n : ℕ) → 20 ≤ rules.max_holding → n ≤ 20 → has_room (first_machine rules origin p) n ≡ true
 room_first rules origin p n much few = let z = none_held in within _ _ (omega (arith, z, much, few))
 
--- what is admitted is led by a teleport with this list and ClearOrigin, and the chain's part takes the list from the origin
+-- what is admitted begins with a teleport with this list, and ClearOrigin, and the chain's part takes the list from the origin
 pub record IsTakenIn (named : Option (List Asset)) (a : Admitted) (p : ChainPart) (origin : Location) : Type 0 where
   pub list : List Asset
   pub behind : List Instruction
@@ -88,7 +88,7 @@ module _ (v : WorldView) (agrees : Agrees (tables_of v)) (backed : Backed v) (ch
   abbrev Admits : Admitted → Type 0
   Admits a = admitted rules origin no_weight (begins cargo e ps pr).queries program ≡ Ok a
 
-  -- the list of what it is led by
+  -- the list of what it begins with
   list_fits : (a : Admitted) → Admits a → (l : Instruction-F Instruction) (behind : List Instruction) → a.program ≡ led_by l behind → runs.HasList Instruction l
   list_fits a ok l behind is =
       let all = subst (AllByRecursion AreLists) is (admitted_lists rules origin no_weight (begins cargo e ps pr).queries program runnable.lists a ok) in

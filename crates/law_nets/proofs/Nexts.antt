@@ -14,7 +14,7 @@ only_one zero w v e = cc
 only_one (suc k) w v e = absurd cc
 
 module _ (order : List Link) (first : World) (steps : List Step) where
-  -- a delivery from the last world, as one behind the steps
+  -- a delivery from the last world, as one after the steps
   abbrev behind : IsDelivery order (last_world order first steps) [] → IsDelivery order first steps
   behind d = record {
     at = length steps;
@@ -45,7 +45,7 @@ module _ (order : List Link) (first : World) (steps : List Step) where
   pub next_kept : NoneLost order first steps → NoneLost order (last_world order first steps) []
   next_kept all d a admits = all (behind d) a admits
 
--- behind so many deliveries of a drain, from the world behind some steps: what holds behind any steps holds there
+-- after so many deliveries of a drain, from the world after some steps: what holds after any steps holds there
 pub behind_deliveries : (P : World → Type 0) (order : List Link) (first w : World) (steps : List Step) (made : ℕ) → w ≡ last_world order first steps → ((more : List Step) → P (last_world order first more)) → P (world_behind w (deliveries made order w))
 behind_deliveries P order first w steps made run all =
     let more = delivery_steps (deliveries made order w) in

@@ -1,4 +1,4 @@
--- The steps of a network that is merely known to have a past are found, since steps can be counted out. A reader may skip this file.
+-- The steps of a network that is merely known to have a past are found, since steps can be enumerated. A reader may skip this file.
 use Rattle.std.proofs.Common.{◌≡◌, ◌∙◌, ℕ, zero, suc, Bool, true, List, [], ◌∷◌, ◌++◌, refl, sym, ap}
 use Rattle.std.proofs.Math.Logic.{∥∥₁_map}
 use Rattle.chain_ids.specs.declared.chain.ChainId.{ChainId}
@@ -13,7 +13,7 @@ use Rattle.law_nets.proofs.Searching.{Search, numbers, pairs, lists, standing_fo
 use Rattle.law_nets.proofs.Codes.{same, same_is, is_same}
 use Rattle.law_nets.proofs.Worlds.{world_code}
 
--- ---- steps, counted out
+-- ---- steps, enumerated
 chain_to : ChainId → ℕ
 chain_to Relay = 0
 chain_to (Para n) = suc n
@@ -90,7 +90,7 @@ known spec w some = led_there spec w (found steps (leads spec w) (∥∥₁_map 
 pub opened : (spec : NetworkSpec) → HasPast spec (first_world spec)
 opened spec = record { steps = []; run = refl }
 
--- a step behind some steps
+-- a step after some steps
 pub stepped : (spec : NetworkSpec) (w : World) (step : Step) → HasPast spec w → HasPast spec (next_world (order_of spec) w step)
 stepped spec w step past = record {
   steps = past.steps ++ step ∷ [];

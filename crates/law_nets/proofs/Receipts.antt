@@ -47,7 +47,7 @@ use Rattle.law_nets.proofs.Lists.{of_both, held_each, each_named, moved_to}
 use Rattle.law_nets.proofs.Payments.{passes, no_fault}
 use Rattle.plain_lists.proofs.Lemmas.Facts.{below_by_one as below_more, below_zero_back as first_below, same_bools as both_ways, at_most_told as within}
 
--- ---- the account at an asset's place is that of its row
+-- ---- the account at an asset's index is that of its row
 abbrev at_place : List (Option ℕ) → Option ℕ → Option ℕ
 at_place cs o = option_and_then (λ (place : ℕ). option_and_then (λ (c : Option ℕ). c) (slice_get cs place)) o
 

@@ -210,7 +210,7 @@ exchange_other : (p : ChainPart) (give : Bundle) (want : List Asset) (maximal : 
 unfolding exchange_refusal
 exchange_other p give want maximal = test_other (is_some (exchange_at p give want maximal)) error.NoDeal (λ e. absurd cc)
 
--- ---- what a message may be led by, for any origin
+-- ---- what a message may begin with, for any origin
 pub withdrawal_other : (m : Machine) (list : List Asset) → IsNoShortage (refused (Instruction-F.WithdrawAsset list) m)
 withdrawal_other m list = origin_other m.regs.origin _ (λ who. unless_other (has_room m (length list)) error.HoldingWouldOverflow _ (λ e. absurd cc) (withdraw_other m.part list who))
 

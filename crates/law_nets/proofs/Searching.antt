@@ -1,4 +1,4 @@
--- Search among values that can be counted out: where one passes a test, one that passes is found. A reader may skip this file.
+-- Search among values that can be enumerated: where one passes a test, one that passes is found. A reader may skip this file.
 use Rattle.std.proofs.Common.{◌≡◌, ◌∙◌, ◌⊎◌, inl, inr, ⊎_elim, ℕ, zero, suc, ◌+◌, ◌≤◌, ◌<◌, Bool, true, false, List, [], ◌∷◌, Option, Some, None, refl, sym, ap, subst, arith}
 use Rattle.std.specs.Prelude.{is_some, nat_le}
 use Rattle.std.specs.Option.{option_map, option_and_then}
@@ -116,7 +116,7 @@ pairs s t = record {
       there_both s.find t.find s.sound p n x.0 x.1 (λ q e. s.complete q x.0 n (omega (arith, le)) e) (λ q e. t.complete q x.1 n (omega (arith, le)) e) h;
 }
 
--- ---- values that a search's values stand for
+-- ---- values that a search's values represent
 pub standing_for : {A B : Type 0} → Search A → (to : B → A) (from : A → B) → ((b : B) → from (to b) ≡ b) → Search B
 standing_for s to from back = record {
   find = λ p n. option_map from (s.find (λ a. p (from a)) n);

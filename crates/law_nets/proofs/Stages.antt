@@ -1,4 +1,4 @@
--- Lemmas: a run that burns no excess wherever it stands burns none at its end, nor where memory is refused to it. A reader may skip this file.
+-- Lemmas: a run that burns no excess wherever it is burns none at its end, nor where memory is refused to it. A reader may skip this file.
 use Rattle.std.proofs.Common.{◌≡◌, ⊎_elim, List, None, Result, Ok, Err, refl, sym, subst}
 use Rattle.std.specs.Prelude.{⊤}
 use Rattle.locations.specs.declared.relative.Location.{Location}
@@ -30,14 +30,14 @@ use Rattle.law_nets.proofs.Stopping.{parked_burns, spilled_no_excess}
 use Rattle.law_nets.proofs.Instructions.{finished_no_excess, halted_no_excess}
 use Rattle.law_nets.proofs.Runs.{GoesWithoutExcess, fits_after, runs_without_excess, done_without_excess}
 
--- where a run that began with a part stands
+-- where a run that began with a part is
 pub record StandsWell (p : ChainPart) (m : Machine) : Type 0 where
   pub fits : FitsBundle m
   pub steady : IsSteady m
   pub room : HasRoom (hold m) m.part
   pub no_excess : BurnsNoExcess p m.part
 
--- and if the instruction before which it stands is accepted
+-- and if its next instruction is accepted
 abbrev pub Accepts : ChainPart → Stage → Type 0
 Accepts p (At part place x behind m) = refusal_of x m ≡ None → BurnsNoExcess p (xcm.done x m).part
 Accepts p (Ended m) = ⊤

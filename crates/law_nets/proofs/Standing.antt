@@ -20,7 +20,7 @@ use Rattle.law_steps.specs.Worlds.{arrives, while_delivered}
 use Rattle.law_steps.proofs.Lemmas.Stepping.{seen_at}
 use Rattle.law_nets.proofs.Fitting.{FitsBundleListed, kept_fits}
 
--- ---- places of a world
+-- ---- indices of a world
 still_there : (w : WorldView) (j k : ℕ) (q p : Part) → slice_get w k ≡ Some p → (r : Part) × (slice_get (slice_set w j q) k ≡ Some r)
 still_there [] j k q p at = absurd cc
 still_there (x ∷ w) zero zero q p at = (q, refl)

@@ -85,7 +85,7 @@ module _ (order : List Link) (first : World) (steps : List Step) where
     pub stops_so : StopsAt s.sender s.receiver s.message s.stopped.0
     stops_so = subst (λ (c : ChainId). StandsAt s.receiver.rules c s.message s.receiver.part s.stopped.0) (sym sends) s.stopped.1
 
--- the delivery at which a drain stopped, behind the steps and those before it
+-- the delivery at which a drain stopped, after the steps and those before it
 abbrev pub steps_with : (order : List Link) (first : World) (steps : List Step) (made : ℕ) → List Step
 steps_with order first steps made = steps ++ delivery_steps (deliveries made order (last_world order first steps))
 
@@ -95,7 +95,7 @@ last_of_drain order first steps now s =
     let more = delivery_steps (deliveries s.made order w) in
     subst (λ (v : World). DeliverStops v s.link.0 s.link.1 now) (sym (last_behind order first steps more ∙ same_deliveries s.made order w)) s.stopped
 
--- ---- what stands
+-- ---- what is left
 module _ (order : List Link) (first : World) (kept : (steps : List Step) → AllKept order first steps)
     (stopped_here : (steps : List Step) (account : List ℕ) (program : _) (x : IsExecution order first steps account program) (now : ChainPart)
     → IsAbandoned x.member.rules (caller account) x.member.rules.limit program (begins x.member) now → IsKept (views first) (where_stopped x.world x.place now))

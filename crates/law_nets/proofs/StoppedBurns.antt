@@ -60,7 +60,7 @@ set_none [] k m all one = tt
 set_none (x ∷ w) zero m all one = (one, all.1)
 set_none (x ∷ w) (suc k) m all one = (all.0, set_none w k m all.1 one)
 
--- ---- what stands
+-- ---- what is left
 module _ (order : List Link) (first : World) (none : (steps : List Step) → NoExcessEver order first steps)
     (stopped_here : (steps : List Step) (account : List ℕ) (program : List Instruction) (x : IsExecution order first steps account program) (now : ChainPart)
     → IsAbandoned x.member.rules (caller account) x.member.rules.limit program (begins x.member) now → NoExcess now.burns)

@@ -59,7 +59,7 @@ outgoing_code = code_by (Channel × (ℕ × List Waiting)) (coded× channel.code
 abbrev taken_code : Coded DeliveredCargo
 taken_code = code_by (ChainId × Cargo) (coded× chain.coded cargo.coded) (λ t. (t.sender, t.cargo)) (λ p. record { sender = p.0; cargo = p.1 }) (λ _. refl)
 
--- what stands at a chain, and what it sends and tells
+-- what is at a chain, and what it sends and tells
 abbrev Stands : Type 0
 Stands = Held × (Store × (List Line × (Bundle × (Bundle × (List Bundle × (Burns × List (Option ℕ)))))))
 

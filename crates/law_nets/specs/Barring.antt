@@ -32,7 +32,7 @@ pub record NothingBarred (m : Machine) : Type 0 where
   pub now : TakesAll m
   pub behind_fee : (fee : Asset) → TakesAll (after_fee m fee)
 
--- whatever the steps, so it is wherever the run of a local execution or of a delivered message stands
+-- whatever the steps, so it is wherever the run of a local execution or of a delivered message is
 pub record NeverBarred (order : List Link) (w : World) (steps : List Step) : Type 0 where
   pub executions : (account : List ℕ) (program : List Instruction) (x : IsExecution order w steps account program)
       (a : Admitted) (g : Stage) → AdmitsExecution x.member account program a

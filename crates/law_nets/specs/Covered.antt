@@ -13,18 +13,18 @@ use Rattle.network_steps.specs.Steps.{Link, Step}
 use Rattle.law_steps.specs.Worlds.{IsExecution, begins, IsDelivery, arrives}
 use Rattle.law_nets.specs.Paid.{sender_name, Admits}
 
--- the instruction before which a run stands isn't refused because a checking account is below the amount
+-- the next instruction of a run isn't refused because a checking account is below the amount
 abbrev pub IsCovered : Stage → Type 0
 IsCovered (At part place x behind m) = refusal_of x m ≢ Some error.NotWithdrawable
 IsCovered (Ended m) = ⊤
 
--- whatever the steps, so it is wherever the run of a local execution stands
+-- whatever the steps, so it is wherever the run of a local execution is
 abbrev pub ExecutionsCovered : List Link → World → List Step → Type 0
 ExecutionsCovered order w steps = (account : List ℕ) (program : List Instruction) (x : IsExecution order w steps account program) (a : Admitted) (g : Stage)
     → admitted x.member.rules (caller account) x.member.rules.limit (begins x.member).queries program ≡ Ok a
     → Reaches xcm (first_stage x.member.rules (caller account) a (begins x.member)) g → IsCovered g
 
--- whatever the steps, so it is wherever the run of a delivered message stands
+-- whatever the steps, so it is wherever the run of a delivered message is
 abbrev pub DeliveriesCovered : List Link → World → List Step → Type 0
 DeliveriesCovered order w steps = (d : IsDelivery order w steps) (a : Admitted) (g : Stage)
     → Admits d a

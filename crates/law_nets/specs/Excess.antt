@@ -1,4 +1,4 @@
--- That nothing is burned because an amount passes its end, or because an instance is there already. This project's own rule.
+-- That nothing is burned because an amount passes its maximum, or because an instance is there already. This project's own rule.
 use Rattle.std.specs.Prelude.{◌≡◌, List}
 use Rattle.std.specs.List.{AllByRecursion}
 use Rattle.amounts.specs.Amounts.{amount}

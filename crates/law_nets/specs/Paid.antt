@@ -1,7 +1,7 @@
 -- A withdrawal that its reserve admits is paid, and a teleport that its receiver admits is received. This project's own rule.
 --
 --   withdrawal   a message whose cargo was lowered at its sender, to be taken from the sender's account at the reserve
---   teleport     a message whose cargo left its sender, to stand at the receiver
+--   teleport     a message whose cargo left its sender, to be at the receiver
 --   admitted     the program that admission leaves: its weight is within the limit, and the barriers let it in
 use Rattle.std.specs.Prelude.{◌≡◌, ◌≤◌, IsTrue, List, Option, Some, None, Ok}
 use Rattle.std.specs.List.{AllByRecursion}
@@ -24,7 +24,7 @@ use Rattle.network_steps.specs.Steps.{name_at, run_for, Link, Step}
 use Rattle.law_steps.specs.Shapes.{named_there}
 use Rattle.law_steps.specs.Worlds.{IsDelivery, arrives}
 
--- what is admitted is led by a call with this list and ClearOrigin, and the machine doesn't refuse the call
+-- what is admitted begins with a call with this list, and ClearOrigin, and the machine doesn't refuse the call
 pub record IsLedByAccepted (call : List Asset → Instruction-F Instruction) (named : Option (List Asset)) (a : Admitted) (m : Machine) : Type 0 where
   pub list : List Asset
   pub behind : List Instruction

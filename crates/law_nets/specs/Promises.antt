@@ -15,14 +15,14 @@ use Rattle.law_nets.specs.Stops.{DrainStops}
 pub record KeepsAssets (spec : NetworkSpec) (w : World) : Type 0 where
   -- each asset is conserved, and each derivative is backed
   pub kept : IsKept (views (first_world spec)) (views w)
-  -- nothing was burned because an amount passed its end or an instance was there already
+  -- nothing was burned because an amount passed its maximum or an instance was there already
   pub no_excess : NoExcessIn w
 
--- the world behind so many deliveries of the next drain; behind none of them it is the world of now
+-- the world after so many deliveries of the next drain; after none of them it is the world of now
 abbrev pub in_drain : NetworkSpec → ℕ → World → World
 in_drain spec made w = world_behind w (deliveries made (order_of spec) w)
 
--- what a delivery would take is paid, now and behind any number of the deliveries of the next drain
+-- what a delivery would take is paid, now and after any number of the deliveries of the next drain
 pub record PaysInFull (spec : NetworkSpec) (w : World) : Type 0 where
   -- a withdrawal that its receiver admits comes out of its sender's account there
   pub withdrawal : (made : ℕ) → WithdrawalsPaid (order_of spec) (in_drain spec made w) []

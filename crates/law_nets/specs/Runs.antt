@@ -5,7 +5,7 @@ use Rattle.network_steps.specs.Worlds.{World}
 use Rattle.network_steps.specs.Steps.{Step, last_world}
 use Rattle.network_steps.specs.Genesis.{order_of, first_world}
 
--- the world behind these steps, from the first world of the document on
+-- the world after these steps, from the first world of the document on
 abbrev pub HasRun : NetworkSpec → World → List Step → Type 0
 HasRun spec w steps = w ≡ last_world (order_of spec) (first_world spec) steps
 

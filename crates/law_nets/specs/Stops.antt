@@ -49,7 +49,7 @@ ExecStops w chain account bytes now = (now ≡ w) ⊎ ExecStopsAt w chain accoun
 abbrev pub arrived : ChainId → ChainPart → Waiting → ChainPart
 arrived from p message = told (begun from message.cargo p) (Event.Message from p.site.chain message.number)
 
--- where the receiver of a message stood: it was neither read nor told, or its execution was abandoned, or it ran and its loss wasn't told
+-- how far the receiver of a message was: it was neither read nor told, or its execution was abandoned, or it ran and its loss wasn't told
 abbrev pub StandsAt : ChainRules → ChainId → Waiting → ChainPart → ChainPart → Type 0
 StandsAt rules from message before q =
     (q ≡ begun from message.cargo before)

@@ -21,7 +21,7 @@ use law_steps::{
 };
 
 /// A network that opens has a past, and each step leads from one past to the next. Where it is known that there is a past, it can be found:
-/// steps can be counted out, and two worlds told apart.
+/// steps can be enumerated, and two worlds told apart.
 pub fn law_of_pasts_through_steps()
     ensures opened { (spec : NetworkSpec) → HasPast spec (first_world spec) }
     ensures stepped { (spec : NetworkSpec) (w : World) (step : Step)
@@ -30,7 +30,7 @@ pub fn law_of_pasts_through_steps()
 {}
 
 /// Whatever steps a network has run: a coherent one keeps each asset and backs each derivative, and has burned nothing because an amount passed
-/// its end or an instance was there already (`kept`); in a coherent one, now and behind any number of the deliveries of its next drain, what a
+/// its maximum or an instance was there already (`kept`); in a coherent one, now and after any number of the deliveries of its next drain, what a
 /// delivery would take is paid where its receiver admits it (`paid`). In every network each message that waits has one of the seven shapes
 /// (`shaped`), and the next step lowers no account but its caller's, or that of the sending chain at the receiver of a delivery, or a pool's,
 /// whose product doesn't fall (`authorized`).

@@ -20,7 +20,7 @@ ghost use Rattle.law_nets.specs.Excess.{NoExcess, NoExcessIn, NoExcessEver};
 
 use law_steps::{law_of_conserved_networks, law_of_premises_of_conservation};
 
-/// From a first world, whatever the steps, wherever the run of a local execution or of a delivered message stands, every account can take in what is
+/// From a first world, whatever the steps, wherever the run of a local execution or of a delivered message is, every account can take in what is
 /// held and what another account gives. So no deposit passes 2^128-1, none is of an instance that has an owner, and none is refused where the
 /// location has an account. So it is in every coherent network: `Overflow` and `InstanceExists` never come.
 pub fn law_of_unbarred_deposits()
@@ -45,7 +45,7 @@ pub fn law_of_unbarred_deposits()
     law_of_conserved_networks();
 }
 
-/// No burn is ever booked because an amount passes its end or because an instance is there already: in no world that any steps lead to, from a first
+/// No burn is ever booked because an amount passes its maximum or because an instance is there already: in no world that any steps lead to, from a first
 /// world without such burns, nor from the first world of a coherent network document.
 pub fn law_of_unsaturated_worlds()
     ensures worlds { (order : List Link) (w : World) (steps : List Step)
@@ -57,7 +57,7 @@ pub fn law_of_unsaturated_worlds()
     law_of_conserved_networks();
 }
 
-/// Nor is it in the book of the chain that runs, inside a local execution or a delivery, wherever its run stands, and where memory is refused to it.
+/// Nor is it in the book of the chain that runs, inside a local execution or a delivery, wherever its run is, and where memory is refused to it.
 pub fn law_of_unsaturated_runs()
     ensures executions { (order : List Link) (w : World) (steps : List Step) (account : List ℕ)
         (program : List Instruction) (x : IsExecution order w steps account program) (a : Admitted)

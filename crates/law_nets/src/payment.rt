@@ -49,8 +49,8 @@ pub fn law_of_paid_messages()
 }
 
 /// `NotWithdrawable` never comes: no instruction is refused because a checking account is below the amount, wherever the run of a local execution
-/// stands, from any world, or that of a delivered message, from a first world, whatever the steps; so neither is in a coherent network. Only
-/// ReceiveTeleportedAsset can be refused so: where it leads an admitted message, each account has as much as its list says; elsewhere there is no
+/// is, from any world, or that of a delivered message, from a first world, whatever the steps; so neither is in a coherent network. Only
+/// ReceiveTeleportedAsset can be refused so: where an admitted message begins with it, each account has as much as its list says; elsewhere there is no
 /// origin, or it is no other chain, and no asset is trusted from it.
 pub fn law_of_lowered_accounts()
     ensures executions { (order : List Link) (w : World) (steps : List Step)

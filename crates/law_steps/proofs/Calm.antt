@@ -1,4 +1,4 @@
--- In a run of one of the seven messages no instruction that tells another chain of a lock has an origin: what isn't behind ClearOrigin is no
+-- In a run of one of the seven messages no instruction that tells another chain of a lock has an origin: what doesn't follow ClearOrigin is no
 -- such instruction.
 use Rattle.std.proofs.Common.{◌≡◌, ◌⊎◌, ℕ, zero, suc, ◌+◌, true, List, [], ◌∷◌, Option, Some, None, ⊎_elim, refl, sym, ap, ◌∙◌, subst}
 use Rattle.chain_ids.specs.declared.chain.ChainId.{ChainId}
@@ -82,7 +82,7 @@ module _ (rules : ChainRules) (origin : Location) (p : ChainPart) where
   none_mute n part [] m e = ended_mute n m
   none_mute n part (x ∷ behind) m e = absurd cc
 
-  -- behind ClearOrigin
+  -- after ClearOrigin
   cleared : (m : Machine) → (xcm.done (roll-Instruction Instruction-F.ClearOrigin) m).regs.origin ≡ None
   cleared m = ap (λ (l : Instruction-F Instruction). (done l m).regs.origin) (out-roll-Instruction Instruction-F.ClearOrigin)
 

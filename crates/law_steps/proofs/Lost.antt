@@ -97,7 +97,7 @@ received_cargo : (p : ChainPart) (list : List Asset) → is_cargo p ByTeleport l
 unfolding received cargo_after
 received_cargo p list found = taken_by (is_cargo p ByTeleport list) p.cargo found
 
--- ---- the run of a message that is led by the receipt of its teleport
+-- ---- the run of a message that begins with the receipt of its teleport
 abbrev call : List Asset → Instruction
 call list = roll-Instruction (Instruction-F.ReceiveTeleportedAsset list)
 

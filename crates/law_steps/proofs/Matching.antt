@@ -1,4 +1,4 @@
--- The list in front of a message is its cargo's, as the receiver's calls find.
+-- The list at the front of a message is its cargo's, as the receiver's calls find.
 use Rattle.std.proofs.Common.{◌≡◌, Bool, true, ◌&&◌, List, Option, Some, refl, ap, ◌∙◌}
 use Rattle.locations.specs.declared.grammar.NetworkId.{NetworkId}
 use Rattle.chain_ids.specs.declared.chain.ChainId.{ChainId}

@@ -1,4 +1,4 @@
--- What a network document gives: chains that stand apart, each instance once, and supplies below 2^127.
+-- What a network document gives: chains that are apart, each instance once, and supplies below 2^127.
 use Rattle.std.proofs.Common.{◌≡◌, ℕ, zero, suc, ◌^◌, ◌<◌, ◌≤◌, Bool, true, false, List, [], ◌∷◌, length, Option, Some, map, refl, sym, ap, ◌∙◌, subst, arith}
 use Rattle.std.specs.Prelude.{⊤, not, nat_le, nat_lt, if◌then◌else◌, slice_get}
 use Rattle.std.specs.List.{All, sum_by}
@@ -77,7 +77,7 @@ comes_later before (d ∷ cs) h (suc k) c at =
     let parts = and_parts (comes_before before d.chain) (rises d.chain cs) h in
     before_then before d.chain c.chain parts.0 (comes_later d.chain cs parts.1 k c at)
 
--- each chain behind the one before it
+-- each chain after the one before it
 abbrev Rising : List ChainSpec → Type 0
 Rising [] = ⊤
 Rising (c ∷ cs) = rises c.chain cs ≡ true

@@ -1,4 +1,4 @@
--- Steps with each drain as the deliveries that it makes, one by one, so that what holds behind any steps holds between these too. This
+-- Steps with each drain as the deliveries that it makes, one by one, so that what holds after any steps holds between these too. This
 -- project's own rule.
 use Rattle.std.specs.Prelude.{List, [], ◌∷◌, ◌++◌, map}
 use Rattle.network_steps.specs.Worlds.{World, Stepped}

@@ -18,11 +18,11 @@ pub record IsCoherent (spec : NetworkSpec) : Type 0 where
 abbrev pub NetworkKept : NetworkSpec → List Step → Type 0
 NetworkKept spec steps = AllKept (order_of spec) (first_world spec) steps
 
--- and any two of them, the earlier in the place of the first
+-- and any two of them, the earlier taken as the first
 abbrev pub NetworkKeptBetween : NetworkSpec → List Step → Type 0
 NetworkKeptBetween spec steps = KeptBetween (order_of spec) (first_world spec) steps
 
--- and in each of them every unit of every place and every burn belongs to a listed row
+-- and in each of them every unit, wherever it is, and every burn belongs to a listed row
 abbrev pub NetworkSound : NetworkSpec → List Step → Type 0
 NetworkSound spec steps = AllSound (order_of spec) (first_world spec) steps
 
@@ -30,7 +30,7 @@ NetworkSound spec steps = AllSound (order_of spec) (first_world spec) steps
 abbrev pub NetworkRunsKept : NetworkSpec → List Step → Type 0
 NetworkRunsKept spec steps = RunsKept (order_of spec) (first_world spec) steps
 
--- and in none of them would a checking account pass its end
+-- and in none of them would a checking account pass its maximum
 abbrev pub NetworkAccountsRise : NetworkSpec → List Step → Type 0
 NetworkAccountsRise spec steps = AccountsAlwaysRise (order_of spec) (first_world spec) steps
 

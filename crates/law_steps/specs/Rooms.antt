@@ -12,6 +12,6 @@ use Rattle.law_runs.specs.Sums.{in_places, burned_where, Sum}
 abbrev pub unlisted : List AssetRow → Listed → Bool
 unlisted rows k = not (lists (listing rows) k)
 
--- all that is at the places of a chain, what comes in, and all that was burned is listed
+-- all that is on a chain, what comes in, and all that was burned is listed
 abbrev pub AllListed : Sum → ChainPart → Type 0
 AllListed ins p = burned_where (unlisted p.rows) p + (in_places (is_unit_where (unlisted p.rows)) p + ins (is_unit_where (unlisted p.rows))) ≡ 0

@@ -23,14 +23,14 @@ use Rattle.network_steps.specs.Worlds.{Member, World}
 abbrev pub named_there : Site → ChainId → List Asset → Option (List Asset)
 named_there here there list = arrived_list (record { network = here.network; chain = there }) here.chain list
 
--- the program is led by the cargo's list, as the receiver names it, and ClearOrigin; then comes anything
+-- the program begins with the cargo's list, as the receiver names it, and ClearOrigin; then comes anything
 pub record IsLedBy (here : Site) (there : ChainId) (carried : List Asset) (around : List Asset → List Instruction → List Instruction) (program : List Instruction) : Type 0 where
   pub list : List Asset
   pub behind : List Instruction
   pub named : named_there here there carried ≡ Some list
   pub is : program ≡ around list behind
 
--- an instruction that stands alone in a message: a response, a note of a lock, or a request to let one fall
+-- an instruction that is alone in a message: a response, a note of a lock, or a request to let one fall
 abbrev pub stands_alone : Instruction-F Instruction → Bool
 stands_alone (Instruction-F.QueryResponse query answer weight querier) = true
 stands_alone (Instruction-F.NoteUnlockable asset owner) = true
@@ -50,7 +50,7 @@ pub record IsLedByClaim (program : List Instruction) : Type 0 where
   pub behind : List Instruction
   pub is : program ≡ led_by (Instruction-F.ClaimAsset list ticket) behind
 
--- the seven shapes. A deposit's program begins with ReserveAssetDeposited, what is away begins with WithdrawAsset where it is a withdrawal
+-- the seven shapes. A deposit's program begins with ReserveAssetDeposited, that of what is on its way begins with WithdrawAsset where it is a withdrawal
 -- and with ReceiveTeleportedAsset where it is a teleport, and what carries nothing is one instruction alone, of three kinds, or a claim
 abbrev pub IsShape : Site → ChainId → List Instruction → Cargo → Type 0
 IsShape here there program (Deposit list) = IsLedBy here there list deposit_program program

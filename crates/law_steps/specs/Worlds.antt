@@ -41,7 +41,7 @@ abbrev pub AreSoundParts : networks.World → Type 0
 AreSoundParts w = (k : ℕ) (m : Member) → slice_get w k ≡ Some m → IsSoundPart m.part
 
 -- a first world: its chains agree and it is backed, of no asset there is 2^127 or more, its checking accounts cover what there is elsewhere and
--- with what their chains have are below 2^128-1, no instance stands at two homes, each message that waits has a shape, and each chain is sound
+-- with what their chains have are below 2^128-1, no instance is at two homes, each message that waits has a shape, and each chain is sound
 pub record IsFirst (w : networks.World) : Type 0 where
   pub genesis : IsSoundGenesis (views w)
   pub once : (a : UniversalAsset) (instance : Instance) → population a (just (Some instance)) (views w) ≤ 1
@@ -52,26 +52,26 @@ pub record IsFirst (w : networks.World) : Type 0 where
 abbrev pub AllKept : List Link → networks.World → List Step → Type 0
 AllKept order w steps = AllByRecursion (λ (v : networks.World). IsKept (views w) (views v)) (worlds order w steps)
 
--- and so it is of any two worlds, the earlier in the place of the first: what is kept from the first on is kept from each on
+-- and so it is of any two worlds, the earlier taken as the first: what is kept from the first on is kept from each on
 abbrev pub KeepsOn : networks.World → networks.World → Type 0
 KeepsOn u v = IsKept (views u) (views v)
 
 abbrev pub KeptBetween : List Link → networks.World → List Step → Type 0
 KeptBetween order w steps = AllPairs KeepsOn (worlds order w steps)
 
--- and in every world each unit of every place and each burn belongs to a listed row
+-- and in every world each unit, wherever it is, and each burn belongs to a listed row
 abbrev pub AllSound : List Link → networks.World → List Step → Type 0
 AllSound order w steps = AllByRecursion AreSoundParts (worlds order w steps)
 
--- the network while the chain at a place runs a program: its part is what stands in the run, with what is held
+-- the network while the chain at an index runs a program: its part is that of the run, with what is held
 abbrev pub while_running : networks.World → ℕ → Machine → WorldView
 while_running w k m = slice_set (views w) k (view m)
 
--- the network where memory was refused to a chain's run: its part is what then stands, with what is parked
+-- the network where memory was refused to a chain's run: its part is what is then left, with what is parked
 abbrev pub where_stopped : networks.World → ℕ → ChainPart → WorldView
 where_stopped w k p = slice_set (views w) k (seen empty p)
 
--- no teleport of what a run holds is refused because a checking account would pass its end; no other instruction asks for that
+-- no teleport of what a run holds is refused because a checking account would pass its maximum; no other instruction asks for that
 abbrev pub AccountsMayRise : Machine → Type 0
 AccountsMayRise m = (filter : Filter) (dest : Location) (xcm : List Instruction) → refused (Instruction-F.InitiateTeleport filter dest xcm) m ≢ Some error.NotDepositable
 
@@ -111,7 +111,7 @@ pub record IsDelivery (order : List Link) (w : networks.World) (steps : List Ste
 abbrev pub arrives : Member → Member → Waiting → ChainPart
 arrives sender receiver m = told (begun (chain_of sender) m.cargo receiver.part) (Event.Message (chain_of sender) (chain_of receiver) m.number)
 
--- the network while the receiver runs the message: it is out of its channel, the receiver's part is what stands in the run, with what is held,
+-- the network while the receiver runs the message: it is out of its channel, the receiver's part is that of the run, with what is held,
 -- and what is still left of a teleported cargo counts as burned, as it would if the run ended there
 abbrev pub while_delivered : networks.World → ℕ → Member → ℕ → Member → Machine → WorldView
 while_delivered w from sender to receiver m = slice_set (slice_set (views w) from (seen empty (booking_lost (lost_of m.part.cargo.cargo) (without_message (chain_of receiver) sender.part)))) to (view m)
@@ -124,7 +124,7 @@ StopsAt sender receiver m q =
     ⊎ IsAbandoned receiver.rules (name_at (chain_of receiver) (chain_of sender)) no_weight m.program (arrives sender receiver m) q
     ⊎ (q ≡ (executed receiver.rules (name_at (chain_of receiver) (chain_of sender)) no_weight m.program (arrives sender receiver m)).1)
 
--- the network where memory was refused to a delivery: the message is out of its channel, the receiver's part is what then stands, with what is
+-- the network where memory was refused to a delivery: the message is out of its channel, the receiver's part is what is then left, with what is
 -- parked, and what is left of a teleported cargo is burned
 abbrev pub where_delivery_stopped : networks.World → ℕ → Member → ℕ → Member → ChainPart → WorldView
 where_delivery_stopped w from sender to receiver q =
@@ -149,7 +149,7 @@ AdmitsDelivery sender receiver m a =
     (arrives sender receiver m).queries m.program ≡ Ok a
 
 -- every moment inside a run is kept, with what the run holds counted: that of a local execution wherever it comes, that of a delivered message
--- behind its first instruction; and where memory is refused to one, with what is parked counted
+-- after its first instruction; and where memory is refused to one, with what is parked counted
 pub record RunsKept (order : List Link) (w : networks.World) (steps : List Step) : Type 0 where
   pub executions : (account : List ℕ) (program : List Instruction) (x : IsExecution order w steps account program)
       (a : Admitted) (g : Stage) → AdmitsExecution x.member account program a
@@ -166,7 +166,7 @@ pub record RunsKept (order : List Link) (w : networks.World) (steps : List Step)
       → StopsAt d.sender d.receiver d.message now
       → IsKept (views w) (where_delivery_stopped d.world d.from d.sender d.to d.receiver now)
 
--- wherever the run of a local execution or of a delivered message stands, no checking account would pass its end
+-- wherever the run of a local execution or of a delivered message is, no checking account would pass its maximum
 pub record AccountsAlwaysRise (order : List Link) (w : networks.World) (steps : List Step) : Type 0 where
   pub executions : (account : List ℕ) (program : List Instruction) (x : IsExecution order w steps account program)
       (a : Admitted) (g : Stage) → AdmitsExecution x.member account program a

@@ -26,7 +26,7 @@ use versioned_xcm::law_of_messages;
 use weight_trader::law_of_conserved_payments;
 
 /// What the laws of the crates below say together: what calls of a chain, instructions, purchases and claims move, what admission and the end
-/// of a run keep, what shape the messages of a step have, and that what is sent is read again. The laws of coherent networks stand on it.
+/// of a run keep, what shape the messages of a step have, and that what is sent is read again. The laws of coherent networks rest on it.
 pub fn law_of_premises_of_conservation()
     ensures below { LawsBelow }
     ensures shapes { ShapeLaws }
@@ -46,8 +46,8 @@ pub fn law_of_premises_of_conservation()
 /// From a first world, whatever the steps, every world has each asset as before, at its homes, under way between them and burned there; every
 /// derivative is covered by what its reserve keeps; no chain has 2^127 or more of a listed asset, nor an instance twice; each checking account
 /// is at least what there is at other homes and under way, and with what its chain has of the asset is no more than at first, and stays below
-/// 2^128-1. So it is of any two worlds, the earlier in the place of the first: no derivative's cover shrinks in between. And each unit of every
-/// place and each burn belongs to a listed row.
+/// 2^128-1. So it is of any two worlds, the earlier taken as the first: no derivative's cover shrinks in between. And each unit, wherever
+/// it is, and each burn belongs to a listed row.
 pub fn law_of_conserved_worlds()
     ensures kept { (order : List Link) (w : World) (steps : List Step)
         → IsFirst w → AllKept order w steps }
@@ -78,7 +78,7 @@ pub fn law_of_conserved_executions()
     law_of_premises_of_conservation();
 }
 
-/// So it is inside a delivery, wherever its run comes behind its first instruction: the message is out of its channel, what the run holds is
+/// So it is inside a delivery, wherever its run comes after its first instruction: the message is out of its channel, what the run holds is
 /// counted, and a teleported cargo that it didn't take counts as burned. And where memory is refused to it, in the first instruction too, with
 /// what is parked counted: its teleport has landed, or is burned.
 pub fn law_of_conserved_deliveries()
@@ -99,7 +99,7 @@ pub fn law_of_conserved_deliveries()
     law_of_premises_of_conservation();
 }
 
-/// So no teleport of what a run holds is refused because a checking account would pass its end, in a local execution or in a delivery:
+/// So no teleport of what a run holds is refused because a checking account would pass its maximum, in a local execution or in a delivery:
 /// `NotDepositable` never comes.
 pub fn law_of_rising_accounts()
     ensures executions { (order : List Link) (w : World) (steps : List Step) (account : List ℕ)
@@ -123,7 +123,7 @@ pub fn law_of_rising_accounts()
 }
 
 /// The same of all runs at once: every moment inside a run is kept, of local executions and of deliveries, also where memory is refused; and in
-/// none of them would a checking account pass its end.
+/// none of them would a checking account pass its maximum.
 pub fn law_of_kept_runs()
     ensures kept { (order : List Link) (w : World) (steps : List Step)
         → IsFirst w → RunsKept order w steps }

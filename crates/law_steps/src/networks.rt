@@ -15,7 +15,7 @@ use crate::{law_of_conserved_worlds, law_of_kept_runs, law_of_seven_message_shap
 /// A network that can be opened and in which no cause is found begins as the laws of conserved worlds ask; so every world is conserved and backed,
 /// whatever the steps; no chain has 2^127 or more of a listed asset, nor an instance twice; each checking account is at least what there is at
 /// other homes and under way, and with what its chain has of the asset is no more than at first, and stays below 2^128-1. So it is of any two
-/// worlds, the earlier in the place of the first: no derivative's cover shrinks in between. Each unit of every place and each burn belongs to a
+/// worlds, the earlier taken as the first: no derivative's cover shrinks in between. Each unit, wherever it is, and each burn belongs to a
 /// listed row.
 pub fn law_of_conserved_networks()
     ensures first { (spec : NetworkSpec) → IsCoherent spec → IsFirst (first_world spec) }
@@ -30,8 +30,8 @@ pub fn law_of_conserved_networks()
     law_of_conserved_worlds();
 }
 
-/// So is every moment inside a run of such a network: of a local execution wherever it comes, of a delivery behind its first instruction, and
-/// where memory is refused to one; and in none of them would a checking account pass its end, so `NotDepositable` never comes.
+/// So is every moment inside a run of such a network: of a local execution wherever it comes, of a delivery after its first instruction, and
+/// where memory is refused to one; and in none of them would a checking account pass its maximum, so `NotDepositable` never comes.
 pub fn law_of_kept_network_runs()
     ensures kept { (spec : NetworkSpec) (steps : List Step)
         → IsCoherent spec → NetworkRunsKept spec steps }

@@ -47,7 +47,7 @@ pub fn law_of_seven_message_shapes()
         → AllShaped w → AllByRecursion AllShaped (worlds order w steps) }
 {}
 
-/// So it is inside a run, wherever it comes, behind the execution of a program, and where memory is refused and the run stops.
+/// So it is inside a run, wherever it comes, after the execution of a program, and where memory is refused and the run stops.
 pub fn law_of_runs_that_send()
     ensures reached { (g h : Stage)
         → Reaches xcm g h → AreShapedAt (machine_of g).part → AreShapedAt (machine_of h).part }
@@ -75,7 +75,7 @@ pub fn law_of_admitted_messages()
         → admitted rules origin credit queries program ≡ Ok a → IsShape here there a.program cargo }
 {}
 
-/// Wherever a run of one of the seven messages stands, LockAsset and RequestUnlock find no origin.
+/// Wherever a run of one of the seven messages is, LockAsset and RequestUnlock find no origin.
 pub fn law_of_calm_messages()
     ensures { (here : Site) (there : ChainId) (cargo : Cargo) (rules : ChainRules)
         (origin : Location) (a : Admitted) (p : ChainPart) (n : ℕ)
@@ -97,7 +97,7 @@ pub fn law_of_drains_that_end()
     law_of_orderly_instructions();
 }
 
-/// The list in front of a message is its cargo's, as the receiver names it: so the receiver's call of the kind that fits finds its cargo.
+/// The list at the front of a message is its cargo's, as the receiver names it: so the receiver's call of the kind that fits finds its cargo.
 pub fn law_of_matched_cargoes()
     ensures { (here : Site) (p : ChainPart) (cargo : Cargo) (arrival : Arrival) (list : List Asset)
         → p.site.network ≡ here.network → p.cargo.sender ≡ here.chain → p.cargo.cargo ≡ cargo
@@ -106,7 +106,7 @@ pub fn law_of_matched_cargoes()
 {}
 
 /// A teleport is lost where the first instruction of its message isn't done, and nowhere else: the flag of the execution tells it, whatever comes
-/// behind.
+/// after.
 pub fn law_of_lost_teleports()
     ensures { (sender receiver : Member) (x : Waiting) (shipment : Shipment)
         → IsShaped sender.part.site (chain_of receiver) x

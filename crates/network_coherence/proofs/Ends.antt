@@ -1,4 +1,4 @@
--- The end of a list, whatever stands before it.
+-- The end of a list, whatever comes before it.
 use Rattle.std.specs.Prelude.{◌≡◌, ℕ, zero, suc, ◌+◌, ◌-◌, ◌<◌, nat_eq, Bool, false, List, ◌++◌, length}
 use Rattle.std.proofs.Common.{get_or, true≢false, sym, ap, ◌∙◌, arith, length-append}
 use Rattle.std.proofs.lemmas.List.{get_or-append-add}

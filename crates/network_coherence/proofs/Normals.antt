@@ -1,4 +1,4 @@
--- The shortest name of a place passes the test.
+-- The shortest name of a location passes the test.
 use Rattle.std.specs.Prelude.{◌≡◌, ◌≢◌, suc, ◌-◌, ◌↔◌, nat_lt, nat_le, Bool, true, false, not, ◌&&◌, IsTrue, List, [], ◌∷◌, length, Option, Some, None, slice_get, refl}
 use Rattle.std.specs.List.{All, list_all}
 use Rattle.std.specs.Cmp.{both_ways}

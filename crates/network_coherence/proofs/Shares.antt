@@ -49,7 +49,7 @@ module _ (spec : NetworkSpec) (here : ChainSpec) (row : AssetRow) (context : Lis
       ∙ some_held (is_uncovered (context_of (document_table spec here)) asset here.chain (entry_of spec reserve)) here.accounts
       ∙ ap (λ b. b || any_instance asset (entry_of spec here) test) is_false
 
-  -- what stands under the asset as it is named here
+  -- what is held of the asset as it is named here
   owed_here : (owed : ℕ) → owed ≡ amount_at (named context) every (entry_of spec here) → owed ≡ amount_at asset every (entry_of spec here)
   owed_here owed is_owed = is_owed ∙ ap (λ c. amount_at (named c) every (entry_of spec here)) is_context
 

@@ -31,7 +31,7 @@ module _ {X : Type 0} (xs ys : List X) where
 
 -- ---- two lists, each in two parts
 module _ {X : Type 0} (front back long short : List X) (within : length front ≤ length long) where
-  -- how much of the longer front stands in the other back
+  -- how much of the longer front is in the other back
   abbrev pub rest : List X
   rest = drop (length front) long
 

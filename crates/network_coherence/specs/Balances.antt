@@ -1,5 +1,5 @@
 -- What the balances of a network document say, row by row. This project's own.
-use Rattle.std.specs.Prelude.{ℕ, ◌+◌, ◌*◌, ◌^◌, Bool, true, ◌&&◌, not, nat_lt, nat_eq, if◌then◌else◌, List, [], ◌∷◌, Option, None, Some}
+use Rattle.std.specs.Prelude.{ℕ, Bool, true, ◌&&◌, not, nat_lt, nat_eq, if◌then◌else◌, List, [], ◌∷◌, Option, None, Some}
 use Rattle.std.specs.List.{list_any}
 use Rattle.locations.specs.declared.grammar.Junction.{Junction}
 use Rattle.asset_lists.specs.Units.{unit_of, amount_of}
@@ -10,7 +10,6 @@ use Rattle.law_coherence.specs.Networks.{is_home}
 use Rattle.law_coherence.specs.UniversalAssets.{UniversalAsset, Choice, every, just, is_unit_at}
 use Rattle.law_coherence.specs.Causes.{ChainEntry, chain_of_entry, amount_at, amount_for, is_class_instance}
 use Rattle.network_spec.specs.declared.chain.Balance.{Balance}
-use Rattle.network_coherence.specs.declared.sums.Sum.{Sum}
 
 -- who holds what
 abbrev pub holder_of : Balance → Holder
@@ -48,7 +47,3 @@ is_uncovered context a chain r h = is_unit_at context a every h.1 && nat_eq (amo
 -- what a chain counts for among the other homes of the asset
 abbrev pub share_elsewhere : UniversalAsset → ChainId → ChainEntry → ℕ
 share_elsewhere a chain d = if not (same_chain (chain_of_entry d) chain) && is_home a d.table then amount_at a every d else 0
-
--- what a sum is as a number
-abbrev pub sum_number : Sum → ℕ
-sum_number s = s.high * 2 ^ 128 + s.low

@@ -5,16 +5,17 @@ ghost use Rattle.std.specs.Option.{option_cmp};
 ghost use Rattle.amounts.specs.Rows.{amount_if, sum_where};
 ghost use Rattle.locations.specs.Chains.{path_of};
 ghost use Rattle.asset_lists.specs.Units.{instance_in, instance_cmp, unit_of, amount_of};
+ghost use Rattle.asset_bundles.specs.Totals.{wide_value};
 ghost use Rattle.law_coherence.specs.UniversalAssets.{every, just, is_unit_at};
 ghost use Rattle.law_coherence.specs.Networks.{asset_of_row};
 ghost use Rattle.law_coherence.specs.Causes as causes;
 ghost use Rattle.network_steps.specs.Genesis.{entry_of};
 ghost use Rattle.network_coherence.specs.Answers.{document_table};
-ghost use Rattle.network_coherence.specs.Balances.{balance_rows, holder_of, is_of_account, is_held_unit_of, has_some, some_balance, sum_number};
+ghost use Rattle.network_coherence.specs.Balances.{balance_rows, holder_of, is_of_account, is_held_unit_of, has_some, some_balance};
 
 use crate::accounts::sovereign_account;
 use crate::paths::{context_of, is_asset};
-use crate::sums::Sum;
+use asset_bundles::WideSum;
 use asset_lists::{Asset, AssetId, Fun};
 use chain_ids::ChainId;
 use locations::Junctions;
@@ -61,8 +62,8 @@ fn is_share(
     home: &Junctions,
     row: &AssetRow,
 ) -> bool
-    ensures { result ≡ is_held_unit_of who context.now (path_of home.now row.now.id, row.now.kind) every
-        (holder_of balance.now) }
+    ensures { result ≡ is_held_unit_of who context.now (path_of home.now row.now.id, row.now.kind)
+        every (holder_of balance.now) }
 {
     is_of_account(who, balance) && is_of(context, &balance.asset, home, row)
 }
@@ -92,12 +93,12 @@ fn sum_of(
     balances: &[Balance],
     home: &Junctions,
     row: &AssetRow,
-) -> Sum
-    ensures { sum_number result
+) -> WideSum
+    ensures { wide_value result
         ≡ sum_where (is_held_unit_of who context.now (path_of home.now row.now.id, row.now.kind) every)
         (balance_rows balances.now) }
 {
-    let mut sum = Sum::zero();
+    let mut sum = WideSum::ZERO;
     for balance in balances {
         sum = sum.plus(share(who, context, balance, home, row));
     }
@@ -139,8 +140,13 @@ fn has_unit(
 }
 
 /// What all accounts of a chain hold of the asset.
-pub(crate) fn amount_at(spec: &NetworkSpec, home: &Junctions, row: &AssetRow, at: &ChainSpec) -> Sum
-    ensures { sum_number result ≡ causes.amount_at (path_of home.now row.now.id, row.now.kind) every
+pub(crate) fn amount_at(
+    spec: &NetworkSpec,
+    home: &Junctions,
+    row: &AssetRow,
+    at: &ChainSpec,
+) -> WideSum
+    ensures { wide_value result ≡ causes.amount_at (path_of home.now row.now.id, row.now.kind) every
         (entry_of spec.now at.now) }
 {
     let context = context_of(spec, at);
@@ -169,9 +175,9 @@ pub(crate) fn amount_for(
     home: &Junctions,
     row: &AssetRow,
     at: &ChainSpec,
-) -> Sum
-    ensures { sum_number result ≡ causes.amount_for chain (path_of home.now row.now.id, row.now.kind)
-        every (entry_of spec.now at.now) }
+) -> WideSum
+    ensures { wide_value result ≡ causes.amount_for chain
+        (path_of home.now row.now.id, row.now.kind) every (entry_of spec.now at.now) }
 {
     let who = sovereign_account(at.chain, chain);
     let context = context_of(spec, at);

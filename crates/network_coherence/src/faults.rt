@@ -10,7 +10,7 @@ use std::fmt;
 pub enum IncoherentCause {
     /// Two rows of a chain have the same path.
     PathTwice,
-    /// An asset's id isn't the shortest name of its place.
+    /// An asset's id isn't the shortest name of its location.
     IdNotNormal,
     /// A partner doesn't list the asset as native with this chain as partner.
     PartnerUnlisted,

@@ -1,4 +1,4 @@
-//! What accounts hold when a network opens: instances that stand at two homes, derivatives that aren't covered, and checking accounts
+//! What accounts hold when a network opens: instances that are at two homes, derivatives that aren't covered, and checking accounts
 //! below what other homes hold.
 ghost use Rattle.std.specs.Prelude.{◌≡◌, ◌&&◌, nat_lt, find, Some};
 ghost use Rattle.std.specs.Ordering.{eq_by_cmp};
@@ -7,6 +7,7 @@ ghost use Rattle.locations.specs.Order.{junctions_cmp};
 ghost use Rattle.locations.specs.Chains.{path_of};
 ghost use Rattle.asset_lists.specs.Units.{instance_in};
 ghost use Rattle.asset_lists.specs.Listed.{same_kind};
+ghost use Rattle.asset_bundles.specs.Totals.{wide_value};
 ghost use Rattle.chain_ids.specs.Chains.{same_chain};
 ghost use Rattle.law_coherence.specs.UniversalAssets.{every};
 ghost use Rattle.law_coherence.specs.Networks as networks;
@@ -16,15 +17,15 @@ ghost use Rattle.law_coherence.specs.Causes.{elsewhere, entry_at};
 ghost use Rattle.network_steps.specs.Genesis.{entry_of, entries_of};
 ghost use Rattle.network_coherence.specs.Answers.{finding_of, document_table, entries_in};
 ghost use Rattle.network_coherence.specs.Balances as balances;
-ghost use Rattle.network_coherence.specs.Balances.{has_some, some_balance, sum_number};
+ghost use Rattle.network_coherence.specs.Balances.{has_some, some_balance};
 ghost use Rattle.network_coherence.specs.Parts as parts;
 ghost use Rattle.network_coherence.specs.Parts.{chain_sharing, row_sharing, unbacked, checkings_short};
 
 use crate::balances::{amount_at, amount_for, has_account, has_owner, is_of};
 use crate::listings::is_native;
 use crate::paths::{context_of, is_asset, same_chain, same_kind};
-use crate::sums::Sum;
 use crate::{Incoherent, IncoherentCause};
+use asset_bundles::WideSum;
 use asset_lists::{Fun, Kind};
 use chain_ids::ChainId;
 use locations::Junctions;
@@ -98,7 +99,8 @@ fn has_shared(
 
 /// Whether another chain is a home of a row's asset, where an instance has an owner that has one at the row's chain too.
 fn shares_instance(spec: &NetworkSpec, here: &ChainSpec, row: &AssetRow, at: &ChainSpec) -> bool
-    ensures { result ≡ causes.shares_instance (asset_of_row (document_table spec.now here.now) row.now)
+    ensures { result ≡ causes.shares_instance
+        (asset_of_row (document_table spec.now here.now) row.now)
         (entry_of spec.now here.now) (entry_of spec.now at.now) }
 {
     let home = context_of(spec, here);
@@ -308,19 +310,20 @@ fn share_elsewhere(
     home: &Junctions,
     row: &AssetRow,
     at: &ChainSpec,
-) -> Sum
-    ensures { sum_number result ≡ balances.share_elsewhere
+) -> WideSum
+    ensures { wide_value result ≡ balances.share_elsewhere
         (path_of home.now row.now.id, row.now.kind) here (entry_of spec.now at.now) }
 {
     if !same_chain(at.chain, here) && is_home(spec, home, row, at) {
         return amount_at(spec, home, row, at);
     }
-    Sum::zero()
+    WideSum::ZERO
 }
 
 /// Whether an amount is below what the other homes of a row's asset hold.
 fn is_below_elsewhere(spec: &NetworkSpec, here: &ChainSpec, row: &AssetRow, amount: u128) -> bool
-    ensures { result ≡ nat_lt amount (elsewhere (asset_of_row (document_table spec.now here.now) row.now)
+    ensures { result ≡ nat_lt amount
+        (elsewhere (asset_of_row (document_table spec.now here.now) row.now)
         here.now.chain (entries_of spec.now)) }
 {
     let home = context_of(spec, here);

@@ -8,7 +8,6 @@ mod holdings;
 mod listings;
 mod network;
 mod paths;
-mod sums;
 
 pub use accounts::sovereign_account;
 pub use faults::{Incoherent, IncoherentCause};

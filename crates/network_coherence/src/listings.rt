@@ -23,7 +23,8 @@ use trust_tables::{AssetRole, AssetRow};
 
 /// Whether one of the later rows has the row's path.
 fn is_repeated(spec: &NetworkSpec, chain: &ChainSpec, row: &AssetRow, later: &[AssetRow]) -> bool
-    ensures { result ≡ list_any (causes.same_path (document_table spec.now chain.now) row.now) later.now }
+    ensures { result ≡ list_any (causes.same_path (document_table spec.now chain.now) row.now)
+        later.now }
 {
     let context = context_of(spec, chain);
     later
@@ -62,7 +63,7 @@ pub(crate) fn path_twice(spec: &NetworkSpec) -> Option<Incoherent>
     None
 }
 
-/// The first of a chain's rows whose id isn't the shortest name of its place.
+/// The first of a chain's rows whose id isn't the shortest name of its location.
 fn chain_not_normal(spec: &NetworkSpec, chain: &ChainSpec) -> Option<Incoherent>
     ensures { finding_of result ≡ parts.id_not_normal (document_table spec.now chain.now) }
 {
@@ -80,7 +81,7 @@ fn chain_not_normal(spec: &NetworkSpec, chain: &ChainSpec) -> Option<Incoherent>
     None
 }
 
-/// The first chain with an id that isn't the shortest name of its place.
+/// The first chain with an id that isn't the shortest name of its location.
 pub(crate) fn id_not_normal(spec: &NetworkSpec) -> Option<Incoherent>
     ensures { finding_of result ≡ ids_not_normal (tables_in spec.now) }
 {
@@ -172,7 +173,8 @@ fn some_lists_back(
     chain: ChainId,
     chains: &[ChainSpec],
 ) -> bool
-    ensures { result ≡ list_any (λ there. causes.lists_back (document_table spec.now here.now) row.now
+    ensures { result ≡ list_any
+        (λ there. causes.lists_back (document_table spec.now here.now) row.now
         chain (document_table spec.now there)) chains.now }
 {
     chains
@@ -292,7 +294,8 @@ fn some_lists_native(
     chain: ChainId,
     chains: &[ChainSpec],
 ) -> bool
-    ensures { result ≡ list_any (λ there. causes.lists_native (document_table spec.now here.now) row.now
+    ensures { result ≡ list_any
+        (λ there. causes.lists_native (document_table spec.now here.now) row.now
         chain (document_table spec.now there)) chains.now }
 {
     chains
@@ -302,7 +305,8 @@ fn some_lists_native(
 
 /// Whether the chain is there, and lists the row's asset as native.
 fn is_native_at(spec: &NetworkSpec, here: &ChainSpec, row: &AssetRow, chain: ChainId) -> bool
-    ensures { result ≡ list_any (causes.lists_native (document_table spec.now here.now) row.now chain)
+    ensures { result ≡ list_any
+        (causes.lists_native (document_table spec.now here.now) row.now chain)
         (tables_in spec.now) }
 {
     some_lists_native(spec, here, row, chain, spec.chains.items())

@@ -31,7 +31,7 @@ fn first_cause(spec: &NetworkSpec) -> Option<Incoherent>
 }
 
 /// Whether a network is coherent when it opens: that two rows of a chain have different paths, that ids are the shortest names of their
-/// places, that partners and reserves list the asset so, that no instance has an owner at two homes, that derivatives are covered at
+/// locations, that partners and reserves list the asset so, that no instance has an owner at two homes, that derivatives are covered at
 /// their reserves, and that no checking account is below what other homes hold. An `Err` is the first cause that says otherwise, in this
 /// order, each over chains in order, their rows in listed order and a row's partners in listed order. It takes no memory.
 pub fn coherent(spec: &NetworkSpec) -> Result<(), Incoherent>

@@ -12,7 +12,7 @@ ghost use Rattle.network_coherence.specs.Answers.{document_table};
 
 use asset_lists::Kind;
 use chain_ids::ChainId;
-use locations::{Junction, Junctions, Location};
+use locations::{Junction, Junctions, Location, are_apart};
 use network_spec::{ChainSpec, NetworkSpec};
 use trust_tables::{AssetRow, Site};
 
@@ -91,19 +91,7 @@ fn is_same_split(
     are_same(end, short_back)
 }
 
-/// Whether two junctions are of one kind that is a number, and of different numbers.
-fn are_apart(a: &Junction, b: &Junction) -> bool
-    ensures { IsTrue result → a.now ≢ b.now }
-{
-    match (a, b) {
-        (Junction::Parachain(a), Junction::Parachain(b)) => a != b,
-        (Junction::PalletInstance(a), Junction::PalletInstance(b)) => a != b,
-        (Junction::GeneralIndex(a), Junction::GeneralIndex(b)) => a != b,
-        _ => false,
-    }
-}
-
-/// Whether two lists end with different numbers: whatever stands before them, the lists are then different. That is what paths differ in
+/// Whether two lists end with different numbers: whatever comes before them, the lists are then different. That is what paths differ in
 /// most often.
 fn ends_apart(a: &[Junction], b: &[Junction]) -> bool
     ensures { IsTrue result → (front other_front : List Junction)
@@ -131,7 +119,7 @@ fn is_same_list(
     is_same_split(other_front, other_back, front, back)
 }
 
-/// The part of a chain's context that stays in front of an id's interior.
+/// The part of a chain's context that stays before an id's interior.
 fn kept<'a>(context: &'a Junctions, id: &Location) -> &'a [Junction]
     ensures { result.now ≡ without_last id.now.parents context.now }
 {
@@ -174,7 +162,7 @@ pub(crate) fn is_asset(
     same_kind(kind, row.kind) && same_path(context, id, home, &row.id)
 }
 
-/// Whether an id is the shortest name of its place.
+/// Whether an id is the shortest name of its location.
 pub(crate) fn is_normal(context: &Junctions, id: &Location) -> bool
     ensures { result ≡ locations.is_normal context.now id.now }
 {

@@ -20,7 +20,7 @@ comes_before Relay (Para n) = true
 comes_before (Para m) Relay = false
 comes_before (Para m) (Para n) = nat_lt m n
 
--- each chain behind the one before it
+-- each chain after the one before it
 abbrev pub rises : ChainId → List ChainSpec → Bool
 rises before [] = true
 rises before (c ∷ cs) = comes_before before c.chain && rises c.chain cs

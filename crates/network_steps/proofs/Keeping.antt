@@ -42,7 +42,7 @@ same_said a b e = cc
 same_member : (a b : Member) → Some a ≡ Some b → a ≡ b
 same_member a b e = cc
 
--- ---- a member in place of one with the same settings
+-- ---- a member instead of one with the same settings
 set_same : (w : World) (i : ℕ) (y : Member) → slice_get (all_settings w) i ≡ Some (said y) → all_settings (slice_set w i y) ≡ all_settings w
 set_same [] i y e = refl
 set_same (x ∷ xs) zero y e = ap (λ s. s ∷ all_settings xs) (sym (same_said (said x) (said y) e))

@@ -29,7 +29,7 @@ use Rattle.network_steps.specs.Acting.{begun, Acted, acted, caller, lost_of, boo
 
 -- ---- local executions
 
--- an account of a whole chain, by the number that stands in it
+-- an account of a whole chain, by the number in it
 abbrev pub is_sovereign : List ℕ → Bool
 is_sovereign account =
     let number = from_le_bytes w32 (take 4 (drop 4 account)) in
@@ -132,7 +132,7 @@ abbrev pub is_claim : List Instruction → Bool
 is_claim (first ∷ second ∷ rest) = is_claim_asset first && is_clear_origin second
 is_claim _ = false
 
--- the program stands last in the channel, and carries nothing
+-- the program is the last in the channel, and carries nothing
 abbrev pub posted : ChainId → List Instruction → ChainPart → ChainPart
 posted to program p = record p { channels = pushed to program Nothing p.channels }
 
@@ -212,7 +212,7 @@ abbrev pub worlds : List Link → World → List Step → List World
 worlds order w [] = w ∷ []
 worlds order w (step ∷ steps) = w ∷ worlds order (next_world order w step) steps
 
--- the world behind a list of steps
+-- the world after a list of steps
 abbrev pub last_world : List Link → World → List Step → World
 last_world order w [] = w
 last_world order w (step ∷ steps) = last_world order (next_world order w step) steps

@@ -22,7 +22,7 @@ chain_of m = m.part.site.chain
 abbrev pub World : Type 0
 World = List Member
 
--- where a chain stands in the list; None where the network has no such chain
+-- the index of a chain in the list; None where the network has no such chain
 abbrev pub place_of : World → ChainId → Option ℕ
 place_of w chain = position (λ (m : Member). same_chain (chain_of m) chain) w
 

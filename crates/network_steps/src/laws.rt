@@ -39,7 +39,7 @@ pub fn law_of_no_change_elsewhere()
         → (k ≡ i → ⊥) → slice_get (claim w from to bytes).world k ≡ slice_get w k }
 {}
 
-/// No step changes what the network document says: how each chain runs programs, where it stands, what it lists, its pallets, its fee
+/// No step changes what the network document says: how each chain runs programs, where it is, what it lists, its pallets, its fee
 /// account, and its channels.
 pub fn law_of_constant_settings()
     ensures exec { (w : World) (chain : ChainId) (account bytes : List ℕ)

@@ -1,13 +1,15 @@
 //! Assets that move into accounts and out of them, and those that other chains send here.
-ghost use Rattle.std.specs.Prelude.{◌≡◌, ◌-◌, ℕ, List, if◌then◌else◌, [], ◌∷◌, Some, None, OnOk};
+ghost use Rattle.std.specs.Prelude.{◌≡◌, ◌-◌, ℕ, List, if◌then◌else◌, [], ◌∷◌, Some, None, OnOk, MatchResult};
 ghost use Rattle.amounts.specs.Amounts.{amount};
 ghost use Rattle.asset_lists.specs.Units.{unit_of};
 ghost use Rattle.asset_bundles.specs.Bundles.{bundle_of};
 ghost use Rattle.trust_tables.specs.Accounts.{account_of};
 ghost use Rattle.exec_base.specs.Answers.{AnswersOrRefuses, TakesGoodsOrRefuses, Keeps, AnswersWithinMemory};
-ghost use Rattle.exec_base.specs.Host as host;
 ghost use Rattle.exec_base.specs.Host.{IsPrice, given, fee_drawn, withdraw_refusal, withdrawn, deposit_refusal, deposited, transfer_refusal, transferred, receive_refusal, received, changed_all};
+ghost use Rattle.exec_base.specs.Part.{accounts_of};
+ghost use Rattle.transactors.specs.Moves.{deposit_fault, transfer_fault, after_deposit, after_transfer};
 ghost use Rattle.chain_state.specs.PartOf.{part_of};
+ghost use Rattle.chain_state.specs.Transacting.{handled_rows, kept_floors};
 
 use crate::assets::transactor::{error_of, fault_of, transactors_of};
 use crate::send::arrivals::ArrivalKind;
@@ -38,7 +40,7 @@ impl ChainState {
         law_of_transactors();
         law_of_floors_of_moves();
         law_of_bundles();
-        // For the prover alone: no asset stands twice in a list.
+        // For the prover alone: no asset is twice in a list.
         let _items = list.items();
         let alloc = *self.events.allocator();
         let movers = transactors_of(&self.settings, &self.locked);
@@ -61,11 +63,7 @@ impl ChainState {
 
     /// Takes a fee out of the location's account, which can take it back.
     #[tactic(auto, unfolding(exec_base::specs::Host::fee_drawn))]
-    pub(crate) fn withdraw_fee(
-        &mut self,
-        fee: &Asset,
-        who: &Location,
-    ) -> Result<AssetBundle, HostFault>
+    pub(crate) fn draw_fee(&mut self, fee: &Asset, who: &Location) -> Result<AssetBundle, HostFault>
         requires price { IsPrice fee.now }
         ensures step { AnswersOrRefuses (withdraw_refusal (part_of self.old) (fee.now ∷ []) who.now)
             (bundle_of (fee.now ∷ [])) (fee_drawn (part_of self.old) (fee.now ∷ []) who.now)
@@ -75,30 +73,39 @@ impl ChainState {
     {
         // For the prover alone: an amount has 128 bits.
         let _have = self.held_at(fee, who);
-        let list = Assets::one(*self.events.allocator(), fee.copy())?;
+        let list = Assets::of_one(*self.events.allocator(), fee)?;
         self.withdraw_list(&list, who)
     }
 
-    /// Why goods aren't put into the location's account.
-    pub(crate) fn deposit_refusal(&self, goods: &AssetBundle, who: &Location) -> Option<XcmError>
-        ensures { result ≡ host.deposit_refusal (part_of self.now) goods.now who.now }
+    /// The location's account, where the goods can be put into it, or why they aren't. A location without account can
+    /// only take nothing.
+    pub(crate) fn check_deposit(
+        &self,
+        goods: &AssetBundle,
+        who: &Location,
+    ) -> Result<Option<[u8; 32]>, XcmError>
+        ensures { MatchResult result
+            (λ account. (account ≡ account_of who.now (part_of self.now).site)
+            × (deposit_refusal (part_of self.now) goods.now who.now ≡ None))
+            (λ error. deposit_refusal (part_of self.now) goods.now who.now ≡ Some error) }
     {
         law_of_transactors();
         let movers = transactors_of(&self.settings, &self.locked);
-        match deposit_fault(&movers, &self.ledger, goods, who) {
-            None => None,
-            Some(fault) => Some(error_of(fault)),
+        let account = account_of(who, &self.settings.site);
+        match deposit_fault(&movers, &self.ledger, goods, account) {
+            None => Ok(account),
+            Some(fault) => Err(error_of(fault)),
         }
     }
 
     /// Puts goods into the location's account.
-    pub(crate) fn deposit_goods(
+    pub(crate) fn deposit(
         &mut self,
         goods: AssetBundle,
         who: &Location,
     ) -> Result<(), (AssetBundle, HostFault)>
-        ensures step { TakesGoodsOrRefuses (deposit_refusal (part_of self.old) goods who.now) goods tt
-            (deposited (part_of self.old) goods who.now)
+        ensures step { TakesGoodsOrRefuses (deposit_refusal (part_of self.old) goods who.now) goods
+            tt (deposited (part_of self.old) goods who.now)
             (part_of self.old) result (part_of self.new) }
     {
         law_of_transactors();
@@ -110,56 +117,64 @@ impl ChainState {
         }
     }
 
-    /// Puts goods into the location's account, where `deposit_refusal` is None. They are handed back where memory is
-    /// refused.
-    pub(crate) fn deposit_goods_checked(
+    /// Puts goods into the account, which isn't refused them. They are handed back where memory is refused.
+    pub(crate) fn deposit_checked(
         &mut self,
         goods: AssetBundle,
-        who: &Location,
+        account: Option<[u8; 32]>,
     ) -> Result<(), AssetBundle>
-        requires free { deposit_refusal (part_of self.old) goods who.now ≡ None }
+        requires free { deposit_fault (handled_rows (part_of self.old))
+            (accounts_of (part_of self.old)) goods account ≡ None }
         ensures room { self.new.pending_events ≡ self.old.pending_events }
-        ensures step { Keeps goods (deposited (part_of self.old) goods who.now)
-            (part_of self.old) result (part_of self.new) }
+        ensures step { Keeps goods (record (part_of self.old) {
+          held = (after_deposit goods account (accounts_of (part_of self.old))).held;
+        }) (part_of self.old) result (part_of self.new) }
     {
-        law_of_transactors();
         law_of_floors_of_moves();
         let movers = transactors_of(&self.settings, &self.locked);
-        deposit_checked(&movers, &mut self.ledger, goods, who)
+        deposit_checked(&movers, &mut self.ledger, goods, account)
     }
 
-    /// Why the listed assets aren't moved from one location's account to another's.
-    pub(crate) fn transfer_refusal(
+    /// The accounts of both locations, where the listed assets can be moved from the first to the second, or why they
+    /// aren't.
+    pub(crate) fn check_transfer(
         &self,
         list: &Assets,
         from: &Location,
         to: &Location,
-    ) -> Option<XcmError>
-        ensures { result ≡ host.transfer_refusal (part_of self.now) list.now from.now to.now }
+    ) -> Result<(Option<[u8; 32]>, Option<[u8; 32]>), XcmError>
+        ensures { MatchResult result
+            (λ accounts. (accounts.0 ≡ account_of from.now (part_of self.now).site)
+            × (accounts.1 ≡ account_of to.now (part_of self.now).site)
+            × (transfer_refusal (part_of self.now) list.now from.now to.now ≡ None))
+            (λ error. transfer_refusal (part_of self.now) list.now from.now to.now ≡ Some error) }
     {
         law_of_transactors();
         let movers = transactors_of(&self.settings, &self.locked);
-        match transfer_fault(&movers, &self.ledger, list, from, to) {
-            None => None,
-            Some(fault) => Some(error_of(fault)),
+        let giver = account_of(from, &self.settings.site);
+        let taker = account_of(to, &self.settings.site);
+        match transfer_fault(&movers, &self.ledger, list, giver, taker) {
+            None => Ok((giver, taker)),
+            Some(fault) => Err(error_of(fault)),
         }
     }
 
     /// Moves the listed assets from one location's account to another's.
-    pub(crate) fn transfer_list(
+    pub(crate) fn transfer(
         &mut self,
         list: &Assets,
         from: &Location,
         to: &Location,
     ) -> Result<(), HostFault>
-        ensures step { AnswersOrRefuses (host.transfer_refusal (part_of self.old) list.now from.now to.now)
+        ensures step { AnswersOrRefuses
+            (transfer_refusal (part_of self.old) list.now from.now to.now)
             tt (transferred (part_of self.old) list.now from.now to.now)
             (part_of self.old) result (part_of self.new) }
     {
         law_of_transactors();
         law_of_floors_of_moves();
         law_of_bundles();
-        // For the prover alone: no asset stands twice in a list.
+        // For the prover alone: no asset is twice in a list.
         let _items = list.items();
         let movers = transactors_of(&self.settings, &self.locked);
         match transfer_all(&movers, &mut self.ledger, list, from, to) {
@@ -168,25 +183,27 @@ impl ChainState {
         }
     }
 
-    /// Moves the listed assets from one location's account to another's, where `transfer_refusal` is None.
-    pub(crate) fn transfer_list_checked(
+    /// Moves the listed assets from one account to the other, which isn't refused.
+    pub(crate) fn transfer_checked(
         &mut self,
         list: &Assets,
-        from: &Location,
-        to: &Location,
+        giver: Option<[u8; 32]>,
+        taker: Option<[u8; 32]>,
     ) -> Result<(), AllocError>
-        requires free { transfer_refusal (part_of self.old) list.now from.now to.now ≡ None }
+        requires free { transfer_fault (handled_rows (part_of self.old))
+            (kept_floors (part_of self.old)) (accounts_of (part_of self.old)) list.now giver taker
+            ≡ None }
         ensures room { self.new.pending_events ≡ self.old.pending_events }
-        ensures step { AnswersWithinMemory tt (transferred (part_of self.old) list.now from.now to.now)
-            (part_of self.old) result (part_of self.new) }
+        ensures step { AnswersWithinMemory tt (record (part_of self.old) {
+          held = (after_transfer list.now giver taker (accounts_of (part_of self.old))).held;
+        }) (part_of self.old) result (part_of self.new) }
     {
-        law_of_transactors();
         law_of_floors_of_moves();
         law_of_bundles();
-        // For the prover alone: no asset stands twice in a list.
+        // For the prover alone: no asset is twice in a list.
         let _items = list.items();
         let movers = transactors_of(&self.settings, &self.locked);
-        transfer_checked(&movers, &mut self.ledger, list, from, to)
+        transfer_checked(&movers, &mut self.ledger, list, giver, taker)
     }
 
     /// Lowers the checking accounts of the rows of teleported assets.
@@ -204,13 +221,9 @@ impl ChainState {
 
     /// Takes assets out of an account. It ends the cargo that it takes.
     #[tactic(auto, unfolding(exec_base::specs::Host::withdrawn, exec_base::specs::Host::cargo_after))]
-    pub(crate) fn withdraw_from(
-        &mut self,
-        a: &Assets,
-        who: &Location,
-    ) -> Result<AssetBundle, HostFault>
-        ensures step { AnswersOrRefuses (withdraw_refusal (part_of self.old) a.now who.now) (bundle_of a.now)
-            (withdrawn (part_of self.old) a.now who.now) (part_of self.old) result
+    pub(crate) fn withdraw(&mut self, a: &Assets, who: &Location) -> Result<AssetBundle, HostFault>
+        ensures step { AnswersOrRefuses (withdraw_refusal (part_of self.old) a.now who.now)
+            (bundle_of a.now) (withdrawn (part_of self.old) a.now who.now) (part_of self.old) result
             (part_of self.new) }
     {
         let ends = self.is_cargo(ArrivalKind::Withdrawal, a)?;
@@ -235,7 +248,7 @@ impl ChainState {
     }
 
     /// Makes assets that another chain deposited or teleported here. It ends the cargo that it takes.
-    pub(crate) fn receive_from(
+    pub(crate) fn receive(
         &mut self,
         a: &Assets,
         from: &Location,

@@ -1,4 +1,4 @@
-//! Checking accounts: how much of an asset may stand at its other homes, row by row.
+//! Checking accounts: how much of an asset may be at its other homes, row by row.
 ghost use Rattle.std.specs.Prelude.{◌≡◌, ℕ, Option, option_and_then, slice_get};
 ghost use Rattle.exec_base.specs.Host as host;
 ghost use Rattle.exec_base.specs.Host.{changed_all, first_fault};
@@ -84,7 +84,7 @@ impl ChainState {
         );
     }
 
-    /// The amount of the checking account of the row of this place; none where the row has none, or there is no such row.
+    /// The amount of the checking account of the row of this index; none where the row has none, or there is no such row.
     pub fn checking(&self, row: usize) -> Option<u128>
         ensures { result ≡ option_and_then
             (λ (c : Option ℕ). c) (slice_get (part_of self.now).checking row) }

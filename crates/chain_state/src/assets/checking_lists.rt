@@ -1,4 +1,4 @@
-//! Checking accounts: how much of an asset may stand at its other homes, row by row.
+//! Checking accounts: how much of an asset may be at its other homes, row by row.
 ghost use Rattle.std.specs.Prelude.{◌≡◌};
 ghost use Rattle.exec_base.specs.Host.{changed_rows, changed_all};
 ghost use Rattle.chain_state.specs.Checked.{change_by};

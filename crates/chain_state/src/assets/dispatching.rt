@@ -99,12 +99,8 @@ impl Mover for ChainState {
 }
 
 impl ChainState {
-    /// Does a call for an account, and keeps the line back that tells of it. Where memory is refused a front of a batch may have been done.
-    pub(crate) fn dispatch_call(
-        &mut self,
-        who: &[u8; 32],
-        call: &Call,
-    ) -> Result<CallEnd, AllocError>
+    /// Does a call for an account, and keeps the line back that tells of it. Where memory is refused, a prefix of a batch may have been done.
+    pub(crate) fn dispatch(&mut self, who: &[u8; 32], call: &Call) -> Result<CallEnd, AllocError>
         ensures step { Dispatches (part_of self.old).calls (part_of self.old) who.now call.now
             result
             (part_of self.new) }

@@ -12,13 +12,14 @@ use operands::XcmError;
 
 impl ChainState {
     /// Exchanges goods for what is wanted with one of the chain's pools, and hands back all that comes of them.
-    pub(crate) fn exchange_for(
+    pub(crate) fn exchange(
         &mut self,
         give: AssetBundle,
         want: &Assets,
         maximal: bool,
     ) -> Result<AssetBundle, (AssetBundle, HostFault)>
-        ensures step { TakesGoodsOrRefuses (exchange_refusal (part_of self.old) give want.now maximal) give
+        ensures step { TakesGoodsOrRefuses
+            (exchange_refusal (part_of self.old) give want.now maximal) give
             (exchange_goods (part_of self.old) give want.now maximal)
             (exchanged (part_of self.old) give want.now maximal) (part_of self.old) result
             (part_of self.new) }

@@ -58,7 +58,7 @@ fn unlock_of(alloc: Global, asset: Asset, target: Location) -> Result<Program, A
     Ok(Listed::from_vec(items))
 }
 
-/// The account that a place's last junction names.
+/// The account that a location's last junction names.
 fn last_account(place: &Location) -> Option<[u8; 32]>
     ensures { result ≡ host.last_account place.now.interior }
 {
@@ -76,7 +76,7 @@ fn last_in(junctions: &[Junction]) -> Option<[u8; 32]>
     }
 }
 
-/// The account of a place on the chain itself that is just an account.
+/// The account of a location on the chain itself that is just an account.
 fn own_account(place: &Location) -> Option<[u8; 32]>
     ensures { result ≡ host.own_account place.now }
 {
@@ -147,7 +147,7 @@ impl ChainState {
     }
 
     /// Locks so much of the asset on the owner's account, and tells the unlocker.
-    pub(crate) fn lock_for(
+    pub(crate) fn lock(
         &mut self,
         asset: &Asset,
         owner: &Location,
@@ -155,7 +155,8 @@ impl ChainState {
     ) -> Result<u64, HostFault>
         requires forwardable { IsForwardable
             (roll-Instruction (Instruction-F.LockAsset asset.now unlocker.now) ∷ []) }
-        ensures step { AnswersOrRefuses (lock_refusal (part_of self.old) asset.now owner.now unlocker.now)
+        ensures step { AnswersOrRefuses
+            (lock_refusal (part_of self.old) asset.now owner.now unlocker.now)
             (number_to (part_of self.old) unlocker.now)
             (asset_locked (part_of self.old) asset.now owner.now unlocker.now) (part_of self.old)
             result (part_of self.new) }
@@ -175,13 +176,14 @@ impl ChainState {
 
     /// Lets a lock fall, of which `from` is the unlocker. It takes no memory.
     #[tactic(auto, unfolding(exec_base::specs::Host::unlock_refusal, exec_base::specs::Host::asset_unlocked))]
-    pub(crate) fn unlock_for(
+    pub(crate) fn unlock(
         &mut self,
         asset: &Asset,
         target: &Location,
         from: &Location,
     ) -> Result<(), HostFault>
-        ensures step { AnswersOrRefuses (unlock_refusal (part_of self.old) asset.now target.now from.now) tt
+        ensures step { AnswersOrRefuses
+            (unlock_refusal (part_of self.old) asset.now target.now from.now) tt
             (asset_unlocked (part_of self.old) asset.now target.now from.now) (part_of self.old)
             result (part_of self.new) }
     {
@@ -199,7 +201,7 @@ impl ChainState {
 
     /// Notes a lock that `from` holds.
     #[tactic(auto, unfolding(exec_base::specs::Host::note_key, exec_base::specs::Host::note_refusal, exec_base::specs::Host::asset_noted))]
-    pub(crate) fn note_for(
+    pub(crate) fn note(
         &mut self,
         asset: &Asset,
         owner: &Location,
@@ -207,7 +209,8 @@ impl ChainState {
     ) -> Result<(), HostFault>
         requires forwardable { IsForwardable
             (roll-Instruction (Instruction-F.NoteUnlockable asset.now owner.now) ∷ []) }
-        ensures step { AnswersOrRefuses (note_refusal (part_of self.old) asset.now owner.now from.now) tt
+        ensures step { AnswersOrRefuses
+            (note_refusal (part_of self.old) asset.now owner.now from.now) tt
             (asset_noted (part_of self.old) asset.now owner.now from.now) (part_of self.old) result
             (part_of self.new) }
     {
@@ -280,7 +283,7 @@ impl ChainState {
     }
 
     /// Asks the locker to let a lock fall that is noted for the owner, and lowers the note.
-    pub(crate) fn request_for(
+    pub(crate) fn request(
         &mut self,
         asset: &Asset,
         owner: &Location,
@@ -288,7 +291,8 @@ impl ChainState {
     ) -> Result<u64, HostFault>
         requires forwardable { IsForwardable
             (roll-Instruction (Instruction-F.RequestUnlock asset.now locker.now) ∷ []) }
-        ensures step { AnswersOrRefuses (request_refusal (part_of self.old) asset.now owner.now locker.now)
+        ensures step { AnswersOrRefuses
+            (request_refusal (part_of self.old) asset.now owner.now locker.now)
             (number_to (part_of self.old) locker.now)
             (asset_requested (part_of self.old) asset.now owner.now locker.now) (part_of self.old)
             result (part_of self.new) }

@@ -17,12 +17,9 @@ use operands::XcmError;
 
 impl ChainState {
     /// Takes the oldest trap that has this origin and this list.
-    pub(crate) fn claim_trap(
-        &mut self,
-        a: &Assets,
-        origin: &Location,
-    ) -> Result<AssetBundle, HostFault>
-        ensures step { AnswersOrRefuses (claim_refusal (part_of self.old) a.now origin.now) (bundle_of a.now)
+    pub(crate) fn claim(&mut self, a: &Assets, origin: &Location) -> Result<AssetBundle, HostFault>
+        ensures step { AnswersOrRefuses (claim_refusal (part_of self.old) a.now origin.now)
+            (bundle_of a.now)
             (claimed (part_of self.old) a.now origin.now) (part_of self.old) result
             (part_of self.new) }
     {
@@ -33,11 +30,7 @@ impl ChainState {
     }
 
     /// Traps goods, which aren't empty.
-    pub(crate) fn trap_goods(
-        &mut self,
-        goods: AssetBundle,
-        origin: &Location,
-    ) -> Result<(), AssetBundle>
+    pub(crate) fn trap(&mut self, goods: AssetBundle, origin: &Location) -> Result<(), AssetBundle>
         requires some { 0 < length (rows goods) }
         ensures step { Keeps goods (trapped (part_of self.old) goods origin.now) (part_of self.old)
             result (part_of self.new) }

@@ -1,4 +1,4 @@
-//! What stands aside: in fees, and parked.
+//! What is kept aside: in fees, and parked.
 ghost use Rattle.std.specs.Prelude.{◌≡◌, min};
 ghost use Rattle.asset_bundles.specs.Totals.{total_value};
 ghost use Rattle.asset_bundles.specs.Books.{most_burned};
@@ -43,7 +43,7 @@ impl ChainState {
         }
     }
 
-    /// What stands aside of an asset: paid for weight, the fee in the slot, kept for deliveries, and parked; the amount of a fungible
+    /// What is kept aside of an asset: paid for weight, the fee in the slot, kept for deliveries, and parked; the amount of a fungible
     /// asset in its smallest unit, or the number of instances of a class. It saturates at 2^160-1, and takes no memory.
     pub fn aside(&self, id: &AssetId, kind: Kind) -> Total
         ensures { total_value result ≡ min (aside.aside (part_of self.now) id.now kind)

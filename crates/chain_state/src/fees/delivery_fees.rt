@@ -11,7 +11,7 @@ use std::mem::replace;
 impl ChainState {
     /// Puts a fee of one of the chain's channels, or nothing, into the empty slot.
     #[tactic(auto, unfolding(exec_base::specs::Host::fee_held))]
-    pub(crate) fn hold_in_slot(&mut self, goods: AssetBundle)
+    pub(crate) fn hold_fee(&mut self, goods: AssetBundle)
         requires fee { IsFeeOrNothing (part_of self.old) goods }
         ensures step { part_of self.new ≡ fee_held (part_of self.old) goods }
     {
@@ -20,7 +20,7 @@ impl ChainState {
 
     /// Empties the slot.
     #[tactic(auto, unfolding(exec_base::specs::Host::fee_taken))]
-    pub(crate) fn take_from_slot(&mut self) -> AssetBundle
+    pub(crate) fn take_fee(&mut self) -> AssetBundle
         ensures goods { result ≡ (part_of self.old).fee_slot }
         ensures step { part_of self.new ≡ fee_taken (part_of self.old) }
     {
@@ -29,7 +29,7 @@ impl ChainState {
     }
 
     /// Adds the slot to the fees, whose sums saturate at 2^160-1, and empties it. No memory is taken.
-    pub(crate) fn keep_slot(&mut self)
+    pub(crate) fn keep_fee(&mut self)
         ensures step { part_of self.new ≡ fee_kept (part_of self.old) }
     {
         let nothing = AssetBundle::empty(*self.events.allocator()).set_down();

@@ -5,11 +5,12 @@ ghost use Rattle.amounts.specs.Rows.{rows_at};
 ghost use Rattle.asset_lists.specs.Listed.{listed_of, lists};
 ghost use Rattle.asset_bundles.specs.declared.book.Cause.{Cause};
 ghost use Rattle.asset_bundles.specs.Books.{Booked};
+ghost use Rattle.asset_bundles.specs.Totals.{wide_value};
 ghost use Rattle.exec_base.specs.Host.{total_of};
-ghost use Rattle.chain_state.specs.Settling.{wide_value, are_units_listed};
+ghost use Rattle.chain_state.specs.Settling.{are_units_listed};
 
-use crate::fees::wide::{Wide, book_wide};
-use asset_bundles::{BurnBook, Total};
+use crate::fees::wide::{book_wide, line_total};
+use asset_bundles::{BurnBook, Total, WideSum};
 use asset_lists::AssetId;
 use std::marker::Model;
 
@@ -17,13 +18,13 @@ use std::marker::Model;
 #[derive(Drop)]
 pub(crate) struct FeeExcess {
     id: AssetId,
-    amount: Wide,
+    amount: WideSum,
 }
 
 impl Model for FeeExcess {
     ghost use Rattle.std.specs.Prelude.{ℕ, None};
     ghost use Rattle.asset_lists.specs.Units.{Unit};
-    ghost use Rattle.chain_state.specs.Settling.{wide_value};
+    ghost use Rattle.asset_bundles.specs.Totals.{wide_value};
 
     ghost Value = { Unit × ℕ };
 
@@ -32,7 +33,7 @@ impl Model for FeeExcess {
 
 impl FeeExcess {
     /// So much of the asset.
-    pub(crate) fn new(id: &AssetId, amount: Wide) -> FeeExcess
+    pub(crate) fn new(id: &AssetId, amount: WideSum) -> FeeExcess
         ensures { result ≡ ((id.now, None), wide_value amount) }
     {
         FeeExcess {
@@ -52,7 +53,7 @@ impl FeeExcess {
     pub(crate) fn total(&self) -> Total
         ensures { result ≡ total_of self.now.1 }
     {
-        self.amount.total()
+        line_total(self.amount)
     }
 
     /// Books it as saturated. No memory is taken.

@@ -43,7 +43,7 @@ fn deposit_into(
 impl ChainState {
     /// Puts what was paid, to the trader and for deliveries, into the fee account. What would pass 2^128-1 there is booked as saturated,
     /// and told at once. An `Err` is out of memory: then all that was paid stays where it is.
-    pub(crate) fn settle_fees(&mut self) -> Result<(), AllocError>
+    pub(crate) fn settle(&mut self) -> Result<(), AllocError>
         ensures step { AnswersWithinMemory tt (settled (part_of self.old)) (part_of self.old) result
             (part_of self.new) }
     {

@@ -5,21 +5,21 @@ ghost use Rattle.asset_lists.specs.declared.units.Fun.TheVariants.{Fungible};
 ghost use Rattle.asset_lists.specs.Listed.{listed_of, lists};
 ghost use Rattle.asset_bundles.specs.declared.book.Cause.{Cause};
 ghost use Rattle.asset_bundles.specs.Bundles.{bundle_of, rows_of, assets_of_rows};
-ghost use Rattle.asset_bundles.specs.Totals.{total_value};
+ghost use Rattle.asset_bundles.specs.Totals.{total_value, wide_value};
 ghost use Rattle.trust_tables.specs.Trust.{listing};
 ghost use Rattle.ledgers.specs.Ledgers.{barred};
 ghost use Rattle.weight_trader.specs.Purchases.{paid_goods};
 ghost use Rattle.chain_state.specs.Fees.{some_row};
 ghost use Rattle.exec_base.specs.Host.{fees_within, fees_above, burned_line};
 ghost use Rattle.chain_state.specs.PartOf.{part_of};
-ghost use Rattle.chain_state.specs.Settling.{wide_value, are_units_listed, asset_of_amount, some_coins};
+ghost use Rattle.chain_state.specs.Settling.{are_units_listed, asset_of_amount, some_coins};
 
 use crate::ChainState;
 use crate::fees::fee_excess::FeeExcess;
-use crate::fees::wide::{Wide, parted};
-use asset_bundles::{Cause, Total};
-use asset_lists::{Asset, AssetId, Fun, Kind};
-use exec_base::Event;
+use crate::fees::wide::parted;
+use asset_bundles::{Cause, Total, WideSum};
+use asset_lists::{Asset, AssetId, Fun, Kind, push_asset};
+use exec_base::{Boxed, Event};
 use std::alloc::AllocError;
 
 /// Adds so much of a fungible asset to the list, if it isn't 0.
@@ -29,19 +29,17 @@ fn push_coins(list: &mut Vec<Asset>, id: &AssetId, amount: u128) -> Result<(), A
     if amount == 0 {
         return Ok(());
     }
-    list.push(Asset {
-        id: id.copy(),
-        fun: Fun::Fungible(amount),
-    })?;
+    list.reserve(1)?;
+    push_asset(list, id, Fun::Fungible(amount));
     Ok(())
 }
 
 /// Adds so much of a fungible asset to the list, if it isn't 0.
-fn push_above(list: &mut Vec<FeeExcess>, id: &AssetId, amount: Wide) -> Result<(), AllocError>
+fn push_above(list: &mut Vec<FeeExcess>, id: &AssetId, amount: WideSum) -> Result<(), AllocError>
     ensures { OnOk result (list.new.items ≡ list.old.items
         ++ some_row (id.now, None) (wide_value amount)) }
 {
-    if amount.is_none() {
+    if amount.is_zero() {
         return Ok(());
     }
     list.push(FeeExcess::new(id, amount))?;
@@ -62,7 +60,7 @@ impl ChainState {
 
     /// What the fee account gets of an asset in which so much was paid and so much is kept, which it takes in, and what would pass 2^128-1
     /// there. Where nothing came in, what the account has isn't looked up.
-    fn share(&self, id: &AssetId, paid: u128, kept: Total) -> (u128, Wide)
+    fn share(&self, id: &AssetId, paid: u128, kept: Total) -> (u128, WideSum)
         requires paid { paid ≡ amount (paid_goods (part_of self.now).lines) (id.now, None) }
         requires kept { total_value kept ≡ amount (part_of self.now).fees (id.now, None) }
         ensures within { result.0 ≡ amount (fees_within (part_of self.now)) (id.now, None) }
@@ -72,7 +70,7 @@ impl ChainState {
             (some_coins id.now result.0) ≡ None }
     {
         if paid == 0 && kept.high == 0 && kept.low == 0 {
-            return (0, Wide { high: 0, low: 0 });
+            return (0, WideSum::ZERO);
         }
         let held = self.ledger.amount(&self.settings.fee_account, id);
         parted(held, paid, kept)
@@ -157,21 +155,22 @@ impl ChainState {
     }
 
     /// The line of so much of a listed asset that is booked as saturated.
-    fn above_line(&self, above: &FeeExcess) -> Event
+    fn above_line(&self, above: &FeeExcess) -> Result<Event, AllocError>
         requires listed { IsTrue (lists (listing self.now.settings.rows) (listed_of above.now.0)) }
-        ensures { result ≡ burned_line (part_of self.now)
-            (λ unit. Cause.Saturated) (asset_of_amount above.now) }
+        ensures { IfOk result (λ event. event ≡ burned_line (part_of self.now)
+            (λ unit. Cause.Saturated) (asset_of_amount above.now)) }
     {
         let asset = Asset {
             id: above.id().copy(),
             fun: Fun::Fungible(0),
         };
-        Event::Burned {
+        let path = Boxed::new(*self.events.allocator(), self.path(&asset))?;
+        Ok(Event::Burned {
             kind: Kind::Fungible,
-            path: self.path(&asset),
+            path,
             amount: above.total(),
             cause: Cause::Saturated,
-        }
+        })
     }
 
     /// The lines of what is booked as saturated.
@@ -183,7 +182,7 @@ impl ChainState {
     {
         let mut lines = Vec::new(*self.events.allocator());
         for one in above {
-            lines.push(self.above_line(one))?;
+            lines.push(self.above_line(one)?)?;
         }
         Ok(lines)
     }

@@ -31,12 +31,12 @@ impl ChainState {
             id: AssetId::Concrete(asset),
             fun: Fun::Fungible(amount),
         };
-        lines.push(self.line(&goods, Some(Cause::Saturated)))?;
+        lines.push(self.line(&goods, Some(Cause::Saturated))?)?;
         Ok(lines)
     }
 
     /// Buys weight, and hands back what is unspent.
-    pub(crate) fn buy_weight(
+    pub(crate) fn buy(
         &mut self,
         w: Weight,
         payment: AssetBundle,
@@ -61,7 +61,7 @@ impl ChainState {
     }
 
     /// What would be given back for the weight.
-    pub(crate) fn refund_for(&self, w: Weight) -> Option<(Location, u128)>
+    pub(crate) fn refund_of(&self, w: Weight) -> Option<(Location, u128)>
         ensures { result ≡ refund_of w (part_of self.now).lines }
     {
         self.trader.refund_of(w)
@@ -69,9 +69,9 @@ impl ChainState {
 
     /// Gives back what was paid for the weight.
     #[tactic(auto, unfolding(exec_base::specs::Host::refund_goods, exec_base::specs::Host::refunded))]
-    pub(crate) fn refund_weight(&mut self, w: Weight) -> Result<AssetBundle, AllocError>
-        ensures step { AnswersWithinMemory (refund_goods (part_of self.old) w) (refunded (part_of self.old) w)
-            (part_of self.old) result (part_of self.new) }
+    pub(crate) fn refund(&mut self, w: Weight) -> Result<AssetBundle, AllocError>
+        ensures step { AnswersWithinMemory (refund_goods (part_of self.old) w)
+            (refunded (part_of self.old) w) (part_of self.old) result (part_of self.new) }
     {
         self.trader.refund(w)
     }

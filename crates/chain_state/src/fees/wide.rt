@@ -1,80 +1,45 @@
 //! Amounts that may pass 2^128-1.
-ghost use Rattle.std.specs.Prelude.{◌≡◌, ◌<◌, ◌≤◌, ◌+◌, ◌-◌, ◌*◌, ◌^◌, nat_eq, IsTrue};
+ghost use Rattle.std.specs.Prelude.{◌≡◌, ◌<◌, ◌≤◌, ◌+◌, ◌-◌, ◌*◌, ◌^◌, IsTrue};
 ghost use Rattle.amounts.specs.Amounts.{single};
 ghost use Rattle.asset_lists.specs.declared.units.Kind.{Kind};
 ghost use Rattle.asset_lists.specs.Listed.{lists};
 ghost use Rattle.asset_bundles.specs.declared.book.Cause.{Cause};
 ghost use Rattle.asset_bundles.specs.Books.{Booked};
-ghost use Rattle.asset_bundles.specs.Totals.{total_value};
+ghost use Rattle.asset_bundles.specs.Totals.{total_value, wide_value};
 ghost use Rattle.exec_base.specs.Host.{total_of};
-ghost use Rattle.chain_state.specs.Settling.{wide_value};
 
-use asset_bundles::{BurnBook, Cause, Total};
+use asset_bundles::{BurnBook, Cause, Total, WideSum};
 use asset_lists::{AssetId, Kind};
 
-/// An amount of a fungible asset in its smallest unit: `high * 2^128 + low`.
-#[derive(Clone, Copy)]
-pub(crate) struct Wide {
-    pub(crate) high: u64,
-    pub(crate) low: u128,
-}
-
-impl Wide {
-    /// So much more.
-    fn plus(self, amount: u128) -> Wide
-        requires room { self.high + 1 < 2 ^ 64 }
-        ensures value { wide_value result ≡ wide_value self + amount }
-        ensures high { result.high ≤ self.high + 1 }
-    {
-        if amount <= u128::MAX - self.low {
-            return Wide {
-                high: self.high,
-                low: self.low + amount,
-            };
-        }
-        Wide {
-            high: self.high + 1,
-            low: amount - (u128::MAX - self.low) - 1,
-        }
-    }
-
-    /// Whether it is 0.
-    pub(crate) fn is_none(self) -> bool
-        ensures { result ≡ nat_eq (wide_value self) 0 }
-    {
-        self.high == 0 && self.low == 0
-    }
-
-    /// The amount as a line tells it: its high part ends at 2^32-1.
-    #[tactic(auto, using(crate::proofs::Widths::wide_total))]
-    pub(crate) fn total(self) -> Total
-        ensures { result ≡ total_of (wide_value self) }
-    {
-        let high = match u32::try_from(self.high) {
-            Ok(high) => high,
-            Err(_) => u32::MAX,
-        };
-        Total {
-            high,
-            low: self.low,
-        }
+/// The amount as a line tells it: its high part saturates at 2^32-1.
+#[tactic(auto, using(crate::proofs::Widths::wide_total))]
+pub(crate) fn line_total(amount: WideSum) -> Total
+    ensures { result ≡ total_of (wide_value amount) }
+{
+    let high = match u32::try_from(amount.high) {
+        Ok(high) => high,
+        Err(_) => u32::MAX,
+    };
+    Total {
+        high,
+        low: amount.low,
     }
 }
 
 /// What of two sums fits into an account that holds so much, and what would pass 2^128-1 there.
-pub(crate) fn parted(held: u128, paid: u128, kept: Total) -> (u128, Wide)
+pub(crate) fn parted(held: u128, paid: u128, kept: Total) -> (u128, WideSum)
     ensures above { wide_value result.1 ≡ (held + (paid + total_value kept)) - (2 ^ 128 - 1) }
     ensures fits { result.0 + wide_value result.1 ≡ paid + total_value kept }
 {
-    let kept = Wide {
+    let kept = WideSum {
         high: u64::from(kept.high),
         low: kept.low,
     };
     let all = kept.plus(paid).plus(held);
     if all.high == 0 {
-        return (kept.low + paid, Wide { high: 0, low: 0 });
+        return (kept.low + paid, WideSum::ZERO);
     }
-    let above = Wide {
+    let above = WideSum {
         high: all.high - 1,
         low: all.low,
     };
@@ -90,7 +55,7 @@ fn book_most(book: &mut BurnBook, id: &AssetId)
     book.add(id, Kind::Fungible, Cause::Saturated, u128::MAX);
 }
 
-/// Books so often 2^128 of a listed fungible asset as saturated.
+/// Books 2^128 of a listed fungible asset as saturated, so many times.
 fn book_high(book: &mut BurnBook, id: &AssetId, high: u64)
     requires listed { IsTrue (lists book.old.listed (id.now, Kind.Fungible)) }
     ensures { book.new ≡ Booked book.old (single ((id.now, Kind.Fungible), Cause.Saturated)
@@ -103,7 +68,7 @@ fn book_high(book: &mut BurnBook, id: &AssetId, high: u64)
 }
 
 /// Books so much of a listed fungible asset as saturated. No memory is taken.
-pub(crate) fn book_wide(book: &mut BurnBook, id: &AssetId, amount: Wide)
+pub(crate) fn book_wide(book: &mut BurnBook, id: &AssetId, amount: WideSum)
     requires listed { IsTrue (lists book.old.listed (id.now, Kind.Fungible)) }
     ensures { book.new ≡ Booked book.old (single ((id.now, Kind.Fungible), Cause.Saturated)
         (wide_value amount)) }

@@ -99,7 +99,7 @@ impl ChainState {
         })
     }
 
-    /// Makes an asset, which is no amount of 0, in an account: what stands there when the network opens. `Err` is an amount that would
+    /// Makes an asset, which is no amount of 0, in an account: what is there when the network opens. `Err` is an amount that would
     /// pass 2^128-1, an instance that has an owner, or out of memory; the account is then as it was.
     pub fn place(&mut self, who: &[u8; 32], asset: Asset) -> Result<(), DepositFault>
         requires some { IsFalse (is_zero asset) }
@@ -177,7 +177,7 @@ impl ChainState {
 
     /// Makes what accounts hold when the chain opens, where none holds anything yet. Each asset is of
     /// a row, and an amount above 0 or an instance; no account has a fungible asset twice, and an
-    /// instance stands there once. An `Err` is out of memory, and then the first of them stand there.
+    /// instance is there once. An `Err` is out of memory, and then the first of them are there.
     pub fn place_all(&mut self, balances: &[Balance]) -> Result<(), AllocError>
         requires empty { (part_of self.old).held ≡ empty }
         requires balances { IsTrue (list_all (is_placeable (part_of self.old).rows) balances.now) }

@@ -9,7 +9,7 @@ use locations::Location;
 use std::alloc::{AllocError, Global};
 use trust_tables::{AssetRole, AssetRow};
 
-/// The listed assets, by their places.
+/// The listed assets, by their locations.
 pub(crate) fn places(alloc: Global, rows: &[AssetRow]) -> Result<Vec<(Location, Kind)>, AllocError>
     ensures listed { IfOk result (λ list. map listed_pair list.items ≡ listing rows.now) }
     ensures as_many { IfOk result (λ list. length list.items ≡ length rows.now) }

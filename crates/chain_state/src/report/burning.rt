@@ -12,14 +12,14 @@ use asset_bundles::{AssetBundle, Cause};
 
 impl ChainState {
     /// Joins goods into a bundle, and books what it can't hold.
-    pub(crate) fn join_goods(
+    pub(crate) fn join(
         &mut self,
         into: &mut AssetBundle,
         goods: AssetBundle,
     ) -> Result<(), AssetBundle>
         requires listed { AreListed (listing (part_of self.old).rows) (Excess into.old goods) }
-        ensures step { Keeps goods (bundles_joined (part_of self.old) into.old goods) (part_of self.old)
-            result (part_of self.new) }
+        ensures step { Keeps goods (bundles_joined (part_of self.old) into.old goods)
+            (part_of self.old) result (part_of self.new) }
         ensures into { JoinedInto goods into.old result into.new }
     {
         let Ok(mut lines) = self.excess_lines(into, &goods) else {
@@ -36,7 +36,7 @@ impl ChainState {
     }
 
     /// Burns goods.
-    pub(crate) fn burn_goods(&mut self, goods: AssetBundle) -> Result<(), AssetBundle>
+    pub(crate) fn burn(&mut self, goods: AssetBundle) -> Result<(), AssetBundle>
         requires listed { AreListed (listing (part_of self.old).rows) goods }
         ensures step { Keeps goods (burnt (part_of self.old) goods) (part_of self.old) result
             (part_of self.new) }

@@ -27,7 +27,7 @@ fn place_of(queries: &[OpenQuery], query: u64, from: &Location) -> Option<usize>
 
 impl ChainState {
     /// Closes the query, where it is open from that location.
-    pub(crate) fn close_query(&mut self, from: &Location, query: u64) -> Result<bool, AllocError>
+    pub(crate) fn answer(&mut self, from: &Location, query: u64) -> Result<bool, AllocError>
         ensures step { AnswersWithinMemory (has_open_query (part_of self.old) from.now query)
             (answered (part_of self.old) from.now query) (part_of self.old) result
             (part_of self.new) }
@@ -44,17 +44,17 @@ impl ChainState {
 
     /// Keeps a bundle, without memory.
     #[tactic(auto, unfolding(exec_base::specs::Host::parked))]
-    pub(crate) fn park_goods(&mut self, goods: AssetBundle)
+    pub(crate) fn park(&mut self, goods: AssetBundle)
         requires few { length (part_of self.old).parked < 4 }
         ensures step { part_of self.new ≡ parked (part_of self.old) goods }
     {
         self.parked.push_reserved(goods.set_down());
     }
 
-    /// Tells an event, and behind it what is kept back.
+    /// Tells an event, and after it what is kept back.
     #[inline(always)]
     #[tactic(auto, unfolding(exec_base::specs::Host::told))]
-    pub(crate) fn tell(&mut self, e: Event) -> Result<(), AllocError>
+    pub(crate) fn event(&mut self, e: Event) -> Result<(), AllocError>
         ensures step { AnswersWithinMemory tt (told (part_of self.old) e) (part_of self.old) result
             (part_of self.new) }
     {

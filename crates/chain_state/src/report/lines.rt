@@ -13,7 +13,7 @@ ghost use Rattle.chain_state.specs.Lines.{cause_by, trap_events_from};
 use crate::ChainState;
 use asset_bundles::{AssetBundle, Cause, Total};
 use asset_lists::{Asset, AssetId, Fun};
-use exec_base::Event;
+use exec_base::{Boxed, Event};
 use locations::Junctions;
 use std::alloc::AllocError;
 
@@ -45,19 +45,22 @@ impl ChainState {
 
     /// The line of a listed asset that is burned.
     #[tactic(auto, using(crate::proofs::BurnedLines::small_total))]
-    pub(crate) fn line(&self, asset: &Asset, cause: Option<Cause>) -> Event
+    pub(crate) fn line(&self, asset: &Asset, cause: Option<Cause>) -> Result<Event, AllocError>
         requires { IsTrue (lists (listing self.now.settings.rows) (listed_of (unit_of asset.now))) }
-        ensures { result ≡ burned_line (part_of self.now) (cause_by cause) asset.now }
+        ensures { IfOk result (λ event. event
+            ≡ burned_line (part_of self.now) (cause_by cause) asset.now) }
     {
-        Event::Burned {
+        let path = Boxed::new(*self.events.allocator(), self.path(asset))?;
+        let amount = Total {
+            low: asset.amount(),
+            high: 0,
+        };
+        Ok(Event::Burned {
             kind: asset.kind(),
-            path: self.path(asset),
-            amount: Total {
-                low: asset.amount(),
-                high: 0,
-            },
+            path,
+            amount,
             cause: cause_by(cause, asset),
-        }
+        })
     }
 
     /// The lines of listed assets that are burned.
@@ -73,7 +76,7 @@ impl ChainState {
     {
         let mut lines = Vec::new(*self.events.allocator());
         for asset in list {
-            lines.push(self.line(asset, cause))?;
+            lines.push(self.line(asset, cause)?)?;
         }
         Ok(lines)
     }

@@ -22,7 +22,7 @@ impl ChainState {
         self.lines(assets.as_slice(), Some(Cause::LostTeleport))
     }
 
-    /// Tells these lines, behind what was told.
+    /// Tells these lines, after what was told.
     pub fn tell_lines(&mut self, mut lines: Vec<Event>) -> Result<(), AllocError>
         ensures told { OnOk result (part_of self.new
             ≡ record (part_of self.old) { events = (part_of self.old).events ++ lines.items }) }

@@ -35,14 +35,14 @@ impl ChainState {
     }
 
     /// Whether a channel leads to just that location.
-    pub(crate) fn leads_to(&self, dest: &Location) -> bool
+    pub(crate) fn routes(&self, dest: &Location) -> bool
         ensures { result ≡ is_some (channel_to_location (part_of self.now) dest.now) }
     {
         self.queue_to(dest).is_some()
     }
 
     /// The fee of the channel that leads there, if there is one and it has one: an amount above 0 of a fungible asset.
-    pub(crate) fn fee_to(&self, dest: &Location) -> Option<Asset>
+    pub(crate) fn fee_of(&self, dest: &Location) -> Option<Asset>
         ensures fee { result ≡ fee_to (part_of self.now) dest.now }
         ensures price { IfSome result IsPrice }
     {

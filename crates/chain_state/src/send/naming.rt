@@ -3,7 +3,7 @@ ghost use Rattle.std.specs.Prelude.{◌≡◌, None, Some, MatchOption, IfOk};
 ghost use Rattle.asset_lists.specs.Moves.{all_reanchored, reanchored_list};
 ghost use Rattle.trust_tables.specs.Chains as chains;
 
-use asset_lists::{Asset, is_rising};
+use asset_lists::{Asset, is_rising, push_reanchored};
 use chain_ids::ChainId;
 use locations::{Junctions, Location};
 use std::alloc::{AllocError, Global};
@@ -33,10 +33,10 @@ fn all_reanchored(
 {
     let mut all = Vec::new(alloc);
     for asset in list {
-        let Some(seen) = asset.reanchored(target, context) else {
+        all.reserve(1)?;
+        if !push_reanchored(&mut all, asset, target, context) {
             return Ok(None);
-        };
-        all.push(seen)?;
+        }
     }
     Ok(Some(all))
 }

@@ -78,7 +78,8 @@ impl ChainState {
     /// channel doesn't take it.
     pub fn send(&mut self, to: ChainId, program: &Program) -> Result<u64, HostFault>
         requires forwardable { IsForwardable program.now }
-        ensures step { AnswersOrRefuses (channel_refusal (channel_to to (part_of self.old).channels) true
+        ensures step { AnswersOrRefuses
+            (channel_refusal (channel_to to (part_of self.old).channels) true
             program.now) (option_map_or (λ (c : Outgoing). c.next)
             (channel_to to (part_of self.old).channels) 0)
             (record (part_of self.old) {

@@ -50,7 +50,7 @@ impl ChainState {
     }
 
     /// Answers a query of another chain.
-    pub(crate) fn respond_to(
+    pub(crate) fn respond(
         &mut self,
         to: &QueryInfo,
         response: Response,

@@ -1,7 +1,6 @@
 //! Messages that are sent.
-ghost use Rattle.std.specs.Prelude.{◌≡◌, ◌+◌, ◌≤◌, ◌++◌, [], ◌∷◌, List, None, Some, length, nat_le, nat_lt, true, false, IsTrue, MatchResult, vec_len, vec_capacity};
+ghost use Rattle.std.specs.Prelude.{◌≡◌, ◌+◌, ◌≤◌, ◌++◌, [], ◌∷◌, List, None, Some, length, true, false, IsTrue, MatchResult, vec_len, vec_capacity};
 ghost use Rattle.std.specs.Option.{option_map};
-ghost use Rattle.operands.specs.declared.error.XcmError.TheVariants as error;
 ghost use Rattle.xcm_program.specs.declared.instruction.Instruction.{Instruction};
 ghost use Rattle.xcm_program.specs.Conversions.{is_convertible};
 ghost use Rattle.xcm_format.specs.Messages.{IsMessageIn};
@@ -14,32 +13,28 @@ ghost use Rattle.chain_queues.specs.Queues as queues;
 ghost use Rattle.chain_queues.specs.Queues.{outgoing_of, is_spelled_for, push_refusal, pushed};
 ghost use Rattle.exec_base.specs.declared.event.Event.{Event};
 ghost use Rattle.exec_base.specs.Answers.{AnswersOrRefuses};
-ghost use Rattle.exec_base.specs.Sending.{unless, channel_refusal, send_refusal, number_to, sent, IsForwardable};
+ghost use Rattle.exec_base.specs.Sending.{channel_refusal, send_refusal, number_to, sent, IsForwardable};
 ghost use Rattle.chain_state.specs.PartOf.{part_of};
-ghost use Rattle.chain_state.specs.Sends.{IsAccepted, IsAcceptedByChannel, IsSendFault};
+ghost use Rattle.chain_state.specs.Sends.{push_error, IsAccepted, IsAcceptedByChannel, IsSendFault};
 
 use crate::ChainState;
 use chain_ids::ChainId;
-use chain_queues::{Cargo, Queue};
+use chain_queues::{Cargo, PushFault, Queue};
 use exec_base::{Event, HostFault};
 use locations::Location;
 use operands::XcmError;
 use versioned_xcm::{EncodeFault, encode_message, law_of_round_trip};
 use xcm_program::Program;
 
-/// Why the channel doesn't take a message of so many bytes.
-fn channel_fault(queue: &Queue, size: usize) -> Option<XcmError>
-    ensures { result ≡ unless (nat_le size queue.now.channel.max_size) error.ExceedsMaxMessageSize
-        (unless (nat_lt (length queue.now.waiting.items) queue.now.channel.capacity) error.Transport
-        None) }
+/// The error of a message that its channel doesn't take.
+fn push_error(fault: PushFault) -> XcmError
+    ensures { result ≡ push_error fault }
 {
-    if size > queue.channel.max_size as usize {
-        return Some(XcmError::ExceedsMaxMessageSize);
+    match fault {
+        PushFault::NoChannel => XcmError::Unroutable,
+        PushFault::TooLarge => XcmError::ExceedsMaxMessageSize,
+        PushFault::Full => XcmError::Transport,
     }
-    if queue.waiting.len() >= queue.channel.capacity as usize {
-        return Some(XcmError::Transport);
-    }
-    None
 }
 
 /// What was encoded for the channel, where the channel takes it, with the chain that it leads to; or why it isn't sent.
@@ -62,8 +57,8 @@ pub(crate) fn accepted(
         }
         Err(EncodeFault::Memory) => return Err(HostFault::Memory),
     };
-    if let Some(error) = channel_fault(queue, bytes.len()) {
-        return Err(HostFault::Xcm(error));
+    if let Err(fault) = queue.check(bytes.len()) {
+        return Err(HostFault::Xcm(push_error(fault)));
     }
     Ok((queue.channel.to, bytes))
 }

@@ -98,7 +98,7 @@ impl ChainState {
     }
 
     /// Ships goods to another chain. The doing takes no memory.
-    pub(crate) fn ship_at(
+    pub(crate) fn ship_out(
         &mut self,
         goods: AssetBundle,
         way: Way,
@@ -106,7 +106,8 @@ impl ChainState {
         xcm: &Program,
     ) -> Result<u64, (AssetBundle, HostFault)>
         requires forwardable { IsForwardable xcm.now }
-        ensures step { TakesGoodsOrRefuses (ship_refusal (part_of self.old) goods way dest.now xcm.now) goods
+        ensures step { TakesGoodsOrRefuses
+            (ship_refusal (part_of self.old) goods way dest.now xcm.now) goods
             (number_to (part_of self.old) dest.now) (shipped (part_of self.old) goods way dest.now
             xcm.now) (part_of self.old) result (part_of self.new) }
     {

@@ -31,7 +31,7 @@ inside_lists x l is q = subst (λ (k : Instruction-F Instruction). AllInside Are
 pub refund_lists : AreLists refund_surplus
 refund_lists = everywhere_made HasList HasList-IsOfLayer Instruction-F.RefundSurplus tt tt
 
--- wherever a run stands, the lists of what may still run are in order
+-- wherever a run is, the lists of what may still run are in order
 pub lists_ahead : IsOrderly xcm → (g : Stage) → IsAheadOf AreLists g → (k : ℕ) → IsAheadOf AreLists (steps xcm k g)
 lists_ahead orderly g ahead k = steps_hold xcm orderly AreLists lists_go_inside k g ahead
 

@@ -223,7 +223,7 @@ module _ (laws : LawsBelow) (shapes : KeepsShapes) (first : WorldView) (genesis 
   lost_cargo (cargos.Deposit list) carries trusted = just_ends empty refl (λ a choice. ap (λ (c : carried.Cargo). teleported (table_of ps) a choice (cargo_of c)) carries)
   lost_cargo (cargos.Away shipment) carries trusted = lost_by_way shipment shipment.way refl carries trusted.0 trusted.1
 
-  -- both chains, whatever stands at the receiver
+  -- both chains, whatever the receiver has
   still_carried : (left : carried.Cargo) → left ≡ cargo → (now : Part) → IsSafe (seen empty pr) now → History first (slice_set (slice_set v i (seen empty (booking_lost (lost_of left) (without_message pr.site.chain ps)))) j now)
   still_carried left is now safe =
       let lost : Lost (lost_of left) = subst (λ (c : carried.Cargo). Lost (lost_of c)) (sym is) (lost_cargo cargo refl trusts) in
@@ -255,7 +255,7 @@ module _ (laws : LawsBelow) (shapes : KeepsShapes) (first : WorldView) (genesis 
     receiver = sound;
   }
 
-  -- both chains while the receiver runs the message, behind its first instruction
+  -- both chains while the receiver runs the message, after its first instruction
   pub stands_inside : (left : carried.Cargo) (q : ChainPart) (comes : Machine → Type 0) → Fate ps pr cargo left q comes → (m : Machine) → comes m
       → History first (slice_set (slice_set v i (seen empty (booking_lost (lost_of m.part.cargo.cargo) (without_message pr.site.chain ps)))) j (view m))
   stands_inside left q comes (Left is safe sound inside) m c = let so_far = inside m c in still_carried m.part.cargo.cargo so_far.0 (view m) so_far.1

@@ -60,7 +60,7 @@ module _ (laws : LawsBelow) (shapes : KeepsShapes) (first : WorldView) (genesis 
   abbrev p0 : ChainPart
   p0 = taken ps.site.chain cargo e pr
 
-  -- where its run stands, behind its first instruction
+  -- where its run is, after its first instruction
   abbrev pub ComesBy : Result Admitted Outcome → Machine → Type 0
   ComesBy (Err outcome) m = ⊥
   ComesBy (Ok a) m = StandsAs rules origin a (taken ps.site.chain cargo e pr) m
@@ -134,7 +134,7 @@ module _ (laws : LawsBelow) (shapes : KeepsShapes) (first : WorldView) (genesis 
   unfolding told
   begins_so = refl
 
-  -- by the place where it is
+  -- by where in the run it is
   stopped_in : IsShape ps.site pr.site.chain program cargo → (a : Admitted) → Admits a → (q : ChainPart) → Place rules origin a (taken ps.site.chain cargo e pr) q → Passed ps pr cargo q
   stopped_in shape a ok q (Before is) =
       let m0 = first_machine rules origin p0 in

@@ -1,4 +1,4 @@
--- Lemmas: how the run of a delivered message goes on behind its first instruction. A reader may skip this file.
+-- Lemmas: how the run of a delivered message goes on after its first instruction. A reader may skip this file.
 use Rattle.std.proofs.Common.{◌≡◌, ℕ, zero, suc, ◌+◌, Bool, true, false, List, [], ◌∷◌, length, Option, Some, None, refl, sym, ap, ◌∙◌, subst, arith}
 use Rattle.std.specs.Prelude.{if◌then◌else◌, nat_eq}
 use Rattle.std.specs.List.{AllByRecursion}
@@ -115,7 +115,7 @@ ends_there : (g h : Stage) (k : Machine) → next xcm g ≡ Ended k → GoesOnTo
 ends_there g h k ends on =
     ap machine_of (sym on.1 ∙ step_on on.0 g ∙ ap (steps xcm on.0) ends ∙ steps_end xcm on.0 (Ended k) tt)
 
--- behind the first instruction of a message that carries something
+-- after the first instruction of a message that carries something
 abbrev pub second : Instruction
 second = roll-Instruction Instruction-F.ClearOrigin
 
@@ -282,7 +282,7 @@ module _ (laws : LawsBelow) (n : List Table) (agrees : Agrees n) (rules : ChainR
       )
   goes_on part place (x ∷ behind) m safe = registers_go n m m.regs refl refl safe
 
-  -- the run has come behind ClearOrigin
+  -- the run is past ClearOrigin
   come_on : (x : Instruction) (behind : List Instruction) → IsSetBehind x behind → (count : ℕ)
       → let h = go_on parts.Program ((0 + 1) + 1) behind (cleared x (xcm.done x (first_machine rules origin p))) in IsSafeAt n (machine_of (steps xcm count h)) × Safely (xcm.done x (first_machine rules origin p)) (machine_of (steps xcm count h))
   come_on x behind s count =
@@ -323,7 +323,7 @@ module _ (laws : LawsBelow) (n : List Table) (agrees : Agrees n) (rules : ChainR
       let came = come_on x behind s count in
       (subst (λ (z : Stage). IsSafeAt n (machine_of z)) (sym there) came.0, subst (λ (z : Stage). Safely k (machine_of z)) (sym there) came.1)
 
-  -- wherever it comes behind its first instruction
+  -- wherever it comes after its first instruction
   led_at : (x : Instruction) (behind : List Instruction) → IsSetBehind x behind → (count : ℕ) → Safely (xcm.done x (first_machine rules origin p)) (machine_of (steps xcm count (next xcm (first_stage rules origin a p))))
   led_at x behind s zero =
       let k = xcm.done x (first_machine rules origin p) in

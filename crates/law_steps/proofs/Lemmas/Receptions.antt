@@ -127,7 +127,7 @@ same_safe p = record {
   accounted = λ a. account_stays (checking_at a p) (checking_at a p) (flight a every p) (flight a every p) (stock a every p) (stock a every p) refl (omega arith) (omega arith);
 }
 
--- one instruction alone has no place inside where memory may be refused
+-- one instruction alone has no point inside where memory may be refused
 pub never_stops : (l : Instruction-F Instruction) (m left : Machine) → stands_alone l ≡ true → PartwayOnOom l m left → ⊥
 never_stops (Instruction-F.QueryResponse query answer weight querier) m left kind stops = stops
 never_stops (Instruction-F.NoteUnlockable asset owner) m left kind stops = stops
@@ -207,7 +207,7 @@ module _ (laws : LawsBelow) (first : WorldView) (genesis : IsSoundGenesis first)
   steady0 : IsSteady m0
   steady0 = record { rest = rest0; holding = none_listed (listing p0.rows) }
 
-  -- ---- a run behind an accepted first instruction, whatever the checking accounts are then
+  -- ---- a run after an accepted first instruction, whatever the checking accounts are then
   places_checks : (p : ChainPart) (checks : List (Option ℕ)) (t : Unit → Bool) → in_places t (record p { checking = checks }) ≡ in_places t p
   unfolding in_kept
   places_checks p checks t = refl
@@ -257,7 +257,7 @@ module _ (laws : LawsBelow) (first : WorldView) (genesis : IsSoundGenesis first)
       HasLanded mid (ap (λ (y : ChainPart). y.cargo.cargo) whole ∙ ap (λ (t : DeliveredCargo). t.cargo) (parked_cargo m.part m.regs.holding ∙ parked_cargo r goods) ∙ gone) exchange
       (subst (λ (z : Part). IsSafe z (seen empty q)) looks safely.safe)
 
-  -- wherever its run stands
+  -- wherever its run is
   stands_safely : (a : Admitted) (k m : Machine) → ((c : ComesTo (first_stage rules origin a p0) m) → Safely k (machine_of c.0)) → ((q : ChainPart) → AbandonedBehind rules origin a p0 q → Safely k (over rules origin q))
       → ((q : ChainPart) → DoneFirst rules origin a p0 q → Safely k (over rules origin q)) → StandsAs rules origin a (taken ps.site.chain cargo e pr) m → Safely k m
   stands_safely a k m comes behind first c = ⊎_elim

@@ -1,4 +1,4 @@
--- Lemmas: where a run stands in a world that is kept, its checking accounts may rise. A reader may skip this file.
+-- Lemmas: where a run is in a world that is kept, its checking accounts may rise. A reader may skip this file.
 use Rattle.std.specs.Prelude.{◌≡◌, ℕ, zero, suc, List, [], ◌∷◌, Some, slice_get, slice_set, refl}
 use Rattle.std.proofs.Common.{sym, ap, ◌∙◌, subst}
 use Rattle.amounts.specs.Amounts.{empty}
@@ -59,7 +59,7 @@ module _ (order : List Link) (w : networks.World) (steps_of : List Step) (d : Is
       let first = begin_machine parts.Program a.program (first_machine d.receiver.rules (name_at (chain_of d.receiver) (chain_of d.sender)) (arrives d.sender d.receiver d.message)) in
       rises_at (views w) (views d.world) d.to (machine_of start) kept (seen_at d.world d.to d.receiver d.receives ∙ ap Some (sym (ap view first ∙ arrives_seen d.sender d.receiver d.message)))
 
-  -- wherever its run comes: before the first instruction or behind it
+  -- wherever its run comes: before the first instruction or after it
   pub rises_delivered : IsKept (views w) (views d.world) → ((g : Stage) → GoesOnTo xcm start g → IsKept (views w) (while_delivered d.world d.from d.sender d.to d.receiver (machine_of g))) → (g : Stage) → Reaches xcm start g → AccountsMayRise (machine_of g)
   unfolding steps
   rises_delivered kept behind g (zero, on) = subst (λ (h : Stage). AccountsMayRise (machine_of h)) on (rises_first kept)

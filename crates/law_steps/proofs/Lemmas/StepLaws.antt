@@ -43,7 +43,7 @@ between_at w from to none f i j s r at_i at_j is_s is_r =
     ∙ ap (λ o. option_map_or (λ (s : Member). option_map_or (λ (r : Member). f i j s r) (slice_get w j) none) o none) is_s
     ∙ ap (λ o. option_map_or (λ (r : Member). f i j s r) o none) is_r
 
--- the chain at a place is the one that was looked for
+-- the chain at an index is the one that was looked for
 pub place_says : (w : World) (chain : ChainId) (i : ℕ) (m : Member) → place_of w chain ≡ Some i → slice_get w i ≡ Some m → chain_of m ≡ chain
 place_says w chain i m at is =
     let found = position-Some (λ (m : Member). same_chain (chain_of m) chain) w i m at in

@@ -80,7 +80,7 @@ use Rattle.law_steps.proofs.Lemmas.Worlds.{IsReached}
 use Rattle.law_steps.specs.Stepping.{ShapeLaws}
 use Rattle.plain_lists.proofs.Lemmas.Facts.{all_with_last}
 
--- ---- places of a world
+-- ---- indices of a world
 some_member : (x y : Member) → Some x ≡ Some y → x ≡ y
 some_member x y e = cc
 
@@ -319,7 +319,7 @@ module _ (laws : LawsBelow) (shapes : ShapeLaws) (decodes : Decodes) (first : Wo
           parts = parts_set (slice_set w i s') j r' (parts_set w i s' reached.parts both.sender) (told_later a.part _ both.receiver);
         }
 
-    -- inside a delivery, behind its first instruction
+    -- inside a delivery, after its first instruction
     pub delivered_inside : (i j : ℕ) (s r : Member) (c : Outgoing) (x : Waiting) → slice_get w i ≡ Some s → slice_get w j ≡ Some r → channel_to (chain_of r) s.part.channels ≡ Some c → oldest c ≡ Some x → (a : Admitted) → admitted r.rules (name_at (chain_of r) (chain_of s)) no_weight (arrives s r x).queries x.program ≡ Ok a
         → (g : Stage) → GoesOnTo xcm (first_stage r.rules (name_at (chain_of r) (chain_of s)) a (arrives s r x)) g → History first (while_delivered w i s j r (machine_of g))
     delivered_inside i j s r c x is_s is_r found at_front a ok g on =
@@ -473,7 +473,7 @@ all_sound first (w ∷ ws) all = (all.0.parts, all_sound first ws all.1)
 pub worlds_sound : LawsBelow → ShapeLaws → Decodes → (order : List Link) (w : networks.World) (steps : List Step) → IsFirst w → AllSound order w steps
 worlds_sound laws shapes decodes order w steps f = all_sound (views w) (worlds order w steps) (worlds_reached laws shapes decodes (views w) f.genesis order w steps (first_reached w f))
 
--- ---- each world that was reached is a first one for those behind it
+-- ---- each world that was reached is a first one for those after it
 reached_first : (first : WorldView) (genesis : IsSoundGenesis first) → ((a : UniversalAsset) (instance : Instance) → sums.population a (just (Some instance)) first ≤ 1) → (w : networks.World) → IsReached first w → IsFirst w
 reached_first first genesis once w reached =
     let safe = safe_history first (views w) genesis.agrees reached.history in

@@ -1,4 +1,4 @@
--- Lemmas: what stands where memory is refused to a run is a safe change too, with what is parked counted. A reader may skip this file.
+-- Lemmas: what is left where memory is refused to a run is a safe change too, with what is parked counted. A reader may skip this file.
 use Rattle.std.proofs.Common.{◌≡◌, ◌⊎◌, ⊎_elim, inl, inr, ℕ, zero, suc, ◌+◌, List, [], ◌∷◌, Option, Some, None, Result, Ok, Err, refl, sym, ap, ◌∙◌, subst, arith}
 use Rattle.amounts.specs.Amounts.{total, empty}
 use Rattle.amounts.proofs.Lemmas.AmountLaws.{total-empty}
@@ -95,14 +95,14 @@ clear_halts which before m same h =
     ⊎_elim (λ (s : leaves_on_oom second before m). clear_spilt before m s) (λ (d : (answer : Result (Unit {0}) XcmError) × Performed xcm second before answer m). clear_performed before m d.0 d.1) s
 
 -- ---- runs
--- memory was refused behind the first instruction
+-- memory was refused after the first instruction
 abbrev pub StoppedBehind : ChainRules → Location → Admitted → ChainPart → Machine → Type 0
 StoppedBehind rules origin a p m = (s : StoppedIn xcm leaves_on_oom (first_stage rules origin a p) m) × ((count : ℕ) × (s.reached.0 ≡ suc count))
 
 abbrev pub AbandonedBehind : ChainRules → Location → Admitted → ChainPart → ChainPart → Type 0
 AbandonedBehind rules origin a p q = ((m : Machine) × StoppedBehind rules origin a p m × (q ≡ abandoned m.regs m.part)) ⊎ HaltedAtEnd xcm leaves_on_oom (last_machine rules origin a p) q
 
--- the first instruction ran, and memory was refused behind it
+-- the first instruction ran, and memory was refused after it
 pub record DoneFirst (rules : ChainRules) (origin : Location) (a : Admitted) (p q : ChainPart) : Type 0 where
   pub which : Instruction
   pub behind : List Instruction
@@ -123,7 +123,7 @@ pub record StopsFirst (rules : ChainRules) (origin : Location) (a : Admitted) (p
 abbrev pub over : ChainRules → Location → ChainPart → Machine
 over rules origin q = machine (started rules origin) q
 
--- a run has come there, behind its first instruction
+-- a run has come there, after its first instruction
 abbrev pub ComesTo : Stage → Machine → Type 0
 ComesTo g m = (h : Stage) × GoesOnTo xcm g h × (machine_of h ≡ m)
 
@@ -163,7 +163,7 @@ module _ (laws : LawsBelow) (n : List Table) (agrees : Agrees n) (rules : ChainR
     (at_end_kept (λ (t : MachineWithGoods). t.part.cargo ≡ m.part.cargo) (cargo_at_end m.part.cargo) m now h refl).kept,
   )
 
-  -- ---- behind the first instruction of a delivered message
+  -- ---- after the first instruction of a delivered message
   module _ (p : ChainPart) (a : Admitted) (balanced : IsBalanced a.weight (first_stage rules origin a p)) where
     abbrev g : Stage
     g = first_stage rules origin a p

@@ -1,13 +1,19 @@
-use Rattle.std.proofs.Common.{sym, ◌∙◌}
-use Rattle.chain_state.proofs.NamedLists.{goes_on, stops}
+use Rattle.std.proofs.Common.{◌≡◌, sym, subst, drop}
+use Rattle.asset_lists.specs.Moves.{all_reanchored}
+use Rattle.chain_state.proofs.NamedLists.{behind, goes_on_named, stops}
 use Rattle.chain_state.proofs.send.naming.all_reanchored.Goals as goal
-use Rattle.plain_lists.proofs.Lemmas.Facts.{none_if}
 
 pub loop-asset-preserved : goal.loop-asset-preserved
 loop-asset-preserved c =
-    goes_on c.args.target.now c.args.context.now c.args.list.now _ _ c.loop-asset.asset-index _ _ c.loop-asset-test.true c.asset-item.is (sym c.in-Some.ensures)
-    c.in_ok-push.ensures.items c.loop-asset.invariant
+    let target = c.args.target.now in
+    let context = c.args.context.now in
+    let list = c.args.list.now in
+    goes_on_named target context list _ _ c.loop-asset.asset-index _ c.loop-asset-test.true c.asset-item.is
+    (c.push_reanchored.ensures.named c.if-not-push_reanchored.false)
+    (subst (λ ys. all_reanchored target context list ≡ behind ys (all_reanchored target context (drop c.loop-asset.asset-index list)))
+    (sym c.in_ok-reserve.ensures.items) c.loop-asset.invariant)
 
-pub returns-in_default : goal.returns-in_default
-returns-in_default c =
-    stops c.args.target.now c.args.context.now c.args.list.now _ c.loop-asset.asset-index _ c.loop-asset-test.true c.asset-item.is (sym c.reanchored.ensures ∙ none_if c.reanchored.result c.in_default.not-Some) c.loop-asset.invariant
+pub returns-then-not-push_reanchored : goal.returns-then-not-push_reanchored
+returns-then-not-push_reanchored c =
+    stops c.args.target.now c.args.context.now c.args.list.now _ c.loop-asset.asset-index _ c.loop-asset-test.true c.asset-item.is
+    (c.push_reanchored.ensures.unnamed c.if-not-push_reanchored.true) c.loop-asset.invariant

@@ -2,10 +2,11 @@ use Rattle.std.proofs.Common.{◌≡◌, ◌++◌, List, sym, ap, ◌∙◌, sub
 use Rattle.std.specs.Prelude.{None}
 use Rattle.asset_lists.specs.declared.units.Asset.{Asset}
 use Rattle.asset_bundles.specs.Bundles.{rows_of}
+use Rattle.asset_bundles.specs.Totals.{wide_value}
 use Rattle.ledgers.specs.Ledgers.{barred}
 use Rattle.chain_state.specs.Fees.{Fee, some_row}
 use Rattle.chain_state.specs.PartOf.{part_of}
-use Rattle.chain_state.specs.Settling.{wide_value, some_coins}
+use Rattle.chain_state.specs.Settling.{some_coins}
 use Rattle.chain_state.proofs.Settled.{lone_paid, lone_kept, lone_within, lone_above}
 use Rattle.chain_state.proofs.state.ChainState.lone_share.Goals as goal
 

@@ -1,9 +1,8 @@
 use Rattle.std.proofs.Common.{◌≡◌, ◌+◌, ◌-◌, ◌≤◌, ◌^◌, None, subst, arith}
 use Rattle.amounts.specs.Amounts.{amount}
-use Rattle.asset_bundles.specs.Totals.{total_value}
+use Rattle.asset_bundles.specs.Totals.{total_value, wide_value}
 use Rattle.exec_base.specs.Host.{fees_above}
 use Rattle.chain_state.specs.PartOf.{part_of}
-use Rattle.chain_state.specs.Settling.{wide_value}
 use Rattle.chain_state.proofs.Settled.{share_above, share_within, share_free, barred_coins, none_in}
 use Rattle.chain_state.proofs.state.ChainState.share.Goals as goal
 
