@@ -13,10 +13,9 @@ use Rattle.asset_lists.specs.Units.{Unit, asset_id_cmp}
 use Rattle.asset_lists.specs.Listed.{Listed, listed_cmp, kind_of, kind_number}
 use Rattle.asset_bundles.specs.declared.book.Cause.{Cause}
 use Rattle.asset_bundles.specs.Bundles.{is_kind, is_asset}
-use Rattle.asset_bundles.specs.Books.{Burn, Burns, burn_cmp, cause_index, is_unit_of}
+use Rattle.asset_bundles.specs.Books.{Burn, Burns, burn_cmp, burned_by_any_cause, cause_index, is_unit_of}
 use Rattle.asset_bundles.proofs.Lemmas.Books.{is_burn_of}
 use Rattle.asset_bundles.proofs.Lemmas.{burn_keys}
-use Rattle.supply_audit.specs.Places.{burned_by_any_cause}
 use Rattle.plain_lists.proofs.Lemmas.Facts.{equal_then as then_says}
 
 -- ---- units

@@ -11,7 +11,7 @@ use Rattle.asset_lists.specs.declared.units.Kind.{Kind}
 use Rattle.asset_lists.specs.Units.{Unit}
 use Rattle.asset_lists.specs.Listed.{Listed, listed_cmp, listed_of}
 use Rattle.asset_bundles.specs.Bundles.{is_asset}
-use Rattle.asset_bundles.specs.Books.{is_unit_where, is_unit_of}
+use Rattle.asset_bundles.specs.Books.{burned_by_any_cause, is_unit_where, is_unit_of}
 use Rattle.ledgers.specs.Ledgers.{Holder, is_account, account_sum_of}
 use Rattle.trust_tables.specs.declared.rows.AssetRow.{AssetRow}
 use Rattle.trust_tables.specs.Chains.{path_of_site}
@@ -22,7 +22,7 @@ use Rattle.law_runs.specs.Sums.{in_kept, in_places, burned_where, none}
 use Rattle.law_runs.proofs.Lemmas.Sums.{account_total}
 use Rattle.law_steps.specs.Rooms.{unlisted, AllListed}
 use Rattle.chain_state.specs.Aside.{aside}
-use Rattle.supply_audit.specs.Places.{is_chain_row_of, placed, burned_by_any_cause, placed_at, burned_at, account_balance}
+use Rattle.supply_audit.specs.Places.{is_chain_row_of, placed, placed_at, burned_at, account_balance}
 use Rattle.law_audits.proofs.Rows.{IsSum, is_at, over_listed}
 use Rattle.law_audits.proofs.Sums.{places_sum, burned_sum, account_sum}
 use Rattle.law_audits.proofs.Causes.{asset_says, all_causes}
@@ -50,7 +50,7 @@ whole_asset p a i u = every_or (is_asset_at (path_of_site p.site) a (listed_of u
 pub of_asset : (id : AssetId) (kind : Kind) → is_asset id kind ≡ is_unit_of (id, kind)
 of_asset id kind i u = asset_says id kind u i
 
--- ---- places
+-- ---- on a chain
 placed_is : (p : ChainPart) (id : AssetId) (kind : Kind) → placed p id kind ≡ in_places (is_asset id kind) p
 unfolding in_kept aside
 placed_is p id kind = omega arith
@@ -67,7 +67,7 @@ module _ (p : ChainPart) (once : IsDistinct (eq_by_cmp listed_cmp) (listing p.ro
   pub burned_same : burned_at a p ≡ burned_where (is_asset_at (path_of_site p.site) a) p
   burned_same = rows_are p a (λ row. burned_by_any_cause p.burns (Concrete row.id) row.kind) (λ test. burned_where test p) (burned_sum p) (λ row. all_causes p.burns (Concrete row.id) row.kind) once (omega (arith, listed))
 
-  -- an account has no more than all places
+  -- an account has no more than the whole chain
   account_none : (who : List ℕ) → account_total who (is_unit_where (unlisted p.rows)) p ≡ 0
   unfolding in_kept
   account_none who =

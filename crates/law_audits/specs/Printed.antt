@@ -1,4 +1,4 @@
--- That the sums which a report prints are the sums that are conserved: of each asset what stands at
+-- That the sums which a report prints are the sums that are conserved: of each asset what is at
 -- homes, what is on its way and what was burned, and of each derivative what is held and what is
 -- owed. This project's own rule.
 use Rattle.std.specs.Prelude.{◌≡◌, ℕ, ◌+◌, ◌^◌, ◌<◌, ◌≤◌}

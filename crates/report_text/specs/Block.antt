@@ -30,7 +30,7 @@ backing_text_of parts site place row =
     ++ (codes " owed " ++ (sum_text (of_debt owed_by (debt_at parts site.chain place))
     ++ codes "\n")))))))))
 
--- the line of a row with its place, where it is of a derivative
+-- the line of a row with its index, where it is of a derivative
 abbrev pub backing_if : List ChainPart → Site → ℕ × AssetRow → List ℕ
 backing_if parts site row =
     if is_native_role row.1.role then [] else backing_text_of parts site row.0 row.1

@@ -1,4 +1,4 @@
--- The lines of a supply block as they are kept: each with its place in the plan and the figures that it was written with. This project's own
+-- The lines of a supply block as they are kept: each with its entry in the plan and the figures that it was written with. This project's own
 -- rule.
 use Rattle.std.specs.Prelude.{ℕ, Bool, List}
 use Rattle.report_text.specs.Planned.{PlannedSupply, PlannedBacking}
@@ -9,7 +9,7 @@ pub record KeptSupply : Type 0 where
   pub flight : ℕ
   pub burned : ℕ
 
--- what is held at the reserve, what is on its way to the chain, and what stands at the chain with what is on its way back
+-- what is held at the reserve, what is on its way to the chain, and what is at the chain with what is on its way back
 pub record KeptBacking : Type 0 where
   pub entry : PlannedBacking
   pub held : ℕ

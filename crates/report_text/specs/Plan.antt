@@ -17,12 +17,12 @@ use Rattle.report_text.specs.Planned.{PlannedSupply, PlannedBacking, Plan}
 
 -- ---- beginnings
 
--- what stands in front of the figures of an asset
+-- what comes before the figures of an asset
 unfoldable pub supply_beginning : UniversalAsset → List ℕ
 supply_beginning a =
     codes "  supply " ++ (kind_name a.1 ++ (codes " " ++ (path_text a.0 ++ codes " home ")))
 
--- what stands in front of the figures of a derivative
+-- what comes before the figures of a derivative
 unfoldable pub backing_beginning : Site → AssetRow → List ℕ
 backing_beginning site row =
     codes "  backing " ++ (chain_text site.chain
@@ -45,7 +45,7 @@ abbrev pub planned_backing : List Table → Site → ℕ → AssetRow → Planne
 planned_backing tables site place row =
     record { beginning = backing_beginning site row; cover = cover_at tables site.chain place }
 
--- of a row with its place, where it is of a derivative
+-- of a row with its index, where it is of a derivative
 abbrev pub planned_if : List Table → Site → ℕ × AssetRow → List PlannedBacking
 planned_if tables site row =
     if is_native_role row.1.role then [] else planned_backing tables site row.0 row.1 ∷ []

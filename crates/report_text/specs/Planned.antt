@@ -1,4 +1,4 @@
--- What a supply block says before any figure is known: of each line its beginning, and where the rows stand whose figures it has. This
+-- What a supply block says before any figure is known: of each line its beginning, and the positions of the rows whose figures it has. This
 -- project's own rule.
 use Rattle.std.specs.Prelude.{ℕ, List, Option}
 use Rattle.supply_audit.specs.declared.place.Place.{Place}

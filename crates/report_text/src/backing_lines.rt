@@ -9,7 +9,7 @@ use crate::figures::push_sum;
 use chain_state::ChainState;
 use std::alloc::{AllocError, Global};
 use std::marker::Model;
-use supply_audit::{CoverFigures, cover_figures, renewed_figures};
+use supply_audit::{CoverFigures, FigureReader};
 
 /// The line of a derivative, as it was written last. Contracts see it as `KeptBacking`.
 #[derive(Drop)]
@@ -74,30 +74,33 @@ fn are_same_figures(one: CoverFigures, other: CoverFigures) -> bool
 }
 
 impl BackingLine {
-    /// The line of an entry, with the figures of these chains.
+    /// The line of an entry, with the figures of the reader's chains.
     fn of(
         alloc: Global,
-        chains: &[ChainState],
+        reader: &mut FigureReader<'_>,
         entry: BackingEntry,
     ) -> Result<BackingLine, AllocError>
-        ensures { IfOk result (λ line. line ≡ kept_backing (map part_of chains.now) entry) }
+        ensures chains { reader.new.chains.now ≡ reader.old.chains.now }
+        ensures line { IfOk result (λ line. line
+            ≡ kept_backing (map part_of reader.old.chains.now) entry) }
     {
-        let found = cover_figures(chains, &entry.cover);
+        let found = reader.figures(&entry.cover)?;
         let text = line_text(alloc, &entry, found)?;
         Ok(BackingLine { entry, found, text })
     }
 
-    /// Reads those figures anew that hang on a chain that has changed, and writes the line anew where they are others.
+    /// Reads those figures anew that depend on a chain that has changed, and writes the line anew where they are others.
     fn renew(
         &mut self,
         alloc: Global,
-        chains: &[ChainState],
+        reader: &mut FigureReader<'_>,
         stale: &[bool],
     ) -> Result<(), AllocError>
-        ensures { OnOk result (self.new
-            ≡ renewed_backing stale.now (map part_of chains.now) self.old) }
+        ensures chains { reader.new.chains.now ≡ reader.old.chains.now }
+        ensures line { OnOk result (self.new
+            ≡ renewed_backing stale.now (map part_of reader.old.chains.now) self.old) }
     {
-        let found = renewed_figures(chains, stale, &self.entry.cover, self.found);
+        let found = reader.renewed(stale, &self.entry.cover, self.found)?;
         if are_same_figures(self.found, found) {
             return Ok(());
         }
@@ -125,9 +128,10 @@ pub(crate) fn backing_lines(
     ensures { IfOk result (λ lines. lines.items
         ≡ map (kept_backing (map part_of chains.now)) entries.items) }
 {
+    let mut reader = FigureReader::of(alloc, chains);
     let mut lines = Vec::new(alloc);
     for entry in entries {
-        let line = BackingLine::of(alloc, chains, entry)?;
+        let line = BackingLine::of(alloc, &mut reader, entry)?;
         lines.push(line)?;
     }
     Ok(lines)
@@ -143,8 +147,9 @@ pub(crate) fn renew_backings(
     ensures { OnOk result (lines.new
         ≡ map (renewed_backing stale.now (map part_of chains.now)) lines.old) }
 {
+    let mut reader = FigureReader::of(alloc, chains);
     for line in lines.iter_mut() {
-        line.renew(alloc, chains, stale)?;
+        line.renew(alloc, &mut reader, stale)?;
     }
     Ok(())
 }

@@ -18,7 +18,7 @@ use std::marker::Model;
 use supply_audit::{AssetPlaces, Cover, backing_at};
 use trust_tables::{AssetRole, AssetRow, Site};
 
-/// The line of a derivative: its beginning, and where it and what covers it stand.
+/// The line of a derivative: its beginning, and the positions of it and of what covers it.
 #[derive(Drop)]
 pub(crate) struct BackingEntry {
     pub(crate) beginning: String,
@@ -34,7 +34,7 @@ impl Model for BackingEntry {
     ghost view = { λ e. record { beginning = string_bytes e.beginning; cover = e.cover } };
 }
 
-/// What stands in front of a derivative's figures.
+/// What comes before a derivative's figures.
 #[tactic(auto, unfolding(crate::specs::Plan::backing_beginning))]
 fn beginning(alloc: Global, site: &Site, row: &AssetRow) -> Result<String, AllocError>
     requires { IsTrue (has_path (path_of_site site.now) row.now) }
@@ -48,7 +48,7 @@ fn beginning(alloc: Global, site: &Site, row: &AssetRow) -> Result<String, Alloc
     Ok(text)
 }
 
-/// The entry of the derivative in a row, which is at this place of its chain's list.
+/// The entry of the derivative in a row, which is at this index of its chain's list.
 fn entry_of(
     alloc: Global,
     chains: &[ChainState],

@@ -12,8 +12,8 @@ use chain_state::ChainState;
 use std::alloc::{AllocError, Global};
 use std::marker::Model;
 
-/// What a supply block says before any figure is known, and where its figures are found: for each line its beginning, and where the rows
-/// stand that count for it. It stays right while chains list what they listed when it was made. Contracts see it as `Plan`.
+/// What a supply block says before any figure is known, and where its figures are found: for each line its beginning, and the positions of
+/// the rows that count for it. It stays right while chains list what they listed when it was made. Contracts see it as `Plan`.
 #[derive(Drop)]
 pub struct SupplyPlan {
     supplies: Vec<SupplyEntry>,

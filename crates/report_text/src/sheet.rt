@@ -92,7 +92,7 @@ impl SupplySheet {
     }
 
     /// Reads the figures of changed chains anew, and writes those lines anew whose figures are others. It takes time in proportion to the lines,
-    /// and for each that hangs on a changed chain as its figures take. An `Err` is out of memory.
+    /// and for each that depends on a changed chain as its figures take. An `Err` is out of memory.
     pub fn renew(&mut self, alloc: Global, chains: &[ChainState]) -> Result<(), AllocError>
         requires { IsSheetOf (map part_of chains.now) self.old }
         ensures { OnOk result (IsWrittenOf (map part_of chains.now) self.new) }
@@ -104,7 +104,7 @@ impl SupplySheet {
         Ok(())
     }
 
-    /// The lines, one behind the other: the supply block of the chains of which they have the figures.
+    /// The lines, one after the other: the supply block of the chains of which they have the figures.
     pub fn text(&self, alloc: Global) -> Result<String, AllocError>
         ensures { IfOk result (λ text. (parts : List ChainPart) → IsWrittenOf parts self.now
             → string_bytes text ≡ supply_block parts) }
@@ -112,7 +112,7 @@ impl SupplySheet {
         self.lines(alloc)
     }
 
-    /// The lines, one behind the other.
+    /// The lines, one after the other.
     fn lines(&self, alloc: Global) -> Result<String, AllocError>
         ensures { IfOk result (λ text. string_bytes text ≡ sheet_written self.now) }
     {

@@ -14,7 +14,7 @@ use std::fmt::Write;
 use std::marker::Model;
 use supply_audit::{HomePlaces, NetworkAsset, Place, supply_at};
 
-/// The line of an asset: its beginning, and where the rows stand whose figures it has.
+/// The line of an asset: its beginning, and the positions of the rows whose figures it has.
 #[derive(Drop)]
 pub(crate) struct SupplyEntry {
     pub(crate) beginning: String,
@@ -30,7 +30,7 @@ impl Model for SupplyEntry {
     ghost view = { λ e. record { beginning = string_bytes e.beginning; places = e.places.items } };
 }
 
-/// What stands in front of an asset's figures.
+/// What comes before an asset's figures.
 #[tactic(auto, unfolding(crate::specs::Plan::supply_beginning))]
 fn beginning(alloc: Global, asset: &NetworkAsset) -> Result<String, AllocError>
     ensures { IfOk result (λ text. string_bytes text ≡ supply_beginning asset.now) }
@@ -76,7 +76,7 @@ pub(crate) fn plan_supplies(
     Ok(entries)
 }
 
-/// Appends a line with the figures of these places.
+/// Appends a line with the figures of these positions.
 fn push_figures(
     text: &mut String,
     chains: &[ChainState],

@@ -88,7 +88,7 @@ impl SupplyLine {
         Ok(SupplyLine { entry, found, text })
     }
 
-    /// Reads the figures anew where one of the asset's places is at a chain that has changed, and writes the line anew where they are others.
+    /// Reads the figures anew where one of the asset's positions is at a chain that has changed, and writes the line anew where they are others.
     fn renew(
         &mut self,
         alloc: Global,

@@ -1,4 +1,4 @@
--- Of the places of an asset at all chains, those at one chain are the chain's own.
+-- Of the positions of an asset at all chains, those at one chain are the chain's own.
 use Rattle.std.proofs.Common.{◌≡◌, ◌∙◌, ℕ, zero, suc, ◌+◌, ◌<◌, nat_eq, Bool, true, false, List, [], ◌∷◌, ◌++◌, Some, refl, sym, ap, arith, add-zero, append-nil, subst}
 use Rattle.std.specs.Prelude.{if◌then◌else◌, flat_map, slice_get}
 use Rattle.std.specs.List.{enumerate_from, filter}
@@ -45,7 +45,7 @@ module _ (a : UniversalAsset) where
       ∙ (λ j. one j ++ more j)
       ∙ joined (nat_eq n i) (place_if true t a n (k, x)) rest
 
-  -- no place is at a chain in front of these
+  -- no position is at a chain before these
   none_before : (n m : ℕ) (tables : List Table) → m < n → filter (is_at m) (flat_map (chain_places true a) (enumerate_from n tables)) ≡ []
   none_before n m [] less = refl
   none_before n m (t ∷ tables) less =

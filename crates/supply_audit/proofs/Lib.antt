@@ -5,3 +5,4 @@ pub mod Tables
 pub mod Idle
 pub mod Listing
 pub mod Indexed
+pub mod Found

@@ -1,4 +1,4 @@
--- What is added to a table of places, and what the rows at places have.
+-- What is added to a table of positions, and what the rows at positions have.
 use Rattle.std.proofs.Common.{◌≡◌, ◌∙◌, ℕ, ◌+◌, ◌<◌, min, List, [], ◌∷◌, ◌++◌, length, get_or, take, refl, ap, sym, Bool, true, false, arith, append-nil, cond}
 use Rattle.std.specs.Prelude.{None, Some, Option, option_map, if◌then◌else◌, ◌&&◌, nat_lt, not, position, slice_get, sum_by, unwrap_or}
 use Rattle.std.specs.List.{position_or_len}
@@ -21,7 +21,7 @@ use Rattle.supply_audit.specs.RowPlaces.{place_if, place_share, share_in, figure
 use Rattle.supply_audit.specs.Supplies.{HasSums}
 use Rattle.supply_audit.proofs.Tables.{along, same_asset, sum_more, sums_both}
 
--- ---- a row's place
+-- ---- a row's position
 
 module _ (counts : UniversalAsset → Bool) (p : ChainPart) (row : AssetRow) (place : Place) where
   abbrev here : UniversalAsset → List Place
@@ -46,7 +46,7 @@ module _ (counts : UniversalAsset → Bool) (p : ChainPart) (row : AssetRow) (pl
         | false ↦ none_here a
       ] refl
 
-  -- behind those that its asset has
+  -- after those that its asset has
   pub put_more : counts (listed_at p.site row) ≡ true → (old : UniversalAsset → List Place) (a : UniversalAsset)
       → (if eq_by_cmp universal_asset_cmp (listed_at p.site row) a then old (listed_at p.site row) ++ place ∷ [] else old a) ≡ old a ++ here a
   put_more at_home old a =
@@ -71,7 +71,7 @@ nothing_in f p row none = let zero = of_none (slice_get p.rows row) in omega (ar
     of_none None = refl
     of_none (Some x) = none _ x.kind
 
--- one place more
+-- one position more
 pub places_more : (parts : List ChainPart) (places : List Place) (k : ℕ) (place : Place) (s t u : Supply) → k < length places → place ≡ get_or places k place
     → total_value u.home ≡ min (total_value s.home + total_value t.home) most_burned → total_value u.flight ≡ min (total_value s.flight + total_value t.flight) most_burned
     → total_value u.burned ≡ min (total_value s.burned + total_value t.burned) most_burned

@@ -1,4 +1,4 @@
--- Where the rows of each asset stand, at all chains of a network. Chains are numbered from 0. This project's own rule.
+-- The positions of each asset's rows at all chains of a network: a chain's number and a row's index, both from 0. This project's own rule.
 use Rattle.std.specs.Prelude.{◌≡◌, ℕ, nat_eq, Bool, true, List, flat_map}
 use Rattle.std.specs.List.{enumerate_from, filter}
 use Rattle.std.specs.declared.alloc.Global.{Global}
@@ -12,11 +12,11 @@ use Rattle.supply_audit.specs.RowPlaces.{chain_places, places_in}
 abbrev pub all_places : UniversalAsset → List Table → List Place
 all_places a tables = flat_map (chain_places true a) (enumerate_from 0 tables)
 
--- the place is at the chain of this number
+-- the position is at the chain of this number
 abbrev pub is_at : ℕ → Place → Bool
 is_at chain place = nat_eq place.chain chain
 
--- the entries have for each asset its places
+-- the entries have for each asset its positions
 abbrev pub ArePlaces : List (UniversalAsset × Vec Place Global) → List Table → Type 0
 ArePlaces entries tables = (a : UniversalAsset) → places_in entries a ≡ all_places a tables
 

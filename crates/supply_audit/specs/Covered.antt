@@ -1,4 +1,4 @@
--- Where the rows of a derivative's asset stand: at its chain, and at its reserve. This project's own rule.
+-- The positions of the rows of a derivative's asset: at its chain, and at its reserve. This project's own rule.
 use Rattle.std.specs.Prelude.{List}
 use Rattle.chain_ids.specs.declared.chain.ChainId.{ChainId}
 use Rattle.supply_audit.specs.declared.place.Place.{Place}

@@ -1,4 +1,4 @@
--- Where the derivative in a chain's row stands and what covers it, by what chains list, and its figures by these places. This project's own
+-- The positions of the derivative in a chain's row and of what covers it, by what chains list, and its figures by these positions. This project's own
 -- rule.
 use Rattle.std.specs.Prelude.{ℕ, ◌+◌, Bool, true, false, List, Option, Some, None, slice_get}
 use Rattle.std.specs.List.{position_or_len}
@@ -59,7 +59,7 @@ owed_at parts c =
     over_places Placed parts c.own + over_places (Sent Deposits (Some c.here)) parts c.kept
     + over_places (Sent Withdrawals (Some c.there)) parts c.own
 
--- what is on its way to the chain, and what the chain has with what is on its way back: the one hangs on the reserve alone, the other on the
+-- what is on its way to the chain, and what the chain has with what is on its way back: the one depends on the reserve alone, the other on the
 -- chain
 abbrev pub coming_at : List ChainPart → Covered → ℕ
 coming_at parts c = over_places (Sent Deposits (Some c.here)) parts c.kept
@@ -68,7 +68,7 @@ abbrev pub standing_at : List ChainPart → Covered → ℕ
 standing_at parts c =
     over_places Placed parts c.own + over_places (Sent Withdrawals (Some c.there)) parts c.own
 
--- a place at the chain, or one at the reserve, is at a chain that may have changed
+-- a position at the chain, or one at the reserve, is at a chain that may have changed
 abbrev pub own_touched : List Bool → Option Covered → Bool
 own_touched stale None = false
 own_touched stale (Some c) = are_touched stale c.own

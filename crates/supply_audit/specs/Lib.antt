@@ -10,3 +10,4 @@ pub mod AssetPlaces
 pub mod Covers
 pub mod Stale
 pub mod Renewed
+pub mod Found

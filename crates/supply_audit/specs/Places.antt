@@ -1,7 +1,7 @@
 -- What a chain has of an asset, and what it has sent of it. An asset is a path and a kind; at a chain it is what all rows of that path and
 -- kind list. Amounts are in the asset's smallest unit; for a class they are numbers of instances. This project's own rule.
 --
---   placed_at       what stands in accounts, in traps, and in fees and parked bundles
+--   placed_at       what is in accounts, in traps, and in fees and parked bundles
 --   burned_at       what was burned, for all causes
 --   account_balance      what one account has
 --   teleports_at    what is on its way as teleports that the chain sent
@@ -17,11 +17,10 @@ use Rattle.asset_lists.specs.declared.units.AssetId.TheVariants.{Concrete}
 use Rattle.asset_lists.specs.declared.units.Kind.{Kind}
 use Rattle.asset_lists.specs.Units.{unit_of, amount_of}
 use Rattle.asset_lists.specs.Listed.{same_kind}
-use Rattle.asset_bundles.specs.declared.book.Cause.{Cause}
 use Rattle.asset_bundles.specs.declared.shipment.Way.{Way}
 use Rattle.asset_bundles.specs.declared.shipment.Way.TheVariants as ways
 use Rattle.asset_bundles.specs.Bundles.{Bundle, bundle_of, is_asset}
-use Rattle.asset_bundles.specs.Books.{Burns}
+use Rattle.asset_bundles.specs.Books.{burned_by_any_cause}
 use Rattle.ledgers.specs.Ledgers.{sum_of, account_sum_of}
 use Rattle.asset_bundles.specs.Traps.{trapped_amount}
 use Rattle.chain_ids.specs.declared.chain.ChainId.{ChainId}
@@ -55,15 +54,10 @@ row_share p a has row = if is_chain_row_of p a row then has (Concrete row.id) ro
 abbrev pub over_rows : ChainPart → UniversalAsset → (AssetId → Kind → ℕ) → ℕ
 over_rows p a has = sum_by (row_share p a has) p.rows
 
--- ---- places
+-- ---- on a chain
 
 abbrev pub placed : ChainPart → AssetId → Kind → ℕ
 placed p id kind = sum_of (id, kind) p.held + trapped_amount id kind p.traps.traps + aside p id kind
-
-abbrev pub burned_by_any_cause : Burns → AssetId → Kind → ℕ
-burned_by_any_cause burns id kind =
-    amount burns ((id, kind), Cause.BurnAsset) + amount burns ((id, kind), Cause.LostTeleport)
-    + amount burns ((id, kind), Cause.Merged) + amount burns ((id, kind), Cause.Saturated)
 
 -- ---- messages
 

@@ -1,9 +1,9 @@
--- Where the rows of an asset stand in the lists of a network's chains, and what they count for. Chains and rows are numbered from 0. This
+-- The positions of an asset's rows in the lists of a network's chains, and what they count for. Chains and rows are numbered from 0. This
 -- project's own rule.
 --
---   chain_places    the places of a chain's rows that are of the asset, in listed order
+--   chain_places    the positions of a chain's rows that are of the asset, in listed order
 --   home_places     those of the chains where the asset is at home, chain by chain
---   over_places     what the rows at places count for together
+--   over_places     what the rows at positions count for together
 use Rattle.std.specs.Prelude.{ℕ, Bool, ◌&&◌, if◌then◌else◌, List, [], ◌∷◌, Option, None, Some, option_map, slice_get, sum_by, flat_map, unwrap_or}
 use Rattle.std.specs.List.{enumerate_from}
 use Rattle.std.specs.Map.{lookup}
@@ -30,7 +30,7 @@ use Rattle.supply_audit.specs.Places.{figure}
 abbrev pub is_table_row_of : Table → UniversalAsset → AssetRow → Bool
 is_table_row_of t a row = eq_by_cmp junctions_cmp (path_of_row t row) a.0 && same_kind row.kind a.1
 
--- the place of a chain's row with its number, where it counts and the row is of the asset
+-- the position of a chain's row with its number, where it counts and the row is of the asset
 abbrev pub place_if : Bool → Table → UniversalAsset → ℕ → ℕ × AssetRow → List Place
 place_if counts t a chain row =
     if counts && is_table_row_of t a row.1 then record { chain = chain; row = row.0 } ∷ [] else []
@@ -47,7 +47,7 @@ places_at_home a chain = chain_places (is_home a chain.1) a chain
 abbrev pub home_places : UniversalAsset → List Table → List Place
 home_places a tables = flat_map (places_at_home a) (enumerate_from 0 tables)
 
--- the places of an asset by a table of them
+-- the positions of an asset by a table of them
 abbrev pub places_in : List (UniversalAsset × Vec Place Global) → UniversalAsset → List Place
 places_in entries a =
     unwrap_or (option_map (λ (list : Vec Place Global). list.items)
@@ -70,7 +70,7 @@ place_share f parts place = share_in f place.row (slice_get parts place.chain)
 abbrev pub over_places : Figure → List ChainPart → List Place → ℕ
 over_places f parts places = sum_by (place_share f parts) places
 
--- what stands at places, what is on its way as teleports that were sent from there, and what was burned there
+-- what is at positions, what is on its way as teleports that were sent from there, and what was burned there
 abbrev pub placed_over : List ChainPart → List Place → ℕ
 placed_over parts places = over_places Placed parts places
 

@@ -1,4 +1,4 @@
--- Chains that may have changed since figures were read at places, and when such figures are still right. Chains are numbered from 0, with a
+-- Chains that may have changed since figures were read at positions, and when such figures are still right. Chains are numbered from 0, with a
 -- flag for each. This project's own rule.
 use Rattle.std.specs.Prelude.{◌≡◌, ℕ, Bool, true, false, List, unwrap_or, slice_get}
 use Rattle.std.specs.List.{list_any}
@@ -9,7 +9,7 @@ use Rattle.supply_audit.specs.declared.place.Place.{Place}
 abbrev pub is_stale : List Bool → ℕ → Bool
 is_stale stale chain = unwrap_or (slice_get stale chain) true
 
--- one of the places is at such a chain
+-- one of the positions is at such a chain
 abbrev pub are_touched : List Bool → List Place → Bool
 are_touched stale places = list_any (λ (place : Place). is_stale stale place.chain) places
 

@@ -19,7 +19,7 @@ use Rattle.supply_audit.specs.Places.{chain_table, over_rows, figure, placed_at,
 abbrev pub if_home : (ChainPart → ℕ) → UniversalAsset → ChainPart → ℕ
 if_home has a p = if is_home a (chain_table p) then has p else 0
 
--- what stands at homes
+-- what is at homes
 abbrev pub supply_at_homes : UniversalAsset → List ChainPart → ℕ
 supply_at_homes a parts = sum_by (if_home (placed_at a) a) parts
 

@@ -1,4 +1,4 @@
-//! Where the rows of each asset stand, at all chains.
+//! The positions of the rows of each asset, at all chains.
 ghost use Rattle.std.specs.Prelude.{◌≡◌, ◌++◌, true, map, IfOk, OnOk, IsTrue};
 ghost use Rattle.std.specs.List.{filter};
 ghost use Rattle.trust_tables.specs.Chains.{path_of_site};
@@ -17,14 +17,14 @@ use std::alloc::{AllocError, Global};
 use std::collections::BTreeMap;
 use trust_tables::AssetRow;
 
-/// Where the rows of each asset stand, at all chains that list it.
+/// The positions of the rows of each asset, at all chains that list it.
 #[derive(Drop)]
 pub struct AssetPlaces {
     places: Places,
 }
 
 impl AssetPlaces {
-    /// Where the rows of these chains stand. It takes time in proportion to the rows of all chains and the logarithm of the number of assets. An
+    /// The positions of the rows of these chains. It takes time in proportion to the rows of all chains and the logarithm of the number of assets. An
     /// `Err` is out of memory.
     pub fn of(alloc: Global, chains: &[ChainState]) -> Result<AssetPlaces, AllocError>
         ensures { IfOk result
@@ -37,7 +37,7 @@ impl AssetPlaces {
         Ok(AssetPlaces { places })
     }
 
-    /// Where the rows of an asset stand that the chain of this number lists. An `Err` is out of memory.
+    /// The positions of the rows of an asset that the chain of this number lists. An `Err` is out of memory.
     pub(crate) fn at(
         &self,
         alloc: Global,
@@ -54,7 +54,7 @@ impl AssetPlaces {
     }
 }
 
-/// Those of the places that stand at the chain of this number.
+/// Those of the positions that are at the chain of this number.
 fn places_at(alloc: Global, places: &[Place], chain: usize) -> Result<Vec<Place>, AllocError>
     ensures { IfOk result (λ list. list.items ≡ filter (is_at chain) places.now) }
 {
@@ -67,7 +67,7 @@ fn places_at(alloc: Global, places: &[Place], chain: usize) -> Result<Vec<Place>
     Ok(list)
 }
 
-/// Adds the place of a row.
+/// Adds the position of a row.
 fn add_row(
     alloc: Global,
     places: &mut Places,
@@ -84,7 +84,7 @@ fn add_row(
     add_place(alloc, places, asset, place)
 }
 
-/// Adds the places of a chain's rows.
+/// Adds the positions of a chain's rows.
 fn add_rows(
     alloc: Global,
     places: &mut Places,

@@ -44,7 +44,7 @@ fn at_homes(
 }
 
 /// What the chains have of the asset of a path and a kind: at its homes, on its way as teleports that homes sent, and burned at its homes.
-/// What stands at a chain is read from running totals. It takes no memory.
+/// What is at a chain is read from running totals. It takes no memory.
 pub fn supply(chains: &[ChainState], path: &Junctions, kind: Kind) -> Supply
     ensures home { total_value result.home
         ≡ min (supply_at_homes (path.now, kind) (map part_of chains.now)) most_burned }
@@ -181,7 +181,7 @@ fn row_backing(chains: &[ChainState], here: &ChainState, row: &AssetRow) -> Back
     }
 }
 
-/// How the row at this place of a chain's list is covered.
+/// How the row at this index of a chain's list is covered.
 fn place_backing(chains: &[ChainState], here: &ChainState, row: usize) -> Backing
     ensures { CoversBy result
         (debt_of_row (map part_of chains.now) (part_of here.now)
@@ -204,8 +204,8 @@ fn chain_backing(chains: &[ChainState], chain: ChainId, row: usize) -> Backing
 }
 
 /// How the derivative in a chain's row is covered: what the chain's account at the reserve has, and what is owed: what the chain has, what
-/// is on its way to it as deposits, and what is on its way back as withdrawals. `row` is the place in the chain's list, from 0. Both are 0
-/// where the chain, the row or its reserve isn't there, or the row is native. What stands at a chain is read from running totals. It takes
+/// is on its way to it as deposits, and what is on its way back as withdrawals. `row` is the index in the chain's list, from 0. Both are 0
+/// where the chain, the row or its reserve isn't there, or the row is native. What is at a chain is read from running totals. It takes
 /// no memory.
 pub fn backing(chains: &[ChainState], chain: ChainId, row: usize) -> Backing
     ensures held { total_value result.held

@@ -1,4 +1,4 @@
-//! Where a derivative and what covers it stand.
+//! The positions of a derivative and of what covers it.
 ghost use Rattle.std.specs.Prelude.{◌≡◌, ◌+◌, min, map, IfOk, IsTrue, Some, None, option_map, position, slice_get};
 ghost use Rattle.std.specs.Option.{option_copied};
 ghost use Rattle.asset_bundles.specs.Books.{most_burned};
@@ -8,23 +8,26 @@ ghost use Rattle.chain_ids.specs.Chains.{same_chain};
 ghost use Rattle.network_steps.specs.Tests.{has_path};
 ghost use Rattle.chain_state.specs.PartOf.{part_of};
 ghost use Rattle.supply_audit.specs.Places.{chain_table};
-ghost use Rattle.supply_audit.specs.declared.figures.Carried.TheVariants.{Withdrawals};
+ghost use Rattle.supply_audit.specs.declared.figures.Carried.TheVariants.{Deposits, Withdrawals};
 ghost use Rattle.supply_audit.specs.declared.figures.Figure.TheVariants.{Placed, Sent};
 ghost use Rattle.supply_audit.specs.RowPlaces as places;
 ghost use Rattle.supply_audit.specs.AssetPlaces.{ArePlaces, HavePlacesOf};
 ghost use Rattle.supply_audit.specs.Covers.{cover_at, cover_between, cover_by, cover_of_row, cover_of_chain, number_of, of_cover, held_at, owed_at, coming_at, standing_at, own_touched, kept_touched};
-ghost use Rattle.supply_audit.specs.Renewed.{HasFigures, IsRenewed};
+ghost use Rattle.supply_audit.specs.Found.{IsRightOf};
 
 use crate::asset_places::AssetPlaces;
 use crate::audit::name_of;
 use crate::figures::{Carried, Figure};
+use crate::last_found::LastFound;
 use crate::messages::same_chain;
 use crate::network_asset::NetworkAsset;
-use crate::over_places::{chain_of, over_places};
+use crate::over_places::{chain_of, over_places, sent_over};
+use crate::places::no_name;
 use crate::stale::are_touched;
 use crate::totals::none;
 use crate::{Backing, Place};
 use asset_bundles::Total;
+use asset_lists::AssetId;
 use chain_ids::ChainId;
 use chain_state::ChainState;
 use network_coherence::sovereign_account;
@@ -32,7 +35,7 @@ use std::alloc::{AllocError, Global};
 use std::marker::Model;
 use trust_tables::{AssetRole, AssetRow};
 
-/// Where the rows of a derivative's asset stand, at its chain and at its reserve. Contracts see it as `Covered`.
+/// The positions of the rows of a derivative's asset, at its chain and at its reserve. Contracts see it as `Covered`.
 #[derive(Drop)]
 pub struct Cover {
     here: ChainId,
@@ -54,7 +57,7 @@ impl Model for Cover {
     } };
 }
 
-/// The place of the first chain of this name.
+/// The index of the first chain of this name.
 fn place_of(chains: &[ChainState], chain: ChainId) -> Option<usize>
     ensures { result ≡ position (λ c. same_chain (part_of c).site.chain chain) chains.now }
 {
@@ -77,7 +80,7 @@ fn listed_chain(chains: &[ChainState], number: usize) -> Option<&ChainState>
 }
 
 impl Cover {
-    /// Where the derivative in a chain's row stands, and what covers it, by the places of all rows of these chains. `row` is the place in the
+    /// The positions of the derivative in a chain's row and of what covers it, by those of all rows of these chains. `row` is the index in the
     /// chain's list, from 0. There is nothing where the chain, the row or its reserve isn't there, or the row is native. An `Err` is out of
     /// memory.
     pub fn of(
@@ -99,28 +102,37 @@ impl Cover {
     }
 
     /// What the chain's account at the reserve has.
-    fn held(&self, chains: &[ChainState]) -> Total
+    fn held(&self, name: &mut AssetId, chains: &[ChainState]) -> Total
         ensures { total_value result ≡ min (held_at (map part_of chains.now) self.now) most_burned }
     {
         let who = sovereign_account(self.there, self.here);
-        over_places(Figure::Account(who), chains, self.kept.as_slice())
+        over_places(name, Figure::Account(who), chains, self.kept.as_slice())
     }
 
-    /// What is on its way to the chain as deposits.
-    fn coming(&self, chains: &[ChainState]) -> Total
-        ensures { total_value result
-            ≡ min (coming_at (map part_of chains.now) self.now) most_burned }
+    /// What is on its way to the chain as deposits. An `Err` is out of memory.
+    fn coming(&self, found: &mut LastFound, chains: &[ChainState]) -> Result<Total, AllocError>
+        requires { IsRightOf found.old Deposits (map part_of chains.now) }
+        ensures right { IsRightOf found.new Deposits (map part_of chains.now) }
+        ensures sent { IfOk result (λ total. total_value total
+            ≡ min (coming_at (map part_of chains.now) self.now) most_burned) }
     {
-        let to_here = Figure::Sent(Carried::Deposits, Some(self.here));
-        over_places(to_here, chains, self.kept.as_slice())
+        let kept = self.kept.as_slice();
+        sent_over(found, Carried::Deposits, self.here, chains, kept)
     }
 
-    /// What the chain has, with what is on its way back as withdrawals.
-    fn standing(&self, chains: &[ChainState]) -> Total
-        ensures { total_value result
-            ≡ min (standing_at (map part_of chains.now) self.now) most_burned }
+    /// What the chain has, with what is on its way back as withdrawals. An `Err` is out of memory.
+    fn standing(
+        &self,
+        found: &mut LastFound,
+        name: &mut AssetId,
+        chains: &[ChainState],
+    ) -> Result<Total, AllocError>
+        requires { IsRightOf found.old Withdrawals (map part_of chains.now) }
+        ensures right { IsRightOf found.new Withdrawals (map part_of chains.now) }
+        ensures standing { IfOk result (λ total. total_value total
+            ≡ min (standing_at (map part_of chains.now) self.now) most_burned) }
     {
-        standing_over(chains, self.there, self.own.as_slice())
+        standing_over(found, name, chains, self.there, self.own.as_slice())
     }
 
     /// What the chain has, with what is on its way to it and back.
@@ -133,7 +145,7 @@ impl Cover {
     }
 }
 
-/// What stands at a chain's own places, with what is on its way to it as deposits and what is on its way back as withdrawals.
+/// What is at a chain's own positions, with what is on its way to it as deposits and what is on its way back as withdrawals.
 fn owed_over(
     chains: &[ChainState],
     here: ChainId,
@@ -145,27 +157,36 @@ fn owed_over(
         ≡ min (owed_at (map part_of chains.now)
         (record { here = here; there = there; own = own.now; kept = kept.now })) most_burned }
 {
-    let to_here = Figure::Sent(Carried::Deposits, Some(here));
-    let to_there = Figure::Sent(Carried::Withdrawals, Some(there));
-    let placed = over_places(Figure::Placed, chains, own);
-    let coming = over_places(to_here, chains, kept);
-    let leaving = over_places(to_there, chains, own);
+    let mut name = no_name();
+    let deposits = Figure::Sent(Carried::Deposits, Some(here));
+    let withdrawals = Figure::Sent(Carried::Withdrawals, Some(there));
+    let placed = over_places(&mut name, Figure::Placed, chains, own);
+    let coming = over_places(&mut name, deposits, chains, kept);
+    let leaving = over_places(&mut name, withdrawals, chains, own);
     placed.sum(coming).sum(leaving)
 }
 
-/// What stands at a chain's own places, with what is on its way back to the reserve as withdrawals.
-fn standing_over(chains: &[ChainState], there: ChainId, own: &[Place]) -> Total
-    ensures { total_value result ≡ min (places.over_places Placed (map part_of chains.now) own.now
+/// What is at a chain's own positions, with what is on its way back to the reserve as withdrawals. An `Err` is out of memory.
+fn standing_over(
+    found: &mut LastFound,
+    name: &mut AssetId,
+    chains: &[ChainState],
+    there: ChainId,
+    own: &[Place],
+) -> Result<Total, AllocError>
+    requires { IsRightOf found.old Withdrawals (map part_of chains.now) }
+    ensures right { IsRightOf found.new Withdrawals (map part_of chains.now) }
+    ensures standing { IfOk result (λ total. total_value total ≡ min
+        (places.over_places Placed (map part_of chains.now) own.now
         + places.over_places (Sent Withdrawals (Some there)) (map part_of chains.now) own.now)
-        most_burned }
+        most_burned) }
 {
-    let to_there = Figure::Sent(Carried::Withdrawals, Some(there));
-    let placed = over_places(Figure::Placed, chains, own);
-    let leaving = over_places(to_there, chains, own);
-    placed.sum(leaving)
+    let placed = over_places(name, Figure::Placed, chains, own);
+    let leaving = sent_over(found, Carried::Withdrawals, there, chains, own)?;
+    Ok(placed.sum(leaving))
 }
 
-/// How a derivative is covered, by where it stands: what the chain's account at the reserve has, and what is owed: what the chain has, what
+/// How a derivative is covered, by where it is: what the chain's account at the reserve has, and what is owed: what the chain has, what
 /// is on its way to it as deposits, and what is on its way back as withdrawals. Both are 0 where there is none. It takes no memory.
 pub fn backing_at(chains: &[ChainState], cover: &Option<Cover>) -> Backing
     ensures held { total_value result.held
@@ -179,14 +200,14 @@ pub fn backing_at(chains: &[ChainState], cover: &Option<Cover>) -> Backing
             owed: none(),
         },
         Some(cover) => Backing {
-            held: cover.held(chains),
+            held: cover.held(&mut no_name(), chains),
             owed: cover.owed(chains),
         },
     }
 }
 
-/// Whether a derivative's own places, or those at its reserve, are at a chain that has changed, by a flag for each chain.
-fn touched(stale: &[bool], cover: &Option<Cover>) -> (bool, bool)
+/// Whether a derivative's own positions, or those at its reserve, are at a chain that has changed, by a flag for each chain.
+pub(crate) fn touched(stale: &[bool], cover: &Option<Cover>) -> (bool, bool)
     ensures own { result.0 ≡ own_touched stale.now cover.now }
     ensures kept { result.1 ≡ kept_touched stale.now cover.now }
 {
@@ -199,40 +220,53 @@ fn touched(stale: &[bool], cover: &Option<Cover>) -> (bool, bool)
     }
 }
 
-/// What the chain of a derivative has, with what is on its way back as withdrawals; 0 where there is none.
-fn standing(chains: &[ChainState], cover: &Option<Cover>) -> Total
-    ensures { total_value result
-        ≡ min (of_cover (standing_at (map part_of chains.now)) cover.now) most_burned }
+/// What the chain of a derivative has, with what is on its way back as withdrawals; 0 where there is none. An `Err` is out of memory.
+pub(crate) fn standing(
+    found: &mut LastFound,
+    name: &mut AssetId,
+    chains: &[ChainState],
+    cover: &Option<Cover>,
+) -> Result<Total, AllocError>
+    requires { IsRightOf found.old Withdrawals (map part_of chains.now) }
+    ensures right { IsRightOf found.new Withdrawals (map part_of chains.now) }
+    ensures standing { IfOk result (λ total. total_value total
+        ≡ min (of_cover (standing_at (map part_of chains.now)) cover.now) most_burned) }
 {
     match cover {
-        None => none(),
-        Some(cover) => cover.standing(chains),
+        None => Ok(none()),
+        Some(cover) => cover.standing(found, name, chains),
     }
 }
 
 /// What the account of a derivative's chain has at the reserve; 0 where there is none.
-fn held(chains: &[ChainState], cover: &Option<Cover>) -> Total
+pub(crate) fn held(name: &mut AssetId, chains: &[ChainState], cover: &Option<Cover>) -> Total
     ensures { total_value result
         ≡ min (of_cover (held_at (map part_of chains.now)) cover.now) most_burned }
 {
     match cover {
         None => none(),
-        Some(cover) => cover.held(chains),
+        Some(cover) => cover.held(name, chains),
     }
 }
 
-/// What is on its way to the chain of a derivative as deposits; 0 where there is none.
-fn coming(chains: &[ChainState], cover: &Option<Cover>) -> Total
-    ensures { total_value result
-        ≡ min (of_cover (coming_at (map part_of chains.now)) cover.now) most_burned }
+/// What is on its way to the chain of a derivative as deposits; 0 where there is none. An `Err` is out of memory.
+pub(crate) fn coming(
+    found: &mut LastFound,
+    chains: &[ChainState],
+    cover: &Option<Cover>,
+) -> Result<Total, AllocError>
+    requires { IsRightOf found.old Deposits (map part_of chains.now) }
+    ensures right { IsRightOf found.new Deposits (map part_of chains.now) }
+    ensures sent { IfOk result (λ total. total_value total
+        ≡ min (of_cover (coming_at (map part_of chains.now)) cover.now) most_burned) }
 {
     match cover {
-        None => none(),
-        Some(cover) => cover.coming(chains),
+        None => Ok(none()),
+        Some(cover) => cover.coming(found, chains),
     }
 }
 
-/// What a derivative's line is made of. Each figure hangs on one chain alone. It saturates at 2^160-1.
+/// What a derivative's line is made of. Each figure depends on one chain alone. It saturates at 2^160-1.
 #[derive(Clone, Copy, Debug)]
 pub struct CoverFigures {
     /// What the chain's account at the reserve has.
@@ -241,39 +275,6 @@ pub struct CoverFigures {
     pub coming: Total,
     /// What the chain has, with what is on its way back as withdrawals.
     pub standing: Total,
-}
-
-/// The figures of a derivative; all are 0 where there is none. It takes no memory.
-pub fn cover_figures(chains: &[ChainState], cover: &Option<Cover>) -> CoverFigures
-    ensures { HasFigures result (map part_of chains.now) cover.now }
-{
-    CoverFigures {
-        held: held(chains, cover),
-        coming: coming(chains, cover),
-        standing: standing(chains, cover),
-    }
-}
-
-/// The figures of a derivative, of which `known` has those that are still right: of the chains that have changed, by a flag for each, they are read
-/// anew. It takes no memory.
-pub fn renewed_figures(
-    chains: &[ChainState],
-    stale: &[bool],
-    cover: &Option<Cover>,
-    known: CoverFigures,
-) -> CoverFigures
-    ensures { IsRenewed stale.now (map part_of chains.now) cover.now known result }
-{
-    let (own, kept) = touched(stale, cover);
-    let mut figures = known;
-    if kept {
-        figures.held = held(chains, cover);
-        figures.coming = coming(chains, cover);
-    }
-    if own {
-        figures.standing = standing(chains, cover);
-    }
-    figures
 }
 
 /// The cover of a row with its reserve.
@@ -332,7 +333,7 @@ fn row_cover(
     }
 }
 
-/// The cover of the row at this place of a chain's list.
+/// The cover of the row at this index of a chain's list.
 fn place_cover(
     alloc: Global,
     chains: &[ChainState],

@@ -15,7 +15,7 @@ pub(crate) enum Carried {
 /// A figure of an asset at a chain.
 #[derive(Clone, Copy)]
 pub(crate) enum Figure {
-    /// What stands in accounts, traps, fees and parked bundles.
+    /// What is in accounts, traps, fees and parked bundles.
     Placed,
     /// What was burned, for all causes.
     Burned,

@@ -1,4 +1,4 @@
-//! Where the rows of assets stand at their homes.
+//! The positions of the rows of assets at their homes.
 ghost use Rattle.std.specs.Prelude.{◌≡◌, ◌++◌, ◌∷◌, [], false, map, IfOk, OnOk, IsTrue, if◌then◌else◌};
 ghost use Rattle.std.specs.BTreeSet.{contains};
 ghost use Rattle.std.specs.Ordering.{eq_by_cmp};
@@ -19,17 +19,17 @@ use std::alloc::{AllocError, Global};
 use std::collections::BTreeMap;
 use trust_tables::AssetRow;
 
-/// Places of the rows of each asset.
+/// Positions of the rows of each asset.
 pub(crate) type Places = BTreeMap<NetworkAsset, Vec<Place>>;
 
-/// Where the rows of each asset stand, at the chains where it is at home.
+/// The positions of the rows of each asset, at the chains where it is at home.
 #[derive(Drop)]
 pub struct HomePlaces {
     places: Places,
 }
 
 impl HomePlaces {
-    /// Where the rows stand at these chains. An `Err` is out of memory.
+    /// The positions of the rows at these chains. An `Err` is out of memory.
     pub fn of(alloc: Global, chains: &[ChainState]) -> Result<HomePlaces, AllocError>
         ensures { IfOk result (λ table. (a : UniversalAsset) → places_in table.places.entries a
             ≡ home_places a (map chain_table (map part_of chains.now))) }
@@ -41,7 +41,7 @@ impl HomePlaces {
         Ok(HomePlaces { places })
     }
 
-    /// Where the rows of an asset stand, chain by chain in listed order. An `Err` is out of memory.
+    /// The positions of the rows of an asset, chain by chain in listed order. An `Err` is out of memory.
     pub fn places(&self, alloc: Global, asset: &NetworkAsset) -> Result<Vec<Place>, AllocError>
         ensures { IfOk result (λ list. list.items ≡ places_in self.now.places.entries asset.now) }
     {
@@ -52,7 +52,7 @@ impl HomePlaces {
     }
 }
 
-/// Takes the places of an asset out.
+/// Takes the positions of an asset out.
 fn take_places(alloc: Global, places: &mut Places, asset: &NetworkAsset) -> Vec<Place>
     ensures taken { result.items ≡ places_in places.old.entries asset.now }
     ensures others { (a : UniversalAsset) → eq_by_cmp universal_asset_cmp asset.now a ≡ false
@@ -64,7 +64,7 @@ fn take_places(alloc: Global, places: &mut Places, asset: &NetworkAsset) -> Vec<
     }
 }
 
-/// Writes the places of an asset.
+/// Writes the positions of an asset.
 fn write_places(
     places: &mut Places,
     asset: NetworkAsset,
@@ -77,7 +77,7 @@ fn write_places(
     Ok(())
 }
 
-/// Adds a place to those of an asset.
+/// Adds a position to those of an asset.
 pub(crate) fn add_place(
     alloc: Global,
     places: &mut Places,
@@ -94,7 +94,7 @@ pub(crate) fn add_place(
     write_places(places, asset, list)
 }
 
-/// Adds the place of a row, where its asset is at home at the chain.
+/// Adds the position of a row, where its asset is at home at the chain.
 fn add_row(
     alloc: Global,
     places: &mut Places,
@@ -118,7 +118,7 @@ fn add_row(
     add_place(alloc, places, asset, place)
 }
 
-/// Adds the places of a chain's rows.
+/// Adds the positions of a chain's rows.
 fn add_rows(
     alloc: Global,
     places: &mut Places,

@@ -4,20 +4,24 @@
 mod asset_places;
 mod audit;
 mod cover;
+mod figure_reader;
 mod figures;
 mod home_places;
+mod last_found;
 mod messages;
 mod network_asset;
 mod over_places;
 mod place;
 mod places;
+mod row_sums;
 mod stale;
 mod table;
 mod totals;
 
 pub use asset_places::AssetPlaces;
 pub use audit::{backing, supply};
-pub use cover::{Cover, CoverFigures, backing_at, cover_figures, number_of, renewed_figures};
+pub use cover::{Cover, CoverFigures, backing_at, number_of};
+pub use figure_reader::{FigureReader, cover_figures, renewed_figures};
 pub use home_places::HomePlaces;
 pub use ledgers::{Backing, Supply};
 pub use network_asset::NetworkAsset;

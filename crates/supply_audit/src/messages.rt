@@ -72,7 +72,8 @@ fn by_way(way: Way, shipment: &Shipment, id: &Location, kind: Kind) -> u128
 
 /// What a message carries of an asset.
 fn carried(what: Carried, id: &Location, kind: Kind, cargo: &Cargo) -> Total
-    ensures { total_value result ≡ min (carried_amount what (Concrete id.now) kind cargo.now) most_burned }
+    ensures { total_value result ≡ min (carried_amount what (Concrete id.now) kind cargo.now)
+        most_burned }
 {
     match (what, cargo) {
         (Carried::Teleports, Cargo::Away(shipment)) => {
@@ -110,7 +111,7 @@ pub(crate) fn same_chain(a: ChainId, b: ChainId) -> bool
 }
 
 /// Whether a channel leads to the chain, or anywhere where none is given.
-fn is_towards(to: Option<ChainId>, queue: &Queue) -> bool
+pub(crate) fn is_towards(to: Option<ChainId>, queue: &Queue) -> bool
     ensures { result ≡ is_towards to (outgoing_of queue.now) }
 {
     match to {

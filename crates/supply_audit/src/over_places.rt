@@ -1,25 +1,27 @@
-//! What the rows at places count for.
-ghost use Rattle.std.specs.Prelude.{◌≡◌, IsTrue, min, map, Some, option_map, slice_get};
+//! What the rows at positions count for.
+ghost use Rattle.std.specs.Prelude.{◌≡◌, IfOk, min, map, Some, option_map, slice_get};
 ghost use Rattle.std.specs.Option.{option_copied};
 ghost use Rattle.asset_bundles.specs.Books.{most_burned};
 ghost use Rattle.asset_bundles.specs.Totals.{total_value};
-ghost use Rattle.asset_lists.specs.declared.units.AssetId.{AssetId};
-ghost use Rattle.asset_lists.specs.declared.units.Kind.{Kind};
 ghost use Rattle.chain_state.specs.PartOf.{part_of};
-ghost use Rattle.supply_audit.specs.Places.{figure};
+ghost use Rattle.supply_audit.specs.declared.figures.Figure.TheVariants.{Sent};
+ghost use Rattle.supply_audit.specs.Found.{IsRightOf};
 ghost use Rattle.supply_audit.specs.Supplies.{HasSums};
 ghost use Rattle.supply_audit.specs.RowPlaces.{over_places, placed_over, flight_over, burned_over, place_share, share_in};
 ghost use Rattle.supply_audit.specs.RowPlaces as at;
 
 use crate::Place;
-use crate::figures::Figure;
-use crate::messages::are_idle;
+use crate::figures::{Carried, Figure};
+use crate::last_found::LastFound;
 use crate::places::figure;
 use crate::table::row_supply;
 use crate::totals::{no_supply, none, sum};
 use asset_bundles::Total;
+use asset_lists::AssetId;
+use chain_ids::ChainId;
 use chain_state::ChainState;
 use ledgers::Supply;
+use std::alloc::AllocError;
 
 /// The chain of this number.
 pub(crate) fn chain_of(chains: &[ChainState], number: usize) -> Option<&ChainState>
@@ -29,54 +31,67 @@ pub(crate) fn chain_of(chains: &[ChainState], number: usize) -> Option<&ChainSta
     chains.get(number)
 }
 
-/// Whether it is known that a chain has nothing of the figure, since no message waits.
-fn is_nothing(which: Figure, chain: &ChainState) -> bool
-    ensures { IsTrue result → (id : AssetId) (kind : Kind)
-        → figure which (part_of chain.now) id kind ≡ 0 }
-{
-    match which {
-        Figure::Sent(_, to) => are_idle(to, chain.queues()),
-        _ => false,
-    }
-}
-
-/// A figure of the row at this place of a chain's list. Where no message waits, the row isn't looked at for what was sent.
-fn row_share(which: Figure, chain: &ChainState, row: usize) -> Total
+/// A figure of the row at this index of a chain's list.
+fn row_share(name: &mut AssetId, which: Figure, chain: &ChainState, row: usize) -> Total
     ensures { total_value result ≡ min (share_in which row (Some (part_of chain.now))) most_burned }
 {
-    if is_nothing(which, chain) {
-        return none();
-    }
     match chain.rows().get(row) {
         None => none(),
-        Some(row) => figure(which, chain, &row.id, row.kind),
+        Some(row) => figure(name, which, chain, &row.id, row.kind),
     }
 }
 
-/// A figure of the row at a place.
-fn place_share(which: Figure, chains: &[ChainState], place: Place) -> Total
+/// A figure of the row at a position.
+fn place_share(name: &mut AssetId, which: Figure, chains: &[ChainState], place: Place) -> Total
     ensures { total_value result
         ≡ min (place_share which (map part_of chains.now) place) most_burned }
 {
     match chain_of(chains, place.chain) {
         None => none(),
-        Some(chain) => row_share(which, chain, place.row),
+        Some(chain) => row_share(name, which, chain, place.row),
     }
 }
 
-/// A figure of the rows at these places. It saturates at 2^160-1.
-pub(crate) fn over_places(which: Figure, chains: &[ChainState], places: &[Place]) -> Total
+/// A figure of the rows at these positions. It saturates at 2^160-1. `name` has room for an id.
+pub(crate) fn over_places(
+    name: &mut AssetId,
+    which: Figure,
+    chains: &[ChainState],
+    places: &[Place],
+) -> Total
     ensures { total_value result
         ≡ min (over_places which (map part_of chains.now) places.now) most_burned }
 {
     let mut total = none();
     for place in places {
-        total = total.sum(place_share(which, chains, *place));
+        total = total.sum(place_share(name, which, chains, *place));
     }
     total
 }
 
-/// What stands under the row at this place of a chain's list, what was sent from there as teleports and what was burned there.
+/// What was sent to a chain from these positions. It saturates at 2^160-1. Messages from one chain are looked at once for all of its positions. An
+/// `Err` is out of memory.
+pub(crate) fn sent_over(
+    found: &mut LastFound,
+    what: Carried,
+    to: ChainId,
+    chains: &[ChainState],
+    places: &[Place],
+) -> Result<Total, AllocError>
+    requires { IsRightOf found.old what (map part_of chains.now) }
+    ensures right { IsRightOf found.new what (map part_of chains.now) }
+    ensures sent { IfOk result (λ total. total_value total
+        ≡ min (at.over_places (Sent what (Some to)) (map part_of chains.now) places.now)
+        most_burned) }
+{
+    let mut total = none();
+    for place in places {
+        total = total.sum(found.sum(what, chains, *place, to)?);
+    }
+    Ok(total)
+}
+
+/// What is held under the row at this index of a chain's list, what was sent from there as teleports and what was burned there.
 fn row_supply_at(chain: &ChainState, row: usize) -> Supply
     ensures { HasSums result (λ f. share_in f row (Some (part_of chain.now))) }
 {
@@ -86,7 +101,7 @@ fn row_supply_at(chain: &ChainState, row: usize) -> Supply
     }
 }
 
-/// What stands at a place, what was sent from there as teleports and what was burned there.
+/// What is at a position, what was sent from there as teleports and what was burned there.
 fn place_supply(chains: &[ChainState], place: &Place) -> Supply
     ensures { HasSums result (λ f. at.place_share f (map part_of chains.now) place.now) }
 {
@@ -96,7 +111,7 @@ fn place_supply(chains: &[ChainState], place: &Place) -> Supply
     }
 }
 
-/// The figures of these places.
+/// The figures of these positions.
 fn summed(chains: &[ChainState], places: &[Place]) -> Supply
     ensures { HasSums result (λ f. at.over_places f (map part_of chains.now) places.now) }
 {
@@ -107,7 +122,7 @@ fn summed(chains: &[ChainState], places: &[Place]) -> Supply
     total
 }
 
-/// What stands at these places, what was sent from there as teleports and what was burned there. Each total saturates at 2^160-1.
+/// What is at these positions, what was sent from there as teleports and what was burned there. Each total saturates at 2^160-1.
 pub fn supply_at(chains: &[ChainState], places: &[Place]) -> Supply
     ensures home { total_value result.home
         ≡ min (placed_over (map part_of chains.now) places.now) most_burned }

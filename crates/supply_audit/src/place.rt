@@ -1,6 +1,6 @@
-//! Where rows stand.
+//! The positions of rows.
 
-/// Where a row stands: the chain of the network, and the row of the chain's list, both from 0.
+/// The position of a row: the chain of the network, and the row of the chain's list, both from 0.
 #[derive(Clone, Copy, Debug)]
 pub struct Place {
     /// The chain's number in the network.

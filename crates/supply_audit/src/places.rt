@@ -20,7 +20,7 @@ ghost use Rattle.supply_audit.specs.Supply.{if_home};
 use crate::figures::Figure;
 use crate::messages::sent;
 use crate::totals::none;
-use asset_bundles::{BurnBook, Cause, Total};
+use asset_bundles::Total;
 use asset_lists::{AssetId, Kind};
 use chain_state::ChainState;
 use ledgers::Ledger;
@@ -28,24 +28,13 @@ use locations::{Junctions, Location};
 use network_coherence::same_path;
 use trust_tables::{AssetRole, AssetRow};
 
-/// What stands at a chain under an id: in accounts, in traps, and in fees and parked bundles.
+/// What is at a chain under an id: in accounts, in traps, and in fees and parked bundles.
 pub(crate) fn placed(chain: &ChainState, id: &AssetId, kind: Kind) -> Total
     ensures { total_value result ≡ min (placed (part_of chain.now) id.now kind) most_burned }
 {
     let held = chain.ledger().sum(id, kind);
     let trapped = chain.traps().total(id, kind);
     held.sum(trapped).sum(chain.aside(id, kind))
-}
-
-/// What a book says was burned under an id, for all causes.
-pub(crate) fn burned(book: &BurnBook, id: &AssetId, kind: Kind) -> Total
-    ensures { total_value result ≡ min (places.burned_by_any_cause book.now.burns id.now kind) most_burned }
-{
-    let given_up = book.total(id, kind, Cause::BurnAsset);
-    let lost = book.total(id, kind, Cause::LostTeleport);
-    let merged = book.total(id, kind, Cause::Merged);
-    let saturated = book.total(id, kind, Cause::Saturated);
-    given_up.sum(lost).sum(merged).sum(saturated)
 }
 
 /// What an account has under an id.
@@ -65,15 +54,27 @@ pub(crate) fn named(id: &Location) -> AssetId
     AssetId::Concrete(id.copy())
 }
 
-/// A figure of a chain under an id. It saturates at 2^160-1.
-pub(crate) fn figure(figure: Figure, chain: &ChainState, id: &Location, kind: Kind) -> Total
+/// The location `Here`: room for a name. An id is a large value, so it is filled in place.
+pub(crate) fn no_name() -> AssetId {
+    AssetId::Concrete(Location::here())
+}
+
+/// A figure of a chain under an id. It saturates at 2^160-1. `name` has room for the id.
+pub(crate) fn figure(
+    name: &mut AssetId,
+    figure: Figure,
+    chain: &ChainState,
+    id: &Location,
+    kind: Kind,
+) -> Total
     ensures { total_value result
         ≡ min (places.figure figure (part_of chain.now) (Concrete id.now) kind) most_burned }
 {
+    name.assign_place(id);
     match figure {
-        Figure::Placed => placed(chain, &named(id), kind),
-        Figure::Burned => burned(chain.burns(), &named(id), kind),
-        Figure::Account(who) => none().plus(account(chain.ledger(), &who, &named(id), kind)),
+        Figure::Placed => placed(chain, name, kind),
+        Figure::Burned => chain.burns().burned(name, kind),
+        Figure::Account(who) => none().plus(account(chain.ledger(), &who, name, kind)),
         Figure::Sent(what, to) => sent(what, to, id, kind, chain.queues()),
     }
 }
@@ -108,6 +109,7 @@ fn context_of(chain: &ChainState) -> Junctions
 
 /// What a row counts for.
 fn row_share(
+    name: &mut AssetId,
     which: Figure,
     chain: &ChainState,
     context: &Junctions,
@@ -124,7 +126,7 @@ fn row_share(
     if !is_row_of(context, home, id, kind, row) {
         return none();
     }
-    figure(which, chain, &row.id, row.kind)
+    figure(name, which, chain, &row.id, row.kind)
 }
 
 /// A figure of the asset of this path and kind, over the rows that list it. It saturates at 2^160-1.
@@ -140,10 +142,11 @@ pub(crate) fn over_rows(
         (places.figure which (part_of chain.now))) most_burned }
 {
     let context = context_of(chain);
+    let mut name = no_name();
     let mut total = none();
     let rows = chain.rows();
     for row in rows {
-        total = total.sum(row_share(which, chain, &context, home, id, kind, row));
+        total = total.sum(row_share(&mut name, which, chain, &context, home, id, kind, row));
     }
     total
 }

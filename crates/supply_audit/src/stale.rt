@@ -1,4 +1,4 @@
-//! Which places stand at chains that have changed.
+//! Which positions are at chains that have changed.
 ghost use Rattle.std.specs.Prelude.{◌≡◌};
 ghost use Rattle.supply_audit.specs.Stale as flags;
 
@@ -14,7 +14,7 @@ fn is_stale(stale: &[bool], chain: usize) -> bool
     }
 }
 
-/// Whether one of these places stands at a chain that has changed, by a flag for each chain.
+/// Whether one of these positions is at a chain that has changed, by a flag for each chain.
 pub fn are_touched(stale: &[bool], places: &[Place]) -> bool
     ensures { result ≡ flags.are_touched stale.now places.now }
 {

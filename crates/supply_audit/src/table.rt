@@ -17,7 +17,7 @@ ghost use Rattle.supply_audit.specs.Supplies.{AreSupplies, HasSums, Raises, row_
 use crate::figures::Carried;
 use crate::messages::sent;
 use crate::network_asset::NetworkAsset;
-use crate::places::{burned, is_native, named, placed};
+use crate::places::{is_native, named, placed};
 use crate::totals::{no_supply, none, sum};
 use chain_state::ChainState;
 use ledgers::Supply;
@@ -81,7 +81,7 @@ fn raise(sums: &mut Sums, asset: NetworkAsset, more: Supply) -> Result<(), Alloc
     write_supply(sums, asset, sum(found, more))
 }
 
-/// What a row of a chain lists: what stands there, what was sent as teleports and what was burned.
+/// What a row of a chain lists: what is there, what was sent as teleports and what was burned.
 pub(crate) fn row_supply(chain: &ChainState, row: &AssetRow) -> Supply
     ensures { HasSums result
         (λ f. places.figure f (part_of chain.now) (Concrete row.now.id) row.now.kind) }
@@ -89,7 +89,7 @@ pub(crate) fn row_supply(chain: &ChainState, row: &AssetRow) -> Supply
     let id = named(&row.id);
     let home = placed(chain, &id, row.kind);
     let flight = sent(Carried::Teleports, None, &row.id, row.kind, chain.queues());
-    let burned = burned(chain.burns(), &id, row.kind);
+    let burned = chain.burns().burned(&id, row.kind);
     Supply {
         home,
         flight,

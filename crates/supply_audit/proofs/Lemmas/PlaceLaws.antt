@@ -1,5 +1,5 @@
--- That the rows at the places of an asset have what the audit's definitions name. A reader can skip it.
--- ---- sums over places
+-- That the rows at the positions of an asset have what the audit's definitions name. A reader can skip it.
+-- ---- sums over positions
 use Rattle.std.specs.Prelude.{◌≡◌, ℕ, ◌+◌, not, Bool, true, false, if◌then◌else◌, List, [], ◌∷◌, Option, None, Some, option_map, slice_get, map, sum_by, flat_map, refl}
 use Rattle.std.specs.List.{enumerate_from, position_or_len}
 use Rattle.std.proofs.Common.{sym, ap, ◌∙◌, subst, arith, add-zero, suc, cond, rules}
@@ -84,7 +84,7 @@ module _ (f : Figure) (parts : List ChainPart) where
   home_sum : (a : UniversalAsset) → over_places f parts (home_places a (map chain_table parts)) ≡ at_homes f a parts
   home_sum a = homes_are a 0 parts (at_start (slice_get parts))
 
--- an asset's places have what the audit finds of it
+-- an asset's positions have what the audit finds of it
 pub record Sums (parts : List ChainPart) (a : UniversalAsset) : Type 0 where
   pub home : placed_over parts (home_places a (map chain_table parts)) ≡ supply_at_homes a parts
   pub flight : flight_over parts (home_places a (map chain_table parts)) ≡ teleports_in_flight a parts

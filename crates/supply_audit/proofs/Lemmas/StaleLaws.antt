@@ -1,4 +1,4 @@
--- That figures at places stay the same where no place is at a chain that has changed. A reader can skip it.
+-- That figures at positions stay the same where no position is at a chain that has changed. A reader can skip it.
 use Rattle.std.specs.Prelude.{◌≡◌, ℕ, zero, suc, ◌+◌, ◌<◌, Bool, true, false, List, [], ◌∷◌, length, Option, None, Some, refl}
 use Rattle.std.proofs.Common.{sym, ap, ◌∙◌, set, arith}
 use Rattle.std.proofs.lemmas.Bool.{or_parts}

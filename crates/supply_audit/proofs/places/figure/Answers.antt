@@ -11,5 +11,5 @@ pub returns-in-Placed : goal.returns-in-Placed
 returns-in-Placed c =
     let p = part_of c.args.chain.now in
     c.placed.ensures
-    ∙ ap (λ (id : AssetId). min (placed p id c.args.kind) most_burned) c.named.ensures
+    ∙ ap (λ (id : AssetId). min (placed p id c.args.kind) most_burned) c.assign_place.ensures
     ∙ ap (λ (which : Figure). min (figure which p (Concrete c.args.id.now) c.args.kind) most_burned) (sym c.in-Placed.is)

@@ -1,0 +1,202 @@
+//! What the messages from one chain to another carry, row by row of the sender's list.
+ghost use Rattle.std.specs.Prelude.{◌≡◌, ℕ, map, length, Some, IfOk, slice_get, sum_by};
+ghost use Rattle.asset_bundles.specs.Bundles.{bundle_of};
+ghost use Rattle.asset_bundles.specs.Totals.{total_value};
+ghost use Rattle.chain_queues.specs.Queues.{outgoing_of};
+ghost use Rattle.chain_state.specs.PartOf.{part_of};
+ghost use Rattle.supply_audit.specs.Places.{asset_amount_in, by_way, carried_amount, channel_share, in_channel, list_share, total_sent};
+ghost use Rattle.supply_audit.specs.Found.{AreSentTo, AreSumsOf, Rise, sum_in_row};
+
+use crate::figures::Carried;
+use crate::messages::{are_idle, is_towards};
+use crate::over_places::chain_of;
+use crate::totals::none;
+use asset_bundles::{Shipment, Total, Way};
+use asset_lists::{Asset, Assets};
+use chain_ids::ChainId;
+use chain_queues::{Cargo, Queue};
+use chain_state::ChainState;
+use ledgers::Ledger;
+use std::alloc::{AllocError, Global};
+
+/// The sum of the row at this index; 0 past the end.
+pub(crate) fn sum_in_row(sums: &[Total], row: usize) -> Total
+    ensures { total_value result ≡ sum_in_row sums.now row }
+{
+    match sums.get(row) {
+        None => none(),
+        Some(sum) => *sum,
+    }
+}
+
+/// So many sums of nothing.
+fn zero_sums(alloc: Global, count: usize) -> Result<Vec<Total>, AllocError>
+    ensures count { IfOk result (λ sums. length sums.items ≡ count) }
+    ensures zero { IfOk result (λ sums. (row : ℕ) → sum_in_row sums.items row ≡ 0) }
+{
+    let mut sums = Vec::with_capacity(alloc, count)?;
+    for _ in 0..count {
+        sums.push(none())?;
+    }
+    Ok(sums)
+}
+
+/// Adds an asset to the sum of its row, where it has one.
+fn add_asset(sums: &mut [Total], ledger: &Ledger, asset: &Asset)
+    requires { AreSumsOf ledger.now.listed sums.old }
+    ensures sums { AreSumsOf ledger.now.listed sums.new }
+    ensures rise { Rise ledger.now.listed sums.old sums.new
+        (λ k. list_share k.0 k.1 asset.now) }
+{
+    match ledger.number_of(&asset.id, asset.kind()) {
+        Some(row) => {
+            let row = row as usize;
+            sums[row] = sum_in_row(sums, row).plus(asset.amount());
+        }
+        None => {}
+    }
+}
+
+/// Adds the assets of a list.
+fn add_assets(sums: &mut [Total], ledger: &Ledger, assets: &[Asset])
+    requires { AreSumsOf ledger.now.listed sums.old }
+    ensures sums { AreSumsOf ledger.now.listed sums.new }
+    ensures rise { Rise ledger.now.listed sums.old sums.new
+        (λ k. sum_by (list_share k.0 k.1) assets.now) }
+{
+    for asset in assets {
+        add_asset(sums, ledger, asset);
+    }
+}
+
+/// Adds the assets of a deposit's list.
+fn add_list(sums: &mut [Total], ledger: &Ledger, list: &Assets)
+    requires { AreSumsOf ledger.now.listed sums.old }
+    ensures sums { AreSumsOf ledger.now.listed sums.new }
+    ensures rise { Rise ledger.now.listed sums.old sums.new
+        (λ k. asset_amount_in k.0 k.1 (bundle_of list.now)) }
+{
+    add_assets(sums, ledger, list.items());
+}
+
+/// Adds the assets of a shipment, where it goes this way.
+fn add_shipment(sums: &mut [Total], ledger: &Ledger, way: Way, shipment: &Shipment)
+    requires { AreSumsOf ledger.now.listed sums.old }
+    ensures sums { AreSumsOf ledger.now.listed sums.new }
+    ensures rise { Rise ledger.now.listed sums.old sums.new
+        (λ k. by_way way shipment.now.way k.0 k.1 shipment.now.units) }
+{
+    match (way, shipment.way()) {
+        (Way::Withdrawal, Way::Withdrawal) => add_assets(sums, ledger, shipment.items()),
+        (Way::Teleport, Way::Teleport) => add_assets(sums, ledger, shipment.items()),
+        _ => {}
+    }
+}
+
+/// Adds what a message carries.
+fn add_cargo(sums: &mut [Total], ledger: &Ledger, what: Carried, cargo: &Cargo)
+    requires { AreSumsOf ledger.now.listed sums.old }
+    ensures sums { AreSumsOf ledger.now.listed sums.new }
+    ensures rise { Rise ledger.now.listed sums.old sums.new
+        (λ k. carried_amount what k.0 k.1 cargo.now) }
+{
+    match (what, cargo) {
+        (Carried::Teleports, Cargo::Away(shipment)) => {
+            add_shipment(sums, ledger, Way::Teleport, shipment);
+        }
+        (Carried::Withdrawals, Cargo::Away(shipment)) => {
+            add_shipment(sums, ledger, Way::Withdrawal, shipment);
+        }
+        (Carried::Deposits, Cargo::Deposit(list)) => add_list(sums, ledger, list),
+        _ => {}
+    }
+}
+
+/// Adds what the messages of a channel carry.
+fn add_waiting(sums: &mut [Total], ledger: &Ledger, what: Carried, queue: &Queue)
+    requires { AreSumsOf ledger.now.listed sums.old }
+    ensures sums { AreSumsOf ledger.now.listed sums.new }
+    ensures rise { Rise ledger.now.listed sums.old sums.new
+        (λ k. in_channel what k.0 k.1 (outgoing_of queue.now)) }
+{
+    for i in 0..queue.waiting.len() {
+        add_cargo(sums, ledger, what, &queue.waiting[i].cargo);
+    }
+}
+
+/// Adds what the messages of a channel carry, where it leads to the chain.
+fn add_channel(sums: &mut [Total], ledger: &Ledger, what: Carried, to: ChainId, queue: &Queue)
+    requires { AreSumsOf ledger.now.listed sums.old }
+    ensures sums { AreSumsOf ledger.now.listed sums.new }
+    ensures rise { Rise ledger.now.listed sums.old sums.new
+        (λ k. channel_share what (Some to) k.0 k.1 (outgoing_of queue.now)) }
+{
+    if is_towards(Some(to), queue) {
+        add_waiting(sums, ledger, what, queue);
+    }
+}
+
+/// Adds what the messages of these channels carry to the chain.
+fn add_channels(sums: &mut [Total], ledger: &Ledger, what: Carried, to: ChainId, channels: &[Queue])
+    requires { AreSumsOf ledger.now.listed sums.old }
+    ensures sums { AreSumsOf ledger.now.listed sums.new }
+    ensures rise { Rise ledger.now.listed sums.old sums.new
+        (λ k. total_sent what (Some to) (map outgoing_of channels.now) k.0 k.1) }
+{
+    for queue in channels {
+        add_channel(sums, ledger, what, to, queue);
+    }
+}
+
+/// What a chain's messages carry to another, row by row.
+fn filled_sums(
+    alloc: Global,
+    what: Carried,
+    to: ChainId,
+    chain: &ChainState,
+) -> Result<Vec<Total>, AllocError>
+    ensures { IfOk result (λ sums. AreSentTo what to (Some (part_of chain.now)) sums.items) }
+{
+    let mut sums = zero_sums(alloc, chain.rows().len())?;
+    add_channels(
+        &mut sums,
+        chain.ledger(),
+        what,
+        to,
+        chain.queues().channels(),
+    );
+    Ok(sums)
+}
+
+/// The same. Where no message waits there are no sums, and no memory is taken.
+fn row_sums(
+    alloc: Global,
+    what: Carried,
+    to: ChainId,
+    chain: &ChainState,
+) -> Result<Vec<Total>, AllocError>
+    ensures { IfOk result (λ sums. AreSentTo what to (Some (part_of chain.now)) sums.items) }
+{
+    if are_idle(Some(to), chain.queues()) {
+        return Ok(Vec::new(alloc));
+    }
+    filled_sums(alloc, what, to, chain)
+}
+
+/// What the messages from the chain of this number to the chain of this name carry, row by row of the former's list. Rows past the end have
+/// nothing. An `Err` is out of memory.
+pub(crate) fn sums_from(
+    alloc: Global,
+    what: Carried,
+    chains: &[ChainState],
+    from: usize,
+    to: ChainId,
+) -> Result<Vec<Total>, AllocError>
+    ensures { IfOk result (λ sums. AreSentTo what to
+        (slice_get (map part_of chains.now) from) sums.items) }
+{
+    match chain_of(chains, from) {
+        None => Ok(Vec::new(alloc)),
+        Some(chain) => row_sums(alloc, what, to, chain),
+    }
+}
