@@ -13,7 +13,7 @@ use Rattle.document_entries.specs.declared.stop.Stop.TheVariants.{Fault, Memory}
 use Rattle.document_entries.specs.Answers.{FailsWith}
 use Rattle.document_entries.specs.Forms.{entries, next_index, prepended_result, all_items, two_of, list, passing, is_whole, pair, where_true}
 
--- what was read so far, in front
+-- what was read so far, before the rest
 abbrev pub behind : {X : Type 0} → List X → Result (List X) NetworkFault → Result (List X) NetworkFault
 behind done (Ok xs) = Ok (done ++ xs)
 behind done (Err fault) = Err fault

@@ -1,4 +1,4 @@
--- The forms of values in a network document. A form gives, of a value at a place, what the value means, or the first fault.
+-- The forms of values in a network document. A form gives, of a value at a position, what the value means, or the first fault.
 -- An object is read by a list of statements, one a field: its name, its form, and what it is where it isn't there.
 -- Source: this project's own rule, over JSON as `serde_json` reads it.
 use Rattle.std.specs.Prelude.{ℕ, ◌+◌, ◌^◌, min, List, [], ◌∷◌, take, drop, Bool, true, false, not, ◌&&◌, ◌||◌, ◌==◌, nat_le, nat_lt, bytes_eq, codes, Option, Some, None, option_and_then, is_some, Result, Ok, Err, if◌then◌else◌}
@@ -15,7 +15,7 @@ use Rattle.document_entries.specs.declared.fault.NetworkFault.{NetworkFault}
 use Rattle.document_entries.specs.declared.fault.NetworkFault.TheVariants.{MissingField, WrongKind, UnknownField, BadValue, LimitPassed}
 use Rattle.document_entries.specs.declared.fault.Place.{Place}
 
--- what a value means at a place, or the first fault
+-- what a value means at a position, or the first fault
 abbrev pub Form : Type 0 → Type 0
 Form X = Place → Data → Result X NetworkFault
 
@@ -112,7 +112,7 @@ decimal_below limit place value = do
   n ← where_true (BadValue place) (is_decimal digits) (digits_value 10 digits)
   where_true (LimitPassed place) (nat_lt n limit) n
 
--- what is behind `0x` at the front
+-- what is after `0x` at the front
 abbrev pub behind_0x : List ℕ → Option (List ℕ)
 behind_0x s = if bytes_eq (take 2 s) (codes "0x") then Some (drop 2 s) else None
 
@@ -188,7 +188,7 @@ passing test place value = do
   items ← list place value
   where_true (WrongKind place) (all_items test items) items
 
--- a list whose elements pass the test, each of this form; all are said to stand at the list's place
+-- a list whose elements pass the test, each of this form; all are said to be at the list's position
 abbrev pub each : {X : Type 0} → (Data → Bool) → Form X → Form (List X)
 each test form place value = do
   passed ← passing test place value

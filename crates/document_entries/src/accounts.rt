@@ -17,7 +17,8 @@ use std::alloc::Global;
 
 /// An amount, or an instance.
 fn fun_of(alloc: Global, place: Place, value: &Value) -> Result<Fun, Stop>
-    ensures { Answers result (either (codes "amount") (made Fungible positive_amount_form) (codes "instance")
+    ensures { Answers result
+        (either (codes "amount") (made Fungible positive_amount_form) (codes "instance")
         (made NonFungible instance_form) place (view value.now)) }
 {
     match value.get("amount") {

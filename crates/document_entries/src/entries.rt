@@ -123,10 +123,10 @@ pub(crate) fn chain_kinds_of(place: Place, value: &Value) -> Result<&[Value], St
     Ok(items)
 }
 
-/// A reader of chains that stand at one place.
+/// A reader of chains at one position.
 #[derive(Clone, Copy)]
 pub struct ChainsAt {
-    /// The place.
+    /// The position.
     pub place: Place,
 }
 

@@ -29,7 +29,7 @@ pub enum Section {
     Channels,
 }
 
-/// A place in a network document. Its text is the section and the index, with a space between; in front of them stands
+/// A position in a network document. Its text is the section and the index, with a space between; before them come
 /// `chains` and the chain's entry where the section is of a chain.
 #[derive(Clone, Copy, Debug, PartialEq, Eq)]
 pub struct Place {
@@ -41,7 +41,7 @@ pub struct Place {
     pub index: u32,
 }
 
-/// Why bytes describe no network, and where. Its text is the cause's name and the place, as `BadValue at chains 0 barriers 0`.
+/// Why bytes describe no network, and where. Its text is the cause's name and the position, as `BadValue at chains 0 barriers 0`.
 #[derive(Clone, Copy, Debug, PartialEq, Eq)]
 pub enum NetworkFault {
     /// The bytes have no reading as JSON.

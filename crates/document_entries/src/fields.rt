@@ -42,7 +42,8 @@ pub fn check_fields(place: Place, names: &[&str], value: &Value) -> Result<(), S
 /// The value of a field that has to be there.
 #[tactic(auto, unfolding(crate::specs::Forms::required_field))]
 pub(crate) fn needed<'a>(place: Place, name: &str, value: &'a Value) -> Result<&'a Value, Stop>
-    ensures { AnswersAs (λ found. view found.now) result (required_field name.now place (view value.now)) }
+    ensures { AnswersAs (λ found. view found.now) result
+        (required_field name.now place (view value.now)) }
 {
     match value.get(name) {
         Some(found) => Ok(found),

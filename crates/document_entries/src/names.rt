@@ -22,7 +22,7 @@ pub fn text_of(place: Place, value: &Value) -> Result<&str, Stop>
     }
 }
 
-/// What is behind `0x` at the front.
+/// What is after `0x` at the front.
 pub(crate) fn behind_0x(text: &[u8]) -> Option<&[u8]>
     ensures { option_map (λ s. s.now) result ≡ behind_0x text.now }
 {

@@ -40,7 +40,7 @@ fn are_digits(text: &[u8]) -> bool
     text.iter().all(|digit| digit.is_ascii_digit())
 }
 
-/// Whether there is a byte, and no `0` in front of another.
+/// Whether there is a byte, and no `0` before another.
 fn is_plain(text: &[u8]) -> bool
     ensures { result ≡ is_plain text.now }
 {

@@ -32,10 +32,10 @@ pub(crate) fn location_of(alloc: Global, place: Place, value: &Value) -> Result<
     }
 }
 
-/// A reader of locations that stand at one place.
+/// A reader of locations at one position.
 #[derive(Clone, Copy)]
 struct LocationsAt {
-    /// The place.
+    /// The position.
     place: Place,
 }
 

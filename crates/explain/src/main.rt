@@ -10,7 +10,7 @@ use xcm_io::{StdSink, StdSource};
 /// The status for out of memory.
 const NO_MEMORY: u8 = 8;
 
-/// The words of the command line. Where one of them is no text an empty word stands for all, which is a faulty command line too.
+/// The words of the command line. Where one of them isn't UTF-8, an empty word is handed on instead of all, which is a faulty command line too.
 fn words(rt: &HostRuntime, alloc: Global) -> io::Result<Vec<String>> {
     match env::args(rt) {
         Ok(args) => Ok(args.skip(1).collect(alloc)?),

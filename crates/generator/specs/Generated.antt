@@ -1,6 +1,6 @@
 -- The generator: a list of steps that is drawn from a number, run in a fixed network, and what came of it. This project's own rule.
 --
---   answers      what the steps answer, one behind another, from a world on
+--   answers      what the steps answer, one after another, from a world on
 --   summary      the report of a run in a network
 --   generated    the report of a run in the network of the generator's document
 use Rattle.std.specs.Prelude.{ℕ, ◌+◌, List, [], ◌∷◌, ◌++◌, codes, decimal, count_by}
@@ -26,7 +26,7 @@ answer_to_step w Traps = StepResult.Empty
 answer_to_step w Queues = StepResult.Empty
 answer_to_step w Supply = StepResult.Empty
 
--- what the steps answer, one behind another, each in the world behind the one before it
+-- what the steps answer, one after another, each in the world after the one before it
 abbrev pub answers : List Link → World → List Step → List StepResult
 answers order w [] = []
 answers order w (step ∷ steps) = answer_to_step w step ∷ answers order (next_world order w step) steps
@@ -54,7 +54,7 @@ counts_line c =
     codes "complete " ++ (decimal c.complete ++ (codes " incomplete " ++ (decimal c.incomplete
     ++ (codes " error " ++ (decimal c.error ++ (codes " empty " ++ (decimal c.empty ++ codes "\n")))))))
 
--- of so many steps, drawn behind the number: how many ended in which way, and what the network then has of each asset
+-- of so many steps, drawn after the number: how many ended in which way, and what the network then has of each asset
 unfoldable pub summary : NetworkSpec → ℕ → ℕ → List ℕ
 summary spec number steps =
     asked_line number steps

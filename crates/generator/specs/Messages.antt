@@ -1,4 +1,4 @@
--- The messages of the steps, byte by byte; a number in brackets is how the word in front of it is spelled. Source: the XCM format, version 4,
+-- The messages of the steps, byte by byte; a number in brackets is how the word before it is spelled. Source: the XCM format, version 4,
 -- in the SCALE codec.
 use Rattle.std.specs.Prelude.{ℕ, List, [], ◌∷◌, ◌++◌, replicate}
 use Rattle.scale_codec.specs.Spelling.{compact}

@@ -7,7 +7,7 @@ use Rattle.generator.specs.declared.turns.Turn.TheVariants.{Send, Return, Down, 
 use Rattle.generator.specs.Draws.{next_draw, below}
 use Rattle.generator.specs.Messages.{send_message, return_message}
 
--- a turn of this kind with this parachain, whose value, where it has one, is drawn behind the number; and the number that was drawn last
+-- a turn of this kind with this parachain, whose value, where it has one, is drawn after the number; and the number that was drawn last
 abbrev pub turn_of_kind : ℕ → ℕ → ℕ → ℕ × Turn
 turn_of_kind kind para x =
     if kind == 0 then (next_draw x, Send (1 + below 1000 (next_draw x)) para)
@@ -15,7 +15,7 @@ turn_of_kind kind para x =
     else if kind == 2 then (x, Down para)
     else (x, Up para)
 
--- the turn that is drawn behind a number, its kind first and then its parachain; and the number that was drawn last
+-- the turn that is drawn after a number, its kind first and then its parachain; and the number that was drawn last
 unfoldable pub drawn : ℕ → ℕ × Turn
 drawn x = turn_of_kind (below 4 (next_draw x)) (2000 + below 2 (next_draw (next_draw x))) (next_draw (next_draw x))
 
@@ -26,7 +26,7 @@ step_of_turn (Return value para) = Exec (Para para) (replicate 32 2) (return_mes
 step_of_turn (Down para) = Deliver Relay (Para para)
 step_of_turn (Up para) = Deliver (Para para) Relay
 
--- so many steps, drawn one behind another behind a number
+-- so many steps, drawn one after another from a number on
 unfoldable pub steps_from : ℕ → ℕ → List Step
 steps_from zero x = []
 steps_from (suc count) x = step_of_turn (drawn x).1 ∷ steps_from count (drawn x).0

@@ -2,7 +2,7 @@
 ghost use Rattle.std.specs.Prelude.{◌≡◌, ◌<◌};
 ghost use Rattle.generator.specs.Draws.{next_draw, below};
 
-/// A sequence of numbers that looks like chance.
+/// A sequence of pseudo-random numbers.
 #[derive(Debug, Drop)]
 pub(crate) struct Draws {
     /// The number that was drawn last, or at first the one that the sequence begins with.

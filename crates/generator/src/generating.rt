@@ -60,7 +60,7 @@ fn summary(alloc: Global, net: &mut Net, number: u64, steps: u64) -> Result<Stri
     Ok(text)
 }
 
-/// Draws so many steps behind the number, runs them in the generator's network, and reports how many of them ended in which way, and what the
+/// Draws so many steps after the number, runs them in the generator's network, and reports how many of them ended in which way, and what the
 /// network then has of each asset. It reads nothing else. `Err` is out of memory alone.
 #[tactic(auto, unfolding(crate::specs::Generated::generated))]
 pub fn generate(alloc: Global, number: u64, steps: u64) -> Result<String, AllocError>

@@ -45,7 +45,7 @@ fn perform(alloc: Global, net: &mut Net, turn: Turn) -> Result<StepResult, Alloc
     }
 }
 
-/// Draws so many steps behind the number, runs them in the network, and counts how they ended.
+/// Draws so many steps after the number, runs them in the network, and counts how they ended.
 pub(crate) fn run_steps(
     alloc: Global,
     net: &mut Net,

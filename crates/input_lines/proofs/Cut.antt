@@ -1,4 +1,4 @@
--- The lines of some bytes are the one way to cut them behind each line feed.
+-- The lines of some bytes are the one way to cut them after each line feed.
 use Rattle.std.proofs.Common.{◌≡◌, ◌∙◌, ℕ, zero, suc, inl, inr, List, [], ◌∷◌, ◌++◌, refl, sym, subst, ap, arith, append-nil, append_assoc}
 use Rattle.std.proofs.lemmas.Bool.{cases_eq}
 use Rattle.std.specs.List.{concat}

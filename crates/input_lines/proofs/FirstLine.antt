@@ -3,7 +3,7 @@ use Rattle.std.proofs.Common.{◌≡◌, ◌∙◌, ℕ, zero, suc, ◌+◌, ◌
 use Rattle.input_lines.specs.Lines.{lines_of, onto}
 use Rattle.input_lines.proofs.Lemmas.{at_feed, past_other}
 
--- the first feed ends the first line, whatever comes behind
+-- the first feed ends the first line, whatever comes after
 pub first_line_suc : (bytes more : List ℕ) (i : ℕ) → i < length bytes → get_or bytes i 0 ≡ 10
     → ((k : ℕ) → k < i → get_or bytes k 0 ≡ 10 → ⊥) → lines_of (bytes ++ more) ≡ take (suc i) bytes ∷ lines_of (drop (suc i) bytes ++ more)
 first_line_suc [] more i l e before = absurd (omega arith)

@@ -10,7 +10,7 @@ pub at_space : (b : ℕ) (rest : List ℕ) → b ≡ 32 → split_word (b ∷ re
 unfolding split_word
 at_space b rest e = cond-true (eqb b 32) _ _ (eq-eqb b 32 e)
 
--- any other byte goes in front of the first word
+-- any other byte goes before the first word
 pub past_other : (b : ℕ) (rest : List ℕ) → (b ≡ 32 → ⊥) → split_word (b ∷ rest) ≡ option_map (λ x. (b ∷ x.0, x.1)) (split_word rest)
 unfolding split_word
 past_other b rest n = cond-false (eqb b 32) _ _ (ne_eqb b 32 n)

@@ -6,12 +6,12 @@ use Rattle.std.specs.List.{concat}
 use Rattle.std.specs.Prelude.{codes}
 use Rattle.input_lines.specs.Lines.{lines_of, onto, text_of, ends_network, ends_with, without_last_byte}
 
--- a line feed is a line of its own in front of the others
+-- a line feed is a line of its own before the others
 pub at_feed : (b : ℕ) (rest : List ℕ) → b ≡ 10 → lines_of (b ∷ rest) ≡ (b ∷ []) ∷ lines_of rest
 unfolding lines_of
 at_feed b rest e = cond-true (eqb b 10) _ _ (eq-eqb b 10 e)
 
--- any other byte goes in front of the first line
+-- any other byte goes before the first line
 pub past_other : (b : ℕ) (rest : List ℕ) → (b ≡ 10 → ⊥) → lines_of (b ∷ rest) ≡ onto b (lines_of rest)
 unfolding lines_of
 past_other b rest n = cond-false (eqb b 10) _ _ (ne_eqb b 10 n)
@@ -48,7 +48,7 @@ mark_short line e =
     let size : length (text_of line) ≡ 3 = ap length same in
     omega (arith, text_length line)
 
--- a byte in front of the first line stands in front of all
+-- a byte before the first line comes before all
 concat-onto : (b : ℕ) (lines : List (List ℕ)) → concat (onto b lines) ≡ b ∷ concat lines
 concat-onto b [] = refl
 concat-onto b (line ∷ lines) = refl

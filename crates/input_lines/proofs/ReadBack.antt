@@ -17,7 +17,8 @@ use Rattle.input_lines.specs.Meaning.{ChainFits, exec_line, deliver_line, claim_
 use Rattle.chain_ids.specs.Texts.{chain_text}
 use Rattle.chain_ids.specs.declared.chain.ChainId.{ChainId}
 use Rattle.chain_ids.specs.declared.chain.ChainId.TheVariants.{Relay, Para}
-use Rattle.input_lines.specs.declared.line.Line.TheVariants.{Exec, Deliver, Claim}
+use Rattle.input_lines.specs.declared.line.Line.TheVariants.{Step}
+use Rattle.input_lines.specs.declared.step.Step.TheVariants.{Exec, Deliver, Claim}
 use Rattle.input_lines.proofs.FirstWord.{at_space, past_other}
 use Rattle.input_lines.proofs.Decimals.{number_is}
 use Rattle.plain_lists.proofs.Lemmas.Facts.{false_where_not_true as false_from, decimal_numerals as own}
@@ -78,7 +79,7 @@ message_back message h =
     ∙ ap result_ok (decode_of-encode_lower message h)
 
 all_read : (chain : Option ChainId) (account message : Option (List ℕ)) (c : ChainId) (a m : List ℕ) → chain ≡ Some c → account ≡ Some a → message ≡ Some m
-    → exec_of chain account message ≡ Exec c a m
+    → exec_of chain account message ≡ Step (Exec c a m)
 all_read chain account message c a m ec ea em = rw (ec, ea, em) refl
 
 behind_exec : (words : List ℕ) → read_line (codes "exec " ++ words) ≡ exec_words (split_word words)
@@ -88,7 +89,7 @@ behind_exec words =
     cond-false (eqb (length (codes "exec " ++ words)) 0 || false) _ _ (ap (λ b. b || false) full)
 
 pub read_back : (chain : ChainId) (account message : List ℕ) → ChainFits chain → length account ≡ 32 → IsBytes account → IsBytes message
-    → read_line (exec_line chain account message) ≡ Exec chain account message
+    → read_line (exec_line chain account message) ≡ Step (Exec chain account message)
 read_back chain account message f l a m =
     let last = codes "0x" ++ encode_lower message in
     let middle = codes "0x" ++ encode_lower account in
@@ -113,20 +114,20 @@ behind_claim words =
     let full : eqb (length (codes "claim " ++ words)) 0 ≡ false = ne_eqb _ 0 (λ e. omega (arith, e)) in
     cond-false (eqb (length (codes "claim " ++ words)) 0 || false) _ _ (ap (λ b. b || false) full)
 
-both_read : (from to : Option ChainId) (f t : ChainId) → from ≡ Some f → to ≡ Some t → deliver_of from to ≡ Deliver f t
+both_read : (from to : Option ChainId) (f t : ChainId) → from ≡ Some f → to ≡ Some t → deliver_of from to ≡ Step (Deliver f t)
 both_read from to f t ef et = rw (ef, et) refl
 
 claim_read : (from to : Option ChainId) (message : Option (List ℕ)) (f t : ChainId) (m : List ℕ) → from ≡ Some f → to ≡ Some t → message ≡ Some m
-    → claim_of from to message ≡ Claim f t m
+    → claim_of from to message ≡ Step (Claim f t m)
 claim_read from to message f t m ef et em = rw (ef, et, em) refl
 
-pub deliver_back : (from to : ChainId) → ChainFits from → ChainFits to → read_line (deliver_line from to) ≡ Deliver from to
+pub deliver_back : (from to : ChainId) → ChainFits from → ChainFits to → read_line (deliver_line from to) ≡ Step (Deliver from to)
 deliver_back from to ff ft =
     behind_deliver (chain_text from ++ 32 ∷ chain_text to)
     ∙ ap deliver_words (split_behind (chain_text from) (chain_text to) (chain_no_space from ff))
     ∙ both_read _ _ from to (chain_back from ff) (chain_back to ft)
 
-pub claim_back : (from to : ChainId) (message : List ℕ) → ChainFits from → ChainFits to → IsBytes message → read_line (claim_line from to message) ≡ Claim from to message
+pub claim_back : (from to : ChainId) (message : List ℕ) → ChainFits from → ChainFits to → IsBytes message → read_line (claim_line from to message) ≡ Step (Claim from to message)
 claim_back from to message ff ft m =
     let last = codes "0x" ++ encode_lower message in
     let first = split_behind (chain_text from) (chain_text to ++ 32 ∷ last) (chain_no_space from ff) in

@@ -1,7 +1,7 @@
 -- The lines of an input, and its two parts. Source: this project's own rule.
 use Rattle.std.specs.Prelude.{◌≡◌, ◌<◌, ℕ, ◌+◌, ◌-◌, ◌==◌, ◌&&◌, ◌||◌, nat_lt, List, [], ◌∷◌, ◌++◌, length, take, slice_index, Bool, false, codes, bytes_eq, if◌then◌else◌}
 
--- the first line goes on in front with this byte
+-- this byte is put before the first line
 abbrev pub onto : ℕ → List (List ℕ) → List (List ℕ)
 onto b [] = (b ∷ []) ∷ []
 onto b (line ∷ lines) = (b ∷ line) ∷ lines
@@ -45,7 +45,7 @@ abbrev pub later_lines : List (List ℕ) → List (List ℕ)
 later_lines [] = []
 later_lines (line ∷ lines) = if ends_network line then lines else later_lines lines
 
--- how many lines stand before the later ones
+-- how many lines come before the later ones
 abbrev pub lines_through : List (List ℕ) → ℕ
 lines_through [] = 0
 lines_through (line ∷ lines) = if ends_network line then 1 else lines_through lines + 1

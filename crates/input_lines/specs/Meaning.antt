@@ -6,7 +6,7 @@ use Rattle.chain_ids.specs.Texts.{chain_text}
 use Rattle.chain_ids.specs.declared.chain.ChainId.{ChainId}
 use Rattle.chain_ids.specs.declared.chain.ChainId.TheVariants.{Relay, Para}
 
--- a line feed stands at the end, and none before
+-- a line feed is at the end, and none before
 abbrev pub IsEnded : List ℕ → Type 0
 IsEnded line = (text : List ℕ) × (line ≡ text ++ 10 ∷ []) × HasNoFeed text
 

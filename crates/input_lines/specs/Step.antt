@@ -9,18 +9,19 @@ use Rattle.input_lines.specs.Numbers.{read_number}
 use Rattle.chain_ids.specs.declared.chain.ChainId.{ChainId}
 use Rattle.chain_ids.specs.declared.chain.ChainId.TheVariants.{Relay, Para}
 use Rattle.input_lines.specs.declared.line.Line.{Line}
-use Rattle.input_lines.specs.declared.line.Line.TheVariants.{NoStep, Exec, Deliver, Claim, Drain, Balances, Traps, Queues, Supply, Refused}
+use Rattle.input_lines.specs.declared.line.Line.TheVariants.{NoStep, Step, Refused}
+use Rattle.input_lines.specs.declared.step.Step.TheVariants.{Exec, Deliver, Claim, Drain, Balances, Traps, Queues, Supply}
 
 -- an empty line or a comment
 abbrev pub is_no_step : List ℕ → Bool
 is_no_step text = length text == 0 || slice_index text 0 == 35
 
--- the bytes before the first space, and those behind it
+-- the bytes before the first space, and those after it
 unfoldable pub split_word : List ℕ → Option (List ℕ × List ℕ)
 split_word [] = None
 split_word (b ∷ rest) = if b == 32 then Some ([], rest) else option_map (λ x. (b ∷ x.0, x.1)) (split_word rest)
 
--- hex digits, without the `0x` that may stand in front
+-- hex digits, without the `0x` that may come before
 abbrev pub without_prefix : List ℕ → List ℕ
 without_prefix text = if starts_with nat_eq text (codes "0x") then drop 2 text else text
 
@@ -38,45 +39,45 @@ message_word text = if length text == 0 then None else result_ok (decode_of (wit
 
 -- all three words have to be in form
 abbrev pub exec_of : Option ChainId → Option (List ℕ) → Option (List ℕ) → Line
-exec_of (Some chain) (Some account) (Some message) = Exec chain account message
+exec_of (Some chain) (Some account) (Some message) = Step (Exec chain account message)
 exec_of (Some chain) (Some account) None = Refused
 exec_of (Some chain) None message = Refused
 exec_of None account message = Refused
 
--- an account and a message, behind a chain
+-- an account and a message, after a chain
 abbrev pub exec_tail : Option ChainId → Option (List ℕ × List ℕ) → Line
 exec_tail chain None = Refused
 exec_tail chain (Some words) = exec_of chain (account_word words.0) (message_word words.1)
 
--- a chain, and the words behind it
+-- a chain, and the words after it
 abbrev pub exec_words : Option (List ℕ × List ℕ) → Line
 exec_words None = Refused
 exec_words (Some words) = exec_tail (chain_word words.0) (split_word words.1)
 
 -- both chains have to be in form
 abbrev pub deliver_of : Option ChainId → Option ChainId → Line
-deliver_of (Some from) (Some to) = Deliver from to
+deliver_of (Some from) (Some to) = Step (Deliver from to)
 deliver_of (Some from) None = Refused
 deliver_of None to = Refused
 
--- a chain, and another behind it
+-- a chain, and another after it
 abbrev pub deliver_words : Option (List ℕ × List ℕ) → Line
 deliver_words None = Refused
 deliver_words (Some words) = deliver_of (chain_word words.0) (chain_word words.1)
 
 -- all three words have to be in form
 abbrev pub claim_of : Option ChainId → Option ChainId → Option (List ℕ) → Line
-claim_of (Some from) (Some to) (Some message) = Claim from to message
+claim_of (Some from) (Some to) (Some message) = Step (Claim from to message)
 claim_of (Some from) (Some to) None = Refused
 claim_of (Some from) None message = Refused
 claim_of None to message = Refused
 
--- another chain and a message, behind a chain
+-- another chain and a message, after a chain
 abbrev pub claim_tail : Option ChainId → Option (List ℕ × List ℕ) → Line
 claim_tail from None = Refused
 claim_tail from (Some words) = claim_of from (chain_word words.0) (message_word words.1)
 
--- a chain, and the words behind it
+-- a chain, and the words after it
 abbrev pub claim_words : Option (List ℕ × List ℕ) → Line
 claim_words None = Refused
 claim_words (Some words) = claim_tail (chain_word words.0) (split_word words.1)
@@ -84,11 +85,11 @@ claim_words (Some words) = claim_tail (chain_word words.0) (split_word words.1)
 -- a line of one word
 abbrev pub lone_word : List ℕ → Line
 lone_word text =
-    if bytes_eq text (codes "drain") then Drain
-    else (if bytes_eq text (codes "balances") then Balances
-    else (if bytes_eq text (codes "traps") then Traps
-    else (if bytes_eq text (codes "queues") then Queues
-    else (if bytes_eq text (codes "supply") then Supply else Refused))))
+    if bytes_eq text (codes "drain") then Step Drain
+    else (if bytes_eq text (codes "balances") then Step Balances
+    else (if bytes_eq text (codes "traps") then Step Traps
+    else (if bytes_eq text (codes "queues") then Step Queues
+    else (if bytes_eq text (codes "supply") then Step Supply else Refused))))
 
 -- what a line asks for
 unfoldable pub read_line : List ℕ → Line

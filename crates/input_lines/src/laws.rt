@@ -9,8 +9,9 @@ ghost use Rattle.input_lines.specs.Meaning.{AreLines, ChainFits, exec_line, deli
 ghost use Rattle.chain_ids.specs.declared.chain.ChainId.{ChainId};
 
 use crate::line::Line;
+use crate::step::Step;
 
-/// The lines of some bytes are the one way to cut them behind each line feed.
+/// The lines of some bytes are the one way to cut them after each line feed.
 pub fn law_of_unique_lines()
     ensures lines { (bytes : List ℕ) → AreLines (lines_of bytes) }
     ensures whole { (bytes : List ℕ) → concat (lines_of bytes) ≡ bytes }
@@ -22,15 +23,17 @@ pub fn law_of_unique_lines()
 pub fn law_of_step_lines()
     ensures exec { (chain : ChainId) (account message : List ℕ)
         → ChainFits chain → length account ≡ 32 → IsBytes account → IsBytes message
-        → read_line (exec_line chain account message) ≡ Line.Exec chain account message }
+        → read_line (exec_line chain account message)
+        ≡ Line.Step (Step.Exec chain account message) }
     ensures deliver { (from to : ChainId)
-        → ChainFits from → ChainFits to → read_line (deliver_line from to) ≡ Line.Deliver from to }
+        → ChainFits from → ChainFits to
+        → read_line (deliver_line from to) ≡ Line.Step (Step.Deliver from to) }
     ensures claim { (from to : ChainId) (message : List ℕ)
         → ChainFits from → ChainFits to → IsBytes message
-        → read_line (claim_line from to message) ≡ Line.Claim from to message }
-    ensures drain { read_line (codes "drain") ≡ Line.Drain }
-    ensures balances { read_line (codes "balances") ≡ Line.Balances }
-    ensures traps { read_line (codes "traps") ≡ Line.Traps }
-    ensures queues { read_line (codes "queues") ≡ Line.Queues }
-    ensures supply { read_line (codes "supply") ≡ Line.Supply }
+        → read_line (claim_line from to message) ≡ Line.Step (Step.Claim from to message) }
+    ensures drain { read_line (codes "drain") ≡ Line.Step Step.Drain }
+    ensures balances { read_line (codes "balances") ≡ Line.Step Step.Balances }
+    ensures traps { read_line (codes "traps") ≡ Line.Step Step.Traps }
+    ensures queues { read_line (codes "queues") ≡ Line.Step Step.Queues }
+    ensures supply { read_line (codes "supply") ≡ Line.Step Step.Supply }
 {}

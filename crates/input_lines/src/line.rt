@@ -3,51 +3,18 @@
 ghost use Rattle.std.specs.Prelude.{◌≡◌, IfOk};
 ghost use Rattle.input_lines.specs.Step.{read_line, exec_words, deliver_words, claim_words, lone_word, split_word};
 
+use crate::step::Step;
 use crate::words::{account_word, chain_word, message_word, split_word};
-use chain_ids::ChainId;
 use plain_lists::Listed;
 use std::alloc::{AllocError, Global};
 
 /// What a line after the network asks for.
 #[derive(Debug, Drop)]
 pub enum Line {
-    /// An empty line or a comment.
+    /// Nothing: an empty line or a comment.
     NoStep,
-    /// The local execution of a message on behalf of an account.
-    Exec {
-        /// Where the message is executed.
-        chain: ChainId,
-        /// The account.
-        account: [u8; 32],
-        /// The message's bytes. Contracts see them as their list.
-        message: Listed<u8>,
-    },
-    /// The delivery of the oldest message of a channel.
-    Deliver {
-        /// The chain that sent it.
-        from: ChainId,
-        /// The chain that takes it.
-        to: ChainId,
-    },
-    /// A claim that a chain sends in its own name.
-    Claim {
-        /// The chain that sends it.
-        from: ChainId,
-        /// The chain that it goes to.
-        to: ChainId,
-        /// The message's bytes. Contracts see them as their list.
-        message: Listed<u8>,
-    },
-    /// Deliveries until no message waits.
-    Drain,
-    /// What the accounts hold.
-    Balances,
-    /// What is trapped.
-    Traps,
-    /// What waits in the channels.
-    Queues,
-    /// What the assets sum to.
-    Supply,
+    /// This step.
+    Step(Step),
     /// No line of the list.
     Refused,
 }
@@ -78,19 +45,19 @@ fn read_lone_word(text: &[u8]) -> Line
     ensures { result ≡ lone_word text.now }
 {
     if text == b"drain".as_slice() {
-        return Line::Drain;
+        return Line::Step(Step::Drain);
     }
     if text == b"balances".as_slice() {
-        return Line::Balances;
+        return Line::Step(Step::Balances);
     }
     if text == b"traps".as_slice() {
-        return Line::Traps;
+        return Line::Step(Step::Traps);
     }
     if text == b"queues".as_slice() {
-        return Line::Queues;
+        return Line::Step(Step::Queues);
     }
     if text == b"supply".as_slice() {
-        return Line::Supply;
+        return Line::Step(Step::Supply);
     }
     Line::Refused
 }
@@ -108,7 +75,7 @@ fn read_delivery(words: &[u8]) -> Line
     let Some(to) = chain_word(to) else {
         return Line::Refused;
     };
-    Line::Deliver { from, to }
+    Line::Step(Step::Deliver { from, to })
 }
 
 /// Reads the words of a claim.
@@ -128,11 +95,11 @@ fn read_claim(alloc: Global, words: &[u8]) -> Result<Line, AllocError>
         return Ok(Line::Refused);
     };
     match message_word(alloc, message)? {
-        Some(message) => Ok(Line::Claim {
+        Some(message) => Ok(Line::Step(Step::Claim {
             from,
             to,
             message: Listed::from_vec(message),
-        }),
+        })),
         None => Ok(Line::Refused),
     }
 }
@@ -154,11 +121,11 @@ fn read_exec(alloc: Global, words: &[u8]) -> Result<Line, AllocError>
         return Ok(Line::Refused);
     };
     match message_word(alloc, message)? {
-        Some(message) => Ok(Line::Exec {
+        Some(message) => Ok(Line::Step(Step::Exec {
             chain,
             account,
             message: Listed::from_vec(message),
-        }),
+        })),
         None => Ok(Line::Refused),
     }
 }

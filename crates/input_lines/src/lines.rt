@@ -5,7 +5,7 @@ ghost use Rattle.input_lines.specs.Lines.{HasNoFeed, lines_of, text_of, ends_net
 
 use memchr::memchr;
 
-/// The length in bytes of the first line with its line feed, or `None` where no line feed stands.
+/// The length in bytes of the first line with its line feed, or `None` where there is no line feed.
 pub fn line_len(bytes: &[u8]) -> Option<usize>
     ensures none { IfNone result (0 < length bytes.now → lines_of bytes.now ≡ bytes.now ∷ []) }
     ensures open { IfNone result (HasNoFeed bytes.now) }

@@ -9,7 +9,7 @@ use chain_ids::ChainId;
 use hex::{FromHex, FromHexError};
 use std::alloc::{AllocError, Global};
 
-/// The bytes before the first space, and those behind it.
+/// The bytes before the first space, and those after it.
 pub(crate) fn split_word(words: &[u8]) -> Option<(&[u8], &[u8])>
     ensures { split_values result ≡ split_word words.now }
 {
@@ -21,7 +21,7 @@ pub(crate) fn split_word(words: &[u8]) -> Option<(&[u8], &[u8])>
     None
 }
 
-/// The digits behind the `0x` that may stand in front.
+/// The digits after the `0x` that may come before.
 fn without_prefix(text: &[u8]) -> &[u8]
     ensures { result.now ≡ without_prefix text.now }
 {
@@ -48,7 +48,7 @@ pub(crate) fn account_word(text: &[u8]) -> Option<[u8; 32]>
     <[u8; 32] as FromHex>::from_hex(without_prefix(text)).ok()
 }
 
-/// The bytes of a message in hex: an even number of digits, either case, with `0x` in front or without; `None` for other texts and for
+/// The bytes of a message in hex: an even number of digits, either case, with `0x` before or without; `None` for other texts and for
 /// no text. `Err` is out of memory alone.
 pub fn message_word(alloc: Global, text: &[u8]) -> Result<Option<Vec<u8>>, AllocError>
     ensures { IfOk result (λ bytes. option_map (λ v. v.items) bytes ≡ message_word text.now) }

@@ -1,4 +1,4 @@
--- Lines that are taken whole, whatever comes behind them.
+-- Lines that are taken whole, whatever comes after them.
 use Rattle.std.proofs.Common.{◌≡◌, ◌≢◌, ◌∙◌, inl, inr, ◌≤◌, ◌+◌, ◌-◌, ℕ, Bool, true, false, List, [], ◌∷◌, ◌++◌, length, take, drop, refl, sym, ap, subst, Option, Some, None, Result, Ok, Err, append_assoc, append-nil, arith, length-take, length-drop}
 use Rattle.std.proofs.lemmas.List.{drop-drop}
 use Rattle.std.proofs.KnownBytes.{Appends-nil, Appends-trans}
@@ -25,7 +25,7 @@ then_proper whole rest text more e f = (f.0, ap (λ o. o.text) e ∙ ap (λ t. t
 pub then_ends : (whole rest : Reply) (text more : List ℕ) (status : Status) → whole ≡ then_on text rest → rest ≡ ends more status → whole ≡ ends (text ++ more) status
 then_ends whole rest text more status e r = e ∙ ap (then_on text) r
 
--- where no line comes behind, just the text
+-- where no line comes after, just the text
 pub then_nothing : (whole rest : Reply) (text : List ℕ) → whole ≡ then_on text rest → rest ≡ ends [] Done → whole ≡ ends text Done
 then_nothing whole rest text e n = e ∙ ap (then_on text) n ∙ ap (λ t. ends t Done) (append-nil text)
 
@@ -100,7 +100,7 @@ module _ {M : Type 0} (replies : M → Replies) (rooms : M → Rooms) where
           };
         }
 
-    -- memory was refused behind the lines
+    -- memory was refused after the lines
     pub flows_err : {E : Type 0} (refused : E) → StopsRun (replies machine) bytes old mid (Err refused)
     flows_err refused = record {
       text = f.text;
@@ -150,7 +150,7 @@ ends_empty replies bytes old new result z r f =
     }
 
 module _ (replies then : Replies) (bytes : List ℕ) (old mid : Option (List ℕ)) (line : lines_of bytes ≡ bytes ∷ []) (ready : replies false [] ≡ ends [] Done) where
-  -- the last line is taken, and the input ends behind it
+  -- the last line is taken, and the input ends after it
   pub ends_behind : {E F : Type 0} (due : List ℕ) (new : Option (List ℕ)) (taken : Result (Option Status) F) (result : Result Status E) → taken ≡ Ok None → then false [] ≡ ends [] Done
       → Advances (λ (x : Bool × List (List ℕ)). replies x.0 (bytes ∷ x.1)) (λ x. then x.0 x.1) due old mid taken → Finishes (then true []) mid new result → EndsRun replies bytes old new result
   ends_behind due new taken result t r a f = record {

@@ -1,5 +1,5 @@
 -- For the proofs of crates above; a reader of the definitions can leave it out. How a call that writes a text goes on with the run.
--- ---- fronts
+-- ---- prefixes
 use Rattle.std.proofs.Common.{◌≡◌, ◌≢◌, ◌∙◌, inl, inr, ℕ, suc, ◌<◌, List, [], ◌∷◌, ◌++◌, length, length-append, refl, sym, ap, Option, Some, None, Result, Ok, Err, false, append_assoc, append-nil, arith}
 use Rattle.std.proofs.KnownBytes.{Appends-nil}
 use Rattle.input_lines.specs.Lines.{lines_of, HasNoFeed, onto}
@@ -11,15 +11,15 @@ use Rattle.line_serving.specs.Replies.{Reply, Replies, Rooms, ends, then_on}
 use Rattle.line_serving.specs.Serving.{ReadInTime}
 use Rattle.line_serving.specs.Calls.{Writes, Advances, Finishes}
 
--- what was written of a text is a front of it
+-- what was written of a text is a prefix of it
 pub wrote_front : (text : List ℕ) (answer : Option Status) (old new : Option (List ℕ)) (result : Option Status) (w : Writes text answer old new result) → IsFront w.part text
 wrote_front text answer old new result w = elim w.whole [ inl h ↦ ([], sym (append-nil text) ∙ ap (λ t. t ++ []) (sym h.1)) | inr h ↦ (h.1.0, h.1.1) ]
 
--- a front of a text is a front of what begins with the text
+-- a prefix of a text is a prefix of what begins with the text
 pub front_on : (part text : List ℕ) (rest whole : Reply) → IsFront part text → whole ≡ then_on text rest → IsFront part whole.text
 front_on part text rest whole f e = (f.0 ++ rest.text, ap (λ o. o.text) e ∙ ap (λ t. t ++ rest.text) f.1 ∙ append_assoc part f.0 rest.text)
 
--- the same of a proper front
+-- the same of a proper prefix
 pub proper_on : (part text more whole : List ℕ) → IsProperFront part text → whole ≡ text ++ more → IsProperFront part whole
 proper_on part text more whole f e =
     (f.0 ++ more, e ∙ ap (λ t. t ++ more) f.1 ∙ append_assoc part f.0 more, omega (arith, length-append f.0 more, f.2))

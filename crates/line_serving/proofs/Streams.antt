@@ -109,7 +109,7 @@ module _ {M : Type 0} (replies : M → Replies) (rooms : M → Rooms) (start : M
   stream_so_far : replies machine false [] ≡ ends [] Done → HasNoFeed pending → so_far (replies start) s.taken ≡ ends s.text Done
   stream_so_far r n = ap (λ l. replies start false (filter (ends_with 10) l)) stream_lines ∙ ap (replies start false) (whole_of s.reported pending s.whole n) ∙ stream_reported r
 
-  -- what is written is a front of it, whatever comes
+  -- what is written is a prefix of it, whatever comes
   stream_ahead : (more : List ℕ) → IsFront s.text (bytes_reply (replies start) (s.taken ++ more)).text
   stream_ahead more = ((replies machine true (lines_of (pending ++ more))).text, ap (λ o. o.text) (stream_bytes more))
 
@@ -194,7 +194,7 @@ module _ {M : Type 0} (replies : M → Replies) (rooms : M → Rooms) (start : M
     in_time = stream_in_time piece f.text r n begun few;
   }
 
--- ---- what is behind a line that ends in the last piece
+-- ---- what is after a line that ends in the last piece
 
 last_feed : (line : List ℕ) (some : Bool) → (some && eqb (get_or line (length line - 1) 0) 10) ≡ true → get_or line (length line - 1) 0 ≡ 10
 last_feed line true e = eqb-true (get_or line (length line - 1) 0) 10 e
@@ -263,7 +263,7 @@ module _ {M : Type 0} (replies : M → Replies) (rooms : M → Rooms) (start : M
     reported = then_ends _ _ s.text text Done (s.goes false i.before) i.reported;
   }
 
-  -- what comes behind a piece
+  -- what comes after a piece
   piece_bytes : (piece more : List ℕ) → bytes_reply (replies start) ((s.taken ++ piece) ++ more) ≡ then_on s.text (replies machine true (lines_of ((pending ++ piece) ++ more)))
   piece_bytes piece more = ap (replies start true) (joined_more replies rooms start left rest old now machine pending s piece more) ∙ s.goes true (lines_of ((pending ++ piece) ++ more))
 

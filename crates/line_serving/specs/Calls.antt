@@ -7,7 +7,7 @@ use Rattle.line_serving.specs.Replies.{Reply, ends, then_on}
 use Rattle.line_serving.specs.declared.status.Status.{Status}
 use Rattle.line_serving.specs.declared.status.Status.TheVariants.{WriteFault, ReadFault, TooLong, Done, Usage}
 
--- the text was written and this is the answer, or the write failed with a proper front of it written
+-- the text was written and this is the answer, or the write failed with a proper prefix of it written
 pub record Writes (text : List ℕ) (answer : Option Status) (old new : Option (List ℕ))
     (result : Option Status) : Type 0 where
   pub part : List ℕ
@@ -15,9 +15,9 @@ pub record Writes (text : List ℕ) (answer : Option Status) (old new : Option (
   pub whole : ((result ≡ answer) × (part ≡ text))
       ⊎ ((result ≡ Some WriteFault) × IsProperFront part text)
 
--- A call went from `before` to `after`, which say what is still to come. What it wrote is a front of that. Where it answers
+-- A call went from `before` to `after`, which say what is still to come. What it wrote is a prefix of that. Where it answers
 -- `None` the run goes on, and where it answers a status other than a fault the run is over. A write that failed wrote a proper
--- front of `due`. TooLong is answered before anything is written.
+-- prefix of `due`. TooLong is answered before anything is written.
 pub record Advances {X E : Type 0} (before after : X → Reply) (due : List ℕ)
     (old new : Option (List ℕ)) (result : Result (Option Status) E) : Type 0 where
   pub text : List ℕ
@@ -39,8 +39,8 @@ pub record HasWriteCause {E : Type 0} (old new : ℕ)
   pub no_usage : result ≢ Ok (Some Usage)
   pub no_done : result ≢ Ok (Some Done)
 
--- At the end of the input the run is over. What was written is a front of what was still to come, and all of it unless a write
--- failed, which wrote a proper front of it.
+-- At the end of the input the run is over. What was written is a prefix of what was still to come, and all of it unless a write
+-- failed, which wrote a proper prefix of it.
 pub record Finishes {E : Type 0} (rest : Reply) (old new : Option (List ℕ))
     (result : Result Status E) : Type 0 where
   pub text : List ℕ

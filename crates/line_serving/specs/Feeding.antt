@@ -1,5 +1,5 @@
--- A machine over pieces of its input: whatever pieces the lines come in. `replies` says what each machine has still to reply, `rooms` what may
--- stand of a line behind the lines that come. Source: this project's own rule.
+-- A machine over pieces of its input: whatever pieces the lines come in. `replies` says what each machine has still to reply, `rooms` how
+-- many bytes of a further line may come. Source: this project's own rule.
 use Rattle.std.specs.Prelude.{◌≡◌, ◌≢◌, ◌⊎◌, ◌≤◌, ℕ, List, [], ◌∷◌, ◌++◌, length, Bool, true, false, Option, Some, None, Result, Ok}
 use Rattle.std.specs.Io.KnownBytes.{Appends}
 use Rattle.xcm_io.specs.Bytes.{IsFront, IsProperFront}

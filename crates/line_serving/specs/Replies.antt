@@ -48,11 +48,11 @@ fits_limits taken line =
 -- ---- replies to lines
 
 -- What is replied to these lines, at whose end the input ends or not. Where the input doesn't end, the text is what is written for them whatever
--- lines come behind, and Done says that so far no limit is passed and nothing is refused.
+-- lines come after, and Done says that so far no limit is passed and nothing is refused.
 abbrev pub Replies : Type 0
 Replies = Bool → List (List ℕ) → Reply
 
--- what may stand of a line, so many bytes, behind these lines
+-- so many bytes of a line may come after these lines
 abbrev pub Rooms : Type 1
 Rooms = List (List ℕ) → ℕ → Type 0
 

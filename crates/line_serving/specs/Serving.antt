@@ -1,4 +1,4 @@
--- What a run over a source and a sink did. `replies` says what is replied to the lines of an input, `room` what may stand of a line behind some of
+-- What a run over a source and a sink did. `replies` says what is replied to the lines of an input, `room` how many bytes of a line may come after some of
 -- them. Source: this project's own rule.
 use Rattle.std.specs.Prelude.{◌≡◌, ◌⊎◌, ◌<◌, ◌≤◌, ℕ, List, [], ◌∷◌, ◌++◌, length, true, false, Option, Result, Ok, IfSome}
 use Rattle.std.specs.List.{concat}
@@ -9,9 +9,9 @@ use Rattle.line_serving.specs.Replies.{Replies, Rooms, IsFault, bytes_reply, who
 use Rattle.line_serving.specs.declared.status.Status.{Status}
 use Rattle.line_serving.specs.declared.status.Status.TheVariants.{Done, ReadFault, WriteFault, TooLong}
 
--- The write failed in the report of a line, the first whose report isn't written whole: what stands written has the report of all
--- lines before it, and a proper front of that up to its own end. The line is whole, or nothing is left to take. Fewer than 65,536 bytes
--- behind its end were taken.
+-- The write failed in the report of a line, the first whose report isn't written whole: what is written has the report of all
+-- lines before it, and a proper prefix of that up to its own end. The line is whole, or nothing is left to take. Fewer than 65,536 bytes
+-- after its end were taken.
 pub record FailedInLine (replies : Replies) (taken text : List ℕ)
     (left : Option (List ℕ)) : Type 0 where
   pub before : List (List ℕ)
@@ -30,16 +30,16 @@ pub record FailedAtEnd (replies : Replies) (taken text : List ℕ)
   pub short : IsProperFront text (bytes_reply replies taken).text
   pub ended : IsAtEnd left
 
--- What stands written is the report of the first lines, so many, none of which is refused or past a limit.
+-- What is written is the report of the first lines, so many, none of which is refused or past a limit.
 pub record StoppedAtLimit (replies : Replies) (taken text : List ℕ) : Type 0 where
   pub before : List (List ℕ)
   pub behind : List (List ℕ)
   pub lines : lines_of taken ≡ before ++ behind
   pub reported : replies false before ≡ ends text Done
 
--- Nothing is read behind what decides how the run ends. Of what was taken the last read gave at most 65,536 bytes. What came before it
--- decides nothing: of its whole lines none is refused or past a limit, all that is reported of them stands written, and there is room for what
--- stands of the line that is begun behind them.
+-- Nothing is read after what decides how the run ends. Of what was taken the last read gave at most 65,536 bytes. What came before it
+-- decides nothing: of its whole lines none is refused or past a limit, all that is reported of them is written, and there is room for what
+-- there is of the line that is begun after them.
 pub record ReadInTime (replies : Replies) (room : Rooms) (taken text : List ℕ) : Type 0 where
   pub before : List ℕ
   pub piece : List ℕ
@@ -52,10 +52,10 @@ pub record ReadInTime (replies : Replies) (room : Rooms) (taken text : List ℕ)
   pub undecided : so_far replies before ≡ ends told Done
   pub written : IsFront told text
 
--- These bytes were taken and this text was written, a front of their report, and of that of the whole input, whatever of it wasn't taken. It is
+-- These bytes were taken and this text was written, a prefix of their report, and of that of the whole input, whatever of it wasn't taken. It is
 -- the whole of the input's report, and the answer its fate, unless source or sink failed. With ReadFault the whole lines taken pass no limit and none is refused, and the
--- text is exactly their report. With WriteFault the failure stands in the first line whose report isn't written whole, and little
--- was taken behind it. With TooLong the text is exactly the report of lines that are within the limits. Whatever the answer, nothing was read behind
+-- text is exactly their report. With WriteFault the failure is in the first line whose report isn't written whole, and little
+-- was taken after it. With TooLong the text is exactly the report of lines that are within the limits. Whatever the answer, nothing was read after
 -- what decides it.
 pub record Serves {E : Type 0} (replies : Replies) (room : Rooms)
     (left rest old new : Option (List ℕ)) (result : Result Status E) : Type 0 where

@@ -16,7 +16,7 @@ const MAX_LINE: usize = 262_144;
 pub(crate) const PIECE: usize = 65_536;
 
 /// Whether a line is within its limit of 262,144 bytes, its line feed left out, and the input up to its end within 67,108,864, of which so
-/// many stand before it.
+/// many come before it.
 pub fn fits_limits(taken: u64, line: &[u8]) -> bool
     requires { taken + length line.now < 2 ^ 64 }
     ensures { result ≡ fits_limits taken line.now }

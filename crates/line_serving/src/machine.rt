@@ -16,7 +16,7 @@ pub trait LineMachine {
     /// What is written from here on where these lines come, at whose end the input ends or not, and the answer.
     ghost replies: { Self → Replies };
 
-    /// Behind these lines so many bytes of a line, which isn't whole, may be within the limits.
+    /// After these lines so many bytes of a line, which isn't whole, may be within the limits.
     ghost rooms: { Self → Rooms };
 
     /// How many bytes the lines had that it has taken.

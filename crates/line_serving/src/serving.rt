@@ -20,7 +20,7 @@ pub fn serve<M: LineMachine + Drop, I: Source, O: Sink>(
     out: &mut O,
 ) -> Result<Status, AllocError>
     requires { M.is_ready machine }
-    // What stands written is a front of the report of what was taken, and which: whatever happens.
+    // What is written is a prefix of the report of what was taken, and which: whatever happens.
     ensures run { Serves (M.replies machine) (M.rooms machine) (I.left input.old) (I.left input.new)
         (O.written out.old) (O.written out.new) result }
 

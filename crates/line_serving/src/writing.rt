@@ -22,7 +22,7 @@ pub fn write_text<O: Sink>(out: &mut O, text: &str, answer: Option<Status>) -> O
     }
 }
 
-/// Writes a text, behind which the run is over with this answer. The answer is the one handed in, or a write fault.
+/// Writes a text, after which the run is over with this answer. The answer is the one handed in, or a write fault.
 pub fn write_reply<O: Sink>(out: &mut O, text: &str, answer: Status) -> Status
     requires read { answer ≢ Status.ReadFault }
     requires write { answer ≢ Status.WriteFault }

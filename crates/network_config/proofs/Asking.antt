@@ -59,7 +59,7 @@ asked_more : (old new : List QueryKey) (xs : List (ℕ × ChainId)) (k : ℕ) (x
     → (q : QueryKey) → is_asked new q ≡ list_any (of_query q) (take (k + 1) xs)
 asked_more old new xs k x l e added asked q = rw (take_more xs k x l, ← e) (added q ∙ ap (λ b. of_query q x || b) (asked q) ∙ sym (any_push (of_query q) (take k xs) x))
 
--- the entry at a place
+-- the entry at an index
 module _ (chains : List ChainSpec) (here : ChainId) (chain : Option ℕ) (xs : List (ℕ × ChainId)) (k i : ℕ) (d : ℕ × ChainId) (keys : List QueryKey) (l : k < length xs)
     (entries : each_in (query_flaws chains here) chain Queries 0 [] xs ≡ each_in (query_flaws chains here) chain Queries i (take k xs) (drop k xs))
     (asked : (q : QueryKey) → is_asked keys q ≡ list_any (of_query q) (take k xs)) where

@@ -1,4 +1,4 @@
--- The first place of a name tells which of the first chains have it.
+-- The first index of a name tells which of the first chains have it.
 use Rattle.std.proofs.Common.{◌≡◌, ◌∙◌, ℕ, zero, suc, ◌+◌, ◌≤◌, List, [], ◌∷◌, take, refl, ap, Bool, true, false, cond, Option, Some, None, arith}
 use Rattle.std.specs.Prelude.{nat_lt, ◌||◌, is_some}
 use Rattle.std.specs.List.{list_any, position_from}
@@ -10,7 +10,7 @@ use Rattle.chain_ids.specs.contracts.chain.ChainIdPartialEq.TheImpl as derived
 use Rattle.chain_ids.specs.Chains.{same_chain}
 use Rattle.network_config.specs.Names.{named_place}
 
--- whether the place, if there is one, is before this one
+-- whether the index, if there is one, is before this one
 abbrev pub lies_before : ℕ → Option ℕ → Bool
 lies_before at None = false
 lies_before at (Some place) = nat_lt place at

@@ -23,7 +23,7 @@ use Rattle.document_entries.specs.Entries.{made, u32, barrier, rate, asset_row, 
 use Rattle.network_config.specs.declared.head.ChainHead.{ChainHead}
 use Rattle.network_config.specs.declared.head.Served.{Served}
 
--- ---- places
+-- ---- positions
 
 -- the document as a whole
 abbrev pub top : Place

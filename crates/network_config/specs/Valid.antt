@@ -43,7 +43,7 @@ abbrev pub fits_fun : Fun → Bool
 fits_fun (Fungible amount) = nat_lt 0 amount && nat_lt amount amount_limit
 fits_fun (NonFungible instance) = true
 
--- a place defines the asset
+-- a location defines the asset
 abbrev pub has_place : AssetId → Bool
 has_place (Concrete location) = true
 has_place (Abstract bytes) = false

@@ -30,14 +30,14 @@ struct InChain {
 }
 
 impl InChain {
-    /// The place of the chain's own fields.
+    /// The position of the chain's own fields.
     fn fields(self) -> Place
         ensures { result ≡ fields_of self.chain }
     {
         self.at(Section::Fields, 0)
     }
 
-    /// The place of an entry of one of its lists.
+    /// The position of an entry of one of its lists.
     fn at(self, section: Section, index: u32) -> Place
         ensures { result ≡ in_chain self.chain section index }
     {

@@ -53,7 +53,8 @@ fn network_of(place: Place, value: &Value) -> Result<NetworkId, Stop>
 
 /// The network, which may be absent.
 fn network_field(place: Place, value: &Value) -> Result<NetworkId, Stop>
-    ensures { Answers result (defaulted (codes "network") Polkadot network_id_form place (view value.now)) }
+    ensures { Answers result
+        (defaulted (codes "network") Polkadot network_id_form place (view value.now)) }
 {
     match value.get("network") {
         Some(network) => network_of(place, network),

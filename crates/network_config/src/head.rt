@@ -62,7 +62,7 @@ fn weight_field(place: Place, name: &str, missing: Weight, value: &Value) -> Res
     }
 }
 
-/// A number of a range, or the range's end where it isn't there.
+/// A number of a range, or the range's last number where it isn't there.
 fn number_field(place: Place, name: &str, low: u32, high: u32, value: &Value) -> Result<u32, Stop>
     ensures { Answers result (defaulted name.now high (number_within low high) place
         (view value.now)) }

@@ -1,5 +1,5 @@
 //! The accounts of a chain, looked at beside one another: each of an asset's row and an account, or of an instance.
-ghost use Rattle.std.specs.Prelude.{◌≡◌, ◌||◌, [], true, map, IfOk, OnOk, if◌then◌else◌};
+ghost use Rattle.std.specs.Prelude.{◌≡◌, ◌||◌, [], true, map, IfOk, OnOk, if◌then◌else◌, not};
 ghost use Rattle.std.specs.Ordering.{eq_by_cmp};
 ghost use Rattle.std.specs.List.{IsDistinct};
 ghost use Rattle.asset_lists.specs.Listed.{listed_cmp};
@@ -13,7 +13,7 @@ ghost use Rattle.network_config.specs.Holdings as spec;
 
 use asset_lists::{Fun, Instance, Kind};
 use document_entries::{NetworkFault, Place, Section, Stop};
-use ledgers::AssetTable;
+use ledgers::{AccountKey, AssetTable};
 use locations::Location;
 use network_spec::Balance;
 use std::alloc::{AllocError, Global};
@@ -21,19 +21,19 @@ use std::collections::BTreeSet;
 use trust_tables::AssetRow;
 
 /// The number of an asset's row with an account, or the number and an instance.
-type Holding = ((u32, Option<[u8; 32]>), Option<Instance>);
+type Holding = ((u32, Option<AccountKey>), Option<Instance>);
 
 /// What an entry whose asset has this row is of.
 fn holding_of(row: u32, balance: &Balance) -> Holding
     ensures { result ≡ spec.holding_key_of row balance.now }
 {
     match balance.asset.fun {
-        Fun::Fungible(_) => ((row, Some(balance.who)), None),
+        Fun::Fungible(_) => ((row, Some(AccountKey::of(&balance.who))), None),
         Fun::NonFungible(instance) => ((row, None), Some(instance)),
     }
 }
 
-/// The assets that the rows list, by their places.
+/// The assets that the rows list, by their locations.
 fn places(alloc: Global, rows: &[AssetRow]) -> Result<Vec<(Location, Kind)>, AllocError>
     ensures { IfOk result (λ list. map listed_pair list.items ≡ listing rows.now) }
 {
@@ -44,7 +44,7 @@ fn places(alloc: Global, rows: &[AssetRow]) -> Result<Vec<(Location, Kind)>, All
     Ok(list)
 }
 
-/// The table of the assets that the rows list. A row's number is its place.
+/// The table of the assets that the rows list. A row's number is its index.
 fn row_table(alloc: Global, rows: &[AssetRow]) -> Result<AssetTable, AllocError>
     requires distinct { IsDistinct (eq_by_cmp listed_cmp) (listing rows.now) }
     ensures { IfOk result (λ table. table ≡ listing rows.now) }
@@ -64,20 +64,14 @@ fn listed_number(table: &AssetTable, balance: &Balance) -> Option<u32>
     table.number_of(&balance.asset.id, balance.asset.kind())
 }
 
-/// Whether one of the holdings is this one.
-fn has(held: &BTreeSet<Holding>, holding: &Holding) -> bool
-    ensures { result ≡ is_held held.now.keys holding.now }
-{
-    held.contains(holding)
-}
-
-/// Adds a holding.
-fn add(held: &mut BTreeSet<Holding>, holding: Holding) -> Result<(), AllocError>
-    ensures { OnOk result ((q : HoldingKey) → is_held held.new.keys q
+/// Adds a holding, and says whether it wasn't one of them.
+fn add(held: &mut BTreeSet<Holding>, holding: Holding) -> Result<bool, AllocError>
+    ensures is_new { IfOk result (λ is_new. is_new ≡ not (is_held held.old.keys holding)) }
+    ensures added { OnOk result ((q : HoldingKey) → is_held held.new.keys q
         ≡ (if eq_by_cmp holding_key_cmp holding q then true else is_held held.old.keys q)) }
 {
-    held.insert(holding)?;
-    Ok(())
+    let is_new = held.insert(holding)?;
+    Ok(is_new)
 }
 
 /// Adds what an entry is of, and refuses one whose asset no row lists, or that says anew what an earlier one has said.
@@ -97,11 +91,9 @@ fn add_account(
         return Err(Stop::Fault(NetworkFault::BadValue(place)));
     };
     let holding = holding_of(row, balance);
-    if has(held, &holding) {
-        return Err(Stop::Fault(NetworkFault::Repeated(place)));
-    }
     match add(held, holding) {
-        Ok(()) => Ok(()),
+        Ok(true) => Ok(()),
+        Ok(false) => Err(Stop::Fault(NetworkFault::Repeated(place))),
         Err(_) => Err(Stop::Memory),
     }
 }

@@ -1,4 +1,4 @@
-//! The network document: from bytes to the network that they describe, or the first fault and its place.
+//! The network document: from bytes to the network that they describe, or the first fault and its position.
 #![tactic(auto)]
 
 mod chains;

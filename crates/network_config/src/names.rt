@@ -1,4 +1,4 @@
-//! The chains of a document, and the places of their names.
+//! The chains of a document, and the indices of their names.
 ghost use Rattle.std.specs.Prelude.{◌≡◌, Some, IfOk, OnOk, take, if◌then◌else◌};
 ghost use Rattle.std.specs.List.{list_any};
 ghost use Rattle.chain_ids.specs.declared.chain.ChainId.{ChainId};
@@ -11,7 +11,7 @@ use network_spec::ChainSpec;
 use std::alloc::{AllocError, Global};
 use std::marker::Model;
 
-/// The place of a name.
+/// The index of a name.
 fn named_place(places: &IndexMap<ChainId, usize>, chain: ChainId) -> Option<usize>
     ensures { result ≡ named_place places.now.entries chain }
 {
@@ -21,7 +21,7 @@ fn named_place(places: &IndexMap<ChainId, usize>, chain: ChainId) -> Option<usiz
     }
 }
 
-/// Puts a name at a place.
+/// Puts a name at an index.
 fn put_name(
     places: &mut IndexMap<ChainId, usize>,
     chain: ChainId,
@@ -34,7 +34,7 @@ fn put_name(
     Ok(())
 }
 
-/// The chains of a document, with the place at which each name stands first.
+/// The chains of a document, with the index at which each name comes first.
 #[derive(Drop)]
 pub(crate) struct NamedChains<'a> {
     chains: &'a [ChainSpec],
@@ -54,7 +54,7 @@ impl<'a> Model for NamedChains<'a> {
 }
 
 impl<'a> NamedChains<'a> {
-    /// These chains, with the places of their names.
+    /// These chains, with the indices of their names.
     pub(crate) fn of(alloc: Global, chains: &'a [ChainSpec]) -> Result<NamedChains<'a>, AllocError>
         ensures { IfOk result (λ named. named ≡ chains.now) }
     {
@@ -75,7 +75,7 @@ impl<'a> NamedChains<'a> {
         self.chains
     }
 
-    /// The place of the first chain of this name.
+    /// The index of the first chain of this name.
     fn first_place(&self, chain: ChainId) -> Option<usize>
         ensures { result ≡ first_place 0 self.now chain }
     {
@@ -89,7 +89,7 @@ impl<'a> NamedChains<'a> {
         self.first_place(chain).is_some()
     }
 
-    /// Whether a chain that stands before this place has this name.
+    /// Whether a chain before this index has this name.
     pub(crate) fn has_before(&self, at: usize, chain: ChainId) -> bool
         ensures { result ≡ list_any (λ c. same_chain c.chain chain) (take at self.now) }
     {

@@ -20,7 +20,7 @@ use trust_tables::Site;
 /// What an account's entry counts for.
 #[derive(Drop)]
 pub(crate) struct Share {
-    /// The entry's place.
+    /// The entry's position.
     pub(crate) place: Place,
     /// The path of the asset's id.
     pub(crate) path: Junctions,

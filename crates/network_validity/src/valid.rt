@@ -12,7 +12,7 @@ use network_config::{check_references, check_sums, comes_before};
 use network_spec::{ChainSpec, NetworkSpec};
 use std::alloc::{AllocError, Global};
 
-/// Whether each chain stands behind the one before it.
+/// Whether each chain comes after the one before it.
 fn rises(before: ChainId, chains: &[ChainSpec]) -> bool
     ensures { result ≡ rises before chains.now }
 {
@@ -26,7 +26,7 @@ fn rises(before: ChainId, chains: &[ChainSpec]) -> bool
     true
 }
 
-/// Whether the relay chain stands first, and the parachains behind it rise by number.
+/// Whether the relay chain comes first, and the parachains after it rise by number.
 fn is_in_order(chains: &[ChainSpec]) -> bool
     ensures { result ≡ is_in_order chains.now }
 {

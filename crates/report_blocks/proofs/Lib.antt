@@ -3,3 +3,4 @@ mod DrainLines
 mod Reading
 pub mod Listed
 mod Keeping
+pub mod Telling

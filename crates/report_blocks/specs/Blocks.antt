@@ -6,7 +6,7 @@ use Rattle.network_steps.specs.Steps.{Step, Link, exec, deliver, claim, drain, n
 use Rattle.network_steps.specs.Steps as steps
 use Rattle.network_steps.specs.Genesis.{order_of, first_world}
 use Rattle.step_text.specs.Steps.{heading, step_text, drained_line}
-use Rattle.report_blocks.specs.Asked.{words_of}
+use Rattle.report_blocks.specs.Asked.{line_step}
 use Rattle.report_blocks.specs.Reads.{coherence_line, world_supply_block, balances_block, traps_block, queues_block}
 
 -- what is written first: whether the network is coherent, and what its assets sum to
@@ -41,5 +41,5 @@ audit_lines audit w = if audit then world_supply_block w else []
 -- a step: its heading, its lines, and the audit of the next world
 unfoldable pub step_block : Bool → NetworkSpec → World → ℕ → Step → List ℕ
 step_block audit spec w number step =
-    heading number (words_of step)
+    heading number (line_step step)
     ++ (step_lines spec w step ++ audit_lines audit (next_world (order_of spec) w step))

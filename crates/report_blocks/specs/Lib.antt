@@ -1,5 +1,4 @@
 pub mod Asked
-pub mod Titles
 pub mod Reads
 pub mod Blocks
 pub mod Serving

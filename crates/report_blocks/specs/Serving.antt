@@ -11,7 +11,7 @@ use Rattle.chain_net.specs.Nets.{world_of, spec_of, is_stopped}
 use Rattle.report_blocks.specs.declared.line_outcome.LineOutcome.{LineOutcome}
 use Rattle.report_blocks.specs.declared.line_outcome.LineOutcome.TheVariants as served
 use Rattle.report_blocks.specs.Asked.{Asked, Nothing, Asks, Unknown}
-use Rattle.report_blocks.specs.Blocks.{step_lines, step_block}
+use Rattle.report_blocks.specs.Blocks.{step_block}
 
 -- the network that the bytes describe, with nothing that happened in it
 pub record IsOpened (bytes : List ℕ) (net : Net) : Type 0 where
@@ -30,13 +30,3 @@ IsServed audit spec w number asked served.Unknown now = (asked ≡ Unknown) × (
 IsServed audit spec w number asked (served.Block text) now =
     (step : Step) × (asked ≡ Asks step) × (string_bytes text ≡ step_block audit spec w number step)
     × (now ≡ next_world (order_of spec) w step)
-
--- the step that was asked for was run, and these are its lines
-abbrev pub IsRun : NetworkSpec → World → Asked → List ℕ → World → Type 0
-IsRun spec w asked text now =
-    (step : Step) × (asked ≡ Asks step) × (text ≡ step_lines spec w step)
-    × (now ≡ next_world (order_of spec) w step)
-
--- a step is asked for
-abbrev pub IsStep : Asked → Type 0
-IsStep asked = (step : Step) × (asked ≡ Asks step)

@@ -3,9 +3,7 @@
 
 mod audited;
 mod draining;
-mod heading;
 mod kept_block;
-mod line_headings;
 mod line_outcome;
 mod marked_steps;
 mod marking;

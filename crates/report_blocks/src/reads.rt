@@ -55,7 +55,8 @@ pub(crate) fn first_supply_block(
     kept: &Option<KeptBlock>,
 ) -> Result<String, AllocError>
     requires { IsKeptOf kept.now (world_of net.now) }
-    ensures { IfOk result (λ text. string_bytes text ≡ reads.world_supply_block (world_of net.now)) }
+    ensures { IfOk result
+        (λ text. string_bytes text ≡ reads.world_supply_block (world_of net.now)) }
 {
     match kept {
         Some(KeptBlock::Planned(plan)) => plan.block(alloc, net.chains()),
@@ -85,7 +86,8 @@ pub(crate) fn supply_block(
     kept: &mut Option<KeptBlock>,
 ) -> Result<String, AllocError>
     requires { IsKeptOf kept.old (world_of net.now) }
-    ensures text { IfOk result (λ text. string_bytes text ≡ reads.world_supply_block (world_of net.now)) }
+    ensures text { IfOk result
+        (λ text. string_bytes text ≡ reads.world_supply_block (world_of net.now)) }
     ensures kept { OnOk result (IsKeptOf kept.new (world_of net.now)) }
 {
     match kept.take() {

@@ -1,21 +1,29 @@
 //! Lines of the input, served in a network.
-ghost use Rattle.std.specs.Prelude.{◌≡◌, IfOk, OnOk, false};
+ghost use Rattle.std.specs.Prelude.{◌≡◌, IfOk, OnOk, false, string_bytes};
 ghost use Rattle.chain_net.specs.Nets.{world_of, spec_of, is_stopped};
-ghost use Rattle.report_blocks.specs.Asked.{asked_of};
+ghost use Rattle.report_blocks.specs.Asked.{asked_of, line_step, world_step};
+ghost use Rattle.step_text.specs.Steps.{heading};
 ghost use Rattle.report_blocks.specs.Serving.{IsServed};
 
-use crate::heading::Heading;
-use crate::line_headings::heading_of;
 use crate::reads::supply_block;
 use crate::steps::step_lines;
 use crate::{AuditedNet, LineOutcome};
-use input_lines::Line;
+use input_lines::{Line, Step};
 use std::alloc::{AllocError, Global};
 use step_text::heading;
 
-/// Serves a line of the input: runs the step that it asks for, and gives its block in the report, with the audit behind it where that is
+/// The heading of a line's step, as the network's step says it.
+#[tactic(auto, using(crate::proofs::Telling::told_back))]
+fn step_heading(alloc: Global, number: u64, step: &Step) -> Result<String, AllocError>
+    ensures { IfOk result (λ text. string_bytes text
+        ≡ heading number (line_step (world_step step.now))) }
+{
+    heading(alloc, number, step)
+}
+
+/// Serves a line of the input: runs the step that it asks for, and gives its block in the report, with the audit after it where that is
 /// asked for. A line that asks for no step changes nothing. `Err` is out of memory, or a drain of more than 2^64-1 deliveries.
-#[tactic(auto, unfolding(crate::specs::Blocks::step_block))]
+#[tactic(auto, unfolding(crate::specs::Asked::asked_of, crate::specs::Blocks::step_block))]
 pub fn serve(
     alloc: Global,
     net: &mut AuditedNet,
@@ -30,14 +38,14 @@ pub fn serve(
     ensures running { OnOk result (is_stopped net.new ≡ false) }
     ensures spec { spec_of net.new ≡ spec_of net.old }
 {
-    let words = match heading_of(line) {
-        Heading::Nothing => return Ok(LineOutcome::Nothing),
-        Heading::Unknown => return Ok(LineOutcome::Unknown),
-        Heading::Step(words) => words,
+    let step = match line {
+        Line::NoStep => return Ok(LineOutcome::Nothing),
+        Line::Refused => return Ok(LineOutcome::Unknown),
+        Line::Step(step) => step,
     };
-    let mut text = heading(alloc, number, words)?;
+    let mut text = step_heading(alloc, number, step)?;
     let mut kept = net.kept.take();
-    let lines = step_lines(alloc, &mut net.net, &mut kept, line)?;
+    let lines = step_lines(alloc, &mut net.net, &mut kept, step)?;
     text.push_str(&lines)?;
     if audit {
         let sums = supply_block(alloc, &net.net, &mut kept)?;

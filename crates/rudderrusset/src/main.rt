@@ -19,7 +19,7 @@ fn keep_what_is_freed(alloc: Global) {
     let _ = Vec::<u8>::with_capacity(alloc, BLOCK);
 }
 
-/// The words of the command line. Where one of them is no text, no words are handed on, which is a faulty command line too.
+/// The words of the command line. Where one of them isn't UTF-8, no words are handed on, which is a faulty command line too.
 fn words(rt: &HostRuntime, alloc: Global) -> io::Result<Vec<String>> {
     match env::args(rt) {
         Ok(args) => Ok(args.skip(1).collect(alloc)?),

@@ -31,7 +31,7 @@ account_lines chain who held =
     ∙ ap (flat_map (holding_line chain)) (account_assets who held)
     ∙ of_rows chain (rows_of_account who (rows held))
 
--- the lines of the next account behind those that are shown
+-- the lines of the next account after those that are shown
 pub lines_next : (chain : ChainId) (after : Option (List ℕ)) (who text more : List ℕ) (held : Held) → IsNext after held who
     → text ≡ flat_map (holder_line chain) (shown after (rows held)) → more ≡ text ++ flat_map (balance_line chain who) (held_assets (account_goods who held))
     → more ≡ flat_map (holder_line chain) (shown (Some who) (rows held))

@@ -1,5 +1,4 @@
 pub mod Balances
 pub mod ChannelLines
 pub mod Checking
-pub mod NamesFit
 pub mod Queued

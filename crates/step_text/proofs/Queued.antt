@@ -16,7 +16,7 @@ use Rattle.chain_queues.specs.declared.queues.Queued.{Queued}
 use Rattle.step_text.specs.Lines.{queue_line}
 use Rattle.step_text.specs.Blocks.{queued_line, waiting_line, IsSpelledIn}
 
--- two versions with one byte in front
+-- two versions with one byte before it
 same_front : (v w : Version) (rest behind : List ℕ) → version_byte v ∷ rest ≡ version_byte w ∷ behind → v ≡ w
 same_front V3 V3 rest behind e = refl
 same_front V3 V4 rest behind e = absurd cc

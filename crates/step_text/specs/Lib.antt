@@ -1,4 +1,3 @@
-pub mod Names
 pub mod Texts
 pub mod Steps
 pub mod Lines

@@ -12,27 +12,16 @@ use Rattle.exec_base.specs.declared.event.Event.{Event}
 use Rattle.exec_base.specs.declared.event.Event.TheVariants as events
 use Rattle.network_steps.specs.declared.step_result.StepResult.{StepResult}
 use Rattle.network_steps.specs.declared.step_result.StepResult.TheVariants as answers
-use Rattle.step_text.specs.declared.headings.StepWords.{StepWords}
-use Rattle.step_text.specs.declared.headings.StepWords.TheVariants.{Exec, Deliver, Claim, Drain, Balances, Traps, Queues, Supply}
-use Rattle.step_text.specs.Names.{instruction_name_at}
+use Rattle.input_lines.specs.declared.step.Step.{Step}
+use Rattle.input_lines.specs.Words.{step_words}
+use Rattle.xcm_program.specs.Names.{instruction_name_at}
 use Rattle.step_text.specs.Texts.{kind_name, cause_name, part_letter, call_name, call_result, result_text, total_text, origin_text, topic_text}
 
 -- ---- the heading
 
--- the words of a step, without accounts and messages
-abbrev pub step_words : StepWords → List ℕ
-step_words (Exec chain) = codes "exec " ++ chain_text chain
-step_words (Deliver from to) = codes "deliver " ++ chain_text from ++ codes " " ++ chain_text to
-step_words (Claim from to) = codes "claim " ++ chain_text from ++ codes " " ++ chain_text to
-step_words Drain = codes "drain"
-step_words Balances = codes "balances"
-step_words Traps = codes "traps"
-step_words Queues = codes "queues"
-step_words Supply = codes "supply"
-
 -- the first line of a step: its number from 1, and its words
-abbrev pub heading : ℕ → StepWords → List ℕ
-heading number words = codes "#" ++ decimal number ++ codes " " ++ step_words words ++ codes "\n"
+abbrev pub heading : ℕ → Step → List ℕ
+heading number step = codes "#" ++ decimal number ++ codes " " ++ step_words step ++ codes "\n"
 
 -- ---- events
 

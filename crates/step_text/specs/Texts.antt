@@ -67,7 +67,7 @@ topic_text (Some topic) = hex_text topic
 
 -- ---- assets
 
--- behind another asset
+-- after another asset
 abbrev pub next_text : Asset → List ℕ
 next_text a = codes ", " ++ asset_text a
 

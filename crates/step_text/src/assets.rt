@@ -4,6 +4,7 @@ ghost use Rattle.std.specs.Prelude.{◌≡◌, ◌++◌, IfOk, OnOk, flat_map, s
 ghost use Rattle.step_text.specs.Texts.{origin_text, topic_text, next_text, assets_text};
 
 use asset_lists::Asset;
+use exec_base::Boxed;
 use location_wire::location_text;
 use locations::Location;
 use message_text::{asset_text, hex_text};
@@ -11,12 +12,15 @@ use std::alloc::{AllocError, Global};
 use std::fmt::Write;
 
 /// The origin register.
-pub(crate) fn origin_text(alloc: Global, origin: &Option<Location>) -> Result<String, AllocError>
+pub(crate) fn origin_text(
+    alloc: Global,
+    origin: &Option<Boxed<Location>>,
+) -> Result<String, AllocError>
     ensures { IfOk result (λ text. string_bytes text ≡ origin_text origin.now) }
 {
     match origin {
         None => format!(in alloc; "-"),
-        Some(l) => location_text(alloc, l),
+        Some(l) => location_text(alloc, l.value()),
     }
 }
 
@@ -30,7 +34,7 @@ pub(crate) fn topic_text(alloc: Global, topic: &Option<[u8; 32]>) -> Result<Stri
     }
 }
 
-/// Appends an asset behind another.
+/// Appends an asset after another.
 fn push_next(alloc: Global, text: &mut String, asset: &Asset) -> Result<(), AllocError>
     ensures { OnOk result (string_bytes text.new ≡ string_bytes text.old ++ next_text asset.now) }
 {
@@ -38,7 +42,7 @@ fn push_next(alloc: Global, text: &mut String, asset: &Asset) -> Result<(), Allo
     write!(text, ", {asset}")
 }
 
-/// Appends assets behind another.
+/// Appends assets after another.
 fn push_others(alloc: Global, text: &mut String, assets: &[Asset]) -> Result<(), AllocError>
     ensures { OnOk result (string_bytes text.new
         ≡ string_bytes text.old ++ flat_map next_text assets.now) }

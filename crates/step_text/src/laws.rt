@@ -9,12 +9,12 @@ ghost use Rattle.chain_queues.specs.declared.queues.Queued.{Queued};
 ghost use Rattle.xcm_program.specs.Indices.{index};
 ghost use Rattle.xcm_program.specs.Texts.{instruction_name};
 ghost use Rattle.xcm_program.specs.declared.instruction.Instruction.{Instruction, out-Instruction};
-ghost use Rattle.step_text.specs.Names.{instruction_name_at};
+ghost use Rattle.xcm_program.specs.Names.{instruction_name_at};
 ghost use Rattle.step_text.specs.Blocks.{queued_line, waiting_line, IsSpelledIn};
 
 use versioned_xcm::law_of_messages;
 
-/// The name that stands in the line of an instruction that ran, found by its number, is the instruction's own.
+/// The name in the line of an instruction that ran, found by its number, is the instruction's own.
 pub fn law_of_names_by_number()
     ensures { (x : Instruction)
         → instruction_name_at (index (out-Instruction x)) ≡ instruction_name (out-Instruction x) }

@@ -6,13 +6,12 @@ mod blocks;
 mod headings;
 mod laws;
 mod lines;
-mod names;
 mod opening;
 mod steps;
 mod words;
 
 pub use blocks::{accounts_text, checking_text, locked_text, queue_text, trapped_text};
-pub use headings::{StepWords, heading};
+pub use headings::heading;
 pub use laws::{law_of_names_by_number, law_of_queued};
 pub use ledgers::{Backing, Supply};
 pub use lines::{

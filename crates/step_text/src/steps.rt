@@ -6,18 +6,17 @@ ghost use Rattle.exec_base.specs.declared.event.Event.{Event};
 ghost use Rattle.step_text.specs.Steps.{event_line, outcome_line, answer_line, step_text, drained_line};
 
 use crate::assets::{origin_text, topic_text};
-use crate::names::name_at;
 use crate::words::{Shown, call_name, call_result, cause_name, kind_name, part_letter};
 use asset_bundles::{Cause, Total};
 use asset_lists::Kind;
-use exec_base::{Event, Part};
+use exec_base::{Boxed, Event, Part};
 use location_wire::path_text;
 use locations::{Junctions, Location};
 use network_steps::StepResult;
 use operands::{Weight, XcmError};
 use std::alloc::{AllocError, Global};
 use std::fmt::Write;
-use xcm_program::Outcome;
+use xcm_program::{Outcome, instruction_name_at};
 
 /// Bytes for the lines of most steps, so that their text is seldom moved while it grows.
 const ROOM: usize = 512;
@@ -71,7 +70,7 @@ fn push_event(alloc: Global, text: &mut String, event: &Event) -> Result<(), All
             path,
             amount,
             cause,
-        } => push_burned(alloc, text, *kind, path, *amount, *cause),
+        } => push_burned(alloc, text, *kind, path.value(), *amount, *cause),
         Event::Answered { query } => write!(text, "  answered {query}\n"),
         Event::Called { index, ok } => {
             let (name, result) = (call_name(*index), call_result(*ok));
@@ -101,7 +100,7 @@ fn push_ran(
         ≡ string_bytes text.old ++ event_line (Event.Ran part index instruction error)) }
 {
     let letter = part_letter(part);
-    let name = name_at(instruction);
+    let name = instruction_name_at(instruction);
     match error {
         None => write!(text, "  {letter}{index} {name} ok\n"),
         Some(error) => write!(text, "  {letter}{index} {name} {error}\n"),
@@ -133,7 +132,7 @@ fn push_burned(
 fn push_end(
     alloc: Global,
     text: &mut String,
-    origin: &Option<Location>,
+    origin: &Option<Boxed<Location>>,
     topic: &Option<[u8; 32]>,
     surplus: Weight,
     refunded: Weight,

@@ -104,7 +104,7 @@ network_refused : (audit : Bool) (network : Result NetworkSpec NetworkFault) (fa
     → network_reply audit network before taken lines ≡ ends text NetworkRefused
 network_refused audit network fault text before taken lines n t = rw (n, t) refl
 
--- what is written first stands at the front of what is written
+-- what is written first is at the front of what is written
 head_proper : (audit : Bool) (network : Result NetworkSpec NetworkFault) (part : List ℕ) (before taken : ℕ) (lines : List (List ℕ)) → IsProperFront part (head_of network)
     → IsProperFront part (network_reply audit network before taken lines).text
 head_proper audit (Ok spec) part before taken lines f = proper_on part (opening_text spec) (steps_reply audit spec (first_world spec) 0 before taken lines).text _ f refl
@@ -232,7 +232,7 @@ part_fits audit part before taken closed lines c l = rw c (cond-true (nat_le (le
 pub part_long : (audit : Bool) (part : List ℕ) (before taken : ℕ) (closed : Bool) (lines : List (List ℕ)) → max_network < length part → part_reply audit closed part before taken lines ≡ ends [] TooLong
 part_long audit part before taken closed lines l = cond-false (nat_le (length part) max_network) _ _ (grind (arith, nat_tests))
 
--- ---- where a session stands
+-- ---- where a session is
 
 pub at_start : (s : Session) (part : Vec ℕ Global) (at_end : Bool) (lines : List (List ℕ)) → s.phase ≡ Network part → part.items ≡ [] → s.lines ≡ 0 → s.taken ≡ 0
     → reply_at s at_end lines ≡ lines_reply s.audit at_end lines
@@ -347,7 +347,7 @@ ready_steps s part net line e r running l m =
 
 -- ---- room for more of a line
 
--- a line that is taken leaves the same room behind it
+-- a line that is taken leaves the same room after it
 pub room_behind : (old new : Session) (line : List ℕ) (lines : List (List ℕ)) (begun : ℕ) → runs_steps new.phase ≡ (runs_steps old.phase || ends_network line) → new.taken ≡ old.taken + length line
     → session_rooms new lines begun → session_rooms old (line ∷ lines) begun
 room_behind old new line lines begun p t r =

@@ -21,7 +21,7 @@ pub reply_of : (words : List (String Global)) (task : Task) (bytes : List ℕ) �
 unfolding reply
 reply_of words task bytes r = ap (λ t. task_reply t bytes) r
 
--- a reply tells the status and the bytes
+-- a reply has the status and the bytes
 told_by : (status : Status) (text : List ℕ) (old new : Option (List ℕ)) (whole : Reply) → whole ≡ ends text status → Appends old new text → (status ≡ whole.status) × Appends old new whole.text
 told_by status text old new whole e a = rw e (refl, a)
 

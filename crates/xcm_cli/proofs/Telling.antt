@@ -47,7 +47,7 @@ long_in : (taken : ℕ) (line : List ℕ) (lines : List (List ℕ)) → fits_lim
 unfolding steps_in
 long_in taken line lines past = rw (past, steps_in) refl
 
--- ---- lines behind the network
+-- ---- lines after the network
 module _ (audit : Bool) (spec : NetworkSpec) where
   abbrev Tells : World → ℕ → ℕ → ℕ → List (List ℕ) → Type 0
   Tells w done before taken lines = TellsOf (steps_reply audit spec w done before taken lines) (blocks_of audit spec w done (steps_in taken lines))

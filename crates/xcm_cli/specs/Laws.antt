@@ -1,4 +1,4 @@
--- For proofs; a reader of the definitions can leave it out. Where a session stands, and that nothing is written where no line comes.
+-- For proofs; a reader of the definitions can leave it out. Where a session is, and that nothing is written where no line comes.
 use Rattle.std.proofs.Common.{◌≡◌, ◌∙◌, ℕ, ◌+◌, ◌≤◌, List, [], ◌++◌, length, Bool, false, refl, ap, Global, append-nil, arith}
 use Rattle.std.proofs.lemmas.Bool.{cond-true}
 use Rattle.std.proofs.lemmas.Bool.Decides.{nat_tests}

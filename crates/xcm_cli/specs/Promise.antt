@@ -24,7 +24,7 @@ use Rattle.law_nets.specs.Paid.{WithdrawalsPaid, TeleportsReceived, NoneLost}
 use Rattle.law_nets.specs.Barring.{NeverBarred}
 use Rattle.law_nets.specs.Excess.{NoExcessEver}
 
--- the world behind the steps
+-- the world after the steps
 abbrev pub world_behind_steps : NetworkSpec → List Step → World
 world_behind_steps spec steps = last_world (order_of spec) (first_world spec) steps
 
@@ -49,33 +49,33 @@ pub record IsLawful (spec : NetworkSpec) (steps : List Step) : Type 0 where
   -- each checking account, with all that its chain has of the asset, stays below 2^128-1, and no
   -- instruction is refused because one would pass it
   pub below_end : StayBelowEnd (order_of spec) (first_world spec) steps
-  -- and so it is where memory is refused to a drain behind the steps: its whole deliveries and the one at which it stopped lower no account but the
+  -- and so it is where memory is refused to a drain after the steps: its whole deliveries and the one at which it stopped lower no account but the
   -- sending chain's, or a pool's, and each message that waits keeps its shape
   pub drains : (now : World) → DrainStops (order_of spec) (world_behind_steps spec steps) now
       → StopsWithAuthority (order_of spec) (world_behind_steps spec steps) now × AllShaped now
 
 -- of every network in which none of the seven causes is found
 pub record IsSecure (spec : NetworkSpec) (steps : List Step) : Type 0 where
-  -- every world keeps each asset, backs each derivative, has each instance at most once, and covers with each checking account what stands
+  -- every world keeps each asset, backs each derivative, has each instance at most once, and covers with each checking account what is
   -- elsewhere
   pub kept : NetworkKept spec steps
-  -- and so it is of any two worlds, the earlier in the place of the first: what is held for a
+  -- and so it is of any two worlds, the earlier taken as the first: what is held for a
   -- derivative, less what is owed and what its chain burned of it, never gets less
   pub between : NetworkKeptBetween spec steps
-  -- in every world each unit of every place and each burn belongs to a listed row
+  -- in every world each unit, wherever it is, and each burn belongs to a listed row
   pub sound : NetworkSound spec steps
   -- and so it is inside each run, wherever it comes, and where memory is refused to it
   pub inside : NetworkRunsKept spec steps
-  -- and where memory is refused to a drain behind the steps, however many deliveries it has made
+  -- and where memory is refused to a drain after the steps, however many deliveries it has made
   pub drains : (now : World) → DrainStops (order_of spec) (world_behind_steps spec steps) now
       → KeepsAssets spec now
   -- each withdrawal that is admitted is paid, and each teleport that is admitted is received, so that nothing of it is lost
   pub paid : WithdrawalsPaid (order_of spec) (first_world spec) steps
   pub received : TeleportsReceived (order_of spec) (first_world spec) steps
   pub none_lost : NoneLost (order_of spec) (first_world spec) steps
-  -- nothing is burned because an amount passes its end or an instance is there already
+  -- nothing is burned because an amount passes its maximum or an instance is there already
   pub no_excess : NoExcessEver (order_of spec) (first_world spec) steps
-  -- no deposit is refused because an amount would pass its end or an instance is there; no checking account is too full or too low
+  -- no deposit is refused because an amount would pass its maximum or an instance is there; no checking account is too full or too low
   pub unbarred : NeverBarred (order_of spec) (first_world spec) steps
   pub rising : NetworkAccountsRise spec steps
   pub covered : AllCovered (order_of spec) (first_world spec) steps

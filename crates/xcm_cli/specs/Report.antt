@@ -69,14 +69,14 @@ part_reply audit closed part before taken lines =
     then (if closed then network_reply audit (network_of part) before taken lines else ends [] Done)
     else ends [] TooLong
 
--- These lines, at whose end the input ends or not, with the audit behind each step or without. Where the input doesn't end, the
--- text is what is reported of them whatever lines come behind, and Done says that so far no limit is passed and nothing is refused.
+-- These lines, at whose end the input ends or not, with the audit after each step or without. Where the input doesn't end, the
+-- text is what is reported of them whatever lines come after, and Done says that so far no limit is passed and nothing is refused.
 unfoldable pub lines_reply : Bool → Bool → List (List ℕ) → Reply
 lines_reply audit at_end lines =
     part_reply audit (has_mark lines || at_end) (network_part lines) (lines_through lines)
     (bytes_through lines) (later_lines lines)
 
--- where a line that is begun stands behind these lines, of so many bytes: there may be more of it
+-- where a line of so many bytes is begun after these lines: there may be more of it
 abbrev pub lines_room : List (List ℕ) → ℕ → Type 0
 lines_room lines begun = IsWithinInputLimits (has_mark lines) (length (concat lines) + begun) begun
 
@@ -101,7 +101,7 @@ reply words bytes = task_reply (task_of words) bytes
 abbrev pub report : List (String Global) → List ℕ → List ℕ
 report words bytes = (reply words bytes).text
 
--- the fate, decided by the first place in the input
+-- the fate, decided by the first position in the input
 abbrev pub fate : List (String Global) → List ℕ → Status
 fate words bytes = (reply words bytes).status
 

@@ -11,7 +11,7 @@ use Rattle.xcm_cli.specs.Report.{lines_reply, lines_room, report}
 use Rattle.xcm_cli.specs.Words.{task_of, reads}
 use Rattle.xcm_cli.specs.declared.words.Task.TheVariants.{Run}
 
--- These bytes were taken, and a front of their report was written, which is one of the whole input's too. With the words of a run the four further
+-- These bytes were taken, and a prefix of their report was written, which is one of the whole input's too. With the words of a run the four further
 -- parts hold; with other words nothing is taken.
 pub record ServesWords {E : Type 0} (words : List (String Global))
     (left rest old new : Option (List ℕ)) (result : Result Status E) : Type 0 where

@@ -1,4 +1,4 @@
--- What is still to come in a run, from where it stands.
+-- What is still to come in a run, from where it is.
 use Rattle.std.specs.Prelude.{◌≡◌, ◌⊎◌, ◌||◌, ℕ, ◌+◌, ◌≤◌, List, [], ◌++◌, length, Bool, true, false, Option, Result, Ok, Err}
 use Rattle.std.specs.List.{concat}
 use Rattle.std.specs.Io.KnownBytes.{Appends}
@@ -46,7 +46,7 @@ head_of (Ok spec) = opening_text spec
 head_of (Err fault) = network_refused_line fault
 
 -- A network part was read, and this text written: the opening of the network that runs from now on, or the line that refuses it, or a
--- proper front of it where the write failed. Where memory was refused nothing was written.
+-- proper prefix of it where the write failed. Where memory was refused nothing was written.
 pub record Opens {E : Type 0} (part : List ℕ) (old new : Option (List ℕ))
     (result : Result Opened E) : Type 0 where
   pub text : List ℕ
@@ -80,7 +80,7 @@ abbrev pub runs_steps : Phase → Bool
 runs_steps (Network part) = false
 runs_steps (Steps net done) = true
 
--- a line of which so many bytes have come, behind these lines, may still be within the limits
+-- a line of which so many bytes have come, after these lines, may still be within the limits
 abbrev pub session_rooms : Session → List (List ℕ) → ℕ → Type 0
 session_rooms session lines begun =
     IsWithinInputLimits (runs_steps session.phase || has_mark lines)

@@ -22,7 +22,7 @@ blocks_of audit spec w done (step ∷ steps) =
 abbrev pub opening_and_blocks : Bool → NetworkSpec → List Step → List ℕ
 opening_and_blocks audit spec steps = opening_text spec ++ blocks_of audit spec (first_world spec) 0 steps
 
--- what is written is this text, and behind it nothing, or that a line is refused
+-- what is written is this text, and after it nothing, or that a line is refused
 pub record TellsOf (reply : Reply) (told : List ℕ) : Type 0 where
   pub behind : List ℕ
   pub text : reply.text ≡ told ++ behind

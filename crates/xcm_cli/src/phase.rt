@@ -1,4 +1,4 @@
-//! Where a run stands.
+//! How far a run is.
 
 use line_serving::Status;
 use report_blocks::AuditedNet;
@@ -17,10 +17,10 @@ pub(crate) enum Phase {
     },
 }
 
-/// Where a run stands: so many lines have come, of so many bytes.
+/// How far a run is: so many lines have come, of so many bytes.
 #[derive(Drop)]
 pub(crate) struct Session {
-    /// Whether the audit stands behind each step.
+    /// Whether the audit comes after each step.
     pub(crate) audit: bool,
     pub(crate) phase: Phase,
     pub(crate) lines: u64,

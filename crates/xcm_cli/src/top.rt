@@ -41,7 +41,7 @@ pub fn run<I: Source, O: Sink>(
         → (status ≡ fate words.now [])
         × Appends (O.written out.old) (O.written out.new) (report words.now [])) }
 
-    // Whatever happens, a front of the report of what was taken is written, which is one of the whole input's; and which front, after a fault or
+    // Whatever happens, a prefix of the report of what was taken is written, which is one of the whole input's; and which prefix, after a fault or
     // past a limit.
     ensures front { ServesWords words.now (I.left input.old) (I.left input.new) (O.written out.old)
         (O.written out.new) result }
@@ -66,12 +66,12 @@ pub fn run<I: Source, O: Sink>(
     // Whatever document is read as a network and whatever the steps, as those of an input (`steps_of`), those with each drain as the deliveries
     // it makes or those that are drawn: an account falls only by its own executions, by a message of its chain or as a pool's, so one that is
     // left alone never has less; no pool's product falls, no burn is undone, each account keeps what is locked there, each message that waits
-    // has its shape, and each checking account stays below its end.
+    // has its shape, and each checking account stays below its maximum.
     ensures lawful { ReadNetworksAreLawful }
 
     // Where moreover none of the seven causes is found in it, every world keeps each asset, backs each derivative and has right checking
     // accounts, inside runs too, and from world to world no derivative's cover shrinks; what is admitted is paid and received; no joining of
-    // bundles burns what would pass an amount's end or is there already; and in every world the sums which the supply block prints are
+    // bundles burns what would pass an amount's maximum or is there already; and in every world the sums which the supply block prints are
     // conserved and covered.
     ensures kept { CoherentNetworksAreSecure }
 

@@ -13,7 +13,7 @@ const MAX_STEPS: u64 = 100_000;
 pub(crate) enum Task {
     /// The run of an input.
     Run {
-        /// Whether the audit stands behind each step.
+        /// Whether the audit comes after each step.
         audit: bool,
     },
     /// The run of steps that are drawn from a number.

@@ -10,7 +10,7 @@ use Rattle.xcm_explain.specs.declared.explainer.Explainer.{Explainer}
 use Rattle.xcm_explain.specs.Explanations.{explanation, explained, explainer_replies, line_room, explain_usage}
 use Rattle.plain_lists.proofs.Lemmas.Facts.{every_some, map_some}
 
--- a reply tells the status and the bytes
+-- a reply has the status and the bytes
 told_by : (status : Status) (text : List ℕ) (old new : Option (List ℕ)) (whole : Reply) → whole ≡ ends text status → Appends old new text → (status ≡ whole.status) × Appends old new whole.text
 told_by status text old new whole e a = rw e (refl, a)
 

@@ -22,7 +22,7 @@ refusal_place bytes NotAMessage = stop_text (reading_stop bytes)
 refusal_place bytes NotConvertible = []
 refusal_place bytes Memory = []
 
--- the line in place of a tree: the cause, and where reading stopped
+-- the line instead of a tree: the cause, and where reading stopped
 abbrev pub message_refused_line : ℕ → List ℕ → MessageFault → List ℕ
 message_refused_line line bytes fault =
     codes "message " ++ (decimal line ++ (codes " refused: " ++ (message_fault_text fault
@@ -34,10 +34,10 @@ decoded_block line bytes (Ok program) =
     message_tree line (slice_index bytes 0) (program_text 1 program)
 decoded_block line bytes (Err fault) = message_refused_line line bytes fault
 
--- what is said of these bytes, which stand in this line
+-- what is said of these bytes, which are in this line
 abbrev pub message_block : ℕ → List ℕ → List ℕ
 message_block line bytes = decoded_block line bytes (message_of bytes)
 
--- the line behind which nothing is said: it is no hex
+-- the line after which nothing is said: it is no hex
 abbrev pub not_hex_line : ℕ → List ℕ
 not_hex_line line = codes "line " ++ decimal line ++ codes " refused\n"

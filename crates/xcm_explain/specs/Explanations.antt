@@ -23,11 +23,11 @@ lines_explained before taken (line ∷ lines) =
     ]
     else ends [] TooLong
 
--- all lines of an input, whether it ends behind them or not
+-- all lines of an input, whether it ends after them or not
 abbrev pub explained : Replies
 explained at_end lines = lines_explained 0 0 lines
 
--- a line of which so many bytes have come, behind these lines and so many bytes before them, is within the limits so far
+-- a line of which so many bytes have come, after these lines and so many bytes before them, is within the limits so far
 abbrev pub line_room : ℕ → Rooms
 line_room taken lines begun =
     (begun ≤ max_line) × (taken + length (concat lines) + begun ≤ max_input)

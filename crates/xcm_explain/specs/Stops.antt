@@ -1,4 +1,4 @@
--- Where reading stops in bytes that are no message, and what was to stand there: the version, or the first number of instructions or instruction
+-- Where reading stops in bytes that are no message, and what was expected there: the version, or the first number of instructions or instruction
 -- that can't be read, or the end. Source: this project's own rule, over the readers of the XCM format.
 use Rattle.std.specs.Prelude.{◌≡◌, ℕ, zero, suc, ◌+◌, ◌-◌, ◌^◌, ◌==◌, nat_eq, List, [], ◌∷◌, ◌++◌, length, Option, Some, None, codes, decimal, if◌then◌else◌}
 use Rattle.scale_codec.specs.Reading.{below_at}
@@ -59,7 +59,7 @@ walk_program v zero left bytes = (Stopped expected.NoDeeper, bytes)
 walk_program v (suc d) left bytes =
     walk_counted v (walk_program v d) left bytes (below_at (2 ^ 32) bytes)
 
--- past all of it just where something is read, with as many instructions that may still be and the same bytes behind
+-- past all of it just where something is read, with as many instructions that may still be and the same bytes after
 abbrev pub WalksAsRead : {X : Type 0} → Option (X × (ℕ × List ℕ)) → Walked × List ℕ → Type 0
 WalksAsRead (Some read) walked = walked ≡ (Past read.1.0, read.1.1)
 WalksAsRead None walked = (what : Expected) × ((rest : List ℕ) × (walked ≡ (Stopped what, rest)))
@@ -67,7 +67,7 @@ WalksAsRead None walked = (what : Expected) × ((rest : List ℕ) × (walked ≡
 abbrev pub stop_at : ℕ → Expected → ReadingStop
 stop_at at what = record { at = at; expected = what }
 
--- behind a version and the part of these bytes that was read
+-- after a version and the part of these bytes that was read
 abbrev pub walked_to : List ℕ → Walked × List ℕ → ReadingStop
 walked_to bytes (Past left, rest) = stop_at (length bytes + 1 - length rest) expected.End
 walked_to bytes (Stopped what, rest) = stop_at (length bytes + 1 - length rest) what

@@ -12,7 +12,7 @@ use std::alloc::{AllocError, Global};
 use versioned_xcm::{MessageFault, decode_message};
 use xcm_program::Program;
 
-/// What is said of these bytes, which stand in this line: a heading and the tree of the program, or why they are no message. `Err` is out of
+/// What is said of these bytes, which are in this line: a heading and the tree of the program, or why they are no message. `Err` is out of
 /// memory alone.
 pub(crate) fn message_block(alloc: Global, line: u64, bytes: &[u8]) -> Result<String, AllocError>
     ensures { IfOk result (λ text. string_bytes text ≡ message_block line bytes.now) }
@@ -39,7 +39,7 @@ fn message_tree(
     format!(in alloc; "message {line} version {version}\n{tree}")
 }
 
-/// The line in place of a tree: the cause, and where reading stopped.
+/// The line instead of a tree: the cause, and where reading stopped.
 fn message_refused_line(
     alloc: Global,
     line: u64,
@@ -67,7 +67,7 @@ fn refusal_place(alloc: Global, bytes: &[u8], fault: MessageFault) -> Result<Str
     }
 }
 
-/// The place, and what was to stand there.
+/// The position, and what was expected there.
 fn stop_text(alloc: Global, stop: ReadingStop) -> Result<String, AllocError>
     ensures { IfOk result (λ text. string_bytes text ≡ stop_text stop) }
 {

@@ -9,7 +9,7 @@ use std::fmt;
 use versioned_xcm::{MAX_DEPTH, MAX_INSTRUCTIONS, Version, read_head};
 use xcm_program::inner;
 
-/// What was to stand where reading stopped. Its text is what an explanation says of it.
+/// What was expected where reading stopped. Its text is what an explanation says of it.
 #[derive(Clone, Copy, Debug, PartialEq, Eq)]
 pub(crate) enum Expected {
     /// One of the two versions.
@@ -41,14 +41,14 @@ impl fmt::Display for Expected {
     }
 }
 
-/// Where reading stops: behind so many bytes.
+/// Where reading stops: after so many bytes.
 #[derive(Clone, Copy, Debug)]
 pub(crate) struct ReadingStop {
     pub(crate) at: usize,
     pub(crate) expected: Expected,
 }
 
-/// How far reading came: past all of it, with so many instructions that may still be, or up to where something else was to stand.
+/// How far reading came: past all of it, with so many instructions that may still be, or up to where something else was expected.
 #[derive(Clone, Copy, Debug)]
 pub(crate) enum Walked {
     Past(u32),
@@ -112,7 +112,7 @@ fn walk_program(
 }
 
 /// Where reading stops in bytes that are no message: at the version, or at the first number of instructions or instruction that can't be read, or
-/// behind the program. `Err` is out of memory alone.
+/// after the program. `Err` is out of memory alone.
 #[tactic(auto, unfolding(crate::specs::Stops::reading_stop))]
 pub(crate) fn find_stop(alloc: Global, bytes: &[u8]) -> Result<ReadingStop, AllocError>
     ensures { IfOk result (λ stop. stop ≡ reading_stop bytes.now) }
@@ -134,7 +134,7 @@ pub(crate) fn find_stop(alloc: Global, bytes: &[u8]) -> Result<ReadingStop, Allo
     stop_in(alloc, &bytes[1..], version)
 }
 
-/// Where reading a program stops, behind the version.
+/// Where reading a program stops, after the version.
 fn stop_in(alloc: Global, bytes: &[u8], v: Version) -> Result<ReadingStop, AllocError>
     ensures { IfOk result (λ stop. stop ≡ walked_to bytes.now (walk_program v 8 100 bytes.now)) }
 {

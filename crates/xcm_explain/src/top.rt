@@ -29,12 +29,12 @@ pub fn explain<I: Source, O: Sink>(
         (status ≡ (explanation words.now bytes).status)
         × Appends (O.written out.old) (O.written out.new) (explanation words.now bytes).text)) }
 
-    // Whatever happens, a front of what is said of the lines that were taken is written, which is one of the whole input's; and which front, after
+    // Whatever happens, a prefix of what is said of the lines that were taken is written, which is one of the whole input's; and which prefix, after
     // a fault or past a limit.
     ensures front { words.now ≡ [] → Serves explained (line_room 0) (I.left input.old)
         (I.left input.new) (O.written out.old) (O.written out.new) result }
 
-    // With words nothing is read, and a front of the usage line is written.
+    // With words nothing is read, and a prefix of the usage line is written.
     ensures unread { words.now ≢ [] → input.new ≡ input.old }
     ensures other { words.now ≢ [] → Finishes (ends explain_usage Status.Usage) (O.written out.old)
         (O.written out.new) result }

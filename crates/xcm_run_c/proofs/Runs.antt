@@ -23,7 +23,7 @@ reply_of_run true (word ∷ other ∷ []) bytes e =
     (ap (λ text. bytes_eq text (codes "--audit")) (ap (λ texts. get_or texts 1 []) e))))
 reply_of_run true (word ∷ other ∷ more ∷ words) bytes e = absurd cc
 
--- a front of the report is left in what was empty
+-- a prefix of the report is left in what was empty
 pub front_left : {E : Type 0} (audit : Bool) (words listed : List (String Global)) (bytes input old new : List ℕ) (rest : Option (List ℕ)) (result : Result Status E)
     → words ≡ listed → map string_bytes listed ≡ run_words audit → bytes ≡ input → old ≡ []
     → ServesWords words (Some bytes) rest (Some old) (Some new) result → IsFront new (run_reply audit input).text

@@ -6,7 +6,7 @@ use Rattle.xcm_io.specs.Bytes.{IsFront}
 abbrev pub fitting : List ℕ → List ℕ → ℕ
 fitting text buffer = min (length buffer) (length text)
 
--- the text at the front of a buffer, as far as there is room; what is behind it stays
+-- the text at the front of a buffer, as far as there is room; what is after it stays
 abbrev pub filled : List ℕ → List ℕ → List ℕ
 filled text buffer = take (fitting text buffer) text ++ drop (fitting text buffer) buffer
 
@@ -20,7 +20,7 @@ pub record Tells (text : List ℕ) (number : ℕ) (old new : List ℕ) (needed a
   pub count : needed ≡ length text
   pub answered : answer ≡ call_status old text number
 
--- A front of the text is told in the same way.
+-- A prefix of the text is told in the same way.
 pub record TellsFront (text : List ℕ) (old new : List ℕ) (needed : ℕ) : Type 0 where
   pub front : List ℕ
   pub is : IsFront front text

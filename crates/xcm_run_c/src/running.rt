@@ -13,7 +13,7 @@ use crate::source::Bytes;
 use std::alloc::{AllocError, Global};
 use xcm_cli::{Status, run};
 
-/// The words of a run, with the audit behind each step or without.
+/// The words of a run, with the audit after each step or without.
 fn words_of(alloc: Global, audit: bool) -> Result<Vec<String>, AllocError>
     ensures { IfOk result (λ words. map string_bytes words.items ≡ run_words audit) }
 {
@@ -52,9 +52,9 @@ fn run_into(alloc: Global, audit: bool, input: &[u8], out: &mut Kept) -> u8
     }
 }
 
-/// Runs the program over an input: a network document, `---`, and lines of steps. The report stands at the front of `report`, as far as
+/// Runs the program over an input: a network document, `---`, and lines of steps. The report is at the front of `report`, as far as
 /// there is room, and `needed` says how many bytes it has. The answer is the number that the program ends with, 0, 3, 4 or 7 by the input;
-/// 6 where the report doesn't fit; or 8 where memory was refused, and then a front of the report is told in place of it.
+/// 6 where the report doesn't fit; or 8 where memory was refused, and then a prefix of the report is told instead of it.
 #[unsafe(no_mangle)]
 pub extern "C" fn xcm_run(
     alloc: Global,

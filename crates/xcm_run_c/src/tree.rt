@@ -24,7 +24,7 @@ fn told(alloc: Global, message: &[u8]) -> Result<(u8, String), AllocError>
 }
 
 /// Writes a message, as bytes of the XCM format of version 3 or 4, as an indented tree, and answers 0; or why the bytes are no
-/// message, and answers 4. The text stands at the front of `text`, as far as there is room, and `needed` says how many bytes it has. The
+/// message, and answers 4. The text is at the front of `text`, as far as there is room, and `needed` says how many bytes it has. The
 /// answer is 6 where the text doesn't fit, and 8 where memory was refused; then nothing is told.
 #[unsafe(no_mangle)]
 pub extern "C" fn xcm_message_text(

@@ -94,7 +94,7 @@ sums_from earlier (share ∷ shares) h =
     sound_share earlier shares share
     ∙ and_from _ _ (lt-ltb (total_up_to earlier share) amount_limit below) (sums_from (earlier ++ share ∷ []) shares (λ path kind. rw (append_assoc earlier (share ∷ []) shares) (h path kind)))
 
--- ---- what a balance counts for, whatever its place
+-- ---- what a balance counts for, whatever its position
 
 abbrev pub part_at : List Junction → Kind → Asset → Option (List Junction) → ℕ
 part_at path kind asset None = 0
