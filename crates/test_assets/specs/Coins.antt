@@ -5,7 +5,7 @@ use Rattle.asset_lists.specs.declared.units.Kind.{Kind}
 use Rattle.asset_lists.specs.declared.units.AssetId.TheVariants.{Concrete}
 use Rattle.asset_lists.specs.Listed.{Listed}
 
--- the place so many steps above the chain
+-- the location so many levels above the chain
 abbrev pub ancestor_location : ℕ → Location
 ancestor_location parents = record { parents = parents; interior = [] }
 

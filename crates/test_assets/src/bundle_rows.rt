@@ -135,7 +135,7 @@ fn has_all(holding: &AssetBundle, all: &Assets) -> bool {
         && holding.total(&class(), Kind::Class) == 2
 }
 
-/// Whether the filter of this number takes and leaves so much of all that is held, and all is held again behind it.
+/// Whether the filter of this number takes and leaves so much of all that is held, and all is held again after it.
 fn takes(alloc: Global, number: u8, taken: [u128; 3], left: [u128; 3]) -> Result<bool, Fail> {
     let all = listed(alloc, 7, 1, 3)?;
     let filter = filter(alloc, number)?;
@@ -316,7 +316,7 @@ fn landed(
     }
 }
 
-/// So much of what the junctions name at the place so many levels up.
+/// So much of what the junctions name at the location so many levels up.
 fn coins_of(number: u128, parents: u8, interior: Junctions) -> Asset {
     Asset {
         id: AssetId::Concrete(Location { parents, interior }),

@@ -8,7 +8,7 @@ use std::test::Fail;
 
 const MILLION: u128 = 1_000_000;
 
-/// Just below where a reserve ends: 2^58-1.
+/// The most that a reserve may have: 2^58-1.
 const LAST: u128 = 288_230_376_151_711_743;
 
 /// The reserve of what is given and of what is wanted, how many thousandths count, what is given, and what the pool gives.

@@ -18,7 +18,7 @@ use std::test::Fail;
 
 const MILLION: u128 = 1_000_000;
 
-/// The place so many steps above the chain.
+/// The location so many levels above the chain.
 fn above(parents: u8) -> Location
     ensures { result ≡ ancestor_location parents }
 {
@@ -32,7 +32,8 @@ fn above(parents: u8) -> Location
 fn coins(of_chain: bool, amount: u128) -> Asset
     requires some { 0 < amount }
     ensures some { IsFalse (is_zero result) }
-    ensures listed { list_all (λ a. lists fixture_coins (listed_of (unit_of a))) (result ∷ []) ≡ true }
+    ensures listed { list_all (λ a. lists fixture_coins (listed_of (unit_of a))) (result ∷ []) ≡
+        true }
 {
     if of_chain {
         return Asset {
@@ -85,7 +86,7 @@ fn stocked(alloc: Global) -> Result<Ledger, AllocError> {
     Ok(ledger)
 }
 
-/// A pool of the two, of whose gifts 3 thousandths don't count.
+/// A pool of the two, with a fee of 3 thousandths.
 fn pool() -> Pool {
     Pool {
         first: above(0),

@@ -124,7 +124,7 @@ fn are_refused(alloc: Global) -> Result<bool, AllocError> {
     )
 }
 
-/// Puts assets into their places: whether each is answered as it should be.
+/// Inserts assets in order: whether each is answered as it should be.
 fn takes_in(list: &mut Assets) -> bool {
     list.insert(piece(Instance::Index(1))) == Ok(())
         && list.insert(own(5)) == Ok(())
@@ -140,7 +140,7 @@ fn are_in_place(items: &[Asset]) -> bool {
     }
 }
 
-/// Whether an asset goes to its place, and none into a full list.
+/// Whether an asset is inserted in order, and none into a full list.
 fn go_to_their_places(alloc: Global) -> Result<bool, Fail> {
     let mut list = Assets::from_sorted(many(alloc, 2)?)?;
     let mut full = Assets::from_sorted(many(alloc, 20)?)?;

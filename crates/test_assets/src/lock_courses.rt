@@ -1,4 +1,4 @@
-//! A course of changes of one book, and what stands after each.
+//! A course of changes of one book, and what it has after each.
 
 use asset_locks::{
     LockBook, NotLocked, NotNoted, law_of_floors, law_of_locking, law_of_notes, law_of_unlockers,

@@ -1,7 +1,7 @@
 //! Locations: paths, reanchoring, their order.
 use locations::{
     BodyId, BodyPart, Full, Junction, Junctions, Location, LocationFault, NetworkId, PathFault,
-    invert_target, law_of_derived_order, law_of_exact_location_orders, law_of_paths,
+    are_apart, invert_target, law_of_derived_order, law_of_exact_location_orders, law_of_paths,
 };
 use std::alloc::{AllocError, Global};
 use std::cmp::Ordering;
@@ -49,7 +49,7 @@ fn has_few() -> Result<bool, Full> {
     )
 }
 
-/// Whether each place of the list is lent for writing, and none behind it.
+/// Whether each element of the list is lent for writing, and none after it.
 fn lends_its_places() -> Result<bool, Full> {
     let mut two = chain(&[POLKADOT, PALLET])?;
     let places = two.places();
@@ -69,7 +69,7 @@ fn leads_back() -> Result<bool, Full> {
     Ok(near == Ok(back) && far == Err(Full))
 }
 
-/// What a prefix in front of the location makes of it.
+/// What a prefix before the location makes of it.
 fn prefixed(location: Location, prefix: &Location) -> Result<Location, LocationFault> {
     let mut found = location;
     found.prepend_with(prefix)?;
@@ -91,7 +91,7 @@ const PREFIXED: &[(Place, Place, Result<Place, LocationFault>)] = &[
     ),
 ];
 
-/// Whether the location stands there.
+/// Whether the location is this.
 fn is_at(location: &Location, place: Place) -> bool {
     location.parents == place.0 && location.interior.items() == place.1
 }
@@ -175,7 +175,7 @@ const PATHS: &[(u8, &[Junction], Result<&[Junction], PathFault>, bool)] = &[
     (0, &[PALLET; 7], Err(PathFault::Full), true),
 ];
 
-/// Whether the place has this path from parachain 2000, or none for this cause, and whether its name is the shortest there.
+/// Whether the location has this path from parachain 2000, or none for this cause, and whether its name is the shortest there.
 fn leads(
     parents: u8,
     junctions: &[Junction],
@@ -191,7 +191,7 @@ fn leads(
     Ok(is_path && location.is_normal(&context) == normal)
 }
 
-/// Places in their order.
+/// Locations in their order.
 const RISING: &[Place] = &[
     (0, &[]),
     (0, &[POLKADOT]),
@@ -201,14 +201,14 @@ const RISING: &[Place] = &[
     (1, &[]),
 ];
 
-/// Whether the first place comes before the second.
+/// Whether the first location comes before the second.
 fn is_before(first: Place, second: Place) -> Result<bool, Full> {
     let first = place(first.0, first.1)?;
     let second = place(second.0, second.1)?;
     Ok(first.cmp(&second) == Ordering::Less && first < second)
 }
 
-/// Whether each place comes before the next.
+/// Whether each location comes before the next.
 fn are_rising() -> Result<bool, Full> {
     for (first, second) in RISING.iter().zip(&RISING[1..]) {
         if !is_before(*first, *second)? {
@@ -264,6 +264,8 @@ fn locations_and_their_paths(rt: HostRuntime) -> Result<(), Fail> {
     assert!(rt; has_few()? && lends_its_places()? && leads_back()?);
     assert!(rt; is_too_far()? && are_rising()?);
     assert!(rt; VOICE < MEMBERS);
+    assert!(rt; are_apart(&PARA_2, &PARA_2000) && !are_apart(&PARA_2, &PARA_2));
+    assert!(rt; !are_apart(&POLKADOT, &PALLET) && PARA_2 != PALLET);
     assert!(rt; say_why(rt.alloc())?);
     Ok(())
 }

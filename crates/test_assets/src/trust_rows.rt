@@ -84,7 +84,7 @@ fn paths_of_chains(rt: HostRuntime) {
     assert!(rt; PARA.path().items() == [POLKADOT, Junction::Parachain(1000)].as_slice());
 }
 
-/// A chain, another chain, and where that stands, as the first names it.
+/// A chain, another chain, and the location of that, as the first names it.
 const LOCATIONS: &[(ChainId, ChainId, Place)] = &[
     (ChainId::Para(7), ChainId::Relay, (1, &[])),
     (
@@ -150,7 +150,7 @@ const SOVEREIGNS: &[([u8; 32], bool)] = &[
         *b"Para\xd0\x07\0\0\0\0\0\0\0\0\0\0\0\0\0\0\0\0\0\0\0\0\0\0\0\0\0\0",
         false,
     ),
-    // a byte behind the number, and one at the end
+    // a byte after the number, and one at the end
     (
         *b"sibl\xd0\x07\0\0\x01\0\0\0\0\0\0\0\0\0\0\0\0\0\0\0\0\0\0\0\0\0\0\0",
         false,
@@ -176,7 +176,7 @@ fn asset(id: Location, fun: Fun) -> Asset {
     }
 }
 
-/// A native asset at the place with these partners, and so much on its checking account, if it has one.
+/// A native asset at the location with these partners, and so much on its checking account, if it has one.
 fn native(
     alloc: Global,
     place: Place,
@@ -256,7 +256,7 @@ const TRUSTED: &[(Place, Fun, Option<usize>, [bool; 3], [bool; 3])] = &[
     ),
 ];
 
-/// Whether the chain at the place is the asset's reserve and its partner.
+/// Whether the chain at the location is the asset's reserve and its partner.
 fn trusted(rows: &[AssetRow], asset: &Asset, place: Place) -> Result<(bool, bool), Full> {
     let chain = location(place)?;
     let reserve = is_reserve(rows, &PARA, asset, &chain);

@@ -89,7 +89,7 @@ forwarded_writable v (i ∷ p) rest first some at w u few small = record {
   amounts = (subst HasAmounts (sym at) w.amounts.0, (clear_amounts, u.amounts));
 }
 
--- the first instruction of a message that was decoded, and the program of another behind it
+-- the first instruction of a message that was decoded, and the program of another after it
 pub decoded_forwarded : (v : Version) (a b : List ℕ) (p rest : List Instruction) (first : Instruction) → 0 < length p → first ≡ get_or p 0 first → IsDecoded a p → IsDecoded b rest → IsWritable v (forwarded first rest)
 decoded_forwarded v a b p rest first some at d e =
     forwarded_writable v p rest first some at (decoded_writable a v p d) (decoded_writable b v rest e) d.message.1.readable.small.few e.message.1.readable.small.few

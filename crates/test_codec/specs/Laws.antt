@@ -1,4 +1,4 @@
--- Lemmas for proofs; a reader of the definitions skips this file. What stands in a map's rows after one is written.
+-- Lemmas for proofs; a reader of the definitions skips this file. What is in a map's rows after one is written.
 use Rattle.std.proofs.Common.{◌≡◌, inl, inr, ℕ, ◌≤◌, Bool, List, ap, arith}
 use Rattle.std.specs.Prelude.{if◌then◌else◌}
 use Rattle.std.specs.Ordering.{eq_by_cmp}

@@ -322,12 +322,12 @@ const NOT_SPELLED: &[(Form, &str)] = &[
     (Form::List(Version::V4), "0400000000"),
     (Form::List(Version::V3), "040000000000"),
     (Form::List(Version::V4), ABSTRACT),
-    // places out of order, and one place twice
+    // locations out of order, and one location twice
     (Form::List(Version::V4), "080100000400000004"),
     (Form::List(Version::V4), "080000000400000008"),
     // an instance before an amount
     (Form::List(Version::V4), "080000010001000004"),
-    // a location without an index in front, in version 3
+    // a location without an index before it, in version 3
     (Form::List(Version::V3), "0401000004"),
     // the number in a longer form
     (Form::List(Version::V4), "050001000004"),
@@ -342,7 +342,7 @@ const NOT_SPELLED: &[(Form, &str)] = &[
     (Form::Filter, "01"),
 ];
 
-/// Whether no front of the bytes is spelled so.
+/// Whether no prefix of the bytes is spelled so.
 fn refuses(alloc: Global, cursor: &mut Cursor<'_>, form: &Form) -> bool {
     match form {
         Form::Instance => read_instance(cursor).is_err(),
@@ -356,7 +356,7 @@ fn refuses(alloc: Global, cursor: &mut Cursor<'_>, form: &Form) -> bool {
     }
 }
 
-/// Whether no front of what the hex says is spelled so, and the cursor stays.
+/// Whether no prefix of what the hex says is spelled so, and the cursor stays.
 fn is_none(alloc: Global, form: &Form, hex: &str) -> Result<bool, Fail> {
     let bytes = unhex(alloc, hex)?;
     let mut cursor = Cursor::new(bytes.as_slice());

@@ -45,7 +45,7 @@ fn change_amount(rows: &mut AmountRows, who: &[u8; 32], row: u32, new: u128)
     }
 }
 
-/// One move less; no where there is none left.
+/// One move less; `None` where there is none left.
 fn count_down(moves_left: &mut Option<u32>) -> bool {
     match *moves_left {
         None => true,

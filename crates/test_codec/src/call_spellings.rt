@@ -67,7 +67,7 @@ fn other_bytes_are_no_calls(rt: HostRuntime) -> Result<(), Fail> {
     Ok(())
 }
 
-/// The bytes of the front, and behind them a byte so many times.
+/// The first bytes, and after them a byte so many times.
 fn filled(alloc: Global, front: &[u8], count: usize, byte: u8) -> Result<Vec<u8>, Fail> {
     let mut bytes = Vec::new(alloc);
     bytes.extend_from_slice(front)?;

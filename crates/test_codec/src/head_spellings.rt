@@ -165,7 +165,7 @@ const KNOWN: &[(Known, &str)] = &[
     (Known::Answer, "031c0309000000a10f910100"),
 ];
 
-/// Whether the fields stand in order.
+/// Whether the fields are in order.
 fn are_in_order(read: &Instruction, known: &Known) -> bool {
     match (read, known) {
         (
@@ -218,7 +218,7 @@ fn is_known(alloc: Global, known: &Known, hex: &str) -> Result<bool, Fail> {
     Ok(are_in_order(&read, known))
 }
 
-/// Whether version 4 reads the hex as an instruction with an empty program inside, and leaves what stands behind.
+/// Whether version 4 reads the hex as an instruction with an empty program inside, and leaves what follows.
 fn leaves_the_program(alloc: Global, hex: &str) -> Result<bool, Fail> {
     let mut bytes = unhex(alloc, hex)?;
     bytes.extend_from_slice(&[4, 10])?;
@@ -242,7 +242,7 @@ const WITH_PROGRAMS: &[&str] = &[
     "260200",
 ];
 
-/// Whether no front of what the hex says is a head, and the cursor stays.
+/// Whether no prefix of what the hex says is a head, and the cursor stays.
 fn is_no_head(alloc: Global, v: Version, hex: &str) -> Result<bool, Fail> {
     let bytes = unhex(alloc, hex)?;
     let mut cursor = Cursor::new(bytes.as_slice());
@@ -256,7 +256,7 @@ fn is_no_head(alloc: Global, v: Version, hex: &str) -> Result<bool, Fail> {
 /// An amount of 1 of 32 zero bytes is burned in version 3. The same bytes say an amount of 0 in version 4.
 const ABSTRACT: &str = "1c040100000000000000000000000000000000000000000000000000000000000000000004";
 
-/// Hex at the front of which stands no head in the version.
+/// Hex at the front of which there is no head in the version.
 const NO_HEADS: &[(Version, &str)] = &[
     // no index, and none from 48 on
     (Version::V4, ""),

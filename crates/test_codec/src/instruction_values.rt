@@ -45,12 +45,12 @@ fn handler(xcm: Program) -> Instruction {
     Instruction::SetErrorHandler { xcm }
 }
 
-/// Whether a program stands inside, and is one that a run keeps.
+/// Whether there is a program inside, and is one that a run keeps.
 fn has_program(instruction: &Instruction) -> bool {
     inner(instruction).is_some() && kept(instruction).is_some()
 }
 
-/// Whether no program stands inside.
+/// Whether there is no program inside.
 fn has_none(instruction: &Instruction) -> bool {
     inner(instruction).is_none() && kept(instruction).is_none()
 }

@@ -3,7 +3,7 @@
 use std::alloc::{AllocError, Global};
 use std::test::Fail;
 
-/// The bytes of the front, and behind them a byte so many times.
+/// The first bytes, and after them a byte so many times.
 pub(crate) fn filled(
     alloc: Global,
     front: &[u8],

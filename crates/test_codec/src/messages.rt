@@ -185,7 +185,7 @@ const REFUSED: &[(&str, MessageFault)] = &[
         "040400040100000000000000000000000000000000000000000000000000000000000000000004",
         MessageFault::NotAMessage,
     ),
-    // the same, in a handler and behind another instruction
+    // the same, in a handler and after another instruction
     (
         "03080a150400040100000000000000000000000000000000000000000000000000000000000000000004",
         MessageFault::NotConvertible,
@@ -203,7 +203,7 @@ const REFUSED: &[(&str, MessageFault)] = &[
     ("0403ffffffff", MessageFault::NotAMessage),
     ("04040600000003ffffffff", MessageFault::NotAMessage),
     ("0404060000000300000040", MessageFault::NotAMessage),
-    // nine levels: eight appendices in one another, round an empty program, and round one more instruction
+    // nine levels: eight appendices in one another, around an empty program, and around one more instruction
     (
         "0404160416041604160416041604160416041600",
         MessageFault::NotAMessage,
@@ -295,7 +295,7 @@ fn is_trap(alloc: Global, v: Version, want: &[u8]) -> Result<bool, Fail> {
     Ok(bytes.as_slice() == want && read == program)
 }
 
-/// Whether the front, so many instructions that clear the origin, and the back are a message.
+/// Whether the first bytes, so many instructions that clear the origin, and the last bytes are a message.
 fn is_message(alloc: Global, front: &[u8], count: usize, back: &[u8]) -> Result<bool, Fail> {
     let mut bytes = filled(alloc, front, count, 10)?;
     bytes.extend_from_slice(back)?;
@@ -309,7 +309,7 @@ fn is_message(alloc: Global, front: &[u8], count: usize, back: &[u8]) -> Result<
 /// An appendix of one instruction.
 const APPENDIX: &[u8] = &[0x16, 4, 10];
 
-/// Fronts, how many instructions that clear the origin stand behind them, what ends them, and whether that is a message: it is where there
+/// First bytes, how many instructions that clear the origin follow them, what ends them, and whether that is a message: it is where there
 /// are at most a hundred instructions.
 const COUNTED: &[(&[u8], usize, &[u8], bool)] = &[
     (&[4, 0x91, 1], 100, &[], true),
@@ -320,10 +320,10 @@ const COUNTED: &[(&[u8], usize, &[u8], bool)] = &[
     (&[4, 0x91, 1], 99, APPENDIX, false),
 ];
 
-/// The front of a message of 65,536 bytes: one call of 65,526 bytes.
+/// The first bytes of a message of 65,536 bytes: one call of 65,526 bytes.
 const LONG_FRONT: &[u8] = &[4, 4, 6, 0, 0, 0, 0xda, 0xff, 3, 0];
 
-/// Whether the front and so many bytes of this value are refused for this cause.
+/// Whether the first bytes and so many bytes of this value are refused for this cause.
 fn is_refused_filled(
     alloc: Global,
     front: &[u8],
@@ -341,7 +341,7 @@ fn may_be_long(alloc: Global) -> Result<bool, AllocError> {
     Ok(decode_message(alloc, whole.as_slice()).is_ok())
 }
 
-/// Fronts, how many bytes of a value stand behind them, and why that is refused: length is looked at first.
+/// First bytes, how many bytes of a value follow them, and why that is refused: length is looked at first.
 const FILLED: &[(&[u8], usize, u8, MessageFault)] = &[
     (LONG_FRONT, 65_527, 0, MessageFault::TooLong),
     (&[7], 65_536, 7, MessageFault::TooLong),
@@ -383,7 +383,7 @@ fn have_messages(alloc: Global) -> Result<bool, AllocError> {
 /// A notice of a deposit of 1000.
 const NOTICE: [u8; 9] = [4, 4, 1, 4, 1, 0, 0, 0xa1, 0x0f];
 
-/// Sends on the notice, and the program of the message behind it. The outer result says whether the messages could be read.
+/// Sends on the notice, and the program of the message after it. The outer result says whether the messages could be read.
 fn forwarded(
     alloc: Global,
     rest: &[u8],
@@ -402,11 +402,11 @@ fn forwarded(
 const REST: &str =
     "0408130100009101000d010204000101000202020202020202020202020202020202020202020202020202020202020202";
 
-/// The message with the notice in front.
+/// The message with the notice before it.
 const SENT: &str =
     "04100104010000a10f0a130100009101000d010204000101000202020202020202020202020202020202020202020202020202020202020202";
 
-/// Whether the notice stands in front of what is sent on.
+/// Whether the notice comes before what is sent on.
 fn is_in_front(alloc: Global) -> Result<bool, Fail> {
     let rest = unhex(alloc, REST)?;
     let sent = forwarded(alloc, rest.as_slice(), Version::V4)??;
@@ -414,7 +414,7 @@ fn is_in_front(alloc: Global) -> Result<bool, Fail> {
     Ok(text.as_str() == SENT)
 }
 
-/// Why what follows the notice in version 3 isn't sent on: the front, and so many bytes of this value.
+/// Why what follows the notice in version 3 isn't sent on: the first bytes, and so many bytes of this value.
 fn not_sent(
     alloc: Global,
     front: &[u8],
@@ -430,7 +430,7 @@ const DEEP: &[u8] = &[
     4, 4, 0x16, 4, 0x16, 4, 0x16, 4, 0x16, 4, 0x16, 4, 0x16, 4, 0x16, 4, 10,
 ];
 
-/// Fronts, how many instructions or bytes of a value stand behind them, and why that isn't sent on, if it isn't: 98 instructions are and eight
+/// First bytes, how many instructions or bytes of a value follow them, and why that isn't sent on, if it isn't: 98 instructions are and eight
 /// levels, and 99 instructions aren't, and 65,536 bytes.
 const SENT_ON: &[(&[u8], usize, u8, Option<EncodeFault>)] = &[
     (&[4, 0x89, 1], 98, 10, None),

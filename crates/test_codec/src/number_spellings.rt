@@ -57,7 +57,7 @@ fn spells(alloc: Global, number: u128, bytes: &[u8]) -> Result<bool, AllocError>
     Ok(out.bytes() == bytes && read == Ok(number) && cursor.rest().is_empty())
 }
 
-/// Whether no front of the bytes is a compact number, and the cursor stays.
+/// Whether no prefix of the bytes is a compact number, and the cursor stays.
 fn is_no_number(bytes: &[u8]) -> bool {
     let mut cursor = Cursor::new(bytes);
     let read = cursor.compact_u128();

@@ -1,11 +1,11 @@
-//! Places and bytes that several tables speak of, and how hex is read.
+//! Locations and bytes that several tables use, and how hex is read.
 ghost use Rattle.std.specs.Prelude.{◌≤◌, length};
 
 use locations::{Junction, Junctions, Location};
 use std::alloc::{AllocError, Global};
 use std::test::Fail;
 
-/// The place behind these junctions, so many levels up.
+/// The location of these junctions, so many levels up.
 pub(crate) fn place(parents: u8, items: &[Junction]) -> Location
     requires { length items.now ≤ 8 }
 {
@@ -13,7 +13,7 @@ pub(crate) fn place(parents: u8, items: &[Junction]) -> Location
     Location { parents, interior }
 }
 
-/// The bytes of the front, and behind them a byte so many times.
+/// The first bytes, and after them a byte so many times.
 pub(crate) fn filled(
     alloc: Global,
     front: &[u8],

@@ -108,7 +108,7 @@ const SPELLED: &[(Value, &str)] = &[
     (Value::Kind(OriginKind::SovereignAccount), "01"),
     (Value::Kind(OriginKind::Superuser), "02"),
     (Value::Kind(OriginKind::Xcm), "03"),
-    // each error without a code is its index, and a trap has its code behind that
+    // each error without a code is its index, and a trap has its code after that
     (Value::Error(XcmError::Overflow), "00"),
     (Value::Error(XcmError::Unimplemented), "01"),
     (Value::Error(XcmError::UntrustedReserveLocation), "02"),
@@ -475,7 +475,7 @@ const NOT_SPELLED: &[(Form, &str)] = &[
     (Form::Response, "010401000000"),
 ];
 
-/// Whether no front of the bytes is spelled so.
+/// Whether no prefix of the bytes is spelled so.
 fn refuses(alloc: Global, cursor: &mut Cursor<'_>, form: &Form) -> bool {
     match form {
         Form::Weight => read_weight(cursor).is_err(),
@@ -499,13 +499,13 @@ fn refuses(alloc: Global, cursor: &mut Cursor<'_>, form: &Form) -> bool {
     }
 }
 
-/// Whether no front of the bytes is spelled so, and the cursor stays.
+/// Whether no prefix of the bytes is spelled so, and the cursor stays.
 fn are_none(alloc: Global, form: &Form, bytes: &[u8]) -> bool {
     let mut cursor = Cursor::new(bytes);
     refuses(alloc, &mut cursor, form) && cursor.rest() == bytes
 }
 
-/// Whether no front of what the hex says is spelled so, and the cursor stays.
+/// Whether no prefix of what the hex says is spelled so, and the cursor stays.
 fn is_none(alloc: Global, form: &Form, hex: &str) -> Result<bool, Fail> {
     let bytes = unhex(alloc, hex)?;
     Ok(are_none(alloc, form, bytes.as_slice()))

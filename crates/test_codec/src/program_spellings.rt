@@ -68,18 +68,18 @@ fn is_measured(
     Ok(measured(alloc, hex)? == Some((count, levels, sending, convertible)))
 }
 
-/// Hex at the front of which no program stands within the limits.
+/// Hex at the front of which there is no program within the limits.
 const REFUSED: &[&str] = &[
     "",
     // an index from 48 on, fewer instructions than the number says, a number of 2^32-1
     "0430",
     "080a",
     "03ffffffff0a",
-    // eight appendices in one another, round one more instruction
+    // eight appendices in one another, around one more instruction
     "04160416041604160416041604160416040a",
 ];
 
-/// Whether no front of what the hex says is a program, and the cursor stays.
+/// Whether no prefix of what the hex says is a program, and the cursor stays.
 fn is_no_program(alloc: Global, hex: &str) -> Result<bool, Fail> {
     let bytes = unhex(alloc, hex)?;
     let mut cursor = Cursor::new(bytes.as_slice());

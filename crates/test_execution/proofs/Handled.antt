@@ -1,13 +1,10 @@
 -- What the two transactors handle is listed, and a deposit changes no listing.
 use Rattle.std.proofs.Common.{◌≡◌, ◌++◌, ℕ, List, [], ◌∷◌, refl, ap, ◌∙◌}
 use Rattle.std.specs.Prelude.{Option, None, Some, Result, Ok, Err}
-use Rattle.locations.specs.declared.relative.Location.{Location}
 use Rattle.asset_lists.specs.declared.units.Kind.{Kind}
 use Rattle.asset_bundles.specs.Bundles.{Bundle}
 use Rattle.ledgers.specs.Ledgers.{Accounts, Deposited}
-use Rattle.trust_tables.specs.declared.chains.Site.{Site}
 use Rattle.trust_tables.specs.declared.rows.AssetRow.{AssetRow}
-use Rattle.trust_tables.specs.Accounts.{account_of}
 use Rattle.transactors.specs.declared.faults.MoveFault.{MoveFault}
 use Rattle.transactors.specs.declared.faults.MoveFault.TheVariants.{NotHandled, NoAccount, Refused, Memory}
 use Rattle.transactors.specs.Checks.{rows_of_kind}
@@ -24,9 +21,9 @@ same_listing : (o : Option (List ℕ)) (goods : Bundle) (ledger : Accounts) → 
 same_listing None goods ledger = refl
 same_listing (Some who) goods ledger = refl
 
-pub listing_kept : (fault : Option MoveFault) (site : Site) (goods : Bundle) (who : Location) (ledger now : Accounts) (r : Result (Unit {0}) (Bundle × MoveFault)) → MovesIn fault goods (after_deposit site goods who ledger) ledger r now → now.listed ≡ ledger.listed
-listing_kept fault site goods who ledger now (Ok done) h = ap (λ (l : Accounts). l.listed) h.1 ∙ same_listing (account_of who site) goods ledger
-listing_kept fault site goods who ledger now (Err (back, NotHandled)) h = ap (λ (l : Accounts). l.listed) h.2
-listing_kept fault site goods who ledger now (Err (back, NoAccount)) h = ap (λ (l : Accounts). l.listed) h.2
-listing_kept fault site goods who ledger now (Err (back, Refused)) h = ap (λ (l : Accounts). l.listed) h.2
-listing_kept fault site goods who ledger now (Err (back, Memory)) h = ap (λ (l : Accounts). l.listed) h.1
+pub listing_kept : (fault : Option MoveFault) (goods : Bundle) (to : Option (List ℕ)) (ledger now : Accounts) (r : Result (Unit {0}) (Bundle × MoveFault)) → MovesIn fault goods (after_deposit goods to ledger) ledger r now → now.listed ≡ ledger.listed
+listing_kept fault goods to ledger now (Ok done) h = ap (λ (l : Accounts). l.listed) h.1 ∙ same_listing to goods ledger
+listing_kept fault goods to ledger now (Err (back, NotHandled)) h = ap (λ (l : Accounts). l.listed) h.2
+listing_kept fault goods to ledger now (Err (back, NoAccount)) h = ap (λ (l : Accounts). l.listed) h.2
+listing_kept fault goods to ledger now (Err (back, Refused)) h = ap (λ (l : Accounts). l.listed) h.2
+listing_kept fault goods to ledger now (Err (back, Memory)) h = ap (λ (l : Accounts). l.listed) h.1

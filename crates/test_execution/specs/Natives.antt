@@ -1,4 +1,4 @@
--- The assets of the rows, and what stands on the first account.
+-- The assets of the rows, and what is on the first account.
 use Rattle.std.specs.Prelude.{ℕ, List, [], ◌∷◌, nat_eq, if◌then◌else◌, replicate}
 use Rattle.locations.specs.declared.grammar.Junction.{Junction}
 use Rattle.locations.specs.declared.relative.Location.{Location}

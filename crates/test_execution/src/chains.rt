@@ -72,7 +72,7 @@ pub(crate) fn here() -> Location {
     }
 }
 
-/// The place behind a junction.
+/// The location of a junction.
 pub(crate) fn at(junction: Junction) -> Location {
     let mut interior = Junctions::empty();
     match interior.push(junction) {
@@ -84,7 +84,7 @@ pub(crate) fn at(junction: Junction) -> Location {
     }
 }
 
-/// The account's place.
+/// The account's location.
 pub(crate) fn of(account: [u8; 32]) -> Location {
     at(Junction::AccountId32 {
         network: None,
@@ -92,12 +92,12 @@ pub(crate) fn of(account: [u8; 32]) -> Location {
     })
 }
 
-/// The parachain's place, which is also the id of its asset.
+/// The parachain's location, which is also the id of its asset.
 pub(crate) fn para() -> Location {
     at(Junction::Parachain(1000))
 }
 
-/// So much of the asset that this place defines.
+/// So much of the asset that this location defines.
 pub(crate) fn coins(place: Location, amount: u128) -> Asset
     requires { 0 < amount }
     ensures some { IsFalse (is_zero result) }

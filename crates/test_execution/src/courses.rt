@@ -71,7 +71,7 @@ fn goes(chain: &mut ChainState, alloc: Global, course: Course) -> Result<bool, H
     }
 }
 
-/// Whether the course goes as it should on a new chain. Here alone a chain ends, which is dear to prove.
+/// Whether the course goes as it should on a new chain. Here alone a chain ends, which is expensive to prove.
 fn is_right(alloc: Global, course: Course) -> Result<bool, Fail> {
     let mut chain = relay(alloc)?;
     Ok(goes(&mut chain, alloc, course) == Ok(true))

@@ -48,11 +48,11 @@ fn balances_of(alloc: Global, accounts: Vec<([u8; 32], Asset)>) -> Result<Vec<Ba
 }
 
 impl FakeHost {
-    /// A chain with these rows and open queries, on whose accounts just this stands: each an
+    /// A chain with these rows and open queries, on whose accounts just this is: each an
     /// account's 32 bytes, and an asset that it has. No two rows list the same asset, there are fewer
     /// than 2^32 of them, the id of each has a path of at most 8 junctions, and none has a checking
     /// account. Each asset is of a row, and an amount above 0 or an instance; no account has a
-    /// fungible asset twice, and an instance stands there once. An `Err` is out of memory.
+    /// fungible asset twice, and an instance is there once. An `Err` is out of memory.
     #[tactic(auto, using(crate::proofs::Unchecked::unchecked_may))]
     pub fn new(
         alloc: Global,
@@ -105,8 +105,8 @@ impl FakeHost {
     /// The amount of a fungible asset in all traps, in its smallest unit, or the number of instances
     /// of a class. It saturates at 2^160-1.
     pub fn trapped(&self, id: &AssetId, kind: Kind) -> Total
-        ensures { total_value result ≡ min (trapped_amount id.now kind (fake_part_of self.now).traps.traps)
-            most_burned }
+        ensures { total_value result ≡ min
+            (trapped_amount id.now kind (fake_part_of self.now).traps.traps) most_burned }
     {
         self.chain.traps().total(id, kind)
     }

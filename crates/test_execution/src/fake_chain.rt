@@ -41,7 +41,7 @@ const LIMIT: Weight = Weight {
     proof_size: 5_242_880,
 };
 
-/// The place of a number: the chain itself, or a general index.
+/// The location of a number: the chain itself, or a general index.
 fn place(number: u128) -> Location
     ensures { result ≡ fixture_location number }
 {
@@ -54,7 +54,7 @@ fn place(number: u128) -> Location
     at(Junction::GeneralIndex(number))
 }
 
-/// The place behind a junction.
+/// The location of a junction.
 pub(crate) fn at(junction: Junction) -> Location
     ensures { result ≡ record { parents = 0; interior = junction ∷ [] } }
 {
@@ -68,7 +68,7 @@ pub(crate) fn at(junction: Junction) -> Location
     }
 }
 
-/// The account's place.
+/// The account's location.
 pub(crate) fn of(account: [u8; 32]) -> Location {
     at(Junction::AccountId32 {
         network: None,

@@ -74,7 +74,7 @@ pub(crate) fn traps(chain: &mut ChainState, alloc: Global) -> Result<bool, HostF
     Ok(so == [true; 10])
 }
 
-/// Receives so much of the asset that this place defines from the parachain: how many kinds that is.
+/// Receives so much of the asset that this location defines from the parachain: how many kinds that is.
 fn received(
     chain: &mut ChainState,
     alloc: Global,
@@ -267,7 +267,7 @@ fn park(chain: &mut ChainState, assets: &Assets) -> Result<(), HostFault>
     Ok(())
 }
 
-/// What is parked stands aside.
+/// What is parked is kept aside.
 pub(crate) fn parking(chain: &mut ChainState, alloc: Global) -> Result<bool, HostFault>
     requires { (part_of chain.old).parked ≡ [] }
 {

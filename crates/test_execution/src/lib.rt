@@ -27,7 +27,7 @@ mod transactor_rows;
 
 use chain_state::ChainState;
 
-/// Lets a chain go, as the rows do at their ends: for the prover, which shows here that what always holds of it holds to the last.
+/// Drops a chain, as the rows do at their ends: for the prover, which shows here that its invariant holds until then.
 pub fn let_go(chain: ChainState) {
     drop(chain);
 }

@@ -51,7 +51,7 @@ const COURSES: &[Course<'_>] = &[
     Course::Booked,
 ];
 
-/// Whether the course goes as it should on a new chain. Here alone a chain ends, which is dear to prove.
+/// Whether the course goes as it should on a new chain. Here alone a chain ends, which is expensive to prove.
 fn is_right(alloc: Global, course: Course<'_>) -> Result<bool, Fail> {
     let rules = rules(alloc)?;
     let mut host = opened(alloc)?;

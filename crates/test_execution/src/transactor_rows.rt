@@ -33,7 +33,7 @@ fn here() -> Location
     }
 }
 
-/// The place behind a junction.
+/// The location of a junction.
 fn at(junction: Junction) -> Location {
     let mut interior = Junctions::empty();
     match interior.push(junction) {
@@ -45,7 +45,7 @@ fn at(junction: Junction) -> Location {
     }
 }
 
-/// The account's place.
+/// The account's location.
 fn of(account: [u8; 32]) -> Location {
     at(Junction::AccountId32 {
         network: None,
@@ -64,7 +64,7 @@ fn coins(amount: u128) -> Asset
     }
 }
 
-/// The instance of that number, of the class at that place.
+/// The instance of that number, of the class at that location.
 fn instance(place: Location, number: u128) -> Asset
     ensures some { IsFalse (is_zero result) }
 {
@@ -191,13 +191,15 @@ fn moves(alloc: Global, rows: &[AssetRow], ledger: &mut Ledger, three: &Assets) 
         t.check_out(ledger, &coins(5), &of(A1)) == Ok(()),
         t.check_out(ledger, &coins(6), &of(A1)) == Err(MoveFault::Refused),
         t.check_in(ledger, &coins(6), &of(A2)) == Ok(()),
+        t.check_account_out(ledger, &coins(6), Some(A1)) == Err(MoveFault::Refused),
+        t.check_account_in(ledger, &coins(6), Some(A2)) == Ok(()),
         transfer_all(&t, ledger, three, &of(A1), &of(A2)) == Ok(()),
         transfer_all(&t, ledger, three, &of(A1), &of(A2)) == Err(MoveFault::Refused),
         withdrawn(alloc, rows, ledger, three, &of(A2)).is_none(),
         ledger.amount(&A1, &id) == 2,
         ledger.amount(&A2, &id) == 0,
     ];
-    so == [true; 10]
+    so == [true; 12]
 }
 
 /// Whether the moves, or else the deposits, go as they should on a new ledger, which ends here.

@@ -3,7 +3,7 @@ use crate::documents::{COHERENT, RESERVE};
 use crate::stepping::check;
 use std::test::Fail;
 
-/// A relay chain where time is dear, and each instruction takes one and a half times what costs 1.
+/// A relay chain where time is expensive, and each instruction takes one and a half times what costs 1.
 const DEAR: &str = r#"{"chains":[
 {"unit_weight":[1500000000000,0],"max_weight":[10000000000000,0],
  "assets":[{"id":"0","native":[]}],

@@ -1,4 +1,4 @@
-//! Steps in networks: what each tells, and what stands behind it; and a course of messages through channels.
+//! Steps in networks: what each tells, and what is there after it; and a course of messages through channels.
 #![tactic(auto)]
 
 #[cfg(test)]
@@ -28,7 +28,7 @@ mod traps;
 
 use chain_net::Net;
 
-/// Lets a network go, as the rows do at their ends: for the prover, which shows here that what always holds of it holds to the last.
+/// Drops a network, as the rows do at their ends: for the prover, which shows here that its invariant holds until then.
 pub fn let_go(net: Net) {
     drop(net);
 }

@@ -74,7 +74,7 @@ fn a_burn_is_booked(rt: HostRuntime) -> Result<(), Fail> {
     check(&rt, rt.alloc(), RESERVE, COHERENT, BURNED)
 }
 
-/// A handler and an appendix run behind an error, and appendices within appendices down to the last level.
+/// A handler and an appendix run after an error, and appendices within appendices down to the last level.
 const HANDLED: &[(&str, &str)] = &[
     (
         "exec relay A1 041415041716040a191c2d2d",

@@ -1,6 +1,6 @@
 //! Networks that are opened and stepped, and what is told of it.
 use chain_net::{Net, StepResult};
-use input_lines::{Line, read_line};
+use input_lines::{Line, Step, read_line};
 use network_coherence::coherent;
 use network_config::read_network;
 use network_validity::law_of_valid_networks;
@@ -10,7 +10,7 @@ use std::process::Abort;
 use std::test::Fail;
 use step_text::{drained_line, opening_line};
 
-/// Short words of the tables, and what they stand for: accounts, their bytes within a message, the account of a chain's first pool, and that
+/// Short words of the tables, and what they mean: accounts, their bytes within a message, the account of a chain's first pool, and that
 /// of parachain 2000 at the relay chain.
 const WORDS: &[(&str, &str)] = &[
     (
@@ -51,7 +51,7 @@ const WORDS: &[(&str, &str)] = &[
     ),
 ];
 
-/// The text, with what its short words stand for.
+/// The text, with what its short words mean.
 fn spelled(alloc: Global, text: &str) -> Result<String, AllocError> {
     let mut spelled = String::from_str(alloc, text)?;
     for (word, meaning) in WORDS {
@@ -74,12 +74,12 @@ fn told(alloc: Global, net: &Net, answer: StepResult) -> Result<String, Fail> {
 }
 
 /// Takes a step in the network, or reads it: what is told of it.
-fn step(alloc: Global, net: &mut Net, line: Line) -> Result<String, Fail> {
+fn take(alloc: Global, net: &mut Net, step: Step) -> Result<String, Fail> {
     if net.stopped() {
         return Err(Fail::new("the network is stopped"));
     }
-    match line {
-        Line::Exec {
+    match step {
+        Step::Exec {
             chain,
             account,
             message,
@@ -87,31 +87,32 @@ fn step(alloc: Global, net: &mut Net, line: Line) -> Result<String, Fail> {
             let answer = net.exec(chain, &account, message.items())?;
             told(alloc, net, answer)
         }
-        Line::Deliver { from, to } => {
+        Step::Deliver { from, to } => {
             let answer = net.deliver(from, to)?;
             told(alloc, net, answer)
         }
-        Line::Claim { from, to, message } => {
+        Step::Claim { from, to, message } => {
             let answer = net.claim(from, to, message.items())?;
             told(alloc, net, answer)
         }
-        Line::Drain => Ok(drained_line(alloc, net.drain()?)?),
-        Line::Balances => Ok(balances_text(alloc, net.chains())?),
-        Line::Traps => Ok(traps_text(alloc, net.chains())?),
-        Line::Queues => {
+        Step::Drain => Ok(drained_line(alloc, net.drain()?)?),
+        Step::Balances => Ok(balances_text(alloc, net.chains())?),
+        Step::Traps => Ok(traps_text(alloc, net.chains())?),
+        Step::Queues => {
             let channels = net.spec().channels.items();
             Ok(queues_text(alloc, channels, net.chains())?)
         }
-        Line::Supply => Ok(supply_block(alloc, net.chains())?),
-        Line::NoStep | Line::Refused => Err(Fail::new("no step")),
+        Step::Supply => Ok(supply_block(alloc, net.chains())?),
     }
 }
 
 /// The step of a line, in short words.
 pub(crate) fn stepped(alloc: Global, net: &mut Net, line: &str) -> Result<String, Fail> {
     let text = spelled(alloc, line)?;
-    let line = read_line(alloc, text.as_bytes())?;
-    step(alloc, net, line)
+    let Line::Step(step) = read_line(alloc, text.as_bytes())? else {
+        return Err(Fail::new("no step"));
+    };
+    take(alloc, net, step)
 }
 
 /// Whether the network is coherent, or why it isn't.
@@ -119,7 +120,7 @@ pub(crate) fn coherence(alloc: Global, net: &Net) -> Result<String, Fail> {
     Ok(opening_line(alloc, coherent(net.spec()).err())?)
 }
 
-/// Opens the network of a document, of whose coherence this is said, and takes steps in it. Each step has the lines that stand beside it.
+/// Opens the network of a document, of whose coherence this is said, and takes steps in it. Each step has the lines that are beside it.
 pub(crate) fn check(
     rt: &impl Abort,
     alloc: Global,

@@ -160,14 +160,14 @@ fn an_asset_is_summed_at_its_home_alone(rt: HostRuntime) -> Result<(), Fail> {
 /// An account sends 1000 from the relay chain to parachain 2000.
 const SENT: &str = "exec relay A1 04040504000000a10f000100411f08130100009101000d01020400010100B2";
 
-/// While these are on their way: a chain and its number, what stands at its first row, and what the reserve has for the chain, which owes it.
+/// While these are on their way: a chain and its number, what is at its first row, and what the reserve has for the chain, which owes it.
 const ON_THE_WAY: &[(ChainId, usize, u128, u128)] = &[
     (ChainId::Relay, 0, 1_000_000, 0),
     (ChainId::Para(2000), 1, 0, 1000),
     (ChainId::Para(2001), 2, 0, 0),
 ];
 
-/// Looks at the first row of each chain, by its place and by its chain.
+/// Looks at the first row of each chain, by its index and by its chain.
 fn check_first_rows(rt: &impl Abort, alloc: Global, chains: &[ChainState]) -> Result<(), Fail> {
     let index = AssetPlaces::of(alloc, chains)?;
     for (chain, number, stands, owed) in ON_THE_WAY {

@@ -10,7 +10,7 @@ const THREE: &str = r#"{"chains":[
   {"who":"A1","asset":"0/GeneralIndex(1)","amount":"5"},
   {"who":"A1","asset":"0/GeneralIndex(2)","amount":"5"}]}]}"#;
 
-/// A place without account takes nothing, what was to go there is trapped, and is claimed once.
+/// A location without account takes nothing, what was to go there is trapped, and is claimed once.
 const CLAIMED: &[(&str, &str)] = &[
     (
         "exec relay A1 0408000c000000140001050400140001050800140d01020c00010409",

@@ -112,7 +112,7 @@ exec 2000 0x0101010101010101010101010101010101010101010101010101010101010101 040
     },
 ];
 
-/// What stands before a call on a relay chain that serves calls.
+/// What comes before a call on a relay chain that serves calls.
 const CALLED: Part = Part::Text(
     "{\"format\":2,\"chains\":[{\"calls\":true}]}\n---\nexec relay 0x0101010101010101010101010101010101010101010101010101010101010101 04040601",
 );

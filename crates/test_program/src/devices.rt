@@ -8,7 +8,7 @@ use std::alloc::Global;
 use std::test::Fail;
 use xcm_cli::Status;
 
-/// The lines behind the network document, and what is written for each.
+/// The lines after the network document, and what is written for each.
 const LINES: &[(&str, &str)] = &[
     (
         "\n---\n",
@@ -143,7 +143,7 @@ fn source_fails(alloc: Global, input: &str, failing: usize, piece: usize) -> Res
     Ok(ran.has(status, report.as_bytes()))
 }
 
-/// The answer and what stands written where a write fails and each takes at most so many bytes: each line's report is written by calls of
+/// The answer and what is written where a write fails and each takes at most so many bytes: each line's report is written by calls of
 /// its own.
 fn front_of(alloc: Global, failing: usize, piece: usize) -> Result<(Status, Vec<u8>), Fail>
     requires { 0 < piece }

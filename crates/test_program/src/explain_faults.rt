@@ -15,7 +15,7 @@ const LONG_LINES: &[(usize, &[u8], Status)] = &[
     (262_145, b"\n", Status::TooLong),
 ];
 
-/// A message, and a comment line of so many bytes behind it.
+/// A message, and a comment line of so many bytes after it.
 fn long_line(alloc: Global, bytes: usize, end: &[u8]) -> Result<Vec<u8>, Fail> {
     let mut input = b"0400\n".to_vec(alloc)?;
     input.extend_from_slice(&vec![in alloc; b'#'; bytes]?)?;
@@ -40,7 +40,7 @@ fn a_line_has_at_most_a_quarter_of_a_mebibyte(rt: HostRuntime) -> Result<(), Fai
 #[test]
 fn a_failing_source_leaves_what_is_said_of_whole_lines(rt: HostRuntime) -> Result<(), Fail> {
     let alloc = rt.alloc();
-    // the sixth read, a byte at a time, is the first behind the first line
+    // the sixth read, a byte at a time, is the first after the first line
     let ran = ran_of(alloc, &[], b"0400\n0300", 1, &[6], &[])?;
     assert!(&rt; ran.has(Status::ReadFault, b"message 1 version 4\n"));
     let ran = ran_of(alloc, &[], b"0400\n0300", 1, &[5], &[])?;
@@ -48,7 +48,7 @@ fn a_failing_source_leaves_what_is_said_of_whole_lines(rt: HostRuntime) -> Resul
     Ok(())
 }
 
-/// Whether it is done, with the whole text, or ends in a failing write, with a shorter front of it.
+/// Whether it is done, with the whole text, or ends in a failing write, with a shorter prefix of it.
 fn is_cut(ran: &Ran, whole: &[u8]) -> bool {
     if ran.status == Status::Done {
         return ran.bytes.as_slice() == whole;

@@ -28,7 +28,7 @@ const INPUTS: &[(&str, Status, &str)] = &[
         Status::Done,
         "message 2 version 4\n  SetAppendix\n    xcm\n      ClearOrigin\nmessage 4 version 4\n  ClearOrigin\n  Trap\n    code 5\n",
     ),
-    // what is no hex ends it, whatever comes behind
+    // what is no hex ends it, whatever comes after
     (
         "04040a\n04040\n04040a\n",
         Status::LineRefused,

@@ -4,7 +4,7 @@ use crate::explain_running::answers;
 use std::test::Fail;
 use xcm_explain::Status;
 
-/// Bytes, and what is said of them behind the cause's line.
+/// Bytes, and what is said of them after the cause.
 const STOPS: &[(&str, &str)] = &[
     ("0x", "not a message at 0, expected version 3 or 4"),
     ("05", "unknown version at 0, expected version 3 or 4"),
@@ -22,7 +22,7 @@ const STOPS: &[(&str, &str)] = &[
     ("04080a", "not a message at 3, expected an instruction"),
     ("04080a19", "not a message at 3, expected an instruction"),
     ("04040a00", "not a message at 3, expected the end"),
-    // inside an appendix: its number of instructions, its second instruction, what stands behind it
+    // inside an appendix: its number of instructions, its second instruction, what follows it
     (
         "040416",
         "not a message at 3, expected a number of instructions",

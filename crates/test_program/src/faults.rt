@@ -164,7 +164,7 @@ fn ends_at(
 /// Whether a source that fails leaves the report of the whole lines.
 fn source_fails(alloc: Global, input: &str, whole: &[u8]) -> Result<bool, Fail> {
     let bytes = input.as_bytes();
-    // the eighth byte is the first one behind the line `---`
+    // the eighth byte is the first one after the line `---`
     Ok(
         ends_at(alloc, bytes, bytes.len(), 2, whole)?
             && ends_at(alloc, bytes, bytes.len(), 1, b"")?
@@ -172,7 +172,7 @@ fn source_fails(alloc: Global, input: &str, whole: &[u8]) -> Result<bool, Fail> 
     )
 }
 
-/// Whether a run is done, with the whole report, or ends in a failing write, with a shorter front of it.
+/// Whether a run is done, with the whole report, or ends in a failing write, with a shorter prefix of it.
 fn is_cut(ran: &Ran, whole: &[u8]) -> bool {
     if ran.status == Status::Done {
         return ran.bytes.as_slice() == whole;
@@ -182,7 +182,7 @@ fn is_cut(ran: &Ran, whole: &[u8]) -> bool {
         && whole.starts_with(&ran.bytes)
 }
 
-/// Whether a run in which the write of this number fails leaves a front of the report.
+/// Whether a run in which the write of this number fails leaves a prefix of the report.
 fn sink_fails(alloc: Global, input: &str, failing: u64, whole: &[u8]) -> Result<bool, Fail> {
     let ran = run_of(alloc, RUN, input.as_bytes(), 16, &[], &[failing])?;
     Ok(is_cut(&ran, whole))

@@ -7,7 +7,7 @@ use xcm_cli::Status;
 
 const USAGE: &str = "usage: run | run --audit | gen NUMBER STEPS\n";
 
-/// Words that ask for so many steps behind a number, and the report.
+/// Words that ask for so many steps after a number, and the report.
 const DRAWN: &[(&[&str], &str)] = &[
     (
         &["gen", "0", "0"],

@@ -81,7 +81,7 @@ complete 28 incomplete 6 error 0 empty 16
     )
 }
 
-/// Behind so many steps the account of the relay chain has nothing left to send.
+/// After so many steps the account of the relay chain has nothing left to send.
 #[test]
 fn many_steps_keep_the_supply(rt: HostRuntime) -> Result<(), Fail> {
     all_are(

@@ -6,7 +6,7 @@ use crate::running::PIECES;
 use crate::tables::{EXECUTE, NOT_A_MESSAGE, STEP, Table};
 use xcm_cli::Status;
 
-/// What stands before a message that is executed on a relay chain without assets.
+/// What comes before a message that is executed on a relay chain without assets.
 const EXECUTED: Part = Part::Text(
     "{}\n---\nexec relay 0x0101010101010101010101010101010101010101010101010101010101010101 ",
 );
@@ -14,10 +14,10 @@ const EXECUTED: Part = Part::Text(
 /// What is written before what the message does.
 const OPENED: Part = Part::Text("coherent\n#1 exec relay\n");
 
-/// What is written where the first line behind the network is none.
+/// What is written where the first line after the network is none.
 const NOT_A_LINE: &str = "line 3 refused\n";
 
-/// Messages in which what is named is counted as 2^32-1; no byte comes behind the count.
+/// Messages in which what is named is counted as 2^32-1; no byte comes after the count.
 const COUNTS: &[(&str, &str)] = &[
     // a program
     ("0403ffffffff", NOT_A_MESSAGE),

@@ -21,7 +21,7 @@ const INPUTS: &[(&str, Status, &str)] = &[
         Status::NetworkRefused,
         "network refused: WrongKind at top 0\n",
     ),
-    // what is behind a network that is refused isn't read
+    // what follows a network that is refused isn't read
     (
         "{\"chain\":[]}\n---\nexec relay zz 04\n",
         Status::NetworkRefused,
@@ -40,7 +40,7 @@ const INPUTS: &[(&str, Status, &str)] = &[
     ),
 ];
 
-/// Lines behind a relay chain without assets, with their answer and report.
+/// Lines after a relay chain without assets, with their answer and report.
 const LINES: &[(&str, Status, &str)] = &[
     (
         "exec relay zz 04\n",
@@ -96,7 +96,7 @@ const LINES: &[(&str, Status, &str)] = &[
     ),
 ];
 
-/// Whether lines behind a relay chain without assets have this answer and this report, with the sums behind each step and without.
+/// Whether lines after a relay chain without assets have this answer and this report, with the sums after each step and without.
 fn are_answered(alloc: Global, lines: &str, status: Status, report: &str) -> Result<bool, Fail> {
     let input = format!(in alloc; "{{}}\n---\n{lines}")?;
     let (input, report) = (input.as_bytes(), report.as_bytes());

@@ -51,7 +51,7 @@ const TRAPS: &[(&str, &str)] = &[
     ),
 ];
 
-/// Programs with handlers and appendices, and what stands behind an error.
+/// Programs with handlers and appendices, and what follows an error.
 const PROGRAMS: &[(&str, &str)] = &[
     (
         "04100a191c0a1914",
@@ -141,7 +141,7 @@ const NO_MESSAGES: &[(&str, &str)] = &[
     ),
     // depth 9
     ("0404160416041604160416041604160416040a", NOT_A_MESSAGE),
-    // depth 10 round nothing
+    // depth 10 around nothing
     ("0404160416041604160416041604160416041600", NOT_A_MESSAGE),
     // a count of 2^32-1
     ("0403ffffffff", NOT_A_MESSAGE),
@@ -202,7 +202,7 @@ const TRANSFER: [u8; 62] = [
     2,
 ];
 
-/// What stands before a message that is executed on a relay chain without assets.
+/// What comes before a message that is executed on a relay chain without assets.
 const EXECUTED: Part = Part::Text(
     "{}\n---\nexec relay 0x0101010101010101010101010101010101010101010101010101010101010101 ",
 );
@@ -210,7 +210,7 @@ const EXECUTED: Part = Part::Text(
 /// What is written before what the message does.
 const OPENED: Part = Part::Text("coherent\n#1 exec relay\n");
 
-/// Messages at their limits and past them, and the proper fronts of a message.
+/// Messages at their limits and past them, and the proper prefixes of a message.
 pub(crate) const LONG: &[Grown] = &[
     Grown {
         name: "100 instructions",

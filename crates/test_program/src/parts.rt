@@ -14,13 +14,13 @@ pub(crate) enum Piece {
     Times(&'static str, u32),
     /// A comma before each repetition but the first.
     Comma,
-    /// The place of the repetition, counted from 0, so many times, and so much more.
+    /// The index of the repetition, counted from 0, so many times, and so much more.
     Count(u32, u32),
-    /// The place so many times, in two hexadecimal digits.
+    /// The index so many times, in two hexadecimal digits.
     Hex(u32),
-    /// The places count so many times each, round so many numbers, from this number on.
+    /// The index divided by `each`, modulo `of`, plus `from`.
     Share { each: u32, of: u32, from: u32 },
-    /// As many of these bytes as the place and 2 more, in hexadecimal digits.
+    /// As many of these bytes as the index and 2 more, in hexadecimal digits.
     Front(&'static [u8]),
 }
 
@@ -60,7 +60,7 @@ fn write_front(text: &mut String, bytes: &[u8], count: usize) -> Result<(), Fail
     Ok(())
 }
 
-/// The number of a place that shares it with others.
+/// What `Share` writes at an index.
 fn shared(place: u32, each: u32, of: u32, from: u32) -> u32 {
     // for the prover: no row divides by 0
     if each == 0 || of == 0 {
@@ -69,7 +69,7 @@ fn shared(place: u32, each: u32, of: u32, from: u32) -> u32 {
     (place / each % of).saturating_add(from)
 }
 
-/// Writes a piece of the repetition at this place.
+/// Writes a piece of the repetition at this index.
 fn write_piece(text: &mut String, piece: &Piece, place: u32) -> Result<(), Fail> {
     let number = match piece {
         Piece::Text(piece) => return Ok(text.push_str(piece)?),
@@ -85,7 +85,7 @@ fn write_piece(text: &mut String, piece: &Piece, place: u32) -> Result<(), Fail>
     Ok(write!(text, "{number}")?)
 }
 
-/// Writes the repetition at this place.
+/// Writes the repetition at this index.
 fn write_pieces(text: &mut String, pieces: &[Piece], place: u32) -> Result<(), Fail> {
     for piece in pieces {
         write_piece(text, piece, place)?;

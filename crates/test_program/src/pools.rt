@@ -147,7 +147,7 @@ balances
     },
 ];
 
-/// The account of a pool, by its place.
+/// The account of a pool, by its index.
 const POOL: Piece = Piece::Hex(1);
 
 /// Sixteen pools, whose accounts have 2^58-11 of the one asset and 2^57 of the other. Each is offered 10, which brings its reserve to the

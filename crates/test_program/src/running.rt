@@ -11,7 +11,7 @@ use xcm_io::{MemSink, MemSource};
 /// The word that runs a network.
 pub(crate) const RUN: &[&str] = &["run"];
 
-/// The words that run a network, with the sums behind each step.
+/// The words that run a network, with the sums after each step.
 pub(crate) const AUDIT: &[&str] = &["run", "--audit"];
 
 /// How many bytes a report may have here.
@@ -23,7 +23,7 @@ pub(crate) struct Row {
     pub(crate) name: &'static str,
     /// The network document.
     pub(crate) network: &'static str,
-    /// The lines behind the line `---`.
+    /// The lines after the line `---`.
     pub(crate) steps: &'static str,
     pub(crate) status: Status,
     pub(crate) report: &'static str,

@@ -19,7 +19,7 @@ use std::process::Abort;
 use std::test::Fail;
 use xcm_cli::Status;
 
-/// What stands before a message that the first account executes on the relay chain.
+/// What comes before a message that the first account executes on the relay chain.
 pub(crate) const EXECUTE: &str =
     "exec relay 0x0101010101010101010101010101010101010101010101010101010101010101 ";
 
@@ -29,7 +29,7 @@ pub(crate) const STEP: &str = "coherent\n#1 exec relay\n";
 /// What is written where bytes are no message.
 pub(crate) const NOT_A_MESSAGE: &str = "  = message refused: not a message\n";
 
-/// Lines that begin alike behind a network, and reports that begin alike.
+/// Lines that begin alike after a network, and reports that begin alike.
 pub(crate) struct Table {
     pub(crate) network: &'static str,
     pub(crate) before: &'static str,

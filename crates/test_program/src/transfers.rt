@@ -139,7 +139,7 @@ balances
     },
 ];
 
-/// A transfer with the sums behind each step.
+/// A transfer with the sums after each step.
 pub(crate) const AUDITED: &[Row] = &[Row {
     name: "a reserve transfer, audited",
     network: THREE_CHAINS,

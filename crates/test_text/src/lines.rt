@@ -2,7 +2,7 @@
 
 use chain_ids::ChainId;
 use input_lines::{
-    Line, ends_network, law_of_step_lines, law_of_unique_lines, line_len, read_line, text_of,
+    Line, Step, ends_network, law_of_step_lines, law_of_unique_lines, line_len, read_line, text_of,
     without_feed,
 };
 use std::alloc::Global;
@@ -106,7 +106,7 @@ const OTHER_LINES: &[(&str, bool)] = &[
 fn runs_at(alloc: Global, word: &str, want: Option<ChainId>) -> Result<bool, Fail> {
     let line = format!(in alloc; "exec {word} {ACCOUNT} 0x")?;
     Ok(match read_line(alloc, line.as_bytes())? {
-        Line::Exec { chain, .. } => Some(chain) == want,
+        Line::Step(Step::Exec { chain, .. }) => Some(chain) == want,
         Line::Refused => want.is_none(),
         _ => false,
     })
@@ -123,8 +123,8 @@ fn chains_are_relay_or_a_number(rt: HostRuntime) -> Result<(), Fail> {
 /// Whether the word of the message in a step that runs one spells these bytes, or has the step refused.
 fn runs(alloc: Global, word: &str, want: Option<&[u8]>) -> Result<bool, Fail> {
     let line = format!(in alloc; "exec relay 0x{ACCOUNT} {word}")?;
-    Ok(match read_line(alloc, line.as_bytes())? {
-        Line::Exec { message, .. } => Some(message.items()) == want,
+    Ok(match &read_line(alloc, line.as_bytes())? {
+        Line::Step(Step::Exec { message, .. }) => Some(message.items()) == want,
         Line::Refused => want.is_none(),
         _ => false,
     })
@@ -149,7 +149,7 @@ const ACCOUNT_BYTES: [u8; 32] = [
 fn runs_as(alloc: Global, word: &str, is_account: bool) -> Result<bool, Fail> {
     let line = format!(in alloc; "exec 7 {word} 0x")?;
     Ok(match read_line(alloc, line.as_bytes())? {
-        Line::Exec { account, .. } => is_account && account == ACCOUNT_BYTES,
+        Line::Step(Step::Exec { account, .. }) => is_account && account == ACCOUNT_BYTES,
         Line::Refused => !is_account,
         _ => false,
     })
@@ -187,7 +187,7 @@ fn other_lines_ask_for_nothing_or_are_refused(rt: HostRuntime) -> Result<(), Fai
 fn delivers_to(alloc: Global, word: &str, want: Option<ChainId>) -> Result<bool, Fail> {
     let line = format!(in alloc; "deliver relay {word}")?;
     Ok(match read_line(alloc, line.as_bytes())? {
-        Line::Deliver { from, to } => from == ChainId::Relay && Some(to) == want,
+        Line::Step(Step::Deliver { from, to }) => from == ChainId::Relay && Some(to) == want,
         Line::Refused => want.is_none(),
         _ => false,
     })
@@ -204,9 +204,9 @@ fn deliveries_name_two_chains(rt: HostRuntime) -> Result<(), Fail> {
 /// Whether the word in a claim of what parachain 2000 sent to the relay chain spells these bytes, or has the step refused.
 fn claims(alloc: Global, word: &str, want: Option<&[u8]>) -> Result<bool, Fail> {
     let line = format!(in alloc; "claim 2000 relay {word}")?;
-    Ok(match read_line(alloc, line.as_bytes())? {
-        Line::Claim { from, to, message } => from == ChainId::Para(2000)
-            && to == ChainId::Relay
+    Ok(match &read_line(alloc, line.as_bytes())? {
+        Line::Step(Step::Claim { from, to, message }) => *from == ChainId::Para(2000)
+            && *to == ChainId::Relay
             && Some(message.items()) == want,
         Line::Refused => want.is_none(),
         _ => false,
@@ -224,23 +224,14 @@ fn claims_name_two_chains_and_a_message(rt: HostRuntime) -> Result<(), Fail> {
 /// Steps of one word.
 const ONE_WORD: &[&str] = &["drain", "balances", "traps", "queues", "supply"];
 
-/// The one word of such a step.
-fn word_of(line: &Line) -> &'static str {
-    match line {
-        Line::Drain => "drain",
-        Line::Balances => "balances",
-        Line::Traps => "traps",
-        Line::Queues => "queues",
-        Line::Supply => "supply",
-        _ => "",
-    }
-}
-
 #[test]
 fn other_steps_are_one_word(rt: HostRuntime) -> Result<(), Fail> {
     for word in ONE_WORD {
-        let line = read_line(rt.alloc(), word.as_bytes())?;
-        assert!(rt; word_of(&line) == *word, "of {word}");
+        let Line::Step(step) = read_line(rt.alloc(), word.as_bytes())? else {
+            return Err(Fail::new("no step"));
+        };
+        let text = format!(in rt.alloc(); "{step}")?;
+        assert_eq!(rt; text.as_str(), *word);
     }
     Ok(())
 }

@@ -170,7 +170,7 @@ fn an_interrupted_read_is_a_fault(rt: HostRuntime) -> Result<(), Fail> {
     let mut source = StdSource::new(interrupted_once(b"read by std".as_slice()));
     let (given, ended) = read_all(alloc, &mut source)?;
     assert!(rt; given.is_empty() && !ended);
-    // the next call goes on where the fault stood
+    // the next call goes on where the fault was
     let (given, ended) = read_all(alloc, &mut source)?;
     assert!(rt; given.as_slice() == b"read by std".as_slice() && ended);
     Ok(())

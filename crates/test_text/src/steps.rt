@@ -4,13 +4,14 @@ use crate::values::{FIRST, account};
 use asset_bundles::{Cause, Total};
 use asset_lists::Kind;
 use chain_ids::ChainId;
-use exec_base::{Event, Part};
+use exec_base::{Boxed, Event, Part};
+use input_lines::{Line, read_line};
 use locations::{Junction, Junctions, NetworkId};
 use network_steps::StepResult;
 use operands::{Weight, XcmError};
 use std::alloc::{AllocError, Global};
 use std::test::Fail;
-use step_text::{StepWords, drained_line, heading, law_of_names_by_number, step_text};
+use step_text::{drained_line, heading, law_of_names_by_number, step_text};
 use versioned_xcm::MessageFault;
 use xcm_program::{Outcome, OutcomeError};
 
@@ -18,28 +19,19 @@ const RELAY: ChainId = ChainId::Relay;
 
 const PARA: ChainId = ChainId::Para(2000);
 
-/// The words of steps, and their headings under the number 12.
-const HEADINGS: [(StepWords, &str); 8] = [
-    (StepWords::Exec { chain: RELAY }, "#12 exec relay\n"),
+/// Lines, and the headings of their steps under the number 12.
+const HEADINGS: [(&str, &str); 8] = [
     (
-        StepWords::Deliver {
-            from: RELAY,
-            to: PARA,
-        },
-        "#12 deliver relay 2000\n",
+        "exec relay 0101010101010101010101010101010101010101010101010101010101010101 0x",
+        "#12 exec relay\n",
     ),
-    (
-        StepWords::Claim {
-            from: PARA,
-            to: RELAY,
-        },
-        "#12 claim 2000 relay\n",
-    ),
-    (StepWords::Drain, "#12 drain\n"),
-    (StepWords::Balances, "#12 balances\n"),
-    (StepWords::Traps, "#12 traps\n"),
-    (StepWords::Queues, "#12 queues\n"),
-    (StepWords::Supply, "#12 supply\n"),
+    ("deliver relay 2000", "#12 deliver relay 2000\n"),
+    ("claim 2000 relay 0x", "#12 claim 2000 relay\n"),
+    ("drain", "#12 drain\n"),
+    ("balances", "#12 balances\n"),
+    ("traps", "#12 traps\n"),
+    ("queues", "#12 queues\n"),
+    ("supply", "#12 supply\n"),
 ];
 
 /// What steps answer, and the lines of that.
@@ -153,8 +145,11 @@ const TOTALS: [(Total, &str); 3] = [
 
 #[test]
 fn steps_have_their_headings(rt: HostRuntime) -> Result<(), Fail> {
-    for (words, want) in HEADINGS {
-        let text = heading(rt.alloc(), 12, words)?;
+    for (line, want) in HEADINGS {
+        let Line::Step(step) = read_line(rt.alloc(), line.as_bytes())? else {
+            return Err(Fail::new("no step"));
+        };
+        let text = heading(rt.alloc(), 12, &step)?;
         assert_eq!(rt; text.as_str(), want);
     }
     let text = drained_line(rt.alloc(), 3)?;
@@ -196,9 +191,10 @@ fn instructions_have_their_lines(rt: HostRuntime) -> Result<(), Fail> {
 #[test]
 fn burns_have_their_lines(rt: HostRuntime) -> Result<(), Fail> {
     for (amount, shown) in TOTALS {
+        let network = Junctions::from_few(&[Junction::GlobalConsensus(NetworkId::Polkadot)]);
         let event = Event::Burned {
             kind: Kind::Fungible,
-            path: Junctions::from_few(&[Junction::GlobalConsensus(NetworkId::Polkadot)]),
+            path: Boxed::new(rt.alloc(), network)?,
             amount,
             cause: Cause::LostTeleport,
         };
@@ -210,7 +206,7 @@ fn burns_have_their_lines(rt: HostRuntime) -> Result<(), Fail> {
     }
     let event = Event::Burned {
         kind: Kind::Class,
-        path: Junctions::empty(),
+        path: Boxed::new(rt.alloc(), Junctions::empty())?,
         amount: Total { high: 0, low: 1 },
         cause: Cause::Merged,
     };
@@ -221,6 +217,7 @@ fn burns_have_their_lines(rt: HostRuntime) -> Result<(), Fail> {
 
 #[test]
 fn other_events_have_their_lines(rt: HostRuntime) -> Result<(), Fail> {
+    let origin = Boxed::new(rt.alloc(), account(FIRST))?;
     let events = [
         Event::Message {
             from: RELAY,
@@ -235,7 +232,7 @@ fn other_events_have_their_lines(rt: HostRuntime) -> Result<(), Fail> {
         Event::Answered { query: 7 },
         Event::Ignored { query: 8 },
         Event::End {
-            origin: Some(account(FIRST)),
+            origin: Some(origin),
             topic: None,
             surplus: Weight {
                 ref_time: 2000,

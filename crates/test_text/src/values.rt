@@ -1,4 +1,4 @@
-//! Places that several tables speak of.
+//! Locations that several tables use.
 ghost use Rattle.std.specs.Prelude.{◌≤◌, length};
 
 use locations::{Junction, Junctions, Location};
@@ -9,7 +9,7 @@ pub(crate) const FIRST: [u8; 32] = [1; 32];
 /// The account of 32 times the byte 2.
 pub(crate) const SECOND: [u8; 32] = [2; 32];
 
-/// The place behind these junctions, so many levels up.
+/// The location of these junctions, so many levels up.
 pub(crate) fn place(parents: u8, items: &[Junction]) -> Location
     requires { length items.now ≤ 8 }
 {
