@@ -41,7 +41,7 @@ def number_at_most(value, most):
 
 
 def matches(value, pattern):
-    # `$` is the end of a text in a schema, and in Python also the place before a line feed there.
+    # `$` is the end of a text in a schema, and in Python also the position before a line feed there.
     return not isinstance(value, str) or re.search(pattern.replace("$", r"\Z"), value) is not None
 
 
@@ -49,7 +49,7 @@ def is_unique(value):
     return not isinstance(value, list) or len({json.dumps(item, sort_keys=True) for item in value}) == len(value)
 
 
-# Keywords that stand alone: what they ask of a value.
+# Keywords whose meaning depends on no other keyword: what they ask of a value.
 SIMPLE = {
     "type": lambda value, name: TYPES[name](value),
     "const": same,
@@ -77,7 +77,7 @@ class Schema:
         self.check_words(root)
 
     def check_words(self, schema):
-        """Fails at a keyword that the validator doesn't know, wherever it stands."""
+        """Fails at a keyword that the validator doesn't know, wherever it is."""
         if isinstance(schema, bool):
             return
         for word, inner in schema.items():

@@ -27,7 +27,7 @@ unsafe extern "C" {
 /// What a text doesn't fit with.
 const NO_ROOM: u8 = 6;
 
-/// What stands in a buffer where nothing was written.
+/// What is in a buffer where nothing was written.
 const UNTOUCHED: u8 = 0xaa;
 
 /// What a call of the library left.

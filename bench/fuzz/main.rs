@@ -4,7 +4,7 @@
 //!     fuzz_program WORD..               libFuzzer's own words and folders; $DIFFERENCES is where inputs that differ are kept
 //!     fuzz_program cut STRIDE FILE..    each file cut off at every STRIDEth length, and read by pieces of every STRIDEth length
 //!
-//! A file is an input; one that begins with `A` is run with `--audit`, over what stands behind that letter.
+//! A file is an input; one that begins with `A` is run with `--audit`, over what comes after that letter.
 
 mod mutations;
 
