@@ -18,7 +18,7 @@ pub enum Wild {
     /// All of this id and kind.
     AllOf {
         /// What the assets are called.
-        id: AssetId,
+        id: Box<AssetId>,
         /// Amounts or instances.
         fun: WildFun,
     },
@@ -27,7 +27,7 @@ pub enum Wild {
     /// The first of this id and kind, at most this many.
     AllOfCounted {
         /// What the assets are called.
-        id: AssetId,
+        id: Box<AssetId>,
         /// Amounts or instances.
         fun: WildFun,
         /// How many at most.

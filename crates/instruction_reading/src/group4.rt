@@ -38,7 +38,7 @@ pub(crate) fn fill_group4(
         }
         37 => fill_universal_origin(c, slot),
         38 => fill_export_message(alloc, c, slot),
-        39 => fill_lock_asset(c, v, slot),
+        39 => fill_lock_asset(alloc, c, v, slot),
         _ => unreachable!(),
     }
 }

@@ -11,10 +11,12 @@ use crate::inside::{empty_place, put};
 use asset_wire::{Version, WireFault, take_asset};
 use location_wire::fill_location;
 use scale_codec::Cursor;
+use std::alloc::Global;
 use xcm_program::Instruction;
 
 /// The asset, and who may unlock it.
 pub(crate) fn fill_lock_asset(
+    alloc: Global,
     c: &mut Cursor<'_>,
     v: Version,
     slot: &mut Instruction,
@@ -25,12 +27,14 @@ pub(crate) fn fill_lock_asset(
     let asset = take_asset(c, v)?;
     let mut unlocker = empty_place();
     fill_location(c, &mut unlocker)?;
+    let unlocker = Box::new(alloc, unlocker)?;
     put(slot, Instruction::LockAsset { asset, unlocker });
     Ok(())
 }
 
 /// The asset, and whose it is.
 pub(crate) fn fill_unlock_asset(
+    alloc: Global,
     c: &mut Cursor<'_>,
     v: Version,
     slot: &mut Instruction,
@@ -41,12 +45,14 @@ pub(crate) fn fill_unlock_asset(
     let asset = take_asset(c, v)?;
     let mut target = empty_place();
     fill_location(c, &mut target)?;
+    let target = Box::new(alloc, target)?;
     put(slot, Instruction::UnlockAsset { asset, target });
     Ok(())
 }
 
 /// The asset, and whose it is.
 pub(crate) fn fill_note_unlockable(
+    alloc: Global,
     c: &mut Cursor<'_>,
     v: Version,
     slot: &mut Instruction,
@@ -57,12 +63,14 @@ pub(crate) fn fill_note_unlockable(
     let asset = take_asset(c, v)?;
     let mut owner = empty_place();
     fill_location(c, &mut owner)?;
+    let owner = Box::new(alloc, owner)?;
     put(slot, Instruction::NoteUnlockable { asset, owner });
     Ok(())
 }
 
 /// The asset, and where it is locked.
 pub(crate) fn fill_request_unlock(
+    alloc: Global,
     c: &mut Cursor<'_>,
     v: Version,
     slot: &mut Instruction,
@@ -73,6 +81,7 @@ pub(crate) fn fill_request_unlock(
     let asset = take_asset(c, v)?;
     let mut locker = empty_place();
     fill_location(c, &mut locker)?;
+    let locker = Box::new(alloc, locker)?;
     put(slot, Instruction::RequestUnlock { asset, locker });
     Ok(())
 }

@@ -265,28 +265,28 @@ pub enum Instruction {
         /// The asset.
         asset: Asset,
         /// Who may unlock it.
-        unlocker: Location,
+        unlocker: Box<Location>,
     },
     /// Unlocks an asset that the origin locked.
     UnlockAsset {
         /// The asset.
         asset: Asset,
         /// Whose it is.
-        target: Location,
+        target: Box<Location>,
     },
     /// Notes that the origin has locked an asset.
     NoteUnlockable {
         /// The asset.
         asset: Asset,
         /// Whose it is.
-        owner: Location,
+        owner: Box<Location>,
     },
     /// Asks that a locked asset be unlocked.
     RequestUnlock {
         /// The asset.
         asset: Asset,
         /// Where it is locked.
-        locker: Location,
+        locker: Box<Location>,
     },
     /// Says how fees for sending are paid.
     SetFeesMode {

@@ -44,6 +44,7 @@ fn note_of(alloc: Global, asset: Asset, owner: Location) -> Result<Program, Allo
         ≡ roll-Instruction (Instruction-F.NoteUnlockable asset owner) ∷ []) }
 {
     let mut items = Vec::with_capacity(alloc, 1)?;
+    let owner = Box::new(alloc, owner)?;
     items.push(Instruction::NoteUnlockable { asset, owner })?;
     Ok(Listed::from_vec(items))
 }
@@ -54,6 +55,7 @@ fn unlock_of(alloc: Global, asset: Asset, target: Location) -> Result<Program, A
         ≡ roll-Instruction (Instruction-F.UnlockAsset asset target) ∷ []) }
 {
     let mut items = Vec::with_capacity(alloc, 1)?;
+    let target = Box::new(alloc, target)?;
     items.push(Instruction::UnlockAsset { asset, target })?;
     Ok(Listed::from_vec(items))
 }
