@@ -1,5 +1,6 @@
 //! Which assets an instruction means.
 use crate::{AssetId, Assets};
+use plain_lists::Boxed;
 
 /// Which assets of an id a wildcard means.
 #[derive(Clone, Copy, Debug, PartialEq, Eq, PartialOrd, Ord)]
@@ -18,7 +19,7 @@ pub enum Wild {
     /// All of this id and kind.
     AllOf {
         /// What the assets are called.
-        id: AssetId,
+        id: Boxed<AssetId>,
         /// Amounts or instances.
         fun: WildFun,
     },
@@ -27,7 +28,7 @@ pub enum Wild {
     /// The first of this id and kind, at most this many.
     AllOfCounted {
         /// What the assets are called.
-        id: AssetId,
+        id: Boxed<AssetId>,
         /// Amounts or instances.
         fun: WildFun,
         /// How many at most.

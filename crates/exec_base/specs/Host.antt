@@ -22,7 +22,6 @@ use Rattle.operands.specs.declared.query.OpenQuery.{OpenQuery}
 use Rattle.asset_lists.specs.declared.units.Asset.{Asset}
 use Rattle.asset_lists.specs.declared.units.AssetId.{AssetId}
 use Rattle.asset_lists.specs.declared.units.Fun.{Fun}
-use Rattle.asset_lists.specs.declared.units.Instance.{Instance}
 use Rattle.asset_lists.specs.Units.{Unit, unit_of, unit_cmp, amount_of, instance_in}
 use Rattle.asset_lists.specs.Moves.{moved, reanchored_list}
 use Rattle.asset_bundles.specs.declared.shipment.Way.{Way}
@@ -53,7 +52,7 @@ use Rattle.exec_base.specs.Part.{DeliveredCargo, ChainPart, accounts_of, book_of
 use Rattle.exec_base.specs.Arrivals.{arrived_list, is_this_list}
 use Rattle.exec_base.specs.Sending.{unless, or_else, channel_to_location, send_refusal, sent, deposit_program, away_program, listed_refusal, listed_program, named_refusal, named_sent}
 use Rattle.asset_locks.specs.UnitFloors.{floor_at}
-use Rattle.asset_locks.specs.LockMaps.{LockKey, NoteKey, LocksAndNotes, lock_at, noted, Locked, Unlocked, Noted, Reduced}
+use Rattle.asset_locks.specs.LockMaps.{LockKey, NoteKey, lock_at, noted, Locked, Unlocked, Noted, Reduced}
 
 -- the first asset in order that is refused decides
 abbrev pub first_fault : (Asset → Option XcmError) → List Asset → Option XcmError

@@ -1,10 +1,7 @@
 -- A chain's part of the world, as contracts see it: what it lists, what is where, what it sends, and what is told.
-use Rattle.std.specs.Prelude.{ℕ, Bool, List, Option}
+use Rattle.std.specs.Prelude.{ℕ, List, Option}
 use Rattle.chain_ids.specs.declared.chain.ChainId.{ChainId}
-use Rattle.operands.specs.declared.pallet.PalletInfo.{PalletInfo}
 use Rattle.operands.specs.declared.query.OpenQuery.{OpenQuery}
-use Rattle.trust_tables.specs.declared.chains.Site.{Site}
-use Rattle.trust_tables.specs.declared.rows.AssetRow.{AssetRow}
 use Rattle.asset_bundles.specs.Bundles.{Bundle}
 use Rattle.asset_bundles.specs.Books.{Burns, Book}
 use Rattle.ledgers.specs.Ledgers.{Held, Accounts}

@@ -12,12 +12,12 @@ use xcm_program::Program;
 
 /// A chain, as a program of instructions sees it. Each call answers as its rule says, all or nothing, or memory is refused and the part is as it was.
 pub trait Host {
-    ghost use Rattle.std.specs.Prelude.{◌≡◌, true, ◌<◌, ◌≤◌, length, is_some, None, [], ◌∷◌, IfSome, OnOk};
+    ghost use Rattle.std.specs.Prelude.{◌≡◌, ◌<◌, ◌≤◌, length, is_some, None, [], ◌∷◌, IfSome, OnOk};
     ghost use Rattle.std.specs.Option.{option_copied};
     ghost use Rattle.amounts.specs.Amounts.{empty, rows};
     ghost use Rattle.asset_bundles.specs.Bundles.{bundle_of};
     ghost use Rattle.asset_bundles.specs.Books.{AreListed};
-    ghost use Rattle.asset_bundles.specs.Joins.{Joined, Excess};
+    ghost use Rattle.asset_bundles.specs.Joins.{Excess};
     ghost use Rattle.trust_tables.specs.Trust.{listing};
     ghost use Rattle.weight_trader.specs.Refunds.{refund_of};
     ghost use Rattle.xcm_program.specs.declared.instruction.Instruction.{roll-Instruction};

@@ -1,14 +1,12 @@
 //! What the instructions ask of a chain, and the registers that they work on.
 #![tactic(auto)]
 
-mod boxed;
 mod event;
 mod faults;
 mod host;
 mod registers;
 mod settings;
 
-pub use boxed::Boxed;
 pub use event::{Event, Part};
 pub use faults::HostFault;
 pub use host::Host;

@@ -26,7 +26,9 @@ fn filter_is_concrete(filter: &Filter) -> bool
 {
     match filter {
         Filter::Definite(list) => have_concrete_ids(list),
-        Filter::Wild(Wild::AllOf { id, .. } | Wild::AllOfCounted { id, .. }) => is_concrete_id(id),
+        Filter::Wild(Wild::AllOf { id, .. } | Wild::AllOfCounted { id, .. }) => {
+            is_concrete_id(id.value())
+        }
         Filter::Wild(Wild::All | Wild::AllCounted(_)) => true,
     }
 }
@@ -59,11 +61,11 @@ fn names_concrete_ids(instruction: &Instruction) -> bool
         | Instruction::InitiateReserveWithdraw { assets, .. }
         | Instruction::InitiateTeleport { assets, .. }
         | Instruction::ReportHolding { assets, .. } => filter_is_concrete(assets),
-        Instruction::BuyExecution { fees, .. } => is_concrete_id(&fees.id),
+        Instruction::BuyExecution { fees, .. } => is_concrete_id(&fees.value().id),
         Instruction::LockAsset { asset, .. }
         | Instruction::UnlockAsset { asset, .. }
         | Instruction::NoteUnlockable { asset, .. }
-        | Instruction::RequestUnlock { asset, .. } => is_concrete_id(&asset.id),
+        | Instruction::RequestUnlock { asset, .. } => is_concrete_id(&asset.value().id),
         Instruction::ExchangeAsset { give, want, .. } => filter_is_concrete(give)
             && have_concrete_ids(want),
         _ => true,

@@ -11,7 +11,7 @@ use locations::{Junction, Junctions, Location, NetworkId};
 use operands::{
     LongBytes, MaybeError, OriginKind, QueryInfo, Response, Weight, WeightLimit, XcmError,
 };
-use plain_lists::Listed;
+use plain_lists::{Boxed, Listed};
 
 /// An instruction (XCM format, versions 3 and 4), in the order of the indices. A program is the last of an instruction's fields.
 #[derive(Debug, Drop, PartialEq, Eq)]
@@ -40,21 +40,21 @@ pub enum Instruction {
         /// The most that handling the response may weigh.
         max_weight: Weight,
         /// Who asked, as seen from the chain that answers; none where that is not told.
-        querier: Option<Location>,
+        querier: Boxed<Option<Location>>,
     },
     /// Moves assets from the origin's account to another.
     TransferAsset {
         /// What is moved.
         assets: Assets,
         /// Whose account takes it.
-        beneficiary: Location,
+        beneficiary: Boxed<Location>,
     },
     /// Moves assets from the origin's account to that of another chain, and tells that chain.
     TransferReserveAsset {
         /// What is moved.
         assets: Assets,
         /// The other chain.
-        dest: Location,
+        dest: Boxed<Location>,
         /// What runs there after the notice.
         xcm: Program,
     },
@@ -95,26 +95,26 @@ pub enum Instruction {
     /// Appends junctions to the origin.
     DescendOrigin {
         /// The junctions.
-        interior: Junctions,
+        interior: Boxed<Junctions>,
     },
     /// Reports the error register.
     ReportError {
         /// Where to, and for which query.
-        info: QueryInfo,
+        info: Boxed<QueryInfo>,
     },
     /// Moves assets from the holding register to an account.
     DepositAsset {
         /// What is moved.
         assets: Filter,
         /// Whose account takes it.
-        beneficiary: Location,
+        beneficiary: Boxed<Location>,
     },
     /// Moves assets from the holding register to the account of another chain, and tells that chain.
     DepositReserveAsset {
         /// What is moved.
         assets: Filter,
         /// The other chain.
-        dest: Location,
+        dest: Boxed<Location>,
         /// What runs there after the notice.
         xcm: Program,
     },
@@ -132,7 +132,7 @@ pub enum Instruction {
         /// What is removed.
         assets: Filter,
         /// The reserve.
-        reserve: Location,
+        reserve: Boxed<Location>,
         /// What runs there after the withdrawal.
         xcm: Program,
     },
@@ -141,21 +141,21 @@ pub enum Instruction {
         /// What is teleported.
         assets: Filter,
         /// The other chain.
-        dest: Location,
+        dest: Boxed<Location>,
         /// What runs there after the arrival.
         xcm: Program,
     },
     /// Reports assets of the holding register.
     ReportHolding {
         /// Where to, and for which query.
-        info: QueryInfo,
+        info: Boxed<QueryInfo>,
         /// Which assets.
         assets: Filter,
     },
     /// Pays for weight from the holding register.
     BuyExecution {
         /// The asset, and at most how much of it.
-        fees: Asset,
+        fees: Boxed<Asset>,
         /// How much weight is bought.
         limit: WeightLimit,
     },
@@ -178,7 +178,7 @@ pub enum Instruction {
         /// What was trapped.
         assets: Assets,
         /// Which trap, as the format's version tells it.
-        ticket: Location,
+        ticket: Boxed<Location>,
     },
     /// Fails with the error `Trap` of this code.
     Trap {
@@ -207,7 +207,7 @@ pub enum Instruction {
     /// Fails where the origin register isn't this.
     ExpectOrigin {
         /// The origin, or none.
-        origin: Option<Location>,
+        origin: Boxed<Option<Location>>,
     },
     /// Fails where the error register isn't this.
     ExpectError {
@@ -224,7 +224,7 @@ pub enum Instruction {
         /// The module's name.
         module_name: LongBytes,
         /// Where to, and for which query.
-        info: QueryInfo,
+        info: Boxed<QueryInfo>,
     },
     /// Fails where the chain has no such pallet.
     ExpectPallet {
@@ -242,7 +242,7 @@ pub enum Instruction {
     /// Reports the status of the last Transact.
     ReportTransactStatus {
         /// Where to, and for which query.
-        info: QueryInfo,
+        info: Boxed<QueryInfo>,
     },
     /// Sets the status of the last Transact to success.
     ClearTransactStatus,
@@ -256,37 +256,37 @@ pub enum Instruction {
         /// The system.
         network: NetworkId,
         /// The location in it.
-        destination: Junctions,
+        destination: Boxed<Junctions>,
         /// The program.
         xcm: Program,
     },
     /// Locks an asset of the origin.
     LockAsset {
         /// The asset.
-        asset: Asset,
+        asset: Boxed<Asset>,
         /// Who may unlock it.
-        unlocker: Location,
+        unlocker: Boxed<Location>,
     },
     /// Unlocks an asset that the origin locked.
     UnlockAsset {
         /// The asset.
-        asset: Asset,
+        asset: Boxed<Asset>,
         /// Whose it is.
-        target: Location,
+        target: Boxed<Location>,
     },
     /// Notes that the origin has locked an asset.
     NoteUnlockable {
         /// The asset.
-        asset: Asset,
+        asset: Boxed<Asset>,
         /// Whose it is.
-        owner: Location,
+        owner: Boxed<Location>,
     },
     /// Asks that a locked asset be unlocked.
     RequestUnlock {
         /// The asset.
-        asset: Asset,
+        asset: Boxed<Asset>,
         /// Where it is locked.
-        locker: Location,
+        locker: Boxed<Location>,
     },
     /// Says how fees for sending are paid.
     SetFeesMode {
@@ -303,14 +303,14 @@ pub enum Instruction {
     /// Sets the origin to another that it may act as.
     AliasOrigin {
         /// The other.
-        target: Location,
+        target: Boxed<Location>,
     },
     /// Asks to be executed without paying.
     UnpaidExecution {
         /// How much weight is wanted.
         limit: WeightLimit,
         /// The origin that is expected, where one is given.
-        check_origin: Option<Location>,
+        check_origin: Boxed<Option<Location>>,
     },
 }
 
