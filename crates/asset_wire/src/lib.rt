@@ -10,12 +10,7 @@ pub use laws::{
     law_of_no_prefix, law_of_one_spelling, law_of_readers, law_of_versions, law_of_writable,
 };
 pub use operands::Version;
-pub use parts::{
-    blank_id, fill_asset_id, take_asset, take_asset_id, take_assets, take_filter, take_instance,
-};
-pub use reading::{read_asset, read_asset_id, read_assets, read_filter, read_instance};
+pub use parts::{take_asset, take_assets, take_filter};
+pub use reading::read_instance;
 pub use scale_codec::WireFault;
-pub use writing::{
-    put_asset, put_asset_id, put_assets, put_filter, put_instance, write_asset, write_asset_id,
-    write_assets, write_filter, write_instance,
-};
+pub use writing::{put_asset, put_assets, put_filter, write_instance};

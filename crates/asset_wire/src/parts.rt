@@ -14,6 +14,7 @@ use crate::{Version, WireFault};
 use asset_lists::{Asset, AssetId, Assets, Filter, Fun, Instance, MAX_ASSETS, Wild, WildFun};
 use location_wire::fill_location;
 use locations::{Junctions, Location};
+use plain_lists::Boxed;
 use scale_codec::{Cursor, NoSpelling};
 use std::alloc::Global;
 
@@ -192,24 +193,24 @@ fn take_wild_fun(c: &mut Cursor<'_>) -> Result<WildFun, NoSpelling>
 }
 
 #[tactic(auto, unfolding(crate::specs::Reading::wild_at))]
-fn take_wild(c: &mut Cursor<'_>, v: Version) -> Result<Wild, NoSpelling>
-    ensures { Got result (wild_at v c.old) c.new }
+fn take_wild(alloc: Global, c: &mut Cursor<'_>, v: Version) -> Result<Wild, WireFault>
+    ensures { GotOrFails (λ wild. wild) result (wild_at v c.old) c.new }
 {
     match c.u8()? {
         0 => Ok(Wild::All),
         1 => {
-            let id = take_asset_id(c, v)?;
+            let id = Boxed::new(alloc, take_asset_id(c, v)?)?;
             let fun = take_wild_fun(c)?;
             Ok(Wild::AllOf { id, fun })
         }
         2 => Ok(Wild::AllCounted(c.compact_u32()?)),
         3 => {
-            let id = take_asset_id(c, v)?;
+            let id = Boxed::new(alloc, take_asset_id(c, v)?)?;
             let fun = take_wild_fun(c)?;
             let count = c.compact_u32()?;
             Ok(Wild::AllOfCounted { id, fun, count })
         }
-        _ => Err(NoSpelling),
+        _ => Err(WireFault::NoSpelling),
     }
 }
 
@@ -220,7 +221,7 @@ pub fn take_filter(alloc: Global, c: &mut Cursor<'_>, v: Version) -> Result<Filt
 {
     match c.u8()? {
         0 => Ok(Filter::Definite(take_assets(alloc, c, v)?)),
-        1 => Ok(Filter::Wild(take_wild(c, v)?)),
+        1 => Ok(Filter::Wild(take_wild(alloc, c, v)?)),
         _ => Err(WireFault::NoSpelling),
     }
 }

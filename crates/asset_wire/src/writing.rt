@@ -1,6 +1,6 @@
 //! Writes of assets and their parts: each appends the one spelling.
 
-ghost use Rattle.std.specs.Prelude.{◌≡◌, ◌++◌, OnOk, OnErr, IsFalse, nat_eq, ⊤};
+ghost use Rattle.std.specs.Prelude.{◌≡◌, ◌++◌, IsFalse, nat_eq, ⊤};
 ghost use Rattle.scale_codec.specs.Answers.{Appends, Puts, IsWritten};
 ghost use Rattle.asset_lists.specs.Units.{amount_in};
 ghost use Rattle.asset_wire.specs.Spelling.{asset_id, FitsId, instance, FitsInstance, fun, FitsFun, asset, FitsAsset, assets, FitsAssets, wild_fun, wild, FitsWild, filter, FitsFilter, IsNamed, IsWritableAsset, AreNamed, IsWildNamed, IsFilterNamed};
@@ -12,7 +12,7 @@ use scale_codec::{Draft, Out};
 use std::alloc::AllocError;
 
 /// Appends the id as the version spells it. Version 4 has no ids of bytes.
-pub fn put_asset_id(o: &mut Draft, id: &AssetId, v: Version) -> Result<(), AllocError>
+fn put_asset_id(o: &mut Draft, id: &AssetId, v: Version) -> Result<(), AllocError>
     requires { IsNamed v id.now }
     ensures { Puts (asset_id v) (FitsId v) id.now result o.old o.new }
 {
@@ -31,7 +31,7 @@ pub fn put_asset_id(o: &mut Draft, id: &AssetId, v: Version) -> Result<(), Alloc
 }
 
 /// Appends which instance it is.
-pub fn put_instance(o: &mut Draft, which: &Instance) -> Result<(), AllocError>
+fn put_instance(o: &mut Draft, which: &Instance) -> Result<(), AllocError>
     ensures { Puts instance FitsInstance which.now result o.old o.new }
 {
     match which {
@@ -115,7 +115,7 @@ fn put_wild(o: &mut Draft, which: &Wild, v: Version) -> Result<(), AllocError>
         Wild::All => o.put_u8(0),
         Wild::AllOf { id, fun } => {
             o.put_u8(1)?;
-            put_asset_id(o, id, v)?;
+            put_asset_id(o, id.value(), v)?;
             put_wild_fun(o, *fun)
         }
         Wild::AllCounted(count) => {
@@ -124,7 +124,7 @@ fn put_wild(o: &mut Draft, which: &Wild, v: Version) -> Result<(), AllocError>
         }
         Wild::AllOfCounted { id, fun, count } => {
             o.put_u8(3)?;
-            put_asset_id(o, id, v)?;
+            put_asset_id(o, id.value(), v)?;
             put_wild_fun(o, *fun)?;
             o.put_compact(*count as u128)
         }
@@ -154,47 +154,5 @@ pub fn write_instance(o: &mut Out, v: &Instance) -> Result<(), AllocError>
 {
     let mut draft = o.draft();
     let written = put_instance(&mut draft, v);
-    o.settle(draft, written)
-}
-
-/// Appends the one spelling of the asset id in the version, which must have one: version 4 can't say an id that is bytes. Where
-/// memory is refused, `o` is as before.
-pub fn write_asset_id(o: &mut Out, id: &AssetId, v: Version) -> Result<(), AllocError>
-    requires { IsNamed v id.now }
-    ensures { IsWritten (asset_id v) (FitsId v) id.now result o.old o.new }
-{
-    let mut draft = o.draft();
-    let written = put_asset_id(&mut draft, id, v);
-    o.settle(draft, written)
-}
-
-/// Appends the one spelling of the asset in the version, which must have one: the version can say its id, and it is no amount of 0.
-/// Where memory is refused, `o` is as before.
-pub fn write_asset(o: &mut Out, a: &Asset, v: Version) -> Result<(), AllocError>
-    requires { IsWritableAsset v a.now }
-    ensures { IsWritten (asset v) (FitsAsset v) a.now result o.old o.new }
-{
-    let mut draft = o.draft();
-    let written = put_asset(&mut draft, a, v);
-    o.settle(draft, written)
-}
-
-/// Appends the one spelling of the list in the version, which can say its ids. Where memory is refused, `o` is as before.
-pub fn write_assets(o: &mut Out, list: &Assets, v: Version) -> Result<(), AllocError>
-    requires { AreNamed v list.now }
-    ensures { IsWritten (assets v) (FitsAssets v) list.now result o.old o.new }
-{
-    let mut draft = o.draft();
-    let written = put_assets(&mut draft, list, v);
-    o.settle(draft, written)
-}
-
-/// Appends the one spelling of the filter in the version, which can say its ids. Where memory is refused, `o` is as before.
-pub fn write_filter(o: &mut Out, which: &Filter, v: Version) -> Result<(), AllocError>
-    requires { IsFilterNamed v which.now }
-    ensures { IsWritten (filter v) (FitsFilter v) which.now result o.old o.new }
-{
-    let mut draft = o.draft();
-    let written = put_filter(&mut draft, which, v);
     o.settle(draft, written)
 }

@@ -1,4 +1,4 @@
--- One call of a batch moved back: what that leaves, and when nothing but want of memory can refuse it. For the code's own contracts.
+-- One call of a batch moved back: what that leaves, and when nothing but running out of memory can refuse it. For the code's own contracts.
 use Rattle.std.specs.Prelude.{◌≡◌, ℕ, List, None, ⊤}
 use Rattle.call_dispatch.specs.declared.call.Call.TheVariants.{Remark, Transfer, Fail, Batch}
 use Rattle.call_dispatch.specs.Spelling.{Item}
@@ -11,7 +11,7 @@ taken_back m who (Transfer row dest n) = shifted m row dest who n
 taken_back m who (Fail code) = m
 taken_back m who (Batch none) = m
 
--- only want of memory can refuse that
+-- only running out of memory can refuse that
 abbrev pub CanTakeBack : RowAmounts → Floors → List ℕ → List ℕ → Item → Type 0
 CanTakeBack m floors rows who (Remark bytes) = ⊤
 CanTakeBack m floors rows who (Transfer row dest n) =

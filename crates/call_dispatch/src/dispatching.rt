@@ -59,7 +59,7 @@ fn dispatch_item<M: Mover>(
     }
 }
 
-/// Moves back what a call moved. Only want of memory can refuse it.
+/// Moves back what a call moved. An `Err` is out of memory.
 fn take_back<M: Mover>(m: &mut M, who: &[u8; 32], c: &Call<NoBatch>) -> Result<(), AllocError>
     requires { CanTakeBack (M.amounts m.old) (M.floors m.old) (M.rows m.old) who.now c.now }
     ensures ok { OnOk result (M.amounts m.new ≡ taken_back (M.amounts m.old) who.now c.now) }

@@ -35,8 +35,8 @@ pub(crate) fn fill_group1(
             put(slot, Instruction::ClearOrigin);
             Ok(())
         }
-        11 => fill_descend_origin(c, slot),
-        12 => fill_report_error(c, slot),
+        11 => fill_descend_origin(alloc, c, slot),
+        12 => fill_report_error(alloc, c, slot),
         13 => fill_deposit_asset(alloc, c, v, slot),
         14 => fill_deposit_reserve_asset(alloc, c, v, slot),
         15 => fill_exchange_asset(alloc, c, v, slot),

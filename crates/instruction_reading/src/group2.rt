@@ -31,7 +31,7 @@ pub(crate) fn fill_group2(
         16 => fill_initiate_reserve_withdraw(alloc, c, v, slot),
         17 => fill_initiate_teleport(alloc, c, v, slot),
         18 => fill_report_holding(alloc, c, v, slot),
-        19 => fill_buy_execution(c, v, slot),
+        19 => fill_buy_execution(alloc, c, v, slot),
         20 => {
             put(slot, Instruction::RefundSurplus);
             Ok(())

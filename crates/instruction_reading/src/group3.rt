@@ -38,7 +38,7 @@ pub(crate) fn fill_group3(
         }
         28 => fill_burn_asset(alloc, c, v, slot),
         29 => fill_expect_asset(alloc, c, v, slot),
-        30 => fill_expect_origin(c, slot),
+        30 => fill_expect_origin(alloc, c, slot),
         31 => fill_expect_error(c, slot),
         _ => unreachable!(),
     }

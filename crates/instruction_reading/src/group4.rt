@@ -31,14 +31,14 @@ pub(crate) fn fill_group4(
         32 => fill_expect_transact_status(alloc, c, slot),
         33 => fill_query_pallet(alloc, c, slot),
         34 => fill_expect_pallet(alloc, c, slot),
-        35 => fill_report_transact_status(c, slot),
+        35 => fill_report_transact_status(alloc, c, slot),
         36 => {
             put(slot, Instruction::ClearTransactStatus);
             Ok(())
         }
         37 => fill_universal_origin(c, slot),
         38 => fill_export_message(alloc, c, slot),
-        39 => fill_lock_asset(c, v, slot),
+        39 => fill_lock_asset(alloc, c, v, slot),
         _ => unreachable!(),
     }
 }

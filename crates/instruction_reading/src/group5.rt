@@ -27,17 +27,17 @@ pub(crate) fn fill_group5(
     ensures { FilledHead result (group5_at v index c.old) slot.new c.new }
 {
     match index {
-        40 => fill_unlock_asset(c, v, slot),
-        41 => fill_note_unlockable(c, v, slot),
-        42 => fill_request_unlock(c, v, slot),
+        40 => fill_unlock_asset(alloc, c, v, slot),
+        41 => fill_note_unlockable(alloc, c, v, slot),
+        42 => fill_request_unlock(alloc, c, v, slot),
         43 => fill_set_fees_mode(c, slot),
         44 => fill_set_topic(c, slot),
         45 => {
             put(slot, Instruction::ClearTopic);
             Ok(())
         }
-        46 => fill_alias_origin(c, slot),
-        47 => fill_unpaid_execution(c, slot),
+        46 => fill_alias_origin(alloc, c, slot),
+        47 => fill_unpaid_execution(alloc, c, slot),
         _ => unreachable!(),
     }
 }

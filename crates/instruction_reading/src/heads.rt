@@ -16,7 +16,7 @@ use std::alloc::Global;
 use xcm_program::Instruction;
 
 /// Reads the instruction at the front of what is left, up to the program inside, into a slot for it. Nothing is said of the slot and
-/// the cursor after a refusal. An instruction is more than 1,600 bytes, so it is read straight into that slot.
+/// the cursor after a refusal.
 #[tactic(auto, unfolding(crate::specs::Reading::head_at, crate::specs::Reading::form_at))]
 pub fn fill_head(
     alloc: Global,

@@ -8,9 +8,8 @@ ghost use Rattle.xcm_format.specs.Reading.{weight_limit_at};
 ghost use Rattle.xcm_program.specs.declared.instruction.Instruction.TheOpen.{Instruction-F};
 ghost use Rattle.instruction_reading.specs.Answers.{FilledHead};
 
-use crate::inside::{empty_place, put};
-use asset_wire::{Version, WireFault, take_asset, take_assets, take_filter};
-use location_wire::fill_location;
+use crate::inside::{put, take_location, take_one_asset};
+use asset_wire::{Version, WireFault, take_assets, take_filter};
 use scale_codec::Cursor;
 use std::alloc::Global;
 use xcm_format::take_weight_limit;
@@ -42,6 +41,7 @@ pub(crate) fn fill_exchange_asset(
 
 /// The fees, and how much weight they buy.
 pub(crate) fn fill_buy_execution(
+    alloc: Global,
     c: &mut Cursor<'_>,
     v: Version,
     slot: &mut Instruction,
@@ -49,7 +49,7 @@ pub(crate) fn fill_buy_execution(
     ensures { FilledHead result (made2 (asset_at v) weight_limit_at Instruction-F.BuyExecution
         c.old) slot.new c.new }
 {
-    let fees = take_asset(c, v)?;
+    let fees = take_one_asset(alloc, c, v)?;
     let limit = take_weight_limit(c)?;
     put(slot, Instruction::BuyExecution { fees, limit });
     Ok(())
@@ -66,8 +66,7 @@ pub(crate) fn fill_claim_asset(
         slot.new c.new }
 {
     let assets = take_assets(alloc, c, v)?;
-    let mut ticket = empty_place();
-    fill_location(c, &mut ticket)?;
+    let ticket = take_location(alloc, c)?;
     put(slot, Instruction::ClaimAsset { assets, ticket });
     Ok(())
 }

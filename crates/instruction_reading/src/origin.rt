@@ -7,54 +7,58 @@ ghost use Rattle.xcm_format.specs.Reading.{weight_limit_at};
 ghost use Rattle.xcm_program.specs.declared.instruction.Instruction.TheOpen.{Instruction-F};
 ghost use Rattle.instruction_reading.specs.Answers.{FilledHead};
 
-use crate::inside::{empty_place, nothing_inside, put};
+use crate::inside::{nothing_inside, put, take_junctions, take_location, take_location_if_any};
 use asset_wire::WireFault;
-use location_wire::{fill_junctions, fill_location, take_junction, take_network};
-use locations::Junctions;
+use location_wire::{take_junction, take_network};
 use scale_codec::Cursor;
 use std::alloc::Global;
-use xcm_format::{take_optional_location, take_weight_limit};
+use xcm_format::take_weight_limit;
 use xcm_program::Instruction;
 
 /// The junctions.
 pub(crate) fn fill_descend_origin(
+    alloc: Global,
     c: &mut Cursor<'_>,
     slot: &mut Instruction,
 ) -> Result<(), WireFault>
     ensures { FilledHead result (made1 junctions_at Instruction-F.DescendOrigin c.old) slot.new
         c.new }
 {
-    let mut interior = Junctions::empty();
-    fill_junctions(c, &mut interior)?;
+    let interior = take_junctions(alloc, c)?;
     put(slot, Instruction::DescendOrigin { interior });
     Ok(())
 }
 
 /// The origin, or none.
 pub(crate) fn fill_expect_origin(
+    alloc: Global,
     c: &mut Cursor<'_>,
     slot: &mut Instruction,
 ) -> Result<(), WireFault>
     ensures { FilledHead result (made1 (optional_at location_at) Instruction-F.ExpectOrigin c.old)
         slot.new c.new }
 {
-    let origin = take_optional_location(c)?;
+    let origin = take_location_if_any(alloc, c)?;
     put(slot, Instruction::ExpectOrigin { origin });
     Ok(())
 }
 
 /// The origin that is set.
-pub(crate) fn fill_alias_origin(c: &mut Cursor<'_>, slot: &mut Instruction) -> Result<(), WireFault>
+pub(crate) fn fill_alias_origin(
+    alloc: Global,
+    c: &mut Cursor<'_>,
+    slot: &mut Instruction,
+) -> Result<(), WireFault>
     ensures { FilledHead result (made1 location_at Instruction-F.AliasOrigin c.old) slot.new c.new }
 {
-    let mut target = empty_place();
-    fill_location(c, &mut target)?;
+    let target = take_location(alloc, c)?;
     put(slot, Instruction::AliasOrigin { target });
     Ok(())
 }
 
 /// The most weight, and the origin, or none.
 pub(crate) fn fill_unpaid_execution(
+    alloc: Global,
     c: &mut Cursor<'_>,
     slot: &mut Instruction,
 ) -> Result<(), WireFault>
@@ -62,7 +66,7 @@ pub(crate) fn fill_unpaid_execution(
         Instruction-F.UnpaidExecution c.old) slot.new c.new }
 {
     let limit = take_weight_limit(c)?;
-    let check_origin = take_optional_location(c)?;
+    let check_origin = take_location_if_any(alloc, c)?;
     put(
         slot,
         Instruction::UnpaidExecution {
@@ -83,8 +87,7 @@ pub(crate) fn fill_export_message(
         (λ net path. Instruction-F.ExportMessage net path []) c.old) slot.new c.new }
 {
     let network = take_network(c)?;
-    let mut destination = Junctions::empty();
-    fill_junctions(c, &mut destination)?;
+    let destination = take_junctions(alloc, c)?;
     let xcm = nothing_inside(alloc);
     put(
         slot,

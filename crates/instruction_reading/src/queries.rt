@@ -8,11 +8,11 @@ ghost use Rattle.xcm_format.specs.Reading.{weight_at, bytes_at, query_info_at, r
 ghost use Rattle.xcm_program.specs.declared.instruction.Instruction.TheOpen.{Instruction-F};
 ghost use Rattle.instruction_reading.specs.Answers.{FilledHead};
 
-use crate::inside::put;
+use crate::inside::{put, take_info, take_location_if_any};
 use asset_wire::{Version, WireFault, take_filter};
 use scale_codec::Cursor;
 use std::alloc::Global;
-use xcm_format::{take_bytes, take_optional_location, take_query_info, take_response, take_weight};
+use xcm_format::{take_bytes, take_response, take_weight};
 use xcm_program::Instruction;
 
 /// The number of the query, its response, the most weight, and who asked.
@@ -28,7 +28,7 @@ pub(crate) fn fill_query_response(
     let query_id = c.compact_u64()?;
     let response = take_response(alloc, c, v)?;
     let max_weight = take_weight(c)?;
-    let querier = take_optional_location(c)?;
+    let querier = take_location_if_any(alloc, c)?;
     put(
         slot,
         Instruction::QueryResponse {
@@ -42,11 +42,15 @@ pub(crate) fn fill_query_response(
 }
 
 /// Where to.
-pub(crate) fn fill_report_error(c: &mut Cursor<'_>, slot: &mut Instruction) -> Result<(), WireFault>
+pub(crate) fn fill_report_error(
+    alloc: Global,
+    c: &mut Cursor<'_>,
+    slot: &mut Instruction,
+) -> Result<(), WireFault>
     ensures { FilledHead result (made1 query_info_at Instruction-F.ReportError c.old) slot.new
         c.new }
 {
-    let info = take_query_info(c)?;
+    let info = take_info(alloc, c)?;
     put(slot, Instruction::ReportError { info });
     Ok(())
 }
@@ -61,7 +65,7 @@ pub(crate) fn fill_report_holding(
     ensures { FilledHead result (made2 query_info_at (filter_at v) Instruction-F.ReportHolding
         c.old) slot.new c.new }
 {
-    let info = take_query_info(c)?;
+    let info = take_info(alloc, c)?;
     let assets = take_filter(alloc, c, v)?;
     put(slot, Instruction::ReportHolding { info, assets });
     Ok(())
@@ -77,20 +81,21 @@ pub(crate) fn fill_query_pallet(
         c.old) slot.new c.new }
 {
     let module_name = take_bytes(alloc, c)?;
-    let info = take_query_info(c)?;
+    let info = take_info(alloc, c)?;
     put(slot, Instruction::QueryPallet { module_name, info });
     Ok(())
 }
 
 /// Where to.
 pub(crate) fn fill_report_transact_status(
+    alloc: Global,
     c: &mut Cursor<'_>,
     slot: &mut Instruction,
 ) -> Result<(), WireFault>
     ensures { FilledHead result (made1 query_info_at Instruction-F.ReportTransactStatus c.old)
         slot.new c.new }
 {
-    let info = take_query_info(c)?;
+    let info = take_info(alloc, c)?;
     put(slot, Instruction::ReportTransactStatus { info });
     Ok(())
 }

@@ -7,9 +7,8 @@ ghost use Rattle.asset_wire.specs.Reading.{assets_at, filter_at};
 ghost use Rattle.xcm_program.specs.declared.instruction.Instruction.TheOpen.{Instruction-F};
 ghost use Rattle.instruction_reading.specs.Answers.{FilledHead};
 
-use crate::inside::{empty_place, nothing_inside, put};
+use crate::inside::{nothing_inside, put, take_location};
 use asset_wire::{Version, WireFault, take_assets, take_filter};
-use location_wire::fill_location;
 use scale_codec::Cursor;
 use std::alloc::Global;
 use xcm_program::Instruction;
@@ -25,8 +24,7 @@ pub(crate) fn fill_transfer_asset(
         slot.new c.new }
 {
     let assets = take_assets(alloc, c, v)?;
-    let mut beneficiary = empty_place();
-    fill_location(c, &mut beneficiary)?;
+    let beneficiary = take_location(alloc, c)?;
     put(
         slot,
         Instruction::TransferAsset {
@@ -48,8 +46,7 @@ pub(crate) fn fill_transfer_reserve_asset(
         (λ list place. Instruction-F.TransferReserveAsset list place []) c.old) slot.new c.new }
 {
     let assets = take_assets(alloc, c, v)?;
-    let mut dest = empty_place();
-    fill_location(c, &mut dest)?;
+    let dest = take_location(alloc, c)?;
     let xcm = nothing_inside(alloc);
     put(
         slot,
@@ -69,8 +66,7 @@ pub(crate) fn fill_deposit_asset(
         slot.new c.new }
 {
     let assets = take_filter(alloc, c, v)?;
-    let mut beneficiary = empty_place();
-    fill_location(c, &mut beneficiary)?;
+    let beneficiary = take_location(alloc, c)?;
     put(
         slot,
         Instruction::DepositAsset {
@@ -93,8 +89,7 @@ pub(crate) fn fill_deposit_reserve_asset(
         c.new }
 {
     let assets = take_filter(alloc, c, v)?;
-    let mut dest = empty_place();
-    fill_location(c, &mut dest)?;
+    let dest = take_location(alloc, c)?;
     let xcm = nothing_inside(alloc);
     put(slot, Instruction::DepositReserveAsset { assets, dest, xcm });
     Ok(())
@@ -112,8 +107,7 @@ pub(crate) fn fill_initiate_reserve_withdraw(
         c.new }
 {
     let assets = take_filter(alloc, c, v)?;
-    let mut reserve = empty_place();
-    fill_location(c, &mut reserve)?;
+    let reserve = take_location(alloc, c)?;
     let xcm = nothing_inside(alloc);
     put(
         slot,
@@ -137,8 +131,7 @@ pub(crate) fn fill_initiate_teleport(
         (λ taken place. Instruction-F.InitiateTeleport taken place []) c.old) slot.new c.new }
 {
     let assets = take_filter(alloc, c, v)?;
-    let mut dest = empty_place();
-    fill_location(c, &mut dest)?;
+    let dest = take_location(alloc, c)?;
     let xcm = nothing_inside(alloc);
     put(slot, Instruction::InitiateTeleport { assets, dest, xcm });
     Ok(())

@@ -36,14 +36,17 @@ pub(crate) fn put_group0(o: &mut Draft, i: &Instruction, v: Version) -> Result<(
             o.put_compact(u128::from(*query_id))?;
             put_response(o, response, v)?;
             put_weight(o, max_weight)?;
-            put_optional_location(o, querier)
+            put_optional_location(o, querier.value())
         }
         Instruction::TransferAsset {
             assets,
             beneficiary,
-        } => put_assets_for(o, assets, beneficiary, v),
+        } => put_assets_for(o, assets, beneficiary.value(), v),
         Instruction::TransferReserveAsset { assets, dest, .. } => put_assets_for(
-            o, assets, dest, v,
+            o,
+            assets,
+            dest.value(),
+            v,
         ),
         Instruction::Transact {
             origin_kind,

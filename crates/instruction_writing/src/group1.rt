@@ -33,13 +33,18 @@ pub(crate) fn put_group1(o: &mut Draft, i: &Instruction, v: Version) -> Result<(
             recipient,
         } => put_numbers(o, *initiator, *sender, *recipient),
         Instruction::ClearOrigin => Ok(()),
-        Instruction::DescendOrigin { interior } => put_junctions(o, interior),
-        Instruction::ReportError { info } => put_query_info(o, info),
+        Instruction::DescendOrigin { interior } => put_junctions(o, interior.value()),
+        Instruction::ReportError { info } => put_query_info(o, info.value()),
         Instruction::DepositAsset {
             assets,
             beneficiary,
-        } => put_filter_for(o, assets, beneficiary, v),
-        Instruction::DepositReserveAsset { assets, dest, .. } => put_filter_for(o, assets, dest, v),
+        } => put_filter_for(o, assets, beneficiary.value(), v),
+        Instruction::DepositReserveAsset { assets, dest, .. } => put_filter_for(
+            o,
+            assets,
+            dest.value(),
+            v,
+        ),
         Instruction::ExchangeAsset {
             give,
             want,

@@ -31,14 +31,19 @@ pub(crate) fn put_group2(o: &mut Draft, i: &Instruction, v: Version) -> Result<(
             assets,
             reserve,
             ..
-        } => put_filter_for(o, assets, reserve, v),
-        Instruction::InitiateTeleport { assets, dest, .. } => put_filter_for(o, assets, dest, v),
+        } => put_filter_for(o, assets, reserve.value(), v),
+        Instruction::InitiateTeleport { assets, dest, .. } => put_filter_for(
+            o,
+            assets,
+            dest.value(),
+            v,
+        ),
         Instruction::ReportHolding { info, assets } => {
-            put_query_info(o, info)?;
+            put_query_info(o, info.value())?;
             put_filter(o, assets, v)
         }
         Instruction::BuyExecution { fees, limit } => {
-            put_asset(o, fees, v)?;
+            put_asset(o, fees.value(), v)?;
             put_weight_limit(o, limit)
         }
         Instruction::RefundSurplus

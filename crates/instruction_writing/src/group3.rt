@@ -25,7 +25,7 @@ pub(crate) fn put_group3(o: &mut Draft, i: &Instruction, v: Version) -> Result<(
         (FitsHead v (out-Instruction i.now)) }
 {
     match i {
-        Instruction::ClaimAsset { assets, ticket } => put_assets_for(o, assets, ticket, v),
+        Instruction::ClaimAsset { assets, ticket } => put_assets_for(o, assets, ticket.value(), v),
         Instruction::Trap { code } => o.put_compact(u128::from(*code)),
         Instruction::SubscribeVersion {
             query_id,
@@ -38,7 +38,7 @@ pub(crate) fn put_group3(o: &mut Draft, i: &Instruction, v: Version) -> Result<(
         Instruction::BurnAsset { assets } | Instruction::ExpectAsset { assets } => put_assets(
             o, assets, v,
         ),
-        Instruction::ExpectOrigin { origin } => put_optional_location(o, origin),
+        Instruction::ExpectOrigin { origin } => put_optional_location(o, origin.value()),
         Instruction::ExpectError { error } => put_optional_failure(o, error),
         _ => unreachable!(),
     }

@@ -31,7 +31,7 @@ pub(crate) fn put_group4(o: &mut Draft, i: &Instruction, v: Version) -> Result<(
         Instruction::ExpectTransactStatus { status } => put_maybe_error(o, status),
         Instruction::QueryPallet { module_name, info } => {
             put_bytes(o, module_name)?;
-            put_query_info(o, info)
+            put_query_info(o, info.value())
         }
         Instruction::ExpectPallet {
             index,
@@ -46,7 +46,7 @@ pub(crate) fn put_group4(o: &mut Draft, i: &Instruction, v: Version) -> Result<(
             o.put_compact(u128::from(*crate_major))?;
             o.put_compact(u128::from(*min_crate_minor))
         }
-        Instruction::ReportTransactStatus { info } => put_query_info(o, info),
+        Instruction::ReportTransactStatus { info } => put_query_info(o, info.value()),
         Instruction::ClearTransactStatus => Ok(()),
         Instruction::UniversalOrigin { junction } => put_junction(o, junction),
         Instruction::ExportMessage {
@@ -55,9 +55,14 @@ pub(crate) fn put_group4(o: &mut Draft, i: &Instruction, v: Version) -> Result<(
             ..
         } => {
             put_network(o, network)?;
-            put_junctions(o, destination)
+            put_junctions(o, destination.value())
         }
-        Instruction::LockAsset { asset, unlocker } => put_asset_for(o, asset, unlocker, v),
+        Instruction::LockAsset { asset, unlocker } => put_asset_for(
+            o,
+            asset.value(),
+            unlocker.value(),
+            v,
+        ),
         _ => unreachable!(),
     }
 }

@@ -28,19 +28,34 @@ pub(crate) fn put_group5(o: &mut Draft, i: &Instruction, v: Version) -> Result<(
         (FitsHead v (out-Instruction i.now)) }
 {
     match i {
-        Instruction::UnlockAsset { asset, target } => put_asset_for(o, asset, target, v),
-        Instruction::NoteUnlockable { asset, owner } => put_asset_for(o, asset, owner, v),
-        Instruction::RequestUnlock { asset, locker } => put_asset_for(o, asset, locker, v),
+        Instruction::UnlockAsset { asset, target } => put_asset_for(
+            o,
+            asset.value(),
+            target.value(),
+            v,
+        ),
+        Instruction::NoteUnlockable { asset, owner } => put_asset_for(
+            o,
+            asset.value(),
+            owner.value(),
+            v,
+        ),
+        Instruction::RequestUnlock { asset, locker } => put_asset_for(
+            o,
+            asset.value(),
+            locker.value(),
+            v,
+        ),
         Instruction::SetFeesMode { jit_withdraw } => put_flag(o, *jit_withdraw),
         Instruction::SetTopic { topic } => o.put_bytes(topic),
         Instruction::ClearTopic => Ok(()),
-        Instruction::AliasOrigin { target } => put_location(o, target),
+        Instruction::AliasOrigin { target } => put_location(o, target.value()),
         Instruction::UnpaidExecution {
             limit,
             check_origin,
         } => {
             put_weight_limit(o, limit)?;
-            put_optional_location(o, check_origin)
+            put_optional_location(o, check_origin.value())
         }
         _ => unreachable!(),
     }

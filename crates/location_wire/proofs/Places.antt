@@ -1,4 +1,4 @@
--- The last element of a list that is lent for writing.
+-- The last element of a list that is borrowed for writing.
 use Rattle.std.proofs.Common.{◌≡◌, List, [], ◌∷◌, ◌++◌, length, slice_set, refl}
 use Rattle.std.specs.List.{refill}
 

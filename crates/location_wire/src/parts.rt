@@ -265,7 +265,7 @@ pub fn fill_location(c: &mut Cursor<'_>, place: &mut Location) -> Result<(), NoS
 }
 
 /// The junctions after their number.
-pub fn take_junctions(c: &mut Cursor<'_>) -> Result<Junctions, NoSpelling>
+pub(crate) fn take_junctions(c: &mut Cursor<'_>) -> Result<Junctions, NoSpelling>
     ensures { Got result (junctions_at c.old) c.new }
 {
     let mut junctions = Junctions::empty();

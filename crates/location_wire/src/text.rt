@@ -12,6 +12,9 @@ use scale_codec::Out;
 use std::alloc::{AllocError, Global};
 use std::fmt::Write;
 
+/// Bytes for the text of most locations, so that it isn't moved while it grows.
+const ROOM: usize = 96;
+
 /// Appends the hex of the junction's spelling.
 fn push_spelled(alloc: Global, text: &mut String, step: &Junction) -> Result<(), AllocError>
     ensures { OnOk result (string_bytes text.new
@@ -96,7 +99,8 @@ pub fn location_text(alloc: Global, l: &Location) -> Result<String, AllocError>
     ensures { IfOk result (λ text. string_bytes text ≡ location_text l.now) }
 {
     let parents = l.parents;
-    let mut text = format!(in alloc; "{parents}")?;
+    let mut text = String::with_capacity(alloc, ROOM)?;
+    write!(text, "{parents}")?;
     push_steps(alloc, &mut text, l.interior.items())?;
     Ok(text)
 }
@@ -105,7 +109,7 @@ pub fn location_text(alloc: Global, l: &Location) -> Result<String, AllocError>
 pub fn path_text(alloc: Global, p: &Junctions) -> Result<String, AllocError>
     ensures { IfOk result (λ text. string_bytes text ≡ path_text p.now) }
 {
-    let mut text = String::new(alloc);
+    let mut text = String::with_capacity(alloc, ROOM)?;
     if p.items().is_empty() {
         text.push_str("/")?;
     }

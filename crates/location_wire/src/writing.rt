@@ -1,6 +1,6 @@
 //! Writes of locations and their parts: each appends the one spelling.
 
-ghost use Rattle.std.specs.Prelude.{◌≡◌, ◌∷◌, ◌++◌, OnOk, OnErr, IfSome, ⊤};
+ghost use Rattle.std.specs.Prelude.{◌≡◌, ◌∷◌, ◌++◌, IfSome, ⊤};
 ghost use Rattle.scale_codec.specs.Spelling.{compact, optional};
 ghost use Rattle.scale_codec.specs.Answers.{Appends, Puts, IsWritten};
 ghost use Rattle.location_wire.specs.Spelling.{network, FitsNetwork, body, FitsBody, part, FitsPart, junction, FitsJunction, junctions, FitsJunctions, location, FitsLocation};

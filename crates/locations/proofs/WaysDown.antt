@@ -1,5 +1,5 @@
 -- The way down from the highest point that a target reaches is put together from `OnlyChild` junctions, what is known of the context, and the location's own.
-use Rattle.std.proofs.Common.{◌≡◌, sym, ap, ◌∙◌, ℕ, ◌+◌, ◌-◌, ◌<◌, ◌≤◌, List, [], ◌++◌, length, take, replicate, append-nil, arith, inl, inr}
+use Rattle.std.proofs.Common.{◌≡◌, sym, ap, ◌∙◌, ℕ, ◌+◌, ◌-◌, ◌≤◌, List, ◌++◌, length, take, replicate, append-nil, arith, inl, inr}
 use Rattle.std.specs.Prelude.{min}
 use Rattle.std.proofs.Math.Seq.{take-append-add}
 use Rattle.std.proofs.lemmas.Bool.{cases_lt}
@@ -8,7 +8,6 @@ use Rattle.locations.specs.declared.grammar.Junction.{Junction}
 use Rattle.locations.specs.declared.grammar.Junction.TheVariants.{OnlyChild}
 use Rattle.locations.specs.declared.relative.Location.{Location}
 use Rattle.locations.specs.Chains.{last}
-use Rattle.locations.specs.Steps.{last_known}
 use Rattle.locations.specs.Reanchoring.{way_down}
 
 -- the first so many of a list of `OnlyChild` followed by what is known

@@ -1,4 +1,4 @@
--- What a list of junctions is once its junctions were lent for writing. This project's own rule.
+-- What a list of junctions is once its junctions were borrowed for writing. This project's own rule.
 use Rattle.std.specs.Prelude.{List, length}
 use Rattle.std.specs.List.{refill}
 use Rattle.std.specs.Borrow.{Lends, MutBor, Fml, Array}

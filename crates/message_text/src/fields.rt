@@ -160,12 +160,12 @@ fn wild_text(alloc: Global, wild: &Wild) -> Result<String, AllocError>
     match wild {
         Wild::All => format!(in alloc; "All"),
         Wild::AllOf { id, fun } => {
-            let (id, fun) = (id_text(alloc, id)?, wild_fun_text(*fun));
+            let (id, fun) = (id_text(alloc, id.value())?, wild_fun_text(*fun));
             format!(in alloc; "AllOf {id} {fun}")
         }
         Wild::AllCounted(count) => format!(in alloc; "AllCounted {count}"),
         Wild::AllOfCounted { id, fun, count } => {
-            let (id, fun) = (id_text(alloc, id)?, wild_fun_text(*fun));
+            let (id, fun) = (id_text(alloc, id.value())?, wild_fun_text(*fun));
             format!(in alloc; "AllOfCounted {id} {fun} {count}")
         }
     }

@@ -41,7 +41,7 @@ pub(crate) fn push_group0(
             push_number(alloc, text, level, FieldName::QueryId, *query_id)?;
             push_response(alloc, text, level, response)?;
             push_weight(alloc, text, level, FieldName::MaxWeight, *max_weight)?;
-            push_place(alloc, text, level, FieldName::Querier, querier)
+            push_place(alloc, text, level, FieldName::Querier, querier.value())
         }
         Instruction::TransferAsset {
             assets,
@@ -52,10 +52,10 @@ pub(crate) fn push_group0(
             level,
             assets,
             FieldName::Beneficiary,
-            beneficiary,
+            beneficiary.value(),
         ),
         Instruction::TransferReserveAsset { assets, dest, .. } => {
-            push_assets_for(alloc, text, level, assets, FieldName::Dest, dest)
+            push_assets_for(alloc, text, level, assets, FieldName::Dest, dest.value())
         }
         Instruction::Transact {
             origin_kind,

@@ -61,10 +61,10 @@ pub(crate) fn push_group1(
         }
         Instruction::ClearOrigin => Ok(()),
         Instruction::DescendOrigin { interior } => {
-            let interior = path_text(alloc, interior)?;
+            let interior = path_text(alloc, interior.value())?;
             push_field(text, level, FieldName::Interior, &interior)
         }
-        Instruction::ReportError { info } => push_info(alloc, text, level, info),
+        Instruction::ReportError { info } => push_info(alloc, text, level, info.value()),
         Instruction::DepositAsset {
             assets,
             beneficiary,
@@ -74,10 +74,10 @@ pub(crate) fn push_group1(
             level,
             assets,
             FieldName::Beneficiary,
-            beneficiary,
+            beneficiary.value(),
         ),
         Instruction::DepositReserveAsset { assets, dest, .. } => {
-            push_taken_for(alloc, text, level, assets, FieldName::Dest, dest)
+            push_taken_for(alloc, text, level, assets, FieldName::Dest, dest.value())
         }
         Instruction::ExchangeAsset {
             give,

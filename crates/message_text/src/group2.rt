@@ -30,16 +30,23 @@ pub(crate) fn push_group2(
             assets,
             reserve,
             ..
-        } => push_taken_for(alloc, text, level, assets, FieldName::Reserve, reserve),
+        } => push_taken_for(
+            alloc,
+            text,
+            level,
+            assets,
+            FieldName::Reserve,
+            reserve.value(),
+        ),
         Instruction::InitiateTeleport { assets, dest, .. } => {
-            push_taken_for(alloc, text, level, assets, FieldName::Dest, dest)
+            push_taken_for(alloc, text, level, assets, FieldName::Dest, dest.value())
         }
         Instruction::ReportHolding { info, assets } => {
-            push_info(alloc, text, level, info)?;
+            push_info(alloc, text, level, info.value())?;
             push_filter(alloc, text, level, FieldName::Assets, assets)
         }
         Instruction::BuyExecution { fees, limit } => {
-            push_asset(alloc, text, level, FieldName::Fees, fees)?;
+            push_asset(alloc, text, level, FieldName::Fees, fees.value())?;
             push_limit(alloc, text, level, *limit)
         }
         Instruction::RefundSurplus

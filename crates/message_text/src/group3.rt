@@ -28,7 +28,14 @@ pub(crate) fn push_group3(
 {
     match instruction {
         Instruction::ClaimAsset { assets, ticket } => {
-            push_assets_for(alloc, text, level, assets, FieldName::Ticket, ticket)
+            push_assets_for(
+                alloc,
+                text,
+                level,
+                assets,
+                FieldName::Ticket,
+                ticket.value(),
+            )
         }
         Instruction::Trap { code } => push_number(alloc, text, level, FieldName::Code, *code),
         Instruction::SubscribeVersion {
@@ -53,7 +60,7 @@ pub(crate) fn push_group3(
             text,
             level,
             FieldName::Origin,
-            origin,
+            origin.value(),
         ),
         Instruction::ExpectError { error } => {
             let error = failure_text(alloc, error)?;

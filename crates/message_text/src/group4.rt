@@ -41,7 +41,7 @@ pub(crate) fn push_group4(
                 FieldName::ModuleName,
                 module_name.items(),
             )?;
-            push_info(alloc, text, level, info)
+            push_info(alloc, text, level, info.value())
         }
         Instruction::ExpectPallet {
             index,
@@ -74,7 +74,7 @@ pub(crate) fn push_group4(
                 u64::from(*min_crate_minor),
             )
         }
-        Instruction::ReportTransactStatus { info } => push_info(alloc, text, level, info),
+        Instruction::ReportTransactStatus { info } => push_info(alloc, text, level, info.value()),
         Instruction::ClearTransactStatus => Ok(()),
         Instruction::UniversalOrigin { junction } => {
             let junction = junction_text(alloc, junction)?;
@@ -87,11 +87,18 @@ pub(crate) fn push_group4(
         } => {
             let network = network_text(alloc, *network)?;
             push_field(text, level, FieldName::Network, &network)?;
-            let destination = path_text(alloc, destination)?;
+            let destination = path_text(alloc, destination.value())?;
             push_field(text, level, FieldName::Destination, &destination)
         }
         Instruction::LockAsset { asset, unlocker } => {
-            push_asset_for(alloc, text, level, asset, FieldName::Unlocker, unlocker)
+            push_asset_for(
+                alloc,
+                text,
+                level,
+                asset.value(),
+                FieldName::Unlocker,
+                unlocker.value(),
+            )
         }
         _ => unreachable!(),
     }

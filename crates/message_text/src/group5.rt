@@ -27,13 +27,34 @@ pub(crate) fn push_group5(
 {
     match instruction {
         Instruction::UnlockAsset { asset, target } => {
-            push_asset_for(alloc, text, level, asset, FieldName::Target, target)
+            push_asset_for(
+                alloc,
+                text,
+                level,
+                asset.value(),
+                FieldName::Target,
+                target.value(),
+            )
         }
         Instruction::NoteUnlockable { asset, owner } => {
-            push_asset_for(alloc, text, level, asset, FieldName::Owner, owner)
+            push_asset_for(
+                alloc,
+                text,
+                level,
+                asset.value(),
+                FieldName::Owner,
+                owner.value(),
+            )
         }
         Instruction::RequestUnlock { asset, locker } => {
-            push_asset_for(alloc, text, level, asset, FieldName::Locker, locker)
+            push_asset_for(
+                alloc,
+                text,
+                level,
+                asset.value(),
+                FieldName::Locker,
+                locker.value(),
+            )
         }
         Instruction::SetFeesMode { jit_withdraw } => {
             push_field(
@@ -48,14 +69,20 @@ pub(crate) fn push_group5(
         }
         Instruction::ClearTopic => Ok(()),
         Instruction::AliasOrigin { target } => {
-            push_location(alloc, text, level, FieldName::Target, target)
+            push_location(alloc, text, level, FieldName::Target, target.value())
         }
         Instruction::UnpaidExecution {
             limit,
             check_origin,
         } => {
             push_limit(alloc, text, level, *limit)?;
-            push_place(alloc, text, level, FieldName::CheckOrigin, check_origin)
+            push_place(
+                alloc,
+                text,
+                level,
+                FieldName::CheckOrigin,
+                check_origin.value(),
+            )
         }
         _ => unreachable!(),
     }

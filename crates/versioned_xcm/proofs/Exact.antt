@@ -101,7 +101,7 @@ pub exact : (bytes : List ℕ) → MatchResult (message_of bytes) (IsDecoded byt
 unfolding message_of
 exact bytes = long_told bytes (nat_lt 65536 (length bytes)) refl
 
--- an answer that is want of memory, or what decoding answers
+-- an answer that is out of memory, or what decoding answers
 pub exact_for : (bytes : List ℕ) (answer : Result (List Instruction) MessageFault) → (answer ≡ Err Memory) ⊎ (answer ≡ message_of bytes) → MatchResult answer (IsDecoded bytes) (IsCause bytes)
 exact_for bytes answer (inl e) = rw e tt
 exact_for bytes answer (inr e) = rw e (exact bytes)

@@ -18,6 +18,9 @@ use std::alloc::{AllocError, Global};
 use xcm_format::Version;
 use xcm_program::{Instruction, Program, deep_count, deep_count_one, depth, depth_one};
 
+/// Room for most messages, in bytes.
+const USUAL_BYTES: usize = 128;
+
 fn version_byte(v: Version) -> u8
     ensures { result ≡ version_byte v }
 {
@@ -60,7 +63,7 @@ pub fn encode_message(alloc: Global, program: &Program, v: Version) -> Result<Ve
     if deep_count(program) > MAX_INSTRUCTIONS || depth(program) > MAX_DEPTH {
         return Err(EncodeFault::ExceedsLimits);
     }
-    let mut out = Out::new(alloc);
+    let mut out = Out::with_capacity(alloc, USUAL_BYTES)?;
     let mut draft = out.draft();
     let written = put_message(&mut draft, program, v);
     out.settle(draft, written)?;
@@ -115,7 +118,7 @@ pub fn encode_forwarded(
     if forwards_too_much(first, rest) {
         return Err(EncodeFault::ExceedsLimits);
     }
-    let mut out = Out::new(alloc);
+    let mut out = Out::with_capacity(alloc, USUAL_BYTES)?;
     let mut draft = out.draft();
     let written = put_forwarded(&mut draft, first, rest, v);
     out.settle(draft, written)?;

@@ -1,6 +1,6 @@
 //! The laws of the heads of instructions: what comes before the program inside.
 
-ghost use Rattle.std.specs.Prelude.{◌≡◌, ◌++◌, ℕ, List, [], Option, Some};
+ghost use Rattle.std.specs.Prelude.{◌≡◌, ◌++◌, ℕ, List, [], Some};
 ghost use Rattle.operands.specs.declared.version.Version.{Version};
 ghost use Rattle.xcm_program.specs.declared.instruction.Instruction.{Instruction};
 ghost use Rattle.xcm_program.specs.Measure.{with_inner};

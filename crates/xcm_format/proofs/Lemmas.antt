@@ -2,7 +2,7 @@
 -- program is convertible just where version 4 can say each id of it. A reader of the contracts may skip this file.
 -- ---- the head is that of the layer alone
 pub mod OperandLaws
-use Rattle.std.proofs.Common.{◌≡◌, ℕ, ◌<◌, ◌^◌, List, ◌++◌, map, Option, Some, None, refl, sym, ap, ◌∙◌, zero, suc, ◌≤◌, Bool, true, false, ◌&&◌, [], ◌∷◌, arith}
+use Rattle.std.proofs.Common.{◌≡◌, ℕ, ◌<◌, ◌^◌, List, ◌++◌, map, Option, Some, None, refl, sym, ap, ◌∙◌, zero, suc, ◌≤◌, true, [], ◌∷◌, arith}
 use Rattle.std.proofs.lemmas.List.{length-map}
 use Rattle.std.specs.Option.{option_map}
 use Rattle.operands.specs.declared.version.Version.{Version}

@@ -1,4 +1,5 @@
-//! The readers that the public ones call, for the readers of instructions too. Where they leave the cursor after a refusal isn't said.
+//! Reads of the parts of instructions, for the readers of instructions. `NoSpelling` comes exactly where no prefix spells the part; where
+//! the cursor is then isn't said.
 
 ghost use Rattle.std.specs.Prelude.{◌≡◌, vec_len, IfOk};
 ghost use Rattle.scale_codec.specs.Reading.{optional_at, repeated};
@@ -7,7 +8,7 @@ ghost use Rattle.location_wire.specs.Reading.{location_at};
 ghost use Rattle.xcm_format.specs.Reading.{weight_at, weight_limit_at, origin_kind_at, error_at, failure_at, bytes_at, maybe_error_at, pallet_info_at, pallet_infos_at, query_info_at, response_at};
 
 use asset_wire::{Version, WireFault, take_assets};
-use location_wire::{fill_location, take_location};
+use location_wire::take_location;
 use locations::Location;
 use operands::{
     BoundedVec, MaybeError, OriginKind, PalletInfo, PalletInfos, QueryInfo, Response, Weight,
@@ -16,7 +17,7 @@ use operands::{
 use scale_codec::{Cursor, NoSpelling};
 use std::alloc::Global;
 
-/// As `read_weight`, with nothing said of the cursor after a refusal.
+/// The weight at the front of what is left: two compact numbers, picoseconds and bytes.
 #[tactic(auto, unfolding(crate::specs::Reading::weight_at))]
 pub fn take_weight(c: &mut Cursor<'_>) -> Result<Weight, NoSpelling>
     ensures { Got result (weight_at c.old) c.new }
@@ -29,7 +30,7 @@ pub fn take_weight(c: &mut Cursor<'_>) -> Result<Weight, NoSpelling>
     })
 }
 
-/// As `read_weight_limit`, with nothing said of the cursor after a refusal.
+/// The limit of a weight at the front of what is left.
 #[tactic(auto, unfolding(crate::specs::Reading::weight_limit_at))]
 pub fn take_weight_limit(c: &mut Cursor<'_>) -> Result<WeightLimit, NoSpelling>
     ensures { Got result (weight_limit_at c.old) c.new }
@@ -41,7 +42,7 @@ pub fn take_weight_limit(c: &mut Cursor<'_>) -> Result<WeightLimit, NoSpelling>
     }
 }
 
-/// As `read_origin_kind`, with nothing said of the cursor after a refusal.
+/// The kind of origin at the front of what is left.
 #[tactic(auto, unfolding(crate::specs::Reading::origin_kind_at))]
 pub fn take_origin_kind(c: &mut Cursor<'_>) -> Result<OriginKind, NoSpelling>
     ensures { Got result (origin_kind_at c.old) c.new }
@@ -55,9 +56,9 @@ pub fn take_origin_kind(c: &mut Cursor<'_>) -> Result<OriginKind, NoSpelling>
     }
 }
 
-/// As `read_error`, with nothing said of the cursor after a refusal.
+/// The error at the front of what is left.
 #[tactic(auto, unfolding(crate::specs::Reading::error_at))]
-pub(crate) fn take_error(c: &mut Cursor<'_>) -> Result<XcmError, NoSpelling>
+fn take_error(c: &mut Cursor<'_>) -> Result<XcmError, NoSpelling>
     ensures { Got result (error_at c.old) c.new }
 {
     match c.u8()? {
@@ -100,9 +101,9 @@ pub(crate) fn take_error(c: &mut Cursor<'_>) -> Result<XcmError, NoSpelling>
     }
 }
 
-/// As `read_failure`, with nothing said of the cursor after a refusal.
+/// Where an execution failed, and why: the index of an instruction and its error.
 #[tactic(auto, unfolding(crate::specs::Reading::failure_at))]
-pub(crate) fn take_failure(c: &mut Cursor<'_>) -> Result<(u32, XcmError), NoSpelling>
+fn take_failure(c: &mut Cursor<'_>) -> Result<(u32, XcmError), NoSpelling>
     ensures { Got result (failure_at c.old) c.new }
 {
     let index = c.u32_le()?;
@@ -110,7 +111,7 @@ pub(crate) fn take_failure(c: &mut Cursor<'_>) -> Result<(u32, XcmError), NoSpel
     Ok((index, error))
 }
 
-/// As `read_optional_failure`, with nothing said of the cursor after a refusal.
+/// Where an execution failed, and why, or that it didn't.
 pub fn take_optional_failure(c: &mut Cursor<'_>) -> Result<Option<(u32, XcmError)>, NoSpelling>
     ensures { Got result (optional_at failure_at c.old) c.new }
 {
@@ -121,7 +122,7 @@ pub fn take_optional_failure(c: &mut Cursor<'_>) -> Result<Option<(u32, XcmError
     }
 }
 
-/// As `read_optional_location`, with nothing said of the cursor after a refusal.
+/// A location that may be left out.
 pub fn take_optional_location(c: &mut Cursor<'_>) -> Result<Option<Location>, NoSpelling>
     ensures { Got result (optional_at location_at c.old) c.new }
 {
@@ -148,7 +149,7 @@ pub fn take_bytes<const MOST: usize>(
     Ok(BoundedVec::from_vec(bytes))
 }
 
-/// As `read_maybe_error`, with nothing said of the cursor after a refusal.
+/// How a call ended, with at most 128 bytes of an error.
 #[tactic(auto, unfolding(crate::specs::Reading::maybe_error_at))]
 pub fn take_maybe_error(alloc: Global, c: &mut Cursor<'_>) -> Result<MaybeError, WireFault>
     ensures { GotOrFails (λ status. status) result (maybe_error_at c.old) c.new }
@@ -161,9 +162,9 @@ pub fn take_maybe_error(alloc: Global, c: &mut Cursor<'_>) -> Result<MaybeError,
     }
 }
 
-/// As `read_pallet_info`, with nothing said of the cursor after a refusal.
+/// The pallet at the front of what is left, whose names have at most 48 bytes.
 #[tactic(auto, unfolding(crate::specs::Reading::pallet_info_at))]
-pub(crate) fn take_pallet_info(alloc: Global, c: &mut Cursor<'_>) -> Result<PalletInfo, WireFault>
+fn take_pallet_info(alloc: Global, c: &mut Cursor<'_>) -> Result<PalletInfo, WireFault>
     ensures { GotOrFails (λ pallet. pallet) result (pallet_info_at c.old) c.new }
 {
     let index = c.compact_u32()?;
@@ -208,7 +209,7 @@ fn take_pallet_infos(alloc: Global, c: &mut Cursor<'_>) -> Result<PalletInfos, W
     Ok(BoundedVec::from_vec(items))
 }
 
-/// As `read_query_info`, with nothing said of the cursor after a refusal.
+/// Where a response goes and what it answers.
 #[tactic(auto, unfolding(crate::specs::Reading::query_info_at))]
 pub fn take_query_info(c: &mut Cursor<'_>) -> Result<QueryInfo, NoSpelling>
     ensures { Got result (query_info_at c.old) c.new }
@@ -223,7 +224,7 @@ pub fn take_query_info(c: &mut Cursor<'_>) -> Result<QueryInfo, NoSpelling>
     })
 }
 
-/// As `read_response`, with nothing said of the cursor after a refusal.
+/// The response at the front of what is left, as the version spells it.
 #[tactic(auto, unfolding(crate::specs::Reading::response_at))]
 pub fn take_response(alloc: Global, c: &mut Cursor<'_>, v: Version) -> Result<Response, WireFault>
     ensures { GotOrFails (λ answer. answer) result (response_at v c.old) c.new }

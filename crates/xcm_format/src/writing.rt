@@ -1,10 +1,10 @@
-//! Writes of the parts of instructions: each appends the one spelling. The `put_` calls are for writers of instructions: they append to a
-//! draft, which is dropped where memory is refused.
+//! Writes of the parts of instructions, for the writers of instructions: each appends the one spelling to a draft, which is dropped where
+//! memory is refused.
 
 ghost use Rattle.std.specs.Prelude.{IfSome, ◌≤◌, length, ⊤};
 ghost use Rattle.std.specs.List.{AllByRecursion};
 ghost use Rattle.scale_codec.specs.Spelling.{optional, counted, compact};
-ghost use Rattle.scale_codec.specs.Answers.{Puts, IsWritten};
+ghost use Rattle.scale_codec.specs.Answers.{Puts};
 ghost use Rattle.location_wire.specs.Spelling.{location, FitsLocation};
 ghost use Rattle.xcm_format.specs.Parts.{weight, FitsWeight, weight_limit, FitsLimit, origin_kind, xcm_error, FitsError, failure, FitsFailure, bytes, FitsBytes, maybe_error, FitsMaybeError, pallet_info, FitsPallet, query_info, FitsInfo, response, FitsResponse};
 ghost use Rattle.xcm_format.specs.Writable.{IsResponseNamed};
@@ -16,10 +16,10 @@ use operands::{
     BoundedVec, MaybeError, OriginKind, PalletInfo, PalletInfos, QueryInfo, Response, Weight,
     WeightLimit, XcmError,
 };
-use scale_codec::{Draft, Out};
+use scale_codec::Draft;
 use std::alloc::AllocError;
 
-/// As `write_weight`, into a draft.
+/// Appends the weight: two compact numbers, picoseconds and bytes.
 #[tactic(auto, unfolding(crate::specs::Parts::weight))]
 pub fn put_weight(o: &mut Draft, w: &Weight) -> Result<(), AllocError>
     ensures { Puts weight FitsWeight w.now result o.old o.new }
@@ -28,7 +28,7 @@ pub fn put_weight(o: &mut Draft, w: &Weight) -> Result<(), AllocError>
     o.put_compact(u128::from(w.proof_size))
 }
 
-/// As `write_weight_limit`, into a draft.
+/// Appends the limit of a weight.
 pub fn put_weight_limit(o: &mut Draft, limit: &WeightLimit) -> Result<(), AllocError>
     ensures { Puts weight_limit FitsLimit limit.now result o.old o.new }
 {
@@ -41,7 +41,7 @@ pub fn put_weight_limit(o: &mut Draft, limit: &WeightLimit) -> Result<(), AllocE
     }
 }
 
-/// As `write_origin_kind`, into a draft.
+/// Appends the kind of origin.
 pub fn put_origin_kind(o: &mut Draft, kind: &OriginKind) -> Result<(), AllocError>
     ensures { Puts origin_kind (λ _. ⊤) kind.now result o.old o.new }
 {
@@ -53,8 +53,8 @@ pub fn put_origin_kind(o: &mut Draft, kind: &OriginKind) -> Result<(), AllocErro
     }
 }
 
-/// As `write_error`, into a draft.
-pub(crate) fn put_error(o: &mut Draft, error: &XcmError) -> Result<(), AllocError>
+/// Appends the error.
+fn put_error(o: &mut Draft, error: &XcmError) -> Result<(), AllocError>
     ensures { Puts xcm_error FitsError error.now result o.old o.new }
 {
     match error {
@@ -99,8 +99,8 @@ pub(crate) fn put_error(o: &mut Draft, error: &XcmError) -> Result<(), AllocErro
     }
 }
 
-/// As `write_failure`, into a draft.
-pub(crate) fn put_failure(o: &mut Draft, failed: &(u32, XcmError)) -> Result<(), AllocError>
+/// Appends where an execution failed, and why: the index of an instruction and its error.
+fn put_failure(o: &mut Draft, failed: &(u32, XcmError)) -> Result<(), AllocError>
     ensures { Puts failure FitsFailure failed.now result o.old o.new }
 {
     let (index, error) = failed;
@@ -108,7 +108,7 @@ pub(crate) fn put_failure(o: &mut Draft, failed: &(u32, XcmError)) -> Result<(),
     put_error(o, error)
 }
 
-/// As `write_optional_failure`, into a draft.
+/// Appends where an execution failed, and why, or that it didn't.
 pub fn put_optional_failure(
     o: &mut Draft,
     failed: &Option<(u32, XcmError)>,
@@ -124,7 +124,7 @@ pub fn put_optional_failure(
     }
 }
 
-/// As `write_optional_location`, into a draft.
+/// Appends a location that may be left out.
 pub fn put_optional_location(o: &mut Draft, place: &Option<Location>) -> Result<(), AllocError>
     ensures { Puts (optional location) (λ p. IfSome p FitsLocation) place.now result o.old o.new }
 {
@@ -137,7 +137,7 @@ pub fn put_optional_location(o: &mut Draft, place: &Option<Location>) -> Result<
     }
 }
 
-/// As `write_bytes`, into a draft.
+/// Appends the bytes: their number, and the bytes as they are.
 pub fn put_bytes<const MOST: usize>(
     o: &mut Draft,
     b: &BoundedVec<u8, MOST>,
@@ -149,7 +149,7 @@ pub fn put_bytes<const MOST: usize>(
     o.put_bytes(items)
 }
 
-/// As `write_maybe_error`, into a draft.
+/// Appends how a call ended.
 pub fn put_maybe_error(o: &mut Draft, status: &MaybeError) -> Result<(), AllocError>
     ensures { Puts maybe_error FitsMaybeError status.now result o.old o.new }
 {
@@ -166,9 +166,9 @@ pub fn put_maybe_error(o: &mut Draft, status: &MaybeError) -> Result<(), AllocEr
     }
 }
 
-/// As `write_pallet_info`, into a draft.
+/// Appends the pallet.
 #[tactic(auto, unfolding(crate::specs::Parts::pallet_info))]
-pub(crate) fn put_pallet_info(o: &mut Draft, pallet: &PalletInfo) -> Result<(), AllocError>
+fn put_pallet_info(o: &mut Draft, pallet: &PalletInfo) -> Result<(), AllocError>
     ensures { Puts pallet_info FitsPallet pallet.now result o.old o.new }
 {
     o.put_compact(u128::from(pallet.index))?;
@@ -192,7 +192,7 @@ fn put_pallet_infos(o: &mut Draft, pallets: &PalletInfos) -> Result<(), AllocErr
     Ok(())
 }
 
-/// As `write_query_info`, into a draft.
+/// Appends where a response goes and what it answers.
 #[tactic(auto, unfolding(crate::specs::Parts::query_info))]
 pub fn put_query_info(o: &mut Draft, info: &QueryInfo) -> Result<(), AllocError>
     ensures { Puts query_info FitsInfo info.now result o.old o.new }
@@ -202,7 +202,7 @@ pub fn put_query_info(o: &mut Draft, info: &QueryInfo) -> Result<(), AllocError>
     put_weight(o, &info.max_weight)
 }
 
-/// As `write_response`, into a draft.
+/// Appends the response in the version, which can say the ids of its assets.
 pub fn put_response(o: &mut Draft, answer: &Response, v: Version) -> Result<(), AllocError>
     requires { IsResponseNamed v answer.now }
     ensures { Puts (response v) (FitsResponse v) answer.now result o.old o.new }
@@ -230,125 +230,4 @@ pub fn put_response(o: &mut Draft, answer: &Response, v: Version) -> Result<(), 
             put_maybe_error(o, status)
         }
     }
-}
-
-/// Appends the one spelling of the weight: two compact numbers, picoseconds and bytes. Where memory is refused, `o` is as
-/// before.
-pub fn write_weight(o: &mut Out, w: &Weight) -> Result<(), AllocError>
-    ensures { IsWritten weight FitsWeight w.now result o.old o.new }
-{
-    let mut draft = o.draft();
-    let written = put_weight(&mut draft, w);
-    o.settle(draft, written)
-}
-
-/// Appends the one spelling of the limit of a weight. Where memory is refused, `o` is as before.
-pub fn write_weight_limit(o: &mut Out, limit: &WeightLimit) -> Result<(), AllocError>
-    ensures { IsWritten weight_limit FitsLimit limit.now result o.old o.new }
-{
-    let mut draft = o.draft();
-    let written = put_weight_limit(&mut draft, limit);
-    o.settle(draft, written)
-}
-
-/// Appends the one spelling of the kind of origin. Where memory is refused, `o` is as before.
-pub fn write_origin_kind(o: &mut Out, kind: &OriginKind) -> Result<(), AllocError>
-    ensures { IsWritten origin_kind (λ _. ⊤) kind.now result o.old o.new }
-{
-    let mut draft = o.draft();
-    let written = put_origin_kind(&mut draft, kind);
-    o.settle(draft, written)
-}
-
-/// Appends the one spelling of the error. Where memory is refused, `o` is as before.
-pub fn write_error(o: &mut Out, error: &XcmError) -> Result<(), AllocError>
-    ensures { IsWritten xcm_error FitsError error.now result o.old o.new }
-{
-    let mut draft = o.draft();
-    let written = put_error(&mut draft, error);
-    o.settle(draft, written)
-}
-
-/// Appends the one spelling of where an execution failed, and why: the index of an instruction and its error. Where memory is
-/// refused, `o` is as before.
-pub fn write_failure(o: &mut Out, failed: &(u32, XcmError)) -> Result<(), AllocError>
-    ensures { IsWritten failure FitsFailure failed.now result o.old o.new }
-{
-    let mut draft = o.draft();
-    let written = put_failure(&mut draft, failed);
-    o.settle(draft, written)
-}
-
-/// Appends the one spelling of where an execution failed, and why, or that it didn't. Where memory is refused, `o` is as
-/// before.
-pub fn write_optional_failure(
-    o: &mut Out,
-    failed: &Option<(u32, XcmError)>,
-) -> Result<(), AllocError>
-    ensures { IsWritten (optional failure) (λ f. IfSome f FitsFailure) failed.now result o.old
-        o.new }
-{
-    let mut draft = o.draft();
-    let written = put_optional_failure(&mut draft, failed);
-    o.settle(draft, written)
-}
-
-/// Appends the one spelling of a location that may be left out. Where memory is refused, `o` is as before.
-pub fn write_optional_location(o: &mut Out, place: &Option<Location>) -> Result<(), AllocError>
-    ensures { IsWritten (optional location) (λ p. IfSome p FitsLocation) place.now result o.old
-        o.new }
-{
-    let mut draft = o.draft();
-    let written = put_optional_location(&mut draft, place);
-    o.settle(draft, written)
-}
-
-/// Appends the one spelling of the bytes: their number, and the bytes as they are. Where memory is refused, `o` is as before.
-pub fn write_bytes<const MOST: usize>(
-    o: &mut Out,
-    b: &BoundedVec<u8, MOST>,
-) -> Result<(), AllocError>
-    ensures { IsWritten bytes (FitsBytes MOST) b.now result o.old o.new }
-{
-    let mut draft = o.draft();
-    let written = put_bytes(&mut draft, b);
-    o.settle(draft, written)
-}
-
-/// Appends the one spelling of how a call ended. Where memory is refused, `o` is as before.
-pub fn write_maybe_error(o: &mut Out, status: &MaybeError) -> Result<(), AllocError>
-    ensures { IsWritten maybe_error FitsMaybeError status.now result o.old o.new }
-{
-    let mut draft = o.draft();
-    let written = put_maybe_error(&mut draft, status);
-    o.settle(draft, written)
-}
-
-/// Appends the one spelling of the pallet. Where memory is refused, `o` is as before.
-pub fn write_pallet_info(o: &mut Out, pallet: &PalletInfo) -> Result<(), AllocError>
-    ensures { IsWritten pallet_info FitsPallet pallet.now result o.old o.new }
-{
-    let mut draft = o.draft();
-    let written = put_pallet_info(&mut draft, pallet);
-    o.settle(draft, written)
-}
-
-/// Appends the one spelling of where a response goes and what it answers. Where memory is refused, `o` is as before.
-pub fn write_query_info(o: &mut Out, info: &QueryInfo) -> Result<(), AllocError>
-    ensures { IsWritten query_info FitsInfo info.now result o.old o.new }
-{
-    let mut draft = o.draft();
-    let written = put_query_info(&mut draft, info);
-    o.settle(draft, written)
-}
-
-/// Appends the one spelling of the response in the version, which can say the ids of its assets. Where memory is refused, `o`
-/// is as before.
-pub fn write_response(o: &mut Out, answer: &Response, v: Version) -> Result<(), AllocError>
-    requires { IsResponseNamed v answer.now }
-    ensures { IsWritten (response v) (FitsResponse v) answer.now result o.old o.new }
-{
-    let mut draft = o.draft();
-    let written = put_response(&mut draft, answer, v);
-    o.settle(draft, written)
 }

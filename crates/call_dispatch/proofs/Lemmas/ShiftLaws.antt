@@ -174,7 +174,7 @@ module _ (m : RowAmounts) (row : ℕ) (from to : List ℕ) (n : ℕ) where
           let given = back q (cases_Bool (eq_by_cmp account_row_cmp q (from, row))) in
           omega (arith, outer, inner, given)
 
-  -- and only want of memory can refuse it
+  -- and only running out of memory can refuse it
   pub undoable : (floors : Floors) (rows : List ℕ) → AreKept m floors → IsNumberAt m (from, row) → IsAccepted m floors rows row from to n
       → shift_fault (shifted m row from to n) floors rows row to from n ≡ None
   undoable floors rows kept few h = no_fault (shifted m row from to n) floors rows row to from n (record { there = h.there; enough = enough; room = room (cases_Bool (is_same_account to from)) })

@@ -1,5 +1,5 @@
 -- What the laws of a reader say of a call, and of spellings.
-use Rattle.std.proofs.Common.{◌≡◌, ℕ, List, ◌++◌, Option, Some, None, Result, Ok, Err, sym, ap, subst, ◌∙◌}
+use Rattle.std.proofs.Common.{◌≡◌, ℕ, List, ◌++◌, Option, Some, None, Result, Ok, Err, sym, ap, ◌∙◌}
 use Rattle.scale_codec.specs.declared.faults.NoSpelling.{NoSpelling}
 use Rattle.scale_codec.specs.Spelling.{HasOneSpelling, IsPrefixFree}
 use Rattle.scale_codec.specs.Reading.{Reader, Reads}
@@ -16,10 +16,6 @@ module _ {X : Type 0} (t : X → List ℕ) (F : X → Type 0) where
     λ x rest fits is. let found : at old ≡ Some (x, rest) = ap at is ∙ rr.again x rest fits in absurd (cc (found, given.0)),
     given.1,
   )
-
-  -- the same, where the answer is known by another name
-  pub is_read_so : (at : Reader X) → Reads t F at → (r : Result X NoSpelling) (old new : List ℕ) (read : Option (X × List ℕ)) → read ≡ at old → Gives r read old new → IsRead t F r old new
-  is_read_so at rr r old new read is given = is_read at rr r old new (subst (λ (o : Option (X × List ℕ)). Gives r o old new) is given)
 
   pub one_spelling : HasOneSpelling t F
   one_spelling x s u a b = a.1 ∙ sym b.1

@@ -1,7 +1,6 @@
 -- Steps of a reader.
 use Rattle.std.proofs.Common.{◌≡◌, Bool, true, false, cond, Option, Some, None, refl}
 use Rattle.scale_codec.specs.Reading.{◌>>=◌}
-use Rattle.plain_lists.proofs.Lemmas.Facts.{same_some}
 
 -- the value of a step that did not fail
 pub bind_some : {A B : Type 0} (o : Option A) (f : A → Option B) (y : B) → (o >>= f) ≡ Some y → (x : A) × (o ≡ Some x) × (f x ≡ Some y)

@@ -3,7 +3,6 @@ use Rattle.std.specs.Prelude.{min}
 use Rattle.std.proofs.lemmas.List.{take-replicate}
 use Rattle.locations.specs.declared.grammar.Junction.TheVariants.{OnlyChild}
 use Rattle.locations.specs.Chains.{last}
-use Rattle.locations.specs.Reanchoring.{way_down}
 use Rattle.locations.proofs.WaysDown.{way_made}
 use Rattle.locations.proofs.relative.Location.go_down.Goals as goal
 
