@@ -11,7 +11,7 @@
 --     restriction p m      the amounts at the keys that pass the test
 --     map_keys f m      the amounts under other keys. Those that come under one key are added up
 --     IsWithin m n      at no key has m more than n
-use Rattle.std.specs.Prelude.{ℕ, zero, suc, ◌+◌, ◌-◌, ◌≤◌, Bool, if◌then◌else◌, not, List, [], ◌∷◌}
+use Rattle.std.specs.Prelude.{ℕ, zero, suc, ◌+◌, ◌-◌, ◌≤◌, Bool, not, List, [], ◌∷◌}
 use Rattle.std.specs.Ordering.{eq_by_cmp}
 use Rattle.std.specs.declared.cmp.Ordering.{Ordering}
 use Rattle.std.specs.FinMap.{FinMap, entries, get, insert, from_sorted}

@@ -1,12 +1,12 @@
 //! Burns written into the book, and read.
 ghost use Rattle.std.specs.Prelude.{◌≡◌, ◌≤◌, min, length, IsTrue, IfOk};
 ghost use Rattle.std.specs.List.{prefix_len};
-ghost use Rattle.std.specs.Ordering.{eq_by_cmp, nat_cmp};
+ghost use Rattle.std.specs.Ordering.{eq_by_cmp};
 ghost use Rattle.amounts.specs.Amounts.{amount, single, empty};
 ghost use Rattle.asset_bundles.specs.Totals.{total_value};
 ghost use Rattle.asset_bundles.specs.declared.book.Cause.{Cause};
 ghost use Rattle.asset_bundles.specs.Books.{Booked, burned_by_any_cause, most_burned};
-ghost use Rattle.asset_lists.specs.Listed.{Listed, listed_cmp, kind_number, lists};
+ghost use Rattle.asset_lists.specs.Listed.{Listed, listed_cmp, lists};
 ghost use Rattle.asset_bundles.specs.BookRows.{row_key, row_causes, book_keys_in, causes_at, total_for, total_at, is_other_row, IsBurned, IsBooked};
 
 use crate::book::BookRow;

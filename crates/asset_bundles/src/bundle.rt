@@ -111,7 +111,7 @@ impl AssetBundle {
         Ok(assets)
     }
 
-    /// The same, lent.
+    /// The same, borrowed.
     pub fn items(&self) -> &[Asset]
         ensures listed { result.now ≡ held_assets self.now }
         ensures bundle { bundle_of result.now ≡ self.now }

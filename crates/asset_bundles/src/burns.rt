@@ -6,7 +6,7 @@ ghost use Rattle.amounts.specs.Rows.{rows_at};
 ghost use Rattle.asset_lists.specs.Units.{unit_of, instance_in};
 ghost use Rattle.asset_bundles.specs.Bundles.{rows_of};
 ghost use Rattle.asset_bundles.specs.Books.{Booked, AreListed, burned_for, excess_cause};
-ghost use Rattle.asset_lists.specs.Listed.{kind_of, listed_of, lists};
+ghost use Rattle.asset_lists.specs.Listed.{listed_of, lists};
 
 use crate::{AssetBundle, BurnBook, Cause};
 use asset_lists::{Asset, Fun};

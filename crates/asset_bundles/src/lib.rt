@@ -33,6 +33,7 @@ pub use laws::{
     law_of_bundles, law_of_conserved_bundles, law_of_filters, law_of_joins, law_of_landing,
     law_of_listed_assets, law_of_saturating_burn_totals,
 };
+pub use portions::make_room;
 pub use shipment::{Shipment, Way};
 pub use store::{TrapStore, Unknown};
 pub use totals::Total;

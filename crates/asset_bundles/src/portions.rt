@@ -1,5 +1,5 @@
 //! Parts of a list in holding order.
-ghost use Rattle.std.specs.Prelude.{◌≡◌, ◌++◌, [], IfOk, OnOk};
+ghost use Rattle.std.specs.Prelude.{◌≡◌, ◌++◌, ◌<◌, [], IfOk, OnOk, vec_len, vec_capacity};
 ghost use Rattle.asset_lists.specs.declared.filters.Filter.{Filter};
 ghost use Rattle.asset_lists.specs.Units.{unit_of, amount_of};
 ghost use Rattle.amounts.specs.Amounts.{difference};
@@ -31,6 +31,18 @@ pub(crate) fn set_amount(item: &mut Asset, amount: u128)
     item.fun = fun_with(item.fun, amount);
 }
 
+/// Makes room for one asset more at the end of a list. Since most lists have one asset, the first takes no more memory than it needs.
+pub fn make_room(list: &mut Vec<Asset>) -> Result<(), AllocError>
+    ensures items { list.new.items ≡ list.old.items }
+    ensures len { vec_len list.new ≡ vec_len list.old }
+    ensures room { OnOk result (vec_len list.new < vec_capacity list.new) }
+{
+    if list.is_empty() {
+        return list.reserve_exact(1);
+    }
+    list.reserve(1)
+}
+
 /// Puts the asset with this amount at the end, unless that is 0.
 #[tactic(auto, using(crate::proofs::Parts::kept_some, crate::proofs::Parts::kept_none))]
 pub(crate) fn push_amount(
@@ -43,7 +55,7 @@ pub(crate) fn push_amount(
     if amount == 0 {
         return Ok(());
     }
-    list.reserve(1)?;
+    make_room(list)?;
     push_asset(list, &item.id, fun_with(item.fun, amount));
     Ok(())
 }
@@ -101,9 +113,9 @@ fn wanted(item: &Asset, wild: &Wild) -> u128
 {
     let all = match wild {
         Wild::All => true,
-        Wild::AllOf { id, fun } => is_all_of(item, id, *fun),
+        Wild::AllOf { id, fun } => is_all_of(item, id.value(), *fun),
         Wild::AllCounted(_) => true,
-        Wild::AllOfCounted { id, fun, count: _ } => is_all_of(item, id, *fun),
+        Wild::AllOfCounted { id, fun, count: _ } => is_all_of(item, id.value(), *fun),
     };
     if all { item.amount() } else { 0 }
 }

@@ -46,7 +46,7 @@ impl Shipment {
         self.units.list()
     }
 
-    /// The same, lent.
+    /// The same, borrowed.
     pub fn items(&self) -> &[Asset]
         ensures holding { IsHolding result.now }
         ensures listed { result.now ≡ held_assets self.now.units }

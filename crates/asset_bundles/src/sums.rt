@@ -1,9 +1,8 @@
 //! How much of each asset lies in all traps together, kept as traps come and go.
-ghost use Rattle.std.specs.Prelude.{◌≡◌, ◌+◌, ◌-◌, ◌^◌, ◌<◌, ◌≤◌, min, map, OnOk, IsTrue, option_and_then, slice_get};
+ghost use Rattle.std.specs.Prelude.{◌≡◌, ◌+◌, ◌-◌, ◌^◌, ◌<◌, ◌≤◌, min, map, OnOk, IsTrue};
 ghost use Rattle.std.specs.List.{position, list_all};
-ghost use Rattle.std.specs.Ordering.{eq_by_cmp};
 ghost use Rattle.asset_lists.specs.Units.{unit_of};
-ghost use Rattle.asset_lists.specs.Listed.{Listed, listed_cmp, listed_of, lists};
+ghost use Rattle.asset_lists.specs.Listed.{Listed, listed_of, lists};
 ghost use Rattle.asset_bundles.specs.Totals.{total_value};
 ghost use Rattle.asset_bundles.specs.Books.{most_burned};
 ghost use Rattle.asset_bundles.specs.Traps.{trapped_amount};

@@ -1,12 +1,12 @@
 //! The law of the trap store. The function has an empty body, and its contract is the law.
-ghost use Rattle.std.specs.Prelude.{◌≡◌, ℕ, ◌+◌, Bool, List, length};
+ghost use Rattle.std.specs.Prelude.{◌≡◌, ℕ, ◌+◌, Bool, List};
 ghost use Rattle.std.specs.List.{AllByRecursion};
-ghost use Rattle.amounts.specs.Amounts.{total, rows};
+ghost use Rattle.amounts.specs.Amounts.{total};
 ghost use Rattle.locations.specs.declared.relative.Location.{Location};
 ghost use Rattle.asset_lists.specs.declared.units.Asset.{Asset};
 ghost use Rattle.asset_lists.specs.Units.{Unit};
 ghost use Rattle.asset_bundles.specs.Bundles.{Bundle, bundle_of, IsHolding};
-ghost use Rattle.asset_bundles.specs.Traps.{Store, piece_count, pieces_of, with_trapped, IsClaimed, trapped_where, IsPiece, AreNumbered};
+ghost use Rattle.asset_bundles.specs.Traps.{Store, pieces_of, with_trapped, IsClaimed, trapped_where, IsPiece, AreNumbered};
 
 /// Trapping adds to the traps just what is trapped, of all units that pass any test, and a claim takes out just what it names. The
 /// pieces of what a bundle holds have at most 20 assets each, as a list that an instruction may name, so each can be claimed; they

@@ -73,7 +73,7 @@ impl Units {
         Ok(assets)
     }
 
-    /// The same, lent.
+    /// The same, borrowed.
     pub fn items(&self) -> &[Asset]
         ensures holding { IsHolding result.now }
         ensures listed { result.now ≡ held_assets self.now }

@@ -1,6 +1,6 @@
 -- What a search among locks in order finds.
 use Rattle.std.proofs.Common.{◌≡◌, ℕ, zero, suc, ◌+◌, ◌<◌, ◌≤◌, Bool, true, false, List, [], ◌∷◌, length, map, get_or, drop, Result, Ok, Err, IfOk, IfErr, refl, sym, ap, ◌∙◌, subst, arith, T, true≢false, drop-cons, add-one, length-drop}
-use Rattle.std.specs.Prelude.{max, if◌then◌else◌, ◌&&◌}
+use Rattle.std.specs.Prelude.{max}
 use Rattle.std.specs.Ordering.{is_eq, is_lt, ordering_then, ordering_reverse, ordering_index}
 use Rattle.std.specs.declared.cmp.Ordering.{Ordering}
 use Rattle.std.specs.declared.cmp.Ordering.TheVariants.{Less, Equal, Greater}

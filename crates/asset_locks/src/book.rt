@@ -1,5 +1,5 @@
 //! The book of locks of a chain.
-ghost use Rattle.std.specs.Prelude.{◌≡◌, ◌↔◌, ℕ, ◌<◌, ◌≤◌, IsOk, IfErr, OnOk, OnErr};
+ghost use Rattle.std.specs.Prelude.{◌≡◌, ◌↔◌, ◌<◌, ◌≤◌, IsOk, IfErr, OnOk, OnErr};
 ghost use Rattle.asset_locks.specs.LockMaps.{no_locks, lock_at, floor, noted, locks_of, Locked, Unlocked, Noted, Reduced};
 
 use crate::locks::{lock_in, lower_lock, raise_lock};

@@ -1,10 +1,10 @@
 -- What comes of goods that are exchanged.
-use Rattle.std.proofs.Common.{◌≡◌, ℕ, ◌+◌, ◌-◌, ◌^◌, ◌<◌, ◌≤◌, Bool, true, false, List, [], ◌∷◌, inl, inr, sym, ap, ◌∙◌, subst, arith}
+use Rattle.std.proofs.Common.{◌≡◌, ℕ, ◌+◌, ◌-◌, ◌^◌, ◌≤◌, Bool, true, false, List, [], ◌∷◌, inl, inr, sym, ap, ◌∙◌, subst, arith}
 use Rattle.std.specs.Prelude.{Option, Some}
 use Rattle.std.specs.Ordering.{eq_by_cmp}
 use Rattle.std.proofs.lemmas.Bool.{cases_Bool}
 use Rattle.amounts.specs.Rows.{amount_if, sum_where}
-use Rattle.amounts.specs.Amounts.{amount, rows, minus, merge}
+use Rattle.amounts.specs.Amounts.{amount, minus, merge}
 use Rattle.amounts.proofs.Lemmas.AmountLaws.{same_amounts}
 use Rattle.amounts.proofs.Lemmas.{same_key, key_same, amount-rows, amount-merge, amount-minus}
 use Rattle.asset_lists.specs.declared.units.AssetId.{AssetId}

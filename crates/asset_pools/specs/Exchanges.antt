@@ -1,6 +1,6 @@
 -- Exchanges with the pools of a chain: which pool serves, what goes to it and comes of it, and what the accounts and the goods are
 -- afterwards. This project's own rule.
---     place      the index of a pool in the chain's list of pools
+--     index      the index of a pool in the chain's list of pools
 --     give       the list of what is offered
 --     want       the list of what is wanted
 use Rattle.std.specs.Prelude.{ℕ, ◌-◌, ◌*◌, Bool, not, ◌&&◌, ◌||◌, List, [], ◌∷◌, codes, length, Option, Some, None, option_and_then, position, slice_get}
@@ -27,12 +27,12 @@ use Rattle.asset_pools.specs.declared.exchanges.Exchange.{Exchange}
 
 -- the account of the pool at an index
 abbrev pub pool_account : ℕ → List ℕ
-pool_account place = labelled (codes "pool") place
+pool_account index = labelled (codes "pool") index
 
 -- the account of one of so many pools
 abbrev pub is_pool_account : List Pool → List ℕ → Bool
 is_pool_account pools account =
-    list_any (λ (place : ℕ). bytes_eq account (pool_account place)) (range_with_len 0 (length pools))
+    list_any (λ (index : ℕ). bytes_eq account (pool_account index)) (range_with_len 0 (length pools))
 
 -- how many thousandths of what is given count
 abbrev pub pool_share : Pool → ℕ
@@ -58,9 +58,9 @@ reserve held account id = amount held (account, coin id)
 
 -- the product of the two reserves of the pool at an index
 abbrev pub reserve_product : Held → ℕ → Pool → ℕ
-reserve_product held place pool =
-    reserve held (pool_account place) (Concrete pool.first)
-    * reserve held (pool_account place) (Concrete pool.second)
+reserve_product held index pool =
+    reserve held (pool_account index) (Concrete pool.first)
+    * reserve held (pool_account index) (Concrete pool.second)
 
 -- ---- an exchange
 
@@ -76,17 +76,17 @@ one_fungible (a ∷ b ∷ rest) = None
 
 -- with the pool at an index, whose reserves are what its account has
 abbrev pub exchange_with : Held → AssetId × ℕ → AssetId × ℕ → Bool → ℕ → Pool → Option Exchange
-exchange_with held give want maximal place pool =
+exchange_with held give want maximal index pool =
     option_map
-    (λ (d : Deal). let e : Exchange = record { place = place; given = give.0; wanted = want.0; deal = d } in e)
-    (deal_at (reserve held (pool_account place) give.0) (reserve held (pool_account place) want.0)
+    (λ (d : Deal). let e : Exchange = record { place = index; given = give.0; wanted = want.0; deal = d } in e)
+    (deal_at (reserve held (pool_account index) give.0) (reserve held (pool_account index) want.0)
     (pool_share pool) give.1 want.1 maximal)
 
 -- with the first pool that has the two assets
 abbrev pub exchange_of_pair : List Pool → Held → AssetId × ℕ → AssetId × ℕ → Bool → Option Exchange
 exchange_of_pair pools held give want maximal =
     option_and_then
-    (λ (place : ℕ). option_and_then (exchange_with held give want maximal place) (slice_get pools place))
+    (λ (index : ℕ). option_and_then (exchange_with held give want maximal index) (slice_get pools index))
     (position (has_pair give.0 want.0) pools)
 
 -- the exchange of one fungible asset for one other; none where another list is offered or wanted, no pool has

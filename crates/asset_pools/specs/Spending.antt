@@ -12,7 +12,7 @@ use Rattle.asset_pools.specs.Exchanges.{pool_account, coin, reserve_product}
 
 -- the account of one of the pools
 abbrev pub IsPoolAccount : List Pool → List ℕ → Type 0
-IsPoolAccount pools who = (place : ℕ) × (place < length pools) × (who ≡ pool_account place)
+IsPoolAccount pools who = (index : ℕ) × (index < length pools) × (who ≡ pool_account index)
 
 -- both assets of each pool are listed
 abbrev pub ArePoolsListed : List Listed → List Pool → Type 0
@@ -24,9 +24,9 @@ ArePoolsListed listed pools =
 -- one account
 abbrev pub KeepsProducts : (List ℕ → Type 0) → List Pool → Held → Held → Type 0
 KeepsProducts may pools old new =
-    length pools ≤ 2 ^ 32 → (place : ℕ) (pool : Pool) → slice_get pools place ≡ Some pool
-    → (may (pool_account place) → ⊥)
-    → reserve_product old place pool ≤ reserve_product new place pool
+    length pools ≤ 2 ^ 32 → (index : ℕ) (pool : Pool) → slice_get pools index ≡ Some pool
+    → (may (pool_account index) → ⊥)
+    → reserve_product old index pool ≤ reserve_product new index pool
 
 -- an account that has less of some unit is one that may, or a pool's
 abbrev pub LowersOf : (List ℕ → Type 0) → List Pool → Held → Held → Type 0

@@ -55,7 +55,7 @@ none_behind {R = R} o j k (row ∷ rows) later here =
     let less : R j row.0 ≡ Less = ap (λ q. R q row.0) keys ∙ later.0 in
     passed _ (Some row.1) _ (ap is_eq less) ∙ none_behind o j k rows later.1 here
 
--- the id and the kind in what the list has at a place
+-- the id and the kind in what the list has at an index
 id_in : Option Listed → AssetId → AssetId
 id_in None id = id
 id_in (Some asset) id = asset.0

@@ -49,7 +49,7 @@ impl Hash for ListedAsset {
     }
 }
 
-/// An asset that is looked up in a list, with its location lent.
+/// An asset that is looked up in a list, with its location borrowed.
 #[derive(Clone, Copy)]
 pub(crate) struct Sought<'a> {
     pub(crate) id: &'a Location,

@@ -14,12 +14,12 @@ use Rattle.asset_lists.specs.Units.{Unit, unit_of, unit_cmp, amount_of}
 use Rattle.asset_bundles.specs.Bundles.{Bundle, rows_of, bundle_of, IsHolding, found}
 use Rattle.asset_bundles.proofs.Lemmas.Bundles.{unit_keys}
 use Rattle.asset_bundles.proofs.Lemmas.BundleLaws.{found-holding}
-use Rattle.ledgers.specs.Ledgers.{Holder, account_cmp, holder_cmp, Held, Accounts, held_by, Withdrawn, Deposited}
+use Rattle.ledgers.specs.Ledgers.{Holder, account_cmp, holder_cmp, Held, Accounts, held_by}
 use Rattle.ledgers.proofs.Lemmas.{account_keys, holder_keys, held_by_total, less_other}
 use Rattle.trust_tables.specs.declared.rows.AssetRow.{AssetRow}
 use Rattle.transactors.specs.Floors.{UnitFloors, KeepsFloors}
 use Rattle.transactors.specs.Checks.{check_out}
-use Rattle.transactors.specs.Moves.{first_move_fault, ledger_at_account, after_withdrawal, after_deposit, after_transfer, withdraw_fault, transfer_fault}
+use Rattle.transactors.specs.Moves.{first_move_fault, after_withdrawal, after_deposit, after_transfer, withdraw_fault, transfer_fault}
 use Rattle.transactors.proofs.Moving.{both_none, nothing_lacked}
 
 -- ---- what an account has of goods

@@ -56,14 +56,6 @@ impl<'a, T: Transactor> Transactor for Floored<'a, T> {
         self.inner.account(who)
     }
 
-    fn check_in(&self, ledger: &Ledger, a: &Asset, who: &Location) -> Result<(), MoveFault> {
-        self.check_account_in(ledger, a, self.account(who))
-    }
-
-    fn check_out(&self, ledger: &Ledger, a: &Asset, who: &Location) -> Result<(), MoveFault> {
-        self.check_account_out(ledger, a, self.account(who))
-    }
-
     fn check_account_in(
         &self,
         ledger: &Ledger,

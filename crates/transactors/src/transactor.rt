@@ -36,14 +36,20 @@ pub trait Transactor {
     fn check_in(&self, ledger: &Ledger, a: &Asset, who: &Location) -> Result<(), MoveFault>
         requires agrees { agrees self.now }
         ensures checked { result ≡ accepted (check_in (rows self.now) ledger.now.held
-            (account_of who.now (site self.now)) a.now) };
+            (account_of who.now (site self.now)) a.now) }
+    {
+        self.check_account_in(ledger, a, self.account(who))
+    }
 
     /// Whether a withdrawal of that one asset alone from the location's account would be made: the account must have
     /// the amount and its floor together. It takes no memory.
     fn check_out(&self, ledger: &Ledger, a: &Asset, who: &Location) -> Result<(), MoveFault>
         requires agrees { agrees self.now }
         ensures checked { result ≡ accepted (check_out (rows self.now) (floors self.now)
-            ledger.now.held (account_of who.now (site self.now)) a.now) };
+            ledger.now.held (account_of who.now (site self.now)) a.now) }
+    {
+        self.check_account_out(ledger, a, self.account(who))
+    }
 
     /// Whether a deposit of that one asset alone into the account would be taken; `None` is a location without
     /// account. It takes no memory.

@@ -90,14 +90,6 @@ impl<'a> Transactor for Fungibles<'a> {
         account_of(who, self.site)
     }
 
-    fn check_in(&self, ledger: &Ledger, a: &Asset, who: &Location) -> Result<(), MoveFault> {
-        self.check_account_in(ledger, a, self.account(who))
-    }
-
-    fn check_out(&self, ledger: &Ledger, a: &Asset, who: &Location) -> Result<(), MoveFault> {
-        self.check_account_out(ledger, a, self.account(who))
-    }
-
     fn check_account_in(
         &self,
         ledger: &Ledger,
@@ -142,14 +134,6 @@ impl<'a> Transactor for Instances<'a> {
 
     fn account(&self, who: &Location) -> Option<[u8; 32]> {
         account_of(who, self.site)
-    }
-
-    fn check_in(&self, ledger: &Ledger, a: &Asset, who: &Location) -> Result<(), MoveFault> {
-        self.check_account_in(ledger, a, self.account(who))
-    }
-
-    fn check_out(&self, ledger: &Ledger, a: &Asset, who: &Location) -> Result<(), MoveFault> {
-        self.check_account_out(ledger, a, self.account(who))
     }
 
     fn check_account_in(
@@ -205,14 +189,6 @@ impl<A: Transactor, B: Transactor> Transactor for FirstThat<A, B> {
 
     fn account(&self, who: &Location) -> Option<[u8; 32]> {
         self.first.account(who)
-    }
-
-    fn check_in(&self, ledger: &Ledger, a: &Asset, who: &Location) -> Result<(), MoveFault> {
-        self.check_account_in(ledger, a, self.account(who))
-    }
-
-    fn check_out(&self, ledger: &Ledger, a: &Asset, who: &Location) -> Result<(), MoveFault> {
-        self.check_account_out(ledger, a, self.account(who))
     }
 
     fn check_account_in(

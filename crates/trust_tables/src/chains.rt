@@ -20,11 +20,12 @@ impl Site {
     pub fn path(&self) -> Junctions
         ensures { result ≡ path_of_site self.now }
     {
-        let network = with_junction(Junctions::empty(), Junction::GlobalConsensus(self.network));
-        match self.chain {
-            ChainId::Relay => network,
-            ChainId::Para(number) => with_junction(network, Junction::Parachain(number)),
+        let mut path = Junctions::empty();
+        add(&mut path, Junction::GlobalConsensus(self.network));
+        if let ChainId::Para(number) = self.chain {
+            add(&mut path, Junction::Parachain(number));
         }
+        path
     }
 }
 
@@ -38,20 +39,23 @@ pub fn location_of(from: ChainId, to: ChainId) -> Location
         ChainId::Relay => 0,
         ChainId::Para(_) => 1,
     };
-    let interior = match to {
-        ChainId::Relay => Junctions::empty(),
-        ChainId::Para(number) => with_junction(Junctions::empty(), Junction::Parachain(number)),
+    let mut location = Location {
+        parents,
+        interior: Junctions::empty(),
     };
-    Location { parents, interior }
+    if let ChainId::Para(number) = to {
+        add(&mut location.interior, Junction::Parachain(number));
+    }
+    location
 }
 
-/// One junction more.
-fn with_junction(mut junctions: Junctions, junction: Junction) -> Junctions
-    requires { length junctions < 8 }
-    ensures { result ≡ junctions ++ junction ∷ [] }
+/// One junction more, where there are fewer than eight.
+fn add(junctions: &mut Junctions, junction: Junction)
+    requires { length junctions.old < 8 }
+    ensures { junctions.new ≡ junctions.old ++ junction ∷ [] }
 {
     match junctions.push(junction) {
-        Ok(()) => junctions,
+        Ok(()) => {}
         Err(_) => unreachable!(),
     }
 }

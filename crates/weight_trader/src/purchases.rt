@@ -2,7 +2,7 @@
 ghost use Rattle.std.specs.Prelude.{◌≡◌, ◌≤◌, ◌<◌, ◌&&◌, [], ◌∷◌, ◌++◌, min, vec_len, vec_capacity};
 ghost use Rattle.amounts.specs.Amounts.{amount};
 ghost use Rattle.weight_trader.specs.Prices.{price};
-ghost use Rattle.weight_trader.specs.Purchases.{new_line, coin_of, is_in, is_covered, with_purchase, excess, unspent_at};
+ghost use Rattle.weight_trader.specs.Purchases.{new_line, coin_of, is_in, is_covered, with_purchase, excess, some_amount, unspent_at};
 ghost use Rattle.weight_trader.specs.Refunds.{refund_at, is_refunded, without_refund};
 ghost use Rattle.weight_trader.specs.Closing.{coins, is_paid};
 
@@ -17,16 +17,22 @@ use std::marker::Model;
 #[derive(Drop)]
 pub(crate) struct Purchases {
     rate: Rate,
+    /// What the rate's asset is called, made once.
+    id: AssetId,
     bought: Weight,
     paid: u128,
 }
 
 impl Model for Purchases {
+    ghost use Rattle.std.specs.Prelude.{◌≡◌};
+    ghost use Rattle.asset_lists.specs.declared.units.AssetId.TheVariants.{Concrete};
     ghost use Rattle.weight_trader.specs.Purchases.{Line};
 
     ghost Value = { Line };
 
     ghost view = { λ p. record { rate = p.rate; bought = p.bought; paid = p.paid } };
+
+    ghost invariant = { λ p. p.id ≡ Concrete p.rate.asset };
 }
 
 impl Purchases {
@@ -36,6 +42,7 @@ impl Purchases {
     {
         Purchases {
             rate: rate.copy(),
+            id: AssetId::Concrete(rate.asset.copy()),
             bought: Weight::ZERO,
             paid: 0,
         }
@@ -81,7 +88,7 @@ impl Purchases {
         ensures { result ≡ coins self.now.rate amount }
     {
         Asset {
-            id: AssetId::Concrete(self.rate.asset.copy()),
+            id: self.id.copy(),
             fun: Fun::Fungible(amount),
         }
     }
@@ -98,8 +105,7 @@ impl Purchases {
     pub(crate) fn is_covered(&self, weight: Weight, payment: &AssetBundle) -> bool
         ensures { result ≡ is_covered weight payment.now self.now }
     {
-        let id = AssetId::Concrete(self.rate.asset.copy());
-        price(&self.rate, weight) <= payment.amount(&id)
+        price(&self.rate, weight) <= payment.amount(&self.id)
     }
 
     /// What would pass 2^128-1 of what is paid, were the weight bought.
@@ -108,6 +114,18 @@ impl Purchases {
     {
         let room = u128::MAX - self.paid;
         price(&self.rate, weight).saturating_sub(room)
+    }
+
+    /// The asset and what would pass 2^128-1 of it, were the weight bought; none where nothing would.
+    #[tactic(auto, using(crate::proofs::Charging::amount_none, crate::proofs::Charging::amount_some))]
+    pub(crate) fn excess_of(&self, weight: Weight) -> Option<(Location, u128)>
+        ensures { result ≡ some_amount self.now.rate.asset (excess weight self.now) }
+    {
+        let above = self.excess(weight);
+        if above == 0 {
+            return None;
+        }
+        Some((self.asset(), above))
     }
 
     /// Takes the price of the weight, which the payment has, and records it. The answer is what would have passed 2^128-1 of what is

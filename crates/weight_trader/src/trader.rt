@@ -6,13 +6,13 @@ ghost use Rattle.asset_lists.specs.declared.units.AssetId.TheVariants.{Concrete}
 ghost use Rattle.asset_lists.specs.declared.units.Kind.{Kind};
 ghost use Rattle.asset_lists.specs.Listed.{lists};
 ghost use Rattle.asset_bundles.specs.Bundles.{bundle_of};
-ghost use Rattle.weight_trader.specs.Purchases.{new_lines, coin_of, NameEachOnce, AreApart, AreRatesListed, paid_goods, is_covered, some_amount, excess_of, AreWithinEnd, IsTooExpensive, IsCharge, with_saturated, IsPurchase};
+ghost use Rattle.weight_trader.specs.Purchases.{new_lines, coin_of, NameEachOnce, AreApart, AreRatesListed, paid_goods, is_covered, excess_of, AreWithinEnd, IsTooExpensive, IsCharge, with_saturated, IsPurchase};
 ghost use Rattle.weight_trader.specs.Refunds.{refund_at, is_refunded, refund_of, goods_of, Refunded, Closed};
 ghost use Rattle.weight_trader.specs.Closing.{paid_assets};
 
 use crate::Rate;
 use crate::purchases::Purchases;
-use asset_bundles::{AssetBundle, BurnBook, Cause};
+use asset_bundles::{AssetBundle, BurnBook, Cause, make_room};
 use asset_lists::{Asset, AssetId, Kind};
 use locations::Location;
 use operands::Weight;
@@ -51,17 +51,6 @@ fn first_covered(lines: &[Purchases], weight: Weight, payment: &AssetBundle) -> 
         .position(|line| line.is_covered(weight, payment))
 }
 
-/// So much of the asset, if it isn't 0.
-#[tactic(auto, using(crate::proofs::Charging::amount_none, crate::proofs::Charging::amount_some))]
-fn some_amount(asset: Location, amount: u128) -> Option<(Location, u128)>
-    ensures { result ≡ some_amount asset amount }
-{
-    if amount == 0 {
-        return None;
-    }
-    Some((asset, amount))
-}
-
 /// Where the first line is that gives something back for the weight.
 fn first_refunded(lines: &[Purchases], weight: Weight) -> Option<usize>
     ensures { result ≡ position (is_refunded weight) lines.now }
@@ -76,7 +65,7 @@ fn paid_assets(alloc: Global, lines: &[Purchases]) -> Result<Vec<Asset>, AllocEr
     let mut assets = Vec::new(alloc);
     for line in lines {
         if line.is_paid() {
-            assets.reserve(1)?;
+            make_room(&mut assets)?;
             line.push_coins(&mut assets, line.paid());
         }
     }
@@ -192,8 +181,7 @@ impl Trader {
         let Some(place) = first_covered(self.lines.as_slice(), weight, payment) else {
             return None;
         };
-        let line = &self.lines[place];
-        some_amount(line.asset(), line.excess(weight))
+        self.lines[place].excess_of(weight)
     }
 
     /// What would be given back for the weight: the asset, and the amount in its smallest unit. None where each line gives nothing.

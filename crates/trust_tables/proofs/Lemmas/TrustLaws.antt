@@ -1,8 +1,6 @@
 -- For proofs alone: a reader may skip this file. What the tests of `Trust` say in words. The laws of `laws.rt` say it.
-use Rattle.std.specs.Prelude.{◌≡◌, ℕ, suc, ◌+◌, ◌↔◌, Bool, true, false, IsTrue, ◌&&◌, ◌||◌, not, if◌then◌else◌, List, [], ◌∷◌, length, nat_lt, slice_get, position, Option, Some, None, is_none, is_some, unwrap_or, IsSomeAnd, option_and_then, refl}
-use Rattle.std.specs.declared.cmp.Ordering.{Ordering}
-use Rattle.std.specs.declared.cmp.Ordering.TheVariants.{Less, Equal, Greater}
-use Rattle.std.specs.Ordering.{eq_by_cmp, is_eq, nat_cmp, ordering_then}
+use Rattle.std.specs.Prelude.{◌≡◌, ℕ, suc, ◌+◌, ◌↔◌, Bool, true, false, IsTrue, ◌&&◌, ◌||◌, not, if◌then◌else◌, List, [], ◌∷◌, length, nat_lt, slice_get, position, Option, Some, None, is_none, is_some, IsSomeAnd, option_and_then, refl}
+use Rattle.std.specs.Ordering.{eq_by_cmp, is_eq, nat_cmp}
 use Rattle.std.specs.List.{position_or_len, list_any, find}
 use Rattle.std.proofs.Common.{sym, ap, ◌∙◌, cond, ltb-false, true≢false}
 use Rattle.std.proofs.lemmas.Option.{slice_get_past}

@@ -1,7 +1,7 @@
-use Rattle.std.proofs.Common.{ap, sym, ◌∙◌, None}
+use Rattle.std.proofs.Common.{ap, sym, ◌∙◌}
 use Rattle.amounts.specs.Amounts.{total}
 use Rattle.asset_lists.specs.declared.units.Kind.{Kind}
-use Rattle.asset_bundles.specs.Bundles.{found, bundle_of, is_asset}
+use Rattle.asset_bundles.specs.Bundles.{bundle_of, is_asset}
 use Rattle.asset_bundles.proofs.Lemmas.BundleLaws.{total-bundle_of, found-holding}
 use Rattle.asset_bundles.proofs.Finding.{total-fungible}
 use Rattle.asset_bundles.proofs.items.total.Goals as goal

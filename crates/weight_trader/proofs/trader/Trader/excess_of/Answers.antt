@@ -1,6 +1,6 @@
 use Rattle.std.proofs.Common.{sym, ap, ◌∙◌}
 use Rattle.std.specs.List.{position}
-use Rattle.weight_trader.specs.Purchases.{is_covered, excess_at, some_amount}
+use Rattle.weight_trader.specs.Purchases.{is_covered, excess_at}
 use Rattle.weight_trader.proofs.Charging.{too_expensive, paying_none, paying_at}
 use Rattle.weight_trader.proofs.trader.Trader.excess_of.Goals as goal
 
@@ -12,5 +12,5 @@ returns-in_default c =
 pub returns : goal.returns
 returns c =
     let first = sym (c.in-Some.ensures ∙ ap (position (is_covered c.args.weight c.args.payment.now)) c.as_slice.ensures.value) in
-    c.some_amount.ensures ∙ (λ i. some_amount (c.asset.ensures i) (c.excess.ensures i))
-    ∙ sym (ap (excess_at c.args.weight) (paying_at _ _ c.self.inside.lines.items _ c.in-Some.place _ c.self.view_is first c.index-line.ensures))
+    c.excess_of.ensures
+    ∙ sym (ap (excess_at c.args.weight) (paying_at _ _ c.self.inside.lines.items _ c.in-Some.place _ c.self.view_is first c.index.ensures))
