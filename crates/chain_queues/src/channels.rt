@@ -4,7 +4,7 @@ ghost use Rattle.std.specs.List.{position};
 ghost use Rattle.channel_parts.specs.Channels.{Outgoing, opened};
 ghost use Rattle.versioned_xcm.specs.Reading.{message_of};
 ghost use Rattle.chain_queues.specs.Decoded.{decodes, is_spelled_in, program_read};
-ghost use Rattle.chain_queues.specs.Queues.{waiting_of, outgoing_of, channels_of, leads_to, is_led_to, channel_to, is_spelled_for, push_refusal, pushed, oldest_to, popped};
+ghost use Rattle.chain_queues.specs.Queues.{waiting_of, outgoing_of, channels_of, is_led_to, channel_to, is_spelled_for, push_refusal, pushed, oldest_to, popped};
 
 use crate::faults::PushFault;
 use crate::queues::{Queue, Queued, Queues};

@@ -1,7 +1,6 @@
 -- How an execution begins and ends.
 use Rattle.std.proofs.Common.{◌≡◌, ℕ, ◌<◌, Bool, true, false, Option, Some, None, Result, Err, inl, inr, refl, sym, ap, ◌∙◌, subst, arith}
 use Rattle.std.specs.Prelude.{nat_eq, if◌then◌else◌, length}
-use Rattle.std.proofs.lemmas.Bool.Decides.{nat_tests}
 use Rattle.amounts.specs.Amounts.{empty, rows}
 use Rattle.locations.specs.declared.relative.Location.{Location}
 use Rattle.operands.specs.declared.error.XcmError.{XcmError}

@@ -1,6 +1,6 @@
 -- A barrier changes no weight.
 use Rattle.std.proofs.Common.{◌≡◌, ℕ, zero, suc, ◌+◌, ◌<◌, ◌≤◌, ◌^◌, List, [], ◌∷◌, Bool, true, false, ◌&&◌, Option, Some, None, Ok, refl, sym, ap, ◌∙◌, subst, arith}
-use Rattle.std.specs.Prelude.{nat_le, nat_lt, if◌then◌else◌, slice_get, slice_set, find}
+use Rattle.std.specs.Prelude.{if◌then◌else◌, slice_get, slice_set, find}
 use Rattle.std.specs.Option.{option_map_or}
 use Rattle.locations.specs.declared.relative.Location.{Location}
 use Rattle.operands.specs.declared.query.OpenQuery.{OpenQuery}

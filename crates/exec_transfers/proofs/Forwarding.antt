@@ -1,5 +1,5 @@
 -- What is sent is a program that may be sent: one that is inside a sound instruction, or a report.
-use Rattle.std.proofs.Common.{◌≡◌, Bool, true, false, ◌&&◌, List, Option, Some, None, refl, sym, ap, ◌∙◌, subst, arith}
+use Rattle.std.proofs.Common.{◌≡◌, true, List, Option, Some, None, refl, sym, ap, ◌∙◌, subst, arith}
 use Rattle.locations.specs.declared.relative.Location.{Location}
 use Rattle.operands.specs.declared.query.QueryInfo.{QueryInfo}
 use Rattle.operands.specs.declared.query.Response.{Response}

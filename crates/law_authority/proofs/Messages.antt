@@ -8,8 +8,7 @@ use Rattle.asset_lists.specs.declared.units.Asset.{Asset}
 use Rattle.asset_bundles.specs.declared.shipment.Way.{Way}
 use Rattle.trust_tables.specs.declared.chains.Site.{Site}
 use Rattle.trust_tables.specs.Accounts.{account_of}
-use Rattle.ledgers.specs.Ledgers.{Held}
-use Rattle.xcm_program.specs.declared.instruction.Instruction.{Instruction, out-Instruction, roll-Instruction, out-roll-Instruction}
+use Rattle.xcm_program.specs.declared.instruction.Instruction.{Instruction, roll-Instruction, out-roll-Instruction}
 use Rattle.xcm_program.specs.declared.instruction.Instruction.TheOpen.{Instruction-F}
 use Rattle.xcm_program.specs.declared.outcome.Outcome.{Outcome}
 use Rattle.channel_parts.specs.declared.cargo.Cargo.{Cargo}
@@ -33,7 +32,7 @@ use Rattle.exec_rules.specs.Execution.{first_machine, first_stage, last_machine,
 use Rattle.exec_rules.specs.HostCalls.{between}
 use Rattle.exec_rules.proofs.Lemmas.KeptLaws.{any_kind, keeps_reached, go_on_kept}
 use Rattle.law_steps.specs.Shapes.{stands_alone, IsAlone, IsLedByClaim, IsShape}
-use Rattle.law_authority.specs.Origins.{speaker_at, speaker_of, SpendsOnly}
+use Rattle.law_authority.specs.Origins.{speaker_at, SpendsOnly}
 use Rattle.law_authority.proofs.Lemmas.SpendingLaws.{same_spends, then_spends, none_spends}
 use Rattle.law_authority.proofs.Acts.{done_spends, halted_spends, clear_halted}
 use Rattle.law_authority.proofs.Runs.{HasNoSpeaker, no_speaker_is_kept, finished_lowers, at_end_lowers, abandoned_lowers}

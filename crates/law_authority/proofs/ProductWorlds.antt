@@ -10,7 +10,7 @@ use Rattle.network_steps.specs.Worlds.{Member, World}
 use Rattle.network_steps.specs.Fixed.{Fixed, fixed_of, all_settings}
 use Rattle.network_steps.specs.Steps.{exec, deliver, claim, Link, Step, worlds}
 use Rattle.law_steps.specs.Shapes.{AllShaped}
-use Rattle.law_steps.proofs.Lemmas.StepLaws.{same_one}
+use Rattle.network_steps.proofs.Lemmas.StepLaws.{same_one}
 use Rattle.law_authority.specs.Products.{NoProductFalls, HaveFewPools}
 use Rattle.law_authority.proofs.Passing.{PassesOn, worlds_pass}
 use Rattle.law_authority.proofs.Products.{exec_products, claim_products}

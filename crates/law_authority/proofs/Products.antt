@@ -1,5 +1,5 @@
 -- No step lowers the product of a pool's reserves: nobody speaks for a pool's account.
-use Rattle.std.proofs.Common.{◌≡◌, ℕ, ◌+◌, ◌<◌, ◌≤◌, ◌^◌, Bool, true, false, true≢false, List, length, get_or, Option, Some, None, inl, inr, refl, sym, ap, ◌∙◌, subst, arith}
+use Rattle.std.proofs.Common.{◌≡◌, ℕ, ◌≤◌, Bool, true, false, true≢false, List, get_or, Option, Some, None, inl, inr, refl, sym, ap, ◌∙◌, arith}
 use Rattle.std.specs.Prelude.{if◌then◌else◌, slice_get}
 use Rattle.std.specs.Option.{option_map_or}
 use Rattle.std.proofs.lemmas.Bool.{cases_Bool, cases_eq}
@@ -15,7 +15,7 @@ use Rattle.network_steps.specs.declared.step_result.StepResult.{StepResult}
 use Rattle.network_steps.specs.Worlds.{Member, World, place_of, unchanged}
 use Rattle.network_steps.specs.Steps.{is_sovereign, exec_read, exec_by, exec_at, exec, deliver, claim, Exec, Deliver, Claim}
 use Rattle.law_steps.specs.Shapes.{AllShaped}
-use Rattle.law_steps.proofs.Lemmas.StepLaws.{same_one}
+use Rattle.network_steps.proofs.Lemmas.StepLaws.{same_one}
 use Rattle.law_authority.specs.Origins.{SpendsOf}
 use Rattle.law_authority.specs.Speakers.{SpeaksFor, HasAuthority}
 use Rattle.law_authority.specs.Products.{NoProductFalls, HaveFewPools}

@@ -16,7 +16,7 @@ use Rattle.versioned_xcm.specs.Reading.{message_of}
 use Rattle.network_steps.specs.declared.step_result.StepResult.{StepResult}
 use Rattle.network_steps.specs.Worlds.{Member, chain_of, World, place_of, unchanged}
 use Rattle.network_steps.specs.Steps.{is_sovereign, exec_by, exec_at, exec, nowhere, name_at, Exec, Deliver}
-use Rattle.law_steps.proofs.Lemmas.StepLaws.{same_one, place_says}
+use Rattle.network_steps.proofs.Lemmas.StepLaws.{same_one, place_says}
 use Rattle.law_authority.specs.Speakers.{SpeaksFor}
 use Rattle.law_authority.proofs.Steps.{exec_authority}
 

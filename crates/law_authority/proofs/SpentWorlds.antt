@@ -12,7 +12,7 @@ use Rattle.network_steps.specs.Worlds.{Member, chain_of, World}
 use Rattle.network_steps.specs.Fixed.{all_settings}
 use Rattle.network_steps.specs.Steps.{exec, deliver, claim, Link, Step, Exec, Deliver, Claim, worlds}
 use Rattle.law_steps.specs.Shapes.{AllShaped}
-use Rattle.law_steps.proofs.Lemmas.StepLaws.{same_one, place_says}
+use Rattle.network_steps.proofs.Lemmas.StepLaws.{same_one, place_says}
 use Rattle.law_authority.specs.Origins.{SpendsOf}
 use Rattle.law_authority.specs.Speakers.{SpeaksFor, HasAuthority}
 use Rattle.law_authority.specs.Burns.{NoBurnFalls}

@@ -1,6 +1,6 @@
 -- Whose amounts each step lowers.
-use Rattle.std.proofs.Common.{◌≡◌, ℕ, zero, suc, ◌<◌, Bool, true, false, List, [], ◌∷◌, Option, Some, None, Result, Ok, Err, ⊎_elim, refl, sym, ap, ◌∙◌, subst, arith}
-use Rattle.std.specs.Prelude.{if◌then◌else◌, slice_get, slice_set}
+use Rattle.std.proofs.Common.{◌≡◌, ℕ, zero, suc, Bool, true, false, List, [], ◌∷◌, Option, Some, None, Result, Ok, Err, refl, sym, ap, ◌∙◌, subst}
+use Rattle.std.specs.Prelude.{if◌then◌else◌, slice_get}
 use Rattle.std.specs.Option.{option_map_or, option_and_then}
 use Rattle.chain_ids.specs.declared.chain.ChainId.{ChainId}
 use Rattle.locations.specs.declared.relative.Location.{Location}
@@ -32,7 +32,7 @@ use Rattle.network_steps.specs.Steps.{is_sovereign, exec_read, exec_by, exec_at,
 use Rattle.network_steps.proofs.Lemmas.CallerLaws.{by_caller}
 use Rattle.asset_pools.specs.Exchanges.{is_pool_account}
 use Rattle.law_steps.specs.Shapes.{IsShape, IsShaped, AllShaped}
-use Rattle.law_steps.proofs.Lemmas.StepLaws.{between_says, between_at, place_says}
+use Rattle.network_steps.proofs.Lemmas.StepLaws.{between_says, between_at, place_says}
 use Rattle.asset_pools.specs.Spending.{IsSpeaker}
 use Rattle.law_authority.specs.Origins.{SpendsOf, SpendsOnly}
 use Rattle.law_authority.specs.Speakers.{HasAuthority, HaveAuthority, IsAuthorized, AreAuthorized}

@@ -1,5 +1,5 @@
 -- That no step lowers the product of a pool's reserves. This project's own rule.
-use Rattle.std.specs.Prelude.{◌≡◌, ◌≤◌, ◌^◌, ℕ, List, length, Some, slice_get}
+use Rattle.std.specs.Prelude.{◌≡◌, ◌≤◌, ◌^◌, ℕ, length, Some, slice_get}
 use Rattle.asset_pools.specs.declared.pool.Pool.{Pool}
 use Rattle.asset_pools.specs.Exchanges.{reserve_product}
 use Rattle.network_steps.specs.Worlds.{Member, World}

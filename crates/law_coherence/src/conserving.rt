@@ -12,7 +12,6 @@ ghost use Rattle.law_coherence.specs.UniversalAssets.{UniversalAsset};
 ghost use Rattle.law_coherence.specs.Networks.{Table, IsIn, asset_of_row, is_home, AreTwins, IsNetwork, Agrees};
 ghost use Rattle.law_coherence.specs.Causes.{ChainEntry, first_cause};
 ghost use Rattle.law_coherence.specs.Causes as causes;
-ghost use Rattle.locations.specs.declared.relative.Location.{Location};
 ghost use Rattle.trust_tables.specs.declared.rows.AssetRole.TheVariants.{Derivative};
 ghost use Rattle.trust_tables.specs.Accounts.{sovereign_account};
 ghost use Rattle.asset_lists.specs.declared.units.AssetId.TheVariants.{Concrete};

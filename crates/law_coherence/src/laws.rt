@@ -1,5 +1,5 @@
 //! The laws of coherent networks. Each function has an empty body, and its contract is a law.
-ghost use Rattle.std.specs.Prelude.{◌≡◌, ℕ, ◌<◌, List, Some, None, Ok};
+ghost use Rattle.std.specs.Prelude.{◌≡◌, ◌<◌, List, Some, None, Ok};
 ghost use Rattle.amounts.specs.Amounts.{amount, total};
 ghost use Rattle.locations.specs.declared.grammar.Junction.{Junction};
 ghost use Rattle.locations.specs.declared.relative.Location.{Location};

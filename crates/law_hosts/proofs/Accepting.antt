@@ -1,16 +1,13 @@
 -- What an accepted instruction conserves, step by step.
 use Rattle.std.proofs.Common.{◌≡◌, ℕ, ◌+◌, ◌≤◌, Bool, true, false, List, [], ◌∷◌, Option, Some, None, refl, sym, ap, ◌∙◌, subst, arith}
-use Rattle.std.specs.Prelude.{if◌then◌else◌, IsTrue}
+use Rattle.std.specs.Prelude.{IsTrue}
 use Rattle.std.specs.Ordering.{eq_by_cmp}
 use Rattle.amounts.specs.Amounts.{total, empty, merge}
 use Rattle.amounts.proofs.Lemmas.AmountLaws.{total-empty}
 use Rattle.amounts.proofs.Lemmas.{same_key, amount-merge, amount_at_most, total-merge, total-difference}
 use Rattle.locations.specs.declared.relative.Location.{Location}
-use Rattle.operands.specs.declared.error.XcmError.{XcmError}
-use Rattle.operands.specs.declared.error.XcmError.TheVariants as error
 use Rattle.operands.specs.declared.weight.Weight.{Weight}
 use Rattle.asset_lists.specs.declared.units.Asset.{Asset}
-use Rattle.asset_lists.specs.declared.filters.Filter.{Filter}
 use Rattle.asset_lists.specs.Listed.{Listed, listed_cmp, listed_of}
 use Rattle.asset_lists.specs.Units.{Unit, unit_cmp}
 use Rattle.asset_lists.specs.Lists.{IsAssetList}
@@ -26,13 +23,11 @@ use Rattle.xcm_program.specs.declared.instruction.Instruction.{Instruction}
 use Rattle.xcm_program.specs.declared.instruction.Instruction.TheOpen.{Instruction-F}
 use Rattle.exec_base.specs.declared.event.Event.{Event}
 use Rattle.exec_base.specs.Part.{ChainPart}
-use Rattle.exec_base.specs.Sending.{unless}
-use Rattle.exec_base.specs.Host.{burnt, unspent, bought, refund_goods, refunded, fee_held, fee_kept, fee_drawn, withdraw_refusal}
+use Rattle.exec_base.specs.Host.{unspent, refund_goods, fee_drawn}
 use Rattle.exec_base.specs.Pools.{exchange_goods}
-use Rattle.exec_rules.specs.Machine.{Machine, machine}
-use Rattle.exec_rules.specs.Holdings.{with_origin, at_origin, holds_asset, holding_more, taken_of, holding_left, payment_of, holding_paid, not_refunded, refund_done}
-use Rattle.exec_rules.specs.Fees.{fee_refusal, after_fee, refused_around, keeping_fee, done_around}
-use Rattle.exec_rules.proofs.Lemmas.AnswerLaws.{unless_held, none_first, none_next}
+use Rattle.exec_rules.specs.Machine.{Machine}
+use Rattle.exec_rules.specs.Holdings.{holding_more, payment_of}
+use Rattle.exec_rules.proofs.Lemmas.AnswerLaws.{unless_held}
 use Rattle.exec_rules.specs.Instructions.{refused, done}
 use Rattle.exec_rules.specs.Readiness.{IsSteady}
 use Rattle.exec_rules.proofs.Lemmas.HoldingLaws.{payment_within}

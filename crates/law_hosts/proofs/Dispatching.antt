@@ -1,10 +1,7 @@
 -- A call moves amounts between accounts.
-use Rattle.std.proofs.Common.{◌≡◌, ℕ, ◌+◌, ◌≤◌, Bool, List, refl, sym, ap, ◌∙◌, arith}
+use Rattle.std.proofs.Common.{◌≡◌, ℕ, Bool, List, refl, ap, ◌∙◌, arith}
 use Rattle.amounts.specs.Amounts.{total, empty}
-use Rattle.amounts.proofs.Lemmas.AmountLaws.{total-empty}
-use Rattle.asset_lists.specs.Units.{Unit}
 use Rattle.asset_lists.specs.Listed.{Listed}
-use Rattle.asset_bundles.proofs.Lemmas.Bundles.{unit_keys}
 use Rattle.asset_bundles.specs.Books.{is_unit_where}
 use Rattle.ledgers.specs.Ledgers.{Holder, Held}
 use Rattle.call_dispatch.specs.Spelling.{AnyCall}

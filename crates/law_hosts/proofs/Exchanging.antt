@@ -1,9 +1,7 @@
 -- Goods are exchanged with a pool.
-use Rattle.std.proofs.Common.{◌≡◌, ℕ, ◌+◌, Bool, List, Option, Some, None, refl, arith}
+use Rattle.std.proofs.Common.{◌≡◌, Bool, List, Option, Some, None, refl, arith}
 use Rattle.std.specs.Option.{option_map_or}
-use Rattle.amounts.specs.Amounts.{total}
 use Rattle.asset_lists.specs.declared.units.Asset.{Asset}
-use Rattle.asset_lists.specs.Listed.{Listed}
 use Rattle.asset_bundles.specs.Bundles.{Bundle}
 use Rattle.asset_bundles.specs.Books.{is_unit_where}
 use Rattle.ledgers.specs.Ledgers.{Holder}

@@ -1,7 +1,7 @@
 -- Lemmas that proofs cite, in crates above: what accounts give and get, calls that are dispatched, and locks that are set and fall leave each
 -- account its floor. A reader of the contracts may skip this file.
 use Rattle.std.proofs.Common.{◌≡◌, ◌⊎◌, ℕ, ◌+◌, ◌-◌, ◌≤◌, Bool, true, false, if◌then◌else◌, List, [], ◌∷◌, Option, Some, None, ⊎_elim, inl, inr, refl, sym, ap, ◌∙◌, subst, arith, true≢false}
-use Rattle.std.specs.Prelude.{slice_get, not, nat_le, is_some, unwrap_or, ◌&&◌, if◌then◌else◌}
+use Rattle.std.specs.Prelude.{slice_get, not, nat_le, is_some, unwrap_or, if◌then◌else◌}
 use Rattle.std.specs.FinMap.{find}
 use Rattle.std.specs.Ordering.{eq_by_cmp}
 use Rattle.std.specs.declared.cmp.Ordering.{Ordering}

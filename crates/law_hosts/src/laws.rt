@@ -2,15 +2,14 @@
 ghost use Rattle.std.specs.Prelude.{◌≡◌, ◌+◌, ℕ, Bool, List, Option, None, Some};
 ghost use Rattle.amounts.specs.Amounts.{empty, merge, total};
 ghost use Rattle.asset_bundles.specs.Books.{burned_for, given_up, is_unit_where};
-ghost use Rattle.asset_bundles.specs.Bundles.{Bundle, bundle_of, held_assets, IsGoods};
+ghost use Rattle.asset_bundles.specs.Bundles.{Bundle, bundle_of};
 ghost use Rattle.asset_bundles.specs.Joins.{Joined};
 ghost use Rattle.asset_bundles.specs.declared.book.Cause.{Cause};
 ghost use Rattle.asset_bundles.specs.declared.shipment.Way.{Way};
-ghost use Rattle.asset_lists.specs.Listed.{Listed, listed_of};
+ghost use Rattle.asset_lists.specs.Listed.{Listed};
 ghost use Rattle.asset_lists.specs.Lists.{IsAssetList};
 ghost use Rattle.asset_lists.specs.Units.{Unit};
 ghost use Rattle.asset_lists.specs.declared.units.Asset.{Asset};
-ghost use Rattle.ledgers.specs.Ledgers.{Holder, is_account};
 ghost use Rattle.locations.specs.declared.relative.Location.{Location};
 ghost use Rattle.operands.specs.declared.query.QueryInfo.{QueryInfo};
 ghost use Rattle.operands.specs.declared.query.Response.{Response};

@@ -13,7 +13,7 @@ use Rattle.exec_base.specs.Part.{ChainPart}
 use Rattle.network_steps.specs.Worlds.{Member, World, place_of, with_part, Stepped, unchanged}
 use Rattle.network_steps.specs.Fixed.{all_settings}
 use Rattle.network_steps.specs.Steps.{Link}
-use Rattle.law_steps.proofs.Lemmas.StepLaws.{same_one, place_says}
+use Rattle.network_steps.proofs.Lemmas.StepLaws.{same_one, place_says}
 use Rattle.law_independence.specs.Acts.{Act, acts_at, takes_from, stepped_by}
 use Rattle.law_independence.specs.Freedom.{TakesFreely, AreFree}
 use Rattle.law_independence.proofs.Channels.{found_to, IsThere, found_other, popped_swap}

@@ -1,6 +1,6 @@
 -- What an instruction asks of a chain, what it refuses and what it leaves don't depend on a frame, where no send on the frame's channel answers
 -- Transport.
-use Rattle.std.proofs.Common.{◌≡◌, ℕ, Bool, true, false, List, [], ◌∷◌, ◌++◌, length, Option, Some, None, inl, inr, ⊎_elim, refl, sym, ap, ◌∙◌, subst}
+use Rattle.std.proofs.Common.{◌≡◌, ℕ, Bool, true, false, List, [], ◌∷◌, ◌++◌, length, Option, Some, None, refl, sym, ap, ◌∙◌, subst}
 use Rattle.std.specs.Prelude.{nat_le, is_some}
 use Rattle.std.specs.Option.{option_map_or}
 use Rattle.chain_ids.specs.declared.chain.ChainId.{ChainId}
@@ -25,12 +25,11 @@ use Rattle.call_dispatch.specs.Spelling.{AnyCall}
 use Rattle.exec_base.specs.declared.registers.Registers.{Registers}
 use Rattle.exec_base.specs.declared.settings.Settings.{Settings}
 use Rattle.exec_base.specs.Part.{ChainPart}
-use Rattle.exec_base.specs.Sending as sending_to
 use Rattle.exec_base.specs.Sending.{or_else}
-use Rattle.exec_base.specs.Host.{withdraw_refusal, receive_refusal, deposit_refusal, transfer_refusal, claim_refusal, buy_refusal, unlock_refusal, note_refusal, unspent, refund_goods, querier_seen, fee_to, fee_held, fee_taken, fee_kept, fee_drawn, parked, told, trapped, settled}
+use Rattle.exec_base.specs.Host.{withdraw_refusal, receive_refusal, deposit_refusal, transfer_refusal, claim_refusal, buy_refusal, unlock_refusal, note_refusal, unspent, refund_goods, fee_to, fee_held, fee_taken, fee_kept, fee_drawn, parked}
 use Rattle.exec_base.specs.Pools.{exchange_refusal, exchange_goods}
 use Rattle.exec_base.specs.Calls.{dispatch_end}
-use Rattle.exec_rules.specs.Machine.{Machine, machine}
+use Rattle.exec_rules.specs.Machine.{Machine}
 use Rattle.exec_rules.specs.Fees.{after_fee}
 use Rattle.exec_rules.specs.Calls.{call_in, caller_in}
 use Rattle.exec_rules.specs.Reports.{reported_list}

@@ -34,7 +34,7 @@ use Rattle.network_steps.specs.Fixed.{Fixed, fixed_of, all_settings}
 use Rattle.network_steps.specs.Acting.{begun, Acted, acted, caller, lost_of, lost_lines}
 use Rattle.network_steps.specs.Steps.{is_sovereign, exec_read, exec_by, exec_at, exec, name_at, run_for, receiver_after, delivered, delivery_of, deliver, waiting, is_claim, posted, posting, claim_by, claim_on, claim, Link}
 use Rattle.asset_pools.specs.Exchanges.{is_pool_account}
-use Rattle.law_steps.proofs.Lemmas.StepLaws.{between_at, place_says}
+use Rattle.network_steps.proofs.Lemmas.StepLaws.{between_at, place_says}
 use Rattle.law_independence.specs.Acts.{Act, acts_at, takes_from, stepped_by, member_named}
 use Rattle.law_independence.specs.Freedom.{RunsCalmly, SendsCalmly}
 use Rattle.law_independence.proofs.Channels.{found_to, IsThere, IsNoTransport, read_popped, sent_swap, found_sent, refused_popped}

@@ -1,6 +1,6 @@
 -- What a call of a chain's host refuses doesn't depend on a frame, where no send on the frame's channel answers Transport.
-use Rattle.std.proofs.Common.{◌≡◌, ℕ, Bool, true, false, List, length, Option, Some, None, refl, sym, ap, ◌∙◌}
-use Rattle.std.specs.Prelude.{if◌then◌else◌, nat_le, is_some}
+use Rattle.std.proofs.Common.{◌≡◌, Bool, true, false, List, length, Option, Some, None, refl, sym, ap, ◌∙◌}
+use Rattle.std.specs.Prelude.{if◌then◌else◌, nat_le}
 use Rattle.std.specs.Option.{option_map_or}
 use Rattle.chain_ids.specs.declared.chain.ChainId.{ChainId}
 use Rattle.chain_ids.proofs.Lemmas.{same_chain_told}
@@ -9,31 +9,22 @@ use Rattle.operands.specs.declared.error.XcmError.{XcmError}
 use Rattle.operands.specs.declared.error.XcmError.TheVariants as error
 use Rattle.operands.specs.declared.query.QueryInfo.{QueryInfo}
 use Rattle.operands.specs.declared.query.Response.{Response}
-use Rattle.operands.specs.declared.weight.WeightLimit.{WeightLimit}
-use Rattle.operands.specs.declared.weight.WeightLimit.TheVariants.{Unlimited, Limited}
 use Rattle.asset_lists.specs.declared.units.Asset.{Asset}
 use Rattle.asset_lists.specs.Units.{amount_of}
 use Rattle.asset_bundles.specs.Bundles.{Bundle, held_assets}
 use Rattle.asset_bundles.specs.declared.shipment.Way.{Way}
 use Rattle.trust_tables.specs.Trust.{is_location_of}
-use Rattle.trust_tables.specs.declared.chains.Site.{Site}
 use Rattle.xcm_program.specs.declared.instruction.Instruction.{Instruction}
-use Rattle.xcm_program.specs.declared.instruction.Instruction.TheOpen.{Instruction-F}
 use Rattle.channel_parts.specs.declared.channel.Channel.{Channel}
-use Rattle.channel_parts.specs.Channels.{Outgoing}
 use Rattle.asset_locks.specs.LockMaps.{NoteKey, noted}
 use Rattle.exec_base.specs.Part.{ChainPart}
-use Rattle.exec_base.specs.Sending as sending_to
 use Rattle.exec_base.specs.Sending.{unless, or_else, send_refusal, listed_refusal, deposit_program, away_program, named_refusal}
-use Rattle.exec_base.specs.Host.{is_lockable, lock_key, note_program, lock_refusal, request_key, unlock_program, request_refusal, first_fault, trust_fault, raise_fault, is_teleport, withdraw_refusal, deposit_refusal, transfer_refusal, receive_refusal, seen_from, transfer_out_refusal, deposit_out_refusal, ship_refusal, report_program, report_refusal, querier_seen, respond_refusal, buy_refusal, claim_refusal, fee_to, fee_held, fee_drawn}
+use Rattle.exec_base.specs.Host.{is_lockable, lock_key, note_program, lock_refusal, request_key, unlock_program, request_refusal, first_fault, trust_fault, raise_fault, is_teleport, deposit_refusal, transfer_refusal, seen_from, transfer_out_refusal, deposit_out_refusal, ship_refusal, report_program, report_refusal, querier_seen, respond_refusal, fee_held, fee_drawn}
 use Rattle.exec_rules.specs.Machine.{Machine, machine}
-use Rattle.exec_rules.specs.Holdings.{with_origin, at_origin, taken_of, buying_refusal, refund_now, refund_refusal}
-use Rattle.exec_rules.specs.Fees.{fee_refusal, after_fee, refused_around, refused_sending}
-use Rattle.exec_rules.specs.Reports.{report_refused, pallets_of, reported_list, holding_report_refused, too_many_refused}
-use Rattle.exec_rules.specs.Instructions.{refused}
-use Rattle.law_independence.specs.Freedom.{sends_on}
-use Rattle.law_independence.proofs.Channels.{IsNoTransport, read_popped, refused_popped}
-use Rattle.law_independence.proofs.Calls.{framed, querier_framed, fee_to_framed}
+use Rattle.exec_rules.specs.Holdings.{at_origin}
+use Rattle.exec_rules.specs.Fees.{after_fee}
+use Rattle.law_independence.proofs.Channels.{IsNoTransport, refused_popped}
+use Rattle.law_independence.proofs.Calls.{framed, querier_framed}
 
 -- ---- refusals that come one after the other
 pub or_else_same : (on : Bool) (a b c : Option XcmError) → (IsNoTransport on b → c ≡ b) → IsNoTransport on (or_else a b) → or_else a c ≡ or_else a b

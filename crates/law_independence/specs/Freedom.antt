@@ -3,7 +3,7 @@
 --   sends on a channel      an instruction that sends, to a location by which its chain names the channel's other end
 --   sends calmly            no send of an act on a channel answers Transport, which is what a full channel answers
 --   takes freely            a delivery from a channel of the other act's chain: it doesn't find the channel empty, and the other sends calmly on it
-use Rattle.std.specs.Prelude.{◌≡◌, ⊤, Bool, true, false, List, Option, Some, None, Ok}
+use Rattle.std.specs.Prelude.{◌≡◌, ⊤, Bool, true, false, List, Some, Ok}
 use Rattle.std.specs.Option.{option_map_or}
 use Rattle.chain_ids.specs.declared.chain.ChainId.{ChainId}
 use Rattle.locations.specs.declared.relative.Location.{Location}

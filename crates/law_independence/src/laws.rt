@@ -1,5 +1,5 @@
 //! Which steps may be swapped: laws, as the contracts of functions that do nothing.
-ghost use Rattle.std.specs.Prelude.{◌≡◌, ℕ, List, Some, None};
+ghost use Rattle.std.specs.Prelude.{◌≡◌, List, Some, None};
 ghost use Rattle.asset_bundles.specs.Bundles.{Bundle};
 ghost use Rattle.chain_ids.specs.declared.chain.ChainId.{ChainId};
 ghost use Rattle.locations.specs.declared.relative.Location.{Location};

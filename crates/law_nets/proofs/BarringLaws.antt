@@ -1,8 +1,7 @@
 -- Lemmas: where of each unit no more is there than one bundle may hold, no account is barred from it. A reader may skip this file.
 use Rattle.std.proofs.Common.{◌≡◌, ℕ, ◌+◌, ◌-◌, ◌^◌, ◌<◌, ◌≤◌, Bool, true, false, List, [], ◌∷◌, Option, Some, None, refl, sym, ap, ◌∙◌, subst, arith}
-use Rattle.std.specs.Prelude.{nat_lt, not, is_some, find, if◌then◌else◌}
+use Rattle.std.specs.Prelude.{not, is_some, find, if◌then◌else◌}
 use Rattle.std.specs.List.{AllByRecursion}
-use Rattle.std.proofs.lemmas.Bool.Decides.{nat_tests}
 use Rattle.amounts.specs.Amounts.{amount, total, rows, IsWithin}
 use Rattle.amounts.proofs.Lemmas.AmountLaws.{rows_positive}
 use Rattle.amounts.specs.Rows.{IsPositive, amount_if, sum_where}

@@ -1,9 +1,8 @@
 -- Lemmas: a call of a host burns no excess where nothing passes its maximum. A reader may skip this file.
 use Rattle.std.proofs.Common.{◌≡◌, ℕ, ◌+◌, ◌-◌, ◌^◌, ◌≤◌, Bool, true, false, List, [], ◌∷◌, ◌++◌, Option, Some, None, map, refl, sym, ap, ◌∙◌, subst, arith}
-use Rattle.std.specs.Prelude.{nat_le, find, position, remove, if◌then◌else◌}
+use Rattle.std.specs.Prelude.{find, position, remove, if◌then◌else◌}
 use Rattle.std.specs.Option.{option_map_or}
 use Rattle.std.specs.Ordering.{eq_by_cmp}
-use Rattle.std.proofs.lemmas.Bool.Decides.{nat_tests}
 use Rattle.amounts.specs.Amounts.{amount, total, empty}
 use Rattle.amounts.proofs.Lemmas.AmountLaws.{amount-empty}
 use Rattle.amounts.specs.Rows.{amount_if, sum_where}

@@ -1,13 +1,11 @@
 -- Lemmas: a delivered message burns no excess on its receiver. A reader may skip this file.
-use Rattle.std.proofs.Common.{◌≡◌, ⊎_elim, ℕ, zero, ◌+◌, ◌^◌, ◌≤◌, Bool, true, false, List, [], ◌∷◌, length, Option, Some, None, Result, Ok, Err, refl, sym, ap, ◌∙◌, subst, arith}
+use Rattle.std.proofs.Common.{◌≡◌, ⊎_elim, ℕ, zero, ◌+◌, ◌^◌, ◌≤◌, Bool, true, false, List, [], ◌∷◌, length, Some, None, Result, Ok, Err, refl, sym, ap, ◌∙◌, subst, arith}
 use Rattle.std.specs.Prelude.{if◌then◌else◌, find, slice_get}
 use Rattle.std.specs.List.{AllByRecursion}
 use Rattle.amounts.specs.Amounts.{total, empty, merge}
 use Rattle.amounts.proofs.Lemmas.AmountLaws.{total-empty}
 use Rattle.amounts.proofs.Lemmas.{amount-merge, amount_at_most, same_key}
 use Rattle.locations.specs.declared.relative.Location.{Location}
-use Rattle.operands.specs.declared.query.Response.{Response}
-use Rattle.operands.specs.declared.weight.Weight.{Weight}
 use Rattle.asset_lists.specs.declared.units.Asset.{Asset}
 use Rattle.asset_lists.specs.declared.units.Instance.{Instance}
 use Rattle.asset_lists.specs.Lists.{IsAssetList, is_rising}

@@ -1,8 +1,7 @@
 -- Lemmas: the account of the sender has what its oldest withdrawal asks for, and the reserve lists it. A reader may skip this file.
-use Rattle.std.proofs.Common.{◌≡◌, ℕ, ◌+◌, ◌≤◌, Bool, true, false, List, [], ◌∷◌, Option, Some, None, refl, sym, ap, ◌∙◌, arith}
-use Rattle.std.specs.Prelude.{IsTrue, not, is_some, map, nat_le, slice_get}
+use Rattle.std.proofs.Common.{◌≡◌, ℕ, ◌≤◌, Bool, true, false, List, [], ◌∷◌, Option, Some, None, refl, sym, ap, ◌∙◌, arith}
+use Rattle.std.specs.Prelude.{IsTrue, not, is_some, map, slice_get}
 use Rattle.std.specs.List.{AllByRecursion}
-use Rattle.std.proofs.lemmas.Bool.Decides.{nat_tests}
 use Rattle.amounts.proofs.Lemmas.Rows.{IsKeyOrder}
 use Rattle.amounts.specs.Amounts.{amount, empty}
 use Rattle.amounts.proofs.Lemmas.{key_same, same_key, amount_at_most}

@@ -10,7 +10,7 @@ use Rattle.exec_rules.specs.Execution.{IsAbandoned}
 use Rattle.network_steps.specs.Worlds.{World, chain_of, with_part}
 use Rattle.network_steps.specs.Acting.{ended, caller, lost_of, booking_lost}
 use Rattle.network_steps.specs.Steps.{without_message, Link, Step, next_world, worlds, last_world, deliveries}
-use Rattle.law_steps.proofs.Lemmas.StepLaws.{place_says}
+use Rattle.network_steps.proofs.Lemmas.StepLaws.{place_says}
 use Rattle.law_coherence.specs.Parts as parts
 use Rattle.law_coherence.specs.Headline.{IsKept}
 use Rattle.amounts.specs.Amounts.{empty}

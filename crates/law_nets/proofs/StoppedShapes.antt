@@ -24,7 +24,7 @@ use Rattle.network_steps.specs.Worlds.{Member, World, chain_of, place_of, with_p
 use Rattle.network_steps.specs.Acting.{begun, caller, lost_of, booking_lost}
 use Rattle.network_steps.specs.Steps.{without_message, name_at, waiting, Link, Step, Exec, Deliver, deliver, next_channel, deliveries}
 use Rattle.law_steps.specs.Shapes.{IsShape, IsShaped, AreShapedIn, AreShapedAt, AllShaped}
-use Rattle.law_steps.proofs.Lemmas.StepLaws.{between_at, place_says}
+use Rattle.network_steps.proofs.Lemmas.StepLaws.{between_at, place_says}
 use Rattle.asset_pools.specs.Spending.{IsSpeaker}
 use Rattle.law_authority.specs.Origins.{SpendsOf, SpendsOnly}
 use Rattle.law_authority.specs.Speakers.{SpeaksFor, HasAuthority, HaveAuthority}

@@ -1,5 +1,5 @@
 -- Lemmas: where memory is refused inside an instruction, no excess is burned either. A reader may skip this file.
-use Rattle.std.proofs.Common.{◌≡◌, ◌⊎◌, ⊎_elim, true, false, None, refl, ap, ◌∙◌, arith}
+use Rattle.std.proofs.Common.{◌≡◌, ◌⊎◌, ⊎_elim, true, None, refl, ap, ◌∙◌, arith}
 use Rattle.operands.specs.declared.weight.WeightLimit.{WeightLimit}
 use Rattle.operands.specs.declared.weight.WeightLimit.TheVariants.{Unlimited, Limited}
 use Rattle.asset_lists.specs.declared.units.Asset.{Asset}

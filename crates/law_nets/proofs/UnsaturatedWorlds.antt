@@ -36,7 +36,7 @@ use Rattle.network_steps.specs.Steps.{is_sovereign, name_at, exec_read, exec_by,
 use Rattle.network_steps.proofs.Lemmas.CallerLaws.{by_caller}
 use Rattle.asset_pools.specs.Exchanges.{is_pool_account}
 use Rattle.network_steps.specs.Sends.{deliveries_left}
-use Rattle.law_steps.proofs.Lemmas.StepLaws.{between_says}
+use Rattle.network_steps.proofs.Lemmas.StepLaws.{between_says}
 use Rattle.law_coherence.specs.UniversalAssets.{UniversalAsset, just}
 use Rattle.law_coherence.specs.Parts as sums
 use Rattle.law_runs.specs.Safety.{IsRunnable}

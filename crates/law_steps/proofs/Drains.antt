@@ -13,7 +13,7 @@ use Rattle.network_steps.specs.Sends.{deliveries_left}
 use Rattle.network_steps.specs.Steps.{delivered, delivery_of, deliver, Link, waiting, waits, next_channel, deliveries, world_behind}
 use Rattle.network_steps.specs.Drains.{HasNoSelfLink}
 use Rattle.law_steps.specs.Shapes.{IsShaped, AllShaped}
-use Rattle.law_steps.proofs.Lemmas.StepLaws.{between_says, between_at, place_says}
+use Rattle.network_steps.proofs.Lemmas.StepLaws.{between_says, between_at, place_says}
 use Rattle.law_steps.proofs.Worlds.{deliver_shaped, taken_is_shaped}
 use Rattle.law_steps.proofs.Sends.{delivered_less}
 

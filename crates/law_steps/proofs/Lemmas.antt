@@ -14,7 +14,6 @@ pub mod Receptions
 pub mod Rising
 pub mod Rooms
 pub mod Senders
-pub mod StepLaws
 pub mod Stepping
 pub mod Stops
 pub mod Worlds

@@ -1,5 +1,5 @@
 -- A teleport is lost just where the first instruction of its message isn't done.
-use Rattle.std.proofs.Common.{◌≡◌, ℕ, Bool, true, false, List, [], ◌∷◌, Option, Some, None, Result, Ok, Err, if◌then◌else◌, refl, sym, ap, ◌∙◌, subst}
+use Rattle.std.proofs.Common.{◌≡◌, ℕ, Bool, true, false, List, ◌∷◌, Option, Some, None, Result, Ok, Err, if◌then◌else◌, refl, sym, ap, ◌∙◌, subst}
 use Rattle.locations.specs.declared.relative.Location.{Location}
 use Rattle.operands.specs.declared.error.XcmError.{XcmError}
 use Rattle.operands.specs.declared.weight.Weight.{Weight}
@@ -11,7 +11,6 @@ use Rattle.asset_lists.specs.declared.units.Asset.{Asset}
 use Rattle.asset_bundles.specs.declared.shipment.Way.{Way}
 use Rattle.asset_bundles.specs.declared.shipment.Shipment.{Shipment}
 use Rattle.asset_bundles.specs.Bundles.{Bundle, held_assets}
-use Rattle.channel_parts.specs.declared.cargo.Cargo.{Cargo}
 use Rattle.channel_parts.specs.declared.cargo.Cargo.TheVariants.{Nothing, Away}
 use Rattle.channel_parts.specs.Channels.{Waiting}
 use Rattle.xcm_program.specs.declared.instruction.Instruction.{Instruction, roll-Instruction, out-roll-Instruction}
@@ -24,17 +23,17 @@ use Rattle.exec_base.specs.Part.{ChainPart, DeliveredCargo}
 use Rattle.exec_base.specs.Sending.{away_program}
 use Rattle.exec_base.specs.Host.{Arrival, ByWithdrawal, ByTeleport, arrives_by, arrival_of, is_cargo, cargo_after, withdrawn, received, bundles_joined, told, booked}
 use Rattle.exec_rules.specs.Machine.{Machine, machine, IsOrderly}
-use Rattle.exec_rules.specs.Run.{Stage, At, Ended, begin, run, next, steps, by_answer, traced, machine_of, still_to_run, failed, without_appendix, begins_well, is_accepted, Reaches}
+use Rattle.exec_rules.specs.Run.{Stage, At, Ended, begin, run, next, by_answer, traced, machine_of, still_to_run, failed, without_appendix, begins_well, is_accepted, Reaches}
 use Rattle.exec_rules.specs.Outcome.{finished}
 use Rattle.exec_rules.proofs.Lemmas.RunLaws.{reaches_here, reaches_next, run_reached}
-use Rattle.exec_rules.specs.Instructions.{refused, done, refusal_of, xcm}
+use Rattle.exec_rules.specs.Instructions.{done, refusal_of, xcm}
 use Rattle.exec_rules.specs.declared.rules.ChainRules.{ChainRules}
 use Rattle.exec_rules.specs.declared.admission.Admitted.{Admitted}
 use Rattle.exec_rules.specs.Admission.{admitted}
 use Rattle.exec_rules.specs.Execution.{started, first_machine, first_stage, last_machine, executed_by, executed}
-use Rattle.exec_rules.specs.HostCalls.{MachineWithGoods, between, MachineCall, after}
+use Rattle.exec_rules.specs.HostCalls.{MachineWithGoods, MachineCall, after}
 use Rattle.exec_rules.proofs.Lemmas.Reasons.{ComesAtEnd}
-use Rattle.exec_rules.specs.Kept.{IsKeptByCalls, HoldsAtEnd}
+use Rattle.exec_rules.specs.Kept.{IsKeptByCalls}
 use Rattle.exec_rules.proofs.Lemmas.Kept.{IsKeptAtEnd}
 use Rattle.exec_rules.proofs.Lemmas.KeptLaws.{any_kind, finished_kept, keeps_reached}
 use Rattle.network_steps.specs.Acting.{begun, lost_by, lost_of}

@@ -1,5 +1,5 @@
 -- Each step of a network leaves only messages of the seven shapes.
-use Rattle.std.proofs.Common.{◌≡◌, ℕ, zero, suc, Bool, true, false, ◌&&◌, List, [], ◌∷◌, Option, Some, None, Result, Ok, Err, inr, refl, sym, ap, ◌∙◌, subst}
+use Rattle.std.proofs.Common.{◌≡◌, ℕ, zero, suc, Bool, true, false, List, [], ◌∷◌, Option, Some, None, Result, Ok, Err, inr, refl, sym, ap, ◌∙◌, subst}
 use Rattle.std.specs.Prelude.{if◌then◌else◌, slice_get, slice_set, find}
 use Rattle.std.specs.List.{AllByRecursion}
 use Rattle.std.specs.Option.{option_map_or, option_and_then}
@@ -32,7 +32,7 @@ use Rattle.network_steps.specs.Steps.{is_sovereign, exec_read, exec_by, exec_at,
 use Rattle.network_steps.proofs.Lemmas.CallerLaws.{by_caller}
 use Rattle.asset_pools.specs.Exchanges.{is_pool_account}
 use Rattle.law_steps.specs.Shapes.{IsShaped, IsLedByClaim, AreShapedIn, AreShapedAt, AllShaped, NothingWaits}
-use Rattle.law_steps.proofs.Lemmas.StepLaws.{same_one, between_says, place_says}
+use Rattle.network_steps.proofs.Lemmas.StepLaws.{same_one, between_says, place_says}
 use Rattle.law_steps.proofs.Channels.{changed_shaped, waiting_shaped, oldest_gone}
 use Rattle.law_steps.proofs.Runs.{executed_shaped}
 use Rattle.plain_lists.proofs.Lemmas.Facts.{both_true}

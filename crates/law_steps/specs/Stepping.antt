@@ -4,7 +4,6 @@ use Rattle.chain_ids.specs.declared.chain.ChainId.{ChainId}
 use Rattle.network_steps.specs.Worlds as networks
 use Rattle.network_steps.specs.Steps.{exec, deliver, claim}
 use Rattle.law_steps.specs.Shapes.{AllShaped}
-use Rattle.law_coherence.specs.Parts.{WorldView}
 use Rattle.law_steps.specs.Fates.{KeepsShapes}
 
 -- ---- what the steps rely on: the laws of the crates below

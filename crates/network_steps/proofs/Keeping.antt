@@ -27,7 +27,7 @@ use Rattle.network_steps.specs.Steps.{is_sovereign, exec_read, exec_by, exec_at,
 use Rattle.network_steps.proofs.Lemmas.CallerLaws.{by_caller}
 use Rattle.asset_pools.specs.Exchanges.{is_pool_account}
 use Rattle.network_steps.specs.Fixed.{Fixed, fixed_of, all_settings}
-use Rattle.network_steps.proofs.Stillness.{between_says}
+use Rattle.network_steps.proofs.Lemmas.StepLaws.{between_says}
 use Rattle.network_steps.proofs.Lemmas.FixedLaws.{channels_kept, executed_fixed}
 
 abbrev Said : Type 0

@@ -1,5 +1,5 @@
 -- Steps that change nothing, and the chains that a step doesn't reach.
-use Rattle.std.proofs.Common.{◌≡◌, ℕ, zero, suc, Bool, true, false, if◌then◌else◌, List, [], ◌∷◌, Option, Some, None, Result, Ok, Err, refl, sym, ap, ◌∙◌}
+use Rattle.std.proofs.Common.{◌≡◌, ℕ, zero, suc, Bool, true, false, if◌then◌else◌, List, [], ◌∷◌, Option, Some, None, Result, Ok, Err, refl, ap, ◌∙◌}
 use Rattle.std.specs.Prelude.{slice_get, slice_set}
 use Rattle.std.specs.Option.{option_map_or}
 use Rattle.chain_ids.specs.declared.chain.ChainId.{ChainId}
@@ -12,8 +12,9 @@ use Rattle.chain_queues.specs.Queues.{channel_to, oldest}
 use Rattle.exec_base.specs.Sending.{channel_refusal}
 use Rattle.network_steps.specs.declared.step_result.StepResult.{StepResult}
 use Rattle.network_steps.specs.Worlds.{Member, chain_of, World, place_of, Stepped, unchanged}
-use Rattle.network_steps.specs.Steps.{is_sovereign, exec_read, exec_by, exec_at, exec, delivered, delivery_of, with_both_members, deliver, is_claim, posting, claim_by, claim_on, claim}
+use Rattle.network_steps.specs.Steps.{is_sovereign, exec_read, exec_by, exec_at, exec, delivered, delivery_of, deliver, is_claim, posting, claim_by, claim_on, claim}
 use Rattle.network_steps.proofs.Lemmas.CallerLaws.{by_caller}
+use Rattle.network_steps.proofs.Lemmas.StepLaws.{same_one, between_says}
 use Rattle.asset_pools.specs.Exchanges.{is_pool_account}
 use Rattle.network_steps.specs.Still.{IsStill}
 
@@ -33,36 +34,6 @@ set_other (x ∷ xs) zero zero m n = absurd (n refl)
 set_other (x ∷ xs) zero (suc d) m n = refl
 set_other (x ∷ xs) (suc c) zero m n = refl
 set_other (x ∷ xs) (suc c) (suc d) m n = set_other xs c d m (λ e. n (ap suc e))
-
--- what holds of each way through two chains holds of the whole
-pub between_says : {A : Type 0} (w : World) (from to : ChainId) (none : A) (f : ℕ → ℕ → Member → Member → A) (P : A → Type 0) → P none
-    → ((i j : ℕ) (s r : Member) → place_of w from ≡ Some i → place_of w to ≡ Some j → slice_get w i ≡ Some s → slice_get w j ≡ Some r → P (f i j s r)) → P (with_both_members w from to none f)
-between_says w from to none f P p h =
-    elim (place_of w from) as (λ o. place_of w from ≡ o → P (option_map_or (λ (i : ℕ). option_map_or (λ (j : ℕ). option_map_or (λ (s : Member). option_map_or (λ (r : Member). f i j s r) (slice_get w j) none) (slice_get w i) none) (place_of w to) none) o none)) [
-      | None ↦ λ e. p
-      | Some i ↦ λ at_i. elim (place_of w to) as (λ o. place_of w to ≡ o → P (option_map_or (λ (j : ℕ). option_map_or (λ (s : Member). option_map_or (λ (r : Member). f i j s r) (slice_get w j) none) (slice_get w i) none) o none)) [
-        | None ↦ λ e. p
-        | Some j ↦ λ at_j. elim (slice_get w i) as (λ o. slice_get w i ≡ o → P (option_map_or (λ (s : Member). option_map_or (λ (r : Member). f i j s r) (slice_get w j) none) o none)) [
-          | None ↦ λ e. p
-          | Some s ↦ λ is_s. elim (slice_get w j) as (λ o. slice_get w j ≡ o → P (option_map_or (λ (r : Member). f i j s r) o none)) [
-            | None ↦ λ e. p
-            | Some r ↦ λ is_r. h i j s r at_i at_j is_s is_r
-          ] refl
-        ] refl
-      ] refl
-    ] refl
-
--- two chains that are there
-pub between_at : {A : Type 0} (w : World) (from to : ChainId) (none : A) (f : ℕ → ℕ → Member → Member → A) (i j : ℕ) (s r : Member) → place_of w from ≡ Some i → place_of w to ≡ Some j → slice_get w i ≡ Some s → slice_get w j ≡ Some r
-    → with_both_members w from to none f ≡ f i j s r
-between_at w from to none f i j s r at_i at_j is_s is_r =
-    ap (λ o. option_map_or (λ (i : ℕ). option_map_or (λ (j : ℕ). option_map_or (λ (s : Member). option_map_or (λ (r : Member). f i j s r) (slice_get w j) none) (slice_get w i) none) (place_of w to) none) o none) at_i
-    ∙ ap (λ o. option_map_or (λ (j : ℕ). option_map_or (λ (s : Member). option_map_or (λ (r : Member). f i j s r) (slice_get w j) none) (slice_get w i) none) o none) at_j
-    ∙ ap (λ o. option_map_or (λ (s : Member). option_map_or (λ (r : Member). f i j s r) (slice_get w j) none) o none) is_s
-    ∙ ap (λ o. option_map_or (λ (r : Member). f i j s r) o none) is_r
-
-same_place : (o : Option ℕ) (i j : ℕ) → o ≡ Some i → o ≡ Some j → i ≡ j
-same_place o i j h k = let e : Some i ≡ Some j = sym h ∙ k in cc
 
 -- ---- local executions
 exec_read_still : (w : World) (place : ℕ) (m : Member) (account : List ℕ) (read : Result (List Instruction) MessageFault) → IsStill (exec_read w place m account read) w
@@ -132,7 +103,7 @@ pub deliver_elsewhere : (w : World) (from to : ChainId) (i j k : ℕ) → place_
 unfolding deliver
 deliver_elsewhere w from to i j k at_i at_j not_i not_j =
     between_says w from to (unchanged StepResult.NoSuchChain w) (λ i j s r. delivery_of w i j s r (channel_to (chain_of r) s.part.channels)) (λ x. slice_get x.world k ≡ slice_get w k) refl
-    (λ a b s r at_a at_b is_s is_r. delivery_kept w a b k s r (channel_to (chain_of r) s.part.channels) (λ e. not_i (e ∙ same_place _ a i at_a at_i)) (λ e. not_j (e ∙ same_place _ b j at_b at_j)))
+    (λ a b s r at_a at_b is_s is_r. delivery_kept w a b k s r (channel_to (chain_of r) s.part.channels) (λ e. not_i (e ∙ same_one _ a i at_a at_i)) (λ e. not_j (e ∙ same_one _ b j at_b at_j)))
 
 -- ---- claims
 posting_still : (w : World) (i : ℕ) (s : Member) (to : ChainId) (c : Outgoing) (program : List Instruction) (o : Option XcmError) → IsStill (posting w i s to c program o) w
@@ -179,4 +150,4 @@ pub claim_elsewhere : (w : World) (from to : ChainId) (bytes : List ℕ) (i k : 
 unfolding claim
 claim_elsewhere w from to bytes i k at_i apart =
     between_says w from to (unchanged StepResult.NoSuchChain w) (λ i j s r. claim_on w i s (chain_of r) (channel_to (chain_of r) s.part.channels) bytes) (λ x. slice_get x.world k ≡ slice_get w k) refl
-    (λ a b s r at_a at_b is_s is_r. claim_on_kept w a k s (chain_of r) (channel_to (chain_of r) s.part.channels) bytes (λ e. apart (e ∙ same_place _ a i at_a at_i)))
+    (λ a b s r at_a at_b is_s is_r. claim_on_kept w a k s (chain_of r) (channel_to (chain_of r) s.part.channels) bytes (λ e. apart (e ∙ same_one _ a i at_a at_i)))

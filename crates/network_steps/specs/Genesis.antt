@@ -1,12 +1,10 @@
 -- The first world of a network: what its document says of each chain, and nothing that happened. This project's own rule.
-use Rattle.std.specs.Prelude.{ℕ, false, List, [], ◌∷◌, map, if◌then◌else◌}
+use Rattle.std.specs.Prelude.{ℕ, List, [], ◌∷◌, map, if◌then◌else◌}
 use Rattle.amounts.specs.Amounts.{empty, merge}
-use Rattle.operands.specs.declared.pallet.PalletInfo.{PalletInfo}
 use Rattle.operands.specs.declared.query.OpenQuery.{OpenQuery}
 use Rattle.chain_ids.specs.declared.chain.ChainId.{ChainId}
 use Rattle.chain_ids.specs.Chains.{same_chain}
 use Rattle.trust_tables.specs.declared.chains.Site.{Site}
-use Rattle.trust_tables.specs.declared.rows.AssetRow.{AssetRow}
 use Rattle.asset_bundles.specs.Bundles.{bundle_of}
 use Rattle.ledgers.specs.Ledgers.{Held, held_by}
 use Rattle.channel_parts.specs.declared.cargo.Cargo.{Cargo}

@@ -1,5 +1,5 @@
 -- Where memory is refused, at most one bundle is parked beside the holding.
-use Rattle.std.proofs.Common.{◌≡◌, ◌⊎◌, ⊎_elim, ◌<◌, ◌≤◌, false, List, [], ◌∷◌, ◌++◌, length, None, Result, Ok, Err, refl, sym, ap, ◌∙◌, subst, arith}
+use Rattle.std.proofs.Common.{◌≡◌, ◌⊎◌, ⊎_elim, ◌<◌, ◌≤◌, List, [], ◌∷◌, ◌++◌, length, None, Result, Ok, Err, refl, sym, ap, ◌∙◌, subst, arith}
 use Rattle.operands.specs.declared.error.XcmError.{XcmError}
 use Rattle.asset_bundles.specs.Bundles.{Bundle}
 use Rattle.xcm_program.specs.declared.instruction.Instruction.{Instruction, out-Instruction}

@@ -12,10 +12,11 @@ ghost use Rattle.xcm_executor.specs.Running.{wound_up, HaltedBefore};
 
 use asset_bundles::AssetBundle;
 use exec_assets::refund_surplus;
-use exec_base::{Boxed, Event, Host, Registers};
+use exec_base::{Event, Host, Registers};
 use exec_rules::law_of_readiness;
 use locations::Location;
 use operands::Weight;
+use plain_lists::Boxed;
 use std::alloc::{AllocError, Global};
 use std::mem;
 use xcm_program::{Outcome, OutcomeError};
@@ -129,7 +130,7 @@ fn refund<H: Host>(r: &mut Registers, h: &mut H) -> Result<(), AllocError>
     }
 }
 
-/// The same origin, in a place of its own.
+/// A copy of the origin, in a box of its own.
 fn same(alloc: Global, origin: &Option<Location>) -> Result<Option<Boxed<Location>>, AllocError>
     ensures { IfOk result (λ copy. copy ≡ origin.now) }
 {

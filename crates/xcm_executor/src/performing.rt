@@ -28,7 +28,7 @@ use std::alloc::{AllocError, Global};
 use std::mem;
 use xcm_program::Instruction;
 
-/// Executes an instruction, lent since it is more than 1,600 bytes. A program that becomes a register is moved out of it.
+/// Executes an instruction, borrowed since it is more than 1,600 bytes. A program that becomes a register is moved out of it.
 pub(crate) fn perform<H: Host>(
     alloc: Global,
     instruction: &mut Instruction,
@@ -50,13 +50,18 @@ pub(crate) fn perform<H: Host>(
             response,
             max_weight,
             querier,
-        } => query_response(r, h, *query_id, response, *max_weight, querier),
+        } => query_response(r, h, *query_id, response, *max_weight, querier.value()),
         Instruction::TransferAsset {
             assets,
             beneficiary,
-        } => transfer_asset(r, h, assets, beneficiary),
+        } => transfer_asset(r, h, assets, beneficiary.value()),
         Instruction::TransferReserveAsset { assets, dest, xcm } => transfer_reserve_asset(
-            alloc, r, h, assets, dest, xcm,
+            alloc,
+            r,
+            h,
+            assets,
+            dest.value(),
+            xcm,
         ),
         Instruction::Transact {
             origin_kind,
@@ -75,14 +80,19 @@ pub(crate) fn perform<H: Host>(
             recipient,
         } => hrmp_channel_closing(r, h, *initiator, *sender, *recipient),
         Instruction::ClearOrigin => clear_origin(r, h),
-        Instruction::DescendOrigin { interior } => descend_origin(r, h, interior),
-        Instruction::ReportError { info } => report_error(alloc, r, h, info),
+        Instruction::DescendOrigin { interior } => descend_origin(r, h, interior.value()),
+        Instruction::ReportError { info } => report_error(alloc, r, h, info.value()),
         Instruction::DepositAsset {
             assets,
             beneficiary,
-        } => deposit_asset(r, h, assets, beneficiary),
+        } => deposit_asset(r, h, assets, beneficiary.value()),
         Instruction::DepositReserveAsset { assets, dest, xcm } => deposit_reserve_asset(
-            alloc, r, h, assets, dest, xcm,
+            alloc,
+            r,
+            h,
+            assets,
+            dest.value(),
+            xcm,
         ),
         Instruction::ExchangeAsset {
             give,
@@ -93,12 +103,29 @@ pub(crate) fn perform<H: Host>(
             assets,
             reserve,
             xcm,
-        } => initiate_reserve_withdraw(alloc, r, h, assets, reserve, xcm),
+        } => initiate_reserve_withdraw(alloc, r, h, assets, reserve.value(), xcm),
         Instruction::InitiateTeleport { assets, dest, xcm } => initiate_teleport(
-            alloc, r, h, assets, dest, xcm,
+            alloc,
+            r,
+            h,
+            assets,
+            dest.value(),
+            xcm,
         ),
-        Instruction::ReportHolding { info, assets } => report_holding(alloc, r, h, info, assets),
-        Instruction::BuyExecution { fees, limit } => buy_execution(alloc, r, h, fees, *limit),
+        Instruction::ReportHolding { info, assets } => report_holding(
+            alloc,
+            r,
+            h,
+            info.value(),
+            assets,
+        ),
+        Instruction::BuyExecution { fees, limit } => buy_execution(
+            alloc,
+            r,
+            h,
+            fees.value(),
+            *limit,
+        ),
         Instruction::RefundSurplus => refund_surplus(r, h),
         Instruction::SetErrorHandler { xcm } => set_error_handler(
             r,
@@ -111,7 +138,7 @@ pub(crate) fn perform<H: Host>(
             mem::replace(xcm, no_program(alloc)),
         ),
         Instruction::ClearError => clear_error(r, h),
-        Instruction::ClaimAsset { assets, ticket } => claim_asset(r, h, assets, ticket),
+        Instruction::ClaimAsset { assets, ticket } => claim_asset(r, h, assets, ticket.value()),
         Instruction::Trap { code } => trap(r, h, *code),
         Instruction::SubscribeVersion {
             query_id,
@@ -120,7 +147,7 @@ pub(crate) fn perform<H: Host>(
         Instruction::UnsubscribeVersion => unsubscribe_version(r, h),
         Instruction::BurnAsset { assets } => burn_asset(r, h, assets),
         Instruction::ExpectAsset { assets } => expect_asset(r, h, assets),
-        Instruction::ExpectOrigin { origin } => expect_origin(r, h, origin),
+        Instruction::ExpectOrigin { origin } => expect_origin(r, h, origin.value()),
         Instruction::ExpectError { error } => expect_error(r, h, error),
         Instruction::ExpectTransactStatus { status } => expect_transact_status(r, h, status),
         Instruction::QueryPallet { module_name, info } => query_pallet(
@@ -128,7 +155,7 @@ pub(crate) fn perform<H: Host>(
             r,
             h,
             module_name,
-            info,
+            info.value(),
         ),
         Instruction::ExpectPallet {
             index,
@@ -145,25 +172,52 @@ pub(crate) fn perform<H: Host>(
             *crate_major,
             *min_crate_minor,
         ),
-        Instruction::ReportTransactStatus { info } => report_transact_status(alloc, r, h, info),
+        Instruction::ReportTransactStatus { info } => report_transact_status(
+            alloc,
+            r,
+            h,
+            info.value(),
+        ),
         Instruction::ClearTransactStatus => clear_transact_status(r, h),
         Instruction::UniversalOrigin { junction } => universal_origin(r, h, junction),
         Instruction::ExportMessage {
             network,
             destination,
             xcm,
-        } => export_message(r, h, network, destination, xcm),
-        Instruction::LockAsset { asset, unlocker } => lock_asset(alloc, r, h, asset, unlocker),
-        Instruction::UnlockAsset { asset, target } => unlock_asset(r, h, asset, target),
-        Instruction::NoteUnlockable { asset, owner } => note_unlockable(r, h, asset, owner),
-        Instruction::RequestUnlock { asset, locker } => request_unlock(alloc, r, h, asset, locker),
+        } => export_message(r, h, network, destination.value(), xcm),
+        Instruction::LockAsset { asset, unlocker } => lock_asset(
+            alloc,
+            r,
+            h,
+            asset.value(),
+            unlocker.value(),
+        ),
+        Instruction::UnlockAsset { asset, target } => unlock_asset(
+            r,
+            h,
+            asset.value(),
+            target.value(),
+        ),
+        Instruction::NoteUnlockable { asset, owner } => note_unlockable(
+            r,
+            h,
+            asset.value(),
+            owner.value(),
+        ),
+        Instruction::RequestUnlock { asset, locker } => request_unlock(
+            alloc,
+            r,
+            h,
+            asset.value(),
+            locker.value(),
+        ),
         Instruction::SetFeesMode { jit_withdraw } => set_fees_mode(r, h, *jit_withdraw),
         Instruction::SetTopic { topic } => set_topic(r, h, topic),
         Instruction::ClearTopic => clear_topic(r, h),
-        Instruction::AliasOrigin { target } => alias_origin(r, h, target),
+        Instruction::AliasOrigin { target } => alias_origin(r, h, target.value()),
         Instruction::UnpaidExecution {
             limit,
             check_origin,
-        } => unpaid_execution(r, h, *limit, check_origin),
+        } => unpaid_execution(r, h, *limit, check_origin.value()),
     }
 }

@@ -1,9 +1,7 @@
 -- Lemmas that proofs cite, in this crate and above it: an asset that is held in full is part of the holding. A reader of the contracts may
 -- skip this file.
 use Rattle.std.proofs.Common.{◌≡◌, ℕ, ◌≤◌, Bool, true, false, [], ◌∷◌, refl, sym, subst, arith}
-use Rattle.std.specs.Prelude.{nat_le}
 use Rattle.std.specs.Ordering.{eq_by_cmp}
-use Rattle.std.proofs.lemmas.Bool.Decides.{nat_tests}
 use Rattle.amounts.specs.Rows.{amount_if}
 use Rattle.amounts.specs.Amounts.{amount, IsWithin}
 use Rattle.amounts.proofs.Lemmas.{key_same}

@@ -15,7 +15,7 @@ use Rattle.exec_base.specs.Part.{ChainPart, book_of}
 use Rattle.network_steps.specs.Acting.{booking_lost}
 use Rattle.network_steps.specs.Steps.{without_message}
 use Rattle.network_steps.specs.Worlds.{Member, World}
-use Rattle.law_steps.proofs.Lemmas.StepLaws.{same_one, set_read}
+use Rattle.network_steps.proofs.Lemmas.StepLaws.{same_one, set_read}
 use Rattle.law_authority.specs.Origins.{SpendsOf, SpendsOnly, KeepsBurns}
 
 -- ---- one book of burns

@@ -21,7 +21,7 @@ use Rattle.network_steps.specs.Steps.{is_sovereign, exec_read, exec_by, exec_at,
 use Rattle.network_steps.proofs.Lemmas.CallerLaws.{by_caller}
 use Rattle.network_steps.specs.Sends.{deliveries_left}
 use Rattle.asset_pools.specs.Exchanges.{is_pool_account}
-use Rattle.law_steps.proofs.Lemmas.StepLaws.{same_one, between_says, between_at, place_says}
+use Rattle.network_steps.proofs.Lemmas.StepLaws.{same_one, between_says, between_at, place_says}
 
 -- ---- a fact of each chain's part
 module _ (P : ChainPart → Type 0) where

@@ -1,5 +1,5 @@
 -- A delivery's first instruction as a move: the list of a teleport or of a deposit comes to the receiver's holding.
-use Rattle.std.specs.Prelude.{◌≡◌, ℕ, ◌+◌, Bool, true, false, ◌&&◌, List, Option, Some, refl}
+use Rattle.std.specs.Prelude.{◌≡◌, ℕ, ◌+◌, List, Option, Some, refl}
 use Rattle.std.proofs.Common.{arith}
 use Rattle.amounts.specs.Amounts.{total, merge}
 use Rattle.amounts.proofs.Lemmas.AmountLaws.{total_alike}

@@ -1,5 +1,5 @@
 -- A teleport and a withdrawal leave the holding, and a lost teleport is booked.
-use Rattle.std.specs.Prelude.{◌≡◌, ℕ, ◌+◌, ◌≤◌, Bool, true, false, ◌&&◌, if◌then◌else◌, List, Option, Some, refl}
+use Rattle.std.specs.Prelude.{◌≡◌, ℕ, ◌+◌, ◌≤◌, Bool, true, false, if◌then◌else◌, List, Option, Some, refl}
 use Rattle.std.proofs.Common.{sym, ap, ◌∙◌, arith}
 use Rattle.amounts.specs.Amounts.{total, merge}
 use Rattle.amounts.proofs.Lemmas.AmountLaws.{total_alike}

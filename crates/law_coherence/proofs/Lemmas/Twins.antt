@@ -21,7 +21,6 @@ use Rattle.trust_tables.proofs.Lemmas.ChainLaws.{path_of-location_of, near_locat
 use Rattle.law_coherence.specs.UniversalAssets.{IsPlaced}
 use Rattle.law_coherence.specs.Renaming.{HasReanchorableUnits}
 use Rattle.law_coherence.specs.Networks.{Table, context_of, IsIn, path_of_row, AreTwins, Agrees, HasTwin}
-use Rattle.plain_lists.proofs.Lemmas.Facts.{same_some as some_same}
 
 -- ---- the twin's id is what the target names
 module _ (n : List Table) (agrees : Agrees n) (s t : Table) (s_in : IsIn n s) (t_in : IsIn n t) (l : Location) (leads : location_of s.site.chain t.site.chain ≡ Some l) where

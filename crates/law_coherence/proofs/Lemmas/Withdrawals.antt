@@ -1,5 +1,5 @@
 -- One instruction as a move: a caller's assets go from an account to the holding, by the definitions of the landed crates.
-use Rattle.std.specs.Prelude.{◌≡◌, ◌≢◌, ℕ, ◌+◌, Bool, true, false, ◌&&◌, List, refl}
+use Rattle.std.specs.Prelude.{◌≡◌, ◌≢◌, ℕ, ◌+◌, ◌&&◌, List, refl}
 use Rattle.std.specs.Ordering.{eq_by_cmp}
 use Rattle.std.proofs.Common.{sym, ap, ◌∙◌, arith}
 use Rattle.amounts.specs.Amounts.{total, merge, difference, IsWithin}

@@ -1,7 +1,7 @@
 -- Lemmas on the definitions of `specs/Calls.antt`: what proofs cite.
 use Rattle.std.proofs.Common.{◌≡◌, inl, inr, ℕ, zero, suc, ◌+◌, ◌-◌, ◌^◌, ◌<◌, ◌≤◌, Bool, true, false, ◌&&◌, List, [], ◌∷◌, length, Option, Some, None, get_or, refl, sym, ap, ◌∙◌, subst, arith}
 use Rattle.std.proofs.lemmas.Bool.{cases_Bool}
-use Rattle.std.specs.Prelude.{◌++◌, nat_le, nat_lt, is_some, if◌then◌else◌, remove, position, IsTrue, min}
+use Rattle.std.specs.Prelude.{◌++◌, nat_le, is_some, if◌then◌else◌, remove, position, IsTrue, min}
 use Rattle.std.specs.Option.{option_map_or}
 use Rattle.std.specs.List.{sum_by}
 use Rattle.std.specs.Ordering.{eq_by_cmp}

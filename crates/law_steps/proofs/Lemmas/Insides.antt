@@ -27,7 +27,6 @@ use Rattle.network_steps.specs.Steps.{name_at, Link, Step, worlds}
 use Rattle.channel_parts.specs.declared.cargo.Cargo.TheVariants as cargos
 use Rattle.law_coherence.specs.Networks.{Table, IsIn, Agrees}
 use Rattle.law_coherence.specs.Parts as sums
-use Rattle.law_coherence.specs.Parts.{WorldView}
 use Rattle.law_coherence.specs.Steps.{tables_of, IsSafe}
 use Rattle.law_coherence.proofs.Lemmas.Steps.{table_at}
 use Rattle.law_coherence.specs.Histories.{One}

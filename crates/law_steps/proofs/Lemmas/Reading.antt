@@ -1,11 +1,10 @@
 -- Lemmas on the definitions of `specs/Reading.antt`: what proofs cite.
-use Rattle.std.proofs.Common.{◌≡◌, ⊎_elim, ℕ, ◌^◌, ◌<◌, Bool, true, false, List, [], ◌∷◌, Option, Some, Ok, refl, sym, ap, ◌∙◌, subst, arith, take, drop}
+use Rattle.std.proofs.Common.{◌≡◌, ⊎_elim, ℕ, ◌^◌, ◌<◌, Bool, true, false, List, [], ◌∷◌, Option, Some, Ok, sym, ap, ◌∙◌, subst, arith, take, drop}
 use Rattle.std.specs.Prelude.{◌||◌, MatchResult}
 use Rattle.std.specs.Int.{from_le_bytes, w32}
 use Rattle.std.specs.Str.{bytes_eq}
 use Rattle.std.specs.List.{AllByRecursion}
 use Rattle.std.proofs.lemmas.Nat.{from_le_bytes-to_le_bytes_4}
-use Rattle.std.proofs.lemmas.Slice.Eq.{bytes_eq-Decides}
 use Rattle.operands.specs.declared.version.Version.{Version}
 use Rattle.trust_tables.specs.Accounts.{labelled, child_account, sibling_account, parent_account, IsSovereign}
 use Rattle.xcm_program.specs.declared.instruction.Instruction.{Instruction, out-Instruction}

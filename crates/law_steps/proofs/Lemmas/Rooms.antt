@@ -31,7 +31,6 @@ use Rattle.law_runs.specs.Views.{table_of}
 use Rattle.law_runs.specs.Sums.{in_kept, in_places, burned_where, Sum, none, most, HasRoom}
 use Rattle.law_runs.proofs.Lemmas.Sums.{sum_of, with}
 use Rattle.law_steps.specs.Rooms.{unlisted, AllListed}
-use Rattle.plain_lists.proofs.Lemmas.Facts.{false_where_not_true as not_true}
 
 -- no listed asset passes 2^127, with what comes in
 abbrev pub IsSmall : Sum → ChainPart → Type 0

@@ -42,7 +42,7 @@ use Rattle.network_steps.proofs.Lemmas.CallerLaws.{by_caller}
 use Rattle.asset_pools.specs.Exchanges.{is_pool_account}
 use Rattle.network_steps.specs.Sends.{deliveries_left}
 use Rattle.law_steps.specs.Shapes.{IsShaped, AreShapedIn, AreShapedAt, AllShaped}
-use Rattle.law_steps.proofs.Lemmas.StepLaws.{between_says, set_read}
+use Rattle.network_steps.proofs.Lemmas.StepLaws.{between_says, set_read}
 use Rattle.law_coherence.specs.UniversalAssets.{UniversalAsset, just}
 use Rattle.law_coherence.specs.Networks.{asset_of_row, Agrees}
 use Rattle.law_coherence.specs.Parts.{Cargo, Nothing, WorldView, stock, account_amount, burned}

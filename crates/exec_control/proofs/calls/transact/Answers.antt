@@ -1,4 +1,4 @@
-use Rattle.std.proofs.Common.{◌≡◌, Bool, true, Some, Ok, List, ℕ, ap, ◌∙◌, sym, subst}
+use Rattle.std.proofs.Common.{◌≡◌, true, Some, Ok, ap, ◌∙◌, sym}
 use Rattle.trust_tables.specs.Accounts.{account_of}
 use Rattle.trust_tables.specs.declared.chains.Site.{Site}
 use Rattle.call_dispatch.specs.Reading.{call_of}

@@ -1,4 +1,4 @@
-use Rattle.std.proofs.Common.{Ok, Err, refl, ap, sym, ◌∙◌, Some}
+use Rattle.std.proofs.Common.{Ok, Err, ap, sym, ◌∙◌, Some}
 use Rattle.exec_base.specs.Host.{fee_to}
 use Rattle.exec_rules.specs.Machine.{machine}
 use Rattle.exec_holding.specs.Charging.{Begins}

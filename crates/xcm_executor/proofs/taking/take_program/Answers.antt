@@ -1,4 +1,4 @@
-use Rattle.std.proofs.Common.{◌≡◌, ◌+◌, ◌-◌, ◌<◌, ◌^◌, ◌∷◌, [], List, length, length-set, drop, take, sym, ap, ◌∙◌, arith, rules, subst, refl}
+use Rattle.std.proofs.Common.{◌+◌, ◌-◌, ◌<◌, ◌^◌, List, length, length-set, take, sym, ap, ◌∙◌, arith, rules, subst, refl}
 use Rattle.std.specs.Prelude.{slice_set}
 use Rattle.std.proofs.lemmas.Result.{err_from_is_err_and}
 use Rattle.weight_trader.specs.Sums.{weight_sum}
@@ -6,7 +6,7 @@ use Rattle.xcm_program.specs.declared.instruction.Instruction.{Instruction}
 use Rattle.xcm_program.specs.Measure.{deep_count}
 use Rattle.xcm_program.specs.Weights.{ref_time_of, proof_size_of}
 use Rattle.exec_rules.specs.Machine.{machine}
-use Rattle.xcm_executor.proofs.Standing.{accounted, place_fits, nil, stands_init, stands_ready, stands_more, stands_stopped, failed_weighable, failed_short, failed_small, failed_goes_on, began_more, failed_began, ended_goes_on, ended_short, ended_small}
+use Rattle.xcm_executor.proofs.Standing.{accounted, place_fits, stands_init, stands_ready, stands_more, stands_stopped, failed_weighable, failed_short, failed_small, failed_goes_on, began_more, failed_began, ended_goes_on, ended_short, ended_small}
 use Rattle.xcm_executor.proofs.Taken.{at_hand, behind_stays, rest_of, none_left}
 use Rattle.xcm_executor.proofs.taking.take_program.Goals as goal
 
