@@ -1,8 +1,12 @@
-//! Steps to be timed: assets go from the relay chain to a parachain and come back, again and again. The words are `STEPS PARACHAINS`: how
-//! many steps are taken, and how many parachains the network has, from 1 to 63. What is written is how many of the steps ended complete,
-//! which are all.
+//! Steps and deposits to be timed. Steps: assets go from the relay chain to a parachain and come back, again and again. The words are `STEPS
+//! PARACHAINS ACCOUNTS DEPOSITS`: how many steps are taken, and how many parachains the network has, from 1 to 63; how many accounts a ledger
+//! has, and how many deposits more are made to the first. What is written is how many of the steps ended complete, which are all, and in the
+//! next line how many of the later sums are right: after the k-th of them all accounts have ACCOUNTS + k.
 #![tactic(auto)]
 
+mod deposits;
+
+use crate::deposits::deposited;
 use chain_ids::ChainId;
 use chain_net::Net;
 use network_steps::StepResult;
@@ -107,10 +111,23 @@ fn timed(alloc: Global, steps: u64, others: u32) -> Result<u64, AllocError> {
     stepped(&mut net, steps, &there, &back)
 }
 
-/// The two numbers.
-fn numbers(words: &[String]) -> Option<(u64, u32)> {
+/// What is timed.
+struct Counts {
+    steps: u64,
+    parachains: u32,
+    accounts: u64,
+    deposits: u64,
+}
+
+/// The four numbers.
+fn counts(words: &[String]) -> Option<Counts> {
     match words {
-        [_, steps, parachains] => Some((steps.parse().ok()?, parachains.parse().ok()?)),
+        [_, steps, parachains, accounts, deposits] => Some(Counts {
+            steps: steps.parse().ok()?,
+            parachains: parachains.parse().ok()?,
+            accounts: accounts.parse().ok()?,
+            deposits: deposits.parse().ok()?,
+        }),
         _ => None,
     }
 }
@@ -118,13 +135,14 @@ fn numbers(words: &[String]) -> Option<(u64, u32)> {
 fn main(rt: HostRuntime) -> io::Result<ExitCode> {
     let alloc = rt.alloc();
     let words: Vec<String> = env::args(&rt)?.collect(alloc)?;
-    match numbers(&words) {
-        Some((steps, parachains)) if parachains > 0 => {
-            println!(rt; "{}", timed(alloc, steps, parachains - 1)?)?;
+    match counts(&words) {
+        Some(counts) if counts.parachains > 0 => {
+            println!(rt; "{}", timed(alloc, counts.steps, counts.parachains - 1)?)?;
+            println!(rt; "{}", deposited(alloc, counts.accounts, counts.deposits)?)?;
             Ok(ExitCode::SUCCESS)
         }
         _ => {
-            println!(rt; "usage: bench_net STEPS PARACHAINS")?;
+            println!(rt; "usage: bench_net STEPS PARACHAINS ACCOUNTS DEPOSITS")?;
             Ok(ExitCode::from(2))
         }
     }

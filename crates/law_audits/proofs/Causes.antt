@@ -1,8 +1,6 @@
 -- One asset of a chain: units by their id and kind, and burns by their four causes.
 use Rattle.std.specs.Prelude.{◌≡◌, Bool, true, false, ◌&&◌, not, Option, Some, None, refl}
-use Rattle.std.specs.Ordering.{eq_by_cmp, is_eq, ordering_then, nat_cmp}
-use Rattle.std.specs.declared.cmp.Ordering.{Ordering}
-use Rattle.std.specs.declared.cmp.Ordering.TheVariants.{Less, Equal, Greater}
+use Rattle.std.specs.Ordering.{eq_by_cmp, is_eq, nat_cmp}
 use Rattle.std.proofs.Common.{sym, ap, ◌∙◌, arith}
 use Rattle.amounts.specs.Amounts.{total}
 use Rattle.amounts.proofs.Lemmas.AmountLaws.{total_alike, total_split, amount-total}

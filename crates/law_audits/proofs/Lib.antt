@@ -5,3 +5,9 @@ mod Places
 mod Cargoes
 mod Messages
 mod Networks
+mod CheckingRows
+mod Calls
+mod Refusals
+mod Runs
+mod Firsts
+mod Worlds

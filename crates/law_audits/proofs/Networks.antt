@@ -22,7 +22,7 @@ use Rattle.exec_base.specs.Part.{ChainPart}
 use Rattle.law_coherence.specs.UniversalAssets.{UniversalAsset, every, just, is_unit_at}
 use Rattle.law_coherence.specs.Networks.{Table, asset_of_row, is_home, Agrees}
 use Rattle.law_coherence.specs.Parts as sums
-use Rattle.law_coherence.specs.Parts.{Whole, stock, own, supply, owed, Backed}
+use Rattle.law_coherence.specs.Parts.{Whole, stock, own, supply, Backed}
 use Rattle.law_coherence.proofs.Lemmas.Bounds.{account_at_most, home_at_most, reserve_of}
 use Rattle.law_coherence.specs.Steps.{tables_of}
 use Rattle.law_coherence.proofs.Lemmas.Steps.{table_at}

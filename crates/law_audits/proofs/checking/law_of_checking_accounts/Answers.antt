@@ -1,9 +1,9 @@
 use Rattle.network_steps.specs.Genesis.{first_world, order_of}
 use Rattle.law_authority.proofs.Lemmas.WaitingLaws.{nothing_waits}
-use Rattle.law_checking.proofs.Calls.{LawsOfMoves}
-use Rattle.law_checking.proofs.Firsts.{first_sound}
-use Rattle.law_checking.proofs.Worlds.{stay_below}
-use Rattle.law_checking.proofs.laws.law_of_checking_accounts.Goals as goal
+use Rattle.law_audits.proofs.Calls.{LawsOfMoves}
+use Rattle.law_audits.proofs.Firsts.{first_sound}
+use Rattle.law_audits.proofs.Worlds.{stay_below}
+use Rattle.law_audits.proofs.checking.law_of_checking_accounts.Goals as goal
 
 pub returns : goal.returns
 returns c = λ spec steps openable.

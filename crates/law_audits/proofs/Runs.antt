@@ -27,9 +27,9 @@ use Rattle.law_steps.proofs.Lemmas.Admitting.{admitted_lists}
 use Rattle.law_authority.specs.Floors.{WaitInOrder}
 use Rattle.law_authority.proofs.Lemmas.ListLaws.{open_list, inside_lists, refund_lists, program_ahead}
 use Rattle.law_authority.proofs.Lemmas.WaitingLaws.{call_lists}
-use Rattle.law_checking.specs.Ends.{MayTeleport}
-use Rattle.law_checking.proofs.Calls.{LawsOfMoves, IsBounded, in_hands, bounded_less, call_bounded}
-use Rattle.law_checking.proofs.Refusals.{never_too_full}
+use Rattle.law_audits.specs.Ends.{MayTeleport}
+use Rattle.law_audits.proofs.Calls.{LawsOfMoves, IsBounded, in_hands, bounded_less, call_bounded}
+use Rattle.law_audits.proofs.Refusals.{never_too_full}
 
 -- a chain between runs: and the lists of what waits are in order
 abbrev pub IsBoundedPart : ChainPart → Type 0

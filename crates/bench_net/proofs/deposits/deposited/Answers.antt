@@ -3,7 +3,7 @@ use Rattle.std.specs.Ordering.{eq_by_cmp}
 use Rattle.std.specs.List.{IsDistinct}
 use Rattle.asset_lists.specs.Listed.{listed_cmp}
 use Rattle.ledgers.specs.Ledgers.{listed_pair}
-use Rattle.bench_ledger.proofs.deposited.Goals as goal
+use Rattle.bench_net.proofs.deposits.deposited.Goals as goal
 
 pub open-requires-clause-distinct : goal.open-requires-clause-distinct
 unfolding IsDistinct

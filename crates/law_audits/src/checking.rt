@@ -4,7 +4,7 @@ ghost use Rattle.network_spec.specs.declared.network.NetworkSpec.{NetworkSpec};
 ghost use Rattle.network_steps.specs.Genesis.{first_world, order_of};
 ghost use Rattle.network_steps.specs.Openable.{IsOpenable};
 ghost use Rattle.network_steps.specs.Steps.{Step};
-ghost use Rattle.law_checking.specs.Ends.{StayBelowEnd};
+ghost use Rattle.law_audits.specs.Ends.{StayBelowEnd};
 
 use asset_bundles::law_of_traps;
 use exec_rules::law_of_orderly_instructions;

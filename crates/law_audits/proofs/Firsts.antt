@@ -46,9 +46,9 @@ use Rattle.network_steps.specs.Worlds.{Member}
 use Rattle.law_runs.specs.Safety.{AreFees}
 use Rattle.law_runs.specs.Sums.{in_kept, none}
 use Rattle.law_authority.specs.Floors.{AllInOrder}
-use Rattle.law_checking.specs.Ends.{is_of_row, AreBelowEnd}
-use Rattle.law_checking.proofs.Calls.{AreNative, IsBounded}
-use Rattle.law_checking.proofs.Runs.{IsBoundedPart}
+use Rattle.law_audits.specs.Ends.{is_of_row, AreBelowEnd}
+use Rattle.law_audits.proofs.Calls.{AreNative, IsBounded}
+use Rattle.law_audits.proofs.Runs.{IsBoundedPart}
 
 -- ---- rows and their accounts
 same_account : (x y : Option ℕ) → Some x ≡ Some y → x ≡ y

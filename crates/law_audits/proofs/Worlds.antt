@@ -31,9 +31,9 @@ use Rattle.law_authority.specs.Floors.{HasLists}
 use Rattle.law_authority.proofs.Lemmas.ListLaws.{decoded_lists}
 use Rattle.law_authority.proofs.Lemmas.StepLaws.{there_at, exec_keeps, deliver_keeps, claim_keeps, worlds_keep}
 use Rattle.law_authority.proofs.Lemmas.WaitingLaws.{popped_lists, queued_lists, oldest_lists}
-use Rattle.law_checking.specs.Ends.{AllBelowEnd, StayBelowEnd}
-use Rattle.law_checking.proofs.Calls.{LawsOfMoves}
-use Rattle.law_checking.proofs.Runs.{IsBoundedPart, executed_sound, stopped_sound, reached_teleports}
+use Rattle.law_audits.specs.Ends.{AllBelowEnd, StayBelowEnd}
+use Rattle.law_audits.proofs.Calls.{LawsOfMoves}
+use Rattle.law_audits.proofs.Runs.{IsBoundedPart, executed_sound, stopped_sound, reached_teleports}
 
 -- ---- parts that differ in what is told, delivered, burned and sent
 begun_sound : (sender : ChainId) (cargo : Cargo) (p : ChainPart) → IsBoundedPart p → IsBoundedPart (begun sender cargo p)

@@ -1,7 +1,5 @@
-//! Deposits to be timed: 1 to each of so many accounts, which rise by bytes, then so many more to the first of them, with the
-//! asset's sum over all accounts asked for after each. The words are `ACCOUNTS DEPOSITS`; what is written is how many of the
-//! later sums are right: after the k-th of them all accounts have ACCOUNTS + k.
-#![tactic(auto)]
+//! Deposits: 1 to each of so many accounts, which rise by bytes, then so many more to the first of them, with the asset's sum over all accounts
+//! asked for after each.
 
 ghost use Rattle.std.specs.Prelude.{◌≡◌, [], ◌∷◌};
 ghost use Rattle.asset_lists.specs.declared.units.Kind.{Kind};
@@ -12,8 +10,6 @@ use asset_lists::{Asset, AssetId, Fun, Kind};
 use ledgers::Ledger;
 use locations::{Junctions, Location};
 use std::alloc::{AllocError, Global};
-use std::process::ExitCode;
-use std::{env, io};
 
 /// The chain's own asset.
 fn here() -> Location
@@ -84,32 +80,9 @@ fn deposit_to_first(
 }
 
 /// All deposits, and after how many of the later ones the sum was right.
-fn deposited(alloc: Global, accounts: u64, deposits: u64) -> Result<u64, AllocError> {
+pub(crate) fn deposited(alloc: Global, accounts: u64, deposits: u64) -> Result<u64, AllocError> {
     let list = Vec::from_array(alloc, [(here(), Kind::Fungible)])?;
     let mut ledger = Ledger::open(alloc, list)?;
     deposit_to_each(&mut ledger, alloc, accounts)?;
     deposit_to_first(&mut ledger, alloc, accounts, deposits)
-}
-
-/// The two numbers.
-fn numbers(words: &[String]) -> Option<(u64, u64)> {
-    match words {
-        [_, accounts, deposits] => Some((accounts.parse().ok()?, deposits.parse().ok()?)),
-        _ => None,
-    }
-}
-
-fn main(rt: HostRuntime) -> io::Result<ExitCode> {
-    let alloc = rt.alloc();
-    let words: Vec<String> = env::args(&rt)?.collect(alloc)?;
-    match numbers(&words) {
-        Some((accounts, deposits)) if accounts > 0 => {
-            println!(rt; "{}", deposited(alloc, accounts, deposits)?)?;
-            Ok(ExitCode::SUCCESS)
-        }
-        _ => {
-            println!(rt; "usage: bench_ledger ACCOUNTS DEPOSITS")?;
-            Ok(ExitCode::from(2))
-        }
-    }
 }

@@ -38,7 +38,7 @@ use Rattle.exec_base.specs.Part.{ChainPart}
 use Rattle.exec_base.specs.Sending.{unless, or_else}
 use Rattle.exec_base.specs.Host.{first_fault, trust_fault, checking_of, lower_fault, raise_fault, changed_rows, changed_all}
 use Rattle.exec_rules.proofs.Lemmas.AnswerLaws.{unless_held, none_first, none_next}
-use Rattle.law_checking.specs.Ends.{is_of_row}
+use Rattle.law_audits.specs.Ends.{is_of_row}
 use Rattle.plain_lists.proofs.Lemmas.Facts.{false_not_true as not_both, told_at_most as at_most}
 
 abbrev pub RowsApart : List AssetRow → Type 0

@@ -7,7 +7,7 @@ use Rattle.asset_bundles.specs.Bundles.{bundle_of}
 use Rattle.asset_lists.specs.Listed.{Listed}
 use Rattle.asset_bundles.specs.Books.{AreListed}
 use Rattle.asset_bundles.proofs.Lemmas.{listed_list}
-use Rattle.bench_ledger.proofs.deposit.Goals as goal
+use Rattle.bench_net.proofs.deposits.deposit.Goals as goal
 
 here : Location
 here = record { parents = 0; interior = [] }

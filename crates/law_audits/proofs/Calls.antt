@@ -50,8 +50,8 @@ use Rattle.law_runs.specs.Safety.{HasFee, HasList, AreFees}
 use Rattle.law_runs.proofs.Lemmas.Safety.{links_put, fee_in_order}
 use Rattle.law_runs.proofs.Lemmas.Turns.{paid_parts}
 use Rattle.law_runs.proofs.Lemmas.Accepted.{taking_fee}
-use Rattle.law_checking.specs.Ends.{is_of_row, AreBelowEnd}
-use Rattle.law_checking.proofs.Rows.{RowsApart, listed_sum, sum_is, all_raised, all_lowered, was_there, none_deposited, unit_of_row, all_covered, held_less}
+use Rattle.law_audits.specs.Ends.{is_of_row, AreBelowEnd}
+use Rattle.law_audits.proofs.CheckingRows.{RowsApart, listed_sum, sum_is, all_raised, all_lowered, was_there, none_deposited, unit_of_row, all_covered, held_less}
 
 -- ---- what the chain has, with what is held and what is in hand
 abbrev pub has : (Unit → Bool) → MachineWithGoods → ℕ

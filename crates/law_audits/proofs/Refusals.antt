@@ -26,9 +26,9 @@ use Rattle.exec_rules.specs.HostCalls.{MachineWithGoods, between, here, MachineC
 use Rattle.exec_rules.specs.Reasons.{is_test_error, Moment, HasReason}
 use Rattle.exec_rules.proofs.Lemmas.ReasonLaws.{refusal_shows}
 use Rattle.law_runs.specs.Safety.{HasList}
-use Rattle.law_checking.specs.Ends.{IsNeverTooFull}
-use Rattle.law_checking.proofs.Rows.{held_less, LeavesRoom, all_rise}
-use Rattle.law_checking.proofs.Calls.{LawsOfMoves, IsBounded, in_hands, call_bounded}
+use Rattle.law_audits.specs.Ends.{IsNeverTooFull}
+use Rattle.law_audits.proofs.CheckingRows.{held_less, LeavesRoom, all_rise}
+use Rattle.law_audits.proofs.Calls.{LawsOfMoves, IsBounded, in_hands, call_bounded}
 
 -- ---- refusals for other reasons
 abbrev IsOther : Option XcmError → Type 0

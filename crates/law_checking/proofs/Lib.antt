@@ -1,6 +1,0 @@
-mod Rows
-mod Calls
-mod Refusals
-mod Runs
-mod Firsts
-mod Worlds
