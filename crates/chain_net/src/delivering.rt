@@ -6,7 +6,6 @@ ghost use Rattle.channel_parts.specs.Channels.{Outgoing};
 ghost use Rattle.chain_queues.specs.Queues.{waiting_of, oldest, channel_to};
 ghost use Rattle.network_steps.specs.Steps.{deliver, Deliver};
 ghost use Rattle.chain_state.specs.PartOf.{part_of};
-ghost use Rattle.chain_net.specs.Chains.{name_of};
 ghost use Rattle.chain_net.specs.Nets.{world_of, spec_of, is_stopped, trace_of, stepped};
 ghost use Rattle.chain_net.specs.Sound.{AreBetweenSteps};
 ghost use Rattle.law_steps.specs.Shapes.{AllShaped};

@@ -10,7 +10,7 @@ ghost use Rattle.exec_base.specs.Host.{told};
 ghost use Rattle.exec_base.specs.declared.event.Event.TheVariants as events;
 ghost use Rattle.channel_parts.specs.declared.cargo.Cargo.TheVariants.{Nothing};
 ghost use Rattle.exec_rules.specs.Readiness.{IsAtRest};
-ghost use Rattle.exec_rules.specs.Execution.{executed, IsAbandoned};
+ghost use Rattle.exec_rules.specs.Execution.{executed};
 ghost use Rattle.network_steps.specs.Acting as acting;
 ghost use Rattle.network_steps.specs.Acting.{begun, acted};
 ghost use Rattle.network_steps.specs.Steps.{name_at};

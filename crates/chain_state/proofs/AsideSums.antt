@@ -1,11 +1,9 @@
 -- What is kept aside, summand by summand.
-use Rattle.std.proofs.Common.{◌≡◌, ℕ, ◌+◌, ◌<◌, Bool, true, false, ◌&&◌, if◌then◌else◌, List, [], ◌∷◌, length, get_or, take, map, refl, sym, ap, ◌∙◌, subst, arith, min, true≢false}
+use Rattle.std.proofs.Common.{◌≡◌, ℕ, ◌+◌, ◌<◌, true, false, if◌then◌else◌, List, [], ◌∷◌, length, get_or, take, map, refl, sym, ap, ◌∙◌, subst, arith, min, true≢false}
 use Rattle.std.specs.Prelude.{Option, None, Some, is_some, is_none}
 use Rattle.std.specs.FinMap.{find}
 use Rattle.std.proofs.lemmas.Bool.{and_parts}
-use Rattle.std.specs.Ordering.{is_eq, ordering_then, eq_by_cmp}
-use Rattle.std.specs.declared.cmp.Ordering.{Ordering}
-use Rattle.std.specs.declared.cmp.Ordering.TheVariants.{Less, Equal, Greater}
+use Rattle.std.specs.Ordering.{is_eq, eq_by_cmp}
 use Rattle.std.proofs.lemmas.List.Sums.{sum_by_more}
 use Rattle.amounts.specs.Rows.{amount_if, sum_where}
 use Rattle.amounts.specs.Amounts.{amount}

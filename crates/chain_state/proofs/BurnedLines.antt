@@ -1,7 +1,6 @@
 -- The lines of assets that are burned.
-use Rattle.std.proofs.Common.{◌≡◌, ℕ, ◌+◌, ◌-◌, ◌/◌, ◌%◌, ◌^◌, ◌<◌, Bool, true, List, [], ◌∷◌, length, get_or, drop, min, refl, sym, ap, ◌∙◌, subst, arith, zero, suc}
+use Rattle.std.proofs.Common.{◌≡◌, ℕ, ◌+◌, ◌-◌, ◌/◌, ◌%◌, ◌^◌, ◌<◌, true, List, [], ◌∷◌, length, drop, min, refl, sym, ap, ◌∙◌, subst, arith, zero, suc}
 use Rattle.std.specs.Prelude.{Option, None, Some, is_some, slice_get, nat_le}
-use Rattle.std.specs.List.{list_all}
 use Rattle.std.proofs.lemmas.Bool.{and_parts}
 use Rattle.locations.specs.declared.grammar.Junction.{Junction}
 use Rattle.locations.specs.declared.relative.Location.{Location}
@@ -21,7 +20,6 @@ use Rattle.exec_base.specs.declared.event.Event.{Event}
 use Rattle.exec_base.specs.Host.{total_of, trapped_lines}
 use Rattle.network_steps.specs.Tests.{has_path, have_paths}
 use Rattle.chain_state.specs.Lines.{trap_events_from}
-use Rattle.plain_lists.proofs.Lemmas.Facts.{all_at}
 
 less_whole : (n m : ℕ) → n < m → n % m ≡ n
 less_whole n m small = grind (arith, small)

@@ -1,5 +1,5 @@
 -- The channel that leads to a location, among the queues and among what they mean.
-use Rattle.std.proofs.Common.{◌≡◌, ℕ, ◌++◌, Bool, true, false, List, [], ◌∷◌, length, refl, sym, ap, ◌∙◌, true≢false}
+use Rattle.std.proofs.Common.{◌≡◌, ℕ, ◌++◌, true, false, List, [], ◌∷◌, length, sym, ap, ◌∙◌, true≢false}
 use Rattle.std.specs.Prelude.{Option, None, Some, is_ok}
 use Rattle.std.specs.List.{find}
 use Rattle.std.specs.Option.{option_map, option_map_or}

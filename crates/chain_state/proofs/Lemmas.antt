@@ -1,7 +1,8 @@
--- Proofs that a reader skips: what rows in order keep, and the rows of a bundle whose assets all have one.
+-- Proofs that a reader skips: what rows in order keep, lists changed in place, and the rows of a bundle whose assets all have one.
 pub mod Facts
 pub mod Fees
 pub mod Known
+pub mod Mapped
 use Rattle.std.specs.Prelude.{◌≡◌, ℕ, zero, suc, ◌+◌, ◌-◌, ◌<◌, min, Bool, true, false, nat_lt, if◌then◌else◌, List, [], ◌∷◌, ◌++◌, map, length, get_or, Option, Some, None, is_some, unwrap_or, refl}
 use Rattle.std.specs.Option.{option_map}
 use Rattle.std.specs.List.{AllByRecursion, filter}

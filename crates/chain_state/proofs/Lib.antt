@@ -36,6 +36,5 @@ pub mod ListRows
 pub mod NamedLists
 pub mod Listings
 pub mod CheckingRows
-mod Mapped
 mod Openings
 mod ReadingFacts

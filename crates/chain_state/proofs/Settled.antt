@@ -1,6 +1,6 @@
 -- What the fee account gets of each asset, and what would pass 2^128-1 there.
 use Rattle.std.proofs.Common.{◌≡◌, ℕ, zero, suc, ◌+◌, ◌-◌, ◌^◌, ◌<◌, ◌≤◌, Bool, true, false, ◌||◌, List, [], ◌∷◌, ◌++◌, map, length, get_or, drop, refl, sym, ap, ◌∙◌, subst, arith, T, true≢false, add-one, drop-cons, append_assoc}
-use Rattle.std.specs.Prelude.{None, Some, Result, Ok, Err, OnOk, OnErr, is_some, is_none, if◌then◌else◌, nat_lt, nat_eq, unwrap_or}
+use Rattle.std.specs.Prelude.{None, Some, Result, Ok, Err, OnOk, OnErr, is_some, is_none, if◌then◌else◌, nat_lt, unwrap_or}
 use Rattle.std.specs.Ordering.{eq_by_cmp}
 use Rattle.std.specs.FinMap as entries
 use Rattle.std.specs.Map.{keys_of}

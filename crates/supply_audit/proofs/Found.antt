@@ -234,6 +234,6 @@ own_way Teleport Withdrawal e id kind units = absurd cc
 pub shipped : (way own : Way) (units : Bundle) (assets : List Asset) → bundle_of assets ≡ units → way ≡ own → (k : Listed) → sum_by (list_share k.0 k.1) assets ≡ by_way way own k.0 k.1 units
 shipped way own units assets bundle same k = in_list_is k.0 k.1 assets ∙ ap (asset_amount_in k.0 k.1) bundle ∙ own_way way own same k.0 k.1 units
 
--- what was lent is written back whole
+-- what was borrowed is written back whole
 pub whole : (n : ℕ) (xs ys : List Total) → length xs ≡ n → take n (xs ++ ys) ≡ xs
 whole n xs ys many = ap (λ m. take m (xs ++ ys)) (sym many) ∙ take-append_seam xs ys

@@ -20,7 +20,7 @@ use chain_queues::Cargo;
 use exec_base::HostFault;
 use locations::{Junction, Junctions, Location};
 use operands::XcmError;
-use plain_lists::Listed;
+use plain_lists::{Boxed, Listed};
 use std::alloc::{AllocError, Global};
 use trust_tables::account_of;
 use xcm_program::{Instruction, Program};
@@ -44,6 +44,8 @@ fn note_of(alloc: Global, asset: Asset, owner: Location) -> Result<Program, Allo
         ≡ roll-Instruction (Instruction-F.NoteUnlockable asset owner) ∷ []) }
 {
     let mut items = Vec::with_capacity(alloc, 1)?;
+    let asset = Boxed::new(alloc, asset)?;
+    let owner = Boxed::new(alloc, owner)?;
     items.push(Instruction::NoteUnlockable { asset, owner })?;
     Ok(Listed::from_vec(items))
 }
@@ -54,6 +56,8 @@ fn unlock_of(alloc: Global, asset: Asset, target: Location) -> Result<Program, A
         ≡ roll-Instruction (Instruction-F.UnlockAsset asset target) ∷ []) }
 {
     let mut items = Vec::with_capacity(alloc, 1)?;
+    let asset = Boxed::new(alloc, asset)?;
+    let target = Boxed::new(alloc, target)?;
     items.push(Instruction::UnlockAsset { asset, target })?;
     Ok(Listed::from_vec(items))
 }

@@ -1,5 +1,5 @@
 //! Delivery fees.
-ghost use Rattle.std.specs.Prelude.{◌≡◌, IfSome, OnOk, option_copied, None, [], ◌∷◌};
+ghost use Rattle.std.specs.Prelude.{◌≡◌, [], ◌∷◌};
 ghost use Rattle.amounts.specs.Amounts.{empty};
 ghost use Rattle.exec_base.specs.Host.{IsFeeOrNothing, fee_held, fee_taken, fee_kept};
 ghost use Rattle.chain_state.specs.PartOf.{part_of};

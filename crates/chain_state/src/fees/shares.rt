@@ -17,9 +17,10 @@ ghost use Rattle.chain_state.specs.Settling.{are_units_listed, asset_of_amount, 
 use crate::ChainState;
 use crate::fees::fee_excess::FeeExcess;
 use crate::fees::wide::parted;
-use asset_bundles::{Cause, Total, WideSum};
+use asset_bundles::{Cause, Total, WideSum, make_room};
 use asset_lists::{Asset, AssetId, Fun, Kind, push_asset};
-use exec_base::{Boxed, Event};
+use exec_base::Event;
+use plain_lists::Boxed;
 use std::alloc::AllocError;
 
 /// Adds so much of a fungible asset to the list, if it isn't 0.
@@ -29,7 +30,7 @@ fn push_coins(list: &mut Vec<Asset>, id: &AssetId, amount: u128) -> Result<(), A
     if amount == 0 {
         return Ok(());
     }
-    list.reserve(1)?;
+    make_room(list)?;
     push_asset(list, id, Fun::Fungible(amount));
     Ok(())
 }

@@ -1,6 +1,5 @@
 //! Weight that is bought, and given back.
-ghost use Rattle.std.specs.Prelude.{◌≡◌, IfOk, IsTrue, OnOk};
-ghost use Rattle.std.specs.List.{AllByRecursion};
+ghost use Rattle.std.specs.Prelude.{◌≡◌, IfOk};
 ghost use Rattle.asset_bundles.specs.declared.book.Cause.{Cause};
 ghost use Rattle.weight_trader.specs.Purchases.{excess_of};
 ghost use Rattle.weight_trader.specs.Refunds.{refund_of};

@@ -13,8 +13,9 @@ ghost use Rattle.chain_state.specs.Lines.{cause_by, trap_events_from};
 use crate::ChainState;
 use asset_bundles::{AssetBundle, Cause, Total};
 use asset_lists::{Asset, AssetId, Fun};
-use exec_base::{Boxed, Event};
+use exec_base::Event;
 use locations::Junctions;
+use plain_lists::Boxed;
 use std::alloc::AllocError;
 
 /// Why the asset is burned: for the given cause, or as what a join gives up.

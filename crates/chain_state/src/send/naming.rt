@@ -3,6 +3,7 @@ ghost use Rattle.std.specs.Prelude.{◌≡◌, None, Some, MatchOption, IfOk};
 ghost use Rattle.asset_lists.specs.Moves.{all_reanchored, reanchored_list};
 ghost use Rattle.trust_tables.specs.Chains as chains;
 
+use asset_bundles::make_room;
 use asset_lists::{Asset, is_rising, push_reanchored};
 use chain_ids::ChainId;
 use locations::{Junctions, Location};
@@ -33,7 +34,7 @@ fn all_reanchored(
 {
     let mut all = Vec::new(alloc);
     for asset in list {
-        all.reserve(1)?;
+        make_room(&mut all)?;
         if !push_reanchored(&mut all, asset, target, context) {
             return Ok(None);
         }

@@ -11,7 +11,7 @@ use crate::ChainState;
 use exec_base::HostFault;
 use locations::Location;
 use operands::{QueryInfo, Response, XcmError};
-use plain_lists::Listed;
+use plain_lists::{Boxed, Listed};
 use std::alloc::{AllocError, Global};
 use xcm_program::{Instruction, Program};
 
@@ -29,7 +29,7 @@ fn report_program(
         query_id: info.query_id,
         response,
         max_weight: info.max_weight,
-        querier,
+        querier: Boxed::new(alloc, querier)?,
     })?;
     Ok(Listed::from_vec(items))
 }

@@ -1,6 +1,6 @@
 use Rattle.std.proofs.Common.{◌∙◌, arith}
 use Rattle.chain_state.specs.Fees.{cleared}
-use Rattle.chain_state.proofs.Mapped.{one_more, all_mapped}
+use Rattle.chain_state.proofs.Lemmas.Mapped.{one_more, all_mapped}
 use Rattle.chain_state.proofs.fees.rows.clear_all.Goals as goal
 
 pub loop-row-preserved : goal.loop-row-preserved

@@ -11,7 +11,7 @@ loop-asset-preserved c =
     goes_on_named target context list _ _ c.loop-asset.asset-index _ c.loop-asset-test.true c.asset-item.is
     (c.push_reanchored.ensures.named c.if-not-push_reanchored.false)
     (subst (λ ys. all_reanchored target context list ≡ behind ys (all_reanchored target context (drop c.loop-asset.asset-index list)))
-    (sym c.in_ok-reserve.ensures.items) c.loop-asset.invariant)
+    (sym c.in_ok-make_room.ensures.items) c.loop-asset.invariant)
 
 pub returns-then-not-push_reanchored : goal.returns-then-not-push_reanchored
 returns-then-not-push_reanchored c =

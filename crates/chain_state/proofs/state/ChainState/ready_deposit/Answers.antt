@@ -1,6 +1,5 @@
-use Rattle.std.proofs.Common.{◌≡◌, ◌≤◌, length, sym, ap, ◌∙◌, subst}
+use Rattle.std.proofs.Common.{◌≤◌, length, sym, ap, ◌∙◌, subst}
 use Rattle.asset_lists.specs.Lists.{has_zero, is_rising}
-use Rattle.asset_bundles.specs.Bundles.{held_assets}
 use Rattle.exec_base.specs.Sending.{deposit_program, listed_refusal, listed_program}
 use Rattle.exec_base.specs.Host.{seen_from}
 use Rattle.chain_state.specs.PartOf.{part_of}

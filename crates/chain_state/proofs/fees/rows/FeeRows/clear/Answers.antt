@@ -4,7 +4,7 @@ use Rattle.std.specs.Map.{keys_of}
 use Rattle.asset_lists.specs.Units.{Unit, unit_cmp}
 use Rattle.chain_state.specs.Fees.{Fee, kept_goods, has_row, cleared}
 use Rattle.chain_state.proofs.Lemmas.{rising_changed, rows_changed, kept_cleared}
-use Rattle.chain_state.proofs.Mapped.{whole_mapped}
+use Rattle.chain_state.proofs.Lemmas.Mapped.{whole_mapped}
 use Rattle.chain_state.proofs.fees.rows.FeeRows.clear.Goals as goal
 
 pub invariant_of-self : goal.invariant_of-self

@@ -6,7 +6,7 @@ use Rattle.asset_lists.specs.Units.{Unit, unit_cmp}
 use Rattle.asset_bundles.specs.Books.{most_burned}
 use Rattle.chain_state.specs.Fees.{Fee, kept_goods, has_row, HaveRowsFor, saturated_fees, raised_fee}
 use Rattle.chain_state.proofs.Lemmas.{rising_changed, rows_changed, kept_raised}
-use Rattle.chain_state.proofs.Mapped.{whole_mapped}
+use Rattle.chain_state.proofs.Lemmas.Mapped.{whole_mapped}
 use Rattle.chain_state.proofs.fees.rows.FeeRows.keep.Goals as goal
 
 pub invariant_of-self : goal.invariant_of-self
