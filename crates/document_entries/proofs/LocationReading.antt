@@ -1,5 +1,5 @@
 -- The location that a text is of: the function that computes it finds it, and finds no other.
-use Rattle.std.proofs.Common.{◌≡◌, ◌∙◌, ℕ, ◌+◌, ◌-◌, ◌<◌, ◌≤◌, ◌^◌, List, [], ◌∷◌, ◌++◌, length, drop, map, Bool, true, false, ◌&&◌, cond, eqb, Option, Some, None, refl, ap, sym, subst, arith, length-append, rules, codes}
+use Rattle.std.proofs.Common.{◌≡◌, ◌∙◌, ℕ, ◌+◌, ◌-◌, ◌<◌, ◌≤◌, ◌^◌, List, [], ◌∷◌, ◌++◌, length, drop, map, Bool, true, false, ◌&&◌, cond, eqb, Option, Some, None, refl, ap, sym, subst, arith, length-append, codes}
 use Rattle.std.specs.Prelude.{bytes_eq, nat_lt, nat_le, decimal}
 use Rattle.std.specs.Result.{result_ok}
 use Rattle.std.specs.List.{AllByRecursion, list_all, slice_split, find}

@@ -1,5 +1,5 @@
 //! Channels.
-ghost use Rattle.std.specs.Prelude.{codes, Option, ◌≤◌, IfOk};
+ghost use Rattle.std.specs.Prelude.{codes, Option, ◌≤◌};
 ghost use Rattle.std.specs.Option.{option_map};
 ghost use Rattle.serde_json.specs.Find.{get};
 ghost use Rattle.serde_json.specs.View.{view};

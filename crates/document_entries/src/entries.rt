@@ -39,13 +39,9 @@ pub fn read_entries<T: Drop, E: Entry<T>>(
     let mut list = Vec::with_capacity(alloc, items.len()).map_err(|_| Stop::Memory)?;
     let mut index: u32 = 0;
     for value in items {
-        match entry.read(alloc, index, value) {
-            Ok(read) => {
-                if list.push(read).is_err() {
-                    return Err(Stop::Memory);
-                }
-            }
-            Err(stop) => return Err(stop),
+        let read = entry.read(alloc, index, value)?;
+        if list.push(read).is_err() {
+            return Err(Stop::Memory);
         }
         index = index.saturating_add(1);
     }

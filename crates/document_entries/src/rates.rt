@@ -1,5 +1,5 @@
 //! What weight costs, and amounts.
-ghost use Rattle.std.specs.Prelude.{◌<◌, ◌^◌, IfOk};
+ghost use Rattle.std.specs.Prelude.{◌<◌, ◌^◌};
 ghost use Rattle.serde_json.specs.View.{view};
 ghost use Rattle.document_entries.specs.Answers.{Answers};
 ghost use Rattle.document_entries.specs.Forms.{decimal_below};

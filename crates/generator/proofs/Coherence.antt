@@ -1,10 +1,9 @@
 -- That none of the causes is found in the generator's network: its tables by computing, and what its parachains owe, which is nothing.
-use Rattle.std.proofs.Common.{◌≡◌, ◌∙◌, ℕ, List, [], Bool, true, false, refl, ap, Option, Some, None, arith}
+use Rattle.std.proofs.Common.{◌≡◌, ◌∙◌, ℕ, [], Bool, false, refl, ap, Option, Some, None}
 use Rattle.std.specs.Prelude.{nat_lt, nat_eq, ◌&&◌}
 use Rattle.std.specs.List.{list_any}
 use Rattle.std.specs.Option.{option_or}
 use Rattle.std.proofs.lemmas.Bool.{or_from}
-use Rattle.std.proofs.lemmas.Bool.Decides.{nat_tests}
 use Rattle.amounts.specs.Amounts.{empty, rows, total, from_rows, plus_all}
 use Rattle.amounts.proofs.Lemmas.AmountLaws.{total-empty}
 use Rattle.amounts.proofs.Lemmas.{rows-from_rows}

@@ -10,7 +10,6 @@ use Rattle.asset_lists.specs.declared.units.Kind.TheVariants as kinds
 use Rattle.operands.specs.declared.version.Version.TheVariants.{V4}
 use Rattle.trust_tables.specs.declared.rows.AssetRole.TheVariants.{Native, Derivative}
 use Rattle.trust_tables.specs.declared.rows.AssetRow.{AssetRow}
-use Rattle.weight_trader.specs.declared.rate.Rate.{Rate}
 use Rattle.network_spec.specs.declared.chain.Balance.{Balance}
 use Rattle.network_spec.specs.declared.chain.ChainSpec.{ChainSpec}
 use Rattle.network_spec.specs.declared.network.ChannelSpec.{ChannelSpec}

@@ -61,10 +61,7 @@ pub(crate) fn check_each<T, C: Check<T>>(
             index,
         };
         let flaws = check.flaws_of(&items[..at], item);
-        match check_flaws(place, flaws) {
-            Ok(()) => {}
-            Err(fault) => return Err(fault),
-        }
+        check_flaws(place, flaws)?;
         index = index.saturating_add(1);
     }
     Ok(())

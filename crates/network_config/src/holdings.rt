@@ -118,10 +118,7 @@ pub(crate) fn check_accounts(
             section: Section::Accounts,
             index,
         };
-        match add_account(&mut held, &table, place, balance) {
-            Ok(()) => {}
-            Err(stop) => return Err(stop),
-        }
+        add_account(&mut held, &table, place, balance)?;
         index = index.saturating_add(1);
     }
     Ok(())

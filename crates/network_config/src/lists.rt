@@ -1,5 +1,5 @@
 //! The lists of a document.
-ghost use Rattle.std.specs.Prelude.{◌≡◌, ◌≤◌, codes, length};
+ghost use Rattle.std.specs.Prelude.{◌≡◌, ◌≤◌};
 ghost use Rattle.serde_json.specs.View.{view, items_view};
 ghost use Rattle.document_entries.specs.Answers.{Answers, AnswersAs};
 ghost use Rattle.document_entries.specs.Forms.{list_field, fields};

@@ -95,10 +95,7 @@ pub(crate) fn check_queries(
             section: Section::Queries,
             index,
         };
-        match add_query(&mut asked, chains, here, place, query) {
-            Ok(()) => {}
-            Err(stop) => return Err(stop),
-        }
+        add_query(&mut asked, chains, here, place, query)?;
         index = index.saturating_add(1);
     }
     Ok(())

@@ -373,10 +373,7 @@ fn check_chains(alloc: Global, chains: &NamedChains, network: NetworkId) -> Resu
 {
     let mut index: u32 = 0;
     for (at, chain) in chains.items().iter().enumerate() {
-        match check_chain(alloc, chains, network, index, at, chain) {
-            Ok(()) => {}
-            Err(stop) => return Err(stop),
-        }
+        check_chain(alloc, chains, network, index, at, chain)?;
         index = index.saturating_add(1);
     }
     Ok(())

@@ -182,10 +182,7 @@ fn check_shares(alloc: Global, shares: &[Share]) -> Result<(), Stop>
 {
     let mut totals: Totals = BTreeMap::new(alloc);
     for share in shares {
-        match add_total(&mut totals, share) {
-            Ok(()) => {}
-            Err(stop) => return Err(stop),
-        }
+        add_total(&mut totals, share)?;
     }
     Ok(())
 }

@@ -1,11 +1,9 @@
 -- A valid network's chains can open.
 use Rattle.std.specs.Prelude.{ℕ, ◌≤◌, List, [], ◌∷◌, length, Bool, true, false, not, ◌&&◌, ◌||◌, nat_lt, nat_le, Some, None, if◌then◌else◌}
 use Rattle.std.specs.List.{list_any, list_all, count_by, AllByRecursion, IsDistinct}
-use Rattle.std.specs.Ordering.{eq_by_cmp, is_eq, nat_cmp, ordering_then}
-use Rattle.std.specs.declared.cmp.Ordering.{Ordering}
-use Rattle.std.specs.declared.cmp.Ordering.TheVariants.{Less, Equal, Greater}
+use Rattle.std.specs.Ordering.{eq_by_cmp, nat_cmp}
 use Rattle.std.proofs.Common.{◌≡◌, ◌∙◌, refl, sym, ap, arith}
-use Rattle.std.proofs.lemmas.Bool.{and_parts, and_from, or_parts, not-false, ltb-false, leb-true, le-leb, true≢false, false≢true, false_from_ne_true}
+use Rattle.std.proofs.lemmas.Bool.{and_parts, and_from, or_parts, not-false, ltb-false, leb-true, le-leb, false≢true, false_from_ne_true}
 use Rattle.std.proofs.lemmas.List.Sums.{sum_by-cons}
 use Rattle.locations.specs.declared.grammar.NetworkId.{NetworkId}
 use Rattle.locations.specs.declared.grammar.Junction.{Junction}

@@ -1,7 +1,7 @@
 //! The opening of a network.
 ghost use Rattle.std.specs.Prelude.{◌≡◌, IfOk, MatchResult, string_bytes};
 ghost use Rattle.network_steps.specs.Genesis.{first_world};
-ghost use Rattle.chain_net.specs.Nets.{world_of, spec_of, is_stopped};
+ghost use Rattle.chain_net.specs.Nets.{world_of, spec_of};
 ghost use Rattle.report_blocks.specs.Blocks as blocks;
 ghost use Rattle.report_blocks.specs.Serving.{IsOpened, IsRefused};
 

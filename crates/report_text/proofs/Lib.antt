@@ -7,4 +7,3 @@ pub mod Found
 pub mod Links
 pub mod Planning
 pub mod Sheets
-pub mod Mapped

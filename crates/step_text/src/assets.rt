@@ -4,10 +4,10 @@ ghost use Rattle.std.specs.Prelude.{◌≡◌, ◌++◌, IfOk, OnOk, flat_map, s
 ghost use Rattle.step_text.specs.Texts.{origin_text, topic_text, next_text, assets_text};
 
 use asset_lists::Asset;
-use exec_base::Boxed;
 use location_wire::location_text;
 use locations::Location;
 use message_text::{asset_text, hex_text};
+use plain_lists::Boxed;
 use std::alloc::{AllocError, Global};
 use std::fmt::Write;
 

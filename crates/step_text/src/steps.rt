@@ -1,7 +1,6 @@
 //! The text of a step.
 
-ghost use Rattle.std.specs.Prelude.{◌≡◌, ◌++◌, IfOk, OnOk, codes, decimal, flat_map, string_bytes};
-ghost use Rattle.locations.specs.declared.grammar.Junction.{Junction};
+ghost use Rattle.std.specs.Prelude.{◌≡◌, ◌++◌, IfOk, OnOk, flat_map, string_bytes};
 ghost use Rattle.exec_base.specs.declared.event.Event.{Event};
 ghost use Rattle.step_text.specs.Steps.{event_line, outcome_line, answer_line, step_text, drained_line};
 
@@ -9,11 +8,12 @@ use crate::assets::{origin_text, topic_text};
 use crate::words::{Shown, call_name, call_result, cause_name, kind_name, part_letter};
 use asset_bundles::{Cause, Total};
 use asset_lists::Kind;
-use exec_base::{Boxed, Event, Part};
+use exec_base::{Event, Part};
 use location_wire::path_text;
 use locations::{Junctions, Location};
 use network_steps::StepResult;
 use operands::{Weight, XcmError};
+use plain_lists::Boxed;
 use std::alloc::{AllocError, Global};
 use std::fmt::Write;
 use xcm_program::{Outcome, instruction_name_at};

@@ -1,5 +1,5 @@
 -- From the run over a source and a sink to the run of the words.
-use Rattle.std.proofs.Common.{◌≡◌, ◌∙◌, inr, ℕ, List, [], refl, ap, Bool, true, false, Option, Some, None, Result, Ok, Err, IfOk, IfSome, String, Global}
+use Rattle.std.proofs.Common.{◌≡◌, ◌∙◌, inr, ℕ, List, [], refl, ap, Bool, true, false, Option, Result, Ok, Err, IfOk, IfSome, String, Global}
 use Rattle.std.specs.Io.KnownBytes.{Appends}
 use Rattle.std.specs.Result.{IsErr}
 use Rattle.std.proofs.KnownBytes.{Consumes-nil, Appends-nil}

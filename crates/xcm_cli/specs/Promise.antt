@@ -16,7 +16,7 @@ use Rattle.law_authority.specs.Alone.{NoneAloneLoses}
 use Rattle.law_authority.specs.Burns.{NoBurnFalls}
 use Rattle.law_authority.specs.Products.{NoProductFalls}
 use Rattle.law_authority.specs.Speakers.{AreAuthorized}
-use Rattle.law_checking.specs.Ends.{StayBelowEnd}
+use Rattle.law_audits.specs.Ends.{StayBelowEnd}
 use Rattle.law_authority.specs.Floors.{AllHoldFloors}
 use Rattle.law_steps.specs.Kept.{NetworkKept, NetworkKeptBetween, NetworkSound, NetworkRunsKept, NetworkAccountsRise, NetworkShaped}
 use Rattle.law_nets.specs.Covered.{AllCovered}

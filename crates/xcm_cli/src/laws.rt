@@ -3,12 +3,11 @@ ghost use Rattle.xcm_cli.specs.Promise.{ReadNetworksAreLawful, CoherentNetworksA
 ghost use Rattle.xcm_cli.specs.Told.{ReportsTellOfSteps};
 
 use generator::law_of_document;
-use law_audits::law_of_printed_networks;
+use law_audits::{law_of_checking_accounts, law_of_printed_networks};
 use law_authority::{
     law_of_accounts_left_alone, law_of_authority, law_of_kept_worlds, law_of_permanent_burns,
     law_of_pool_products,
 };
-use law_checking::law_of_checking_accounts;
 use law_nets::{
     law_of_lowered_accounts, law_of_paid_messages, law_of_stopped_messages, law_of_stopped_nets,
     law_of_unbarred_deposits, law_of_unsaturated_worlds,

@@ -1,5 +1,5 @@
 -- From the run over a source and a sink to the explanation of the words.
-use Rattle.std.proofs.Common.{◌≡◌, inr, ℕ, ◌<◌, List, [], ◌∷◌, length, refl, subst, arith, Option, Some, None, Result, Ok, Err, IfOk, IfSome, String, Global}
+use Rattle.std.proofs.Common.{◌≡◌, inr, ℕ, ◌<◌, List, [], ◌∷◌, length, refl, subst, arith, Option, Result, Ok, Err, IfOk, IfSome, String, Global}
 use Rattle.std.specs.Io.KnownBytes.{Appends}
 use Rattle.line_serving.specs.Replies.{Reply, Replies, Rooms, IsFault, ends, bytes_reply}
 use Rattle.line_serving.specs.Calls.{Finishes}

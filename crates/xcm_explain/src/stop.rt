@@ -1,13 +1,15 @@
 //! Where reading stops in bytes that are no message.
 
-ghost use Rattle.std.specs.Prelude.{◌≡◌, Some, IfOk};
+ghost use Rattle.std.specs.Prelude.{◌≡◌, Some, IfOk, is_some};
+ghost use Rattle.xcm_program.specs.declared.instruction.Instruction.{out-Instruction};
+ghost use Rattle.xcm_program.specs.Measure.{inner};
 ghost use Rattle.xcm_explain.specs.Stops.{expected_text, walk_instruction, walk_program, walked_to, reading_stop};
 
 use scale_codec::{Cursor, WireFault};
 use std::alloc::{AllocError, Global};
 use std::fmt;
 use versioned_xcm::{MAX_DEPTH, MAX_INSTRUCTIONS, Version, read_head};
-use xcm_program::inner;
+use xcm_program::{Instruction, inner};
 
 /// What was expected where reading stopped. Its text is what an explanation says of it.
 #[derive(Clone, Copy, Debug, PartialEq, Eq)]
@@ -55,6 +57,13 @@ pub(crate) enum Walked {
     Stopped(Expected),
 }
 
+/// Whether the instruction has a program inside.
+fn has_program(instruction: Instruction) -> bool
+    ensures { result ≡ is_some (inner (out-Instruction instruction)) }
+{
+    inner(&instruction).is_some()
+}
+
 /// Past an instruction and the program inside.
 #[cycle(walk)]
 #[tactic(auto, unfolding(crate::specs::Stops::walk_instruction))]
@@ -73,10 +82,10 @@ fn walk_instruction(
     }
     match read_head(alloc, c, v) {
         Ok(instruction) => {
-            if inner(&instruction).is_none() {
-                return Ok(Walked::Past(left - 1));
+            if has_program(instruction) {
+                return walk_program(alloc, c, v, depth, left - 1);
             }
-            walk_program(alloc, c, v, depth, left - 1)
+            Ok(Walked::Past(left - 1))
         }
         Err(WireFault::NoSpelling) => Ok(Walked::Stopped(Expected::Instruction)),
         Err(WireFault::Memory) => Err(AllocError),

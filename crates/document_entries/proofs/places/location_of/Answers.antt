@@ -1,4 +1,3 @@
-use Rattle.std.proofs.Common.{rules}
 use Rattle.document_entries.proofs.LocationReading.{location_found, location_none}
 use Rattle.document_entries.proofs.Locations.{read_as, unread}
 use Rattle.document_entries.proofs.places.location_of.Goals as goal

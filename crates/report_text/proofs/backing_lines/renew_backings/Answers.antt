@@ -2,7 +2,7 @@ use Rattle.std.proofs.Common.{◌∙◌, List, ap, get_or, map, arith}
 use Rattle.chain_state.specs.declared.state.ChainState.{ChainState}
 use Rattle.chain_state.specs.PartOf.{part_of}
 use Rattle.report_text.specs.Sheets.{renewed_backing}
-use Rattle.report_text.proofs.Mapped.{one_more, all_mapped}
+use Rattle.chain_state.proofs.Lemmas.Mapped.{one_more, all_mapped}
 use Rattle.report_text.proofs.backing_lines.renew_backings.Goals as goal
 
 pub loop-line-preserved : goal.loop-line-preserved

@@ -1,7 +1,7 @@
 use Rattle.std.proofs.Common.{◌∙◌, map, arith}
 use Rattle.chain_state.specs.PartOf.{part_of}
 use Rattle.report_text.specs.Sheets.{renewed_supply}
-use Rattle.report_text.proofs.Mapped.{one_more, all_mapped}
+use Rattle.chain_state.proofs.Lemmas.Mapped.{one_more, all_mapped}
 use Rattle.report_text.proofs.supply_lines.renew_supplies.Goals as goal
 
 pub loop-line-preserved : goal.loop-line-preserved

@@ -1,7 +1,7 @@
 use Rattle.std.proofs.Common.{◌≡◌, map}
 use Rattle.chain_state.specs.PartOf.{part_of}
 use Rattle.report_text.specs.Sheets.{renewed_supply}
-use Rattle.report_text.proofs.Mapped.{front_mapped}
+use Rattle.chain_state.proofs.Lemmas.Mapped.{front_mapped}
 use Rattle.report_text.proofs.supply_lines.renew_supplies.Given as goal
 
 abbrev pub invariant-loop-line : goal.invariant-loop-line

@@ -4,7 +4,7 @@ use Rattle.supply_audit.specs.Places.{chain_table}
 use Rattle.supply_audit.specs.Stale.{Agree}
 use Rattle.report_text.specs.Plan.{plan_of}
 use Rattle.report_text.specs.Sheets.{IsSheetOf, renewed_supply, renewed_backing}
-use Rattle.report_text.proofs.Mapped.{whole_mapped}
+use Rattle.chain_state.proofs.Lemmas.Mapped.{whole_mapped}
 use Rattle.report_text.proofs.Sheets.{supplies_renewed, backings_renewed}
 use Rattle.report_text.proofs.sheet.SupplySheet.renew.Goals as goal
 
