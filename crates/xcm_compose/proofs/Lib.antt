@@ -1,0 +1,5 @@
+mod Flowing
+mod Steps
+mod Cutting
+mod Streaming
+mod Judging
