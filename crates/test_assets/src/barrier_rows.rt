@@ -3,6 +3,7 @@ use asset_lists::{Asset, AssetId, Assets, Fun};
 use barriers::{Barrier, OpenQuery, Origins, Program, Weight, allow, law_of_barriers};
 use locations::{Junction, Junctions, Location};
 use operands::{Response, WeightLimit};
+use plain_lists::Boxed;
 use std::alloc::{AllocError, Global};
 use std::test::Fail;
 use xcm_program::Instruction;
@@ -59,7 +60,7 @@ fn bringing(alloc: Global, index: u8, count: u8) -> Result<Instruction, Fail> {
         2 => Instruction::ReceiveTeleportedAsset { assets },
         24 => Instruction::ClaimAsset {
             assets,
-            ticket: para(1),
+            ticket: Boxed::new(alloc, para(1))?,
         },
         _ => Instruction::BurnAsset { assets },
     })
@@ -76,7 +77,7 @@ fn paying(
     for _ in 0..clears {
         list.push(Instruction::ClearOrigin)?;
     }
-    let (fees, limit) = (asset(0), limit_of(most));
+    let (fees, limit) = (Boxed::new(alloc, asset(0))?, limit_of(most));
     list.push(Instruction::BuyExecution { fees, limit })?;
     Ok(Program::from_vec(list))
 }
@@ -146,7 +147,7 @@ fn allows(
 ) -> Result<bool, AllocError> {
     let first = Instruction::UnpaidExecution {
         limit: limit_of(most),
-        check_origin: None,
+        check_origin: Boxed::new(alloc, None)?,
     };
     let mut program = Program::from_vec(vec![in alloc; first]?);
     let credit = weight(ref_time, proof_size);
@@ -180,20 +181,21 @@ const RESPONSES: &[(u64, u32, u8, bool)] = &[
 ];
 
 /// An empty response.
-fn response(query_id: u64) -> Instruction {
-    Instruction::QueryResponse {
+fn response(alloc: Global, query_id: u64) -> Result<Instruction, AllocError> {
+    let querier = Boxed::new(alloc, Some(para(9)))?;
+    Ok(Instruction::QueryResponse {
         query_id,
         response: Response::Null,
         max_weight: Weight::ZERO,
-        querier: Some(para(9)),
-    }
+        querier,
+    })
 }
 
 /// Whether so many responses are let in.
 fn responds(alloc: Global, query_id: u64, number: u32, count: u8) -> Result<bool, AllocError> {
     let mut list = Vec::new(alloc);
     for _ in 0..count {
-        list.push(response(query_id))?;
+        list.push(response(alloc, query_id)?)?;
     }
     let mut program = Program::from_vec(list);
     let open = OpenQuery {

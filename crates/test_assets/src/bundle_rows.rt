@@ -1,5 +1,6 @@
 //! Bundles, shipments and the book of burns.
-ghost use Rattle.std.specs.Prelude.{◌≡◌, IfOk};
+ghost use Rattle.std.specs.Prelude.{◌≡◌, [], IfOk};
+ghost use Rattle.asset_lists.specs.declared.units.AssetId.TheVariants.{Concrete};
 ghost use Rattle.asset_bundles.specs.Bundles.{bundle_of};
 
 use asset_bundles::{
@@ -9,10 +10,13 @@ use asset_bundles::{
 };
 use asset_lists::{Asset, AssetId, Assets, Filter, Fun, Instance, Kind, Wild, WildFun};
 use locations::{Junction, Junctions, Location, NetworkId};
+use plain_lists::Boxed;
 use std::alloc::{AllocError, Global};
 use std::test::Fail;
 
-fn coin() -> AssetId {
+fn coin() -> AssetId
+    ensures { result ≡ Concrete (record { parents = 0; interior = [] }) }
+{
     AssetId::Concrete(Location {
         parents: 0,
         interior: Junctions::empty(),
@@ -63,12 +67,12 @@ fn filter(alloc: Global, number: u8) -> Result<Filter, Fail> {
     Ok(match number {
         0 => Filter::Wild(Wild::AllCounted(2)),
         1 => Filter::Wild(Wild::AllOfCounted {
-            id: coin(),
+            id: Boxed::new(alloc, coin())?,
             fun: WildFun::Fungible,
             count: 0,
         }),
         2 => Filter::Wild(Wild::AllOf {
-            id: class(),
+            id: Boxed::new(alloc, class())?,
             fun: WildFun::NonFungible,
         }),
         3 => Filter::Wild(Wild::All),
@@ -259,6 +263,18 @@ fn are_booked(alloc: Global) -> Result<bool, AllocError> {
     Ok(is_booked(alloc, &mut book))
 }
 
+/// Whether what is burned of an asset for two causes is summed.
+fn are_summed(alloc: Global) -> Result<bool, AllocError> {
+    let mut book = BurnBook::new(alloc, &[(coin(), Kind::Fungible)])?;
+    book.add(&coin(), Kind::Fungible, Cause::BurnAsset, 5);
+    book.add(&coin(), Kind::Fungible, Cause::LostTeleport, 7);
+    let twelve = Total { high: 0, low: 12 };
+    Ok(
+        book.burned(&coin(), Kind::Fungible) == twelve
+            && book.burned(&class(), Kind::Class) == Total::ZERO,
+    )
+}
+
 /// Whether the units are those of the list, 7 of the fungible asset among them, in so many kinds.
 fn rests(units: &Units, list: &Assets, kinds: usize) -> Result<bool, AllocError> {
     let items = units.list()?;
@@ -380,7 +396,7 @@ fn bundles_are_taken_apart_and_joined(rt: HostRuntime) -> Result<(), Fail> {
         assert!(rt; exceeds(alloc, *first, *second, *above)?);
     }
     assert!(rt; are_added());
-    assert!(rt; are_booked(alloc)?);
+    assert!(rt; are_booked(alloc)? && are_summed(alloc)?);
     assert!(rt; are_shipped(alloc)? && land(alloc)?);
     Ok(())
 }

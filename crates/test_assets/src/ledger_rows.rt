@@ -8,7 +8,7 @@ ghost use Rattle.asset_lists.specs.Listed.{listed_of, lists};
 
 use asset_bundles::{AssetBundle, Total};
 use asset_lists::{Asset, AssetId, Assets, Fun, Instance, Kind};
-use ledgers::{DepositFault, Ledger, LedgerFault, TransferFault, law_of_ledgers};
+use ledgers::{AccountKey, DepositFault, Ledger, LedgerFault, TransferFault, law_of_ledgers};
 use locations::{Junctions, Location};
 use std::alloc::{AllocError, Global};
 use std::test::Fail;
@@ -343,6 +343,14 @@ fn in_order(ledger: &Ledger) -> bool {
         && ledger.next_account(Some(&A3)).is_none()
 }
 
+/// Whether keys of accounts are as their accounts are, and in their order.
+fn are_keys() -> bool {
+    let first = AccountKey::of(&A1);
+    let same = AccountKey::of(&A1);
+    let second = AccountKey::of(&A2);
+    first == same && first != second && first < second
+}
+
 /// Whether what single accounts hold is as it was put there.
 fn reads_right(ledger: &Ledger, id: &AssetId) -> bool {
     ledger.amount(&A1, id) == 9
@@ -406,6 +414,6 @@ fn hold_what_is_put(alloc: Global) -> Result<bool, AllocError> {
 
 #[test]
 fn what_accounts_hold(rt: HostRuntime) -> Result<(), Fail> {
-    assert!(rt; hold_what_is_put(rt.alloc())?);
+    assert!(rt; hold_what_is_put(rt.alloc())? && are_keys());
     Ok(())
 }

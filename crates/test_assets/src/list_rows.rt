@@ -4,9 +4,10 @@ ghost use Rattle.std.specs.Prelude.{◌≤◌, length};
 use asset_lists::{
     Asset, AssetId, Assets, Filter, Fun, Instance, Kind, ListFault, ReanchorFault, Wild, WildFun,
     copied, is_rising, law_of_exact_asset_orders, law_of_exact_list_test, law_of_insertion,
-    law_of_reanchored_lists, law_of_rising,
+    law_of_reanchored_lists, law_of_rising, push_place, push_reanchored,
 };
 use locations::{Junction, Junctions, Location, NetworkId};
+use plain_lists::Boxed;
 use std::alloc::{AllocError, Global};
 use std::cmp::Ordering;
 use std::test::Fail;
@@ -86,9 +87,10 @@ fn are_short(alloc: Global) -> Result<bool, Fail> {
         id: AssetId::Concrete(place(1, &[])),
         fun: Fun::Fungible(3),
     };
+    let copy = Assets::of_one(alloc, &asset)?;
     let one = Assets::one(alloc, asset)?;
     let same = Assets::from_sorted(vec![in alloc; above(3)]?)?;
-    Ok(one == same && Assets::empty(alloc).items().is_empty())
+    Ok(one == same && copy == same && Assets::empty(alloc).items().is_empty())
 }
 
 /// Two items, in this order.
@@ -167,6 +169,15 @@ fn is_seen(alloc: Global) -> Result<bool, Fail> {
     Ok(seen == two(alloc, own(4), child)?)
 }
 
+/// Whether an asset is put at the end of a list by its location, and one as the relay chain above names it.
+fn are_appended(alloc: Global) -> Result<bool, AllocError> {
+    let mut list = Vec::with_capacity(alloc, 2)?;
+    push_place(&mut list, &place(1, &[]), Fun::Fungible(4));
+    let is_named = push_reanchored(&mut list, &own(3), &place(1, &[]), &context());
+    let child = amount(3, place(0, &[Junction::Parachain(2000)]));
+    Ok(is_named && list.as_slice() == [above(4), child].as_slice())
+}
+
 /// Why the relay chain above doesn't name the list.
 fn unseen(list: &Assets) -> Option<ReanchorFault> {
     list.reanchored(&place(1, &[]), &context()).err()
@@ -226,12 +237,13 @@ fn have_amounts() -> bool {
 }
 
 /// Whether filters differ.
-fn differ(alloc: Global) -> bool {
+fn differ(alloc: Global) -> Result<bool, AllocError> {
     let of = Wild::AllOf {
-        id: AssetId::Concrete(place(0, &[])),
+        id: Boxed::new(alloc, AssetId::Concrete(place(0, &[])))?,
         fun: WildFun::Fungible,
     };
-    Filter::Definite(Assets::empty(alloc)) != Filter::Wild(Wild::All) && of != Wild::AllCounted(1)
+    let none = Filter::Definite(Assets::empty(alloc));
+    Ok(none != Filter::Wild(Wild::All) && of != Wild::AllCounted(1))
 }
 
 /// Whether this is the text.
@@ -254,9 +266,9 @@ fn lists_and_their_assets(rt: HostRuntime) -> Result<(), Fail> {
     assert!(rt; is_taken(alloc)? && are_short(alloc)?);
     assert!(rt; are_refused(alloc)?);
     assert!(rt; go_to_their_places(alloc)?);
-    assert!(rt; is_seen(alloc)? && are_unseen(alloc)?);
+    assert!(rt; is_seen(alloc)? && are_unseen(alloc)? && are_appended(alloc)?);
     assert!(rt; are_ids() && are_units() && have_amounts());
-    assert!(rt; differ(alloc) && say_why(alloc)?);
+    assert!(rt; differ(alloc)? && say_why(alloc)?);
     Ok(())
 }
 

@@ -49,7 +49,7 @@ fn has_few() -> Result<bool, Full> {
     )
 }
 
-/// Whether each element of the list is lent for writing, and none after it.
+/// Whether each element of the list is borrowed for writing, and none after it.
 fn lends_its_places() -> Result<bool, Full> {
     let mut two = chain(&[POLKADOT, PALLET])?;
     let places = two.places();

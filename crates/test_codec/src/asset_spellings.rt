@@ -1,13 +1,12 @@
 //! Asset ids, instances, assets, lists and filters.
 ghost use Rattle.std.specs.Prelude.{◌≤◌};
-ghost use Rattle.asset_wire.specs.Spelling.{IsNamed};
 
-use crate::part_builders::{place, unhex};
+use crate::part_builders::unhex;
 use asset_lists::{Asset, AssetId, Filter, Fun, Instance, Wild, WildFun};
 use asset_wire::{
     Version, WireFault, law_of_no_prefix, law_of_one_spelling, law_of_readers, law_of_versions,
-    law_of_writable, read_asset, read_asset_id, read_assets, read_filter, read_instance,
-    write_asset, write_asset_id, write_assets, write_filter, write_instance,
+    law_of_writable, put_asset, put_assets, put_filter, read_instance, take_asset, take_assets,
+    take_filter, write_instance,
 };
 use locations::Junction;
 use scale_codec::{Cursor, Out};
@@ -81,6 +80,18 @@ const ONE: &[Unit] = &[Unit {
     fun: Fun::Fungible(1),
 }];
 
+/// 1 of the asset of a sibling parachain.
+const SIBLING: Unit = Unit {
+    id: Id::Place(1, &[Junction::Parachain(2000)]),
+    fun: Fun::Fungible(1),
+};
+
+/// 1 of the asset of 32 bytes of 5.
+const FIVES: Unit = Unit {
+    id: Id::Bytes([5; 32]),
+    fun: Fun::Fungible(1),
+};
+
 /// 1 of the asset of 32 zero bytes.
 const ZEROS: &[Unit] = &[Unit {
     id: Id::Bytes([0; 32]),
@@ -116,6 +127,13 @@ const SPELLED: &[(Value, &str)] = &[
     (Value::Asset(Version::V4, COINS), "010000070010a5d4e8"),
     (Value::Asset(Version::V3, PIECE), "000001043201011c"),
     (Value::Asset(Version::V4, PIECE), "0001043201011c"),
+    // an id has an index before it in version 3, where it may be of bytes
+    (Value::Asset(Version::V3, SIBLING), "00010100411f0004"),
+    (Value::Asset(Version::V4, SIBLING), "010100411f0004"),
+    (
+        Value::Asset(Version::V3, FIVES),
+        "0105050505050505050505050505050505050505050505050505050505050505050004",
+    ),
     // a list is its number and its items
     (
         Value::List(Version::V3, THREE),
@@ -193,9 +211,9 @@ fn asks(filter: &Filter, want: &Asked) -> bool {
         (Filter::Wild(Wild::All), Asked::All) => true,
         (Filter::Wild(Wild::AllCounted(count)), Asked::Counted(want)) => *count == *want,
         (Filter::Wild(Wild::AllOf { id, fun }), Asked::Of(of, want)) => *fun == *want
-            && is_id(id, of),
+            && is_id(id.value(), of),
         (Filter::Wild(Wild::AllOfCounted { id, fun, count }), Asked::OfCounted(of, kind, want)) =>
-            *count == *want && *fun == *kind && is_id(id, of),
+            *count == *want && *fun == *kind && is_id(id.value(), of),
         _ => false,
     }
 }
@@ -207,20 +225,20 @@ fn instance_goes(out: &mut Out, cursor: &mut Cursor<'_>, want: &Instance) -> Res
 }
 
 /// Whether the asset is read, and is written as it was spelled.
-#[tactic(auto, using(asset_wire::proofs::Lemmas::Written::asset_writable))]
 fn asset_goes(
     out: &mut Out,
     cursor: &mut Cursor<'_>,
     v: Version,
     want: &Unit,
 ) -> Result<bool, Fail> {
-    let read = read_asset(cursor, v)?;
-    write_asset(out, &read, v)?;
+    let read = take_asset(cursor, v)?;
+    let mut draft = out.draft();
+    let written = put_asset(&mut draft, &read, v);
+    out.settle(draft, written)?;
     Ok(is_unit(&read, want))
 }
 
 /// Whether the list is read, and is written as it was spelled.
-#[tactic(auto, using(asset_wire::proofs::Lemmas::Written::assets_named))]
 fn list_goes(
     alloc: Global,
     out: &mut Out,
@@ -228,13 +246,14 @@ fn list_goes(
     v: Version,
     want: &[Unit],
 ) -> Result<bool, Fail> {
-    let read = read_assets(alloc, cursor, v)?;
-    write_assets(out, &read, v)?;
+    let read = take_assets(alloc, cursor, v)?;
+    let mut draft = out.draft();
+    let written = put_assets(&mut draft, &read, v);
+    out.settle(draft, written)?;
     Ok(are_units(read.items(), want))
 }
 
 /// Whether the filter is read, and is written as it was spelled.
-#[tactic(auto, using(asset_wire::proofs::Lemmas::Written::filter_named))]
 fn filter_goes(
     alloc: Global,
     out: &mut Out,
@@ -242,8 +261,10 @@ fn filter_goes(
     v: Version,
     want: &Asked,
 ) -> Result<bool, Fail> {
-    let read = read_filter(alloc, cursor, v)?;
-    write_filter(out, &read, v)?;
+    let read = take_filter(alloc, cursor, v)?;
+    let mut draft = out.draft();
+    let written = put_filter(&mut draft, &read, v);
+    out.settle(draft, written)?;
     Ok(asks(&read, want))
 }
 
@@ -271,39 +292,10 @@ fn spells(alloc: Global, value: &Value, hex: &str) -> Result<bool, Fail> {
     Ok(goes && out.bytes() == bytes.as_slice() && cursor.rest().is_empty())
 }
 
-/// Whether the hex is what is written for the id, and is read as the id again.
-fn spells_id(alloc: Global, id: &AssetId, v: Version, hex: &str) -> Result<bool, Fail>
-    requires { IsNamed v id.now }
-{
-    let bytes = unhex(alloc, hex)?;
-    let mut out = Out::new(alloc);
-    write_asset_id(&mut out, id, v)?;
-    let mut cursor = Cursor::new(bytes.as_slice());
-    let read = read_asset_id(&mut cursor, v)?;
-    Ok(out.bytes() == bytes.as_slice() && read == *id && cursor.rest().is_empty())
-}
-
-/// The id of 32 bytes of 5 in version 3.
-const FIVES: &str = "010505050505050505050505050505050505050505050505050505050505050505";
-
-/// Whether an id has an index before it in version 3, where it may be of bytes.
-fn spells_ids(alloc: Global) -> Result<bool, Fail> {
-    let sibling = AssetId::Concrete(place(1, &[Junction::Parachain(2000)]));
-    let fives = AssetId::Abstract([5; 32]);
-    Ok(
-        spells_id(alloc, &sibling, Version::V3, "00010100411f")?
-            && spells_id(alloc, &sibling, Version::V4, "010100411f")?
-            && spells_id(alloc, &fives, Version::V3, FIVES)?,
-    )
-}
-
 /// What has a spelling.
 enum Form {
     Instance,
-    /// An id of version 3.
-    Id,
-    /// An asset of version 4.
-    Asset,
+    Asset(Version),
     List(Version),
     /// A filter of version 4.
     Filter,
@@ -314,10 +306,10 @@ const NOT_SPELLED: &[(Form, &str)] = &[
     (Form::Instance, "0600"),
     (Form::Instance, "02010203"),
     (Form::Instance, ""),
-    (Form::Id, "020000"),
-    (Form::Asset, "01000000"),
-    (Form::Asset, "01000204"),
-    (Form::Asset, "010000"),
+    (Form::Asset(Version::V3), "020000"),
+    (Form::Asset(Version::V4), "01000000"),
+    (Form::Asset(Version::V4), "01000204"),
+    (Form::Asset(Version::V4), "010000"),
     // an amount of 0
     (Form::List(Version::V4), "0400000000"),
     (Form::List(Version::V3), "040000000000"),
@@ -346,22 +338,20 @@ const NOT_SPELLED: &[(Form, &str)] = &[
 fn refuses(alloc: Global, cursor: &mut Cursor<'_>, form: &Form) -> bool {
     match form {
         Form::Instance => read_instance(cursor).is_err(),
-        Form::Id => read_asset_id(cursor, Version::V3).is_err(),
-        Form::Asset => read_asset(cursor, Version::V4).is_err(),
-        Form::List(v) => matches!(read_assets(alloc, cursor, *v), Err(WireFault::NoSpelling)),
+        Form::Asset(v) => take_asset(cursor, *v).is_err(),
+        Form::List(v) => matches!(take_assets(alloc, cursor, *v), Err(WireFault::NoSpelling)),
         Form::Filter => matches!(
-            read_filter(alloc, cursor, Version::V4),
+            take_filter(alloc, cursor, Version::V4),
             Err(WireFault::NoSpelling)
         ),
     }
 }
 
-/// Whether no prefix of what the hex says is spelled so, and the cursor stays.
+/// Whether no prefix of what the hex says is spelled so.
 fn is_none(alloc: Global, form: &Form, hex: &str) -> Result<bool, Fail> {
     let bytes = unhex(alloc, hex)?;
     let mut cursor = Cursor::new(bytes.as_slice());
-    let refuses = refuses(alloc, &mut cursor, form);
-    Ok(refuses && cursor.rest() == bytes.as_slice())
+    Ok(refuses(alloc, &mut cursor, form))
 }
 
 /// The spelling of amounts of 1 of this many pallets, in version 4.
@@ -376,14 +366,11 @@ fn pallets(alloc: Global, count: u8) -> Result<Vec<u8>, AllocError>
     Ok(bytes)
 }
 
-/// How many items version 4 reads from the bytes, or why it reads none, and how many bytes are left then.
-fn items_of(alloc: Global, bytes: &[u8]) -> (Result<usize, WireFault>, usize) {
+/// How many items version 4 reads from the bytes, or why it reads none.
+fn items_of(alloc: Global, bytes: &[u8]) -> Result<usize, WireFault> {
     let mut cursor = Cursor::new(bytes);
-    let count = match read_assets(alloc, &mut cursor, Version::V4) {
-        Ok(list) => Ok(list.items().len()),
-        Err(fault) => Err(fault),
-    };
-    (count, cursor.rest().len())
+    let list = take_assets(alloc, &mut cursor, Version::V4)?;
+    Ok(list.items().len())
 }
 
 /// Whether a list has at most twenty items.
@@ -392,7 +379,7 @@ fn has_few_items(alloc: Global) -> Result<bool, AllocError> {
     let past = pallets(alloc, 21)?;
     let full = items_of(alloc, most.as_slice());
     let none = items_of(alloc, past.as_slice());
-    Ok(full == (Ok(20), 0) && none == (Err(WireFault::NoSpelling), past.len()))
+    Ok(full == Ok(20) && none == Err(WireFault::NoSpelling))
 }
 
 #[test]
@@ -404,7 +391,6 @@ fn assets_are_read_and_written(rt: HostRuntime) -> Result<(), Fail> {
     for (form, hex) in NOT_SPELLED {
         assert!(rt; is_none(alloc, form, hex)?, "{hex}");
     }
-    assert!(rt; spells_ids(alloc)?);
     assert!(rt; has_few_items(alloc)?);
     Ok(())
 }

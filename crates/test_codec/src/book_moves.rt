@@ -174,7 +174,7 @@ impl Book {
 }
 
 impl Mover for Book {
-    ghost use Rattle.std.specs.Prelude.{Option, ℕ, List};
+    ghost use Rattle.std.specs.Prelude.{Option, ℕ};
     ghost use Rattle.call_dispatch.specs.Shifts.{AccountRow};
     ghost use Rattle.test_codec.specs.Books.{one_floor};
     ghost use Rattle.test_codec.specs.Laws.{floors_low};

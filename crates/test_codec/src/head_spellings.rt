@@ -201,11 +201,12 @@ fn are_in_order(read: &Instruction, known: &Known) -> bool {
                 query_id,
                 response: Response::Version(version),
                 max_weight,
-                querier: None,
+                querier,
             },
             Known::Answer,
         ) => (*query_id, *version) == (7, 9)
-            && (max_weight.ref_time, max_weight.proof_size) == (1000, 100),
+            && (max_weight.ref_time, max_weight.proof_size) == (1000, 100)
+            && querier.value().is_none(),
         _ => false,
     }
 }

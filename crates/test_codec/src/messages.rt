@@ -454,7 +454,7 @@ fn says_why(alloc: Global, fault: &MessageFault, want: &str) -> Result<bool, All
     Ok(text.as_str() == want)
 }
 
-/// Whether the refusal to encode for want of memory has its text.
+/// Whether the refusal to encode where memory runs out has its text.
 fn says_memory(alloc: Global) -> Result<bool, AllocError> {
     let text = EncodeFault::Memory.to_string(alloc)?;
     Ok(text.as_str() == "out of memory")

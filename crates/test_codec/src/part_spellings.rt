@@ -8,16 +8,15 @@ use operands::{
     LongBytes, MaybeError, OriginKind, PalletInfo, PalletName, QueryInfo, Response, Weight,
     WeightLimit, XcmError,
 };
-use scale_codec::{Cursor, Out};
+use scale_codec::{Cursor, Draft, Out};
 use std::alloc::Global;
 use std::test::Fail;
 use xcm_format::{
-    law_of_no_prefix, law_of_one_spelling, law_of_readers, law_of_writable_operands, read_bytes,
-    read_error, read_failure, read_maybe_error, read_optional_failure, read_optional_location,
-    read_origin_kind, read_pallet_info, read_query_info, read_response, read_weight,
-    read_weight_limit, write_bytes, write_error, write_failure, write_maybe_error,
-    write_optional_failure, write_optional_location, write_origin_kind, write_pallet_info,
-    write_query_info, write_response, write_weight, write_weight_limit,
+    law_of_no_prefix, law_of_one_spelling, law_of_readers, law_of_writable_operands, put_bytes,
+    put_maybe_error, put_optional_failure, put_optional_location, put_origin_kind, put_query_info,
+    put_response, put_weight, put_weight_limit, take_bytes, take_maybe_error,
+    take_optional_failure, take_optional_location, take_origin_kind, take_query_info,
+    take_response, take_weight, take_weight_limit,
 };
 
 /// Parents and junctions.
@@ -48,8 +47,8 @@ enum Value {
     Weight(Weight),
     Limit(WeightLimit),
     Kind(OriginKind),
-    Error(XcmError),
-    Failure((u32, XcmError)),
+    /// A failure of the first instruction.
+    Failed(XcmError),
     MaybeFailed(Option<(u32, XcmError)>),
     MaybePlace(Option<Place>),
     /// A query of parachain 1000 above, of number 7, for this weight.
@@ -58,13 +57,8 @@ enum Value {
     /// So many bytes, where there may be many.
     Long(usize),
     End(End),
-    /// The pallet of balances.
-    Pallet,
     Response(Version, Answer),
 }
-
-/// The pallet of balances: its index, its names, its version.
-const BALANCES: &str = "102042616c616e6365733c70616c6c65745f62616c616e6365730101080c";
 
 /// Values, and the hex of their spellings.
 const SPELLED: &[(Value, &str)] = &[
@@ -109,48 +103,68 @@ const SPELLED: &[(Value, &str)] = &[
     (Value::Kind(OriginKind::Superuser), "02"),
     (Value::Kind(OriginKind::Xcm), "03"),
     // each error without a code is its index, and a trap has its code after that
-    (Value::Error(XcmError::Overflow), "00"),
-    (Value::Error(XcmError::Unimplemented), "01"),
-    (Value::Error(XcmError::UntrustedReserveLocation), "02"),
-    (Value::Error(XcmError::UntrustedTeleportLocation), "03"),
-    (Value::Error(XcmError::LocationFull), "04"),
-    (Value::Error(XcmError::LocationNotInvertible), "05"),
-    (Value::Error(XcmError::BadOrigin), "06"),
-    (Value::Error(XcmError::InvalidLocation), "07"),
-    (Value::Error(XcmError::AssetNotFound), "08"),
-    (Value::Error(XcmError::FailedToTransactAsset), "09"),
-    (Value::Error(XcmError::NotWithdrawable), "0a"),
-    (Value::Error(XcmError::LocationCannotHold), "0b"),
-    (Value::Error(XcmError::ExceedsMaxMessageSize), "0c"),
-    (Value::Error(XcmError::DestinationUnsupported), "0d"),
-    (Value::Error(XcmError::Transport), "0e"),
-    (Value::Error(XcmError::Unroutable), "0f"),
-    (Value::Error(XcmError::UnknownClaim), "10"),
-    (Value::Error(XcmError::FailedToDecode), "11"),
-    (Value::Error(XcmError::MaxWeightInvalid), "12"),
-    (Value::Error(XcmError::NotHoldingFees), "13"),
-    (Value::Error(XcmError::TooExpensive), "14"),
-    (Value::Error(XcmError::ExpectationFalse), "16"),
-    (Value::Error(XcmError::PalletNotFound), "17"),
-    (Value::Error(XcmError::NameMismatch), "18"),
-    (Value::Error(XcmError::VersionIncompatible), "19"),
-    (Value::Error(XcmError::HoldingWouldOverflow), "1a"),
-    (Value::Error(XcmError::ExportError), "1b"),
-    (Value::Error(XcmError::ReanchorFailed), "1c"),
-    (Value::Error(XcmError::NoDeal), "1d"),
-    (Value::Error(XcmError::FeesNotMet), "1e"),
-    (Value::Error(XcmError::LockError), "1f"),
-    (Value::Error(XcmError::NoPermission), "20"),
-    (Value::Error(XcmError::Unanchored), "21"),
-    (Value::Error(XcmError::NotDepositable), "22"),
+    (Value::Failed(XcmError::Overflow), "010000000000"),
+    (Value::Failed(XcmError::Unimplemented), "010000000001"),
     (
-        Value::Error(XcmError::Trap(0x4000_0000)),
-        "150000004000000000",
+        Value::Failed(XcmError::UntrustedReserveLocation),
+        "010000000002",
     ),
-    (Value::Failure((0, XcmError::BadOrigin)), "0000000006"),
     (
-        Value::Failure((258, XcmError::Trap(5))),
-        "02010000150500000000000000",
+        Value::Failed(XcmError::UntrustedTeleportLocation),
+        "010000000003",
+    ),
+    (Value::Failed(XcmError::LocationFull), "010000000004"),
+    (
+        Value::Failed(XcmError::LocationNotInvertible),
+        "010000000005",
+    ),
+    (Value::Failed(XcmError::BadOrigin), "010000000006"),
+    (Value::Failed(XcmError::InvalidLocation), "010000000007"),
+    (Value::Failed(XcmError::AssetNotFound), "010000000008"),
+    (
+        Value::Failed(XcmError::FailedToTransactAsset),
+        "010000000009",
+    ),
+    (Value::Failed(XcmError::NotWithdrawable), "01000000000a"),
+    (Value::Failed(XcmError::LocationCannotHold), "01000000000b"),
+    (
+        Value::Failed(XcmError::ExceedsMaxMessageSize),
+        "01000000000c",
+    ),
+    (
+        Value::Failed(XcmError::DestinationUnsupported),
+        "01000000000d",
+    ),
+    (Value::Failed(XcmError::Transport), "01000000000e"),
+    (Value::Failed(XcmError::Unroutable), "01000000000f"),
+    (Value::Failed(XcmError::UnknownClaim), "010000000010"),
+    (Value::Failed(XcmError::FailedToDecode), "010000000011"),
+    (Value::Failed(XcmError::MaxWeightInvalid), "010000000012"),
+    (Value::Failed(XcmError::NotHoldingFees), "010000000013"),
+    (Value::Failed(XcmError::TooExpensive), "010000000014"),
+    (Value::Failed(XcmError::ExpectationFalse), "010000000016"),
+    (Value::Failed(XcmError::PalletNotFound), "010000000017"),
+    (Value::Failed(XcmError::NameMismatch), "010000000018"),
+    (Value::Failed(XcmError::VersionIncompatible), "010000000019"),
+    (
+        Value::Failed(XcmError::HoldingWouldOverflow),
+        "01000000001a",
+    ),
+    (Value::Failed(XcmError::ExportError), "01000000001b"),
+    (Value::Failed(XcmError::ReanchorFailed), "01000000001c"),
+    (Value::Failed(XcmError::NoDeal), "01000000001d"),
+    (Value::Failed(XcmError::FeesNotMet), "01000000001e"),
+    (Value::Failed(XcmError::LockError), "01000000001f"),
+    (Value::Failed(XcmError::NoPermission), "010000000020"),
+    (Value::Failed(XcmError::Unanchored), "010000000021"),
+    (Value::Failed(XcmError::NotDepositable), "010000000022"),
+    (
+        Value::Failed(XcmError::Trap(0x4000_0000)),
+        "0100000000150000004000000000",
+    ),
+    (
+        Value::MaybeFailed(Some((258, XcmError::Trap(5)))),
+        "0102010000150500000000000000",
     ),
     (Value::MaybeFailed(None), "00"),
     (
@@ -188,7 +202,6 @@ const SPELLED: &[(Value, &str)] = &[
         Value::End(End::Truncated(&[5; 128])),
         "0201020505050505050505050505050505050505050505050505050505050505050505050505050505050505050505050505050505050505050505050505050505050505050505050505050505050505050505050505050505050505050505050505050505050505050505050505050505050505050505050505050505050505050505",
     ),
-    (Value::Pallet, BALANCES),
     (
         Value::Response(Version::V3, Answer::Asset),
         "01040001000004",
@@ -222,32 +235,29 @@ const SPELLED: &[(Value, &str)] = &[
     ),
 ];
 
-/// Whether a weight, a limit, a kind of origin or an error is read, and is written as it was spelled.
-fn number_goes(out: &mut Out, cursor: &mut Cursor<'_>, value: &Value) -> Result<bool, Fail> {
+/// Whether a weight, a limit, a kind of origin or a failure is read, and is written as it was spelled.
+fn number_goes(out: &mut Draft, cursor: &mut Cursor<'_>, value: &Value) -> Result<bool, Fail> {
     match value {
         Value::Weight(value) => {
-            write_weight(out, value)?;
-            Ok(read_weight(cursor)? == *value)
+            put_weight(out, value)?;
+            Ok(take_weight(cursor)? == *value)
         }
         Value::Limit(value) => {
-            write_weight_limit(out, value)?;
-            Ok(read_weight_limit(cursor)? == *value)
+            put_weight_limit(out, value)?;
+            Ok(take_weight_limit(cursor)? == *value)
         }
         Value::Kind(value) => {
-            write_origin_kind(out, value)?;
-            Ok(read_origin_kind(cursor)? == *value)
+            put_origin_kind(out, value)?;
+            Ok(take_origin_kind(cursor)? == *value)
         }
-        Value::Error(value) => {
-            write_error(out, value)?;
-            Ok(read_error(cursor)? == *value)
-        }
-        Value::Failure(value) => {
-            write_failure(out, value)?;
-            Ok(read_failure(cursor)? == *value)
+        Value::Failed(error) => {
+            let value = Some((0, *error));
+            put_optional_failure(out, &value)?;
+            Ok(take_optional_failure(cursor)? == value)
         }
         Value::MaybeFailed(value) => {
-            write_optional_failure(out, value)?;
-            Ok(read_optional_failure(cursor)? == *value)
+            put_optional_failure(out, value)?;
+            Ok(take_optional_failure(cursor)? == *value)
         }
         _ => Ok(false),
     }
@@ -259,9 +269,9 @@ fn is_place(location: &Location, (parents, junctions): Place) -> bool {
 }
 
 /// Whether the location that may be left out is read, and is written as it was spelled.
-fn place_goes(out: &mut Out, cursor: &mut Cursor<'_>, want: Option<Place>) -> Result<bool, Fail> {
-    let read = read_optional_location(cursor)?;
-    write_optional_location(out, &read)?;
+fn place_goes(out: &mut Draft, cursor: &mut Cursor<'_>, want: Option<Place>) -> Result<bool, Fail> {
+    let read = take_optional_location(cursor)?;
+    put_optional_location(out, &read)?;
     Ok(match (&read, want) {
         (Some(location), Some(place)) => is_place(location, place),
         (None, None) => true,
@@ -270,9 +280,9 @@ fn place_goes(out: &mut Out, cursor: &mut Cursor<'_>, want: Option<Place>) -> Re
 }
 
 /// Whether the query is read, and is written as it was spelled.
-fn query_goes(out: &mut Out, cursor: &mut Cursor<'_>, weight: Weight) -> Result<bool, Fail> {
-    let read: QueryInfo = read_query_info(cursor)?;
-    write_query_info(out, &read)?;
+fn query_goes(out: &mut Draft, cursor: &mut Cursor<'_>, weight: Weight) -> Result<bool, Fail> {
+    let read: QueryInfo = take_query_info(cursor)?;
+    put_query_info(out, &read)?;
     let is_from = is_place(&read.destination, (1, &[Junction::Parachain(1000)]));
     Ok(is_from && read.query_id == 7 && read.max_weight == weight)
 }
@@ -280,24 +290,24 @@ fn query_goes(out: &mut Out, cursor: &mut Cursor<'_>, weight: Weight) -> Result<
 /// Whether the name is read, and is written as it was spelled.
 fn name_goes(
     alloc: Global,
-    out: &mut Out,
+    out: &mut Draft,
     cursor: &mut Cursor<'_>,
     want: &[u8],
 ) -> Result<bool, Fail> {
-    let read: PalletName = read_bytes(alloc, cursor)?;
-    write_bytes(out, &read)?;
+    let read: PalletName = take_bytes(alloc, cursor)?;
+    put_bytes(out, &read)?;
     Ok(read.items() == want)
 }
 
 /// Whether so many bytes are read, and are written as they were spelled.
 fn long_goes(
     alloc: Global,
-    out: &mut Out,
+    out: &mut Draft,
     cursor: &mut Cursor<'_>,
     want: usize,
 ) -> Result<bool, Fail> {
-    let read: LongBytes = read_bytes(alloc, cursor)?;
-    write_bytes(out, &read)?;
+    let read: LongBytes = take_bytes(alloc, cursor)?;
+    put_bytes(out, &read)?;
     Ok(read.items().len() == want)
 }
 
@@ -314,12 +324,12 @@ fn is_end(read: &MaybeError, want: &End) -> bool {
 /// Whether the end of a call is read, and is written as it was spelled.
 fn end_goes(
     alloc: Global,
-    out: &mut Out,
+    out: &mut Draft,
     cursor: &mut Cursor<'_>,
     want: &End,
 ) -> Result<bool, Fail> {
-    let read = read_maybe_error(alloc, cursor)?;
-    write_maybe_error(out, &read)?;
+    let read = take_maybe_error(alloc, cursor)?;
+    put_maybe_error(out, &read)?;
     Ok(is_end(&read, want))
 }
 
@@ -331,13 +341,6 @@ fn is_balances(pallet: &PalletInfo) -> bool {
         && pallet.major == 64
         && pallet.minor == 2
         && pallet.patch == 3
-}
-
-/// Whether the pallet of balances is read, and is written as it was spelled.
-fn pallet_goes(alloc: Global, out: &mut Out, cursor: &mut Cursor<'_>) -> Result<bool, Fail> {
-    let read = read_pallet_info(alloc, cursor)?;
-    write_pallet_info(out, &read)?;
-    Ok(is_balances(&read))
 }
 
 /// Whether the response is that one.
@@ -364,23 +367,22 @@ fn is_answer(read: &Response, want: &Answer) -> bool {
 }
 
 /// Whether the response is read, and is written as it was spelled.
-#[tactic(auto, using(xcm_format::proofs::Lemmas::OperandLaws::Written::response_named))]
 fn response_goes(
     alloc: Global,
-    out: &mut Out,
+    out: &mut Draft,
     cursor: &mut Cursor<'_>,
     v: Version,
     want: &Answer,
 ) -> Result<bool, Fail> {
-    let read = read_response(alloc, cursor, v)?;
-    write_response(out, &read, v)?;
+    let read = take_response(alloc, cursor, v)?;
+    put_response(out, &read, v)?;
     Ok(is_answer(&read, want))
 }
 
 /// Whether the value is read, and is written as it was spelled.
 fn goes(
     alloc: Global,
-    out: &mut Out,
+    out: &mut Draft,
     cursor: &mut Cursor<'_>,
     value: &Value,
 ) -> Result<bool, Fail> {
@@ -390,7 +392,6 @@ fn goes(
         Value::Name(want) => name_goes(alloc, out, cursor, want),
         Value::Long(want) => long_goes(alloc, out, cursor, *want),
         Value::End(want) => end_goes(alloc, out, cursor, want),
-        Value::Pallet => pallet_goes(alloc, out, cursor),
         Value::Response(v, want) => response_goes(alloc, out, cursor, *v, want),
         _ => number_goes(out, cursor, value),
     }
@@ -401,7 +402,9 @@ fn spells(alloc: Global, value: &Value, hex: &str) -> Result<bool, Fail> {
     let bytes = unhex(alloc, hex)?;
     let mut out = Out::new(alloc);
     let mut cursor = Cursor::new(bytes.as_slice());
-    let goes = goes(alloc, &mut out, &mut cursor, value)?;
+    let mut draft = out.draft();
+    let goes = goes(alloc, &mut draft, &mut cursor, value)?;
+    out.settle(draft, Ok(()))?;
     Ok(goes && out.bytes() == bytes.as_slice() && cursor.rest().is_empty())
 }
 
@@ -410,14 +413,11 @@ enum Form {
     Weight,
     Limit,
     Kind,
-    Error,
-    Failure,
     MaybeFailed,
     MaybePlace,
     Query,
     Name,
     End,
-    Pallet,
     /// A response of version 4.
     Response,
 }
@@ -432,13 +432,11 @@ const NOT_SPELLED: &[(Form, &str)] = &[
     (Form::Limit, "0104"),
     (Form::Limit, ""),
     (Form::Kind, "04"),
-    (Form::Error, ""),
-    (Form::Error, "23"),
-    (Form::Error, "1500000040000000"),
-    (Form::Failure, "000000"),
-    (Form::Failure, "0000000023"),
     (Form::MaybeFailed, "02"),
     (Form::MaybeFailed, "01000000"),
+    (Form::MaybeFailed, "0100000000"),
+    (Form::MaybeFailed, "010000000023"),
+    (Form::MaybeFailed, "01000000001500000040000000"),
     (Form::MaybePlace, "02"),
     (Form::MaybePlace, "010009"),
     (Form::Query, "01000404"),
@@ -459,10 +457,10 @@ const NOT_SPELLED: &[(Form, &str)] = &[
     ),
     (Form::End, "03"),
     (Form::End, "010801"),
-    // a name of 49 bytes, and then enough for the rest
+    // a pallet's name of 49 bytes, and then enough for the rest
     (
-        Form::Pallet,
-        "00c4000000000000000000000000000000000000000000000000000000000000000000000000000000000000000000000000000000000000000000000000",
+        Form::Response,
+        "040400c4000000000000000000000000000000000000000000000000000000000000000000000000000000000000000000000000000000000000000000000000",
     ),
     (Form::Response, ""),
     (Form::Response, "06"),
@@ -478,34 +476,31 @@ const NOT_SPELLED: &[(Form, &str)] = &[
 /// Whether no prefix of the bytes is spelled so.
 fn refuses(alloc: Global, cursor: &mut Cursor<'_>, form: &Form) -> bool {
     match form {
-        Form::Weight => read_weight(cursor).is_err(),
-        Form::Limit => read_weight_limit(cursor).is_err(),
-        Form::Kind => read_origin_kind(cursor).is_err(),
-        Form::Error => read_error(cursor).is_err(),
-        Form::Failure => read_failure(cursor).is_err(),
-        Form::MaybeFailed => read_optional_failure(cursor).is_err(),
-        Form::MaybePlace => read_optional_location(cursor).is_err(),
-        Form::Query => read_query_info(cursor).is_err(),
+        Form::Weight => take_weight(cursor).is_err(),
+        Form::Limit => take_weight_limit(cursor).is_err(),
+        Form::Kind => take_origin_kind(cursor).is_err(),
+        Form::MaybeFailed => take_optional_failure(cursor).is_err(),
+        Form::MaybePlace => take_optional_location(cursor).is_err(),
+        Form::Query => take_query_info(cursor).is_err(),
         Form::Name => {
-            let read: Result<PalletName, WireFault> = read_bytes(alloc, cursor);
+            let read: Result<PalletName, WireFault> = take_bytes(alloc, cursor);
             matches!(read, Err(WireFault::NoSpelling))
         }
-        Form::End => matches!(read_maybe_error(alloc, cursor), Err(WireFault::NoSpelling)),
-        Form::Pallet => matches!(read_pallet_info(alloc, cursor), Err(WireFault::NoSpelling)),
+        Form::End => matches!(take_maybe_error(alloc, cursor), Err(WireFault::NoSpelling)),
         Form::Response => matches!(
-            read_response(alloc, cursor, Version::V4),
+            take_response(alloc, cursor, Version::V4),
             Err(WireFault::NoSpelling)
         ),
     }
 }
 
-/// Whether no prefix of the bytes is spelled so, and the cursor stays.
+/// Whether no prefix of the bytes is spelled so.
 fn are_none(alloc: Global, form: &Form, bytes: &[u8]) -> bool {
     let mut cursor = Cursor::new(bytes);
-    refuses(alloc, &mut cursor, form) && cursor.rest() == bytes
+    refuses(alloc, &mut cursor, form)
 }
 
-/// Whether no prefix of what the hex says is spelled so, and the cursor stays.
+/// Whether no prefix of what the hex says is spelled so.
 fn is_none(alloc: Global, form: &Form, hex: &str) -> Result<bool, Fail> {
     let bytes = unhex(alloc, hex)?;
     Ok(are_none(alloc, form, bytes.as_slice()))
@@ -514,7 +509,7 @@ fn is_none(alloc: Global, form: &Form, hex: &str) -> Result<bool, Fail> {
 /// How many pallets the response of version 4 at the front of the bytes has, if it has pallets and is all of the bytes.
 fn pallets_of(alloc: Global, bytes: &[u8]) -> Result<Option<usize>, WireFault> {
     let mut cursor = Cursor::new(bytes);
-    let read = read_response(alloc, &mut cursor, Version::V4)?;
+    let read = take_response(alloc, &mut cursor, Version::V4)?;
     match read {
         Response::PalletsInfo(pallets) if cursor.rest().is_empty() => Ok(Some(
             pallets.items().len(),

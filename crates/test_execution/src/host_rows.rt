@@ -1,6 +1,6 @@
 //! What stays at the chain: moves between accounts, traps, arrivals, burns, queries, weight and fees.
 //!
-//! Each function is lent a chain that has just opened and says whether all calls answer as they should.
+//! Each function borrows a chain that has just opened and says whether all calls answer as they should.
 ghost use Rattle.std.specs.Prelude.{◌≡◌, ◌<◌, []};
 ghost use Rattle.amounts.specs.Amounts.{empty};
 ghost use Rattle.channel_parts.specs.declared.cargo.Cargo.{Cargo};

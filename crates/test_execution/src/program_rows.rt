@@ -1,6 +1,6 @@
 //! Messages in hexadecimal digits, and what their execution tells.
 //!
-//! Each function is lent a chain that has just opened.
+//! Each function borrows a chain that has just opened.
 ghost use Rattle.std.specs.Prelude.{OnOk};
 ghost use Rattle.exec_rules.specs.Readiness.{IsAtRest};
 ghost use Rattle.test_execution.specs.PartOf.{fake_part_of};

@@ -1,6 +1,6 @@
 //! What leaves the chain: transfers, deposits and shipments to another chain, reports, and programs.
 //!
-//! Each function is lent a chain that has just opened and says whether all calls answer as they should.
+//! Each function borrows a chain that has just opened and says whether all calls answer as they should.
 ghost use Rattle.exec_base.specs.Sending.{IsForwardable};
 
 use crate::chains::{A1, PARA, at, held, here, list, of, para};

@@ -1,6 +1,7 @@
 //! Limits, and sources and sinks that fail.
 
-use crate::explain_running::{Ran, ran_of};
+use crate::explain_running::ran_of;
+use crate::running::Ran;
 use std::alloc::Global;
 use std::test::Fail;
 use xcm_explain::Status;

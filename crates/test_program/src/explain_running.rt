@@ -2,39 +2,14 @@
 
 ghost use Rattle.std.specs.Prelude.{◌<◌};
 
+use crate::running::{ROOM, Ran, words_of};
 use std::alloc::Global;
 use std::test::Fail;
 use xcm_explain::{Status, explain};
 use xcm_io::{MemSink, MemSource};
 
-/// How many bytes may be written here.
-const ROOM: usize = 1_048_576;
-
 /// How many bytes are read and written at once.
 const PIECES: &[usize] = &[1, 2, 3, 7, 64, 65_536];
-
-/// What is answered and written.
-#[derive(Drop)]
-pub(crate) struct Ran {
-    pub(crate) status: Status,
-    pub(crate) bytes: Vec<u8>,
-}
-
-impl Ran {
-    /// Whether this is what is answered and written.
-    pub(crate) fn has(&self, status: Status, text: &[u8]) -> bool {
-        self.status == status && self.bytes.as_slice() == text
-    }
-}
-
-/// The words of the command line.
-fn words_of(alloc: Global, words: &[&str]) -> Result<Vec<String>, Fail> {
-    let mut list = Vec::new(alloc);
-    for word in words {
-        list.push(String::from_str(alloc, word)?)?;
-    }
-    Ok(list)
-}
 
 /// An explanation with these words over an input, by pieces of at most so many bytes, with the numbers of the reads and writes that fail.
 pub(crate) fn ran_of(

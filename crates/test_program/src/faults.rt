@@ -1,5 +1,6 @@
 //! Limits, and sources and sinks that fail.
 
+use crate::documents::THREE_CHAINS;
 use crate::parts::{Grown, ONCE, Part, Piece};
 use crate::running::{RUN, Ran, run_of};
 use std::alloc::Global;
@@ -73,6 +74,13 @@ pub(crate) const LIMITS: &[Grown] = &[
             Part::Each(1, &[Piece::Times(" ", 1_048_574)]),
             Part::Text("\n"),
         ],
+        status: Status::TooLong,
+        report: &[],
+        pieces: ONCE,
+    },
+    Grown {
+        name: "more than a mebibyte of spaces",
+        input: &[Part::Each(1, &[Piece::Times(" ", 1_048_577)])],
         status: Status::TooLong,
         report: &[],
         pieces: ONCE,
@@ -201,5 +209,14 @@ fn failing_sources_and_sinks_leave_a_front_of_the_report(rt: HostRuntime) -> Res
             "at write {failing}"
         );
     }
+    Ok(())
+}
+
+#[test]
+fn a_sink_that_fails_at_its_second_write_has_the_first_eight_bytes(
+    rt: HostRuntime,
+) -> Result<(), Fail> {
+    let ran = run_of(rt.alloc(), RUN, THREE_CHAINS.as_bytes(), 8, &[], &[2])?;
+    assert!(&rt; ran.has(Status::WriteFault, b"coherent"));
     Ok(())
 }

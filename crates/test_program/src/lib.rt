@@ -1,9 +1,15 @@
 //! The program on whole inputs over memory, in several cuts of the bytes and with calls that fail; runs of the generator; and explanations
-//! of messages, cut and failing likewise.
+//! of messages and the way back, cut and failing likewise.
 #![tactic(auto)]
 
 #[cfg(test)]
 mod calls;
+#[cfg(test)]
+mod compose_messages;
+#[cfg(test)]
+mod compose_running;
+#[cfg(test)]
+mod compose_trees;
 #[cfg(test)]
 mod crowds;
 #[cfg(test)]

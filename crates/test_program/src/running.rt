@@ -14,8 +14,8 @@ pub(crate) const RUN: &[&str] = &["run"];
 /// The words that run a network, with the sums after each step.
 pub(crate) const AUDIT: &[&str] = &["run", "--audit"];
 
-/// How many bytes a report may have here.
-const ROOM: usize = 1_048_576;
+/// How many bytes may be written here.
+pub(crate) const ROOM: usize = 1_048_576;
 
 /// A whole input, its answer and its report.
 pub(crate) struct Row {
@@ -29,7 +29,7 @@ pub(crate) struct Row {
     pub(crate) report: &'static str,
 }
 
-/// What a run answers and writes.
+/// What is answered and written.
 #[derive(Drop)]
 pub(crate) struct Ran {
     pub(crate) status: Status,
@@ -37,14 +37,14 @@ pub(crate) struct Ran {
 }
 
 impl Ran {
-    /// Whether this is what it answers and writes.
-    pub(crate) fn has(&self, status: Status, report: &[u8]) -> bool {
-        self.status == status && self.bytes.as_slice() == report
+    /// Whether this is what is answered and written.
+    pub(crate) fn has(&self, status: Status, text: &[u8]) -> bool {
+        self.status == status && self.bytes.as_slice() == text
     }
 }
 
 /// The words of the command line.
-fn words_of(alloc: Global, words: &[&str]) -> Result<Vec<String>, Fail> {
+pub(crate) fn words_of(alloc: Global, words: &[&str]) -> Result<Vec<String>, Fail> {
     let mut list = Vec::new(alloc);
     for word in words {
         list.push(String::from_str(alloc, word)?)?;

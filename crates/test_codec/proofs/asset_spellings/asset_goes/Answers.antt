@@ -1,0 +1,7 @@
+use Rattle.asset_wire.proofs.Lemmas.FieldLaws.{asset_reads}
+use Rattle.asset_wire.proofs.Lemmas.Written.{asset_writable}
+use Rattle.test_codec.proofs.asset_spellings.asset_goes.Goals as goal
+
+-- what was read can be written
+pub put_asset-written-requires : goal.put_asset-written-requires
+put_asset-written-requires c = asset_writable c.args.v c.in_ok-read.read ((asset_reads c.args.v).takes _ _ _ c.in_ok-read.ensures).1
