@@ -272,7 +272,7 @@ module _ (listed : List Listed) (who : List ℕ) where
       (fungibles_once once u rows sorted.1)
 
 -- ---- the rows of one account among those of all
-first_in_range : (who : List ℕ) (k : AmountKey) → eq_by_cmp account_cmp who k.0 ≡ true → range_contains amount_key_cmp (Included (who, 0)) Unbounded k ≡ true
+pub first_in_range : (who : List ℕ) (k : AmountKey) → eq_by_cmp account_cmp who k.0 ≡ true → range_contains amount_key_cmp (Included (who, 0)) Unbounded k ≡ true
 first_in_range who k t = and_from _ _ (ap (λ o. is_le (ordering_then o (nat_cmp 0 k.1))) (equal_told (account_cmp who k.0) t) ∙ least k.1) refl
   where
     least : (n : ℕ) → is_le (nat_cmp 0 n) ≡ true

@@ -18,6 +18,7 @@ pub mod Transferring
 pub mod LedgerLaws
 pub mod AccountOrders
 pub mod AccountGoods
+pub mod AccountSums
 pub mod NextAccounts
 pub mod NextRows
 pub mod NextListed

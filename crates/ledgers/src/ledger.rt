@@ -12,6 +12,7 @@ ghost use Rattle.asset_bundles.specs.Books.{AreListed};
 ghost use Rattle.ledgers.specs.Ledgers.{listed_pair, number_in, sum_of, account_sum_of, owners_of, IsOwner, NoneNext, IsNext, account_goods, shortage, overflow, is_barred, barred, Withdrawn, Deposited, Transferred};
 ghost use Rattle.ledgers.specs.LedgerFaults.{IsFirstBarred, IsLedgerFault, IsDepositFault, IsTransferable, IsTransferBar, IsTransferFault};
 
+use crate::account_sums::account_sums;
 use crate::asset_table::AssetTable;
 use crate::list_moves::{
     barred, give_all, make_all_room, overflow, put_all, shortage, sweep_all, take_all,
@@ -120,6 +121,18 @@ impl Ledger {
         ensures count { result ≡ account_sum_of who.now (id.now, Kind.Class) self.now.held }
     {
         self.rows.part(who, id, Kind::Class)
+    }
+
+    /// What an account has of each listed asset, by the asset's number: the amount of a fungible one, or how many instances of a class. It goes once
+    /// over what the account has. An `Err` is out of memory.
+    pub fn account_sums(&self, who: &[u8; 32]) -> Result<Vec<u128>, AllocError>
+        ensures sums { IfOk result (λ sums. sums.items
+            ≡ map (λ asset. account_sum_of who.now asset self.now.held) self.now.listed) }
+    {
+        let count = self.rows.assets.len() as usize;
+        let alloc = *self.rows.sums.allocator();
+        let sums = account_sums(alloc, &self.rows.amounts, count, who)?;
+        Ok(sums)
     }
 
     /// The account that has an instance; None where no account has it.

@@ -2,6 +2,7 @@
 #![tactic(auto)]
 
 mod account_key;
+mod account_sums;
 mod asset_table;
 mod faults;
 mod laws;
