@@ -6,3 +6,4 @@ pub mod Idle
 pub mod Listing
 pub mod Indexed
 pub mod Found
+pub mod Held

@@ -11,3 +11,4 @@ pub mod Covers
 pub mod Stale
 pub mod Renewed
 pub mod Found
+pub mod Held

@@ -14,14 +14,16 @@ ghost use Rattle.supply_audit.specs.RowPlaces as places;
 ghost use Rattle.supply_audit.specs.AssetPlaces.{ArePlaces, HavePlacesOf};
 ghost use Rattle.supply_audit.specs.Covers.{cover_at, cover_between, cover_by, cover_of_row, cover_of_chain, number_of, of_cover, held_at, owed_at, coming_at, standing_at, own_touched, kept_touched};
 ghost use Rattle.supply_audit.specs.Found.{IsRightOf};
+ghost use Rattle.supply_audit.specs.Held.{IsHeldRight};
 
 use crate::asset_places::AssetPlaces;
 use crate::audit::name_of;
 use crate::figures::{Carried, Figure};
 use crate::last_found::LastFound;
+use crate::last_held::LastHeld;
 use crate::messages::same_chain;
 use crate::network_asset::NetworkAsset;
-use crate::over_places::{chain_of, over_places, sent_over};
+use crate::over_places::{chain_of, held_over, over_places, sent_over};
 use crate::places::no_name;
 use crate::stale::are_touched;
 use crate::totals::none;
@@ -238,14 +240,20 @@ pub(crate) fn standing(
     }
 }
 
-/// What the account of a derivative's chain has at the reserve; 0 where there is none.
-pub(crate) fn held(name: &mut AssetId, chains: &[ChainState], cover: &Option<Cover>) -> Total
-    ensures { total_value result
-        ≡ min (of_cover (held_at (map part_of chains.now)) cover.now) most_burned }
+/// What the account of a derivative's chain has at the reserve; 0 where there is none. An `Err` is out of memory.
+pub(crate) fn held(
+    found: &mut LastHeld,
+    chains: &[ChainState],
+    cover: &Option<Cover>,
+) -> Result<Total, AllocError>
+    requires { IsHeldRight found.old (map part_of chains.now) }
+    ensures right { IsHeldRight found.new (map part_of chains.now) }
+    ensures held { IfOk result (λ total. total_value total
+        ≡ min (of_cover (held_at (map part_of chains.now)) cover.now) most_burned) }
 {
     match cover {
-        None => none(),
-        Some(cover) => cover.held(name, chains),
+        None => Ok(none()),
+        Some(cover) => held_over(found, cover.there, cover.here, chains, &cover.kept),
     }
 }
 

@@ -3,24 +3,28 @@ ghost use Rattle.std.specs.Prelude.{◌≡◌, IfOk, map};
 ghost use Rattle.chain_state.specs.PartOf.{part_of};
 ghost use Rattle.supply_audit.specs.declared.figures.Carried.TheVariants.{Deposits, Withdrawals};
 ghost use Rattle.supply_audit.specs.Found.{IsRightOf};
+ghost use Rattle.supply_audit.specs.Held.{IsHeldRight};
 ghost use Rattle.supply_audit.specs.Renewed.{HasFigures, IsRenewed};
 
 use crate::cover::{Cover, CoverFigures, coming, held, standing, touched};
 use crate::last_found::LastFound;
+use crate::last_held::LastHeld;
 use crate::places::no_name;
 use asset_lists::AssetId;
 use chain_state::ChainState;
 use std::alloc::{AllocError, Global};
 
-/// Chains whose figures are read, and what was found last of the messages between them: for derivatives of one chain and one reserve these
-/// are looked at once.
+/// Chains whose figures are read, and what was found last of the messages between them and of an account at one: for derivatives of one chain
+/// and one reserve these are looked at once.
 #[derive(Drop)]
 pub struct FigureReader<'a> {
     /// The chains.
     pub chains: &'a [ChainState],
+    held: LastHeld,
     coming: LastFound,
     leaving: LastFound,
     name: AssetId,
+    ghost held_right: { IsHeldRight held (map part_of chains.now) },
     ghost coming_right: { IsRightOf coming Deposits (map part_of chains.now) },
     ghost leaving_right: { IsRightOf leaving Withdrawals (map part_of chains.now) },
 }
@@ -32,6 +36,7 @@ impl<'a> FigureReader<'a> {
     {
         FigureReader {
             chains,
+            held: LastHeld::nothing(alloc),
             coming: LastFound::nothing(alloc),
             leaving: LastFound::nothing(alloc),
             name: no_name(),
@@ -44,7 +49,7 @@ impl<'a> FigureReader<'a> {
         ensures figures { IfOk result (λ figures. HasFigures figures
             (map part_of self.old.chains.now) cover.now) }
     {
-        let held = held(&mut self.name, self.chains, cover);
+        let held = held(&mut self.held, self.chains, cover)?;
         let coming = coming(&mut self.coming, self.chains, cover)?;
         let standing = standing(&mut self.leaving, &mut self.name, self.chains, cover)?;
         Ok(CoverFigures {
@@ -69,7 +74,7 @@ impl<'a> FigureReader<'a> {
         let (own, kept) = touched(stale, cover);
         let mut figures = known;
         if kept {
-            figures.held = held(&mut self.name, self.chains, cover);
+            figures.held = held(&mut self.held, self.chains, cover)?;
             figures.coming = coming(&mut self.coming, self.chains, cover)?;
         }
         if own {

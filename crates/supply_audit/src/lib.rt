@@ -8,6 +8,7 @@ mod figure_reader;
 mod figures;
 mod home_places;
 mod last_found;
+mod last_held;
 mod messages;
 mod network_asset;
 mod over_places;

@@ -4,8 +4,10 @@ ghost use Rattle.std.specs.Option.{option_copied};
 ghost use Rattle.asset_bundles.specs.Books.{most_burned};
 ghost use Rattle.asset_bundles.specs.Totals.{total_value};
 ghost use Rattle.chain_state.specs.PartOf.{part_of};
-ghost use Rattle.supply_audit.specs.declared.figures.Figure.TheVariants.{Sent};
+ghost use Rattle.trust_tables.specs.Accounts.{sovereign_account};
+ghost use Rattle.supply_audit.specs.declared.figures.Figure.TheVariants.{Account, Sent};
 ghost use Rattle.supply_audit.specs.Found.{IsRightOf};
+ghost use Rattle.supply_audit.specs.Held.{IsHeldRight};
 ghost use Rattle.supply_audit.specs.Supplies.{HasSums};
 ghost use Rattle.supply_audit.specs.RowPlaces.{over_places, placed_over, flight_over, burned_over, place_share, share_in};
 ghost use Rattle.supply_audit.specs.RowPlaces as at;
@@ -13,6 +15,7 @@ ghost use Rattle.supply_audit.specs.RowPlaces as at;
 use crate::Place;
 use crate::figures::{Carried, Figure};
 use crate::last_found::LastFound;
+use crate::last_held::LastHeld;
 use crate::places::figure;
 use crate::table::row_supply;
 use crate::totals::{no_supply, none, sum};
@@ -87,6 +90,28 @@ pub(crate) fn sent_over(
     let mut total = none();
     for place in places {
         total = total.sum(found.sum(what, chains, *place, to)?);
+    }
+    Ok(total)
+}
+
+/// What the account of the second chain at the first has at these positions. It saturates at 2^160-1. The account is looked at once for all of
+/// them. An `Err` is out of memory.
+pub(crate) fn held_over(
+    found: &mut LastHeld,
+    there: ChainId,
+    here: ChainId,
+    chains: &[ChainState],
+    places: &[Place],
+) -> Result<Total, AllocError>
+    requires { IsHeldRight found.old (map part_of chains.now) }
+    ensures right { IsHeldRight found.new (map part_of chains.now) }
+    ensures held { IfOk result (λ total. total_value total
+        ≡ min (at.over_places (Account (sovereign_account there here))
+        (map part_of chains.now) places.now) most_burned) }
+{
+    let mut total = none();
+    for place in places {
+        total = total.plus(found.amount(chains, *place, there, here)?);
     }
     Ok(total)
 }
