@@ -1,5 +1,5 @@
 //! The positions of the rows of assets at their homes.
-ghost use Rattle.std.specs.Prelude.{◌≡◌, ◌++◌, ◌∷◌, [], false, map, IfOk, OnOk, IsTrue, if◌then◌else◌};
+ghost use Rattle.std.specs.Prelude.{◌≡◌, ◌++◌, ◌∷◌, [], map, IfOk, OnOk, IsTrue, if◌then◌else◌};
 ghost use Rattle.std.specs.BTreeSet.{contains};
 ghost use Rattle.std.specs.Ordering.{eq_by_cmp};
 ghost use Rattle.trust_tables.specs.Chains.{path_of_site};
@@ -52,18 +52,6 @@ impl HomePlaces {
     }
 }
 
-/// Takes the positions of an asset out.
-fn take_places(alloc: Global, places: &mut Places, asset: &NetworkAsset) -> Vec<Place>
-    ensures taken { result.items ≡ places_in places.old.entries asset.now }
-    ensures others { (a : UniversalAsset) → eq_by_cmp universal_asset_cmp asset.now a ≡ false
-        → places_in places.new.entries a ≡ places_in places.old.entries a }
-{
-    match places.remove(asset) {
-        Some(list) => list,
-        None => Vec::new(alloc),
-    }
-}
-
 /// Writes the positions of an asset.
 fn write_places(
     places: &mut Places,
@@ -89,7 +77,11 @@ pub(crate) fn add_place(
         ≡ (if eq_by_cmp universal_asset_cmp asset a then places_in places.old.entries asset ++ place ∷ []
         else places_in places.old.entries a)) }
 {
-    let mut list = take_places(alloc, places, &asset);
+    if let Some(list) = places.get_mut(&asset) {
+        list.push(place)?;
+        return Ok(());
+    }
+    let mut list = Vec::new(alloc);
     list.push(place)?;
     write_places(places, asset, list)
 }

@@ -1,4 +1,4 @@
-use Rattle.std.proofs.Common.{◌≡◌, ◌∙◌, ℕ, List, get_or, map, ap}
+use Rattle.std.proofs.Common.{◌∙◌, ℕ, List, get_or, map, ap}
 use Rattle.ledgers.specs.Ledgers.{Accounts, account_sum_of}
 use Rattle.chain_state.specs.PartOf.{part_of}
 use Rattle.supply_audit.proofs.Held.{held_in_row}
