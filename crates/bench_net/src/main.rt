@@ -111,7 +111,8 @@ fn timed(alloc: Global, steps: u64, others: u32) -> Result<u64, AllocError> {
     stepped(&mut net, steps, &there, &back)
 }
 
-/// What is timed.
+/// How much is timed.
+#[derive(Clone, Copy, Debug)]
 struct Counts {
     steps: u64,
     parachains: u32,
@@ -120,7 +121,7 @@ struct Counts {
 }
 
 /// The four numbers.
-fn counts(words: &[String]) -> Option<Counts> {
+fn parsed(words: &[String]) -> Option<Counts> {
     match words {
         [_, steps, parachains, accounts, deposits] => Some(Counts {
             steps: steps.parse().ok()?,
@@ -135,7 +136,7 @@ fn counts(words: &[String]) -> Option<Counts> {
 fn main(rt: HostRuntime) -> io::Result<ExitCode> {
     let alloc = rt.alloc();
     let words: Vec<String> = env::args(&rt)?.collect(alloc)?;
-    match counts(&words) {
+    match parsed(&words) {
         Some(counts) if counts.parachains > 0 => {
             println!(rt; "{}", timed(alloc, counts.steps, counts.parachains - 1)?)?;
             println!(rt; "{}", deposited(alloc, counts.accounts, counts.deposits)?)?;
