@@ -224,8 +224,8 @@ impl Ledger {
     {
         let assets = list.items();
         let goods = AssetBundle::mint(*self.rows.sums.allocator(), assets)?;
-        take_all(&mut self.rows, who, assets);
-        sweep_all(&mut self.rows, who, assets);
+        let swept = take_all(&mut self.rows, who, assets);
+        sweep_all(&mut self.rows, who, assets, swept);
         Ok(goods)
     }
 
@@ -379,9 +379,9 @@ impl Ledger {
             return Ok(());
         }
         make_all_room(&mut self.rows, to, assets)?;
-        take_all(&mut self.rows, from, assets);
+        let swept = take_all(&mut self.rows, from, assets);
         give_all(&mut self.rows, to, assets);
-        sweep_all(&mut self.rows, from, assets);
+        sweep_all(&mut self.rows, from, assets, swept);
         Ok(())
     }
 }
