@@ -2,10 +2,11 @@
 
 ghost use Rattle.std.specs.Prelude.{◌≡◌, ◌++◌, IfOk, OnOk, codes, decimal, flat_map, string_bytes};
 ghost use Rattle.chain_ids.specs.Texts.{chain_text};
+ghost use Rattle.operands.specs.Texts.{weight_text};
 ghost use Rattle.exec_base.specs.declared.event.Event.{Event};
 ghost use Rattle.step_text.specs.Steps.{event_line, outcome_line, answer_line, step_text, drained_line};
 
-use crate::assets::{origin_text, topic_text};
+use crate::assets::{push_origin, push_topic};
 use crate::words::{Shown, call_name, call_result, cause_name, kind_name, part_head};
 use asset_bundles::{Cause, Total};
 use asset_lists::Kind;
@@ -194,19 +195,35 @@ fn push_end(
         ≡ string_bytes text.old ++ event_line
         (Event.End origin.now topic.now surplus refunded)) }
 {
-    let origin = origin_text(alloc, origin)?;
-    let topic = topic_text(alloc, topic)?;
-    write!(
-        text,
-        "  end origin {origin} topic {topic} surplus {surplus} refunded {refunded}\n"
-    )
+    text.push_str("  end origin ")?;
+    push_origin(alloc, text, origin)?;
+    text.push_str(" topic ")?;
+    push_topic(alloc, text, topic)?;
+    text.push_str(" surplus ")?;
+    push_weight(text, surplus)?;
+    text.push_str(" refunded ")?;
+    push_weight(text, refunded)?;
+    text.push_str("\n")
+}
+
+/// Appends a weight.
+fn push_weight(text: &mut String, weight: Weight) -> Result<(), AllocError>
+    ensures { OnOk result (string_bytes text.new ≡ string_bytes text.old ++ weight_text weight) }
+{
+    push_number(text, weight.ref_time)?;
+    text.push_str(" ")?;
+    push_number(text, weight.proof_size)
 }
 
 /// Appends a number.
 fn push_number(text: &mut String, number: u64) -> Result<(), AllocError>
     ensures { OnOk result (string_bytes text.new ≡ string_bytes text.old ++ decimal number) }
 {
-    write!(text, "{number}")
+    // For speed: surpluses and sizes are often none.
+    match number {
+        0 => text.push_str("0"),
+        _ => write!(text, "{number}"),
+    }
 }
 
 /// Appends the line of how an execution ended.
@@ -214,7 +231,11 @@ fn push_outcome(text: &mut String, outcome: Outcome) -> Result<(), AllocError>
     ensures { OnOk result (string_bytes text.new ≡ string_bytes text.old ++ outcome_line outcome) }
 {
     match outcome {
-        Outcome::Complete { used } => write!(text, "  = complete {used}\n"),
+        Outcome::Complete { used } => {
+            text.push_str("  = complete ")?;
+            push_weight(text, used)?;
+            text.push_str("\n")
+        }
         Outcome::Incomplete { used, error } => write!(text, "  = incomplete {used} {error}\n"),
         Outcome::Error { error } => write!(text, "  = error {error}\n"),
     }
