@@ -37,25 +37,23 @@ impl AssetPlaces {
         Ok(AssetPlaces { places })
     }
 
-    /// The positions of the rows of an asset that the chain of this number lists. An `Err` is out of memory.
-    pub(crate) fn at(
-        &self,
-        alloc: Global,
-        asset: &NetworkAsset,
-        chain: usize,
-    ) -> Result<Vec<Place>, AllocError>
-        ensures { IfOk result (λ list. list.items
-            ≡ filter (is_at chain) (places_in self.now.places.entries asset.now)) }
+    /// The positions of the rows of an asset, chain by chain.
+    pub(crate) fn of_asset(&self, asset: &NetworkAsset) -> &[Place]
+        ensures { result.now ≡ places_in self.now.places.entries asset.now }
     {
         match self.places.get(asset) {
-            None => Ok(Vec::new(alloc)),
-            Some(list) => places_at(alloc, list.as_slice(), chain),
+            None => &[],
+            Some(list) => list.as_slice(),
         }
     }
 }
 
 /// Those of the positions that are at the chain of this number.
-fn places_at(alloc: Global, places: &[Place], chain: usize) -> Result<Vec<Place>, AllocError>
+pub(crate) fn places_at(
+    alloc: Global,
+    places: &[Place],
+    chain: usize,
+) -> Result<Vec<Place>, AllocError>
     ensures { IfOk result (λ list. list.items ≡ filter (is_at chain) places.now) }
 {
     let mut list = Vec::new(alloc);
