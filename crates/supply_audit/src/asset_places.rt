@@ -13,8 +13,8 @@ use crate::Place;
 use crate::home_places::{Places, add_place};
 use crate::network_asset::NetworkAsset;
 use chain_state::ChainState;
+use indexmap::IndexMap;
 use std::alloc::{AllocError, Global};
-use std::collections::BTreeMap;
 use trust_tables::AssetRow;
 
 /// The positions of the rows of each asset, at all chains that list it.
@@ -30,7 +30,7 @@ impl AssetPlaces {
         ensures { IfOk result
             (λ index. ArePlaces index.places.entries (map chain_table (map part_of chains.now))) }
     {
-        let mut places = BTreeMap::new(alloc);
+        let mut places = IndexMap::new(alloc);
         for (number, chain) in chains.iter().enumerate() {
             add_rows(alloc, &mut places, number, chain)?;
         }
