@@ -24,8 +24,8 @@ pub struct AssetPlaces {
 }
 
 impl AssetPlaces {
-    /// The positions of the rows of these chains. It takes time in proportion to the rows of all chains and the logarithm of the number of assets. An
-    /// `Err` is out of memory.
+    /// The positions of the rows of these chains. It takes time in proportion to the rows of all chains, where few paths are hashed alike. An `Err` is
+    /// out of memory.
     pub fn of(alloc: Global, chains: &[ChainState]) -> Result<AssetPlaces, AllocError>
         ensures { IfOk result
             (λ index. ArePlaces index.places.entries (map chain_table (map part_of chains.now))) }
