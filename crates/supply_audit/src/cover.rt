@@ -209,7 +209,7 @@ pub fn backing_at(chains: &[ChainState], cover: &Option<Cover>) -> Backing
 }
 
 /// Whether a derivative's own positions, or those at its reserve, are at a chain that has changed, by a flag for each chain.
-pub(crate) fn touched(stale: &[bool], cover: &Option<Cover>) -> (bool, bool)
+pub fn touched(stale: &[bool], cover: &Option<Cover>) -> (bool, bool)
     ensures own { result.0 ≡ own_touched stale.now cover.now }
     ensures kept { result.1 ≡ kept_touched stale.now cover.now }
 {
