@@ -1,19 +1,18 @@
 //! A network with what is kept of its supply block.
 ghost use Rattle.std.specs.Prelude.{◌≡◌, IfOk};
 
-use crate::KeptBlock;
 use chain_net::Net;
-use report_text::SupplyPlan;
+use report_text::{SupplyPlan, SupplySheet};
 use std::alloc::{AllocError, Global};
 use std::marker::Model;
 
-/// A network with its supply block as it is kept between steps: the plan, which is made once, since no step changes what chains list, or the lines as
-/// they were written last. Contracts see it as the network.
+/// A network with its supply block as it is kept between steps: the lines as they were written last, by a plan that is made once, since no step changes
+/// what chains list. Contracts see it as the network.
 #[derive(Drop)]
 pub struct AuditedNet {
     pub(crate) net: Net,
     // None while a step runs, and where memory was refused to it.
-    pub(crate) kept: Option<KeptBlock>,
+    pub(crate) kept: Option<SupplySheet>,
 }
 
 impl Model for AuditedNet {
@@ -33,14 +32,15 @@ impl Model for AuditedNet {
 }
 
 impl AuditedNet {
-    /// The network, with the plan of its supply block. An `Err` is out of memory.
+    /// The network, with its supply block. An `Err` is out of memory.
     pub(crate) fn new(alloc: Global, net: Net) -> Result<AuditedNet, AllocError>
         ensures same { IfOk result (λ audited. audited ≡ net) }
     {
         let plan = SupplyPlan::of(alloc, net.chains())?;
+        let sheet = SupplySheet::of(alloc, plan, net.chains())?;
         Ok(AuditedNet {
             net,
-            kept: Some(KeptBlock::Planned(plan)),
+            kept: Some(sheet),
         })
     }
 }
