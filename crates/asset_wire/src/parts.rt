@@ -66,15 +66,6 @@ pub fn blank_id() -> AssetId
     })
 }
 
-/// The id as the version spells it.
-pub fn take_asset_id(c: &mut Cursor<'_>, v: Version) -> Result<AssetId, NoSpelling>
-    ensures { Got result (asset_id_at v c.old) c.new }
-{
-    let mut id = blank_id();
-    fill_asset_id(c, &mut id, v)?;
-    Ok(id)
-}
-
 /// Which instance it is, at the front.
 #[tactic(auto, unfolding(crate::specs::Reading::instance_at))]
 #[inline(never)]
@@ -147,6 +138,19 @@ pub fn take_asset(c: &mut Cursor<'_>, v: Version) -> Result<Asset, NoSpelling>
     Ok(asset)
 }
 
+/// The asset as the version spells it, read where it will be.
+pub fn take_boxed_asset(
+    alloc: Global,
+    c: &mut Cursor<'_>,
+    v: Version,
+) -> Result<Boxed<Asset>, WireFault>
+    ensures { GotOrFails (λ asset. asset) result (asset_at v c.old) c.new }
+{
+    let mut asset = Box::new(alloc, blank_asset())?;
+    fill_asset(c, &mut *asset, v)?;
+    Ok(Boxed::from_box(asset))
+}
+
 /// So many assets, each read where it is in the list. Memory is taken once.
 fn take_several(
     alloc: Global,
@@ -192,6 +196,16 @@ fn take_wild_fun(c: &mut Cursor<'_>) -> Result<WildFun, NoSpelling>
     }
 }
 
+/// The id as the version spells it, read where it will be: apart, since it makes a large value.
+#[inline(never)]
+fn take_boxed_id(alloc: Global, c: &mut Cursor<'_>, v: Version) -> Result<Boxed<AssetId>, WireFault>
+    ensures { GotOrFails (λ id. id) result (asset_id_at v c.old) c.new }
+{
+    let mut id = Box::new(alloc, blank_id())?;
+    fill_asset_id(c, &mut *id, v)?;
+    Ok(Boxed::from_box(id))
+}
+
 #[tactic(auto, unfolding(crate::specs::Reading::wild_at))]
 fn take_wild(alloc: Global, c: &mut Cursor<'_>, v: Version) -> Result<Wild, WireFault>
     ensures { GotOrFails (λ wild. wild) result (wild_at v c.old) c.new }
@@ -199,13 +213,13 @@ fn take_wild(alloc: Global, c: &mut Cursor<'_>, v: Version) -> Result<Wild, Wire
     match c.u8()? {
         0 => Ok(Wild::All),
         1 => {
-            let id = Boxed::new(alloc, take_asset_id(c, v)?)?;
+            let id = take_boxed_id(alloc, c, v)?;
             let fun = take_wild_fun(c)?;
             Ok(Wild::AllOf { id, fun })
         }
         2 => Ok(Wild::AllCounted(c.compact_u32()?)),
         3 => {
-            let id = Boxed::new(alloc, take_asset_id(c, v)?)?;
+            let id = take_boxed_id(alloc, c, v)?;
             let fun = take_wild_fun(c)?;
             let count = c.compact_u32()?;
             Ok(Wild::AllOfCounted { id, fun, count })

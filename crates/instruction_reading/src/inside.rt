@@ -8,7 +8,7 @@ ghost use Rattle.asset_wire.specs.Reading.{asset_at};
 ghost use Rattle.xcm_format.specs.Reading.{query_info_at};
 
 use asset_lists::Asset;
-use asset_wire::{Version, WireFault, take_asset};
+use asset_wire::{Version, WireFault, take_boxed_asset};
 use location_wire::{fill_junctions, fill_location};
 use locations::{Junctions, Location};
 use operands::QueryInfo;
@@ -29,9 +29,10 @@ pub(crate) fn nothing_inside(alloc: Global) -> Program
 pub(crate) fn take_location(alloc: Global, c: &mut Cursor<'_>) -> Result<Boxed<Location>, WireFault>
     ensures { GotOrFails (λ location. location) result (location_at c.old) c.new }
 {
-    let mut location = Location::here();
-    fill_location(c, &mut location)?;
-    Ok(Boxed::new(alloc, location)?)
+    // Read where it will be.
+    let mut location = Box::new(alloc, Location::here())?;
+    fill_location(c, &mut *location)?;
+    Ok(Boxed::from_box(location))
 }
 
 /// A location or none.
@@ -65,8 +66,7 @@ pub(crate) fn take_one_asset(
 ) -> Result<Boxed<Asset>, WireFault>
     ensures { GotOrFails (λ asset. asset) result (asset_at v c.old) c.new }
 {
-    let asset = take_asset(c, v)?;
-    Ok(Boxed::new(alloc, asset)?)
+    take_boxed_asset(alloc, c, v)
 }
 
 /// Where a report goes, and for which query.

@@ -29,6 +29,13 @@ impl<T: Drop> Boxed<T> {
 }
 
 impl<T> Boxed<T> {
+    /// The value of a box, which stays where it is: so a large value is made in its box and not moved there.
+    pub fn from_box(inner: Box<T>) -> Boxed<T>
+        ensures { result ≡ inner.value }
+    {
+        Boxed { inner }
+    }
+
     /// The value.
     pub fn value(&self) -> &T
         ensures { result.now ≡ self.now }
