@@ -64,6 +64,10 @@ kept_at : (a : Asset) (n : ℕ) (rest : List Asset) → 0 < n → n ≡ amount_o
 kept_at a zero rest some is = absurd (omega (arith, some))
 kept_at a (suc n) rest some is = ap (λ m. asset_with a m ∷ rest) is ∙ ap (λ b. b ∷ rest) (whole_asset a)
 
+pub all_kept : (xs : List Asset) → IsPositive (rows_of xs) → changed (λ u n. n) xs ≡ xs
+all_kept [] positive = refl
+all_kept (a ∷ xs) positive = kept_at a (amount_of a) (changed (λ u n. n) xs) positive.0 refl ∙ ap (λ ys. a ∷ ys) (all_kept xs positive.1)
+
 not_less : (r : Ordering) → r ≡ Less → is_eq r ≡ false
 not_less r is = ap is_eq is
 

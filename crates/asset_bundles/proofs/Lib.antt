@@ -19,3 +19,4 @@ mod Searching
 mod Claiming
 mod Conserving
 mod Settling
+mod Whole

@@ -1,8 +1,8 @@
 //! Bundles of assets.
-ghost use Rattle.std.specs.Prelude.{◌≡◌, ◌≤◌, ◌↔◌, None, length, IsTrue, IsFalse, IfOk, IfErr, OnOk, OnErr};
+ghost use Rattle.std.specs.Prelude.{◌≡◌, ◌≤◌, ◌↔◌, [], ◌∷◌, None, length, IsTrue, IsFalse, IfOk, IfErr, OnOk, OnErr};
 ghost use Rattle.amounts.specs.Amounts.{empty, amount, total, rows, minus, merge, difference, IsWithin};
 ghost use Rattle.asset_lists.specs.declared.filters.Filter.{Filter};
-ghost use Rattle.asset_lists.specs.Units.{Unit, unit_of, amount_of};
+ghost use Rattle.asset_lists.specs.Units.{Unit, unit_of, amount_of, is_zero};
 ghost use Rattle.asset_lists.specs.Lists.{has_zero};
 ghost use Rattle.asset_lists.specs.Moves.{occurrences};
 ghost use Rattle.asset_bundles.specs.Bundles.{bundle_of, held_assets, is_asset};
@@ -11,12 +11,13 @@ ghost use Rattle.asset_bundles.specs.Joins.{IsWithinMost};
 ghost use Rattle.asset_bundles.specs.Taking.{IsTakeFault};
 
 use crate::TakeFault;
-use crate::items::{amount_held, amounts_fit, holds, total};
-use crate::portions::{chosen, cut, parted, parted_by_list};
-use crate::spending::give_up;
-use asset_lists::{Asset, AssetId, Assets, Filter, Kind, copied};
+use crate::items::{amount_held, amounts_fit, held, holds, total};
+use crate::portions::{chosen, cut, parted, parted_by_list, takes_all};
+use crate::spending::{give_up, give_up_amount};
+use asset_lists::{Asset, AssetId, Assets, Filter, Kind, copied, push_asset};
 use std::alloc::{AllocError, Global};
 use std::marker::Model;
+use std::mem::replace;
 
 /// Assets that are held. A bundle isn't copied, and isn't dropped, not even when it is empty: it is spent
 /// by a call that takes it.
@@ -67,6 +68,14 @@ impl AssetBundle {
         ensures { self.new ≡ minus self.old (unit_of asset.now) (amount_of asset.now) }
     {
         give_up(&mut self.items, asset);
+    }
+
+    /// Gives up so much of a fungible asset, in its smallest unit, which is held.
+    pub fn spend_amount(&mut self, id: &AssetId, less: u128)
+        requires { less ≤ amount self.old (id.now, None) }
+        ensures { self.new ≡ minus self.old (id.now, None) less }
+    {
+        give_up_amount(&mut self.items, id, less);
     }
 
     /// Gives up all units.
@@ -140,6 +149,11 @@ impl AssetBundle {
     {
         amounts_fit(self.items.as_slice());
         let alloc = *self.items.allocator();
+        if takes_all(self.items.as_slice(), filter) {
+            // The list is handed on as it is.
+            let items = replace(&mut self.items, Vec::new(alloc));
+            return Ok(AssetBundle { items });
+        }
         let (taken, left) = parted(alloc, self.items.as_slice(), filter)?;
         self.items = left;
         Ok(AssetBundle { items: taken })
@@ -178,5 +192,26 @@ impl AssetBundle {
         let (taken, left) = cut(alloc, self.items.as_slice(), list.items())?;
         self.items = left;
         Ok(AssetBundle { items: taken })
+    }
+
+    /// Takes just one asset, which is no amount of 0, or nothing where it isn't held in full.
+    pub fn try_take_one(&mut self, alloc: Global, asset: &Asset) -> Result<AssetBundle, TakeFault>
+        requires { IsFalse (is_zero asset.now) }
+        ensures held { OnOk result (IsWithin (bundle_of (asset.now ∷ [])) self.old) }
+        ensures taken { IfOk result (λ goods. goods ≡ bundle_of (asset.now ∷ [])) }
+        ensures left { OnOk result (self.new ≡ difference self.old (bundle_of (asset.now ∷ []))) }
+        ensures whole { IfOk result (λ goods. merge self.new goods ≡ self.old) }
+        ensures fits_back { IfOk result (λ goods. IsWithinMost (merge self.new goods)) }
+        ensures fault { IfErr result (λ fault. IsTakeFault self.old (asset.now ∷ []) fault) }
+        ensures err { OnErr result (self.new ≡ self.old) }
+    {
+        if asset.amount() > held(self.items.as_slice(), asset) {
+            return Err(TakeFault::NotHeld);
+        }
+        amounts_fit(self.items.as_slice());
+        let mut items = Vec::with_capacity(alloc, 1)?;
+        push_asset(&mut items, &asset.id, asset.fun);
+        give_up(&mut self.items, asset);
+        Ok(AssetBundle { items })
     }
 }

@@ -41,7 +41,7 @@ pub(crate) fn held(items: &[Asset], asset: &Asset) -> u128
 
 /// Whether it is an amount of the fungible asset of this id.
 #[tactic(auto, using(crate::proofs::Finding::same_test))]
-fn is_amount_of(id: &AssetId, item: &Asset) -> bool
+pub(crate) fn is_amount_of(id: &AssetId, item: &Asset) -> bool
     ensures { result ≡ eq_by_cmp unit_cmp (id.now, None) (unit_of item.now) }
 {
     matches!(item.fun, Fun::Fungible(_)) && *id == item.id

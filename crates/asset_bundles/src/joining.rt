@@ -143,6 +143,13 @@ impl AssetBundle {
         ensures book_unchanged { OnErr result (book.new ≡ book.old) }
     {
         amounts_fit(other.items.as_slice());
+        if self.items.is_empty() {
+            // The other's list is taken over as it is.
+            book_excess(book, &[]);
+            let AssetBundle { items } = other;
+            self.items = items;
+            return Ok(());
+        }
         let alloc = *self.items.allocator();
         match joined(alloc, self.items.as_slice(), other.items.as_slice()) {
             Ok((kept, above)) => {

@@ -1,5 +1,5 @@
 //! Parts of a list in holding order.
-ghost use Rattle.std.specs.Prelude.{◌≡◌, ◌++◌, ◌<◌, [], IfOk, OnOk, vec_len, vec_capacity};
+ghost use Rattle.std.specs.Prelude.{◌≡◌, ◌++◌, ◌<◌, [], IsTrue, IfOk, OnOk, vec_len, vec_capacity};
 ghost use Rattle.asset_lists.specs.declared.filters.Filter.{Filter};
 ghost use Rattle.asset_lists.specs.Units.{unit_of, amount_of};
 ghost use Rattle.amounts.specs.Amounts.{difference};
@@ -180,6 +180,30 @@ pub(crate) fn chosen(
             let taken = picked(alloc, items, wild)?;
             Ok(taken)
         }
+    }
+}
+
+/// Whether a filter is seen to take all of a list in holding order, by its kind and count alone.
+pub(crate) fn takes_all(items: &[Asset], filter: &Filter) -> bool
+    requires { IsHolding items.now }
+    ensures { IsTrue result → IsListOf (Taken filter.now (bundle_of items.now)) items.now }
+{
+    match filter {
+        Filter::Definite(_) => false,
+        Filter::Wild(wild) => is_for_all(items, wild),
+    }
+}
+
+/// The same of a wildcard.
+fn is_for_all(items: &[Asset], wild: &Wild) -> bool
+    requires { IsHolding items.now }
+    ensures { IsTrue result
+        → IsListOf (Taken (Filter.Wild wild.now) (bundle_of items.now)) items.now }
+{
+    match wild {
+        Wild::All => true,
+        Wild::AllCounted(count) => items.len() <= *count as usize,
+        Wild::AllOf { .. } | Wild::AllOfCounted { .. } => false,
     }
 }
 

@@ -7,7 +7,7 @@ ghost use Rattle.exec_base.specs.Host.{bundles_joined, parked};
 ghost use Rattle.exec_holding.specs.Holding.{IsAnswerTo, IsJoinable, IsReturnable, TakesAsset};
 
 use asset_bundles::{AssetBundle, TakeFault};
-use asset_lists::{Asset, Assets};
+use asset_lists::Asset;
 use exec_base::{Host, HostFault};
 use operands::XcmError;
 use std::alloc::{AllocError, Global};
@@ -82,8 +82,7 @@ pub fn take_asset(
     ensures ok { IfOk result (λ taken. TakesAsset asset.now holding.old taken holding.new) }
     ensures err { OnErr result (holding.new ≡ holding.old) }
 {
-    let list = Assets::of_one(alloc, asset)?;
-    match holding.try_take(&list) {
+    match holding.try_take_one(alloc, asset) {
         Ok(goods) => Ok(Some(goods)),
         Err(TakeFault::NotHeld) => Ok(None),
         Err(TakeFault::Memory) => Err(AllocError),

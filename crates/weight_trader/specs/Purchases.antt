@@ -113,16 +113,6 @@ Bought w payment lines = change_first (is_covered w payment) (with_purchase w) l
 abbrev pub unspent_at : Weight → Bundle → Line → Bundle
 unspent_at w payment line = minus payment (coin_of line.rate) (price line.rate w)
 
--- a purchase at a line, as far as the book doesn't matter: what is left of the payment, the record after it, the asset, and how much of it
--- would have passed the end
-pub record IsCharge (w : Weight) (payment : Bundle) (lines : List Line) (left : Bundle) (lines_after : List Line) (asset : AssetId) (above : ℕ) : Type 0 where
-  pub line : Line
-  pub first : paying w payment lines ≡ Some line
-  pub left_is : left ≡ unspent_at w payment line
-  pub lines_are : lines_after ≡ Bought w payment lines
-  pub asset_is : asset ≡ AssetId.Concrete line.rate.asset
-  pub above_is : above ≡ excess w line
-
 -- the book with so much of an asset that would have passed the end
 abbrev pub with_saturated : Listed → ℕ → Book → Book
 with_saturated asset zero book = book

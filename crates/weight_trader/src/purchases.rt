@@ -1,6 +1,7 @@
 //! What is bought at one rate.
 ghost use Rattle.std.specs.Prelude.{◌≡◌, ◌≤◌, ◌<◌, ◌&&◌, [], ◌∷◌, ◌++◌, min, vec_len, vec_capacity};
 ghost use Rattle.amounts.specs.Amounts.{amount};
+ghost use Rattle.asset_lists.specs.declared.units.AssetId.TheVariants.{Concrete};
 ghost use Rattle.weight_trader.specs.Prices.{price};
 ghost use Rattle.weight_trader.specs.Purchases.{new_line, coin_of, is_in, is_covered, with_purchase, excess, some_amount, unspent_at};
 ghost use Rattle.weight_trader.specs.Refunds.{refund_at, is_refunded, without_refund};
@@ -53,6 +54,13 @@ impl Purchases {
         ensures { result ≡ self.now.rate.asset }
     {
         self.rate.asset.copy()
+    }
+
+    /// What the asset is called that is paid with.
+    pub(crate) fn id(&self) -> &AssetId
+        ensures { result.now ≡ Concrete self.now.rate.asset }
+    {
+        &self.id
     }
 
     /// Whether something is still paid.
@@ -141,7 +149,7 @@ impl Purchases {
         if cost == 0 {
             return above;
         }
-        payment.spend(&self.coins(cost));
+        payment.spend_amount(&self.id, cost);
         self.bought.ref_time = self.bought.ref_time.saturating_add(weight.ref_time);
         self.bought.proof_size = self.bought.proof_size.saturating_add(weight.proof_size);
         self.paid = self.paid.saturating_add(cost);

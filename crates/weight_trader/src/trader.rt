@@ -1,12 +1,12 @@
 //! Weight that is bought with what a chain's rates name, and given back.
-ghost use Rattle.std.specs.Prelude.{◌≡◌, None, IsTrue, IfOk, IfErr, OnOk, OnErr, MatchOption};
+ghost use Rattle.std.specs.Prelude.{◌≡◌, None, IsTrue, IsFalse, IfOk, IfErr, OnOk, OnErr};
 ghost use Rattle.std.specs.List.{position};
 ghost use Rattle.amounts.specs.Amounts.{amount, single};
 ghost use Rattle.asset_lists.specs.declared.units.AssetId.TheVariants.{Concrete};
 ghost use Rattle.asset_lists.specs.declared.units.Kind.{Kind};
 ghost use Rattle.asset_lists.specs.Listed.{lists};
 ghost use Rattle.asset_bundles.specs.Bundles.{bundle_of};
-ghost use Rattle.weight_trader.specs.Purchases.{new_lines, coin_of, NameEachOnce, AreApart, AreRatesListed, paid_goods, is_covered, excess_of, AreWithinEnd, IsTooExpensive, IsCharge, with_saturated, IsPurchase};
+ghost use Rattle.weight_trader.specs.Purchases.{new_lines, coin_of, NameEachOnce, AreApart, AreRatesListed, paid_goods, is_covered, excess_of, AreWithinEnd, IsTooExpensive, with_saturated, IsPurchase};
 ghost use Rattle.weight_trader.specs.Refunds.{refund_at, is_refunded, refund_of, goods_of, Refunded, Closed};
 ghost use Rattle.weight_trader.specs.Closing.{paid_assets};
 
@@ -134,20 +134,24 @@ impl Trader {
         Ok(Trader { lines })
     }
 
-    /// Takes the price of the weight at the first rate that the payment covers, and records it. The answer is the asset, and what would
-    /// have passed 2^128-1 of what is paid in it; none where each price passes the payment.
-    fn charge(&mut self, weight: Weight, payment: &mut AssetBundle) -> Option<(AssetId, u128)>
-        ensures { MatchOption result
-            (IsTooExpensive weight payment.old self.old × (payment.new ≡ payment.old)
-            × (self.new ≡ self.old))
-            (λ above. IsCharge weight payment.old self.old payment.new self.new above.0 above.1) }
+    /// Takes the price of the weight at the first rate that the payment covers, records it, and books what would have passed 2^128-1 of
+    /// what is paid. False where each price passes the payment; then nothing changes.
+    fn charge(&mut self, weight: Weight, payment: &mut AssetBundle, book: &mut BurnBook) -> bool
+        requires { AreRatesListed book.old.listed self.old }
+        ensures bought { IsTrue result → IsPurchase weight payment.old self.old book.old payment.new
+            self.new book.new }
+        ensures too_expensive { IsFalse result → IsTooExpensive weight payment.old self.old }
+        ensures payment { IsFalse result → payment.new ≡ payment.old }
+        ensures unchanged { IsFalse result → self.new ≡ self.old }
+        ensures book { IsFalse result → book.new ≡ book.old }
     {
         let Some(place) = first_covered(self.lines.as_slice(), weight, payment) else {
-            return None;
+            return false;
         };
         let line = &mut self.lines[place];
         let above = line.sell(weight, payment);
-        Some((AssetId::Concrete(line.asset()), above))
+        book_excess(book, line.id(), above);
+        true
     }
 
     /// Buys the weight at the first rate, in listed order, whose price the payment covers. What is left of the payment is handed back, and
@@ -167,10 +171,9 @@ impl Trader {
         ensures unchanged { OnErr result (self.new ≡ self.old) }
         ensures book_unchanged { OnErr result (book.new ≡ book.old) }
     {
-        let Some((id, excess)) = self.charge(weight, &mut payment) else {
+        if !self.charge(weight, &mut payment, book) {
             return Err((payment, TooExpensive));
-        };
-        book_excess(book, &id, excess);
+        }
         Ok(payment)
     }
 

@@ -135,7 +135,12 @@ fn same(alloc: Global, origin: &Option<Location>) -> Result<Option<Boxed<Locatio
     ensures { IfOk result (λ copy. copy ≡ origin.now) }
 {
     match origin {
-        Some(origin) => Ok(Some(Boxed::new(alloc, origin.copy())?)),
+        Some(origin) => {
+            // Made where it will be.
+            let mut copy = Box::new(alloc, Location::here())?;
+            copy.assign(origin);
+            Ok(Some(Boxed::from_box(copy)))
+        }
         None => Ok(None),
     }
 }
