@@ -29,7 +29,9 @@ fn falls_below(locks: &LockBook, ledger: &Ledger, who: &[u8; 32], a: &Asset) -> 
     requires has { amount_of a.now ≤ amount ledger.now.held (who.now, unit_of a.now) }
     ensures { result ≡ is_short_of (locked_floors locks.now) ledger.now.held who.now a.now }
 {
-    ledger.held_of(who, a) - a.amount() < locked_floor(locks, who, a)
+    let floor = locked_floor(locks, who, a);
+    // For speed: where nothing is locked, the ledger isn't asked.
+    floor > 0 && ledger.held_of(who, a) - a.amount() < floor
 }
 
 /// Moves what another transactor moves, and leaves each account what is locked on it: its floor is the higher of both.

@@ -1,6 +1,8 @@
 //! The transactors of fungible assets and of instances, and one after the other.
-ghost use Rattle.std.specs.Prelude.{◌≡◌, is_some};
-ghost use Rattle.ledgers.specs.Ledgers.{is_barred};
+ghost use Rattle.std.specs.Prelude.{◌≡◌, is_some, unwrap_or};
+ghost use Rattle.asset_lists.specs.Units.{unit_of};
+ghost use Rattle.asset_lists.specs.Listed.{listed_of};
+ghost use Rattle.ledgers.specs.Ledgers.{is_barred, number_in};
 ghost use Rattle.trust_tables.specs.Trust.{row_of};
 ghost use Rattle.transactors.specs.Floors.{no_unit_floors};
 ghost use Rattle.transactors.specs.Checks.{accepted, is_unhandled, rows_of_kind, move_fault, is_short_of};
@@ -9,14 +11,24 @@ use crate::{MoveFault, Transactor};
 use asset_lists::{Asset, Kind};
 use ledgers::Ledger;
 use locations::Location;
-use trust_tables::{AssetRow, Site, account_of, find_row};
+use trust_tables::{AssetRow, Site, account_of, has_row};
 
-/// Whether a row of that kind lists the asset.
+/// The asset's number in the ledger, which lists what the rows list, and mostly in their order; 0 where it isn't listed.
+fn likely_place(ledger: &Ledger, a: &Asset) -> usize
+    ensures { result ≡ unwrap_or (number_in ledger.now.listed (listed_of (unit_of a.now))) 0 }
+{
+    match ledger.number_of(&a.id, a.kind()) {
+        Some(number) => number as usize,
+        None => 0,
+    }
+}
+
+/// Whether a row of that kind lists the asset. For speed the row of its number in the ledger is looked at first.
 #[tactic(auto, using(crate::proofs::Rows::row_of_kind, crate::proofs::Rows::found_row))]
-fn handles(kind: Kind, rows: &[AssetRow], a: &Asset) -> bool
+fn handles(kind: Kind, rows: &[AssetRow], ledger: &Ledger, a: &Asset) -> bool
     ensures { result ≡ is_some (row_of (rows_of_kind kind rows.now) a.now) }
 {
-    a.kind() == kind && find_row(rows, a).is_some()
+    a.kind() == kind && has_row(rows, likely_place(ledger, a), a)
 }
 
 /// Whether the account would take in the asset, which is handled or not.
@@ -96,7 +108,12 @@ impl<'a> Transactor for Fungibles<'a> {
         a: &Asset,
         account: Option<[u8; 32]>,
     ) -> Result<(), MoveFault> {
-        checked_in(handles(Kind::Fungible, self.rows, a), account, ledger, a)
+        checked_in(
+            handles(Kind::Fungible, self.rows, ledger, a),
+            account,
+            ledger,
+            a,
+        )
     }
 
     fn check_account_out(
@@ -105,7 +122,12 @@ impl<'a> Transactor for Fungibles<'a> {
         a: &Asset,
         account: Option<[u8; 32]>,
     ) -> Result<(), MoveFault> {
-        checked_out(handles(Kind::Fungible, self.rows, a), account, ledger, a)
+        checked_out(
+            handles(Kind::Fungible, self.rows, ledger, a),
+            account,
+            ledger,
+            a,
+        )
     }
 }
 
@@ -142,7 +164,12 @@ impl<'a> Transactor for Instances<'a> {
         a: &Asset,
         account: Option<[u8; 32]>,
     ) -> Result<(), MoveFault> {
-        checked_in(handles(Kind::Class, self.rows, a), account, ledger, a)
+        checked_in(
+            handles(Kind::Class, self.rows, ledger, a),
+            account,
+            ledger,
+            a,
+        )
     }
 
     fn check_account_out(
@@ -151,7 +178,12 @@ impl<'a> Transactor for Instances<'a> {
         a: &Asset,
         account: Option<[u8; 32]>,
     ) -> Result<(), MoveFault> {
-        checked_out(handles(Kind::Class, self.rows, a), account, ledger, a)
+        checked_out(
+            handles(Kind::Class, self.rows, ledger, a),
+            account,
+            ledger,
+            a,
+        )
     }
 }
 

@@ -14,4 +14,4 @@ pub use laws::{
     law_of_chain_locations, law_of_exact_trust_tests, law_of_listings, law_of_sovereign_accounts,
 };
 pub use rows::{AssetRole, AssetRow};
-pub use trust::{find_row, is_partner, is_reserve, lies_at};
+pub use trust::{find_row, has_row, is_partner, is_reserve, lies_at};

@@ -1,5 +1,5 @@
 //! Which row of a chain's table an asset has, and which chains are believed about it.
-ghost use Rattle.std.specs.Prelude.{◌≡◌, ◌↔◌, [], ◌∷◌, IsTrue, position};
+ghost use Rattle.std.specs.Prelude.{◌≡◌, ◌↔◌, [], ◌∷◌, IsTrue, is_some, position};
 ghost use Rattle.std.specs.List.{list_any};
 ghost use Rattle.std.specs.Option.{option_copied};
 ghost use Rattle.locations.specs.declared.grammar.Junction.TheVariants.{Parachain};
@@ -15,6 +15,23 @@ pub fn find_row(rows: &[AssetRow], a: &Asset) -> Option<usize>
     ensures { result ≡ position (is_row_of a.now) rows.now }
 {
     rows.iter().position(|row| lists(row, a))
+}
+
+/// Whether a row has the asset's id, and a kind that fits. The row of index `first` is looked at before all others. It takes no memory.
+pub fn has_row(rows: &[AssetRow], first: usize, a: &Asset) -> bool
+    ensures { result ≡ is_some (position (is_row_of a.now) rows.now) }
+{
+    is_listed_at(rows, first, a) || find_row(rows, a).is_some()
+}
+
+/// Whether the row of an index has the asset's id and kind.
+fn is_listed_at(rows: &[AssetRow], place: usize, a: &Asset) -> bool
+    ensures { IsTrue result → IsTrue (is_some (position (is_row_of a.now) rows.now)) }
+{
+    match rows.get(place) {
+        Some(row) => lists(row, a),
+        None => false,
+    }
 }
 
 /// Whether the asset's row is a derivative whose reserve lies at the location. A reserve that is the site's own
