@@ -1,6 +1,6 @@
 use Rattle.std.proofs.Common.{◌≡◌, sym, subst, drop}
 use Rattle.asset_lists.specs.Moves.{all_reanchored}
-use Rattle.chain_state.proofs.NamedLists.{behind, goes_on_named, stops}
+use Rattle.asset_lists.proofs.Lemmas.Naming.{behind, goes_on_named, stops}
 use Rattle.chain_state.proofs.send.naming.all_reanchored.Goals as goal
 
 pub loop-asset-preserved : goal.loop-asset-preserved
