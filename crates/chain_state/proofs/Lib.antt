@@ -34,6 +34,7 @@ pub mod Exchanged
 pub mod QueryLists
 pub mod ListRows
 pub mod NamedLists
+mod Lent
 pub mod Listings
 pub mod CheckingRows
 mod Openings

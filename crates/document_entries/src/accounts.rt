@@ -7,10 +7,11 @@ ghost use Rattle.asset_lists.specs.declared.units.Fun.TheVariants.{Fungible, Non
 
 use crate::alternatives::both_there;
 use crate::fields::needed;
-use crate::places::{instance_of, location_of};
+use crate::places::{fill_location, instance_of};
 use crate::rates::amount_of;
 use crate::{NetworkFault, Place, Stop, bytes_of, check_fields};
 use asset_lists::{Asset, AssetId, Fun};
+use locations::Location;
 use network_spec::Balance;
 use serde_json::Value;
 use std::alloc::Global;
@@ -44,7 +45,8 @@ pub fn account_of(alloc: Global, place: Place, value: &Value) -> Result<Balance,
 {
     check_fields(place, &["who", "asset", "amount", "instance"], value)?;
     let who = bytes_of(place, needed(place, "who", value)?)?;
-    let id = location_of(alloc, place, needed(place, "asset", value)?)?;
+    let mut id = Location::here();
+    fill_location(alloc, place, needed(place, "asset", value)?, &mut id)?;
     let fun = fun_of(alloc, place, value)?;
     Ok(Balance {
         who,

@@ -13,10 +13,11 @@ use crate::alternatives::both_there;
 use crate::entries::chains_of;
 use crate::fields::needed;
 use crate::names::chain_of;
-use crate::places::location_of;
+use crate::places::fill_location;
 use crate::rates::balance_of;
 use crate::{NetworkFault, Place, Stop, check_fields, text_of};
 use asset_lists::Kind;
+use locations::Location;
 use serde_json::Value;
 use std::alloc::Global;
 use trust_tables::{AssetRole, AssetRow};
@@ -110,7 +111,8 @@ pub fn asset_row_of(alloc: Global, place: Place, value: &Value) -> Result<AssetR
         &["id", "kind", "native", "reserve", "checking"],
         value,
     )?;
-    let id = location_of(alloc, place, needed(place, "id", value)?)?;
+    let mut id = Location::here();
+    fill_location(alloc, place, needed(place, "id", value)?, &mut id)?;
     let kind = kind_field(place, value)?;
     let role = role_of(alloc, place, value)?;
     let checking = checking_field(place, value)?;

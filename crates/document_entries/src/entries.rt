@@ -39,10 +39,8 @@ pub fn read_entries<T: Drop, E: Entry<T>>(
     let mut list = Vec::with_capacity(alloc, items.len()).map_err(|_| Stop::Memory)?;
     let mut index: u32 = 0;
     for value in items {
-        let read = entry.read(alloc, index, value)?;
-        if list.push(read).is_err() {
-            return Err(Stop::Memory);
-        }
+        // There is room: a push that could fail would hand back what is large.
+        list.push_reserved(entry.read(alloc, index, value)?);
         index = index.saturating_add(1);
     }
     Ok(Listed::from_vec(list))

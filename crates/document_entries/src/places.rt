@@ -1,7 +1,7 @@
 //! Locations and instances.
-ghost use Rattle.std.specs.Prelude.{◌≡◌, IfOk};
+ghost use Rattle.std.specs.Prelude.{◌≡◌, [], IfOk};
 ghost use Rattle.serde_json.specs.View.{view};
-ghost use Rattle.document_entries.specs.Answers.{Answers};
+ghost use Rattle.document_entries.specs.Answers.{Answers, AnswersAs};
 ghost use Rattle.document_entries.specs.Entries.{location_form, locations, instance_form, instance_of, whole_instance};
 ghost use Rattle.asset_wire.specs.Reading.{instance_at};
 
@@ -11,25 +11,40 @@ use crate::{Entry, NetworkFault, Place, Stop, read_entries, text_of};
 use asset_lists::Instance;
 use asset_wire::read_instance;
 use hex::FromHexError;
-use location_wire::{TextFault, law_of_one_location, read_location_text};
+use location_wire::{TextFault, fill_location_from_text, law_of_one_location};
 use locations::Location;
 use plain_lists::Listed;
 use scale_codec::Cursor;
 use serde_json::Value;
 use std::alloc::{AllocError, Global};
 
-/// A location, as its text.
+/// Reads a location, as its text, into one with no junctions. After an `Err` nothing is said of what it is.
 #[tactic(auto, unfolding(crate::specs::Entries::location_form))]
-pub(crate) fn location_of(alloc: Global, place: Place, value: &Value) -> Result<Location, Stop>
-    ensures { Answers result (location_form place (view value.now)) }
+pub(crate) fn fill_location(
+    alloc: Global,
+    place: Place,
+    value: &Value,
+    location: &mut Location,
+) -> Result<(), Stop>
+    requires { location.old.interior ≡ [] }
+    ensures { AnswersAs (λ _. location.new) result (location_form place (view value.now)) }
 {
     law_of_one_location();
     let text = text_of(place, value)?;
-    match read_location_text(alloc, text) {
-        Ok(location) => Ok(location),
+    match fill_location_from_text(alloc, text, location) {
+        Ok(()) => Ok(()),
         Err(TextFault::BadText) => Err(Stop::Fault(NetworkFault::BadValue(place))),
         Err(TextFault::Memory) => Err(Stop::Memory),
     }
+}
+
+/// A location, as its text.
+pub(crate) fn location_of(alloc: Global, place: Place, value: &Value) -> Result<Location, Stop>
+    ensures { Answers result (location_form place (view value.now)) }
+{
+    let mut location = Location::here();
+    fill_location(alloc, place, value, &mut location)?;
+    Ok(location)
 }
 
 /// A reader of locations at one position.

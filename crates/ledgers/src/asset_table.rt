@@ -1,5 +1,5 @@
 //! The list of a chain's assets, in which each has a number.
-ghost use Rattle.std.specs.Prelude.{◌≡◌, map, length, IfOk, ◌<◌, ◌^◌, slice_get};
+ghost use Rattle.std.specs.Prelude.{◌≡◌, map, length, IfOk, ◌+◌, ◌<◌, ◌^◌, [], ◌∷◌, ◌++◌, vec_len, vec_capacity, slice_get};
 ghost use Rattle.std.specs.Ordering.{eq_by_cmp};
 ghost use Rattle.std.specs.List.{IsDistinct};
 ghost use Rattle.asset_lists.specs.Listed.{listed_cmp};
@@ -44,6 +44,20 @@ impl AssetTable {
             assets.insert(ListedAsset { id, kind })?;
         }
         Ok(AssetTable { assets })
+    }
+
+    /// Puts an asset at the end of a list that a table is to be opened with, which has room for it.
+    pub fn push_listed(list: &mut Vec<(Location, Kind)>, id: &Location, kind: Kind)
+        requires room { vec_len list.old < vec_capacity list.old }
+        ensures items { list.new.items ≡ list.old.items ++ (id.now, kind) ∷ [] }
+        ensures len { vec_len list.new ≡ vec_len list.old + 1 }
+        ensures capacity { vec_capacity list.new ≡ vec_capacity list.old }
+    {
+        let last = list.len();
+        list.push_reserved((Location::here(), kind));
+        let place = &mut list[last];
+        place.0.assign(id);
+        place.1 = kind;
     }
 
     /// How many assets there are.

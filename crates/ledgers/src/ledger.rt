@@ -224,8 +224,8 @@ impl Ledger {
     {
         let assets = list.items();
         let goods = AssetBundle::mint(*self.rows.sums.allocator(), assets)?;
-        take_all(&mut self.rows, who, assets);
-        sweep_all(&mut self.rows, who, assets);
+        let needs_sweep = take_all(&mut self.rows, who, assets);
+        sweep_all(&mut self.rows, who, assets, needs_sweep);
         Ok(goods)
     }
 
@@ -253,8 +253,8 @@ impl Ledger {
         }
     }
 
-    /// Puts a bundle into an account, which can take in each asset of it (`barred`): all of it, or nothing, and then
-    /// the bundle is handed back, out of memory. Each asset of it must be listed.
+    /// Puts a bundle into an account, which can take in each asset of it (`barred`): all of it, or, out of memory, nothing, and then
+    /// the bundle is handed back. Each asset of it must be listed.
     pub fn deposit_checked(&mut self, who: &[u8; 32], goods: AssetBundle) -> Result<(), AssetBundle>
         requires listed { AreListed self.old.listed goods }
         requires free { barred self.old.held who.now (held_assets goods) ≡ None }
@@ -379,9 +379,9 @@ impl Ledger {
             return Ok(());
         }
         make_all_room(&mut self.rows, to, assets)?;
-        take_all(&mut self.rows, from, assets);
+        let needs_sweep = take_all(&mut self.rows, from, assets);
         give_all(&mut self.rows, to, assets);
-        sweep_all(&mut self.rows, from, assets);
+        sweep_all(&mut self.rows, from, assets, needs_sweep);
         Ok(())
     }
 }

@@ -59,8 +59,8 @@ pub(crate) fn barred(rows: &Rows, who: &[u8; 32], list: &[Asset]) -> Option<Depo
     None
 }
 
-/// Takes the listed assets out of an account, which has them.
-pub(crate) fn take_all(rows: &mut Rows, who: &[u8; 32], list: &[Asset])
+/// Takes the listed assets out of an account, which has them. False says that no row says nothing then, and `sweep_all` isn't needed.
+pub(crate) fn take_all(rows: &mut Rows, who: &[u8; 32], list: &[Asset]) -> bool
     requires sound { AreSound rows.old }
     requires no_zero { IsFalse (has_zero list.now) }
     requires has { HasAll (rows_held rows.old) who.now list.now }
@@ -69,18 +69,24 @@ pub(crate) fn take_all(rows: &mut Rows, who: &[u8; 32], list: &[Asset])
     ensures held { rows_held rows.new
         ≡ minus_all (rows_held rows.old) (account_rows who.now list.now) }
 {
+    let mut needs_sweep = false;
     for asset in list {
-        rows.take(who, asset);
+        needs_sweep |= rows.take(who, asset);
     }
+    needs_sweep
 }
 
-/// Takes out the rows that say nothing after these were taken.
-pub(crate) fn sweep_all(rows: &mut Rows, who: &[u8; 32], list: &[Asset])
+/// Takes out the rows that say nothing after these were taken, where there may be some.
+pub(crate) fn sweep_all(rows: &mut Rows, who: &[u8; 32], list: &[Asset], needs_sweep: bool)
     requires { AreSound rows.old }
     ensures sound { AreSound rows.new }
     ensures assets { rows.new.assets ≡ rows.old.assets }
     ensures held { rows_held rows.new ≡ rows_held rows.old }
 {
+    // For speed: most accounts have some left.
+    if !needs_sweep {
+        return;
+    }
     for asset in list {
         rows.sweep(who, asset);
     }

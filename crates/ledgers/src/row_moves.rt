@@ -1,5 +1,5 @@
 //! One asset moved into an account or out of it.
-ghost use Rattle.std.specs.Prelude.{◌≡◌, ◌+◌, ◌-◌, ◌^◌, ◌<◌, ◌≤◌, None, Some, OnOk, length, slice_get};
+ghost use Rattle.std.specs.Prelude.{◌≡◌, ◌+◌, ◌-◌, ◌^◌, ◌<◌, ◌≤◌, None, Some, OnOk, IsFalse, length, slice_get};
 ghost use Rattle.std.specs.Map.{keys_of};
 ghost use Rattle.std.specs.List.Sorted.{IsStrictlySortedBy};
 ghost use Rattle.asset_lists.specs.Units.{amount_of, instance_in};
@@ -88,6 +88,16 @@ pub(crate) fn make_instance_row(
     match asset.fun {
         Fun::Fungible(_) => Ok(()),
         Fun::NonFungible(instance) => make_owner_row(rows, number, instance),
+    }
+}
+
+/// Whether a row of the asset may say nothing, where so much is left in the account's row: the row of an instance names nobody then.
+pub(crate) fn may_be_empty(left: u128, asset: &Asset) -> bool
+    ensures { IsFalse result → 0 < left }
+{
+    match asset.fun {
+        Fun::Fungible(_) => left == 0,
+        Fun::NonFungible(_) => true,
     }
 }
 

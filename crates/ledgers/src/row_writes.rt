@@ -46,10 +46,11 @@ pub(crate) fn make_amount_row(
     Ok(())
 }
 
-/// Lowers the amount of a row that has as much.
-pub(crate) fn lower_amount(rows: &mut AmountRows, number: u32, who: &[u8; 32], amount: u128)
+/// Lowers the amount of a row that has as much, and answers what is left.
+pub(crate) fn lower_amount(rows: &mut AmountRows, number: u32, who: &[u8; 32], amount: u128) -> u128
     requires there { HasAmountRow rows.old.entries (who.now, number) }
     requires enough { amount ≤ amount_in_row rows.old.entries (who.now, number) }
+    ensures left { result ≡ amount_in_row rows.old.entries (who.now, number) - amount }
     ensures wrote { (q : AmountKey) → amount_in_row rows.new.entries q
         ≡ (if eq_by_cmp amount_key_cmp (who.now, number) q then amount_in_row rows.old.entries
         (who.now, number) - amount else amount_in_row rows.old.entries q) }
@@ -58,7 +59,10 @@ pub(crate) fn lower_amount(rows: &mut AmountRows, number: u32, who: &[u8; 32], a
     ensures small { AreSmall rows.old.entries → AreSmall rows.new.entries }
 {
     match rows.get_mut(&(AccountKey::of(who), number)) {
-        Some(have) => *have -= amount,
+        Some(have) => {
+            *have -= amount;
+            *have
+        }
         None => unreachable!(),
     }
 }

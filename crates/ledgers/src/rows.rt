@@ -3,7 +3,8 @@ use crate::DepositFault;
 use crate::account_key::AccountKey;
 use crate::asset_table::AssetTable;
 use crate::row_moves::{
-    amount_of, kind_of, lower_sum, make_instance_row, owned, raise_sum, set_owner, sweep_instance,
+    amount_of, kind_of, lower_sum, make_instance_row, may_be_empty, owned, raise_sum, set_owner,
+    sweep_instance,
 };
 use crate::row_writes::{
     AmountRows, OwnerRows, add_amount, amount_in, lower_amount, make_amount_row, owner_in,
@@ -117,8 +118,8 @@ impl Rows {
         }
     }
 
-    /// Takes the asset out of an account, which has it.
-    pub(crate) fn take(&mut self, who: &[u8; 32], asset: &Asset)
+    /// Takes the asset out of an account, which has it. False says that it left no row that says nothing, and then `sweep` isn't needed.
+    pub(crate) fn take(&mut self, who: &[u8; 32], asset: &Asset) -> bool
         requires sound { AreSound self.old }
         requires some { 0 < amount_of_asset asset.now }
         requires enough { amount_of_asset asset.now
@@ -132,9 +133,10 @@ impl Rows {
             unreachable!();
         };
         let amount = amount_of(asset);
-        lower_amount(&mut self.amounts, number, who, amount);
+        let left = lower_amount(&mut self.amounts, number, who, amount);
         set_owner(&mut self.owners, number, asset, None);
         lower_sum(&mut self.sums, number, amount);
+        may_be_empty(left, asset)
     }
 
     /// Takes out the rows that say nothing after an asset was taken.

@@ -1,7 +1,7 @@
 //! Texts read as locations. The parts are read in a plain way, which may take more than the texts of the parts; in the end the
 //! text of what was read is compared with what was given.
 
-ghost use Rattle.std.specs.Prelude.{◌≡◌, ◌≢◌, ◌≤◌, ◌++◌, ◌==◌, ℕ, List, length, map, codes, IfOk, IfSome, IsTrue, MatchOption, MatchResult};
+ghost use Rattle.std.specs.Prelude.{◌≡◌, ◌≢◌, ◌≤◌, ◌++◌, ◌==◌, ℕ, List, [], true, length, map, codes, IfOk, IfSome, IsTrue, MatchOption, MatchResult};
 ghost use Rattle.std.specs.List.{AllByRecursion, slice_split};
 ghost use Rattle.hex.specs.Hex.{encode_lower};
 ghost use Rattle.locations.specs.declared.grammar.Junction.{Junction};
@@ -181,42 +181,68 @@ fn junction_of_text(alloc: Global, part: &str) -> Result<Option<Junction>, Alloc
     Ok(named_junction(name, inside))
 }
 
-/// A junction for each part, at most eight.
-fn interior_of_texts(alloc: Global, parts: &[&str]) -> Result<Option<Junctions>, AllocError>
-    ensures found { IfOk result (λ o. (js : List Junction) → length js ≤ 8
-        → AllByRecursion IsJunction js → map (λ x. x.now) parts.now ≡ map junction_text js → o
-        ≡ Some js) }
-    ensures fits { IfOk result (λ o. IfSome o (λ js. (length js ≤ 8)
-        × AllByRecursion IsJunction js)) }
+/// Reads a junction for each part, at most eight, into an empty list. False where a part is of none, or there are more; nothing is
+/// then said of the list.
+fn fill_interior(
+    alloc: Global,
+    parts: &[&str],
+    junctions: &mut Junctions,
+) -> Result<bool, AllocError>
+    requires { junctions.old ≡ [] }
+    ensures found { IfOk result (λ filled. (js : List Junction) → length js ≤ 8
+        → AllByRecursion IsJunction js → map (λ x. x.now) parts.now ≡ map junction_text js
+        → (filled ≡ true) × (junctions.new ≡ js)) }
+    ensures fits { IfOk result (λ filled. IsTrue filled → (length junctions.new ≤ 8)
+        × AllByRecursion IsJunction junctions.new) }
 {
-    let mut junctions = Junctions::empty();
     for part in parts {
         let Some(junction) = junction_of_text(alloc, part)? else {
-            return Ok(None);
+            return Ok(false);
         };
         let Ok(()) = junctions.push(junction) else {
-            return Ok(None);
+            return Ok(false);
         };
     }
-    Ok(Some(junctions))
+    Ok(true)
 }
 
-/// The only location that the text can be of.
-fn location_of_text(alloc: Global, text: &str) -> Result<Option<Location>, AllocError>
-    ensures found { IfOk result (λ o. (l : Location) → IsTextOf l text.now → o ≡ Some l) }
-    ensures fits { IfOk result (λ o. IfSome o IsLocation) }
+/// Reads the only location that the text can be of into one with no junctions. False where there is none; nothing is then said of it.
+fn fill_location(alloc: Global, text: &str, location: &mut Location) -> Result<bool, AllocError>
+    requires { location.old.interior ≡ [] }
+    ensures found { IfOk result (λ filled. (l : Location) → IsTextOf l text.now
+        → (filled ≡ true) × (location.new ≡ l)) }
+    ensures fits { IfOk result (λ filled. IsTrue filled → IsLocation location.new) }
 {
     let parts = parts_of(alloc, text)?;
     let Some((first, steps)) = parts.as_slice().split_first() else {
-        return Ok(None);
+        return Ok(false);
     };
     let Ok(parents) = first.parse::<u8>() else {
-        return Ok(None);
+        return Ok(false);
     };
-    let Some(interior) = interior_of_texts(alloc, steps)? else {
-        return Ok(None);
-    };
-    Ok(Some(Location { parents, interior }))
+    location.parents = parents;
+    let filled = fill_interior(alloc, steps, &mut location.interior)?;
+    Ok(filled)
+}
+
+/// Reads the text of a location, as `location_text` writes it and no other, as `1/Parachain(2000)`, into one with no junctions. `BadText`
+/// comes exactly where the text is that of no location; after an `Err` nothing is said of what the location is.
+pub fn fill_location_from_text(
+    alloc: Global,
+    s: &str,
+    location: &mut Location,
+) -> Result<(), TextFault>
+    requires { location.old.interior ≡ [] }
+    ensures { MatchResult result (λ _. IsTextOf location.new s.now) (IsTextCause s.now) }
+{
+    if !fill_location(alloc, s, location)? {
+        return Err(TextFault::BadText);
+    }
+    let text = location_text(alloc, location)?;
+    if text.as_str() != s {
+        return Err(TextFault::BadText);
+    }
+    Ok(())
 }
 
 /// Reads the text of a location, as `location_text` writes it and no other, as `1/Parachain(2000)`. `BadText` comes exactly where
@@ -224,12 +250,7 @@ fn location_of_text(alloc: Global, text: &str) -> Result<Option<Location>, Alloc
 pub fn read_location_text(alloc: Global, s: &str) -> Result<Location, TextFault>
     ensures { MatchResult result (λ l. IsTextOf l s.now) (IsTextCause s.now) }
 {
-    let Some(location) = location_of_text(alloc, s)? else {
-        return Err(TextFault::BadText);
-    };
-    let text = location_text(alloc, &location)?;
-    if text.as_str() != s {
-        return Err(TextFault::BadText);
-    }
+    let mut location = Location::here();
+    fill_location_from_text(alloc, s, &mut location)?;
     Ok(location)
 }

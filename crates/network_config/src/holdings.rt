@@ -39,7 +39,7 @@ fn places(alloc: Global, rows: &[AssetRow]) -> Result<Vec<(Location, Kind)>, All
 {
     let mut list = Vec::with_capacity(alloc, rows.len())?;
     for row in rows {
-        list.push((row.id.copy(), row.kind))?;
+        AssetTable::push_listed(&mut list, &row.id, row.kind);
     }
     Ok(list)
 }

@@ -91,14 +91,23 @@ fn add_shares(
     Ok(())
 }
 
+/// How many accounts the chains have. It is only the room to take at once: more would be taken as it is needed.
+fn account_count(chains: &[ChainSpec]) -> usize {
+    let mut count: usize = 0;
+    for chain in chains {
+        count = count.saturating_add(chain.accounts.items().len());
+    }
+    count
+}
+
 /// What the accounts of all chains count for, in the document's order.
 fn shares_of(alloc: Global, network: &NetworkSpec) -> Result<Vec<Share>, AllocError>
     ensures { IfOk result (λ shares. shares.items
         ≡ shares_of network.now.network 0 network.now.chains) }
 {
-    let mut shares = Vec::new(alloc);
-    let mut index: u32 = 0;
     let chains = network.chains.items();
+    let mut shares = Vec::with_capacity(alloc, account_count(chains))?;
+    let mut index: u32 = 0;
     for chain in chains {
         let site = Site {
             network: network.network,

@@ -1,5 +1,5 @@
 //! What is kept of the fees in one asset.
-ghost use Rattle.std.specs.Prelude.{◌≡◌, ◌+◌, ◌-◌, min, None};
+ghost use Rattle.std.specs.Prelude.{◌≡◌, ◌+◌, ◌-◌, ◌<◌, [], ◌∷◌, ◌++◌, min, vec_len, vec_capacity, None};
 ghost use Rattle.std.specs.Ordering.{eq_by_cmp};
 ghost use Rattle.asset_lists.specs.Units.{unit_cmp};
 ghost use Rattle.asset_bundles.specs.Totals.{total_value};
@@ -8,6 +8,7 @@ ghost use Rattle.chain_state.specs.Fees.{no_fee, raised_fee, cleared};
 
 use asset_bundles::{AssetBundle, Total};
 use asset_lists::AssetId;
+use locations::Location;
 use std::marker::Model;
 
 /// How much of one fungible asset is kept, in its smallest unit. The sum saturates at 2^160-1. Contracts see it as the unit and the sum.
@@ -34,15 +35,33 @@ fn with_more(sum: Total, amount: u128) -> Total
     sum.plus(amount)
 }
 
+/// Puts a row with nothing of the asset at the end of a list that has room for it.
+pub(crate) fn push_none_of(rows: &mut Vec<FeeRow>, id: &AssetId)
+    requires room { vec_len rows.old < vec_capacity rows.old }
+    ensures items { rows.new.items ≡ rows.old.items ++ no_fee id.now ∷ [] }
+    ensures len { vec_len rows.new ≡ vec_len rows.old + 1 }
+    ensures capacity { vec_capacity rows.new ≡ vec_capacity rows.old }
+{
+    let last = rows.len();
+    rows.push_reserved(FeeRow::blank());
+    rows[last].start(id);
+}
+
 impl FeeRow {
-    /// Nothing of the asset.
-    pub(crate) fn none_of(id: &AssetId) -> FeeRow
-        ensures { result ≡ no_fee id.now }
-    {
+    /// A row to be written.
+    fn blank() -> FeeRow {
         FeeRow {
-            id: id.copy(),
+            id: AssetId::Concrete(Location::here()),
             sum: Total::ZERO,
         }
+    }
+
+    /// Becomes the row with nothing of the asset.
+    fn start(&mut self, id: &AssetId)
+        ensures { self.new ≡ no_fee id.now }
+    {
+        self.id.assign(id);
+        self.sum = Total::ZERO;
     }
 
     /// The asset.

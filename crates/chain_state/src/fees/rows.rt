@@ -7,7 +7,7 @@ ghost use Rattle.asset_lists.specs.Units.{Unit, unit_cmp};
 ghost use Rattle.asset_bundles.specs.Totals.{total_value};
 ghost use Rattle.chain_state.specs.Fees.{kept_goods, has_row, HaveRows, HaveRowsFor, saturated_fees, no_fee, raised_fee, cleared};
 
-use crate::fees::row::FeeRow;
+use crate::fees::row::{FeeRow, push_none_of};
 use crate::ids::fungible_ids;
 use asset_bundles::{AssetBundle, Total};
 use asset_lists::{AssetId, Kind};
@@ -42,12 +42,12 @@ impl Model for FeeRows {
 }
 
 /// A row for each id, with nothing in it.
-fn new_rows(alloc: Global, ids: &[AssetId]) -> Result<Vec<FeeRow>, AllocError>
-    ensures { IfOk result (λ rows. rows.items ≡ map no_fee ids.now) }
+fn new_rows(alloc: Global, ids: &[&AssetId]) -> Result<Vec<FeeRow>, AllocError>
+    ensures { IfOk result (λ rows. rows.items ≡ map no_fee (map (λ id. id.now) ids.now)) }
 {
     let mut rows = Vec::with_capacity(alloc, ids.len())?;
     for id in ids {
-        rows.push(FeeRow::none_of(id))?;
+        push_none_of(&mut rows, *id);
     }
     Ok(rows)
 }
@@ -76,6 +76,7 @@ impl FeeRows {
         ensures rows { IfOk result (λ fees. HaveRows listed.now fees) }
         ensures none { IfOk result (λ fees. kept_goods fees ≡ empty) }
     {
+        // Lent, so that sorting moves no large value.
         let mut ids = fungible_ids(alloc, listed)?;
         ids.sort_unstable();
         ids.dedup();

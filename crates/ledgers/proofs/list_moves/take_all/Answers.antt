@@ -6,13 +6,13 @@ use Rattle.ledgers.specs.AccountRows.{account_rows, HasAll}
 use Rattle.ledgers.proofs.AccountMoves.{at_place, past_end, none_zero, has_first, has_rest, minus_first, minus_none, rows_then}
 use Rattle.ledgers.proofs.list_moves.take_all.Goals as goal
 
-pub take-requires-clause-some : goal.take-requires-clause-some
-take-requires-clause-some c =
+pub take-needs_sweep-requires-clause-some : goal.take-needs_sweep-requires-clause-some
+take-needs_sweep-requires-clause-some c =
     let cut = at_place c.args.list.now c.loop-asset.asset-index c.asset-item.result c.loop-asset-test.true c.asset-item.is in
     (none_zero c.asset-item.result (drop (c.loop-asset.asset-index + 1) c.args.list.now) (subst (λ ys. has_zero ys ≡ false) cut c.loop-asset.invariant.no_zero)).0
 
-pub take-requires-clause-enough : goal.take-requires-clause-enough
-take-requires-clause-enough c =
+pub take-needs_sweep-requires-clause-enough : goal.take-needs_sweep-requires-clause-enough
+take-needs_sweep-requires-clause-enough c =
     let cut = at_place c.args.list.now c.loop-asset.asset-index c.asset-item.result c.loop-asset-test.true c.asset-item.is in
     has_first (rows_held c.loop-asset.rows) c.args.who.now c.asset-item.result (drop (c.loop-asset.asset-index + 1) c.args.list.now)
     (subst (HasAll (rows_held c.loop-asset.rows) c.args.who.now) cut c.loop-asset.invariant.has)
@@ -25,11 +25,11 @@ loop-asset-preserved c =
     let rest = drop (c.loop-asset.asset-index + 1) c.args.list.now in
     let cut = at_place c.args.list.now c.loop-asset.asset-index c.asset-item.result c.loop-asset-test.true c.asset-item.is in
     record {
-      sound = c.take.ensures.sound;
-      stay = rows_then c.args.rows.now c.loop-asset.rows c.take.new.self c.loop-asset.invariant.stay c.take.ensures.stay;
+      sound = c.take-needs_sweep.ensures.sound;
+      stay = rows_then c.args.rows.now c.loop-asset.rows c.take-needs_sweep.new.self c.loop-asset.invariant.stay c.take-needs_sweep.ensures.stay;
       no_zero = (none_zero a rest (subst (λ ys. has_zero ys ≡ false) cut c.loop-asset.invariant.no_zero)).1;
-      has = subst (λ h. HasAll h who rest) (sym c.take.ensures.held) (has_rest held who a rest (subst (HasAll held who) cut c.loop-asset.invariant.has));
-      held = ap (λ h. minus_all h (account_rows who rest)) c.take.ensures.held ∙ sym (minus_first held who a rest) ∙ ap (λ ys. minus_all held (account_rows who ys)) (sym cut) ∙ c.loop-asset.invariant.held;
+      has = subst (λ h. HasAll h who rest) (sym c.take-needs_sweep.ensures.held) (has_rest held who a rest (subst (HasAll held who) cut c.loop-asset.invariant.has));
+      held = ap (λ h. minus_all h (account_rows who rest)) c.take-needs_sweep.ensures.held ∙ sym (minus_first held who a rest) ∙ ap (λ ys. minus_all held (account_rows who ys)) (sym cut) ∙ c.loop-asset.invariant.held;
     }
 
 pub returns-clause-held : goal.returns-clause-held

@@ -1,6 +1,11 @@
-use Rattle.std.proofs.Common.{◌≡◌, take}
+use Rattle.std.proofs.Common.{◌≡◌, take, length}
+use Rattle.std.specs.Prelude.{vec_len, vec_capacity}
 use Rattle.trust_tables.specs.Trust.{listing}
 use Rattle.chain_state.proofs.opening.listing.ids.Given as goal
 
 abbrev pub invariant-loop-row : goal.invariant-loop-row
-invariant-loop-row l = l.list.items ≡ listing (take l.row-index l.rows)
+invariant-loop-row l = record {
+  same : l.list.items ≡ listing (take l.row-index l.rows);
+  filled : vec_len l.list ≡ l.row-index;
+  room : vec_capacity l.list ≡ length l.rows;
+}

@@ -15,8 +15,8 @@ use Rattle.ledgers.proofs.Opening.{may_all}
 use Rattle.ledgers.proofs.Transferring.{has_held_by, given_listed, one_account, given_back, as_seen}
 use Rattle.ledgers.proofs.ledger.Ledger.transfer_checked.Goals as goal
 
-pub take_all-requires-clause-has : goal.take_all-requires-clause-has
-take_all-requires-clause-has c =
+pub take_all-needs_sweep-requires-clause-has : goal.take_all-needs_sweep-requires-clause-has
+take_all-needs_sweep-requires-clause-has c =
     let r = c.self.inside.rows in
     let enough = as_seen (λ l xs. shortage l.held c.args.from.now xs ≡ None) c.args.self.now (accounts_in r) c.args.list.now c.items-assets.result.now (sym c.self.view_is) (sym c.items-assets.ensures.value) c.requires.able.enough in
     subst (λ h. HasAll h c.args.from.now c.items-assets.result.now) (sym c.make_all_room.ensures.held)
@@ -29,10 +29,10 @@ give_all-requires-clause-listed c =
     let enough = as_seen (λ l xs. shortage l.held c.args.from.now xs ≡ None) c.args.self.now (accounts_in r) c.args.list.now assets (sym c.self.view_is) (sym c.items-assets.ensures.value) c.requires.able.enough in
     let has = has_all (rows_held r) c.args.from.now assets (subst (λ xs. is_rising xs ≡ true) (sym c.items-assets.ensures.value) c.items-assets.ensures.list.rising) enough in
     let all = given_listed r.assets r.amounts.entries r.owners.entries r.sums.items c.self.invariant c.args.from.now assets has (subst (λ xs. has_zero xs ≡ false) (sym c.items-assets.ensures.value) c.items-assets.ensures.list.no_zero) in
-    subst (λ l. list_all (λ a. lists l (listed_of (unit_of a))) assets ≡ true) (sym (c.take_all.ensures.stay.assets ∙ c.make_all_room.ensures.stay.assets)) all
+    subst (λ l. list_all (λ a. lists l (listed_of (unit_of a))) assets ≡ true) (sym (c.take_all-needs_sweep.ensures.stay.assets ∙ c.make_all_room.ensures.stay.assets)) all
 
 pub give_all-requires-clause-room : goal.give_all-requires-clause-room
-give_all-requires-clause-room c = λ k a is. room_stays c.make_all_room.new.rows c.take_all.new.rows c.take_all.ensures.stay c.args.to.now a (c.in_ok-make_all_room.ensures.room k a is)
+give_all-requires-clause-room c = λ k a is. room_stays c.make_all_room.new.rows c.take_all-needs_sweep.new.rows c.take_all-needs_sweep.ensures.stay c.args.to.now a (c.in_ok-make_all_room.ensures.room k a is)
 
 pub give_all-requires-clause-may : goal.give_all-requires-clause-may
 give_all-requires-clause-may c =
@@ -41,7 +41,7 @@ give_all-requires-clause-may c =
     let to = c.args.to.now in
     let assets = c.items-assets.result.now in
     let free = as_seen (λ l xs. barred (Withdrawn from xs l).held to xs ≡ None) c.args.self.now (accounts_in r) c.args.list.now assets (sym c.self.view_is) (sym c.items-assets.ensures.value) c.requires.able.free in
-    let after = c.take_all.ensures.held ∙ minus_whole (rows_held c.make_all_room.new.rows) from assets ∙ ap (λ h. difference h (held_by from (bundle_of assets))) c.make_all_room.ensures.held in
+    let after = c.take_all-needs_sweep.ensures.held ∙ minus_whole (rows_held c.make_all_room.new.rows) from assets ∙ ap (λ h. difference h (held_by from (bundle_of assets))) c.make_all_room.ensures.held in
     subst (λ h. MayTakeAll h to assets) (sym after) (may_all (difference (rows_held r) (held_by from (bundle_of assets))) to assets free)
 
 pub returns-then-is_eq : goal.returns-then-is_eq
@@ -63,9 +63,9 @@ returns c =
     let from = c.args.from.now in
     let to = c.args.to.now in
     let assets = c.items-assets.result.now in
-    let listed = c.sweep_all.ensures.assets ∙ c.give_all.ensures.assets ∙ c.take_all.ensures.stay.assets ∙ c.make_all_room.ensures.stay.assets in
-    let after = c.take_all.ensures.held ∙ minus_whole (rows_held c.make_all_room.new.rows) from assets ∙ ap (λ h. difference h (held_by from (bundle_of assets))) c.make_all_room.ensures.held in
-    let held = c.sweep_all.ensures.held ∙ c.give_all.ensures.held ∙ plus_whole (rows_held c.take_all.new.rows) to assets ∙ ap (λ h. merge h (held_by to (bundle_of assets))) after in
+    let listed = c.sweep_all.ensures.assets ∙ c.give_all.ensures.assets ∙ c.take_all-needs_sweep.ensures.stay.assets ∙ c.make_all_room.ensures.stay.assets in
+    let after = c.take_all-needs_sweep.ensures.held ∙ minus_whole (rows_held c.make_all_room.new.rows) from assets ∙ ap (λ h. difference h (held_by from (bundle_of assets))) c.make_all_room.ensures.held in
+    let held = c.sweep_all.ensures.held ∙ c.give_all.ensures.held ∙ plus_whole (rows_held c.take_all-needs_sweep.new.rows) to assets ∙ ap (λ h. merge h (held_by to (bundle_of assets))) after in
     let moved : accounts_in c.sweep_all.new.rows ≡ Transferred from to assets (accounts_in r) = λ i. record { listed = listed i; held = held i } in
     record {
       transferred = moved ∙ ap (λ xs. Transferred from to xs (accounts_in r)) c.items-assets.ensures.value ∙ ap (Transferred from to c.args.list.now) c.self.view_is;

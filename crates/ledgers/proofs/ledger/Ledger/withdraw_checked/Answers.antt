@@ -12,8 +12,8 @@ use Rattle.ledgers.proofs.ledger.Ledger.withdraw_checked.Goals as goal
 pub mint-requires-clause-once : goal.mint-requires-clause-once
 mint-requires-clause-once c = once_each c.items-assets.result.now (subst (λ xs. is_rising xs ≡ true) (sym c.items-assets.ensures.value) c.items-assets.ensures.list.rising)
 
-pub take_all-requires-clause-has : goal.take_all-requires-clause-has
-take_all-requires-clause-has c =
+pub take_all-needs_sweep-requires-clause-has : goal.take_all-needs_sweep-requires-clause-has
+take_all-needs_sweep-requires-clause-has c =
     let rows = c.self.inside.rows in
     let assets = c.items-assets.result.now in
     let enough = as_seen (λ l xs. shortage l.held c.args.who.now xs ≡ None) c.args.self.now (accounts_in rows) c.args.list.now assets (sym c.self.view_is) (sym c.items-assets.ensures.value) c.requires.enough in
@@ -25,8 +25,8 @@ returns c =
     let who = c.args.who.now in
     let assets = c.items-assets.result.now in
     let same = c.items-assets.ensures.value in
-    let listed = c.sweep_all.ensures.assets ∙ c.take_all.ensures.stay.assets in
-    let held = c.sweep_all.ensures.held ∙ c.take_all.ensures.held ∙ minus_whole (rows_held rows) who assets in
+    let listed = c.sweep_all.ensures.assets ∙ c.take_all-needs_sweep.ensures.stay.assets in
+    let held = c.sweep_all.ensures.held ∙ c.take_all-needs_sweep.ensures.held ∙ minus_whole (rows_held rows) who assets in
     let moved : accounts_in c.sweep_all.new.rows ≡ Withdrawn who assets (accounts_in rows) = λ i. record { listed = listed i; held = held i } in
     record {
       goods = c.in_ok-goods.ensures ∙ ap bundle_of same;

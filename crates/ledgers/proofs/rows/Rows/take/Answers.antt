@@ -19,15 +19,15 @@ unreachable-requires c =
     let nothing = held_listed r.assets r.amounts.entries r.owners.entries r.sums.items c.requires.sound c.args.who.now c.args.asset.now.id (instance_in c.args.asset.now.fun) (sym c.number.ensures ∙ none) in
     omega (arith, nothing, c.requires.some, c.requires.enough)
 
-pub lower_amount-requires-clause-enough : goal.lower_amount-requires-clause-enough
-lower_amount-requires-clause-enough c =
+pub lower_amount-left-requires-clause-enough : goal.lower_amount-left-requires-clause-enough
+lower_amount-left-requires-clause-enough c =
     let r = c.args.self.now in
     let at = number_at r.assets (listed_of (c.args.asset.now.id, instance_in c.args.asset.now.fun)) c.in-Some.number (sym c.in-Some.ensures) in
     let row = row_at_least r.assets r.amounts.entries r.owners.entries r.sums.items c.requires.sound c.in-Some.number c.args.who.now c.args.asset.now.id (instance_in c.args.asset.now.fun) at in
     omega (arith, row, c.requires.enough, c.amount_of-amount.ensures)
 
-pub lower_amount-requires-clause-there : goal.lower_amount-requires-clause-there
-lower_amount-requires-clause-there c =
+pub lower_amount-left-requires-clause-there : goal.lower_amount-left-requires-clause-there
+lower_amount-left-requires-clause-there c =
     let r = c.args.self.now in
     let at = number_at r.assets (listed_of (c.args.asset.now.id, instance_in c.args.asset.now.fun)) c.in-Some.number (sym c.in-Some.ensures) in
     let row = row_at_least r.assets r.amounts.entries r.owners.entries r.sums.items c.requires.sound c.in-Some.number c.args.who.now c.args.asset.now.id (instance_in c.args.asset.now.fun) at in
@@ -50,9 +50,9 @@ returns c =
     let r = c.args.self.now in
     let a = c.args.asset.now in
     let sum = c.lower_sum.ensures in
-    let whole = taken r.assets r.amounts.entries r.owners.entries r.sums.items c.requires.sound c.lower_amount.new.rows.entries c.set_owner.new.rows.entries
+    let whole = taken r.assets r.amounts.entries r.owners.entries r.sums.items c.requires.sound c.lower_amount-left.new.rows.entries c.set_owner.new.rows.entries
     (c.set_owner.ensures.sorted c.requires.sound.sorted) c.in-Some.number c.args.who.now a.id a.fun (sym c.in-Some.ensures) c.requires.enough
-    (wrote_as r.amounts.entries c.lower_amount.new.rows.entries (c.args.who.now, c.in-Some.number) _ _ (ap (λ n. amount_in_row r.amounts.entries (c.args.who.now, c.in-Some.number) - n) c.amount_of-amount.ensures) c.lower_amount.ensures.wrote)
-    c.set_owner.ensures.wrote (c.lower_amount.ensures.small c.requires.sound.small)
+    (wrote_as r.amounts.entries c.lower_amount-left.new.rows.entries (c.args.who.now, c.in-Some.number) _ _ (ap (λ n. amount_in_row r.amounts.entries (c.args.who.now, c.in-Some.number) - n) c.amount_of-amount.ensures) c.lower_amount-left.ensures.wrote)
+    c.set_owner.ensures.wrote (c.lower_amount-left.ensures.small c.requires.sound.small)
     c.lower_sum.new.sums.items (sum.0, sum.1, sum.2, sum.3 ∙ ap (λ n. wide_value sum.0 - n) c.amount_of-amount.ensures) in
-    record { sound = whole.1; stay = record { assets = refl; amounts = c.lower_amount.ensures.stay; owners = c.set_owner.ensures.stay }; held = whole.0 }
+    record { sound = whole.1; stay = record { assets = refl; amounts = c.lower_amount-left.ensures.stay; owners = c.set_owner.ensures.stay }; held = whole.0 }

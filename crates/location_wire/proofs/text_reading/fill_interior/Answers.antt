@@ -1,7 +1,7 @@
 use Rattle.std.proofs.Common.{◌∷◌, [], ◌++◌, List, take, refl, ap, ◌∙◌, length-append, arith}
 use Rattle.locations.specs.declared.grammar.Junction.{Junction}
 use Rattle.location_wire.proofs.TextLaws.{picked, read_as, one_more}
-use Rattle.location_wire.proofs.text_reading.interior_of_texts.Goals as goal
+use Rattle.location_wire.proofs.text_reading.fill_interior.Goals as goal
 
 pub returns-in_default-clause-found : goal.returns-in_default-clause-found
 returns-in_default-clause-found c = λ js few all e.
@@ -22,4 +22,4 @@ loop-part-preserved c = record {
 }
 
 pub returns-clause-fits : goal.returns-clause-fits
-returns-clause-fits c = (c.loop-part.invariant.few, c.loop-part.invariant.fits)
+returns-clause-fits c = λ _. (c.loop-part.invariant.few, c.loop-part.invariant.fits)

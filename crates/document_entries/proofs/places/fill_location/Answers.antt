@@ -1,6 +1,6 @@
 use Rattle.document_entries.proofs.LocationReading.{location_found, location_none}
 use Rattle.document_entries.proofs.Locations.{read_as, unread}
-use Rattle.document_entries.proofs.places.location_of.Goals as goal
+use Rattle.document_entries.proofs.places.fill_location.Goals as goal
 
 pub returns-in-Ok : goal.returns-in-Ok
 returns-in-Ok c = read_as c.args.place _ _ _ c.in_ok-text.ensures (location_found c.law_of_one_location.ensures _ _ c.in-Ok.ensures)

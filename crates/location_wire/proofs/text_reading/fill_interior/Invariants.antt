@@ -2,7 +2,7 @@ use Rattle.std.proofs.Common.{◌≡◌, ◌≤◌, List, length, map, take}
 use Rattle.std.specs.List.{AllByRecursion}
 use Rattle.locations.specs.declared.grammar.Junction.{Junction}
 use Rattle.location_wire.specs.Texts.{IsJunction, junction_text}
-use Rattle.location_wire.proofs.text_reading.interior_of_texts.Given as goal
+use Rattle.location_wire.proofs.text_reading.fill_interior.Given as goal
 
 -- the junctions so far are the first of those that the texts are of
 abbrev pub invariant-loop-part : goal.invariant-loop-part
