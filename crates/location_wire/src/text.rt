@@ -1,6 +1,6 @@
 //! The texts of locations and paths.
 
-ghost use Rattle.std.specs.Prelude.{◌≡◌, ◌++◌, OnOk, IfOk, map, codes};
+ghost use Rattle.std.specs.Prelude.{◌≡◌, ◌++◌, OnOk, IfOk, map, codes, decimal};
 ghost use Rattle.std.specs.String.{string_bytes};
 ghost use Rattle.scale_codec.specs.Spelling.{joined};
 ghost use Rattle.location_wire.specs.Spelling.{junction};
@@ -60,15 +60,27 @@ fn push_network(
     }
 }
 
+/// Appends a name with its parenthesis, a number and the other parenthesis.
+fn push_numbered(text: &mut String, name: &str, number: u128) -> Result<(), AllocError>
+    ensures { OnOk result (string_bytes text.new
+        ≡ string_bytes text.old ++ (name.now ++ decimal number ++ codes ")")) }
+{
+    text.push_str(name)?;
+    write!(text, "{number}")?;
+    text.push_str(")")
+}
+
 #[tactic(auto, unfolding(crate::specs::Texts::junction_text))]
 fn push_junction(alloc: Global, text: &mut String, step: &Junction) -> Result<(), AllocError>
     ensures { OnOk result (string_bytes text.new
         ≡ string_bytes text.old ++ junction_text step.now) }
 {
     match step {
-        Junction::Parachain(id) => write!(text, "Parachain({id})"),
-        Junction::PalletInstance(index) => write!(text, "PalletInstance({index})"),
-        Junction::GeneralIndex(index) => write!(text, "GeneralIndex({index})"),
+        Junction::Parachain(id) => push_numbered(text, "Parachain(", u128::from(*id)),
+        Junction::PalletInstance(index) => {
+            push_numbered(text, "PalletInstance(", u128::from(*index))
+        }
+        Junction::GeneralIndex(index) => push_numbered(text, "GeneralIndex(", *index),
         Junction::AccountId32 { network, id } => match network {
             None => push_account(alloc, text, id.as_slice()),
             Some(_) => push_spelled(alloc, text, step),
@@ -94,14 +106,33 @@ fn push_steps(alloc: Global, text: &mut String, items: &[Junction]) -> Result<()
     Ok(())
 }
 
+/// Appends the number of parents.
+fn push_parents(text: &mut String, parents: u8) -> Result<(), AllocError>
+    ensures { OnOk result (string_bytes text.new ≡ string_bytes text.old ++ decimal parents) }
+{
+    // For speed: most locations have none, or one.
+    match parents {
+        0 => text.push_str("0"),
+        1 => text.push_str("1"),
+        _ => write!(text, "{parents}"),
+    }
+}
+
+/// Appends the text of a location.
+pub fn push_location_text(alloc: Global, text: &mut String, l: &Location) -> Result<(), AllocError>
+    ensures { OnOk result (string_bytes text.new
+        ≡ string_bytes text.old ++ location_text l.now) }
+{
+    push_parents(text, l.parents)?;
+    push_steps(alloc, text, l.interior.items())
+}
+
 /// The text of a location, as `1/Parachain(2000)`: its parents, then each junction with a slash before it.
 pub fn location_text(alloc: Global, l: &Location) -> Result<String, AllocError>
     ensures { IfOk result (λ text. string_bytes text ≡ location_text l.now) }
 {
-    let parents = l.parents;
     let mut text = String::with_capacity(alloc, ROOM)?;
-    write!(text, "{parents}")?;
-    push_steps(alloc, &mut text, l.interior.items())?;
+    push_location_text(alloc, &mut text, l)?;
     Ok(text)
 }
 

@@ -17,4 +17,4 @@ mod several;
 mod words;
 
 pub use messages::message_text;
-pub use words::{asset_text, hex_text};
+pub use words::{asset_text, hex_text, push_asset_text};

@@ -1,12 +1,12 @@
 //! The values of fields that are on one line.
-ghost use Rattle.std.specs.Prelude.{◌≡◌, IfOk, string_bytes};
+ghost use Rattle.std.specs.Prelude.{◌≡◌, ◌++◌, IfOk, OnOk, string_bytes};
 ghost use Rattle.location_wire.specs.Texts.{hex_text};
 ghost use Rattle.asset_wire.specs.Spelling.{instance};
 ghost use Rattle.message_text.specs.Words.{flag_text, origin_kind_text, limit_text, status_text, place_text, failure_text, junction_path_text, network_text, id_text, fun_text, asset_text, wild_fun_text};
 
 use asset_lists::{Asset, AssetId, Fun, Instance, WildFun};
 use asset_wire::write_instance;
-use location_wire::{location_text, path_text};
+use location_wire::{location_text, path_text, push_location_text};
 use locations::{Junction, Junctions, Location, NetworkId};
 use operands::{MaybeError, OriginKind, WeightLimit, XcmError};
 use scale_codec::Out;
@@ -54,7 +54,8 @@ pub fn hex_text(alloc: Global, bytes: &[u8]) -> Result<String, AllocError>
 {
     let digits = hex::encode(alloc, bytes)?;
     let mut text = String::with_capacity(alloc, 2 + digits.len())?;
-    write!(text, "0x{digits}")?;
+    text.push_str("0x")?;
+    text.push_str(&digits)?;
     Ok(text)
 }
 
@@ -147,27 +148,49 @@ fn instance_text(alloc: Global, which: &Instance) -> Result<String, AllocError>
     hex_text(alloc, out.bytes())
 }
 
-/// The amount in the asset's smallest unit, or the instance.
-#[tactic(auto, unfolding(crate::specs::Words::fun_text))]
-fn fun_text(alloc: Global, fun: &Fun) -> Result<String, AllocError>
-    ensures { IfOk result (λ text. string_bytes text ≡ fun_text fun.now) }
+/// Appends an asset id: its location, or the hex of its bytes.
+#[tactic(auto, unfolding(crate::specs::Words::id_text))]
+fn push_id(alloc: Global, text: &mut String, id: &AssetId) -> Result<(), AllocError>
+    ensures { OnOk result (string_bytes text.new ≡ string_bytes text.old ++ id_text id.now) }
 {
-    match fun {
-        Fun::Fungible(amount) => format!(in alloc; "{amount}"),
-        Fun::NonFungible(which) => {
-            let digits = instance_text(alloc, which)?;
-            format!(in alloc; "instance {digits}")
+    match id {
+        AssetId::Concrete(place) => push_location_text(alloc, text, place),
+        AssetId::Abstract(bytes) => {
+            let digits = hex_text(alloc, bytes.as_slice())?;
+            text.push_str(&digits)
         }
     }
+}
+
+/// Appends the amount in the asset's smallest unit, or the instance.
+#[tactic(auto, unfolding(crate::specs::Words::fun_text))]
+fn push_fun(alloc: Global, text: &mut String, fun: &Fun) -> Result<(), AllocError>
+    ensures { OnOk result (string_bytes text.new ≡ string_bytes text.old ++ fun_text fun.now) }
+{
+    match fun {
+        Fun::Fungible(amount) => write!(text, "{amount}"),
+        Fun::NonFungible(which) => {
+            let digits = instance_text(alloc, which)?;
+            write!(text, "instance {digits}")
+        }
+    }
+}
+
+/// Appends the text of an asset. An `Err` is out of memory.
+pub fn push_asset_text(alloc: Global, text: &mut String, asset: &Asset) -> Result<(), AllocError>
+    ensures { OnOk result (string_bytes text.new
+        ≡ string_bytes text.old ++ asset_text asset.now) }
+{
+    push_id(alloc, text, &asset.id)?;
+    text.push_str(" ")?;
+    push_fun(alloc, text, &asset.fun)
 }
 
 /// An asset, as `0 1000`: its id, and the amount in its smallest unit, or `instance` and the instance. An `Err` is out of memory.
 pub fn asset_text(alloc: Global, asset: &Asset) -> Result<String, AllocError>
     ensures { IfOk result (λ text. string_bytes text ≡ asset_text asset.now) }
 {
-    let id = id_text(alloc, &asset.id)?;
-    let amount = fun_text(alloc, &asset.fun)?;
     let mut text = String::with_capacity(alloc, ROOM)?;
-    write!(text, "{id} {amount}")?;
+    push_asset_text(alloc, &mut text, asset)?;
     Ok(text)
 }

@@ -1,6 +1,7 @@
 //! The lines of a chain under `balances`, `traps` and `queues`.
 
-ghost use Rattle.std.specs.Prelude.{◌≡◌, ◌++◌, IfOk, OnOk, flat_map, string_bytes};
+ghost use Rattle.std.specs.Prelude.{◌≡◌, ◌++◌, IfOk, OnOk, codes, flat_map, string_bytes};
+ghost use Rattle.message_text.specs.Words.{asset_text};
 ghost use Rattle.asset_lists.specs.declared.units.Asset.{Asset};
 ghost use Rattle.asset_bundles.specs.Bundles.{held_assets};
 ghost use Rattle.ledgers.specs.Ledgers.{account_goods};
@@ -9,13 +10,14 @@ ghost use Rattle.step_text.specs.Lines.{balance_line, locked_line};
 ghost use Rattle.step_text.specs.Blocks.{accounts_text, channel_text, checking_if, checking_text, locked_text, trap_text, trapped_text, queued_line};
 
 use crate::laws::law_of_queued;
-use crate::lines::{balance_line, checking_line, locked_line, queue_line, trap_line};
+use crate::lines::{balance_head, checking_line, locked_line, queue_line, trap_line};
 use asset_bundles::{Trap, TrapStore};
 use asset_lists::Asset;
 use asset_locks::{Lock, LockBook};
 use chain_ids::ChainId;
 use chain_queues::{Queue, Queued};
 use ledgers::Ledger;
+use message_text::push_asset_text;
 use std::alloc::{AllocError, Global};
 use trust_tables::AssetRow;
 
@@ -60,11 +62,26 @@ fn push_balances(
     ensures { OnOk result (string_bytes text.new
         ≡ string_bytes text.old ++ flat_map (balance_line chain who.now) assets.now) }
 {
+    let head = balance_head(alloc, chain, who)?;
     for asset in assets {
-        let line = balance_line(alloc, chain, who, asset)?;
-        text.push_str(&line)?;
+        push_balance(alloc, text, &head, asset)?;
     }
     Ok(())
+}
+
+/// Appends the line of what an account holds of an asset, which begins with these words.
+fn push_balance(
+    alloc: Global,
+    text: &mut String,
+    head: &str,
+    asset: &Asset,
+) -> Result<(), AllocError>
+    ensures { OnOk result (string_bytes text.new
+        ≡ string_bytes text.old ++ (head.now ++ asset_text asset.now ++ codes "\n")) }
+{
+    text.push_str(head)?;
+    push_asset_text(alloc, text, asset)?;
+    text.push_str("\n")
 }
 
 /// The lines of a chain's traps, oldest first.

@@ -1,13 +1,15 @@
 //! The text of a step.
 
-ghost use Rattle.std.specs.Prelude.{◌≡◌, ◌++◌, IfOk, OnOk, flat_map, string_bytes};
+ghost use Rattle.std.specs.Prelude.{◌≡◌, ◌++◌, IfOk, OnOk, codes, decimal, flat_map, string_bytes};
+ghost use Rattle.chain_ids.specs.Texts.{chain_text};
 ghost use Rattle.exec_base.specs.declared.event.Event.{Event};
 ghost use Rattle.step_text.specs.Steps.{event_line, outcome_line, answer_line, step_text, drained_line};
 
 use crate::assets::{origin_text, topic_text};
-use crate::words::{Shown, call_name, call_result, cause_name, kind_name, part_letter};
+use crate::words::{Shown, call_name, call_result, cause_name, kind_name, part_head};
 use asset_bundles::{Cause, Total};
 use asset_lists::Kind;
+use chain_ids::ChainId;
 use exec_base::{Event, Part};
 use location_wire::path_text;
 use locations::{Junctions, Location};
@@ -57,14 +59,20 @@ fn push_event(alloc: Global, text: &mut String, event: &Event) -> Result<(), All
     ensures { OnOk result (string_bytes text.new ≡ string_bytes text.old ++ event_line event.now) }
 {
     match event {
-        Event::Message { from, to, number } => write!(text, "  message {from} {to} {number}\n"),
+        Event::Message { from, to, number } => {
+            text.push_str("  message ")?;
+            push_arrival(text, *from, *to, *number)
+        }
         Event::Ran {
             part,
             index,
             instruction,
             error,
         } => push_ran(text, *part, *index, *instruction, *error),
-        Event::Sent { from, to, number } => write!(text, "  sent {from} {to} {number}\n"),
+        Event::Sent { from, to, number } => {
+            text.push_str("  sent ")?;
+            push_arrival(text, *from, *to, *number)
+        }
         Event::Burned {
             kind,
             path,
@@ -87,6 +95,35 @@ fn push_event(alloc: Global, text: &mut String, event: &Event) -> Result<(), All
     }
 }
 
+/// Appends the end of the line of a message on its way: its channel, and its number there.
+fn push_arrival(
+    text: &mut String,
+    from: ChainId,
+    to: ChainId,
+    number: u64,
+) -> Result<(), AllocError>
+    ensures { OnOk result (string_bytes text.new
+        ≡ string_bytes text.old ++ (chain_text from ++ codes " " ++ chain_text to ++ codes " "
+        ++ decimal number ++ codes "\n")) }
+{
+    push_chain(text, from)?;
+    text.push_str(" ")?;
+    push_chain(text, to)?;
+    text.push_str(" ")?;
+    push_number(text, number)?;
+    text.push_str("\n")
+}
+
+/// Appends the text of a chain.
+fn push_chain(text: &mut String, chain: ChainId) -> Result<(), AllocError>
+    ensures { OnOk result (string_bytes text.new ≡ string_bytes text.old ++ chain_text chain) }
+{
+    match chain {
+        ChainId::Relay => text.push_str("relay"),
+        ChainId::Para(number) => write!(text, "{number}"),
+    }
+}
+
 /// Appends the line of an instruction that ran.
 #[tactic(auto, unfolding(crate::specs::Steps::event_line))]
 fn push_ran(
@@ -99,11 +136,27 @@ fn push_ran(
     ensures { OnOk result (string_bytes text.new
         ≡ string_bytes text.old ++ event_line (Event.Ran part index instruction error)) }
 {
-    let letter = part_letter(part);
-    let name = instruction_name_at(instruction);
+    text.push_str(part_head(part))?;
+    push_index(text, index)?;
+    text.push_str(" ")?;
+    text.push_str(instruction_name_at(instruction))?;
     match error {
-        None => write!(text, "  {letter}{index} {name} ok\n"),
-        Some(error) => write!(text, "  {letter}{index} {name} {error}\n"),
+        None => text.push_str(" ok\n"),
+        Some(error) => write!(text, " {error}\n"),
+    }
+}
+
+/// Appends the index of an instruction.
+fn push_index(text: &mut String, index: u32) -> Result<(), AllocError>
+    ensures { OnOk result (string_bytes text.new ≡ string_bytes text.old ++ decimal index) }
+{
+    // For speed: most programs are short.
+    match index {
+        0 => text.push_str("0"),
+        1 => text.push_str("1"),
+        2 => text.push_str("2"),
+        3 => text.push_str("3"),
+        _ => write!(text, "{index}"),
     }
 }
 
@@ -147,6 +200,13 @@ fn push_end(
         text,
         "  end origin {origin} topic {topic} surplus {surplus} refunded {refunded}\n"
     )
+}
+
+/// Appends a number.
+fn push_number(text: &mut String, number: u64) -> Result<(), AllocError>
+    ensures { OnOk result (string_bytes text.new ≡ string_bytes text.old ++ decimal number) }
+{
+    write!(text, "{number}")
 }
 
 /// Appends the line of how an execution ended.

@@ -1,6 +1,6 @@
 //! The words of a report: kinds, causes, totals.
 
-ghost use Rattle.std.specs.Prelude.{◌≡◌, Some};
+ghost use Rattle.std.specs.Prelude.{◌≡◌, ◌++◌, Some, codes};
 ghost use Rattle.step_text.specs.Texts.{kind_name, cause_name, part_letter, call_name, call_result, total_text};
 
 use asset_bundles::{Cause, Total};
@@ -49,14 +49,14 @@ pub(crate) fn call_result(ok: bool) -> &'static str
     if ok { "ok" } else { "failed" }
 }
 
-/// The letter of a program of a run.
-pub(crate) fn part_letter(part: Part) -> &'static str
-    ensures { result.now ≡ part_letter part }
+/// Two spaces, and the letter of a program of a run.
+pub(crate) fn part_head(part: Part) -> &'static str
+    ensures { result.now ≡ codes "  " ++ part_letter part }
 {
     match part {
-        Part::Program => "p",
-        Part::Handler => "h",
-        Part::Appendix => "a",
+        Part::Program => "  p",
+        Part::Handler => "  h",
+        Part::Appendix => "  a",
     }
 }
 

@@ -3,4 +3,4 @@ use Rattle.step_text.specs.Lines.{balance_line}
 use Rattle.step_text.proofs.blocks.push_balances.Given as goal
 
 abbrev pub invariant-loop-asset : goal.invariant-loop-asset
-invariant-loop-asset l = string_bytes l.text ≡ string_bytes l.initial.text ++ flat_map (balance_line l.chain l.who) (take l.asset-index l.assets)
+invariant-loop-asset l = string_bytes l.text ≡ string_bytes l.initial.text ++ flat_map (balance_line l.fn.chain l.fn.who) (take l.asset-index l.assets)
