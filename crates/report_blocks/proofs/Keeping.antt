@@ -22,8 +22,6 @@ use Rattle.report_text.specs.Kept.{Sheet}
 use Rattle.report_text.specs.Marks.{IsMarked}
 use Rattle.report_text.specs.Plan.{plan_of}
 use Rattle.report_text.specs.Sheets.{IsFilledSheet, IsWrittenOf, IsSheetOf}
-use Rattle.report_blocks.specs.declared.kept_block.KeptBlock.{KeptBlock}
-use Rattle.report_blocks.specs.declared.kept_block.KeptBlock.TheVariants.{Planned, Written}
 use Rattle.report_blocks.specs.Tables.{world_tables, IsKeptOf, IsChangedIn, CountsAsChanged}
 use Rattle.report_blocks.proofs.Listed.{KeepsSettings, tables_kept}
 
@@ -33,12 +31,12 @@ pub marked_keeps : (number : ℕ) (old new : Sheet) (parts : List ChainPart) →
 marked_keeps number old new parts m s =
     (s.0, record { supplies = m.supplies ∙ s.1.supplies; backings = m.backings ∙ s.1.backings }, λ chain fresh. s.2 chain (m.others chain fresh))
 
-pub marked_others : (number : ℕ) (old new : Sheet) → IsMarked number old new → (n : ℕ) → IsChangedIn (Written old) n → IsChangedIn (Written new) n
+pub marked_others : (number : ℕ) (old new : Sheet) → IsMarked number old new → (n : ℕ) → IsChangedIn old n → IsChangedIn new n
 marked_others number old new m n changed = λ chain fresh. changed chain (m.others chain fresh)
 
 -- where every chain counts as changed
 module _ (new : Sheet) (all : (chain : ℕ) → is_stale new.stale chain ≡ true) where
-  pub all_changed : (number : ℕ) → IsChangedIn (Written new) number
+  pub all_changed : (number : ℕ) → IsChangedIn new number
   all_changed number = λ chain fresh is. absurd (false≢true (sym fresh ∙ all chain))
 
   pub all_keeps : (old : Sheet) (parts : List ChainPart) → new.supplies ≡ old.supplies → new.backings ≡ old.backings → IsSheetOf parts old → IsSheetOf parts new
@@ -99,11 +97,10 @@ module _ (others : KeepsOthers) (w : World) where
       (λ i j from_i to_j. others.claim w from to bytes i k from_i (λ e. apart (e ∙ sym (number_is w from i from_i))))
 
 -- what is kept stays right where only chains changed that count as changed
-still_kept : (kept : Option KeptBlock) (w now : World) → world_tables now ≡ world_tables w
+still_kept : (kept : Option Sheet) (w now : World) → world_tables now ≡ world_tables w
     → ((k : ℕ) → ((number : ℕ) → CountsAsChanged kept number → k ≡ number → ⊥) → slice_get now k ≡ slice_get w k) → IsKeptOf kept w → IsKeptOf kept now
 still_kept None w now tables same right = tt
-still_kept (Some (Planned plan)) w now tables same right = right ∙ ap plan_of (sym tables)
-still_kept (Some (Written sheet)) w now tables same right =
+still_kept (Some sheet) w now tables same right =
     let part = λ (m : Member). m.part in (
       right.0,
       subst (λ (ts : List Table). IsFilledSheet (plan_of ts) right.0 sheet) (sym tables) right.1,
@@ -114,7 +111,7 @@ still_kept (Some (Written sheet)) w now tables same right =
           ∙ right.2 chain fresh,
     )
 
-module _ (keeps : KeepsSettings) (others : KeepsOthers) (order : List Link) (kept : Option KeptBlock) (w now : World) (right : IsKeptOf kept w) where
+module _ (keeps : KeepsSettings) (others : KeepsOthers) (order : List Link) (kept : Option Sheet) (w now : World) (right : IsKeptOf kept w) where
   pub kept_exec : (chain : ChainId) (account bytes : List ℕ) → now ≡ (exec w chain account bytes).world → CountsAsChanged kept (number_of (world_tables w) chain) → IsKeptOf kept now
   kept_exec chain account bytes is marked =
       still_kept kept w now (ap world_tables is ∙ tables_kept keeps order w (steps.Exec chain account bytes))
@@ -130,7 +127,7 @@ module _ (keeps : KeepsSettings) (others : KeepsOthers) (order : List Link) (kep
       still_kept kept w now (ap world_tables is ∙ tables_kept keeps order w (steps.Claim from to bytes))
       (λ k apart. ap (λ x. slice_get x k) is ∙ claim_others others w from to bytes k (apart (number_of (world_tables w) from) marked)) right
 
-module _ (keeps : KeepsSettings) (order : List Link) (kept : Option KeptBlock) (w now : World) (right : IsKeptOf kept w) where
+module _ (keeps : KeepsSettings) (order : List Link) (kept : Option Sheet) (w now : World) (right : IsKeptOf kept w) where
   pub kept_drain : now ≡ next_world order w steps.Drain → ((number : ℕ) → CountsAsChanged kept number) → IsKeptOf kept now
   kept_drain is marked =
       still_kept kept w now (ap world_tables is ∙ tables_kept keeps order w steps.Drain)

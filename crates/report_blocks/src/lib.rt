@@ -3,7 +3,6 @@
 
 mod audited;
 mod draining;
-mod kept_block;
 mod line_outcome;
 mod marked_steps;
 mod marking;
@@ -13,7 +12,6 @@ mod serving;
 mod steps;
 
 pub use audited::AuditedNet;
-pub(crate) use kept_block::KeptBlock;
 pub use line_outcome::LineOutcome;
 pub use opening::{open_audited, open_network, opening_text};
 pub use serving::serve;

@@ -7,12 +7,12 @@ ghost use Rattle.network_steps.specs.Steps.{drain, next_world, exec, deliver, cl
 ghost use Rattle.network_steps.specs.Steps as steps;
 ghost use Rattle.network_steps.specs.Genesis.{order_of};
 
-use crate::KeptBlock;
 use crate::draining::drained;
 use crate::marking::{mark, mark_all};
 use chain_ids::ChainId;
 use chain_net::Net;
 use network_steps::{law_of_constant_settings, law_of_no_change_elsewhere};
+use report_text::SupplySheet;
 use std::alloc::{AllocError, Global};
 use step_text::step_text;
 
@@ -20,7 +20,7 @@ use step_text::step_text;
 pub(crate) fn exec_step(
     alloc: Global,
     net: &mut Net,
-    kept: &mut Option<KeptBlock>,
+    kept: &mut Option<SupplySheet>,
     chain: ChainId,
     account: &[u8; 32],
     message: &[u8],
@@ -47,7 +47,7 @@ pub(crate) fn exec_step(
 pub(crate) fn deliver_step(
     alloc: Global,
     net: &mut Net,
-    kept: &mut Option<KeptBlock>,
+    kept: &mut Option<SupplySheet>,
     from: ChainId,
     to: ChainId,
 ) -> Result<String, AllocError>
@@ -73,7 +73,7 @@ pub(crate) fn deliver_step(
 pub(crate) fn claim_step(
     alloc: Global,
     net: &mut Net,
-    kept: &mut Option<KeptBlock>,
+    kept: &mut Option<SupplySheet>,
     from: ChainId,
     to: ChainId,
     message: &[u8],
@@ -100,7 +100,7 @@ pub(crate) fn claim_step(
 pub(crate) fn drain_step(
     alloc: Global,
     net: &mut Net,
-    kept: &mut Option<KeptBlock>,
+    kept: &mut Option<SupplySheet>,
 ) -> Result<String, AllocError>
     requires running { is_stopped net.old ≡ false }
     requires kept { IsKeptOf kept.old (world_of net.old) }

@@ -5,11 +5,9 @@ ghost use Rattle.chain_net.specs.Nets.{world_of, spec_of};
 ghost use Rattle.exec_base.specs.Part.{ChainPart};
 ghost use Rattle.report_text.specs.Block as supply;
 ghost use Rattle.report_text.specs.Sheets.{IsWrittenOf};
-ghost use Rattle.report_blocks.specs.declared.kept_block.KeptBlock.TheVariants as kinds;
 ghost use Rattle.report_blocks.specs.Tables.{IsKeptOf};
 ghost use Rattle.report_blocks.specs.Reads as reads;
 
-use crate::KeptBlock;
 use chain_net::Net;
 use network_coherence::coherent;
 use report_text::{SupplySheet, balances_text, queues_text, traps_text};
@@ -48,34 +46,36 @@ pub(crate) fn queues_block(alloc: Global, net: &Net) -> Result<String, AllocErro
     queues_text(alloc, net.spec().channels.items(), net.chains())
 }
 
-/// What the network has of each asset that is native somewhere, and what backs each derivative; by the plan, where there is one.
+/// What the network has of each asset that is native somewhere, and what backs each derivative; by what is kept of it, where no chain has changed.
 pub(crate) fn first_supply_block(
     alloc: Global,
     net: &Net,
-    kept: &Option<KeptBlock>,
+    kept: &Option<SupplySheet>,
 ) -> Result<String, AllocError>
     requires { IsKeptOf kept.now (world_of net.now) }
     ensures { IfOk result
         (λ text. string_bytes text ≡ reads.world_supply_block (world_of net.now)) }
 {
-    match kept {
-        Some(KeptBlock::Planned(plan)) => plan.block(alloc, net.chains()),
-        _ => report_text::supply_block(alloc, net.chains()),
+    if let Some(sheet) = kept {
+        if sheet.is_current() {
+            return sheet.text(alloc);
+        }
     }
+    report_text::supply_block(alloc, net.chains())
 }
 
 /// The lines of a sheet, which are those of the network; the sheet is kept.
 fn written(
     alloc: Global,
-    kept: &mut Option<KeptBlock>,
+    kept: &mut Option<SupplySheet>,
     sheet: SupplySheet,
 ) -> Result<String, AllocError>
     ensures text { IfOk result (λ text. (parts : List ChainPart) → IsWrittenOf parts sheet
         → string_bytes text ≡ supply.supply_block parts) }
-    ensures kept { OnOk result (kept.new ≡ Some (kinds.Written sheet)) }
+    ensures kept { OnOk result (kept.new ≡ Some sheet) }
 {
     let text = sheet.text(alloc)?;
-    *kept = Some(KeptBlock::Written(sheet));
+    *kept = Some(sheet);
     Ok(text)
 }
 
@@ -83,7 +83,7 @@ fn written(
 pub(crate) fn supply_block(
     alloc: Global,
     net: &Net,
-    kept: &mut Option<KeptBlock>,
+    kept: &mut Option<SupplySheet>,
 ) -> Result<String, AllocError>
     requires { IsKeptOf kept.old (world_of net.now) }
     ensures text { IfOk result
@@ -92,11 +92,7 @@ pub(crate) fn supply_block(
 {
     match kept.take() {
         None => report_text::supply_block(alloc, net.chains()),
-        Some(KeptBlock::Planned(plan)) => {
-            let sheet = SupplySheet::of(alloc, plan, net.chains())?;
-            written(alloc, kept, sheet)
-        }
-        Some(KeptBlock::Written(mut sheet)) => {
+        Some(mut sheet) => {
             sheet.renew(alloc, net.chains())?;
             written(alloc, kept, sheet)
         }

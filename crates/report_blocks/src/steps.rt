@@ -7,11 +7,11 @@ ghost use Rattle.report_blocks.specs.Asked.{world_step};
 ghost use Rattle.report_blocks.specs.Blocks.{step_lines};
 ghost use Rattle.report_blocks.specs.Tables.{IsKeptOf};
 
-use crate::KeptBlock;
 use crate::marked_steps::{claim_step, deliver_step, drain_step, exec_step};
 use crate::reads::{balances_block, queues_block, supply_block, traps_block};
 use chain_net::Net;
 use input_lines::Step;
+use report_text::SupplySheet;
 use std::alloc::{AllocError, Global};
 
 /// Runs the step of a line, and gives the lines that are below its heading.
@@ -19,7 +19,7 @@ use std::alloc::{AllocError, Global};
 pub(crate) fn step_lines(
     alloc: Global,
     net: &mut Net,
-    kept: &mut Option<KeptBlock>,
+    kept: &mut Option<SupplySheet>,
     step: &Step,
 ) -> Result<String, AllocError>
     requires running { is_stopped net.old ≡ false }

@@ -1,6 +1,8 @@
 -- Lines that are renewed are those of the chains as they are, and what is written is their supply block.
-use Rattle.std.proofs.Common.{◌≡◌, ◌∙◌, ℕ, ◌+◌, min, Bool, true, false, List, [], ◌∷◌, ◌++◌, Option, None, Some, flat_map, map, refl, ap, sym, arith}
+use Rattle.std.proofs.Common.{◌≡◌, ◌∙◌, ℕ, ◌+◌, min, Bool, true, false, List, [], ◌∷◌, ◌++◌, Option, None, Some, flat_map, map, not, ◌||◌, refl, ap, sym, arith, true≢false}
 use Rattle.std.specs.Prelude.{codes, if◌then◌else◌}
+use Rattle.std.specs.List.{list_all}
+use Rattle.std.proofs.lemmas.Bool.{and_parts}
 use Rattle.std.proofs.lemmas.List.Folds.{flat_map-map}
 use Rattle.asset_bundles.specs.Books.{most_burned}
 use Rattle.exec_base.specs.Part.{ChainPart}
@@ -14,8 +16,8 @@ use Rattle.report_text.specs.Sums.{sum_text}
 use Rattle.report_text.specs.Block.{supply_block}
 use Rattle.report_text.specs.Planned.{PlannedSupply, PlannedBacking}
 use Rattle.report_text.specs.Plan.{plan_of, planned_supply_text, planned_backing_text}
-use Rattle.report_text.specs.Kept.{Sheet}
-use Rattle.report_text.specs.Sheets.{supply_written, backing_written, sheet_written, kept_supply, kept_backing, IsWrittenOf, renewed_supply, renewed_backing}
+use Rattle.report_text.specs.Kept.{KeptSupply, KeptBacking, Sheet}
+use Rattle.report_text.specs.Sheets.{supply_written, backing_written, sheet_written, kept_supply, kept_backing, IsWrittenOf, IsSheetOf, renewed_supply, renewed_backing}
 use Rattle.report_text.proofs.Planning.{block_is}
 use Rattle.report_text.proofs.Totals.{text_saturates}
 
@@ -93,3 +95,45 @@ module _ (stale : List Bool) (before parts : List ChainPart) (agree : Agree stal
 
   pub backings_renewed : (es : List PlannedBacking) → map (renewed_backing stale parts) (map (kept_backing before) es) ≡ map (kept_backing parts) es
   backings_renewed es = all_same (renewed_backing stale parts) (kept_backing before) (kept_backing parts) backing_renewed es
+
+-- ---- lines that depend on no chain that has changed
+
+all_stay : {A : Type 0} (f : A → A) (may : A → Bool) → ((x : A) → may x ≡ true → f x ≡ x) → (xs : List A) → list_all may xs ≡ true → map f xs ≡ xs
+all_stay f may each [] t = refl
+all_stay f may each (x ∷ xs) t =
+    let both = and_parts (may x) (list_all may xs) t in
+    λ i. each x both.0 i ∷ all_stay f may each xs both.1 i
+
+neither : (a b : Bool) → not (a || b) ≡ true → (a ≡ false) × (b ≡ false)
+neither true b t = absurd (true≢false (sym t))
+neither false true t = absurd (true≢false (sym t))
+neither false false t = (refl, refl)
+
+untrue : (a : Bool) → not a ≡ true → a ≡ false
+untrue true t = absurd (true≢false (sym t))
+untrue false t = refl
+
+-- where no line does, they are those of the chains as they are
+pub current : (s : Sheet) → list_all (λ (k : KeptSupply). not (are_touched s.stale k.entry.places)) s.supplies ≡ true
+    → list_all (λ (k : KeptBacking). not (own_touched s.stale k.entry.cover || kept_touched s.stale k.entry.cover)) s.backings ≡ true
+    → (parts : List ChainPart) → IsSheetOf parts s → IsWrittenOf parts s
+current s supplies_stay backings_stay parts (before, filled, agree) =
+    let plan = plan_of (map chain_table parts) in
+    record {
+      supplies = sym (all_stay (renewed_supply s.stale parts) (λ (k : KeptSupply). not (are_touched s.stale k.entry.places))
+          (λ k t. ap (λ b. if b then kept_supply parts k.entry else k) (untrue (are_touched s.stale k.entry.places) t)) s.supplies supplies_stay)
+          ∙ ap (map (renewed_supply s.stale parts)) filled.supplies ∙ supplies_renewed s.stale before parts agree plan.supplies;
+      backings = sym (all_stay (renewed_backing s.stale parts) (λ (k : KeptBacking). not (own_touched s.stale k.entry.cover || kept_touched s.stale k.entry.cover)) backing_stays s.backings backings_stay)
+          ∙ ap (map (renewed_backing s.stale parts)) filled.backings ∙ backings_renewed s.stale before parts agree plan.backings;
+    }
+  where
+    backing_stays : (k : KeptBacking) → not (own_touched s.stale k.entry.cover || kept_touched s.stale k.entry.cover) ≡ true → renewed_backing s.stale parts k ≡ k
+    backing_stays k t =
+        let none = neither (own_touched s.stale k.entry.cover) (kept_touched s.stale k.entry.cover) t in
+        let now = kept_backing parts k.entry in
+        λ i. record {
+          entry = k.entry;
+          held = if none.1 i then now.held else k.held;
+          coming = if none.1 i then now.coming else k.coming;
+          standing = if none.0 i then now.standing else k.standing;
+        }

@@ -1,7 +1,9 @@
 //! The lines of what backs each derivative, kept with the figures that they were written with.
-ghost use Rattle.std.specs.Prelude.{◌≡◌, ◌++◌, map, IfOk, IsTrue, OnOk, flat_map, string_bytes};
+ghost use Rattle.std.specs.Prelude.{◌≡◌, ◌++◌, ◌||◌, map, not, IfOk, IsTrue, OnOk, flat_map, string_bytes};
+ghost use Rattle.std.specs.List.{list_all};
 ghost use Rattle.asset_bundles.specs.Totals.{total_value};
 ghost use Rattle.chain_state.specs.PartOf.{part_of};
+ghost use Rattle.supply_audit.specs.Covers.{own_touched, kept_touched};
 ghost use Rattle.report_text.specs.Sheets.{kept_backing, renewed_backing, backing_written};
 
 use crate::backings::BackingEntry;
@@ -9,7 +11,7 @@ use crate::figures::push_sum;
 use chain_state::ChainState;
 use std::alloc::{AllocError, Global};
 use std::marker::Model;
-use supply_audit::{CoverFigures, FigureReader};
+use supply_audit::{CoverFigures, FigureReader, touched};
 
 /// The line of a derivative, as it was written last. Contracts see it as `KeptBacking`.
 #[derive(Drop)]
@@ -110,6 +112,15 @@ impl BackingLine {
         Ok(())
     }
 
+    /// Whether no position of the derivative or of what covers it is at a chain that has changed.
+    fn is_current(&self, stale: &[bool]) -> bool
+        ensures { result ≡ not (own_touched stale.now self.now.entry.cover
+            || kept_touched stale.now self.now.entry.cover) }
+    {
+        let (own, kept) = touched(stale, &self.entry.cover);
+        !(own || kept)
+    }
+
     /// Appends the line.
     fn push(&self, text: &mut String) -> Result<(), AllocError>
         ensures { OnOk result (string_bytes text.new
@@ -152,6 +163,14 @@ pub(crate) fn renew_backings(
         line.renew(alloc, &mut reader, stale)?;
     }
     Ok(())
+}
+
+/// Whether no line has a position at a chain that has changed.
+pub(crate) fn are_backings_current(lines: &[BackingLine], stale: &[bool]) -> bool
+    ensures { result ≡ list_all (λ line. not (own_touched stale.now line.entry.cover
+        || kept_touched stale.now line.entry.cover)) lines.now }
+{
+    lines.iter().all(|line| line.is_current(stale))
 }
 
 /// Appends the lines.

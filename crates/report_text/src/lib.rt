@@ -19,6 +19,6 @@ pub use block::supply_block;
 pub use chains::{balances_text, traps_text};
 pub use laws::law_of_natives;
 pub use plan::SupplyPlan;
-pub use queues::queues_text;
+pub use queues::{queue_between, queues_text};
 pub use sheet::SupplySheet;
 pub use step_text::{Backing, Supply, backing_line, step_text, supply_line};

@@ -5,14 +5,14 @@ ghost use Rattle.chain_queues.specs.Queues.{is_led_to};
 ghost use Rattle.network_spec.specs.declared.network.ChannelSpec.{ChannelSpec};
 ghost use Rattle.chain_state.specs.declared.state.ChainState.{ChainState};
 ghost use Rattle.chain_state.specs.PartOf.{part_of};
-ghost use Rattle.step_text.specs.Blocks.{is_part_of, link_text};
+ghost use Rattle.step_text.specs.Blocks.{is_part_of, link_text, queue_lines};
 
 use chain_ids::ChainId;
 use chain_queues::Queue;
 use chain_state::ChainState;
 use network_spec::ChannelSpec;
 use std::alloc::{AllocError, Global};
-use step_text::queue_text;
+use step_text::{law_of_queue_lines, queue_text};
 
 /// What waits, channel by channel in the order of these channels; nothing of a channel that isn't there. An `Err` is out of memory.
 pub fn queues_text(
@@ -56,13 +56,23 @@ fn link_text(
     ensures { IfOk result (λ text. string_bytes text
         ≡ link_text (map part_of chains.now) (from, to)) }
 {
-    let Some(chain) = chain_named(chains, from) else {
-        return Ok(String::new(alloc));
-    };
-    let Some(queue) = queue_named(chain.queues().channels(), to) else {
-        return Ok(String::new(alloc));
-    };
-    queue_text(alloc, from, queue)
+    match queue_between(chains, from, to) {
+        None => Ok(String::new(alloc)),
+        Some(queue) => queue_text(alloc, from, queue),
+    }
+}
+
+/// The channel from one chain to another, whose messages make the lines of what waits there. None where there is no such
+/// channel, of which there are no lines.
+pub fn queue_between(chains: &[ChainState], from: ChainId, to: ChainId) -> Option<&Queue>
+    ensures { queue_lines from (option_copied result)
+        ≡ link_text (map part_of chains.now) (from, to) }
+{
+    law_of_queue_lines(); // For the prover alone.
+    match chain_named(chains, from) {
+        None => None,
+        Some(chain) => queue_named(chain.queues().channels(), to),
+    }
 }
 
 /// The first chain of that name.

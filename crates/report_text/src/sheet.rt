@@ -1,5 +1,5 @@
 //! The supply block, kept between steps.
-ghost use Rattle.std.specs.Prelude.{◌≡◌, map, ℕ, true, List, IfOk, OnOk, string_bytes};
+ghost use Rattle.std.specs.Prelude.{◌≡◌, map, ℕ, true, List, IfOk, IsTrue, OnOk, string_bytes};
 ghost use Rattle.chain_state.specs.PartOf.{part_of};
 ghost use Rattle.supply_audit.specs.Places.{chain_table};
 ghost use Rattle.supply_audit.specs.Covers.{number_of};
@@ -11,8 +11,12 @@ ghost use Rattle.report_text.specs.Sheets.{IsWrittenOf, IsSheetOf, sheet_written
 ghost use Rattle.report_text.specs.Marks.{IsMarked};
 
 use crate::SupplyPlan;
-use crate::backing_lines::{BackingLine, backing_lines, push_backing_lines, renew_backings};
-use crate::supply_lines::{SupplyLine, push_supply_lines, renew_supplies, supply_lines};
+use crate::backing_lines::{
+    BackingLine, are_backings_current, backing_lines, push_backing_lines, renew_backings,
+};
+use crate::supply_lines::{
+    SupplyLine, are_supplies_current, push_supply_lines, renew_supplies, supply_lines,
+};
 use chain_ids::ChainId;
 use chain_state::ChainState;
 use std::alloc::{AllocError, Global};
@@ -102,6 +106,16 @@ impl SupplySheet {
         renew_backings(self.backings.as_mut_slice(), alloc, chains, stale)?;
         self.stale = no_changes(alloc, chains)?;
         Ok(())
+    }
+
+    /// Whether no line depends on a chain that counts as changed: the lines are then those of the chains as they are.
+    pub fn is_current(&self) -> bool
+        ensures { IsTrue result → (parts : List ChainPart) → IsSheetOf parts self.now
+            → IsWrittenOf parts self.now }
+    {
+        let stale = self.stale.as_slice();
+        are_supplies_current(self.supplies.as_slice(), stale)
+            && are_backings_current(self.backings.as_slice(), stale)
     }
 
     /// The lines, one after the other: the supply block of the chains of which they have the figures.

@@ -1,7 +1,9 @@
 //! The lines of what there is of each asset, kept with the figures that they were written with.
-ghost use Rattle.std.specs.Prelude.{◌≡◌, ◌++◌, map, IfOk, IsTrue, OnOk, flat_map, string_bytes};
+ghost use Rattle.std.specs.Prelude.{◌≡◌, ◌++◌, map, not, IfOk, IsTrue, OnOk, flat_map, string_bytes};
+ghost use Rattle.std.specs.List.{list_all};
 ghost use Rattle.asset_bundles.specs.Totals.{total_value};
 ghost use Rattle.chain_state.specs.PartOf.{part_of};
+ghost use Rattle.supply_audit.specs.Stale as stales;
 ghost use Rattle.report_text.specs.Sheets.{kept_supply, renewed_supply, supply_written};
 
 use crate::figures::push_sum;
@@ -111,6 +113,13 @@ impl SupplyLine {
         Ok(())
     }
 
+    /// Whether none of the asset's positions is at a chain that has changed.
+    fn is_current(&self, stale: &[bool]) -> bool
+        ensures { result ≡ not (stales.are_touched stale.now self.now.entry.places) }
+    {
+        !are_touched(stale, self.entry.places.as_slice())
+    }
+
     /// Appends the line.
     fn push(&self, text: &mut String) -> Result<(), AllocError>
         ensures { OnOk result (string_bytes text.new
@@ -151,6 +160,14 @@ pub(crate) fn renew_supplies(
         line.renew(alloc, chains, stale)?;
     }
     Ok(())
+}
+
+/// Whether no line has a position at a chain that has changed.
+pub(crate) fn are_supplies_current(lines: &[SupplyLine], stale: &[bool]) -> bool
+    ensures { result ≡ list_all (λ line. not (stales.are_touched stale.now line.entry.places))
+        lines.now }
+{
+    lines.iter().all(|line| line.is_current(stale))
 }
 
 /// Appends the lines.

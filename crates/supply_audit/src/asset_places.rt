@@ -13,8 +13,8 @@ use crate::Place;
 use crate::home_places::{Places, add_place};
 use crate::network_asset::NetworkAsset;
 use chain_state::ChainState;
+use indexmap::IndexMap;
 use std::alloc::{AllocError, Global};
-use std::collections::BTreeMap;
 use trust_tables::AssetRow;
 
 /// The positions of the rows of each asset, at all chains that list it.
@@ -24,38 +24,36 @@ pub struct AssetPlaces {
 }
 
 impl AssetPlaces {
-    /// The positions of the rows of these chains. It takes time in proportion to the rows of all chains and the logarithm of the number of assets. An
-    /// `Err` is out of memory.
+    /// The positions of the rows of these chains. It takes time in proportion to the rows of all chains, where few paths are hashed alike. An `Err` is
+    /// out of memory.
     pub fn of(alloc: Global, chains: &[ChainState]) -> Result<AssetPlaces, AllocError>
         ensures { IfOk result
             (λ index. ArePlaces index.places.entries (map chain_table (map part_of chains.now))) }
     {
-        let mut places = BTreeMap::new(alloc);
+        let mut places = IndexMap::new(alloc);
         for (number, chain) in chains.iter().enumerate() {
             add_rows(alloc, &mut places, number, chain)?;
         }
         Ok(AssetPlaces { places })
     }
 
-    /// The positions of the rows of an asset that the chain of this number lists. An `Err` is out of memory.
-    pub(crate) fn at(
-        &self,
-        alloc: Global,
-        asset: &NetworkAsset,
-        chain: usize,
-    ) -> Result<Vec<Place>, AllocError>
-        ensures { IfOk result (λ list. list.items
-            ≡ filter (is_at chain) (places_in self.now.places.entries asset.now)) }
+    /// The positions of the rows of an asset, chain by chain.
+    pub(crate) fn of_asset(&self, asset: &NetworkAsset) -> &[Place]
+        ensures { result.now ≡ places_in self.now.places.entries asset.now }
     {
         match self.places.get(asset) {
-            None => Ok(Vec::new(alloc)),
-            Some(list) => places_at(alloc, list.as_slice(), chain),
+            None => &[],
+            Some(list) => list.as_slice(),
         }
     }
 }
 
 /// Those of the positions that are at the chain of this number.
-fn places_at(alloc: Global, places: &[Place], chain: usize) -> Result<Vec<Place>, AllocError>
+pub(crate) fn places_at(
+    alloc: Global,
+    places: &[Place],
+    chain: usize,
+) -> Result<Vec<Place>, AllocError>
     ensures { IfOk result (λ list. list.items ≡ filter (is_at chain) places.now) }
 {
     let mut list = Vec::new(alloc);

@@ -16,7 +16,7 @@ ghost use Rattle.supply_audit.specs.Covers.{cover_at, cover_between, cover_by, c
 ghost use Rattle.supply_audit.specs.Found.{IsRightOf};
 ghost use Rattle.supply_audit.specs.Held.{IsHeldRight};
 
-use crate::asset_places::AssetPlaces;
+use crate::asset_places::{AssetPlaces, places_at};
 use crate::audit::name_of;
 use crate::figures::{Carried, Figure};
 use crate::last_found::LastFound;
@@ -209,7 +209,7 @@ pub fn backing_at(chains: &[ChainState], cover: &Option<Cover>) -> Backing
 }
 
 /// Whether a derivative's own positions, or those at its reserve, are at a chain that has changed, by a flag for each chain.
-pub(crate) fn touched(stale: &[bool], cover: &Option<Cover>) -> (bool, bool)
+pub fn touched(stale: &[bool], cover: &Option<Cover>) -> (bool, bool)
     ensures own { result.0 ≡ own_touched stale.now cover.now }
     ensures kept { result.1 ≡ kept_touched stale.now cover.now }
 {
@@ -303,8 +303,9 @@ fn covering(
         (Some (chain_table (part_of there.now)))) }
 {
     let asset = NetworkAsset::listed_at(here.site(), row);
-    let own = index.at(alloc, &asset, number)?;
-    let kept = index.at(alloc, &asset, other)?;
+    let all = index.of_asset(&asset);
+    let own = places_at(alloc, all, number)?;
+    let kept = places_at(alloc, all, other)?;
     Ok(Some(Cover {
         here: name_of(here),
         there: name_of(there),

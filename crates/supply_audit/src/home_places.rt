@@ -15,12 +15,12 @@ use crate::Place;
 use crate::network_asset::NetworkAsset;
 use crate::table::{Homes, homes_of};
 use chain_state::ChainState;
+use indexmap::IndexMap;
 use std::alloc::{AllocError, Global};
-use std::collections::BTreeMap;
 use trust_tables::AssetRow;
 
 /// Positions of the rows of each asset.
-pub(crate) type Places = BTreeMap<NetworkAsset, Vec<Place>>;
+pub(crate) type Places = IndexMap<NetworkAsset, Vec<Place>>;
 
 /// The positions of the rows of each asset, at the chains where it is at home.
 #[derive(Drop)]
@@ -34,7 +34,7 @@ impl HomePlaces {
         ensures { IfOk result (λ table. (a : UniversalAsset) → places_in table.places.entries a
             ≡ home_places a (map chain_table (map part_of chains.now))) }
     {
-        let mut places = BTreeMap::new(alloc);
+        let mut places = IndexMap::new(alloc);
         for (number, chain) in chains.iter().enumerate() {
             add_chain(alloc, &mut places, number, chain)?;
         }

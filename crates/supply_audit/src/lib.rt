@@ -21,7 +21,7 @@ mod totals;
 
 pub use asset_places::AssetPlaces;
 pub use audit::{backing, supply};
-pub use cover::{Cover, CoverFigures, backing_at, number_of};
+pub use cover::{Cover, CoverFigures, backing_at, number_of, touched};
 pub use figure_reader::FigureReader;
 pub use home_places::HomePlaces;
 pub use ledgers::{Backing, Supply};

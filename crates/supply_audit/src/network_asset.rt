@@ -11,6 +11,7 @@ ghost use Rattle.supply_audit.specs.AssetLaws.{universal_assets_total};
 use asset_lists::Kind;
 use locations::Junctions;
 use std::cmp::Ordering;
+use std::hash::{Hash, Hasher};
 use std::marker::Model;
 use trust_tables::{AssetRow, Site};
 
@@ -92,6 +93,20 @@ impl PartialOrd for NetworkAsset {
 
     fn partial_cmp(&self, other: &NetworkAsset) -> Option<Ordering> {
         Some(self.cmp(other))
+    }
+}
+
+/// Hashes the path.
+impl Hash for NetworkAsset {
+    ghost use Rattle.locations.specs.Hashing.{junctions_input};
+    ghost use Rattle.supply_audit.specs.AssetLaws.{assets_alike};
+
+    ghost hash_input = { λ a. junctions_input a.0 };
+
+    ghost respects_eq = { assets_alike };
+
+    fn hash<H: Hasher>(&self, state: &mut H) {
+        self.path.hash(state);
     }
 }
 

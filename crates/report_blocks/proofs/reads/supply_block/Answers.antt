@@ -13,20 +13,11 @@ pub returns-in-None-clause-text : goal.returns-in-None-clause-text
 returns-in-None-clause-text c =
     subst (λ t. IfOk c.supply_block.result (λ text. string_bytes text ≡ t)) (supply_is _ (world_of c.args.net.now) c.chains.ensures) c.supply_block.ensures
 
-pub returns-in_ok-sheet-in-Some-Planned-clause-text : goal.returns-in_ok-sheet-in-Some-Planned-clause-text
-returns-in_ok-sheet-in-Some-Planned-clause-text c =
-    let parts = map part_of c.chains-in-Some-Planned.result.now in
+pub returns-in_ok-renew-in-Some-clause-text : goal.returns-in_ok-renew-in-Some-clause-text
+returns-in_ok-renew-in-Some-clause-text c =
+    let parts = map part_of c.chains-in-Some.result.now in
     let w = world_of c.args.net.now in
     IfOk-weaker c.written.result
-    (λ text. (parts : List ChainPart) → IsWrittenOf parts c.in_ok-sheet-in-Some-Planned.sheet → string_bytes text ≡ supply.supply_block parts)
-    (λ text. string_bytes text ≡ reads.world_supply_block w)
-    (λ text says. says parts c.in_ok-sheet-in-Some-Planned.ensures ∙ supply_is parts w c.chains-in-Some-Planned.ensures) c.written.ensures.text
-
-pub returns-in_ok-renew-in-Some-Written-clause-text : goal.returns-in_ok-renew-in-Some-Written-clause-text
-returns-in_ok-renew-in-Some-Written-clause-text c =
-    let parts = map part_of c.chains-in-Some-Written.result.now in
-    let w = world_of c.args.net.now in
-    IfOk-weaker c.written-in-Some-Written.result
     (λ text. (parts : List ChainPart) → IsWrittenOf parts c.renew.new.self → string_bytes text ≡ supply.supply_block parts)
     (λ text. string_bytes text ≡ reads.world_supply_block w)
-    (λ text says. says parts c.in_ok-renew-in-Some-Written.ensures ∙ supply_is parts w c.chains-in-Some-Written.ensures) c.written-in-Some-Written.ensures.text
+    (λ text says. says parts c.in_ok-renew-in-Some.ensures ∙ supply_is parts w c.chains-in-Some.ensures) c.written.ensures.text
