@@ -13,6 +13,7 @@ use Rattle.ledgers.specs.Ledgers.{Holder, Held}
 use Rattle.ledgers.specs.Holdings.{asset_held}
 use Rattle.xcm_format.specs.Messages.{message, version_byte}
 use Rattle.channel_parts.specs.Channels.{Waiting, Outgoing}
+use Rattle.chain_queues.specs.declared.queues.Queue.{Queue}
 use Rattle.chain_queues.specs.declared.queues.Queued.{Queued}
 use Rattle.chain_queues.specs.Queues.{channel_to}
 use Rattle.exec_base.specs.Part.{ChainPart}
@@ -63,6 +64,11 @@ chain_traps_text p = trapped_text p.site.chain p.traps.traps
 -- a message that waits, of which its bytes are kept
 abbrev pub queued_line : ChainId → ChainId → Queued → List ℕ
 queued_line from to q = queue_line from to q.number q.bytes.items
+
+-- oldest first, what waits in a channel of which the bytes are kept; nothing where there is no channel
+abbrev pub queue_lines : ChainId → Option Queue → List ℕ
+queue_lines from queue =
+    option_map_or (λ (q : Queue). flat_map (queued_line from q.channel.to) q.waiting.items) queue []
 
 -- a message that waits, spelled in the version of its channel
 abbrev pub waiting_line : Version → ChainId → ChainId → Waiting → List ℕ

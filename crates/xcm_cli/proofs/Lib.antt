@@ -3,5 +3,6 @@ pub mod Advance
 pub mod Marks
 pub mod Headline
 pub mod Numbers
+pub mod Pieces
 mod FirstWorlds
 mod Telling

@@ -5,3 +5,4 @@ pub mod Session
 pub mod Serving
 pub mod Told
 pub mod Laws
+pub mod Pieces

@@ -4,6 +4,7 @@
 mod laws;
 mod limits;
 mod phase;
+mod queues;
 mod session;
 mod texts;
 mod top;

@@ -10,6 +10,7 @@ ghost use Rattle.xcm_cli.specs.Session.{IsReadySession, Opens, reply_at, runs_st
 
 use crate::limits::MAX_NETWORK;
 use crate::phase::{Opened, Phase, Session};
+use crate::queues::{asks_for_queues, write_queues};
 use input_lines::{ends_network, read_line, text_of};
 use line_serving::{LineMachine, Status, fits_limits, passes_limits, write_text};
 use report_blocks::{AuditedNet, LineOutcome, open_audited, opening_text, serve};
@@ -170,6 +171,10 @@ fn take_step<O: Sink>(
         Ok(asked) => asked,
         Err(refused) => return Err(refused),
     };
+    if asks_for_queues(&asked) {
+        *done += 1;
+        return write_queues(alloc, net, audit, *done, out);
+    }
     match serve(alloc, net, audit, *done + 1, &asked) {
         Ok(LineOutcome::Nothing) => Ok(None),
         Ok(LineOutcome::Block(text)) => {

@@ -1,4 +1,5 @@
-use Rattle.std.proofs.Common.{◌≡◌, ◌∙◌, ◌+◌, sym, ap, true, false, []}
+use Rattle.std.proofs.Common.{◌≡◌, ◌∙◌, ◌+◌, sym, ap, refl, true, false, []}
+use Rattle.network_steps.specs.Steps as steps
 use Rattle.input_lines.specs.Lines.{text_of}
 use Rattle.input_lines.specs.Step.{read_line}
 use Rattle.chain_net.specs.Nets.{world_of, spec_of}
@@ -6,6 +7,7 @@ use Rattle.report_blocks.specs.Asked.{asked_of, Nothing, Asks, Unknown}
 use Rattle.report_blocks.specs.Serving.{IsServed}
 use Rattle.line_serving.specs.Replies.{fits_limits}
 use Rattle.line_serving.proofs.Lemmas.{stays, stops, refuses, writes_on, writes_end}
+use Rattle.xcm_cli.proofs.Pieces.{pieces_on}
 use Rattle.xcm_cli.proofs.Advance.{served_nothing, served_block, served_unknown, no_step, block_step, refused_step, long_step}
 use Rattle.xcm_cli.proofs.session.take_step.Goals as goal
 
@@ -42,3 +44,11 @@ returns-in-Ok-Unknown-clause-run g c =
 
 pub returns-in-Err-clause-run : goal.returns-in-Err-clause-run
 returns-in-Err-clause-run g c = refuses _ _ _ _ _
+
+pub returns-then-asks_for_queues-clause-run : goal.returns-then-asks_for_queues-clause-run
+returns-then-asks_for_queues-clause-run g c =
+    let within : fits_limits c.args.taken c.args.line.now ≡ true = sym c.fits_limits.ensures ∙ c.if-not-fits_limits.false in
+    let asked : asked_of (read_line (text_of c.args.line.now)) ≡ Asks steps.Queues =
+    ap (λ t. asked_of (read_line t)) (sym c.text_of.ensures) ∙ ap asked_of (sym c.in-Ok.ensures) ∙ c.asks_for_queues.ensures c.if-asks_for_queues.true in
+    pieces_on _ _ _ [] _ _ _ _ _ c.write_queues.ensures.written
+    (λ lines. block_step _ _ _ _ _ _ _ _ steps.Queues _ _ lines within asked refl (ap world_of c.write_queues.ensures.same) (ap spec_of c.write_queues.ensures.same))
