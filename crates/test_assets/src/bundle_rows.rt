@@ -62,7 +62,7 @@ fn minted(alloc: Global, list: &Assets) -> Result<AssetBundle, AllocError>
     AssetBundle::mint(alloc, list.items())
 }
 
-/// The filter of this number: four wildcards, and a list that asks for more than is held.
+/// The filter of this number: four wildcards, and two lists that ask for more than is held.
 fn filter(alloc: Global, number: u8) -> Result<Filter, Fail> {
     Ok(match number {
         0 => Filter::Wild(Wild::AllCounted(2)),
@@ -76,7 +76,8 @@ fn filter(alloc: Global, number: u8) -> Result<Filter, Fail> {
             fun: WildFun::NonFungible,
         }),
         3 => Filter::Wild(Wild::All),
-        _ => Filter::Definite(listed(alloc, 9, 1, 2)?),
+        4 => Filter::Definite(listed(alloc, 9, 1, 2)?),
+        _ => Filter::Definite(listed(alloc, 9, 1, 1)?),
     })
 }
 
@@ -88,6 +89,7 @@ const FILTERS: &[(u8, [u128; 3], [u128; 3])] = &[
     (2, [0, 1, 3], [7, 3, 3]),
     (3, [7, 1, 3], [0, 3, 3]),
     (4, [7, 1, 2], [0, 2, 3]),
+    (5, [7, 1, 1], [0, 1, 3]),
 ];
 
 /// Whether the items are so much of the fungible asset and these instances.
@@ -167,7 +169,12 @@ fn tried(alloc: Global, asked: &Assets) -> Result<(bool, usize), Fail> {
 }
 
 /// What is asked for, an amount and the instances from 1 to before another; whether it is taken, and how many kinds are left.
-const TRIES: &[(u128, u128, bool, usize)] = &[(7, 3, true, 0), (8, 3, false, 3), (7, 4, false, 3)];
+const TRIES: &[(u128, u128, bool, usize)] = &[
+    (7, 3, true, 0),
+    (8, 3, false, 3),
+    (7, 4, false, 3),
+    (9, 1, false, 3),
+];
 
 /// Whether an amount and these instances are taken or not, and so many kinds are left.
 fn is_tried(alloc: Global, number: u128, to: u128, held: bool, kinds: usize) -> Result<bool, Fail> {

@@ -210,6 +210,26 @@ const ROWS: &[Row] = &[
     Row {
         from: Some(A1),
         to: None,
+        amount: 5,
+        number: 0,
+        refusal: None,
+        low: 7,
+        high: 0,
+        instances: 1,
+    },
+    Row {
+        from: None,
+        to: Some(A1),
+        amount: 5,
+        number: 0,
+        refusal: None,
+        low: 12,
+        high: 0,
+        instances: 1,
+    },
+    Row {
+        from: Some(A1),
+        to: None,
         amount: 4,
         number: 0,
         refusal: None,
@@ -361,6 +381,7 @@ fn reads_right(ledger: &Ledger, id: &AssetId) -> bool {
         && ledger.owner(id, &Instance::Index(2)).is_none()
         && ledger.sum(id, Kind::Class) == Total { low: 2, high: 0 }
         && ledger.number_of(id, Kind::Class) == Some(1)
+        && ledger.number_of(&AssetId::Abstract([1; 32]), Kind::Class) == None
 }
 
 /// Whether moves are refused as they would be made.

@@ -295,6 +295,28 @@ fn buy_more(shop: &mut Shop, weight: Weight, payment: AssetBundle) -> AssetBundl
     }
 }
 
+/// A bundle of 1 of the first rate's asset.
+fn one_unit(alloc: Global) -> Result<AssetBundle, AllocError> {
+    let unit = Asset {
+        id: AssetId::Concrete(place(0)),
+        fun: Fun::Fungible(1),
+    };
+    AssetBundle::mint(alloc, &[unit])
+}
+
+#[test]
+fn a_refund_is_at_most_what_was_paid(rt: HostRuntime) -> Result<(), Fail> {
+    let alloc = rt.alloc();
+    let mut shop = opened(alloc, rate(0, 1, 0), rate(1, 2, 0))?;
+    let some = weight(SECOND + SECOND / 2, 0);
+    let first = held(buy_more(&mut shop, some, one_unit(alloc)?), 0);
+    let second = held(buy_more(&mut shop, some, one_unit(alloc)?), 0);
+    assert!(rt; (first, second) == (0, 0));
+    // three seconds cost 3, and 2 was paid
+    assert!(rt; held(shop.trader.refund(weight(3 * SECOND, 0))?, 0) == 2);
+    Ok(())
+}
+
 /// The price of 2^64-1 in both dimensions at a rate of 2^64-1 for each: 340282366920938463426481119 for the time
 /// and 324518553658426726747971648487424 for the proof. 2^128-1 pays it 1,048,574 times.
 const DEAR: u128 = 324_518_893_940_793_647_686_435_074_968_543;

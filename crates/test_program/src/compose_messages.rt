@@ -1,7 +1,6 @@
 //! Messages that are explained and composed again.
 
-use crate::compose_running::composes;
-use crate::explain_running::ran_of as explained;
+use crate::running::{PIECES, Program, answers, ran_of};
 use std::alloc::Global;
 use std::test::Fail;
 use xcm_compose::Status;
@@ -105,11 +104,27 @@ const MESSAGES: &[&str] = &[
 
 /// Whether what is said of a message is composed to the same message, byte for byte.
 fn comes_back(alloc: Global, message: &str) -> Result<bool, Fail> {
-    let tree = explained(alloc, &[], message.as_bytes(), 65_536, &[], &[])?;
+    let tree = ran_of(
+        Program::Explain,
+        alloc,
+        &[],
+        message.as_bytes(),
+        65_536,
+        &[],
+        &[],
+    )?;
     let line = format!(in alloc; "{message}\n")?;
     Ok(
         tree.bytes.starts_with(b"message 1 version ")
-            && composes(alloc, &[], &tree.bytes, Status::Done, line.as_bytes())?,
+            && answers(
+                Program::Compose,
+                alloc,
+                &[],
+                PIECES,
+                &tree.bytes,
+                Status::Done,
+                line.as_bytes(),
+            )?,
     )
 }
 

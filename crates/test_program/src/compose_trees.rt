@@ -1,6 +1,6 @@
 //! Trees and what is none: lines, refusals, words, limits, and sources and sinks that fail.
 
-use crate::compose_running::{Written, composed, composes};
+use crate::running::{PIECES, Program, Ran, answers, ran_of};
 use std::alloc::Global;
 use std::test::Fail;
 use xcm_compose::Status;
@@ -151,7 +151,15 @@ const INPUTS: &[(&str, Status, &str)] = &[
 #[test]
 fn inputs_have_their_messages(rt: HostRuntime) -> Result<(), Fail> {
     for (input, status, text) in INPUTS {
-        let right = composes(rt.alloc(), &[], input.as_bytes(), *status, text.as_bytes())?;
+        let right = answers(
+            Program::Compose,
+            rt.alloc(),
+            &[],
+            PIECES,
+            input.as_bytes(),
+            *status,
+            text.as_bytes(),
+        )?;
         assert!(&rt; right, "{input}");
     }
     Ok(())
@@ -169,9 +177,25 @@ fn long_tree(alloc: Global, count: usize) -> Result<Vec<u8>, Fail> {
 #[test]
 fn a_tree_has_at_most_a_hundred_instructions(rt: HostRuntime) -> Result<(), Fail> {
     let alloc = rt.alloc();
-    let ran = composed(alloc, &[], &long_tree(alloc, 100)?, 65_536, &[], &[])?;
+    let ran = ran_of(
+        Program::Compose,
+        alloc,
+        &[],
+        &long_tree(alloc, 100)?,
+        65_536,
+        &[],
+        &[],
+    )?;
     assert!(&rt; ran.bytes.starts_with(b"0x0491010a0a"));
-    let ran = composed(alloc, &[], &long_tree(alloc, 101)?, 65_536, &[], &[])?;
+    let ran = ran_of(
+        Program::Compose,
+        alloc,
+        &[],
+        &long_tree(alloc, 101)?,
+        65_536,
+        &[],
+        &[],
+    )?;
     assert!(&rt;
         ran.has(
             Status::Done,
@@ -183,9 +207,11 @@ fn a_tree_has_at_most_a_hundred_instructions(rt: HostRuntime) -> Result<(), Fail
 
 #[test]
 fn text_that_is_not_utf_8_is_refused_in_its_line(rt: HostRuntime) -> Result<(), Fail> {
-    let right = composes(
+    let right = answers(
+        Program::Compose,
         rt.alloc(),
         &[],
+        PIECES,
         b"message 1 version 4\n  Clear\xffOrigin\n",
         Status::Done,
         b"line 2 refused, expected the line as explain writes it\n",
@@ -200,9 +226,11 @@ const WORDS: &[&[&str]] = &[&[""], &["compose"], &["--help", "04"]];
 #[test]
 fn a_word_is_answered_by_the_usage_line_of_compose(rt: HostRuntime) -> Result<(), Fail> {
     for words in WORDS {
-        let right = composes(
+        let right = answers(
+            Program::Compose,
             rt.alloc(),
             words,
+            PIECES,
             b"message 1 version 4\n",
             Status::Usage,
             b"usage: compose < FILE\n",
@@ -217,7 +245,7 @@ fn a_line_past_its_limit_ends_a_composition(rt: HostRuntime) -> Result<(), Fail>
     let alloc = rt.alloc();
     let mut input = b"message 1 version 4\n#\n".to_vec(alloc)?;
     input.extend_from_slice(&vec![in alloc; b'#'; 262_145]?)?;
-    let ran = composed(alloc, &[], &input, 65_536, &[], &[])?;
+    let ran = ran_of(Program::Compose, alloc, &[], &input, 65_536, &[], &[])?;
     assert!(&rt; ran.has(Status::TooLong, b"0x0400\n"));
     Ok(())
 }
@@ -226,15 +254,31 @@ fn a_line_past_its_limit_ends_a_composition(rt: HostRuntime) -> Result<(), Fail>
 fn a_failing_source_leaves_the_answers_of_trees_that_ended(rt: HostRuntime) -> Result<(), Fail> {
     let alloc = rt.alloc();
     // a byte at a time, the read after the second line's end fails
-    let ran = composed(alloc, &[], b"message 1 version 4\n\nm", 1, &[22], &[])?;
+    let ran = ran_of(
+        Program::Compose,
+        alloc,
+        &[],
+        b"message 1 version 4\n\nm",
+        1,
+        &[22],
+        &[],
+    )?;
     assert!(&rt; ran.has(Status::ReadFault, b"0x0400\n"));
-    let ran = composed(alloc, &[], b"message 1 version 4\n\nm", 1, &[21], &[])?;
+    let ran = ran_of(
+        Program::Compose,
+        alloc,
+        &[],
+        b"message 1 version 4\n\nm",
+        1,
+        &[21],
+        &[],
+    )?;
     assert!(&rt; ran.has(Status::ReadFault, b""));
     Ok(())
 }
 
 /// Whether it is done, with the whole text, or ends in a failing write, with a shorter prefix of it.
-fn is_cut(ran: &Written, whole: &[u8]) -> bool {
+fn is_cut(ran: &Ran, whole: &[u8]) -> bool {
     if ran.status == Status::Done {
         return ran.bytes.as_slice() == whole;
     }
@@ -247,9 +291,9 @@ fn is_cut(ran: &Written, whole: &[u8]) -> bool {
 fn a_failing_sink_leaves_a_front_of_the_answers(rt: HostRuntime) -> Result<(), Fail> {
     let alloc = rt.alloc();
     let input = b"message 1 version 4\nmessage 1 version 3\n  Clear\n";
-    let whole = composed(alloc, &[], input, 16, &[], &[])?;
+    let whole = ran_of(Program::Compose, alloc, &[], input, 16, &[], &[])?;
     for failing in 1u64..9 {
-        let ran = composed(alloc, &[], input, 16, &[], &[failing])?;
+        let ran = ran_of(Program::Compose, alloc, &[], input, 16, &[], &[failing])?;
         assert!(&rt; is_cut(&ran, &whole.bytes), "at write {failing}");
     }
     Ok(())

@@ -3,7 +3,7 @@
 ghost use Rattle.std.specs.Prelude.{◌<◌};
 
 use crate::documents::THREE_CHAINS;
-use crate::running::{RUN, run_of};
+use crate::running::{Program, RUN, ran_of};
 use std::alloc::Global;
 use std::test::Fail;
 use xcm_cli::Status;
@@ -139,7 +139,15 @@ fn source_fails(alloc: Global, input: &str, failing: usize, piece: usize) -> Res
         Status::Done
     };
     let report = report_of(alloc, failing.saturating_sub(1).saturating_mul(piece))?;
-    let ran = run_of(alloc, RUN, input.as_bytes(), piece, &[failing as u64], &[])?;
+    let ran = ran_of(
+        Program::Rudderrusset,
+        alloc,
+        RUN,
+        input.as_bytes(),
+        piece,
+        &[failing as u64],
+        &[],
+    )?;
     Ok(ran.has(status, report.as_bytes()))
 }
 
@@ -169,7 +177,15 @@ fn sink_fails(alloc: Global, input: &str, failing: usize, piece: usize) -> Resul
     requires { 0 < piece }
 {
     let (status, front) = front_of(alloc, failing, piece)?;
-    let ran = run_of(alloc, RUN, input.as_bytes(), piece, &[], &[failing as u64])?;
+    let ran = ran_of(
+        Program::Rudderrusset,
+        alloc,
+        RUN,
+        input.as_bytes(),
+        piece,
+        &[],
+        &[failing as u64],
+    )?;
     Ok(ran.has(status, front.as_slice()))
 }
 

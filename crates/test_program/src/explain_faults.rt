@@ -1,7 +1,6 @@
 //! Limits, and sources and sinks that fail.
 
-use crate::explain_running::ran_of;
-use crate::running::Ran;
+use crate::running::{Program, Ran, ran_of};
 use std::alloc::Global;
 use std::test::Fail;
 use xcm_explain::Status;
@@ -28,7 +27,7 @@ fn long_line(alloc: Global, bytes: usize, end: &[u8]) -> Result<Vec<u8>, Fail> {
 fn a_line_has_at_most_a_quarter_of_a_mebibyte(rt: HostRuntime) -> Result<(), Fail> {
     for (bytes, end, status) in LONG_LINES {
         let input = long_line(rt.alloc(), *bytes, end)?;
-        let ran = ran_of(rt.alloc(), &[], &input, 65_536, &[], &[])?;
+        let ran = ran_of(Program::Explain, rt.alloc(), &[], &input, 65_536, &[], &[])?;
         assert!(&rt;
             ran.has(*status, b"message 1 version 4\n"),
             "{bytes} bytes and {} behind",
@@ -42,9 +41,9 @@ fn a_line_has_at_most_a_quarter_of_a_mebibyte(rt: HostRuntime) -> Result<(), Fai
 fn a_failing_source_leaves_what_is_said_of_whole_lines(rt: HostRuntime) -> Result<(), Fail> {
     let alloc = rt.alloc();
     // the sixth read, a byte at a time, is the first after the first line
-    let ran = ran_of(alloc, &[], b"0400\n0300", 1, &[6], &[])?;
+    let ran = ran_of(Program::Explain, alloc, &[], b"0400\n0300", 1, &[6], &[])?;
     assert!(&rt; ran.has(Status::ReadFault, b"message 1 version 4\n"));
-    let ran = ran_of(alloc, &[], b"0400\n0300", 1, &[5], &[])?;
+    let ran = ran_of(Program::Explain, alloc, &[], b"0400\n0300", 1, &[5], &[])?;
     assert!(&rt; ran.has(Status::ReadFault, b""));
     Ok(())
 }
@@ -63,9 +62,9 @@ fn is_cut(ran: &Ran, whole: &[u8]) -> bool {
 fn a_failing_sink_leaves_a_front_of_the_text(rt: HostRuntime) -> Result<(), Fail> {
     let alloc = rt.alloc();
     let input = b"04080a1914\n04\n";
-    let whole = ran_of(alloc, &[], input, 16, &[], &[])?;
+    let whole = ran_of(Program::Explain, alloc, &[], input, 16, &[], &[])?;
     for failing in 1u64..12 {
-        let ran = ran_of(alloc, &[], input, 16, &[], &[failing])?;
+        let ran = ran_of(Program::Explain, alloc, &[], input, 16, &[], &[failing])?;
         assert!(&rt; is_cut(&ran, &whole.bytes), "at write {failing}");
     }
     Ok(())

@@ -1,6 +1,6 @@
 //! Lines and words.
 
-use crate::explain_running::answers;
+use crate::running::{PIECES, Program, answers};
 use std::test::Fail;
 use xcm_explain::Status;
 
@@ -45,7 +45,15 @@ const INPUTS: &[(&str, Status, &str)] = &[
 #[test]
 fn inputs_have_their_explanations(rt: HostRuntime) -> Result<(), Fail> {
     for (input, status, text) in INPUTS {
-        let right = answers(rt.alloc(), &[], input.as_bytes(), *status, text.as_bytes())?;
+        let right = answers(
+            Program::Explain,
+            rt.alloc(),
+            &[],
+            PIECES,
+            input.as_bytes(),
+            *status,
+            text.as_bytes(),
+        )?;
         assert!(&rt; right, "{input}");
     }
     Ok(())
@@ -58,8 +66,10 @@ const WORDS: &[&[&str]] = &[&[""], &["explain"], &["run"], &["--help", "04"]];
 fn a_word_is_answered_by_the_usage_line(rt: HostRuntime) -> Result<(), Fail> {
     for words in WORDS {
         let right = answers(
+            Program::Explain,
             rt.alloc(),
             words,
+            PIECES,
             b"04040a\n",
             Status::Usage,
             b"usage: explain < FILE\n",

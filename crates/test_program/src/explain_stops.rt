@@ -1,6 +1,6 @@
 //! Where reading stops in bytes that are no message.
 
-use crate::explain_running::answers;
+use crate::running::{PIECES, Program, answers};
 use std::test::Fail;
 use xcm_explain::Status;
 
@@ -47,7 +47,15 @@ fn refusals_say_where_reading_stopped(rt: HostRuntime) -> Result<(), Fail> {
     let alloc = rt.alloc();
     for (bytes, said) in STOPS {
         let text = format!(in alloc; "message 1 refused: {said}\n")?;
-        let right = answers(alloc, &[], bytes.as_bytes(), Status::Done, text.as_bytes())?;
+        let right = answers(
+            Program::Explain,
+            alloc,
+            &[],
+            PIECES,
+            bytes.as_bytes(),
+            Status::Done,
+            text.as_bytes(),
+        )?;
         assert!(&rt; right, "{bytes}");
     }
     Ok(())
@@ -75,7 +83,15 @@ fn a_program_has_at_most_a_hundred_instructions(rt: HostRuntime) -> Result<(), F
         for _ in 0..*count {
             digits.push_str("0a")?;
         }
-        let right = answers(alloc, &[], digits.as_bytes(), Status::Done, said.as_bytes())?;
+        let right = answers(
+            Program::Explain,
+            alloc,
+            &[],
+            PIECES,
+            digits.as_bytes(),
+            Status::Done,
+            said.as_bytes(),
+        )?;
         assert!(&rt; right, "{count} instructions");
     }
     Ok(())

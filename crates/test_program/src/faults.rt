@@ -2,7 +2,7 @@
 
 use crate::documents::THREE_CHAINS;
 use crate::parts::{Grown, ONCE, Part, Piece};
-use crate::running::{RUN, Ran, run_of};
+use crate::running::{Program, RUN, Ran, ran_of};
 use std::alloc::Global;
 use std::test::Fail;
 use xcm_cli::Status;
@@ -165,7 +165,15 @@ fn ends_at(
     if piece == 0 {
         return Ok(false);
     }
-    let ran = run_of(alloc, RUN, input, piece, &[failing], &[])?;
+    let ran = ran_of(
+        Program::Rudderrusset,
+        alloc,
+        RUN,
+        input,
+        piece,
+        &[failing],
+        &[],
+    )?;
     Ok(ran.has(Status::ReadFault, report))
 }
 
@@ -192,7 +200,15 @@ fn is_cut(ran: &Ran, whole: &[u8]) -> bool {
 
 /// Whether a run in which the write of this number fails leaves a prefix of the report.
 fn sink_fails(alloc: Global, input: &str, failing: u64, whole: &[u8]) -> Result<bool, Fail> {
-    let ran = run_of(alloc, RUN, input.as_bytes(), 16, &[], &[failing])?;
+    let ran = ran_of(
+        Program::Rudderrusset,
+        alloc,
+        RUN,
+        input.as_bytes(),
+        16,
+        &[],
+        &[failing],
+    )?;
     Ok(is_cut(&ran, whole))
 }
 
@@ -201,7 +217,15 @@ fn failing_sources_and_sinks_leave_a_front_of_the_report(rt: HostRuntime) -> Res
     let alloc = rt.alloc();
     let input =
         "{}\n---\nexec relay 0x0101010101010101010101010101010101010101010101010101010101010101 04041914\n";
-    let whole = run_of(alloc, RUN, input.as_bytes(), 4096, &[], &[])?;
+    let whole = ran_of(
+        Program::Rudderrusset,
+        alloc,
+        RUN,
+        input.as_bytes(),
+        4096,
+        &[],
+        &[],
+    )?;
     assert!(&rt; source_fails(alloc, input, &whole.bytes)?);
     for failing in 1u64..20 {
         assert!(&rt;
@@ -216,7 +240,15 @@ fn failing_sources_and_sinks_leave_a_front_of_the_report(rt: HostRuntime) -> Res
 fn a_sink_that_fails_at_its_second_write_has_the_first_eight_bytes(
     rt: HostRuntime,
 ) -> Result<(), Fail> {
-    let ran = run_of(rt.alloc(), RUN, THREE_CHAINS.as_bytes(), 8, &[], &[2])?;
+    let ran = ran_of(
+        Program::Rudderrusset,
+        rt.alloc(),
+        RUN,
+        THREE_CHAINS.as_bytes(),
+        8,
+        &[],
+        &[2],
+    )?;
     assert!(&rt; ran.has(Status::WriteFault, b"coherent"));
     Ok(())
 }

@@ -1,6 +1,6 @@
 //! Words of the command line: steps that are drawn from a number, and what is answered by the usage.
 
-use crate::running::run_of;
+use crate::running::{Program, ran_of};
 use std::alloc::Global;
 use std::test::Fail;
 use xcm_cli::Status;
@@ -65,7 +65,7 @@ const OTHERS: &[&[&str]] = &[
 
 /// Whether nothing is read with these words, and this is answered and written.
 fn is_answered(alloc: Global, words: &[&str], status: Status, report: &str) -> Result<bool, Fail> {
-    let ran = run_of(alloc, words, b"{}", 4096, &[1], &[])?;
+    let ran = ran_of(Program::Rudderrusset, alloc, words, b"{}", 4096, &[1], &[])?;
     Ok(ran.has(status, report.as_bytes()))
 }
 

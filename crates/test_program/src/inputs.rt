@@ -1,6 +1,6 @@
 //! Lines, words, and how a run ends.
 
-use crate::running::{AUDIT, PIECES, RUN, answers};
+use crate::running::{AUDIT, PIECES, Program, RUN, answers};
 use std::alloc::Global;
 use std::test::Fail;
 use xcm_cli::Status;
@@ -101,8 +101,23 @@ fn are_answered(alloc: Global, lines: &str, status: Status, report: &str) -> Res
     let input = format!(in alloc; "{{}}\n---\n{lines}")?;
     let (input, report) = (input.as_bytes(), report.as_bytes());
     Ok(
-        answers(alloc, RUN, PIECES, input, status, report)?
-            && answers(alloc, AUDIT, PIECES, input, status, report)?,
+        answers(
+            Program::Rudderrusset,
+            alloc,
+            RUN,
+            PIECES,
+            input,
+            status,
+            report,
+        )? && answers(
+            Program::Rudderrusset,
+            alloc,
+            AUDIT,
+            PIECES,
+            input,
+            status,
+            report,
+        )?,
     )
 }
 
@@ -112,7 +127,15 @@ fn inputs_have_their_reports(rt: HostRuntime) -> Result<(), Fail> {
     for (input, status, report) in INPUTS {
         let (bytes, lines) = (input.as_bytes(), report.as_bytes());
         assert!(&rt;
-            answers(alloc, RUN, PIECES, bytes, *status, lines)?,
+            answers(
+                Program::Rudderrusset,
+                alloc,
+                RUN,
+                PIECES,
+                bytes,
+                *status,
+                lines
+            )?,
             "{input}"
         );
     }

@@ -7,8 +7,6 @@ mod calls;
 #[cfg(test)]
 mod compose_messages;
 #[cfg(test)]
-mod compose_running;
-#[cfg(test)]
 mod compose_trees;
 #[cfg(test)]
 mod crowds;
@@ -22,8 +20,6 @@ mod documents;
 mod explain_faults;
 #[cfg(test)]
 mod explain_lines;
-#[cfg(test)]
-mod explain_running;
 #[cfg(test)]
 mod explain_stops;
 #[cfg(test)]

@@ -1,6 +1,6 @@
 //! Inputs and reports that are written from parts, with what is repeated and counted.
 
-use crate::running::{RUN, answers};
+use crate::running::{Program, RUN, answers};
 use std::alloc::Global;
 use std::fmt::Write;
 use std::process::Abort;
@@ -118,7 +118,15 @@ fn is_right(alloc: Global, row: &Grown) -> Result<bool, Fail> {
     let input = written(alloc, row.input)?;
     let report = written(alloc, row.report)?;
     let (input, report) = (input.as_bytes(), report.as_bytes());
-    answers(alloc, RUN, row.pieces, input, row.status, report)
+    answers(
+        Program::Rudderrusset,
+        alloc,
+        RUN,
+        row.pieces,
+        input,
+        row.status,
+        report,
+    )
 }
 
 /// Each row has its answer and its report.

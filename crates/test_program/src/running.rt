@@ -1,4 +1,4 @@
-//! Runs of the program over memory: what it answers and writes.
+//! Runs of the programs over memory: what they answer and write.
 
 ghost use Rattle.std.specs.Prelude.{◌<◌};
 
@@ -6,7 +6,20 @@ use std::alloc::Global;
 use std::process::Abort;
 use std::test::Fail;
 use xcm_cli::{Status, run};
+use xcm_compose::compose;
+use xcm_explain::explain;
 use xcm_io::{MemSink, MemSource};
+
+/// One of the programs.
+#[derive(Clone, Copy)]
+pub(crate) enum Program {
+    /// It runs networks.
+    Rudderrusset,
+    /// It writes messages as trees.
+    Explain,
+    /// It writes trees as messages.
+    Compose,
+}
 
 /// The word that runs a network.
 pub(crate) const RUN: &[&str] = &["run"];
@@ -15,7 +28,7 @@ pub(crate) const RUN: &[&str] = &["run"];
 pub(crate) const AUDIT: &[&str] = &["run", "--audit"];
 
 /// How many bytes may be written here.
-pub(crate) const ROOM: usize = 1_048_576;
+const ROOM: usize = 1_048_576;
 
 /// A whole input, its answer and its report.
 pub(crate) struct Row {
@@ -44,7 +57,7 @@ impl Ran {
 }
 
 /// The words of the command line.
-pub(crate) fn words_of(alloc: Global, words: &[&str]) -> Result<Vec<String>, Fail> {
+fn words_of(alloc: Global, words: &[&str]) -> Result<Vec<String>, Fail> {
     let mut list = Vec::new(alloc);
     for word in words {
         list.push(String::from_str(alloc, word)?)?;
@@ -52,8 +65,10 @@ pub(crate) fn words_of(alloc: Global, words: &[&str]) -> Result<Vec<String>, Fai
     Ok(list)
 }
 
-/// A run with these words over an input, by pieces of at most so many bytes, with the numbers of the reads and writes that fail.
-pub(crate) fn run_of(
+/// A run of the program with these words over an input, by pieces of at most so many bytes, with the numbers of the reads and writes that
+/// fail.
+pub(crate) fn ran_of(
+    program: Program,
     alloc: Global,
     words: &[&str],
     input: &[u8],
@@ -66,7 +81,11 @@ pub(crate) fn run_of(
     let words = words_of(alloc, words)?;
     let mut source = MemSource::new(input.to_vec(alloc)?, piece, reads.to_vec(alloc)?);
     let mut sink = MemSink::new(alloc, ROOM, piece, writes.to_vec(alloc)?)?;
-    let status = run(alloc, &words, &mut source, &mut sink)?;
+    let status = match program {
+        Program::Rudderrusset => run(alloc, &words, &mut source, &mut sink)?,
+        Program::Explain => explain(alloc, &words, &mut source, &mut sink)?,
+        Program::Compose => compose(alloc, &words, &mut source, &mut sink)?,
+    };
     Ok(Ran {
         status,
         bytes: sink.bytes().to_vec(alloc)?,
@@ -76,34 +95,36 @@ pub(crate) fn run_of(
 /// How many bytes are read and written at once.
 pub(crate) const PIECES: &[usize] = &[1, 2, 3, 7, 64, 65_535, 65_536];
 
-/// Whether the input has this answer and this report where so many bytes are read and written at once.
+/// Whether the program answers this and writes this text where so many bytes are read and written at once.
 fn answers_by(
+    program: Program,
     alloc: Global,
     words: &[&str],
     input: &[u8],
     piece: usize,
     status: Status,
-    report: &[u8],
+    text: &[u8],
 ) -> Result<bool, Fail> {
     // for the prover: each piece has at least one byte
     if piece == 0 {
         return Ok(false);
     }
-    let ran = run_of(alloc, words, input, piece, &[], &[])?;
-    Ok(ran.has(status, report))
+    let ran = ran_of(program, alloc, words, input, piece, &[], &[])?;
+    Ok(ran.has(status, text))
 }
 
-/// Whether the input has this answer and this report, in whichever of these pieces its bytes are read and written.
+/// Whether the program answers this and writes this text, in whichever of these pieces its bytes are read and written.
 pub(crate) fn answers(
+    program: Program,
     alloc: Global,
     words: &[&str],
     pieces: &[usize],
     input: &[u8],
     status: Status,
-    report: &[u8],
+    text: &[u8],
 ) -> Result<bool, Fail> {
     for piece in pieces {
-        if !answers_by(alloc, words, input, *piece, status, report)? {
+        if !answers_by(program, alloc, words, input, *piece, status, text)? {
             return Ok(false);
         }
     }
@@ -114,7 +135,8 @@ pub(crate) fn answers(
 fn is_right(alloc: Global, words: &[&str], row: &Row) -> Result<bool, Fail> {
     let input = format!(in alloc; "{}\n---\n{}", row.network, row.steps)?;
     let (input, report) = (input.as_bytes(), row.report.as_bytes());
-    answers(alloc, words, PIECES, input, row.status, report)
+    let program = Program::Rudderrusset;
+    answers(program, alloc, words, PIECES, input, row.status, report)
 }
 
 /// Each row has its answer and its report.

@@ -11,7 +11,7 @@ use crate::messages::{LONG, MESSAGES};
 use crate::openings::{OPENINGS, REFUSED};
 use crate::parts::check_grown;
 use crate::pools::{ENDS, EXCHANGES};
-use crate::running::{AUDIT, PIECES, RUN, Row, answers, check_rows};
+use crate::running::{AUDIT, PIECES, Program, RUN, Row, answers, check_rows};
 use crate::teleports::{CHECKED, LOST};
 use crate::transfers::{AUDITED, PAYMENTS, TRANSFERS, UNSENT};
 use std::alloc::Global;
@@ -44,7 +44,15 @@ fn is_right(alloc: Global, table: &Table, rest: &str, lines: &str) -> Result<boo
     let input = format!(in alloc; "{}\n---\n{}{rest}\n", table.network, table.before)?;
     let report = format!(in alloc; "{}{lines}", table.opening)?;
     let (input, report) = (input.as_bytes(), report.as_bytes());
-    answers(alloc, RUN, PIECES, input, table.status, report)
+    answers(
+        Program::Rudderrusset,
+        alloc,
+        RUN,
+        PIECES,
+        input,
+        table.status,
+        report,
+    )
 }
 
 /// Each line has its answer and its report.
