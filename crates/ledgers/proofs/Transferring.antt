@@ -250,4 +250,4 @@ as_seen P l k xs ys same list p = subst (λ m. P m ys) same (subst (P l) list p)
 pub bar_is_fault : (ledger : Accounts) (from to : List ℕ) (xs : List Asset) (fault : TransferFault) → IsTransferBar ledger from to xs fault → IsTransferFault ledger from to xs fault
 bar_is_fault ledger from to xs (TransferFault.NotEnough have) h = h
 bar_is_fault ledger from to xs (TransferFault.Overflow have) h = h
-bar_is_fault ledger from to xs TransferFault.Memory h = tt
+bar_is_fault ledger from to xs TransferFault.Memory h = absurd h

@@ -1,5 +1,5 @@
--- Why a ledger refuses a move.
-use Rattle.std.specs.Prelude.{◌≡◌, ℕ, List, None, Some, IsSome, IsSomeAnd, ⊤}
+-- Why a ledger refuses a move. Memory is refused only to a move that nothing else forbids.
+use Rattle.std.specs.Prelude.{◌≡◌, ℕ, List, None, Some, IsSome, IsSomeAnd}
 use Rattle.amounts.specs.Amounts.{amount}
 use Rattle.asset_lists.specs.declared.units.Asset.{Asset}
 use Rattle.asset_lists.specs.Units.{unit_of, instance_in}
@@ -11,7 +11,7 @@ use Rattle.ledgers.specs.Ledgers.{Held, Accounts, IsOwner, Withdrawn, shortage, 
 -- the first asset of which there isn't enough decides
 abbrev pub IsLedgerFault : Held → List ℕ → List Asset → LedgerFault → Type 0
 IsLedgerFault held who assets (LedgerFault.NotEnough have) = shortage held who assets ≡ Some have
-IsLedgerFault held who assets LedgerFault.Memory = ⊤
+IsLedgerFault held who assets LedgerFault.Memory = shortage held who assets ≡ None
 
 -- why the account can't take this asset in: an amount would pass 2^128-1, or an instance has an owner
 abbrev pub IsBarred : Held → List ℕ → Asset → DepositFault → Type 0
@@ -27,7 +27,7 @@ IsFirstBarred held who assets fault = IsSomeAnd (barred held who assets) (λ a. 
 abbrev pub IsDepositFault : Held → List ℕ → List Asset → DepositFault → Type 0
 IsDepositFault held who assets (DepositFault.Overflow have) = IsFirstBarred held who assets (DepositFault.Overflow have)
 IsDepositFault held who assets (DepositFault.InstanceExists owner) = IsFirstBarred held who assets (DepositFault.InstanceExists owner)
-IsDepositFault held who assets DepositFault.Memory = ⊤
+IsDepositFault held who assets DepositFault.Memory = barred held who assets ≡ None
 
 -- a transfer is the withdrawal and then the deposit: the giver has all of it, and the receiver can take it in once it is given
 pub record IsTransferable (ledger : Accounts) (from to : List ℕ) (assets : List Asset) : Type 0 where
@@ -43,4 +43,4 @@ IsTransferBar ledger from to assets TransferFault.Memory = ⊥
 abbrev pub IsTransferFault : Accounts → List ℕ → List ℕ → List Asset → TransferFault → Type 0
 IsTransferFault ledger from to assets (TransferFault.NotEnough have) = IsTransferBar ledger from to assets (TransferFault.NotEnough have)
 IsTransferFault ledger from to assets (TransferFault.Overflow have) = IsTransferBar ledger from to assets (TransferFault.Overflow have)
-IsTransferFault ledger from to assets TransferFault.Memory = ⊤
+IsTransferFault ledger from to assets TransferFault.Memory = IsTransferable ledger from to assets
