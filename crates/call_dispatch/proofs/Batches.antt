@@ -6,7 +6,7 @@ use Rattle.call_dispatch.specs.declared.end.CallEnd.TheVariants.{Success, Error}
 use Rattle.call_dispatch.specs.declared.faults.ShiftFault.{ShiftFault}
 use Rattle.call_dispatch.specs.Spelling.{Item}
 use Rattle.call_dispatch.specs.Shifts.{RowAmounts, Floors, shift_fault, shifted, AreKept}
-use Rattle.call_dispatch.specs.Dispatches.{Done, moved_unless, dispatch_item, next_or, dispatch_items, HasDoneFront}
+use Rattle.call_dispatch.specs.Dispatches.{Done, moved_unless, dispatch_item, next_or, dispatch_items, HasDoneFront, IsStoppedInside}
 use Rattle.call_dispatch.proofs.Lemmas.ShiftLaws.{accepted, enough_held, restored, undoable}
 use Rattle.call_dispatch.specs.TakingBack.{taken_back, CanTakeBack, HadNumber}
 use Rattle.call_dispatch.proofs.Lemmas.DispatchLaws.{items_fail, item_fails}
@@ -61,26 +61,30 @@ module _ (floors : Floors) (rows who : List ℕ) where
       rest_fails now code e = sym (goes_on ∙ ap (swapped m) (sym e))
 
     -- memory was refused in the first
-    pub stops_first : (now : RowAmounts) → now ≡ m → HasDoneFront m floors rows who items now
+    pub stops_first : (now : RowAmounts) → now ≡ m → IsStoppedInside m floors rows who items now
     unfolding dispatch_items
-    stops_first now same = record { front = []; back = items; all = refl; done = ap (λ (x : RowAmounts). (x, Success)) (sym same) }
+    stops_first now same = record { front = []; next = i; rest = rest; all = is; done = ap (λ (x : RowAmounts). (x, Success)) (sym same) }
 
   -- in a later one
   pub stops_later : (m : RowAmounts) (items : List Item) (i : Item) (rest : List Item) → items ≡ i ∷ rest → (next : RowAmounts) → (next, Success) ≡ dispatch_item m floors rows who i
-      → (now : RowAmounts) → HasDoneFront next floors rows who rest now → HasDoneFront m floors rows who items now
+      → (now : RowAmounts) → IsStoppedInside next floors rows who rest now → IsStoppedInside m floors rows who items now
   stops_later m items i rest is next done now h = record {
     front = i ∷ h.front;
-    back = h.back;
+    next = h.next;
+    rest = h.rest;
     all = is ∙ ap (λ (x : List Item). i ∷ x) h.all;
     done = sym (all_done m (i ∷ h.front) i h.front refl next done now (sym h.done));
   }
 
   -- and where the first was to be moved back
   pub stops_back : (m : RowAmounts) (items : List Item) (i : Item) (rest : List Item) → items ≡ i ∷ rest → (next : RowAmounts) → (next, Success) ≡ dispatch_item m floors rows who i
-      → (now : RowAmounts) → now ≡ next → HasDoneFront m floors rows who items now
-  stops_back m items i rest is next done now same = record {
+      → (now failed : RowAmounts) (code : ℕ) → now ≡ next → (failed, Error code) ≡ dispatch_items next next floors rows who rest → IsStoppedInside m floors rows who items now
+  unfolding dispatch_items
+  stops_back m items i [] is next done now failed code same e = absurd (let end : Error code ≡ Success = ap (λ (d : Done). d.1) e in cc)
+  stops_back m items i (j ∷ rest) is next done now failed code same e = record {
     front = i ∷ [];
-    back = rest;
+    next = j;
+    rest = rest;
     all = is;
     done = sym (all_done m (i ∷ []) i [] refl next done now (ap (λ (x : RowAmounts). (x, Success)) same ∙ nothing_done next [] refl));
   }
@@ -90,6 +94,10 @@ module _ (floors : Floors) (rows who : List ℕ) where
   unfolding dispatch_items
   stops_before (Ok x) m now h = tt
   stops_before (Err e) m now h = record { front = []; back = []; all = refl; done = ap (λ (x : RowAmounts). (x, Success)) (sym h) }
+
+  pub stops_front : {T E : Type 0} (result : Result T E) (m now : RowAmounts) (items : List Item) → OnErr result (IsStoppedInside m floors rows who items now) → OnErr result (HasDoneFront m floors rows who items now)
+  stops_front (Ok x) m now items h = tt
+  stops_front (Err e) m now items h = record { front = h.front; back = h.next ∷ h.rest; all = h.all; done = h.done }
 
   -- what failed changed nothing
   pub rest_stays : (next now : RowAmounts) (rest : List Item) (code : ℕ) → (now, Error code) ≡ dispatch_items next next floors rows who rest → now ≡ next

@@ -2,6 +2,7 @@
 --     dispatch m floors rows who c      rows: those that are there and fungible; floors: what must stay of them
 --     HasDone m floors rows who items now      all of these items were done, one after another, and none failed
 --     IsInterrupted m floors rows who c now      the state where memory was refused
+--     MayStop m floors rows who c now      that it can be refused there
 use Rattle.std.specs.Prelude.{◌≡◌, ◌==◌, ℕ, Bool, false, List, [], ◌∷◌, ◌++◌, Option, Some, None}
 use Rattle.std.specs.List.{list_any}
 use Rattle.amounts.specs.Amounts.{total}
@@ -82,6 +83,22 @@ pub record HasDoneFront (m : RowAmounts) (floors : Floors) (rows who : List ℕ)
 -- a prefix of the batch was done, and no more; no other call is done in part
 abbrev pub IsInterrupted : RowAmounts → Floors → List ℕ → List ℕ → AnyCall → RowAmounts → Type 0
 IsInterrupted m floors rows who c now = HasDoneFront m floors rows who (items_of c) now
+
+-- memory was refused inside a batch: some of its calls were done, and not all
+pub record IsStoppedInside (m : RowAmounts) (floors : Floors) (rows who : List ℕ)
+    (items : List Item) (now : RowAmounts) : Type 0 where
+  pub front : List Item
+  pub next : Item
+  pub rest : List Item
+  pub all : items ≡ front ++ next ∷ rest
+  pub done : HasDone m floors rows who front now
+
+-- memory can be refused only to a move that nothing else forbids, and inside a batch
+abbrev pub MayStop : RowAmounts → Floors → List ℕ → List ℕ → AnyCall → RowAmounts → Type 0
+MayStop m floors rows who (Remark bytes) now = ⊥
+MayStop m floors rows who (Transfer row dest n) now = shift_fault m floors rows row who dest n ≡ None
+MayStop m floors rows who (Fail code) now = ⊥
+MayStop m floors rows who (Batch items) now = IsStoppedInside m floors rows who items now
 
 -- ---- rows
 -- what all accounts have of a row

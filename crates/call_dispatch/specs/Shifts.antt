@@ -53,7 +53,7 @@ shift_fault m floors rows row from to n =
 unfoldable pub shifted : RowAmounts → ℕ → List ℕ → List ℕ → ℕ → RowAmounts
 shifted m row from to n = plus (minus m (from, row) n) (to, row) n
 
--- moved, or refused, and then nothing changed; out of memory may come before any other cause
+-- moved, or refused, and then nothing changed; memory is refused only to a move that nothing else forbids
 abbrev pub Shifts : Option ShiftFault → RowAmounts → RowAmounts → Result (Unit {0}) ShiftFault
     → RowAmounts → Type 0
 Shifts fault after before (Ok _) now = (fault ≡ None) × (now ≡ after)
@@ -62,7 +62,7 @@ Shifts fault after before (Err (NotEnough have)) now =
     (fault ≡ Some (NotEnough have)) × (now ≡ before)
 Shifts fault after before (Err (Overflow have)) now =
     (fault ≡ Some (Overflow have)) × (now ≡ before)
-Shifts fault after before (Err Memory) now = now ≡ before
+Shifts fault after before (Err Memory) now = (fault ≡ None) × (now ≡ before)
 
 -- an amount of 128 bits
 abbrev pub IsNumberAt : RowAmounts → AccountRow → Type 0

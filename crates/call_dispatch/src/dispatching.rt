@@ -1,10 +1,10 @@
 //! What a call does.
 
-ghost use Rattle.std.specs.Prelude.{◌≡◌, Ok, OnOk, OnErr, IfOk};
+ghost use Rattle.std.specs.Prelude.{◌≡◌, None, Ok, OnOk, OnErr, IfOk};
 ghost use Rattle.call_dispatch.specs.declared.end.CallEnd.TheVariants.{Success};
 ghost use Rattle.call_dispatch.specs.Spelling.{Item, AnyCall};
 ghost use Rattle.call_dispatch.specs.Shifts.{shift_fault, shifted, IsNumberAt};
-ghost use Rattle.call_dispatch.specs.Dispatches.{moved_unless, dispatch_item, dispatch_items, dispatch, HasDoneFront, IsInterrupted, IsBeside};
+ghost use Rattle.call_dispatch.specs.Dispatches.{moved_unless, dispatch_item, dispatch_items, dispatch, IsInterrupted, IsStoppedInside, MayStop, IsBeside};
 ghost use Rattle.call_dispatch.specs.TakingBack.{taken_back, CanTakeBack, HadNumber};
 
 use crate::{Call, CallEnd, Mover, NoBatch, PositiveAmount, ShiftFault};
@@ -25,6 +25,8 @@ fn dispatch_transfer<M: Mover>(
         (M.amounts m.old)) }
     ensures had { result ≡ Ok Success → IsNumberAt (M.amounts m.old) (who.now, row) }
     ensures err { OnErr result (M.amounts m.new ≡ M.amounts m.old) }
+    ensures wanted { OnErr result (shift_fault (M.amounts m.old) (M.floors m.old) (M.rows m.old) row
+        who.now dest.now amount ≡ None) }
     ensures beside { IsBeside (M.floors m.old) (M.floors m.new) (M.rows m.old) (M.rows m.new)
         (M.other m.old) (M.other m.new) }
 {
@@ -48,6 +50,8 @@ fn dispatch_item<M: Mover>(
         ≡ dispatch_item (M.amounts m.old) (M.floors m.old) (M.rows m.old) who.now c.now) }
     ensures had { result ≡ Ok Success → HadNumber (M.amounts m.old) who.now c.now }
     ensures err { OnErr result (M.amounts m.new ≡ M.amounts m.old) }
+    ensures wanted { OnErr result ((dispatch_item (M.amounts m.old) (M.floors m.old)
+        (M.rows m.old) who.now c.now).1 ≡ Success) }
     ensures beside { IsBeside (M.floors m.old) (M.floors m.new) (M.rows m.old) (M.rows m.new)
         (M.other m.old) (M.other m.new) }
 {
@@ -87,7 +91,7 @@ fn dispatch_items<M: Mover>(
     ensures ok { IfOk result (λ end. (M.amounts m.new, end)
         ≡ dispatch_items (M.amounts m.old) (M.amounts m.old) (M.floors m.old)
         (M.rows m.old) who.now items.now) }
-    ensures err { OnErr result (HasDoneFront (M.amounts m.old) (M.floors m.old)
+    ensures err { OnErr result (IsStoppedInside (M.amounts m.old) (M.floors m.old)
         (M.rows m.old) who.now items.now (M.amounts m.new)) }
     ensures beside { IsBeside (M.floors m.old) (M.floors m.new) (M.rows m.old) (M.rows m.new)
         (M.other m.old) (M.other m.new) }
@@ -115,6 +119,8 @@ pub fn dispatch<M: Mover>(m: &mut M, who: &[u8; 32], c: &Call) -> Result<CallEnd
         ≡ dispatch (M.amounts m.old) (M.floors m.old) (M.rows m.old) who.now c.now) }
     ensures err { OnErr result (IsInterrupted (M.amounts m.old) (M.floors m.old)
         (M.rows m.old) who.now c.now (M.amounts m.new)) }
+    ensures wanted { OnErr result (MayStop (M.amounts m.old) (M.floors m.old) (M.rows m.old) who.now
+        c.now (M.amounts m.new)) }
     ensures beside { IsBeside (M.floors m.old) (M.floors m.new) (M.rows m.old) (M.rows m.new)
         (M.other m.old) (M.other m.new) }
 {

@@ -22,8 +22,7 @@ use Rattle.trust_tables.specs.declared.rows.AssetRow.{AssetRow}
 use Rattle.trust_tables.specs.Trust.{listing}
 use Rattle.ledgers.specs.Ledgers.{Holder, holder_cmp, Held, Accounts, held_by, Withdrawn, Transferred, shortage, barred}
 use Rattle.ledgers.proofs.Lemmas.{account_keys, holder_keys}
-use Rattle.ledgers.specs.LedgerFaults.{IsFirstBarred, IsBarred}
-use Rattle.ledgers.specs.declared.faults.DepositFault.{DepositFault}
+use Rattle.ledgers.specs.LedgerFaults.{IsTransferable}
 use Rattle.call_dispatch.specs.declared.faults.ShiftFault.{ShiftFault}
 use Rattle.call_dispatch.specs.declared.faults.ShiftFault.TheVariants.{NoRow, NotEnough, Overflow, Memory}
 use Rattle.call_dispatch.specs.declared.end.CallEnd.{CallEnd}
@@ -41,19 +40,21 @@ use Rattle.row_ledger.specs.Moves.{unit_fault, moved_unit, MovesUnit}
 abbrev pub some_of : AssetId → ℕ → Asset
 some_of id n = record { id = id; fun = Fungible n }
 
-no_less : (have n : ℕ) → (if ltb have n then Some have else None) ≡ None → n ≤ have
-no_less have n e =
-    elim (cases_Bool (ltb have n)) [
-      | inl less ↦ absurd (let some : Some have ≡ None = sym (ap (λ (b : Bool). if b then Some have else None) less) ∙ e in cc)
-      | inr enough ↦ ltb-false have n enough
-    ]
+tests_pass : (enough same few : Bool) (have has : ℕ) → (if enough then (if same || few then None else Some (Overflow has)) else Some (NotEnough have)) ≡ None → (enough ≡ true) × ((same ≡ true) ⊎ (few ≡ true))
+tests_pass true true few have has e = (refl, inl refl)
+tests_pass true false true have has e = (refl, inr refl)
+tests_pass true false false have has e = absurd cc
+tests_pass false same few have has e = absurd cc
 
-is_less : (have n found : ℕ) → (if ltb have n then Some have else None) ≡ Some found → (have < n) × (found ≡ have)
-is_less have n found e =
-    elim (cases_Bool (ltb have n)) [
-      | inl less ↦ (ltb-true have n less, (let some : Some have ≡ Some found = sym (ap (λ (b : Bool). if b then Some have else None) less) ∙ e in let same : found ≡ have = cc in same))
-      | inr enough ↦ absurd (let none : None ≡ Some found = sym (ap (λ (b : Bool). if b then Some have else None) enough) ∙ e in cc)
-    ]
+never_no_row : (enough room : Bool) (have has : ℕ) → (if enough then (if room then None else Some (Overflow has)) else Some (NotEnough have)) ≡ Some NoRow → ⊥
+never_no_row true true have has e = cc
+never_no_row true false have has e = cc
+never_no_row false room have has e = cc
+
+never_memory : (enough room : Bool) (have has : ℕ) → (if enough then (if room then None else Some (Overflow has)) else Some (NotEnough have)) ≡ Some Memory → ⊥
+never_memory true true have has e = cc
+never_memory true false have has e = cc
+never_memory false room have has e = cc
 
 module _ (ledger : Accounts) (id : AssetId) (from to : List ℕ) (n : ℕ) where
   apart : is_same_account from to ≡ false → eq_by_cmp holder_cmp (to, (id, None)) (from, (id, None)) ≡ false
@@ -81,70 +82,52 @@ module _ (ledger : Accounts) (id : AssetId) (from to : List ℕ) (n : ℕ) where
       let here : eq_by_cmp holder_cmp (to, (id, None)) (from, (id, None)) ≡ true = ap (λ (who : List ℕ). eq_by_cmp holder_cmp (who, (id, None)) (from, (id, None))) (sym keys) ∙ same_key holder_keys (from, (id, None)) in
       once_given ∙ ap (λ (b : Bool). amount ledger.held (to, (id, None)) - amount_if b n) here ∙ ap (λ (who : List ℕ). amount ledger.held (who, (id, None)) - n) (sym keys)
 
-  passes : n ≤ amount ledger.held (from, (id, None)) → (is_same_account from to ≡ true) ⊎ (amount ledger.held (to, (id, None)) + n ≤ 2 ^ 128 - 1) → unit_fault ledger.held (id, None) from to n ≡ None
-  unfolding unit_fault
-  passes enough (inl same) =
-      ap (λ (b : Bool). if b then (if is_same_account from to || leb (amount ledger.held (to, (id, None)) + n) (2 ^ 128 - 1) then None else Some (Overflow (amount ledger.held (to, (id, None))))) else Some (NotEnough (amount ledger.held (from, (id, None))))) (le-leb _ _ enough)
-      ∙ ap (λ (b : Bool). if b || leb (amount ledger.held (to, (id, None)) + n) (2 ^ 128 - 1) then None else Some (Overflow (amount ledger.held (to, (id, None))))) same
-  passes enough (inr few) =
-      ap (λ (b : Bool). if b then (if is_same_account from to || leb (amount ledger.held (to, (id, None)) + n) (2 ^ 128 - 1) then None else Some (Overflow (amount ledger.held (to, (id, None))))) else Some (NotEnough (amount ledger.held (from, (id, None))))) (le-leb _ _ enough)
-      ∙ ap (λ (b : Bool). if is_same_account from to || b then None else Some (Overflow (amount ledger.held (to, (id, None))))) (le-leb _ _ few)
-      ∙ elim (is_same_account from to) as (λ b. (if b || true then None else Some (Overflow (amount ledger.held (to, (id, None))))) ≡ None) [ true ↦ refl | false ↦ refl ]
-
-  free_is : barred (Withdrawn from (some_of id n ∷ []) ledger).held to (some_of id n ∷ []) ≡ None
-      → amount (Withdrawn from (some_of id n ∷ []) ledger).held (to, (id, None)) + n ≤ 2 ^ 128 - 1
-  free_is free =
-      elim (cases_Bool (ltb (2 ^ 128 - 1) (amount (Withdrawn from (some_of id n ∷ []) ledger).held (to, (id, None)) + n))) [
-        | inl more ↦ absurd (let found : Some (some_of id n) ≡ None = sym (ap (λ (b : Bool). if b then Some (some_of id n) else None) more) ∙ free in cc)
-        | inr few ↦ ltb-false _ _ few
+  -- the ledger can move it
+  no_shortage : n ≤ amount ledger.held (from, (id, None)) → shortage ledger.held from (some_of id n ∷ []) ≡ None
+  no_shortage enough =
+      elim (cases_Bool (ltb (amount ledger.held (from, (id, None))) n)) [
+        | inl less ↦ absurd (let is = ltb-true _ _ less in omega (arith, is, enough))
+        | inr is ↦ ap (λ (b : Bool). if b then Some (amount ledger.held (from, (id, None))) else None) is
       ]
 
-  -- what the ledger moved
-  pub is_moved : shortage ledger.held from (some_of id n ∷ []) ≡ None → barred (Withdrawn from (some_of id n ∷ []) ledger).held to (some_of id n ∷ []) ≡ None → unit_fault ledger.held (id, None) from to n ≡ None
-  is_moved enough free =
-      passes (no_less (amount ledger.held (from, (id, None))) n enough)
-      (elim (cases_Bool (is_same_account from to)) [
-        | inl same ↦ inl same
-        | inr other ↦ inr (let few = free_is free in let is = other_given other in omega (arith, few, is))
-      ])
+  none_barred : amount (Withdrawn from (some_of id n ∷ []) ledger).held (to, (id, None)) + n ≤ 2 ^ 128 - 1
+      → barred (Withdrawn from (some_of id n ∷ []) ledger).held to (some_of id n ∷ []) ≡ None
+  none_barred few =
+      elim (cases_Bool (ltb (2 ^ 128 - 1) (amount (Withdrawn from (some_of id n ∷ []) ledger).held (to, (id, None)) + n))) [
+        | inl more ↦ absurd (let is = ltb-true _ _ more in omega (arith, is, few))
+        | inr is ↦ ap (λ (b : Bool). if b then Some (some_of id n) else None) is
+      ]
+
+  allowed : unit_fault ledger.held (id, None) from to n ≡ None → (leb n (amount ledger.held (from, (id, None))) ≡ true) × ((is_same_account from to ≡ true) ⊎ (leb (amount ledger.held (to, (id, None)) + n) (2 ^ 128 - 1) ≡ true))
+  unfolding unit_fault
+  allowed = tests_pass (leb n (amount ledger.held (from, (id, None)))) (is_same_account from to) (leb (amount ledger.held (to, (id, None)) + n) (2 ^ 128 - 1)) (amount ledger.held (from, (id, None))) (amount ledger.held (to, (id, None)))
+
+  pub is_transferable : amount ledger.held (from, (id, None)) < 2 ^ 128 → unit_fault ledger.held (id, None) from to n ≡ None → IsTransferable ledger from to (some_of id n ∷ [])
+  is_transferable number none =
+      let enough : n ≤ amount ledger.held (from, (id, None)) = leb-true _ _ (allowed none).0 in
+      record {
+        enough = no_shortage enough;
+        free = none_barred (elim (cases_Bool (is_same_account from to)) [
+          | inl same ↦ (let is = self_given same in omega (arith, is, enough, number))
+          | inr other ↦ (let is = other_given other in elim ((allowed none).1) [
+            | inl same ↦ absurd (let no : true ≡ false = sym same ∙ other in cc)
+            | inr few ↦ (let less = leb-true _ _ few in omega (arith, is, less))
+          ])
+        ]);
+      }
 
   pub moved_as : Transferred from to (some_of id n ∷ []) ledger ≡ moved_unit ledger (id, None) from to n
   moved_as = ap (λ (h : Held). record { listed = ledger.listed; held = h }) (transferred_one ledger from to (some_of id n))
 
-  -- what it refused
-  pub is_short : (have : ℕ) → shortage ledger.held from (some_of id n ∷ []) ≡ Some have → unit_fault ledger.held (id, None) from to n ≡ Some (NotEnough have)
+  -- or it is refused
+  pub is_refused : (fault : ShiftFault) → unit_fault ledger.held (id, None) from to n ≡ Some fault → MovesUnit (unit_fault ledger.held (id, None) from to n) (moved_unit ledger (id, None) from to n) ledger (Err fault) ledger
   unfolding unit_fault
-  is_short have e =
-      let less = is_less (amount ledger.held (from, (id, None))) n have e in
-      let no : leb n (amount ledger.held (from, (id, None))) ≡ false = grind (arith, less) in
-      ap (λ (b : Bool). if b then (if is_same_account from to || leb (amount ledger.held (to, (id, None)) + n) (2 ^ 128 - 1) then None else Some (Overflow (amount ledger.held (to, (id, None))))) else Some (NotEnough (amount ledger.held (from, (id, None))))) no
-      ∙ ap (λ (x : ℕ). Some (NotEnough x)) (sym less.1)
-
-  is_found : (b : Bool) (P : Asset → Type 0) → IsSomeAnd (if b then Some (some_of id n) else None) P → (b ≡ true) × P (some_of id n)
-  is_found true P h = (refl, h)
-  is_found false P h = absurd h
-
-  pub is_over : (have : ℕ) → amount ledger.held (from, (id, None)) < 2 ^ 128 → shortage ledger.held from (some_of id n ∷ []) ≡ None
-      → IsFirstBarred (Withdrawn from (some_of id n ∷ []) ledger).held to (some_of id n ∷ []) (DepositFault.Overflow have) → unit_fault ledger.held (id, None) from to n ≡ Some (Overflow have)
-  unfolding unit_fault
-  is_over have number enough barred =
-      let found = is_found (ltb (2 ^ 128 - 1) (amount (Withdrawn from (some_of id n ∷ []) ledger).held (to, (id, None)) + n)) (λ a. IsBarred (Withdrawn from (some_of id n ∷ []) ledger).held to a (DepositFault.Overflow have)) barred in
-      let much = ltb-true _ _ found.0 in
-      let has = no_less (amount ledger.held (from, (id, None))) n enough in
-      elim (cases_Bool (is_same_account from to)) [
-        | inl same ↦ absurd (let is = self_given same in omega (arith, is, much, has, number))
-        | inr other ↦ (let is = other_given other in
-            let over : leb (amount ledger.held (to, (id, None)) + n) (2 ^ 128 - 1) ≡ false = lt-leb _ _ (omega (arith, is, much)) in
-            ap (λ (b : Bool). if b then (if is_same_account from to || leb (amount ledger.held (to, (id, None)) + n) (2 ^ 128 - 1) then None else Some (Overflow (amount ledger.held (to, (id, None))))) else Some (NotEnough (amount ledger.held (from, (id, None))))) (le-leb _ _ has)
-            ∙ ap (λ (b : Bool). if b || leb (amount ledger.held (to, (id, None)) + n) (2 ^ 128 - 1) then None else Some (Overflow (amount ledger.held (to, (id, None))))) other
-            ∙ ap (λ (b : Bool). if b then None else Some (Overflow (amount ledger.held (to, (id, None))))) over
-            ∙ ap (λ (x : ℕ). Some (Overflow x)) (sym is ∙ sym found.1.1))
-      ]
+  is_refused NoRow e = absurd (never_no_row (leb n (amount ledger.held (from, (id, None)))) (is_same_account from to || leb (amount ledger.held (to, (id, None)) + n) (2 ^ 128 - 1)) _ _ e)
+  is_refused (NotEnough have) e = (e, refl)
+  is_refused (Overflow have) e = (e, refl)
+  is_refused Memory e = absurd (never_memory (leb n (amount ledger.held (from, (id, None)))) (is_same_account from to || leb (amount ledger.held (to, (id, None)) + n) (2 ^ 128 - 1)) _ _ e)
 
   -- nothing is moved
-  pub nothing_refused : n ≡ 0 → amount ledger.held (to, (id, None)) < 2 ^ 128 → unit_fault ledger.held (id, None) from to n ≡ None
-  nothing_refused is_none number = passes (omega (arith, is_none)) (inr (omega (arith, is_none, number)))
-
   none_if : (b : Bool) → amount_if b 0 ≡ 0
   none_if true = refl
   none_if false = refl
@@ -196,7 +179,7 @@ module _ (rows : List AssetRow) (u : Unit) (row : ℕ) (there : is_fungible_row 
   shifts (Err NoRow) now h = absurd h
   shifts (Err (NotEnough have)) now h = (same_fault ∙ h.0, ap (λ (l : Accounts). row_amounts rows l.held) h.1)
   shifts (Err (Overflow have)) now h = (same_fault ∙ h.0, ap (λ (l : Accounts). row_amounts rows l.held) h.1)
-  shifts (Err Memory) now h = ap (λ (l : Accounts). row_amounts rows l.held) h
+  shifts (Err Memory) now h = (same_fault ∙ h.0, ap (λ (l : Accounts). row_amounts rows l.held) h.1)
 
   pub aside_stays : (result : Result Nothing ShiftFault) (now : Accounts) → MovesUnit (unit_fault ledger.held u from to n) (moved_unit ledger u from to n) ledger result now
       → (now.listed ≡ ledger.listed) × (held_aside rows now.held ≡ held_aside rows ledger.held)
@@ -204,7 +187,7 @@ module _ (rows : List AssetRow) (u : Unit) (row : ℕ) (there : is_fungible_row 
   aside_stays (Err NoRow) now h = absurd h
   aside_stays (Err (NotEnough have)) now h = (ap (λ (l : Accounts). l.listed) h.1, ap (λ (l : Accounts). held_aside rows l.held) h.1)
   aside_stays (Err (Overflow have)) now h = (ap (λ (l : Accounts). l.listed) h.1, ap (λ (l : Accounts). held_aside rows l.held) h.1)
-  aside_stays (Err Memory) now h = (ap (λ (l : Accounts). l.listed) h, ap (λ (l : Accounts). held_aside rows l.held) h)
+  aside_stays (Err Memory) now h = (ap (λ (l : Accounts). l.listed) h.1, ap (λ (l : Accounts). held_aside rows l.held) h.1)
 
 -- ---- what is read of the table
 pub past : (rows : List AssetRow) (row : ℕ) → ltb row (length rows) ≡ false → slice_get rows row ≡ None

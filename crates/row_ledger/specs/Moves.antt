@@ -20,7 +20,7 @@ abbrev pub moved_unit : Accounts → Unit → List ℕ → List ℕ → ℕ → 
 moved_unit ledger u from to n =
     record { listed = ledger.listed; held = moved_between ledger.held u from to n }
 
--- moved, or refused, and then nothing changed; out of memory may come before any other cause
+-- moved, or refused, and then nothing changed; memory is refused only to a move that nothing else forbids
 abbrev pub MovesUnit : Option ShiftFault → Accounts → Accounts → Result Nothing ShiftFault → Accounts
     → Type 0
 MovesUnit fault after before (Ok _) now = (fault ≡ None) × (now ≡ after)
@@ -28,4 +28,4 @@ MovesUnit fault after before (Err NoRow) now = ⊥
 MovesUnit fault after before (Err (NotEnough have)) now =
     (fault ≡ Some (NotEnough have)) × (now ≡ before)
 MovesUnit fault after before (Err (Overflow have)) now = (fault ≡ Some (Overflow have)) × (now ≡ before)
-MovesUnit fault after before (Err Memory) now = now ≡ before
+MovesUnit fault after before (Err Memory) now = (fault ≡ None) × (now ≡ before)

@@ -12,10 +12,35 @@ ghost use Rattle.row_ledger.specs.Moves.{unit_fault, moved_unit, MovesUnit};
 
 use asset_lists::{Asset, AssetId, Assets, Fun, Kind};
 use call_dispatch::ShiftFault;
-use ledgers::{Ledger, TransferFault};
+use ledgers::Ledger;
 use locations::Location;
 use std::alloc::Global;
 use trust_tables::AssetRow;
+
+/// Why an amount of an asset isn't moved from one account to another; None where only memory can refuse it.
+#[tactic(auto, unfolding(crate::specs::Moves::unit_fault))]
+fn fault(
+    ledger: &Ledger,
+    unit: &AssetId,
+    from: &[u8; 32],
+    to: &[u8; 32],
+    n: u128,
+) -> Option<ShiftFault>
+    ensures { result ≡ unit_fault ledger.now.held (unit.now, None) from.now to.now n }
+{
+    let have = ledger.amount(from, unit);
+    if have < n {
+        return Some(ShiftFault::NotEnough { have });
+    }
+    if from.cmp(to).is_eq() {
+        return None;
+    }
+    let have = ledger.amount(to, unit);
+    if have > u128::MAX - n {
+        return Some(ShiftFault::Overflow { have });
+    }
+    None
+}
 
 /// Moves an amount of an asset from one account to another, or refuses it and changes nothing.
 fn move_amount(
@@ -33,9 +58,10 @@ fn move_amount(
         (amount ledger.old.held (from.now, (Concrete id.now, None)) < 2 ^ 128) }
 {
     let unit = AssetId::Concrete(id.copy());
-    // For the prover alone: what the two have are amounts of 128 bits.
-    let _had = ledger.amount(from, &unit);
-    let _has = ledger.amount(to, &unit);
+    if let Some(fault) = fault(ledger, &unit, from, to, n) {
+        return Err(fault);
+    }
+    let _had = ledger.amount(from, &unit); // For the prover alone: it is below 2^128.
     if n == 0 {
         return Ok(());
     }
@@ -46,12 +72,8 @@ fn move_amount(
             fun: Fun::Fungible(n),
         },
     )?;
-    match ledger.transfer(from, to, &list) {
-        Ok(()) => Ok(()),
-        Err(TransferFault::NotEnough { have }) => Err(ShiftFault::NotEnough { have }),
-        Err(TransferFault::Overflow { have }) => Err(ShiftFault::Overflow { have }),
-        Err(TransferFault::Memory) => Err(ShiftFault::Memory),
-    }
+    ledger.transfer_checked(from, to, &list)?;
+    Ok(())
 }
 
 /// Moves an amount of a row, by its number, from one account of the ledger to another, or refuses it and changes nothing. No asset is in

@@ -51,7 +51,7 @@ returns-in_err-take_back-in-Error-2-clause-err g t c =
     let stays = rest_stays _ _ _ (g.M.Mover.amounts c.dispatch_item.new.m) (g.M.Mover.amounts c.dispatch_items.new.m) c.in-Some.rest.now c.in-Error-2.code failed in
     let p = err_from_is_err_and c.from_residual-in_err-take_back-in-Error-2.result c.from_residual-in_err-take_back-in-Error-2.ensures.1 in
     rw p.1
-    (stops_back _ _ _ (g.M.Mover.amounts c.args.m.now) c.args.items.now c.in-Some.item.now c.in-Some.rest.now c.in-Some.ensures.cases.0 (g.M.Mover.amounts c.dispatch_item.new.m) done (g.M.Mover.amounts c.take_back.new.m) (c.in_err-take_back-in-Error-2.ensures.err ∙ stays))
+    (stops_back _ _ _ (g.M.Mover.amounts c.args.m.now) c.args.items.now c.in-Some.item.now c.in-Some.rest.now c.in-Some.ensures.cases.0 (g.M.Mover.amounts c.dispatch_item.new.m) done (g.M.Mover.amounts c.take_back.new.m) (g.M.Mover.amounts c.dispatch_items.new.m) c.in-Error-2.code (c.in_err-take_back-in-Error-2.ensures.err ∙ stays) failed)
 
 pub returns-in_ok-take_back-in-Error-2-clause-ok : goal.returns-in_ok-take_back-in-Error-2-clause-ok
 returns-in_ok-take_back-in-Error-2-clause-ok g t c =
