@@ -1,9 +1,9 @@
 //! Traps in the order in which they came, found by origin and list.
-ghost use Rattle.std.specs.Prelude.{◌≡◌, ◌<◌, ◌≤◌, [], ◌++◌, ◌↔◌, length, take, IsTrue, IfOk, OnOk, MatchOption, MatchResult};
+ghost use Rattle.std.specs.Prelude.{◌≡◌, ◌<◌, ◌≤◌, ◌-◌, ◌^◌, [], ◌++◌, ◌↔◌, length, take, IsSome, IsTrue, IfOk, OnOk, OnErr, MatchOption, MatchResult};
 ghost use Rattle.std.specs.List.{AllByRecursion};
 ghost use Rattle.std.specs.Map.{values_of};
 ghost use Rattle.asset_bundles.specs.Traps.{Fits, NoneFits};
-ghost use Rattle.asset_bundles.specs.Oldest.{IsLonger, IsOneLonger, ArePlaced, NoneAt, FitsAt, IsOldest, IsTaken};
+ghost use Rattle.asset_bundles.specs.Oldest.{IsLonger, IsOneLonger, ArePlaced, trap_at, NoneAt, FitsAt, IsOldest, IsTaken};
 
 use crate::Trap;
 use crate::digest::digest;
@@ -124,7 +124,8 @@ fn push(
 
 /// A position after all traps. It fails only after the position 2^64-1.
 fn place_behind(rows: &BTreeMap<u64, Trap>) -> Result<u64, AllocError>
-    ensures { IfOk result (λ place. AllByRecursion (λ row. row.0 < place) rows.now.entries) }
+    ensures behind { IfOk result (λ place. AllByRecursion (λ row. row.0 < place) rows.now.entries) }
+    ensures full { OnErr result (IsSome (trap_at rows.now.entries (2 ^ 64 - 1))) }
 {
     let Some((last, _)) = rows.last_key_value() else {
         return Ok(0);

@@ -25,4 +25,4 @@ returns-clause-placed c =
 
 pub returns-clause-added : goal.returns-clause-added
 returns-clause-added c =
-    (c.in_ok-place.place, pushed_rows c.args.rows.now.entries c.insert-2.new.self.entries c.in_ok-place.place c.args.trap c.in_ok-place.ensures c.in_ok-insert-2.ensures.entries)
+    (c.in_ok-place.place, pushed_rows c.args.rows.now.entries c.insert-2.new.self.entries c.in_ok-place.place c.args.trap c.in_ok-place.ensures.behind c.in_ok-insert-2.ensures.entries)

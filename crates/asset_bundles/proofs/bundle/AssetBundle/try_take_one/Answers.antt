@@ -1,4 +1,6 @@
 use Rattle.std.proofs.Common.{◌≡◌, [], ◌∷◌, ◌++◌, ◌≤◌, sym, ap, subst, ◌∙◌, arith}
+use Rattle.std.specs.Prelude.{IfErr}
+use Rattle.std.proofs.lemmas.Result.{err_from_is_err_and}
 use Rattle.amounts.specs.Amounts.{amount, minus, merge, difference}
 use Rattle.amounts.proofs.Lemmas.{merge-difference}
 use Rattle.asset_lists.specs.Units.{unit_of, amount_of}
@@ -6,6 +8,7 @@ use Rattle.asset_bundles.specs.Bundles.{bundle_of, IsHolding}
 use Rattle.asset_bundles.proofs.Lemmas.Bundles.{unit_keys}
 use Rattle.asset_bundles.specs.Joins.{IsWithinMost}
 use Rattle.asset_bundles.specs.Portions.{AreWithinMost}
+use Rattle.asset_bundles.specs.Taking.{IsTakeFault}
 use Rattle.asset_bundles.proofs.Giving.{spent_holding, spent_minus}
 use Rattle.asset_bundles.proofs.SumFacts.{within_most_of}
 use Rattle.asset_bundles.proofs.Whole.{one_says, one_within, found_held, minus_one, one_holding}
@@ -16,6 +19,14 @@ returns-then-amount-held-clause-fault c = λ within.
     let says = one_says c.args.asset.now c.args.self.now within in
     let there = found_held (unit_of c.args.asset.now) c.as_slice.result.now c.self.inside.items.items c.args.self.now c.held.result c.held.ensures c.as_slice.ensures.value c.self.invariant c.self.view_is in
     omega (arith, says, there, c.amount.ensures, c.if-amount-held.true)
+
+pub returns-in_err-items-clause-fault : goal.returns-in_err-items-clause-fault
+returns-in_err-items-clause-fault c =
+    let there = found_held (unit_of c.args.asset.now) c.as_slice.result.now c.self.inside.items.items c.args.self.now c.held.result c.held.ensures c.as_slice.ensures.value c.self.invariant c.self.view_is in
+    let within = one_within c.args.asset.now c.args.self.now (omega (arith, there, c.amount.ensures, c.if-amount-held.false)) in
+    let p = err_from_is_err_and c.from_residual.result c.from_residual.ensures.1 in
+    subst (λ r. IfErr r (λ fault. IsTakeFault c.args.self.now (c.args.asset.now ∷ []) fault)) (sym p.1)
+    (subst (λ fault. IsTakeFault c.args.self.now (c.args.asset.now ∷ []) fault) (sym p.2) within)
 
 pub invariant_of-result : goal.invariant_of-result
 invariant_of-result c =
