@@ -1,4 +1,4 @@
-//! The laws of the ledger. Each function has an empty body, and its contract is the law.
+//! The law of the ledger. The function has an empty body, and its contract is the law.
 ghost use Rattle.std.specs.Prelude.{◌≡◌, ℕ, ◌+◌, Bool, List, None};
 ghost use Rattle.amounts.specs.Amounts.{amount, total};
 ghost use Rattle.asset_lists.specs.declared.units.Asset.{Asset};

@@ -8,7 +8,7 @@ ghost use Rattle.line_serving.specs.Replies.{code_of};
 pub enum Status {
     /// The input was read to its end and all that it asks for was done.
     Done,
-    /// The words are none that the program has.
+    /// The arguments aren't recognised.
     Usage,
     /// The network part is refused.
     NetworkRefused,

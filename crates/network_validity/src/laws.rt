@@ -1,4 +1,4 @@
-//! The laws of networks that are valid. Each function has an empty body, and its contract is a law.
+//! The laws of networks that are valid. Each function is there for its contract, which is a law.
 ghost use Rattle.std.specs.Prelude.{◌≡◌, ℕ, List, true, Ok};
 ghost use Rattle.std.specs.List.{All};
 ghost use Rattle.trust_tables.specs.Accounts.{IsChain};
