@@ -147,6 +147,7 @@ impl AssetBundle {
         ensures fits_back { IfOk result (λ goods. IsWithinMost (merge self.new goods)) }
         ensures err { OnErr result (self.new ≡ self.old) }
     {
+        // For the prover alone: what is taken and left is within the most.
         amounts_fit(self.items.as_slice());
         let alloc = *self.items.allocator();
         if takes_all(self.items.as_slice(), filter) {
@@ -167,6 +168,7 @@ impl AssetBundle {
         ensures fits_back { IfOk result (λ goods. IsWithinMost (merge self.new goods)) }
         ensures err { OnErr result (self.new ≡ self.old) }
     {
+        // For the prover alone: what is taken and left is within the most.
         amounts_fit(self.items.as_slice());
         let alloc = *self.items.allocator();
         let (taken, left) = parted_by_list(alloc, self.items.as_slice(), list)?;
@@ -187,6 +189,7 @@ impl AssetBundle {
         if !self.contains(list) {
             return Err(TakeFault::NotHeld);
         }
+        // For the prover alone: what is taken and left is within the most.
         amounts_fit(self.items.as_slice());
         let alloc = *self.items.allocator();
         let (taken, left) = cut(alloc, self.items.as_slice(), list.items())?;
@@ -208,6 +211,7 @@ impl AssetBundle {
         if asset.amount() > held(self.items.as_slice(), asset) {
             return Err(TakeFault::NotHeld);
         }
+        // For the prover alone: what is taken and left is within the most.
         amounts_fit(self.items.as_slice());
         let mut items = Vec::with_capacity(alloc, 1)?;
         push_asset(&mut items, &asset.id, asset.fun);

@@ -17,6 +17,7 @@ fn book_all(book: &mut BurnBook, items: &[Asset], cause: Cause)
     ensures { book.new ≡ Booked book.old
         (from_rows (rows_at (λ unit. (listed_of unit, cause)) (rows_of items.now))) }
 {
+    // For the prover alone: the totals of the rows are in range.
     let _ = &book.rows;
     for item in items {
         book.add(&item.id, item.kind(), cause, item.amount());
@@ -39,6 +40,7 @@ pub(crate) fn book_excess(book: &mut BurnBook, items: &[Asset])
     ensures { book.new ≡ Booked book.old
         (from_rows (rows_at (λ unit. (listed_of unit, excess_cause unit.1)) (rows_of items.now))) }
 {
+    // For the prover alone: the totals of the rows are in range.
     let _ = &book.rows;
     for item in items {
         book.add(&item.id, item.kind(), excess_cause(item), item.amount());

@@ -125,6 +125,7 @@ impl AssetBundle {
         ensures bundle { IfOk result (λ assets. bundle_of assets.items
             ≡ Excess self.now other.now) }
     {
+        // For the prover alone: no amount is above the most.
         amounts_fit(other.items.as_slice());
         let alloc = *self.items.allocator();
         let assets = above(alloc, self.items.as_slice(), other.items.as_slice())?;
@@ -142,6 +143,7 @@ impl AssetBundle {
         ensures unchanged { OnErr result (self.new ≡ self.old) }
         ensures book_unchanged { OnErr result (book.new ≡ book.old) }
     {
+        // For the prover alone: no amount is above the most.
         amounts_fit(other.items.as_slice());
         if self.items.is_empty() {
             // The other's list is taken over as it is.
@@ -170,6 +172,7 @@ impl AssetBundle {
         ensures handed_back { IfErr result (λ back. back ≡ goods) }
         ensures unchanged { OnErr result (self.new ≡ self.old) }
     {
+        // For the prover alone: no amount is above the most.
         amounts_fit(goods.items.as_slice());
         let alloc = *self.items.allocator();
         match together(alloc, self.items.as_slice(), goods.items.as_slice()) {

@@ -29,6 +29,7 @@ pub(crate) fn fill_location(
     requires { location.old.interior ≡ [] }
     ensures { AnswersAs (λ _. location.new) result (location_form place (view value.now)) }
 {
+    // For the prover alone: a text is that of one location at most.
     law_of_one_location();
     let text = text_of(place, value)?;
     match fill_location_from_text(alloc, text, location) {

@@ -48,6 +48,7 @@ fn is_same_error(a: &XcmError, b: &XcmError) -> bool
     ensures same { a.now ≡ b.now → result ≡ true }
     ensures fits { FitsError a.now × FitsError b.now }
 {
+    // For the prover alone: the code of a Trap fits.
     fits(a);
     fits(b);
     a == b

@@ -136,6 +136,7 @@ pub(crate) fn make_owner_row(
     ensures made { OnOk result (HasOwnerRow rows.new.entries (number, instance)) }
     ensures sorted { IsStrictlySortedBy owner_key_cmp (keys_of rows.new.entries) }
 {
+    // For the prover alone: the rows are sorted.
     let _ = rows.len();
     let key = (number, instance);
     if rows.contains_key(&key) {
@@ -171,6 +172,7 @@ pub(crate) fn sweep_owner(rows: &mut OwnerRows, number: u32, instance: Instance)
     ensures same { (q : OwnerKey) → owner_at rows.new.entries q ≡ owner_at rows.old.entries q }
     ensures sorted { IsStrictlySortedBy owner_key_cmp (keys_of rows.new.entries) }
 {
+    // For the prover alone: the rows are sorted.
     let _ = rows.len();
     if owner_in(rows, number, instance).is_some() {
         return;

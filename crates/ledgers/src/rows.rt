@@ -183,7 +183,7 @@ impl Rows {
         let Some(number) = self.number(asset) else {
             unreachable!();
         };
-        // There are fewer than 2^63 rows of each kind, so a count and a sum have room for one more.
+        // For the prover alone: there are fewer than 2^63 rows of each kind, so a count and a sum have room for one more.
         let _ = self.amounts.len();
         let _ = self.owners.len();
         let amount = amount_of(asset);
@@ -208,7 +208,7 @@ impl Rows {
             unreachable!();
         };
         make_instance_row(&mut self.owners, number, asset)?;
-        // There are fewer than 2^63 rows of each kind, so a count and a sum have room for one more.
+        // For the prover alone: there are fewer than 2^63 rows of each kind, so a count and a sum have room for one more.
         let _ = self.amounts.len();
         let _ = self.owners.len();
         let amount = amount_of(asset);

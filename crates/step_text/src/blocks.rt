@@ -196,6 +196,7 @@ pub fn queue_text(alloc: Global, from: ChainId, queue: &Queue) -> Result<String,
     ensures channel { IfOk result (λ text. string_bytes text
         ≡ channel_text from (outgoing_of queue.now)) }
 {
+    // For the prover alone: the line of the bytes is that of the message that they mean.
     law_of_queued();
     let mut text = String::new(alloc);
     for place in 0..queue.waiting.len() {

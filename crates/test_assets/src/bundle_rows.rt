@@ -327,6 +327,7 @@ fn landed(
 ) -> Result<Vec<Asset>, Fail> {
     let seen = list.reanchored(target, context)?;
     let shipment = minted(alloc, list)?.ship(Way::Teleport);
+    // For the prover alone: the units of what is shipped stay apart.
     law_of_landing();
     let goods = shipment.land(target, context);
     let arrived = goods.list();

@@ -201,6 +201,7 @@ impl Mover for Book {
         if let Some(fault) = self.fault(row, from, to, amount) {
             return Err(fault);
         }
+        // For the prover alone: the amount is below 2^128.
         let _had = self.amount(from, row);
         if !count_down(&mut self.moves_left) {
             return Err(ShiftFault::Memory);

@@ -48,6 +48,7 @@ pub(crate) fn relay(alloc: Global) -> Result<ChainState, Fail>
     ensures cargo { IfOk result (λ chain. (part_of chain).cargo.cargo ≡ Cargo.Nothing) }
     ensures parked { IfOk result (λ chain. (part_of chain).parked ≡ []) }
 {
+    // For the prover alone: a network that was read can open.
     law_of_valid_networks();
     let spec = read_network(alloc, NETWORK.as_bytes())?;
     Ok(ChainState::open(alloc, &spec, ChainId::Relay)?)
@@ -55,6 +56,7 @@ pub(crate) fn relay(alloc: Global) -> Result<ChainState, Fail>
 
 /// All chains, as the network opens.
 pub(crate) fn all_chains(alloc: Global) -> Result<Vec<ChainState>, Fail> {
+    // For the prover alone: a network that was read can open.
     law_of_valid_networks();
     let spec = read_network(alloc, NETWORK.as_bytes())?;
     let mut list = Vec::new(alloc);

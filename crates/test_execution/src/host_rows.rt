@@ -144,6 +144,7 @@ fn lost(chain: &mut ChainState, assets: &Assets) -> Result<(), HostFault> {
 
 /// Takes some of the first account's assets apart, and joins them again: how much that is.
 fn joined(chain: &mut ChainState, assets: &Assets, some: &Filter) -> Result<u128, HostFault> {
+    // For the prover alone: what is taken and left is listed.
     law_of_listed_assets();
     let mut goods = taken(chain, assets)?;
     let Ok(part) = goods.take(some) else {

@@ -37,10 +37,10 @@ impl ChainState {
             (bundle_of list.now) (given (part_of self.old) list.now who.now)
             (part_of self.old) result (part_of self.new) }
     {
+        // For the prover alone: the chain refuses what its transactors do, floors stay, no asset is twice in a list.
         law_of_transactors();
         law_of_floors_of_moves();
         law_of_bundles();
-        // For the prover alone: no asset is twice in a list.
         let _items = list.items();
         let alloc = *self.events.allocator();
         let movers = transactors_of(&self.settings, &self.locked);
@@ -89,6 +89,7 @@ impl ChainState {
             × (deposit_refusal (part_of self.now) goods.now who.now ≡ None))
             (λ error. deposit_refusal (part_of self.now) goods.now who.now ≡ Some error) }
     {
+        // For the prover alone: the chain refuses what its transactors do.
         law_of_transactors();
         let movers = transactors_of(&self.settings, &self.locked);
         let account = account_of(who, &self.settings.site);
@@ -108,6 +109,7 @@ impl ChainState {
             tt (deposited (part_of self.old) goods who.now)
             (part_of self.old) result (part_of self.new) }
     {
+        // For the prover alone: the chain refuses what its transactors do, and floors stay.
         law_of_transactors();
         law_of_floors_of_moves();
         let movers = transactors_of(&self.settings, &self.locked);
@@ -130,6 +132,7 @@ impl ChainState {
           held = (after_deposit goods account (accounts_of (part_of self.old))).held;
         }) (part_of self.old) result (part_of self.new) }
     {
+        // For the prover alone: each account keeps its floors.
         law_of_floors_of_moves();
         let movers = transactors_of(&self.settings, &self.locked);
         deposit_checked(&movers, &mut self.ledger, goods, account)
@@ -149,6 +152,7 @@ impl ChainState {
             × (transfer_refusal (part_of self.now) list.now from.now to.now ≡ None))
             (λ error. transfer_refusal (part_of self.now) list.now from.now to.now ≡ Some error) }
     {
+        // For the prover alone: the chain refuses what its transactors do.
         law_of_transactors();
         let movers = transactors_of(&self.settings, &self.locked);
         let giver = account_of(from, &self.settings.site);
@@ -171,10 +175,10 @@ impl ChainState {
             tt (transferred (part_of self.old) list.now from.now to.now)
             (part_of self.old) result (part_of self.new) }
     {
+        // For the prover alone: the chain refuses what its transactors do, floors stay, no asset is twice in a list.
         law_of_transactors();
         law_of_floors_of_moves();
         law_of_bundles();
-        // For the prover alone: no asset is twice in a list.
         let _items = list.items();
         let movers = transactors_of(&self.settings, &self.locked);
         match transfer_all(&movers, &mut self.ledger, list, from, to) {
@@ -198,9 +202,9 @@ impl ChainState {
           held = (after_transfer list.now giver taker (accounts_of (part_of self.old))).held;
         }) (part_of self.old) result (part_of self.new) }
     {
+        // For the prover alone: each account keeps its floors, and no asset is twice in a list.
         law_of_floors_of_moves();
         law_of_bundles();
-        // For the prover alone: no asset is twice in a list.
         let _items = list.items();
         let movers = transactors_of(&self.settings, &self.locked);
         transfer_checked(&movers, &mut self.ledger, list, giver, taker)

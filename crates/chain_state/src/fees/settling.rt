@@ -29,6 +29,7 @@ fn deposit_into(
         ≡ Deposited who.now (bundle_of coins.now) ledger.old) }
     ensures kept { OnErr result (ledger.new ≡ ledger.old) }
 {
+    // For the prover alone: the coins are the goods of their bundle.
     law_of_bundles();
     let goods = AssetBundle::mint(alloc, coins)?;
     match ledger.deposit_checked(who, goods) {

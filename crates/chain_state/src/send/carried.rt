@@ -111,6 +111,7 @@ impl ChainState {
           cargo = record { sender = (part_of self.old).cargo.sender; cargo = Cargo.Nothing };
         } }
     {
+        // For the prover alone: a list that is named in full lands as the list that was seen.
         law_of_landing();
         law_of_reanchored_lists();
         let shipment = shipment_of(replace(&mut self.cargo, Cargo::Nothing));

@@ -68,6 +68,7 @@ impl ChainState {
             (number_to (part_of self.old) dest.now) (deposited_out (part_of self.old) goods dest.now
             xcm.now) (part_of self.old) result (part_of self.new) }
     {
+        // For the prover alone: the chain refuses what its transactors do.
         law_of_transactors();
         let account = match self.check_deposit(&goods, dest) {
             Ok(account) => account,
@@ -129,6 +130,7 @@ impl ChainState {
             (transferred_out (part_of self.old) list.now from.now dest.now xcm.now)
             (part_of self.old) result (part_of self.new) }
     {
+        // For the prover alone: the chain refuses what its transactors do.
         law_of_transactors();
         let (giver, taker) = match self.check_transfer(list, from, dest) {
             Ok(accounts) => accounts,

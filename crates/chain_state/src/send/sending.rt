@@ -49,6 +49,7 @@ pub(crate) fn accepted(
         ready.1.items) (IsSendFault (channel_refusal (Some (outgoing_of queue.now)) true
         program)) }
 {
+    // For the prover alone: what was encoded means its program alone.
     law_of_round_trip();
     let bytes = match encoded {
         Ok(bytes) => bytes,
