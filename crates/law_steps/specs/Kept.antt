@@ -1,4 +1,5 @@
--- What is promised of a network document: where it can be opened and no cause is found, every world keeps every asset and every backing.
+-- What is promised of a network document that can be opened and has no cause against it: what every world keeps, whatever steps were run. This
+-- project's own rule.
 use Rattle.std.specs.Prelude.{◌≡◌, List, None}
 use Rattle.std.specs.List.{AllByRecursion}
 use Rattle.law_steps.specs.Shapes.{AllShaped}
@@ -14,26 +15,29 @@ pub record IsCoherent (spec : NetworkSpec) : Type 0 where
   pub openable : IsOpenable spec
   pub coherent : first_cause (entries_of spec) ≡ None
 
--- whatever the steps, every world from the first on
+-- in every world from the first on each asset is conserved, each derivative backed, less than 2^127 of each there, each instance at most once, and
+-- the checking accounts are right
 abbrev pub NetworkKept : NetworkSpec → List Step → Type 0
 NetworkKept spec steps = AllKept (order_of spec) (first_world spec) steps
 
--- and any two of them, the earlier taken as the first
+-- the same of any two of these worlds, the earlier taken as the first
 abbrev pub NetworkKeptBetween : NetworkSpec → List Step → Type 0
 NetworkKeptBetween spec steps = KeptBetween (order_of spec) (first_world spec) steps
 
--- and in each of them every unit, wherever it is, and every burn belongs to a listed row
+-- in each of them each chain is between runs, every unit, wherever it is, and every burn belongs to a listed row, and what waits was trusted when it
+-- was sent
 abbrev pub NetworkSound : NetworkSpec → List Step → Type 0
 NetworkSound spec steps = AllSound (order_of spec) (first_world spec) steps
 
--- so is every moment inside a run, also where memory is refused to it
+-- every moment inside a run, as every world, keeps what `NetworkKept` says, with what the run holds counted; so does what is left where memory is
+-- refused to it
 abbrev pub NetworkRunsKept : NetworkSpec → List Step → Type 0
 NetworkRunsKept spec steps = RunsKept (order_of spec) (first_world spec) steps
 
--- and in none of them would a checking account pass its maximum
+-- wherever the run of a local execution or of a delivered message is, no teleport is refused because a checking account would pass its maximum
 abbrev pub NetworkAccountsRise : NetworkSpec → List Step → Type 0
 NetworkAccountsRise spec steps = AccountsAlwaysRise (order_of spec) (first_world spec) steps
 
--- whatever the steps, in every world from the first on each message that waits has one of the seven shapes
+-- in every world from the first on each message that waits has one of the seven shapes
 abbrev pub NetworkShaped : NetworkSpec → List Step → Type 0
 NetworkShaped spec steps = AllByRecursion AllShaped (worlds (order_of spec) (first_world spec) steps)
