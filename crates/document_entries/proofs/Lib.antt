@@ -1,7 +1,6 @@
 pub mod Decimals
 pub mod Objects
 pub mod Lists
-pub mod Slashes
 pub mod LocationReading
 pub mod BothFields
 pub mod Locations

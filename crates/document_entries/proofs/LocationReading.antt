@@ -21,7 +21,7 @@ use Rattle.location_wire.specs.Reading.{junction_at}
 use Rattle.location_wire.proofs.Lemmas.FieldLaws.{junction_reads}
 use Rattle.location_wire.specs.Texts.{hex_text, junction_text, location_text, IsJunction, IsTextOf}
 use Rattle.document_entries.specs.LocationTexts.{inside, number_inside, bytes_or_none, hex_bytes, spelled_one, candidates, is_again, is_junction, junction_of, before, junctions_of, location_with_parents, location_of_parts, is_text_of, where_text, parsed_location}
-use Rattle.document_entries.proofs.Slashes.{decode_spelled, location_parts}
+use Rattle.location_wire.proofs.Lemmas.Slashes.{decode_spelled, location_parts}
 use Rattle.plain_lists.proofs.Lemmas.Facts.{bytes_themselves as same_bytes}
 
 -- ---- the first of a list that passes

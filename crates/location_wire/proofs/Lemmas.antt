@@ -1,2 +1,3 @@
 -- Lemmas: what proofs cite.
 pub mod FieldLaws
+pub mod Slashes

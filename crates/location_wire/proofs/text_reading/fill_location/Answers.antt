@@ -1,6 +1,7 @@
 use Rattle.std.proofs.Common.{◌≡◌, eqb, length, refl, ap, sym, ◌∙◌}
 use Rattle.std.specs.List.{slice_split}
-use Rattle.location_wire.proofs.TextLaws.{location_parts, no_parts, first_part, parents_read}
+use Rattle.location_wire.proofs.Lemmas.Slashes.{location_parts}
+use Rattle.location_wire.proofs.TextLaws.{no_parts, first_part, parents_read}
 use Rattle.location_wire.proofs.text_reading.fill_location.Goals as goal
 
 pub returns-in_default-clause-found : goal.returns-in_default-clause-found

@@ -1,7 +1,7 @@
 use Rattle.std.proofs.Common.{◌≡◌, ap, ◌∙◌, inl, inr}
 use Rattle.hex.specs.Hex.{decode_of}
 use Rattle.location_wire.specs.Spelling.{junction}
-use Rattle.location_wire.proofs.TextLaws.{decode_spelled}
+use Rattle.location_wire.proofs.Lemmas.Slashes.{decode_spelled}
 use Rattle.location_wire.proofs.text_reading.spelled_junction.Goals as goal
 
 pub returns-in-Ok-clause-found : goal.returns-in-Ok-clause-found

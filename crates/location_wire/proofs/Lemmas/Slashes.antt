@@ -1,4 +1,4 @@
--- The parts of a location's text between its slashes.
+-- The parts of a location's text between its slashes, and what reads hexadecimal digits back.
 use Rattle.std.proofs.Common.{◌≡◌, ℕ, zero, suc, ◌+◌, ◌/◌, ◌%◌, ◌^◌, ◌<◌, true, false, not, eqb, List, [], ◌∷◌, ◌++◌, get_or, map, Some, None, Ok, refl, lit<, sym, ap, ◌∙◌, arith}
 use Rattle.std.specs.Prelude.{codes}
 use Rattle.std.specs.List.{AllByRecursion, slice_split}
