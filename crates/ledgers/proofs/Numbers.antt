@@ -1,5 +1,5 @@
 -- The numbers of listed assets: indices in a list in which nothing is twice.
-use Rattle.std.proofs.Common.{◌≡◌, ℕ, zero, suc, ◌+◌, ◌<◌, Bool, true, false, not, cond, List, [], ◌∷◌, length, get_or, refl, sym, ap, ◌∙◌, subst, arith}
+use Rattle.std.proofs.Common.{◌≡◌, ℕ, zero, List, length, get_or, refl, sym, ap, ◌∙◌}
 use Rattle.std.specs.Prelude.{None, Some, slice_get}
 use Rattle.std.specs.Ordering.{eq_by_cmp}
 use Rattle.std.specs.List.{position_or_len}
@@ -11,20 +11,12 @@ use Rattle.asset_bundles.proofs.Lemmas.{listed_keys}
 use Rattle.ledgers.specs.Ledgers.{number_in}
 use Rattle.ledgers.specs.LedgerRows.{IsOnce}
 use Rattle.plain_lists.proofs.Lemmas.Facts.{found_some}
+use Rattle.plain_lists.proofs.Lemmas.Firsts.{stands_within}
 
 pub number_at : (listed : List Listed) (k : Listed) (n : ℕ) → number_in listed k ≡ Some n → slice_get listed n ≡ Some k
 number_at listed k n is =
     let found = position-Some (eq_by_cmp listed_cmp k) listed n k is in
     slice_get-get_or listed n k found.0 ∙ ap Some (sym (key_same listed_keys k (get_or listed n k) found.1))
-
-stands_within : (p : Listed → Bool) (xs : List Listed) (n : ℕ) (k : Listed) → slice_get xs n ≡ Some k → p k ≡ true → position_or_len p xs < length xs
-stands_within p [] n k at passes = absurd (cc)
-stands_within p (x ∷ xs) zero k at passes =
-    let same : x ≡ k = cc in
-    subst (λ b. cond {A = ℕ} (not b) (1 + position_or_len p xs) 0 < suc (length xs)) (sym (ap p same ∙ passes)) (omega arith)
-stands_within p (x ∷ xs) (suc n) k at passes =
-    let rest = stands_within p xs n k at passes in
-    elim (p x) as (λ b. cond {A = ℕ} (not b) (1 + position_or_len p xs) 0 < suc (length xs)) [ true ↦ omega arith | false ↦ omega (arith, rest) ]
 
 pub no_number : (listed : List Listed) (k : Listed) → number_in listed k ≡ None → (n : ℕ) → slice_get listed n ≡ Some k → ⊥
 no_number listed k none n at =

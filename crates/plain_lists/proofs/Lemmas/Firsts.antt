@@ -1,7 +1,7 @@
 -- Lemmas on the definitions of `specs/Firsts.antt`: what proofs cite.
-use Rattle.std.specs.Prelude.{◌≡◌, ℕ, zero, suc, ◌+◌, ◌<◌, ◌≤◌, Bool, true, false, cond, not, if◌then◌else◌, List, [], ◌∷◌, length, Some, None, refl}
+use Rattle.std.specs.Prelude.{◌≡◌, ℕ, zero, suc, ◌+◌, ◌<◌, ◌≤◌, Bool, true, false, cond, not, if◌then◌else◌, List, [], ◌∷◌, length, Some, None, refl, slice_get}
 use Rattle.std.specs.List.{find, position, position_or_len, AllByRecursion}
-use Rattle.std.proofs.Common.{get_or, set, sym, ap, ◌∙◌, arith}
+use Rattle.std.proofs.Common.{get_or, set, sym, ap, subst, ◌∙◌, arith}
 use Rattle.std.proofs.lemmas.Grind.{common_steps}
 use Rattle.std.proofs.lemmas.List.Quantifiers.{position-Some}
 use Rattle.plain_lists.specs.Firsts.{change_first}
@@ -64,3 +64,13 @@ module _ {X : Type 0} (p : X → Bool) where
 
   pub changed_at : (f : X → X) (xs : List X) (k : ℕ) (x : X) → position p xs ≡ Some k → x ≡ get_or xs k x → set xs k (f x) ≡ change_first p f xs
   changed_at f xs k x e at = let first = position-Some p xs k x e in ap (λ y. set xs k (f y)) at ∙ sym (change_at f xs k x first.0 first.1 first.2)
+
+  -- an element that passes stands at the first place of one, or behind it
+  pub stands_within : (xs : List X) (n : ℕ) (k : X) → slice_get xs n ≡ Some k → p k ≡ true → position_or_len p xs < length xs
+  stands_within [] n k at passes = absurd (cc)
+  stands_within (x ∷ xs) zero k at passes =
+      let same : x ≡ k = cc in
+      subst (λ b. cond {A = ℕ} (not b) (1 + position_or_len p xs) 0 < suc (length xs)) (sym (ap p same ∙ passes)) (omega arith)
+  stands_within (x ∷ xs) (suc n) k at passes =
+      let rest = stands_within xs n k at passes in
+      elim (p x) as (λ b. cond {A = ℕ} (not b) (1 + position_or_len p xs) 0 < suc (length xs)) [ true ↦ omega arith | false ↦ omega (arith, rest) ]
