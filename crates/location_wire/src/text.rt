@@ -10,10 +10,18 @@ use crate::writing::write_junction;
 use locations::{Junction, Junctions, Location, NetworkId};
 use scale_codec::Out;
 use std::alloc::{AllocError, Global};
-use std::fmt::Write;
 
 /// Bytes for the text of most locations, so that it isn't moved while it grows.
 const ROOM: usize = 96;
+
+/// Appends bytes in hex, after `0x`.
+fn push_hex(alloc: Global, text: &mut String, bytes: &[u8]) -> Result<(), AllocError>
+    ensures { OnOk result (string_bytes text.new ≡ string_bytes text.old ++ hex_text bytes.now) }
+{
+    let digits = hex::encode(alloc, bytes)?;
+    text.push_str("0x")?;
+    text.push_str(&digits)
+}
 
 /// Appends the hex of the junction's spelling.
 fn push_spelled(alloc: Global, text: &mut String, step: &Junction) -> Result<(), AllocError>
@@ -22,8 +30,7 @@ fn push_spelled(alloc: Global, text: &mut String, step: &Junction) -> Result<(),
 {
     let mut out = Out::new(alloc);
     write_junction(&mut out, step)?;
-    let digits = hex::encode(alloc, out.bytes())?;
-    write!(text, "0x{digits}")
+    push_hex(alloc, text, out.bytes())
 }
 
 /// Appends the text of an account that names no network.
@@ -31,8 +38,9 @@ fn push_account(alloc: Global, text: &mut String, id: &[u8]) -> Result<(), Alloc
     ensures { OnOk result (string_bytes text.new
         ≡ string_bytes text.old ++ (codes "AccountId32(" ++ hex_text id.now ++ codes ")")) }
 {
-    let digits = hex::encode(alloc, id)?;
-    write!(text, "AccountId32(0x{digits})")
+    text.push_str("AccountId32(")?;
+    push_hex(alloc, text, id)?;
+    text.push_str(")")
 }
 
 #[tactic(auto, unfolding(crate::specs::Texts::junction_text))]
@@ -66,7 +74,7 @@ fn push_numbered(text: &mut String, name: &str, number: u128) -> Result<(), Allo
         ≡ string_bytes text.old ++ (name.now ++ decimal number ++ codes ")")) }
 {
     text.push_str(name)?;
-    write!(text, "{number}")?;
+    text.push_str(itoa::Buffer::new().format(number))?;
     text.push_str(")")
 }
 
@@ -110,12 +118,7 @@ fn push_steps(alloc: Global, text: &mut String, items: &[Junction]) -> Result<()
 fn push_parents(text: &mut String, parents: u8) -> Result<(), AllocError>
     ensures { OnOk result (string_bytes text.new ≡ string_bytes text.old ++ decimal parents) }
 {
-    // For speed: most locations have none, or one.
-    match parents {
-        0 => text.push_str("0"),
-        1 => text.push_str("1"),
-        _ => write!(text, "{parents}"),
-    }
+    text.push_str(itoa::Buffer::new().format(parents))
 }
 
 /// Appends the text of a location.

@@ -168,7 +168,7 @@ fn push_fun(alloc: Global, text: &mut String, fun: &Fun) -> Result<(), AllocErro
     ensures { OnOk result (string_bytes text.new ≡ string_bytes text.old ++ fun_text fun.now) }
 {
     match fun {
-        Fun::Fungible(amount) => write!(text, "{amount}"),
+        Fun::Fungible(amount) => text.push_str(itoa::Buffer::new().format(*amount)),
         Fun::NonFungible(which) => {
             let digits = instance_text(alloc, which)?;
             write!(text, "instance {digits}")

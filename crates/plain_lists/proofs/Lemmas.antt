@@ -1,3 +1,4 @@
 -- Lemmas: what proofs cite.
 pub mod Firsts
 pub mod Facts
+pub mod Pushed

@@ -8,7 +8,6 @@ ghost use Rattle.report_text.specs.Sums.{sum_text};
 use asset_bundles::Total;
 use asset_lists::Kind;
 use std::alloc::AllocError;
-use std::fmt::Write;
 
 /// The name of a kind.
 pub(crate) fn kind_name(kind: Kind) -> &'static str
@@ -26,8 +25,7 @@ fn push_total(text: &mut String, total: Total) -> Result<(), AllocError>
 {
     let Total { high, low } = total;
     if high == 0 {
-        write!(text, "{low}")?;
-        Ok(())
+        text.push_str(itoa::Buffer::new().format(low))
     } else {
         text.push_str("over")
     }

@@ -3,6 +3,7 @@
 use Rattle.std.specs.Prelude.{ℕ, List, ◌++◌, codes, decimal, flat_map}
 use Rattle.location_wire.specs.Texts.{path_text}
 use Rattle.chain_ids.specs.Texts.{chain_text}
+use Rattle.operands.specs.declared.weight.Weight.{Weight}
 use Rattle.operands.specs.Texts.{weight_text, error_text}
 use Rattle.xcm_program.specs.Texts.{outcome_error_text}
 use Rattle.xcm_program.specs.declared.outcome.Outcome.{Outcome}
@@ -25,6 +26,11 @@ heading number step = codes "#" ++ decimal number ++ codes " " ++ step_words ste
 
 -- ---- events
 
+-- the weights at the end of a run, and the end of their line
+abbrev pub weights_text : Weight → Weight → List ℕ
+weights_text surplus refunded =
+    codes " surplus " ++ (weight_text surplus ++ (codes " refunded " ++ (weight_text refunded ++ codes "\n")))
+
 -- what happened in a step
 unfoldable pub event_line : Event → List ℕ
 event_line (events.Message from to number) =
@@ -39,8 +45,7 @@ event_line (events.Answered query) = codes "  answered " ++ decimal query ++ cod
 event_line (events.Called index ok) = codes "  call " ++ call_name index ++ codes " " ++ call_result ok ++ codes "\n"
 event_line (events.Ignored query) = codes "  ignored " ++ decimal query ++ codes "\n"
 event_line (events.End origin topic surplus refunded) =
-    codes "  end origin " ++ (origin_text origin ++ (codes " topic " ++ (topic_text topic
-    ++ (codes " surplus " ++ (weight_text surplus ++ (codes " refunded " ++ (weight_text refunded ++ codes "\n")))))))
+    codes "  end origin " ++ (origin_text origin ++ (codes " topic " ++ (topic_text topic ++ weights_text surplus refunded)))
 event_line (events.Trapped number) = codes "  trapped " ++ decimal number ++ codes "\n"
 
 -- ---- answers

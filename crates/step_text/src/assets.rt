@@ -4,33 +4,42 @@ ghost use Rattle.std.specs.Prelude.{◌≡◌, ◌++◌, IfOk, OnOk, flat_map, s
 ghost use Rattle.step_text.specs.Texts.{origin_text, topic_text, next_text, assets_text};
 
 use asset_lists::Asset;
-use location_wire::location_text;
+use location_wire::push_location_text;
 use locations::Location;
-use message_text::{asset_text, hex_text};
+use message_text::{asset_text, hex_text, push_asset_text};
 use plain_lists::Boxed;
 use std::alloc::{AllocError, Global};
-use std::fmt::Write;
 
-/// The origin register.
-pub(crate) fn origin_text(
+/// Appends the origin register.
+pub(crate) fn push_origin(
     alloc: Global,
+    text: &mut String,
     origin: &Option<Boxed<Location>>,
-) -> Result<String, AllocError>
-    ensures { IfOk result (λ text. string_bytes text ≡ origin_text origin.now) }
+) -> Result<(), AllocError>
+    ensures { OnOk result (string_bytes text.new
+        ≡ string_bytes text.old ++ origin_text origin.now) }
 {
     match origin {
-        None => format!(in alloc; "-"),
-        Some(l) => location_text(alloc, l.value()),
+        None => text.push_str("-"),
+        Some(l) => push_location_text(alloc, text, l.value()),
     }
 }
 
-/// The topic register.
-pub(crate) fn topic_text(alloc: Global, topic: &Option<[u8; 32]>) -> Result<String, AllocError>
-    ensures { IfOk result (λ text. string_bytes text ≡ topic_text topic.now) }
+/// Appends the topic register.
+pub(crate) fn push_topic(
+    alloc: Global,
+    text: &mut String,
+    topic: &Option<[u8; 32]>,
+) -> Result<(), AllocError>
+    ensures { OnOk result (string_bytes text.new
+        ≡ string_bytes text.old ++ topic_text topic.now) }
 {
     match topic {
-        None => format!(in alloc; "-"),
-        Some(bytes) => hex_text(alloc, bytes.as_slice()),
+        None => text.push_str("-"),
+        Some(bytes) => {
+            let digits = hex_text(alloc, bytes.as_slice())?;
+            text.push_str(&digits)
+        }
     }
 }
 
@@ -38,8 +47,8 @@ pub(crate) fn topic_text(alloc: Global, topic: &Option<[u8; 32]>) -> Result<Stri
 fn push_next(alloc: Global, text: &mut String, asset: &Asset) -> Result<(), AllocError>
     ensures { OnOk result (string_bytes text.new ≡ string_bytes text.old ++ next_text asset.now) }
 {
-    let asset = asset_text(alloc, asset)?;
-    write!(text, ", {asset}")
+    text.push_str(", ")?;
+    push_asset_text(alloc, text, asset)
 }
 
 /// Appends assets after another.

@@ -2,10 +2,11 @@
 
 ghost use Rattle.std.specs.Prelude.{◌≡◌, ◌++◌, IfOk, OnOk, codes, decimal, flat_map, string_bytes};
 ghost use Rattle.chain_ids.specs.Texts.{chain_text};
+ghost use Rattle.operands.specs.Texts.{weight_text};
 ghost use Rattle.exec_base.specs.declared.event.Event.{Event};
-ghost use Rattle.step_text.specs.Steps.{event_line, outcome_line, answer_line, step_text, drained_line};
+ghost use Rattle.step_text.specs.Steps.{weights_text, event_line, outcome_line, answer_line, step_text, drained_line};
 
-use crate::assets::{origin_text, topic_text};
+use crate::assets::{push_origin, push_topic};
 use crate::words::{Shown, call_name, call_result, cause_name, kind_name, part_head};
 use asset_bundles::{Cause, Total};
 use asset_lists::Kind;
@@ -120,7 +121,7 @@ fn push_chain(text: &mut String, chain: ChainId) -> Result<(), AllocError>
 {
     match chain {
         ChainId::Relay => text.push_str("relay"),
-        ChainId::Para(number) => write!(text, "{number}"),
+        ChainId::Para(number) => text.push_str(itoa::Buffer::new().format(number)),
     }
 }
 
@@ -150,14 +151,7 @@ fn push_ran(
 fn push_index(text: &mut String, index: u32) -> Result<(), AllocError>
     ensures { OnOk result (string_bytes text.new ≡ string_bytes text.old ++ decimal index) }
 {
-    // For speed: most programs are short.
-    match index {
-        0 => text.push_str("0"),
-        1 => text.push_str("1"),
-        2 => text.push_str("2"),
-        3 => text.push_str("3"),
-        _ => write!(text, "{index}"),
-    }
+    text.push_str(itoa::Buffer::new().format(index))
 }
 
 /// Appends the line of assets that were burned.
@@ -194,19 +188,49 @@ fn push_end(
         ≡ string_bytes text.old ++ event_line
         (Event.End origin.now topic.now surplus refunded)) }
 {
-    let origin = origin_text(alloc, origin)?;
-    let topic = topic_text(alloc, topic)?;
-    write!(
-        text,
-        "  end origin {origin} topic {topic} surplus {surplus} refunded {refunded}\n"
-    )
+    text.push_str("  end origin ")?;
+    push_origin(alloc, text, origin)?;
+    text.push_str(" topic ")?;
+    push_topic(alloc, text, topic)?;
+    push_weights(text, surplus, refunded)
+}
+
+/// Appends the end of the line of the registers: the weights.
+fn push_weights(text: &mut String, surplus: Weight, refunded: Weight) -> Result<(), AllocError>
+    ensures { OnOk result (string_bytes text.new
+        ≡ string_bytes text.old ++ weights_text surplus refunded) }
+{
+    text.push_str(" surplus ")?;
+    push_weight(text, surplus)?;
+    text.push_str(" refunded ")?;
+    push_weight(text, refunded)?;
+    text.push_str("\n")
+}
+
+/// Appends a weight.
+fn push_weight(text: &mut String, weight: Weight) -> Result<(), AllocError>
+    ensures { OnOk result (string_bytes text.new ≡ string_bytes text.old ++ weight_text weight) }
+{
+    push_number(text, weight.ref_time)?;
+    text.push_str(" ")?;
+    push_number(text, weight.proof_size)
 }
 
 /// Appends a number.
 fn push_number(text: &mut String, number: u64) -> Result<(), AllocError>
     ensures { OnOk result (string_bytes text.new ≡ string_bytes text.old ++ decimal number) }
 {
-    write!(text, "{number}")
+    text.push_str(itoa::Buffer::new().format(number))
+}
+
+/// Appends the line of an execution that came to its end.
+fn push_complete(text: &mut String, used: Weight) -> Result<(), AllocError>
+    ensures { OnOk result (string_bytes text.new
+        ≡ string_bytes text.old ++ outcome_line (Outcome.Complete used)) }
+{
+    text.push_str("  = complete ")?;
+    push_weight(text, used)?;
+    text.push_str("\n")
 }
 
 /// Appends the line of how an execution ended.
@@ -214,7 +238,7 @@ fn push_outcome(text: &mut String, outcome: Outcome) -> Result<(), AllocError>
     ensures { OnOk result (string_bytes text.new ≡ string_bytes text.old ++ outcome_line outcome) }
 {
     match outcome {
-        Outcome::Complete { used } => write!(text, "  = complete {used}\n"),
+        Outcome::Complete { used } => push_complete(text, used),
         Outcome::Incomplete { used, error } => write!(text, "  = incomplete {used} {error}\n"),
         Outcome::Error { error } => write!(text, "  = error {error}\n"),
     }
