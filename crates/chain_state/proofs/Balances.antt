@@ -29,7 +29,7 @@ use Rattle.trust_tables.specs.Trust.{is_row_of, listing}
 use Rattle.trust_tables.proofs.Lemmas.TrustLaws.{listing_says}
 use Rattle.ledgers.specs.declared.faults.DepositFault.{DepositFault}
 use Rattle.ledgers.specs.Ledgers.{Holder, Held, holder_cmp, held_by, owners_of, is_barred_fun, is_barred, barred}
-use Rattle.ledgers.specs.LedgerFaults.{IsBarred, IsDepositFault}
+use Rattle.ledgers.specs.LedgerFaults.{IsBarred, IsFirstBarred, IsDepositFault}
 use Rattle.ledgers.proofs.Lemmas.{holder_keys, held_by_total}
 use Rattle.network_spec.specs.declared.chain.Balance.{Balance}
 use Rattle.network_spec.specs.Networks.{same_fun, same_holding}
@@ -167,7 +167,7 @@ balances_placeable rows (b ∷ bs) all =
 pub small_amount : (a : Asset) (n : ℕ) → n ≡ amount_of a → n < 2 ^ 128 → amount_of a ≤ 2 ^ 128 - 1
 small_amount a n is small = grind (arith, is, small)
 
-alone_held : (a : Asset) → 0 < amount_of a → held_assets (bundle_of (a ∷ [])) ≡ a ∷ []
+pub alone_held : (a : Asset) → 0 < amount_of a → held_assets (bundle_of (a ∷ [])) ≡ a ∷ []
 unfolding IsStrictlySortedBy
 alone_held a some = held_assets-holding (a ∷ []) (record { rising = (tt, tt); positive = (some, tt) })
 
@@ -198,3 +198,13 @@ pub only_memory : (held : Held) (who : List ℕ) (list : List Asset) (fault : De
 only_memory held who list (DepositFault.Overflow have) free other is = none_of (barred held who list) (λ a. IsBarred held who a (DepositFault.Overflow have)) free is
 only_memory held who list (DepositFault.InstanceExists owner) free other is = none_of (barred held who list) (λ a. IsBarred held who a (DepositFault.InstanceExists owner)) free is
 only_memory held who list DepositFault.Memory free other is = other refl
+
+never : {A : Type 0} (o : Option A) → IsSomeAnd o (λ _. ⊥) → ⊥
+never None h = h
+never (Some x) h = h
+
+-- what bars an account is why it isn't put there
+pub barred_so : (held : Held) (who : List ℕ) (list : List Asset) (fault : DepositFault) → IsFirstBarred held who list fault → IsDepositFault held who list fault
+barred_so held who list (DepositFault.Overflow have) h = h
+barred_so held who list (DepositFault.InstanceExists owner) h = h
+barred_so held who list DepositFault.Memory h = absurd (never (barred held who list) h)

@@ -106,7 +106,7 @@ module _ (p : ChainPart) (row : ℕ) (from to : List ℕ) (n : ℕ) where
     floors_moved e (Err NoRow) step = stays step.1
     floors_moved e (Err (NotEnough have)) step = stays step.1
     floors_moved e (Err (Overflow have)) step = stays step.1
-    floors_moved e (Err Memory) step = stays step
+    floors_moved e (Err Memory) step = stays step.1
 
 -- ---- what an account may give of a row
 pub no_shortage : (p : ChainPart) (row : ℕ) (who : List ℕ) (n : ℕ) → is_fungible_row (slice_get p.rows row) ≡ false → None ≡ shortage_above_floor p row who n

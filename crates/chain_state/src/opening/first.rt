@@ -116,12 +116,16 @@ impl ChainState {
             (held_assets (bundle_of (asset ∷ []))) ≡ None) }
         ensures kept { OnErr result (part_of self.new ≡ part_of self.old) }
     {
-        let goods = AssetBundle::mint(*self.events.allocator(), &[asset])?;
-        match self.ledger.deposit(who, goods) {
+        let list = [asset];
+        if let Some(fault) = self.ledger.barred(who, &list) {
+            return Err(fault);
+        }
+        let goods = AssetBundle::mint(*self.events.allocator(), &list)?;
+        match self.ledger.deposit_checked(who, goods) {
             Ok(()) => Ok(()),
-            Err((goods, fault)) => {
+            Err(goods) => {
                 goods.melt();
-                Err(fault)
+                Err(DepositFault::Memory)
             }
         }
     }
