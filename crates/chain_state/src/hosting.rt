@@ -138,6 +138,10 @@ impl Host for ChainState {
         self.park(goods);
     }
 
+    fn has_fee(&self, dest: &Location) -> bool {
+        self.has_fee(dest)
+    }
+
     fn fee_of(&self, dest: &Location) -> Option<Asset> {
         self.fee_of(dest)
     }

@@ -197,6 +197,10 @@ pub trait Host {
         requires few { length (part self.old).parked < 4 }
         ensures step { part self.new ≡ parked (part self.old) goods };
 
+    /// Whether a channel leads there and has a fee.
+    fn has_fee(&self, dest: &Location) -> bool
+        ensures { result ≡ is_some (fee_to (part self.now) dest.now) };
+
     /// The fee of the channel that leads there, if there is one and it has one: an amount above 0 of a fungible asset.
     fn fee_of(&self, dest: &Location) -> Option<Asset>
         ensures fee { result ≡ fee_to (part self.now) dest.now }

@@ -86,6 +86,25 @@ pub fn begin_sending<H: Host>(
         (machine r.old (H.part h.old)) answer (machine r.new (H.part h.new))) }
     ensures err { OnErr result (machine r.new (H.part h.new) ≡ machine r.old (H.part h.old)) }
 {
+    if !h.has_fee(dest) {
+        return Ok(Ok(false));
+    }
+    charge_for(alloc, r, h, dest)
+}
+
+/// The same, where there may be a fee: apart, since it makes large values.
+#[inline(never)]
+fn charge_for<H: Host>(
+    alloc: Global,
+    r: &mut Registers,
+    h: &mut H,
+    dest: &Location,
+) -> Result<Result<bool, XcmError>, AllocError>
+    requires slot { (H.part h.old).fee_slot ≡ empty }
+    ensures ok { IfOk result (λ answer. Begins (fee_to (H.part h.old) dest.now)
+        (machine r.old (H.part h.old)) answer (machine r.new (H.part h.new))) }
+    ensures err { OnErr result (machine r.new (H.part h.new) ≡ machine r.old (H.part h.old)) }
+{
     let Some(fee) = h.fee_of(dest) else {
         return Ok(Ok(false));
     };

@@ -138,6 +138,10 @@ impl Host for FakeHost {
         self.chain.park(goods);
     }
 
+    fn has_fee(&self, dest: &Location) -> bool {
+        self.chain.has_fee(dest)
+    }
+
     fn fee_of(&self, dest: &Location) -> Option<Asset> {
         self.chain.fee_of(dest)
     }

@@ -41,6 +41,16 @@ impl ChainState {
         self.queue_to(dest).is_some()
     }
 
+    /// Whether a channel leads there and has a fee.
+    pub(crate) fn has_fee(&self, dest: &Location) -> bool
+        ensures { result ≡ is_some (fee_to (part_of self.now) dest.now) }
+    {
+        match self.queue_to(dest) {
+            Some(queue) => queue.channel.fee.is_some(),
+            None => false,
+        }
+    }
+
     /// The fee of the channel that leads there, if there is one and it has one: an amount above 0 of a fungible asset.
     pub(crate) fn fee_of(&self, dest: &Location) -> Option<Asset>
         ensures fee { result ≡ fee_to (part_of self.now) dest.now }
