@@ -62,10 +62,12 @@ pub fn transfer_reserve_asset<H: Host>(
     let Some(who) = &r.origin else {
         return Ok(Err(XcmError::BadOrigin));
     };
-    let who = who.copy();
+    // Made where it stays: a location is 800 bytes.
+    let mut owner = Location::here();
+    owner.assign(who);
     match begin_sending(alloc, r, h, dest)? {
         Ok(charged) => {
-            let answer = transfer_out(r, h, assets, &who, dest, xcm)?;
+            let answer = transfer_out(r, h, assets, &owner, dest, xcm)?;
             end_sending(r, h, charged, answer)
         }
         Err(e) => Ok(Err(e)),

@@ -19,7 +19,7 @@ end_sending-requires g c =
     let n = machine c.begin_sending.new.r (g.H.Host.part c.begin_sending.new.h) in
     let begun : Begins (fee_to m.part c.args.dest.now) m (Ok c.in-Ok.charged) n = rw c.in-Ok.is at c.in_ok-charged.ensures.ok in
     let k = machine c.transfer_out.new.r (g.H.Host.part c.transfer_out.new.h) in
-    record { can = may_end _ _ _ _ _ _ (transfer_inside m c.args.assets.now c.args.dest.now c.args.xcm.now c.copy-who.result (c.in-Some.is ∙ ap Some (sym c.copy-who.ensures.same))) n k c.in-Ok.charged c.in_ok-answer-in-Ok.answer c.requires.ready.steady begun c.in_ok-answer-in-Ok.ensures.ok }
+    record { can = may_end _ _ _ _ _ _ (transfer_inside m c.args.assets.now c.args.dest.now c.args.xcm.now c.assign.new.self (c.in-Some.is ∙ ap Some (sym c.assign.ensures))) n k c.in-Ok.charged c.in_ok-answer-in-Ok.answer c.requires.ready.steady begun c.in_ok-answer-in-Ok.ensures.ok }
 
 pub returns-in_ok-answer-in-Ok-clause-ok : goal.returns-in_ok-answer-in-Ok-clause-ok
 returns-in_ok-answer-in-Ok-clause-ok g c =
@@ -27,11 +27,11 @@ returns-in_ok-answer-in-Ok-clause-ok g c =
     let n = machine c.begin_sending.new.r (g.H.Host.part c.begin_sending.new.h) in
     let begun : Begins (fee_to m.part c.args.dest.now) m (Ok c.in-Ok.charged) n = rw c.in-Ok.is at c.in_ok-charged.ensures.ok in
     let k = machine c.transfer_out.new.r (g.H.Host.part c.transfer_out.new.h) in
-    end_ran _ _ _ _ _ _ (transfer_inside m c.args.assets.now c.args.dest.now c.args.xcm.now c.copy-who.result (c.in-Some.is ∙ ap Some (sym c.copy-who.ensures.same))) n k (machine c.end_sending.new.r (g.H.Host.part c.end_sending.new.h)) c.in-Ok.charged c.in_ok-answer-in-Ok.answer c.end_sending.result c.requires.ready.steady begun c.in_ok-answer-in-Ok.ensures.ok c.end_sending.ensures
+    end_ran _ _ _ _ _ _ (transfer_inside m c.args.assets.now c.args.dest.now c.args.xcm.now c.assign.new.self (c.in-Some.is ∙ ap Some (sym c.assign.ensures))) n k (machine c.end_sending.new.r (g.H.Host.part c.end_sending.new.h)) c.in-Ok.charged c.in_ok-answer-in-Ok.answer c.end_sending.result c.requires.ready.steady begun c.in_ok-answer-in-Ok.ensures.ok c.end_sending.ensures
 
 pub returns-in-Err-clause-ok : goal.returns-in-Err-clause-ok
 returns-in-Err-clause-ok g c =
     let m = machine c.args.r.now (g.H.Host.part c.args.h.now) in
     let n = machine c.begin_sending.new.r (g.H.Host.part c.begin_sending.new.h) in
     let begun : Begins (fee_to m.part c.args.dest.now) m (Err c.in-Err.e) n = rw c.in-Err.is at c.in_ok-charged.ensures.ok in
-    begin_refused _ _ _ _ _ _ (transfer_inside m c.args.assets.now c.args.dest.now c.args.xcm.now c.copy-who.result (c.in-Some.is ∙ ap Some (sym c.copy-who.ensures.same))) n c.in-Err.e begun
+    begin_refused _ _ _ _ _ _ (transfer_inside m c.args.assets.now c.args.dest.now c.args.xcm.now c.assign.new.self (c.in-Some.is ∙ ap Some (sym c.assign.ensures))) n c.in-Err.e begun
