@@ -57,9 +57,18 @@ impl AssetBundle {
         requires no_zero { IsFalse (has_zero items.now) }
         ensures { IfOk result (λ goods. goods ≡ bundle_of items.now) }
     {
-        let mut made = copied(alloc, items)?;
-        made.sort_unstable();
-        Ok(AssetBundle { items: made })
+        let made = copied(alloc, items)?;
+        Ok(AssetBundle::of_list(made))
+    }
+
+    /// Makes units: the bundle of just the assets of this list, in any order. It takes no memory.
+    pub fn of_list(mut items: Vec<Asset>) -> AssetBundle
+        requires once { (unit : Unit) → occurrences unit items.items ≤ 1 }
+        requires no_zero { IsFalse (has_zero items.items) }
+        ensures { result ≡ bundle_of items.items }
+    {
+        items.sort_unstable();
+        AssetBundle { items }
     }
 
     /// Gives up one asset, which is held in full.

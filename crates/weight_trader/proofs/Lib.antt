@@ -8,4 +8,5 @@ pub mod Lines
 pub mod Charging
 pub mod Listed
 pub mod Trading
+pub mod Lone
 pub mod Booking

@@ -1,14 +1,15 @@
 //! Weight that is bought with what a chain's rates name, and given back.
-ghost use Rattle.std.specs.Prelude.{◌≡◌, None, IsTrue, IsFalse, IfOk, IfErr, OnOk, OnErr};
-ghost use Rattle.std.specs.List.{position};
+ghost use Rattle.std.specs.Prelude.{◌≡◌, ◌≢◌, [], ◌∷◌, length, None, IsTrue, IsFalse, IfOk, IfErr, OnOk, OnErr, IfSome, MatchOption};
+ghost use Rattle.std.specs.List.{list_any, position};
 ghost use Rattle.amounts.specs.Amounts.{amount, single};
 ghost use Rattle.asset_lists.specs.declared.units.AssetId.TheVariants.{Concrete};
+ghost use Rattle.asset_lists.specs.declared.units.Fun.TheVariants.{Fungible};
 ghost use Rattle.asset_lists.specs.declared.units.Kind.{Kind};
 ghost use Rattle.asset_lists.specs.Listed.{lists};
 ghost use Rattle.asset_bundles.specs.Bundles.{bundle_of};
 ghost use Rattle.weight_trader.specs.Purchases.{new_lines, coin_of, NameEachOnce, AreApart, AreRatesListed, paid_goods, is_covered, excess_of, AreWithinEnd, IsTooExpensive, with_saturated, IsPurchase};
 ghost use Rattle.weight_trader.specs.Refunds.{refund_at, is_refunded, refund_of, goods_of, Refunded, Closed};
-ghost use Rattle.weight_trader.specs.Closing.{paid_assets};
+ghost use Rattle.weight_trader.specs.Closing.{coins, is_paid, paid_assets};
 
 use crate::Rate;
 use crate::purchases::Purchases;
@@ -72,14 +73,42 @@ fn paid_assets(alloc: Global, lines: &[Purchases]) -> Result<Vec<Asset>, AllocEr
     Ok(assets)
 }
 
+/// Whether something is paid at one of these lines.
+fn is_any_paid(lines: &[Purchases]) -> bool
+    ensures { result ≡ list_any is_paid lines.now }
+{
+    lines.iter().any(|line| line.is_paid())
+}
+
+/// Where the first line is at which something is paid.
+fn first_paid(lines: &[Purchases]) -> Option<usize>
+    ensures { result ≡ position is_paid lines.now }
+{
+    lines.iter().position(|line| line.is_paid())
+}
+
+/// The line at which something is paid, where there is just one.
+fn lone_paid(lines: &[Purchases]) -> Option<&Purchases>
+    ensures { MatchOption result
+        (length (paid_assets lines.now) ≢ 1)
+        (λ line. paid_assets lines.now ≡ coins line.now.rate line.now.paid ∷ []) }
+{
+    let Some(first) = first_paid(lines) else {
+        return None;
+    };
+    if is_any_paid(&lines[first + 1..]) {
+        return None;
+    }
+    Some(&lines[first])
+}
+
 /// Makes what is paid at all these lines.
 fn minted(alloc: Global, lines: &[Purchases]) -> Result<AssetBundle, AllocError>
     requires { AreApart lines.now }
     ensures { IfOk result (λ goods. goods ≡ paid_goods lines.now) }
 {
     let assets = paid_assets(alloc, lines)?;
-    let goods = AssetBundle::mint(alloc, assets.as_slice())?;
-    Ok(goods)
+    Ok(AssetBundle::of_list(assets))
 }
 
 /// Makes what a line gives back for the weight.
@@ -222,6 +251,13 @@ impl Trader {
         Ok(goods)
     }
 
+    /// Forgets what was bought and all that is still paid. It takes no memory.
+    pub fn forget(&mut self)
+        ensures { self.new ≡ Closed self.old }
+    {
+        clear_all(self.lines.as_mut_slice());
+    }
+
     /// What is still paid, an asset for each rate at which something is, in listed order. An `Err` is out of memory.
     pub fn payments(&self) -> Result<Vec<Asset>, AllocError>
         ensures assets { IfOk result (λ assets. assets.items ≡ paid_assets self.now) }
@@ -229,6 +265,30 @@ impl Trader {
     {
         let assets = paid_assets(*self.lines.allocator(), self.lines.as_slice())?;
         Ok(assets)
+    }
+
+    /// Whether something is still paid.
+    pub fn is_paid(&self) -> bool
+        ensures value { result ≡ list_any is_paid self.now }
+        ensures none { IsFalse result → bundle_of [] ≡ paid_goods self.now }
+    {
+        is_any_paid(self.lines.as_slice())
+    }
+
+    /// The asset in which something is still paid, and how much, where there is just one.
+    pub fn lone_payment(&self) -> Option<(&AssetId, u128)>
+        ensures asset { MatchOption result
+            (length (paid_assets self.now) ≢ 1)
+            (λ one. paid_assets self.now
+            ≡ record { id = one.0.now; fun = Fungible one.1 } ∷ []) }
+        ensures goods { IfSome result
+            (λ one. bundle_of (record { id = one.0.now; fun = Fungible one.1 } ∷ [])
+            ≡ paid_goods self.now) }
+    {
+        let Some(line) = lone_paid(self.lines.as_slice()) else {
+            return None;
+        };
+        Some((line.id(), line.paid()))
     }
 
     /// What is still paid in this asset, in its smallest unit; 0 where no rate names it.

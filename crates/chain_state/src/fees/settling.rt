@@ -12,26 +12,21 @@ use crate::fees::fee_excess::book_all;
 use asset_bundles::{AssetBundle, law_of_bundles};
 use asset_lists::Asset;
 use ledgers::Ledger;
-use std::alloc::{AllocError, Global};
+use std::alloc::AllocError;
 use std::mem::swap;
 
 /// Makes assets in an account, which can take them in.
-fn deposit_into(
-    ledger: &mut Ledger,
-    alloc: Global,
-    who: &[u8; 32],
-    coins: &[Asset],
-) -> Result<(), AllocError>
-    requires holding { IsHolding coins.now }
-    requires listed { AreListed ledger.old.listed (bundle_of coins.now) }
-    requires free { barred ledger.old.held who.now coins.now ≡ None }
+fn deposit_into(ledger: &mut Ledger, who: &[u8; 32], coins: Vec<Asset>) -> Result<(), AllocError>
+    requires holding { IsHolding coins.items }
+    requires listed { AreListed ledger.old.listed (bundle_of coins.items) }
+    requires free { barred ledger.old.held who.now coins.items ≡ None }
     ensures deposited { OnOk result (ledger.new
-        ≡ Deposited who.now (bundle_of coins.now) ledger.old) }
+        ≡ Deposited who.now (bundle_of coins.items) ledger.old) }
     ensures kept { OnErr result (ledger.new ≡ ledger.old) }
 {
     // For the prover alone: the coins are the goods of their bundle.
     law_of_bundles();
-    let goods = AssetBundle::mint(alloc, coins)?;
+    let goods = AssetBundle::of_list(coins);
     match ledger.deposit_checked(who, goods) {
         Ok(()) => Ok(()),
         Err(goods) => {
@@ -51,14 +46,8 @@ impl ChainState {
         let (coins, above) = self.shares()?;
         let mut lines = self.above_lines(above.as_slice())?;
         self.events.reserve(lines.len())?;
-        self.spare.close()?.melt();
-        let alloc = *self.events.allocator();
-        deposit_into(
-            &mut self.ledger,
-            alloc,
-            &self.settings.fee_account,
-            coins.as_slice(),
-        )?;
+        self.spare.forget();
+        deposit_into(&mut self.ledger, &self.settings.fee_account, coins)?;
         swap(&mut self.trader, &mut self.spare);
         self.fees.clear();
         book_all(&mut self.book, above.as_slice());

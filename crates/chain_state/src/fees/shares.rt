@@ -139,17 +139,12 @@ impl ChainState {
             ≡ rows (fees_above (part_of self.now))) }
     {
         if self.fees.is_clear() {
-            let alloc = *self.events.allocator();
-            let payments = self.trader.payments()?;
-            match payments.as_slice() {
-                [] => return Ok((Vec::new(alloc), Vec::new(alloc))),
-                [
-                    Asset {
-                        id,
-                        fun: Fun::Fungible(paid),
-                    },
-                ] => return self.lone_share(id, *paid),
-                _ => {}
+            if !self.trader.is_paid() {
+                let alloc = *self.events.allocator();
+                return Ok((Vec::new(alloc), Vec::new(alloc)));
+            }
+            if let Some((id, paid)) = self.trader.lone_payment() {
+                return self.lone_share(id, paid);
             }
         }
         self.row_shares()
