@@ -54,20 +54,6 @@ impl AssetRole {
     }
 }
 
-impl AssetRow {
-    /// The same row.
-    pub fn copy(&self, alloc: Global) -> Result<AssetRow, AllocError>
-        ensures { IfOk result (λ row. row ≡ self.now) }
-    {
-        let role = self.role.copy(alloc)?;
-        Ok(AssetRow {
-            id: self.id.copy(),
-            kind: self.kind,
-            role,
-        })
-    }
-}
-
 /// A list of the same chains.
 fn copied(alloc: Global, chains: &[ChainId]) -> Result<Listed<ChainId>, AllocError>
     ensures { IfOk result (λ list. list ≡ chains.now) }
