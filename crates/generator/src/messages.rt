@@ -5,6 +5,9 @@ ghost use Rattle.generator.specs.Messages.{fungible_bytes, purchase_bytes, depos
 use scale_codec::Out;
 use std::alloc::{AllocError, Global};
 
+/// So many bytes as no message here passes.
+const MESSAGE_ROOM: usize = 80;
+
 /// Appends a fungible asset with the id of so many parents and no junctions.
 fn put_fungible(out: &mut Out, parents: u8, amount: u32) -> Result<(), AllocError>
     ensures { OnOk result (out.new ≡ out.old ++ fungible_bytes parents amount) }
@@ -43,7 +46,7 @@ fn put_paid_deposit(out: &mut Out, parents: u8, who: u8) -> Result<(), AllocErro
 pub(crate) fn send_message(alloc: Global, value: u32, para: u32) -> Result<Vec<u8>, AllocError>
     ensures { IfOk result (λ bytes. bytes.items ≡ send_message value para) }
 {
-    let mut out = Out::new(alloc);
+    let mut out = Out::with_capacity(alloc, MESSAGE_ROOM)?;
     out.put_bytes(&[4, 4, 5, 4])?;
     put_fungible(&mut out, 0, value)?;
     out.put_bytes(&[0, 1, 0])?;
@@ -56,7 +59,7 @@ pub(crate) fn send_message(alloc: Global, value: u32, para: u32) -> Result<Vec<u
 pub(crate) fn return_message(alloc: Global, value: u32) -> Result<Vec<u8>, AllocError>
     ensures { IfOk result (λ bytes. bytes.items ≡ return_message value) }
 {
-    let mut out = Out::new(alloc);
+    let mut out = Out::with_capacity(alloc, MESSAGE_ROOM)?;
     out.put_bytes(&[4, 8, 0, 4])?;
     put_fungible(&mut out, 1, value)?;
     out.put_bytes(&[16, 1, 0, 1, 0])?;
