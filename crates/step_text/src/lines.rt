@@ -3,7 +3,7 @@
 ghost use Rattle.std.specs.Prelude.{◌≡◌, ◌++◌, IfOk, codes, string_bytes};
 ghost use Rattle.chain_ids.specs.Texts.{chain_text};
 ghost use Rattle.location_wire.specs.Texts.{hex_text};
-ghost use Rattle.step_text.specs.Lines.{balance_line, checking_line, locked_line, trap_line, queue_line, supply_line, backing_line};
+ghost use Rattle.step_text.specs.Lines.{checking_line, locked_line, trap_line, queue_line, supply_line, backing_line};
 
 use crate::assets::assets_text;
 use crate::words::{Shown, kind_name};
@@ -13,7 +13,7 @@ use asset_locks::Lock;
 use chain_ids::ChainId;
 use location_wire::{location_text, path_text};
 use locations::{Junctions, Location};
-use message_text::{hex_text, push_asset_text};
+use message_text::hex_text;
 use std::alloc::{AllocError, Global};
 use std::fmt::Write;
 
@@ -33,21 +33,6 @@ pub(crate) fn balance_head(
     let account = hex_text(alloc, account.as_slice())?;
     let mut text = String::with_capacity(alloc, ROOM)?;
     write!(text, "  balance {chain} {account} ")?;
-    Ok(text)
-}
-
-/// The line of what an account holds of an asset.
-pub fn balance_line(
-    alloc: Global,
-    chain: ChainId,
-    account: &[u8; 32],
-    asset: &Asset,
-) -> Result<String, AllocError>
-    ensures { IfOk result (λ text. string_bytes text ≡ balance_line chain account.now asset.now) }
-{
-    let mut text = balance_head(alloc, chain, account)?;
-    push_asset_text(alloc, &mut text, asset)?;
-    text.push_str("\n")?;
     Ok(text)
 }
 

@@ -10,7 +10,7 @@ use locations::{Junction, Junctions, NetworkId};
 use network_coherence::{Incoherent, IncoherentCause};
 use std::test::Fail;
 use step_text::{
-    Backing, Supply, backing_line, balance_line, checking_line, line_refused_line, locked_line,
+    Backing, Supply, backing_line, checking_line, line_refused_line, locked_line,
     network_refused_line, opening_line, queue_line, supply_line, trap_line,
 };
 
@@ -96,21 +96,8 @@ fn openings_and_ends_have_their_lines(rt: HostRuntime) -> Result<(), Fail> {
 }
 
 #[test]
-fn balances_have_their_lines(rt: HostRuntime) -> Result<(), Fail> {
+fn checking_accounts_have_their_lines(rt: HostRuntime) -> Result<(), Fail> {
     let alloc = rt.alloc();
-    let text = balance_line(alloc, RELAY, &FIRST, &asset(0, Fun::Fungible(999_000)))?;
-    let want =
-        "  balance relay 0x0101010101010101010101010101010101010101010101010101010101010101 0 999000\n";
-    assert_eq!(rt; text.as_str(), want);
-    let text = balance_line(
-        alloc,
-        PARA,
-        &SECOND,
-        &asset(1, Fun::NonFungible(Instance::Index(7))),
-    )?;
-    let want =
-        "  balance 2000 0x0202020202020202020202020202020202020202020202020202020202020202 1 instance 0x011c\n";
-    assert_eq!(rt; text.as_str(), want);
     let text = checking_line(alloc, RELAY, &place(0, &[]), 100)?;
     assert_eq!(rt; text.as_str(), "  checking relay 0 100\n");
     Ok(())
