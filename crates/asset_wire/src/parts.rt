@@ -129,15 +129,6 @@ fn blank_asset() -> Asset
     }
 }
 
-/// The asset as the version spells it.
-pub fn take_asset(c: &mut Cursor<'_>, v: Version) -> Result<Asset, NoSpelling>
-    ensures { Got result (asset_at v c.old) c.new }
-{
-    let mut asset = blank_asset();
-    fill_asset(c, &mut asset, v)?;
-    Ok(asset)
-}
-
 /// The asset as the version spells it, read where it will be.
 pub fn take_boxed_asset(
     alloc: Global,

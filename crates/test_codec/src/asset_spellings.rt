@@ -5,8 +5,8 @@ use crate::part_builders::unhex;
 use asset_lists::{Asset, AssetId, Filter, Fun, Instance, Wild, WildFun};
 use asset_wire::{
     Version, WireFault, law_of_no_prefix, law_of_one_spelling, law_of_readers, law_of_versions,
-    law_of_writable, put_asset, put_assets, put_filter, read_instance, take_asset, take_assets,
-    take_filter, write_instance,
+    law_of_writable, put_asset, put_assets, put_filter, read_instance, take_assets,
+    take_boxed_asset, take_filter, write_instance,
 };
 use locations::Junction;
 use scale_codec::{Cursor, Out};
@@ -226,16 +226,17 @@ fn instance_goes(out: &mut Out, cursor: &mut Cursor<'_>, want: &Instance) -> Res
 
 /// Whether the asset is read, and is written as it was spelled.
 fn asset_goes(
+    alloc: Global,
     out: &mut Out,
     cursor: &mut Cursor<'_>,
     v: Version,
     want: &Unit,
 ) -> Result<bool, Fail> {
-    let read = take_asset(cursor, v)?;
+    let read = take_boxed_asset(alloc, cursor, v)?;
     let mut draft = out.draft();
-    let written = put_asset(&mut draft, &read, v);
+    let written = put_asset(&mut draft, read.value(), v);
     out.settle(draft, written)?;
-    Ok(is_unit(&read, want))
+    Ok(is_unit(read.value(), want))
 }
 
 /// Whether the list is read, and is written as it was spelled.
@@ -277,7 +278,7 @@ fn goes(
 ) -> Result<bool, Fail> {
     match value {
         Value::Instance(want) => instance_goes(out, cursor, want),
-        Value::Asset(v, want) => asset_goes(out, cursor, *v, want),
+        Value::Asset(v, want) => asset_goes(alloc, out, cursor, *v, want),
         Value::List(v, want) => list_goes(alloc, out, cursor, *v, want),
         Value::Filter(v, want) => filter_goes(alloc, out, cursor, *v, want),
     }
@@ -338,7 +339,12 @@ const NOT_SPELLED: &[(Form, &str)] = &[
 fn refuses(alloc: Global, cursor: &mut Cursor<'_>, form: &Form) -> bool {
     match form {
         Form::Instance => read_instance(cursor).is_err(),
-        Form::Asset(v) => take_asset(cursor, *v).is_err(),
+        Form::Asset(v) => {
+            matches!(
+                take_boxed_asset(alloc, cursor, *v),
+                Err(WireFault::NoSpelling)
+            )
+        }
         Form::List(v) => matches!(take_assets(alloc, cursor, *v), Err(WireFault::NoSpelling)),
         Form::Filter => matches!(
             take_filter(alloc, cursor, Version::V4),
