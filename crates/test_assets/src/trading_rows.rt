@@ -233,6 +233,32 @@ fn traded(alloc: Global, parents: u8, amount: u128, ref_time: u64) -> Result<Tra
     })
 }
 
+/// The only payment of a trader: the parents of its asset's id, and the amount.
+fn lone_payment(trader: &Trader) -> Option<(u8, u128)> {
+    let (id, amount) = trader.lone_payment()?;
+    match id {
+        AssetId::Concrete(place) => Some((place.parents, amount)),
+        AssetId::Abstract(_) => None,
+    }
+}
+
+#[test]
+fn a_trader_forgets_its_only_payment(rt: HostRuntime) -> Result<(), Fail> {
+    let alloc = rt.alloc();
+    let mut shop = opened(alloc, rate(0, 8, 0), rate(1, 2, 0))?;
+    assert!(rt; !shop.trader.is_paid());
+    let id = AssetId::Concrete(place(1));
+    let fun = Fun::Fungible(7);
+    let payment = AssetBundle::mint(alloc, &[Asset { id, fun }])?;
+    let (too_expensive, rest) = buy(&mut shop, weight(SECOND, 0), payment);
+    let left = held(rest, 1);
+    assert!(rt; !too_expensive && left == 5);
+    assert!(rt; shop.trader.is_paid() && lone_payment(&shop.trader) == Some((1, 2)));
+    shop.trader.forget();
+    assert!(rt; !shop.trader.is_paid() && lone_payment(&shop.trader).is_none());
+    Ok(())
+}
+
 /// A second of computation.
 const SECOND: u64 = 1_000_000_000_000;
 

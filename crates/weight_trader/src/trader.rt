@@ -258,15 +258,6 @@ impl Trader {
         clear_all(self.lines.as_mut_slice());
     }
 
-    /// What is still paid, an asset for each rate at which something is, in listed order. An `Err` is out of memory.
-    pub fn payments(&self) -> Result<Vec<Asset>, AllocError>
-        ensures assets { IfOk result (λ assets. assets.items ≡ paid_assets self.now) }
-        ensures goods { IfOk result (λ assets. bundle_of assets.items ≡ paid_goods self.now) }
-    {
-        let assets = paid_assets(*self.lines.allocator(), self.lines.as_slice())?;
-        Ok(assets)
-    }
-
     /// Whether something is still paid.
     pub fn is_paid(&self) -> bool
         ensures value { result ≡ list_any is_paid self.now }

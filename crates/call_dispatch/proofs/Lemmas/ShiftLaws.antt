@@ -1,5 +1,5 @@
 -- Lemmas on the definitions of `specs/Laws/ShiftLaws.antt`: what proofs cite.
-use Rattle.std.proofs.Common.{◌≡◌, ◌≢◌, ◌⊎◌, inl, inr, ℕ, ◌+◌, ◌-◌, ◌^◌, ◌<◌, ◌≤◌, Bool, true, false, leb, ◌||◌, List, Some, None, refl, sym, ap, ◌∙◌, subst, arith}
+use Rattle.std.proofs.Common.{◌≡◌, ◌≢◌, ◌⊎◌, inl, inr, Err, ℕ, ◌+◌, ◌-◌, ◌^◌, ◌<◌, ◌≤◌, Bool, true, false, leb, ◌||◌, List, Some, None, refl, sym, ap, ◌∙◌, subst, arith}
 use Rattle.std.specs.Prelude.{if◌then◌else◌}
 use Rattle.std.specs.Ordering.{nat_cmp, eq_by_cmp}
 use Rattle.std.specs.Cmp.Lexicographic.{slice_cmp}
@@ -10,8 +10,9 @@ use Rattle.amounts.proofs.Lemmas.Keys.{number_keys, list_keys, pair_keys}
 use Rattle.amounts.specs.Amounts.{amount, total, minus, with_amount}
 use Rattle.amounts.proofs.Lemmas.AmountLaws.{same_amounts, amount-with_amount}
 use Rattle.amounts.proofs.Lemmas.{key_same, same_key, amount-plus, amount-minus, total-plus, total-minus}
-use Rattle.call_dispatch.specs.declared.faults.ShiftFault.TheVariants.{NoRow, NotEnough, Overflow}
-use Rattle.call_dispatch.specs.Shifts.{AccountRow, account_row_cmp, RowAmounts, Floors, is_listed_row, is_same_account, spare, shift_fault, shifted, IsNumberAt, AreKept}
+use Rattle.call_dispatch.specs.declared.faults.ShiftFault.{ShiftFault}
+use Rattle.call_dispatch.specs.declared.faults.ShiftFault.TheVariants.{NoRow, NotEnough, Overflow, Memory}
+use Rattle.call_dispatch.specs.Shifts.{AccountRow, account_row_cmp, RowAmounts, Floors, is_listed_row, is_same_account, spare, shift_fault, shifted, Shifts, IsNumberAt, AreKept}
 use Rattle.call_dispatch.specs.Laws.ShiftLaws.{HasShiftRoom}
 
 account_keys : IsKeyOrder (slice_cmp nat_cmp)
@@ -55,6 +56,20 @@ module _ (m : RowAmounts) (floors : Floors) (rows : List ℕ) (row : ℕ) (from 
   accepted e =
       let t = tests (is_listed_row rows row) (leb n (spare m floors (from, row))) (is_same_account from to) (leb (amount m (to, row) + n) (2 ^ 128 - 1)) e in
       record { there = t.0; enough = leb-true _ _ t.1; room = or_room t.2 }
+
+  never_memory : (a b c : Bool) → (if a then (if b then (if c then None else Some (Overflow (amount m (to, row)))) else Some (NotEnough (spare m floors (from, row)))) else Some NoRow) ≡ Some Memory → ⊥
+  never_memory true true true e = absurd cc
+  never_memory true true false e = absurd cc
+  never_memory true false c e = absurd cc
+  never_memory false b c e = absurd cc
+
+  -- where something refuses the move, nothing changes
+  pub refused : (fault : ShiftFault) → shift_fault m floors rows row from to n ≡ Some fault → (after : RowAmounts) → Shifts (shift_fault m floors rows row from to n) after m (Err fault) m
+  unfolding shift_fault
+  refused NoRow e after = (e, refl)
+  refused (NotEnough have) e after = (e, refl)
+  refused (Overflow have) e after = (e, refl)
+  refused Memory e after = absurd (never_memory (is_listed_row rows row) (leb n (spare m floors (from, row))) (is_same_account from to || leb (amount m (to, row) + n) (2 ^ 128 - 1)) e)
 
   last_passed : (a b : Bool) → (a ≡ true) ⊎ (b ≡ true) → (if a || b then None else Some (Overflow (amount m (to, row)))) ≡ None
   last_passed true b h = refl

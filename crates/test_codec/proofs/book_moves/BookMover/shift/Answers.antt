@@ -1,9 +1,12 @@
 use Rattle.std.proofs.Common.{sym, ◌∙◌}
-use Rattle.call_dispatch.proofs.Lemmas.ShiftLaws.{accepted, enough_held}
+use Rattle.call_dispatch.proofs.Lemmas.ShiftLaws.{accepted, enough_held, refused}
 use Rattle.test_codec.specs.Books.{amounts_in, one_floor}
 use Rattle.test_codec.specs.Laws.{floors_low}
 use Rattle.test_codec.proofs.Lemmas.{floor_kept_after}
 use Rattle.test_codec.proofs.book_moves.BookMover.shift.Goals as goal
+
+pub returns-in-Some-clause-step : goal.returns-in-Some-clause-step
+returns-in-Some-clause-step c = refused _ _ _ _ _ _ _ c.in-Some.fault (sym c.fault.ensures ∙ c.in-Some.is) _
 
 pub move_amount-requires-clause-enough : goal.move_amount-requires-clause-enough
 move_amount-requires-clause-enough c = enough_held _ _ _ _ _ _ _ (accepted _ _ _ _ _ _ _ (sym c.fault.ensures ∙ c.in_default.is))
