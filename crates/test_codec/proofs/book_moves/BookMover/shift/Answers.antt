@@ -1,4 +1,5 @@
 use Rattle.std.proofs.Common.{sym, ◌∙◌}
+use Rattle.call_dispatch.specs.Shifts.{shifted}
 use Rattle.call_dispatch.proofs.Lemmas.ShiftLaws.{accepted, enough_held, refused}
 use Rattle.test_codec.specs.Books.{amounts_in, one_floor}
 use Rattle.test_codec.specs.Laws.{floors_low}
@@ -6,7 +7,10 @@ use Rattle.test_codec.proofs.Lemmas.{floor_kept_after}
 use Rattle.test_codec.proofs.book_moves.BookMover.shift.Goals as goal
 
 pub returns-in-Some-clause-step : goal.returns-in-Some-clause-step
-returns-in-Some-clause-step c = refused _ _ _ _ _ _ _ c.in-Some.fault (sym c.fault.ensures ∙ c.in-Some.is) _
+returns-in-Some-clause-step c =
+    let b = c.args.self.now in
+    refused _ _ _ _ _ _ _ c.in-Some.fault (sym c.fault.ensures ∙ c.in-Some.is)
+    (shifted (amounts_in b.amounts.entries) c.args.row c.args.from.now c.args.to.now c.args.amount)
 
 pub move_amount-requires-clause-enough : goal.move_amount-requires-clause-enough
 move_amount-requires-clause-enough c = enough_held _ _ _ _ _ _ _ (accepted _ _ _ _ _ _ _ (sym c.fault.ensures ∙ c.in_default.is))
