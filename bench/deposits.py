@@ -3,7 +3,7 @@
 
   bench/deposits.py [--program PATH]
 
-The program `bench_net` deposits 1 to each of so many accounts, then so many times more to accounts in scattered order, and
+The program `bench_net` deposits 1 to each of so many accounts, then so many times more to the first of them, and
 asks for the asset's sum over all accounts after each deposit.
 
 - growing: N accounts and N deposits more, then 2N, 4N and 8N (N is 50,000). Time should grow as N log N.
