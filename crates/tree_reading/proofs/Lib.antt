@@ -1,0 +1,6 @@
+mod Bytes
+mod Solid
+mod Behind
+mod Paths
+mod SolidPaths
+mod AssetParts

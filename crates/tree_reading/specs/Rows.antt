@@ -1,0 +1,20 @@
+-- The rows of a tree.
+use Rattle.std.specs.Prelude.{◌≡◌, ◌≢◌, ◌&&◌, ℕ, zero, suc, Bool, true, List, [], ◌∷◌, ◌++◌, codes, nat_le, nat_lt}
+use Rattle.std.specs.List.{list_all}
+
+-- a byte of a text of one line
+abbrev pub is_plain : ℕ → Bool
+is_plain b = nat_le 32 b && nat_lt b 127
+
+-- the same without spaces
+abbrev pub is_solid : ℕ → Bool
+is_solid b = nat_le 33 b && nat_lt b 127
+
+-- a text without spaces
+abbrev pub IsSolid : List ℕ → Type 0
+IsSolid text = list_all is_solid text ≡ true
+
+-- what a row may say: plain bytes, the first of which is no space
+pub record IsWords (words : List ℕ) : Type 0 where
+  pub plain : list_all is_plain words ≡ true
+  pub front : (rest : List ℕ) → words ≢ 32 ∷ rest
