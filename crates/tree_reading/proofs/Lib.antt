@@ -4,3 +4,5 @@ mod Behind
 mod Paths
 mod SolidPaths
 mod AssetParts
+mod Once
+mod ErrorPlaces

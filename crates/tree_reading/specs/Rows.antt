@@ -1,5 +1,5 @@
 -- The rows of a tree.
-use Rattle.std.specs.Prelude.{◌≡◌, ◌≢◌, ◌&&◌, ℕ, zero, suc, Bool, true, List, [], ◌∷◌, ◌++◌, codes, nat_le, nat_lt}
+use Rattle.std.specs.Prelude.{◌≡◌, ◌≢◌, ◌&&◌, ℕ, zero, suc, Bool, true, List, [], ◌∷◌, ◌++◌, codes, nat_le, nat_lt, ◌==◌, not}
 use Rattle.std.specs.List.{list_all}
 
 -- a byte of a text of one line
@@ -13,6 +13,13 @@ is_solid b = nat_le 33 b && nat_lt b 127
 -- a text without spaces
 abbrev pub IsSolid : List ℕ → Type 0
 IsSolid text = list_all is_solid text ≡ true
+
+-- a text without spaces and dots
+abbrev pub is_dotless : ℕ → Bool
+is_dotless b = is_solid b && not (b == 46)
+
+abbrev pub IsDotless : List ℕ → Type 0
+IsDotless text = list_all is_dotless text ≡ true
 
 -- what a row may say: plain bytes, the first of which is no space
 pub record IsWords (words : List ℕ) : Type 0 where

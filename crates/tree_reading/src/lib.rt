@@ -2,7 +2,13 @@
 #![tactic(auto)]
 
 mod assets;
+mod errors;
 mod hexes;
+mod kinds;
 mod numbers;
+mod pallets;
 mod places;
+mod responses;
 mod splits;
+
+pub use kinds::{Words, put_words};

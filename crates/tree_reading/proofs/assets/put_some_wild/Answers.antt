@@ -57,8 +57,26 @@ none_of v text a b c (AllOf id kind) fits e = b (id_text id ++ (codes " " ++ wil
 none_of v text a b c (AllCounted n) fits e = a (decimal n) e
 none_of v text a b c (AllOfCounted id kind n) fits e = c (id_text id ++ (codes " " ++ (wild_fun_text kind ++ (codes " " ++ decimal n)))) e
 
-pub returns-in_ok-put_u8-in-Some : goal.returns-in_ok-put_u8-in-Some
-returns-in_ok-put_u8-in-Some c = ?
+pub returns-in-Some : goal.returns-in-Some
+returns-in-Some c =
+    let v = c.args.version in
+    put_behind (FitsSomeWild v) wild_text (wild v) (λ n. n ≤ 4294967295) decimal compact c.args.text.now c.in-Some.count.now c.put_number.result c.args.out.now c.put_u8.new.self c.put_number.new.out
+    (of_count v c.args.text.now c.in-Some.count.now c.args.out.now c.put_u8.new.self c.in-Some.ensures c.in_ok-put_u8.ensures.ok)
+    c.put_number.ensures
+
+pub returns-in-Some-after : goal.returns-in-Some-after
+returns-in-Some-after c =
+    let v = c.args.version in
+    put_behind (FitsSomeWild v) wild_text (wild v) (FitsKindOf v) kind_of_text (kind_of v) c.args.text.now c.in-Some-after.kind.now c.put_kind_of.result c.args.out.now c.put_u8-in-Some-after.new.self c.put_kind_of.new.out
+    (of_kind v c.args.text.now c.in-Some-after.kind.now c.args.out.now c.put_u8-in-Some-after.new.self c.in-Some-after.ensures c.in_ok-put_u8-2.ensures.ok)
+    c.put_kind_of.ensures
+
+pub returns-in_ok-put_u8-in-Some-after-2 : goal.returns-in_ok-put_u8-in-Some-after-2
+returns-in_ok-put_u8-in-Some-after-2 c =
+    let v = c.args.version in
+    put_behind (FitsSomeWild v) wild_text (wild v) (FitsCountOf v) count_of_text (count_of v) c.args.text.now c.in-Some-after-2.counting.now c.put_count_of.result c.args.out.now c.put_u8-in-Some-after-2.new.self c.put_count_of.new.out
+    (of_both v c.args.text.now c.in-Some-after-2.counting.now c.args.out.now c.put_u8-in-Some-after-2.new.self c.in-Some-after-2.ensures c.in_ok-put_u8-in-Some-after-2.ensures.ok)
+    c.put_count_of.ensures
 
 pub returns-in-None : goal.returns-in-None
-returns-in-None c = λ x fits bytes e. absurd (none_of c.args.version c.args.text.now c.in_default.ensures ? c.in-None.ensures x fits e)
+returns-in-None c = λ x fits bytes e. absurd (none_of c.args.version c.args.text.now c.in_default.ensures c.in_default-after.ensures c.in-None.ensures x fits e)
