@@ -72,12 +72,7 @@ pub(crate) fn put_topic(alloc: Global, out: &mut Out, text: &str) -> Result<bool
 }
 
 /// Appends the error of a call after its index.
-fn put_call_error(
-    alloc: Global,
-    out: &mut Out,
-    index: u8,
-    digits: &str,
-) -> Result<bool, AllocError>
+fn put_call_error(alloc: Global, out: &mut Out, index: u8, digits: &str) -> Result<bool, AllocError>
     ensures { PutsWords (λ _. ⊤) hex_text (λ b. index ∷ bytes b) digits.now result out.old out.new }
 {
     out.put_u8(index)?;

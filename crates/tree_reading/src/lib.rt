@@ -1,4 +1,4 @@
-//! Scratch.
+//! What the rows of a tree say, as bytes: each text of a value is read back as its spelling.
 #![tactic(auto)]
 
 mod assets;

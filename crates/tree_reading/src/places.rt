@@ -11,7 +11,10 @@ ghost use Rattle.location_wire.specs.Texts.{IsLocation, path_step_text, path_tex
 ghost use Rattle.message_text.specs.Words.{place_text, junction_path_text, network_text};
 ghost use Rattle.tree_reading.specs.Puts.{AreBytes, PutsWords};
 
-use location_wire::{TextFault, law_of_one_location, read_location_text, write_junction, write_junctions, write_location, write_network_id};
+use location_wire::{
+    TextFault, law_of_one_location, read_location_text, write_junction, write_junctions,
+    write_location, write_network_id,
+};
 use locations::{Junction, Location};
 use scale_codec::Out;
 use std::alloc::{AllocError, Global};

@@ -14,7 +14,6 @@ mod running;
 mod table;
 mod top;
 mod trees;
-mod values;
 
 pub use line_serving::Status;
 pub use top::compose;

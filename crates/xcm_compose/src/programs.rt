@@ -13,24 +13,9 @@ impl<'a> Encoder<'a> {
     {
         let (name, kind) = field;
         match kind {
+            Kind::Row(words) => self.put_row(spaces, name, words),
             Kind::Assets => self.put_assets(spaces, name),
             Kind::Filter => self.put_filter(spaces, name),
-            Kind::Asset => self.put_asset(spaces, name),
-            Kind::Location => self.put_location(spaces, name),
-            Kind::LocationOrNone => self.put_location_or_none(spaces, name),
-            Kind::Path => self.put_path(spaces, name),
-            Kind::Junction => self.put_junction(spaces, name),
-            Kind::Network => self.put_network(spaces, name),
-            Kind::Number32 => self.put_number(spaces, name, u64::from(u32::MAX)),
-            Kind::Number64 => self.put_number(spaces, name, u64::MAX),
-            Kind::Weight => self.put_weight(spaces, name),
-            Kind::Limit => self.put_limit(spaces, name),
-            Kind::OriginKind => self.put_origin_kind(spaces, name),
-            Kind::Bytes => self.put_hex(spaces, name),
-            Kind::Topic => self.put_topic(spaces, name),
-            Kind::Flag => self.put_flag(spaces, name),
-            Kind::Failure => self.put_failure(spaces, name),
-            Kind::Status => self.put_status(spaces, name),
             Kind::Info => self.put_info(spaces, name),
             Kind::Response => self.put_response(spaces, name),
         }

@@ -1,44 +1,16 @@
 //! The instructions: their numbers, names and fields, in the order of the XCM format.
 
+use tree_reading::Words;
+
 /// What a field has for a value.
 #[derive(Clone, Copy, Debug, PartialEq, Eq)]
 pub(crate) enum Kind {
+    /// What one row says.
+    Row(Words),
     /// A list of assets, a line for each.
     Assets,
     /// A list of assets, or a wildcard.
     Filter,
-    /// An asset.
-    Asset,
-    /// A location.
-    Location,
-    /// A location, or none.
-    LocationOrNone,
-    /// A path.
-    Path,
-    /// A junction, as the path that it is alone.
-    Junction,
-    /// A network, as the junction that names it.
-    Network,
-    /// A number below 2^32.
-    Number32,
-    /// A number below 2^64.
-    Number64,
-    /// A weight.
-    Weight,
-    /// A limit of weights.
-    Limit,
-    /// A kind of origin.
-    OriginKind,
-    /// Bytes, with their number before them.
-    Bytes,
-    /// 32 bytes.
-    Topic,
-    /// True or false.
-    Flag,
-    /// An instruction's index and its error, or none.
-    Failure,
-    /// How a call ended.
-    Status,
     /// Where a response goes.
     Info,
     /// A response.
@@ -70,32 +42,38 @@ const INSTRUCTIONS: &[Entry] = &[
         3,
         "QueryResponse",
         &[
-            ("query_id", Kind::Number64),
+            ("query_id", Kind::Row(Words::Number64)),
             ("response", Kind::Response),
-            ("max_weight", Kind::Weight),
-            ("querier", Kind::LocationOrNone),
+            ("max_weight", Kind::Row(Words::Weight)),
+            ("querier", Kind::Row(Words::LocationOrNone)),
         ],
         false,
     ),
     (
         4,
         "TransferAsset",
-        &[("assets", Kind::Assets), ("beneficiary", Kind::Location)],
+        &[
+            ("assets", Kind::Assets),
+            ("beneficiary", Kind::Row(Words::Location)),
+        ],
         false,
     ),
     (
         5,
         "TransferReserveAsset",
-        &[("assets", Kind::Assets), ("dest", Kind::Location)],
+        &[
+            ("assets", Kind::Assets),
+            ("dest", Kind::Row(Words::Location)),
+        ],
         true,
     ),
     (
         6,
         "Transact",
         &[
-            ("origin_kind", Kind::OriginKind),
-            ("require_weight_at_most", Kind::Weight),
-            ("call", Kind::Bytes),
+            ("origin_kind", Kind::Row(Words::OriginKind)),
+            ("require_weight_at_most", Kind::Row(Words::Weight)),
+            ("call", Kind::Row(Words::Bytes)),
         ],
         false,
     ),
@@ -103,41 +81,52 @@ const INSTRUCTIONS: &[Entry] = &[
         7,
         "HrmpNewChannelOpenRequest",
         &[
-            ("sender", Kind::Number32),
-            ("max_message_size", Kind::Number32),
-            ("max_capacity", Kind::Number32),
+            ("sender", Kind::Row(Words::Number32)),
+            ("max_message_size", Kind::Row(Words::Number32)),
+            ("max_capacity", Kind::Row(Words::Number32)),
         ],
         false,
     ),
     (
         8,
         "HrmpChannelAccepted",
-        &[("recipient", Kind::Number32)],
+        &[("recipient", Kind::Row(Words::Number32))],
         false,
     ),
     (
         9,
         "HrmpChannelClosing",
         &[
-            ("initiator", Kind::Number32),
-            ("sender", Kind::Number32),
-            ("recipient", Kind::Number32),
+            ("initiator", Kind::Row(Words::Number32)),
+            ("sender", Kind::Row(Words::Number32)),
+            ("recipient", Kind::Row(Words::Number32)),
         ],
         false,
     ),
     (10, "ClearOrigin", &[], false),
-    (11, "DescendOrigin", &[("interior", Kind::Path)], false),
+    (
+        11,
+        "DescendOrigin",
+        &[("interior", Kind::Row(Words::Path))],
+        false,
+    ),
     (12, "ReportError", &[("info", Kind::Info)], false),
     (
         13,
         "DepositAsset",
-        &[("assets", Kind::Filter), ("beneficiary", Kind::Location)],
+        &[
+            ("assets", Kind::Filter),
+            ("beneficiary", Kind::Row(Words::Location)),
+        ],
         false,
     ),
     (
         14,
         "DepositReserveAsset",
-        &[("assets", Kind::Filter), ("dest", Kind::Location)],
+        &[
+            ("assets", Kind::Filter),
+            ("dest", Kind::Row(Words::Location)),
+        ],
         true,
     ),
     (
@@ -146,20 +135,26 @@ const INSTRUCTIONS: &[Entry] = &[
         &[
             ("give", Kind::Filter),
             ("want", Kind::Assets),
-            ("maximal", Kind::Flag),
+            ("maximal", Kind::Row(Words::Flag)),
         ],
         false,
     ),
     (
         16,
         "InitiateReserveWithdraw",
-        &[("assets", Kind::Filter), ("reserve", Kind::Location)],
+        &[
+            ("assets", Kind::Filter),
+            ("reserve", Kind::Row(Words::Location)),
+        ],
         true,
     ),
     (
         17,
         "InitiateTeleport",
-        &[("assets", Kind::Filter), ("dest", Kind::Location)],
+        &[
+            ("assets", Kind::Filter),
+            ("dest", Kind::Row(Words::Location)),
+        ],
         true,
     ),
     (
@@ -171,7 +166,10 @@ const INSTRUCTIONS: &[Entry] = &[
     (
         19,
         "BuyExecution",
-        &[("fees", Kind::Asset), ("limit", Kind::Limit)],
+        &[
+            ("fees", Kind::Row(Words::Asset)),
+            ("limit", Kind::Row(Words::Limit)),
+        ],
         false,
     ),
     (20, "RefundSurplus", &[], false),
@@ -181,16 +179,19 @@ const INSTRUCTIONS: &[Entry] = &[
     (
         24,
         "ClaimAsset",
-        &[("assets", Kind::Assets), ("ticket", Kind::Location)],
+        &[
+            ("assets", Kind::Assets),
+            ("ticket", Kind::Row(Words::Location)),
+        ],
         false,
     ),
-    (25, "Trap", &[("code", Kind::Number64)], false),
+    (25, "Trap", &[("code", Kind::Row(Words::Number64))], false),
     (
         26,
         "SubscribeVersion",
         &[
-            ("query_id", Kind::Number64),
-            ("max_response_weight", Kind::Weight),
+            ("query_id", Kind::Row(Words::Number64)),
+            ("max_response_weight", Kind::Row(Words::Weight)),
         ],
         false,
     ),
@@ -200,31 +201,39 @@ const INSTRUCTIONS: &[Entry] = &[
     (
         30,
         "ExpectOrigin",
-        &[("origin", Kind::LocationOrNone)],
+        &[("origin", Kind::Row(Words::LocationOrNone))],
         false,
     ),
-    (31, "ExpectError", &[("error", Kind::Failure)], false),
+    (
+        31,
+        "ExpectError",
+        &[("error", Kind::Row(Words::Failure))],
+        false,
+    ),
     (
         32,
         "ExpectTransactStatus",
-        &[("status", Kind::Status)],
+        &[("status", Kind::Row(Words::Status))],
         false,
     ),
     (
         33,
         "QueryPallet",
-        &[("module_name", Kind::Bytes), ("info", Kind::Info)],
+        &[
+            ("module_name", Kind::Row(Words::Bytes)),
+            ("info", Kind::Info),
+        ],
         false,
     ),
     (
         34,
         "ExpectPallet",
         &[
-            ("index", Kind::Number32),
-            ("name", Kind::Bytes),
-            ("module_name", Kind::Bytes),
-            ("crate_major", Kind::Number32),
-            ("min_crate_minor", Kind::Number32),
+            ("index", Kind::Row(Words::Number32)),
+            ("name", Kind::Row(Words::Bytes)),
+            ("module_name", Kind::Row(Words::Bytes)),
+            ("crate_major", Kind::Row(Words::Number32)),
+            ("min_crate_minor", Kind::Row(Words::Number32)),
         ],
         false,
     ),
@@ -233,49 +242,74 @@ const INSTRUCTIONS: &[Entry] = &[
     (
         37,
         "UniversalOrigin",
-        &[("junction", Kind::Junction)],
+        &[("junction", Kind::Row(Words::Junction))],
         false,
     ),
     (
         38,
         "ExportMessage",
-        &[("network", Kind::Network), ("destination", Kind::Path)],
+        &[
+            ("network", Kind::Row(Words::Network)),
+            ("destination", Kind::Row(Words::Path)),
+        ],
         true,
     ),
     (
         39,
         "LockAsset",
-        &[("asset", Kind::Asset), ("unlocker", Kind::Location)],
+        &[
+            ("asset", Kind::Row(Words::Asset)),
+            ("unlocker", Kind::Row(Words::Location)),
+        ],
         false,
     ),
     (
         40,
         "UnlockAsset",
-        &[("asset", Kind::Asset), ("target", Kind::Location)],
+        &[
+            ("asset", Kind::Row(Words::Asset)),
+            ("target", Kind::Row(Words::Location)),
+        ],
         false,
     ),
     (
         41,
         "NoteUnlockable",
-        &[("asset", Kind::Asset), ("owner", Kind::Location)],
+        &[
+            ("asset", Kind::Row(Words::Asset)),
+            ("owner", Kind::Row(Words::Location)),
+        ],
         false,
     ),
     (
         42,
         "RequestUnlock",
-        &[("asset", Kind::Asset), ("locker", Kind::Location)],
+        &[
+            ("asset", Kind::Row(Words::Asset)),
+            ("locker", Kind::Row(Words::Location)),
+        ],
         false,
     ),
-    (43, "SetFeesMode", &[("jit_withdraw", Kind::Flag)], false),
-    (44, "SetTopic", &[("topic", Kind::Topic)], false),
+    (
+        43,
+        "SetFeesMode",
+        &[("jit_withdraw", Kind::Row(Words::Flag))],
+        false,
+    ),
+    (44, "SetTopic", &[("topic", Kind::Row(Words::Topic))], false),
     (45, "ClearTopic", &[], false),
-    (46, "AliasOrigin", &[("target", Kind::Location)], false),
+    (
+        46,
+        "AliasOrigin",
+        &[("target", Kind::Row(Words::Location))],
+        false,
+    ),
     (
         47,
         "UnpaidExecution",
         &[
-            ("limit", Kind::Limit),
-            ("check_origin", Kind::LocationOrNone),
+            ("limit", Kind::Row(Words::Limit)),
+            ("check_origin", Kind::Row(Words::LocationOrNone)),
         ],
         false,
     ),

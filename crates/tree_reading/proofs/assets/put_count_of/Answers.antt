@@ -1,5 +1,4 @@
 use Rattle.std.proofs.Common.{◌≡◌, ℕ, [], ◌∷◌, ◌++◌, refl}
-
 use Rattle.asset_wire.specs.Spelling.{asset_id}
 use Rattle.message_text.specs.Words.{id_text}
 use Rattle.tree_reading.specs.Assets.{FitsCounting, counting_text, counting, FitsCountOf, count_of_text, count_of}
