@@ -6,3 +6,5 @@ mod SolidPaths
 mod AssetParts
 mod Once
 mod ErrorPlaces
+mod RowLaws
+mod Items

@@ -5,3 +5,5 @@ pub mod Errors
 pub mod Pallets
 pub mod Responses
 pub mod Kinds
+pub mod Expectations
+pub mod Took

@@ -1,6 +1,7 @@
 -- The rows of a tree.
-use Rattle.std.specs.Prelude.{◌≡◌, ◌≢◌, ◌&&◌, ℕ, zero, suc, Bool, true, List, [], ◌∷◌, ◌++◌, codes, nat_le, nat_lt, ◌==◌, not}
+use Rattle.std.specs.Prelude.{◌≡◌, ◌≢◌, ◌⊎◌, ◌<◌, ◌&&◌, ℕ, zero, suc, Bool, true, List, [], ◌∷◌, ◌++◌, codes, nat_le, nat_lt, ◌==◌, not}
 use Rattle.std.specs.List.{list_all}
+use Rattle.message_text.specs.Lines.{line}
 
 -- a byte of a text of one line
 abbrev pub is_plain : ℕ → Bool
@@ -25,3 +26,16 @@ IsDotless text = list_all is_dotless text ≡ true
 pub record IsWords (words : List ℕ) : Type 0 where
   pub plain : list_all is_plain words ≡ true
   pub front : (rest : List ℕ) → words ≢ 32 ∷ rest
+
+-- the text begins with a row at a lower level
+pub record BeginsAbove (level : ℕ) (text : List ℕ) : Type 0 where
+  pub lower : ℕ
+  pub words : List ℕ
+  pub rest : List ℕ
+  pub less : lower < level
+  pub are : IsWords words
+  pub is : text ≡ line lower words ++ rest
+
+-- no row at this level comes, nor one at a higher
+abbrev pub IsOutside : ℕ → List ℕ → Type 0
+IsOutside level text = (text ≡ []) ⊎ BeginsAbove level text

@@ -3,12 +3,16 @@
 
 mod assets;
 mod errors;
+mod expected;
 mod hexes;
 mod kinds;
+mod lists;
 mod numbers;
 mod pallets;
 mod places;
 mod responses;
+mod rows;
 mod splits;
 
+pub use expected::{Expected, Stop};
 pub use kinds::{Words, put_words};
