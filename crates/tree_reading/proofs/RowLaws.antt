@@ -6,10 +6,10 @@ use Rattle.std.specs.Borrow.{Bor}
 use Rattle.std.specs.List.{list_all}
 use Rattle.std.proofs.lemmas.Str.Pattern.{IsSplitOnceResult, split_after, split_parts}
 use Rattle.message_text.specs.Lines.{indent, line}
-use Rattle.tree_reading.specs.Rows.{is_plain, IsWords, BeginsAbove, IsOutside}
+use Rattle.tree_reading.specs.Rows.{is_visible, IsWords, BeginsAbove, IsOutside}
 use Rattle.tree_reading.proofs.Solid.{all-append, all_without}
 
-pub plain_indent : (level : ℕ) → list_all is_plain (indent level) ≡ true
+pub plain_indent : (level : ℕ) → list_all is_visible (indent level) ≡ true
 plain_indent zero = refl
 plain_indent (suc level) = plain_indent level
 
@@ -17,7 +17,7 @@ pub row_split : (level : ℕ) (bs words rest : List ℕ) (r : Option (Bor (List 
     → MatchOption r ⊥ (λ x. (x.0.now ≡ indent level ++ words) × (x.1.now ≡ rest))
 row_split level bs words rest r h w e =
     let text : bs ≡ (indent level ++ words) ++ 10 ∷ rest = e ∙ append_assoc (indent level) (words ++ codes "\n") rest ∙ ap (λ t. indent level ++ t) (append_assoc words (codes "\n") rest) ∙ sym (append_assoc (indent level) words (10 ∷ rest)) in
-    split_after 10 bs (indent level ++ words) rest r h (lit< tt) text (all_without is_plain 10 (indent level ++ words) refl (all-append is_plain (indent level) words (plain_indent level) w.plain))
+    split_after 10 bs (indent level ++ words) rest r h (lit< tt) text (all_without is_visible 10 (indent level ++ words) refl (all-append is_visible (indent level) words (plain_indent level) w.plain))
 
 -- the row before what is outside is at a lower level
 pub outside_row : (level : ℕ) (bs : List ℕ) (r : Option (Bor (List ℕ) × Bor (List ℕ))) (x : Bor (List ℕ) × Bor (List ℕ)) → IsSplitOnceResult 10 bs r → r ≡ Some x → IsOutside level bs

@@ -25,8 +25,8 @@ FitsKindOf v x = FitsPlaceId v x.0
 abbrev pub kind_of_text : AssetId × WildFun → List ℕ
 kind_of_text x = id_text x.0 ++ (codes " " ++ wild_fun_text x.1)
 
-abbrev pub kind_of : Version → AssetId × WildFun → List ℕ
-kind_of v x = asset_id v x.0 ++ wild_fun x.1
+abbrev pub kind_of_spelling : Version → AssetId × WildFun → List ℕ
+kind_of_spelling v x = asset_id v x.0 ++ wild_fun x.1
 
 -- ---- the same with how many
 
@@ -36,8 +36,8 @@ FitsCounting x = x.1 ≤ 4294967295
 abbrev pub counting_text : WildFun × ℕ → List ℕ
 counting_text x = wild_fun_text x.0 ++ (codes " " ++ decimal x.1)
 
-abbrev pub counting : WildFun × ℕ → List ℕ
-counting x = wild_fun x.0 ++ compact x.1
+abbrev pub counting_spelling : WildFun × ℕ → List ℕ
+counting_spelling x = wild_fun x.0 ++ compact x.1
 
 abbrev pub FitsCountOf : Version → AssetId × (WildFun × ℕ) → Type 0
 FitsCountOf v x = FitsPlaceId v x.0 × FitsCounting x.1
@@ -45,8 +45,8 @@ FitsCountOf v x = FitsPlaceId v x.0 × FitsCounting x.1
 abbrev pub count_of_text : AssetId × (WildFun × ℕ) → List ℕ
 count_of_text x = id_text x.0 ++ (codes " " ++ counting_text x.1)
 
-abbrev pub count_of : Version → AssetId × (WildFun × ℕ) → List ℕ
-count_of v x = asset_id v x.0 ++ counting x.1
+abbrev pub count_of_spelling : Version → AssetId × (WildFun × ℕ) → List ℕ
+count_of_spelling v x = asset_id v x.0 ++ counting_spelling x.1
 
 -- ---- wildcards
 

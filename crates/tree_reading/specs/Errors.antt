@@ -48,8 +48,8 @@ FitsPlainError (Trap code) = ⊥
 FitsPlainError _ = ⊤
 
 -- what follows `Trap(`
-abbrev pub trap_text : ℕ → List ℕ
-trap_text code = decimal code ++ codes ")"
+abbrev pub trap_code_text : ℕ → List ℕ
+trap_code_text code = decimal code ++ codes ")"
 
 -- an instruction's index and its error
 abbrev pub some_failure_text : ℕ × XcmError → List ℕ

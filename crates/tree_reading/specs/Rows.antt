@@ -4,8 +4,8 @@ use Rattle.std.specs.List.{list_all}
 use Rattle.message_text.specs.Lines.{line}
 
 -- a byte of a text of one line
-abbrev pub is_plain : ℕ → Bool
-is_plain b = nat_le 32 b && nat_lt b 127
+abbrev pub is_visible : ℕ → Bool
+is_visible b = nat_le 32 b && nat_lt b 127
 
 -- the same without spaces
 abbrev pub is_solid : ℕ → Bool
@@ -24,7 +24,7 @@ IsDotless text = list_all is_dotless text ≡ true
 
 -- what a row may say: plain bytes, the first of which is no space
 pub record IsWords (words : List ℕ) : Type 0 where
-  pub plain : list_all is_plain words ≡ true
+  pub plain : list_all is_visible words ≡ true
   pub front : (rest : List ℕ) → words ≢ 32 ∷ rest
 
 -- the text begins with a row at a lower level

@@ -7,7 +7,7 @@ ghost use Rattle.asset_wire.specs.Spelling.{asset_id, instance, fun, FitsAmount,
 ghost use Rattle.message_text.specs.Words.{id_text, fun_text, asset_text, wild_fun_text};
 ghost use Rattle.message_text.specs.Fields.{wild_text};
 ghost use Rattle.tree_reading.specs.Puts.{PutsWords};
-ghost use Rattle.tree_reading.specs.Assets.{FitsPlaceId, FitsPlaceAsset, FitsKindOf, kind_of_text, kind_of, FitsCounting, counting_text, counting, FitsCountOf, count_of_text, count_of, FitsPlaceWild, FitsSomeWild};
+ghost use Rattle.tree_reading.specs.Assets.{FitsPlaceId, FitsPlaceAsset, FitsKindOf, kind_of_text, kind_of_spelling, FitsCounting, counting_text, counting_spelling, FitsCountOf, count_of_text, count_of_spelling, FitsPlaceWild, FitsSomeWild};
 
 use crate::hexes::bytes_of;
 use crate::numbers::{MAX_32, put_number};
@@ -109,7 +109,7 @@ fn put_wild_fun(out: &mut Out, text: &str) -> Result<bool, AllocError>
 
 /// Appends what a wildcard means of an asset id, and how many.
 fn put_counting(out: &mut Out, text: &str) -> Result<bool, AllocError>
-    ensures { PutsWords FitsCounting counting_text counting text.now result out.old out.new }
+    ensures { PutsWords FitsCounting counting_text counting_spelling text.now result out.old out.new }
 {
     let Some((fun, count)) = at_space(text) else {
         return Ok(false);
@@ -128,7 +128,7 @@ fn put_kind_of(
     version: Version,
     text: &str,
 ) -> Result<bool, AllocError>
-    ensures { PutsWords (FitsKindOf version) kind_of_text (kind_of version) text.now result out.old
+    ensures { PutsWords (FitsKindOf version) kind_of_text (kind_of_spelling version) text.now result out.old
         out.new }
 {
     let Some((id, fun)) = at_space(text) else {
@@ -148,7 +148,7 @@ fn put_count_of(
     version: Version,
     text: &str,
 ) -> Result<bool, AllocError>
-    ensures { PutsWords (FitsCountOf version) count_of_text (count_of version) text.now result
+    ensures { PutsWords (FitsCountOf version) count_of_text (count_of_spelling version) text.now result
         out.old out.new }
 {
     let Some((id, counting)) = at_space(text) else {

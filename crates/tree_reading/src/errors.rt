@@ -6,7 +6,7 @@ ghost use Rattle.operands.specs.Texts.{error_text};
 ghost use Rattle.xcm_format.specs.Parts.{xcm_error, FitsError, failure, FitsFailure};
 ghost use Rattle.message_text.specs.Words.{failure_text};
 ghost use Rattle.tree_reading.specs.Puts.{PutsWords};
-ghost use Rattle.tree_reading.specs.Errors.{error_names, FitsPlainError, trap_text, some_failure_text};
+ghost use Rattle.tree_reading.specs.Errors.{error_names, FitsPlainError, trap_code_text, some_failure_text};
 
 use crate::numbers::number_of;
 use crate::splits::{after, at_space, is_text};
@@ -86,7 +86,7 @@ fn put_named(out: &mut Out, text: &str) -> Result<bool, AllocError>
 
 /// Appends the code of a trap, as `5)`.
 fn put_trap(out: &mut Out, text: &str) -> Result<bool, AllocError>
-    ensures { PutsWords (λ n. n < 2 ^ 64) trap_text (λ n. 21 ∷ fixed 8 n) text.now result out.old
+    ensures { PutsWords (λ n. n < 2 ^ 64) trap_code_text (λ n. 21 ∷ fixed 8 n) text.now result out.old
         out.new }
 {
     let Some(digits) = text.strip_suffix(')') else {

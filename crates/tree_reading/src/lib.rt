@@ -4,6 +4,7 @@
 mod assets;
 mod errors;
 mod expected;
+mod fields;
 mod hexes;
 mod kinds;
 mod lists;

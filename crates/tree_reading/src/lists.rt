@@ -22,7 +22,7 @@ pub(crate) struct Form {
 }
 
 /// Appends what a text in the last row says; a refusal of the row where it is none of this kind.
-fn put_text(
+pub(crate) fn put_text(
     form: Form,
     rows: &Rows<'_>,
     out: &mut Out,
@@ -76,8 +76,10 @@ fn put_items(
 {
     let mut count: u64 = 0;
     while rows.has_row(level) {
-        put_row(form, rows, out, level, kind, expected)?;
-        count = count.saturating_add(1);
+        match put_row(form, rows, out, level, kind, expected) {
+            Ok(()) => count = count.saturating_add(1),
+            Err(stop) => return Err(stop),
+        }
     }
     Ok(count)
 }

@@ -3,7 +3,7 @@ use Rattle.std.specs.Prelude.{decimal}
 use Rattle.scale_codec.specs.Spelling.{compact}
 use Rattle.asset_wire.specs.Spelling.{wild_fun}
 use Rattle.message_text.specs.Words.{wild_fun_text}
-use Rattle.tree_reading.specs.Assets.{FitsCounting, counting_text, counting}
+use Rattle.tree_reading.specs.Assets.{FitsCounting, counting_text, counting_spelling}
 use Rattle.tree_reading.proofs.Bytes.{bytes_front, bytes_back}
 use Rattle.tree_reading.proofs.Behind.{put_behind}
 use Rattle.tree_reading.proofs.AssetParts.{solid_kind}
@@ -20,7 +20,7 @@ returns-then-not-done c = λ x fits bytes e.
 
 pub returns : goal.returns
 returns c =
-    put_behind FitsCounting counting_text counting (λ n. n ≤ 4294967295) decimal compact c.args.text.now c.in-Some.count.now c.put_number.result c.args.out.now c.put_wild_fun.new.out c.put_number.new.out
+    put_behind FitsCounting counting_text counting_spelling (λ n. n ≤ 4294967295) decimal compact c.args.text.now c.in-Some.count.now c.put_number.result c.args.out.now c.put_wild_fun.new.out c.put_number.new.out
     (λ x fits bytes e.
     let cut = rw c.in-Some.is at (c.at_space.ensures (wild_fun_text x.0) (decimal x.1) (solid_kind x.0) e) in
     let put = c.in_ok-done.ensures x.0 tt (bytes_front (wild_fun x.0) (compact x.1) bytes) cut.0 in

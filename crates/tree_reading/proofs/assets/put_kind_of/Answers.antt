@@ -3,7 +3,7 @@ use Rattle.asset_lists.specs.declared.filters.WildFun.{WildFun}
 use Rattle.std.specs.Prelude.{⊤}
 use Rattle.asset_wire.specs.Spelling.{asset_id, wild_fun}
 use Rattle.message_text.specs.Words.{id_text, wild_fun_text}
-use Rattle.tree_reading.specs.Assets.{FitsKindOf, kind_of_text, kind_of}
+use Rattle.tree_reading.specs.Assets.{FitsKindOf, kind_of_text, kind_of_spelling}
 use Rattle.tree_reading.proofs.Bytes.{bytes_front, bytes_back}
 use Rattle.tree_reading.proofs.Behind.{put_behind}
 use Rattle.tree_reading.proofs.AssetParts.{solid_id}
@@ -25,7 +25,7 @@ returns-then-not-done c = λ x fits bytes e.
 pub returns : goal.returns
 returns c =
     let v = c.args.version in
-    put_behind (FitsKindOf v) kind_of_text (kind_of v) (λ (k : WildFun). ⊤) wild_fun_text wild_fun c.args.text.now c.in-Some.fun.now c.put_wild_fun.result c.args.out.now c.put_id.new.out c.put_wild_fun.new.out
+    put_behind (FitsKindOf v) kind_of_text (kind_of_spelling v) (λ (k : WildFun). ⊤) wild_fun_text wild_fun c.args.text.now c.in-Some.fun.now c.put_wild_fun.result c.args.out.now c.put_id.new.out c.put_wild_fun.new.out
     (λ x fits bytes e.
     let all = bytes_front (asset_id v x.0) (wild_fun x.1) bytes in
     let cut = rw c.in-Some.is at (c.at_space.ensures (id_text x.0) (wild_fun_text x.1) (solid_id v x.0 fits all) e) in

@@ -9,7 +9,7 @@ use Rattle.operands.specs.declared.version.Version.{Version}
 use Rattle.message_text.specs.Words.{id_text, wild_fun_text}
 use Rattle.message_text.specs.Fields.{wild_text}
 use Rattle.tree_reading.specs.Puts.{AreBytes}
-use Rattle.tree_reading.specs.Assets.{FitsKindOf, kind_of_text, kind_of, FitsCountOf, count_of_text, count_of, FitsSomeWild}
+use Rattle.tree_reading.specs.Assets.{FitsKindOf, kind_of_text, kind_of_spelling, FitsCountOf, count_of_text, count_of_spelling, FitsSomeWild}
 use Rattle.tree_reading.proofs.Behind.{unlike, IsEnd, put_behind}
 use Rattle.tree_reading.proofs.assets.put_some_wild.Goals as goal
 
@@ -25,7 +25,7 @@ of_count v text inner old mid is put (AllCounted n) fits bytes e = record { valu
 of_count v text inner old mid is put (AllOfCounted id kind n) fits bytes e = absurd (unlike (codes "AllCounted " ++ inner) (codes "AllOfCounted " ++ (id_text id ++ (codes " " ++ wild_fun_text kind ++ (codes " " ++ decimal n)))) 3 (sym is ∙ e) refl)
 
 of_kind : (v : Version) (text inner old mid : List ℕ) → text ≡ codes "AllOf " ++ inner → mid ≡ old ++ 1 ∷ [] → (x : Wild) → FitsSomeWild v x → AreBytes (wild v x) → text ≡ wild_text x
-    → IsEnd (FitsKindOf v) kind_of_text (kind_of v) (wild v) x inner old mid
+    → IsEnd (FitsKindOf v) kind_of_text (kind_of_spelling v) (wild v) x inner old mid
 unfolding wild_text
 of_kind v text inner old mid is put All fits bytes e = absurd fits
 of_kind v text inner old mid is put (AllOf id kind) fits bytes e = record { value = (id, kind); fits = fits; bytes = bytes.1; words = append_cancel_left (codes "AllOf ") inner (id_text id ++ (codes " " ++ wild_fun_text kind)) (sym is ∙ e); front = 1 ∷ []; put = put; spelled = refl }
@@ -33,7 +33,7 @@ of_kind v text inner old mid is put (AllCounted n) fits bytes e = absurd (unlike
 of_kind v text inner old mid is put (AllOfCounted id kind n) fits bytes e = absurd (unlike (codes "AllOf " ++ inner) (codes "AllOfCounted " ++ (id_text id ++ (codes " " ++ wild_fun_text kind ++ (codes " " ++ decimal n)))) 5 (sym is ∙ e) refl)
 
 of_both : (v : Version) (text inner old mid : List ℕ) → text ≡ codes "AllOfCounted " ++ inner → mid ≡ old ++ 3 ∷ [] → (x : Wild) → FitsSomeWild v x → AreBytes (wild v x) → text ≡ wild_text x
-    → IsEnd (FitsCountOf v) count_of_text (count_of v) (wild v) x inner old mid
+    → IsEnd (FitsCountOf v) count_of_text (count_of_spelling v) (wild v) x inner old mid
 unfolding wild_text
 of_both v text inner old mid is put All fits bytes e = absurd fits
 of_both v text inner old mid is put (AllOf id kind) fits bytes e = absurd (unlike (codes "AllOfCounted " ++ inner) (codes "AllOf " ++ (id_text id ++ (codes " " ++ wild_fun_text kind))) 5 (sym is ∙ e) refl)
@@ -67,14 +67,14 @@ returns-in-Some c =
 pub returns-in-Some-after : goal.returns-in-Some-after
 returns-in-Some-after c =
     let v = c.args.version in
-    put_behind (FitsSomeWild v) wild_text (wild v) (FitsKindOf v) kind_of_text (kind_of v) c.args.text.now c.in-Some-after.kind.now c.put_kind_of.result c.args.out.now c.put_u8-in-Some-after.new.self c.put_kind_of.new.out
+    put_behind (FitsSomeWild v) wild_text (wild v) (FitsKindOf v) kind_of_text (kind_of_spelling v) c.args.text.now c.in-Some-after.kind.now c.put_kind_of.result c.args.out.now c.put_u8-in-Some-after.new.self c.put_kind_of.new.out
     (of_kind v c.args.text.now c.in-Some-after.kind.now c.args.out.now c.put_u8-in-Some-after.new.self c.in-Some-after.ensures c.in_ok-put_u8-2.ensures.ok)
     c.put_kind_of.ensures
 
 pub returns-in_ok-put_u8-in-Some-after-2 : goal.returns-in_ok-put_u8-in-Some-after-2
 returns-in_ok-put_u8-in-Some-after-2 c =
     let v = c.args.version in
-    put_behind (FitsSomeWild v) wild_text (wild v) (FitsCountOf v) count_of_text (count_of v) c.args.text.now c.in-Some-after-2.counting.now c.put_count_of.result c.args.out.now c.put_u8-in-Some-after-2.new.self c.put_count_of.new.out
+    put_behind (FitsSomeWild v) wild_text (wild v) (FitsCountOf v) count_of_text (count_of_spelling v) c.args.text.now c.in-Some-after-2.counting.now c.put_count_of.result c.args.out.now c.put_u8-in-Some-after-2.new.self c.put_count_of.new.out
     (of_both v c.args.text.now c.in-Some-after-2.counting.now c.args.out.now c.put_u8-in-Some-after-2.new.self c.in-Some-after-2.ensures c.in_ok-put_u8-in-Some-after-2.ensures.ok)
     c.put_count_of.ensures
 
