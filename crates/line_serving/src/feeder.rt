@@ -56,13 +56,19 @@ impl<M: LineMachine> Feeder<M> {
         self.pending.extend_from_slice(piece)?;
         let mut used = 0;
         match take_lines(alloc, &mut self.machine, &self.pending, &mut used, out) {
-            Ok(None) => match Vec::from_slice(alloc, &self.pending[used..]) {
-                Ok(rest) => {
-                    self.pending = rest;
-                    Ok(None)
+            Ok(None) => {
+                // For speed: a long line that goes on is not copied.
+                if used == 0 {
+                    return Ok(None);
                 }
-                Err(refused) => Err(refused),
-            },
+                match Vec::from_slice(alloc, &self.pending[used..]) {
+                    Ok(rest) => {
+                        self.pending = rest;
+                        Ok(None)
+                    }
+                    Err(refused) => Err(refused),
+                }
+            }
             Ok(Some(status)) => Ok(Some(status)),
             Err(refused) => Err(refused),
         }
