@@ -20,7 +20,7 @@ use Rattle.asset_bundles.specs.Totals.{total_value}
 use Rattle.asset_bundles.specs.Books.{cause_index, burn_cmp, most_burned, Booked}
 use Rattle.asset_lists.specs.Listed.{Listed, listed_cmp, lists}
 use Rattle.asset_bundles.proofs.Lemmas.{burn_keys, listed_keys, same_books, listed-Booked, amount-Booked}
-use Rattle.asset_bundles.specs.BookRows.{row_key, total_for, burn_entries_in, book_keys_in, book_of_rows, total_at, AreInRange, is_other_row, is_cause, IsBurned, CasesOf, IsBooked}
+use Rattle.asset_bundles.specs.BookRows.{unburned_row, row_key, total_for, burn_entries_in, book_keys_in, book_of_rows, total_at, AreInRange, is_other_row, is_cause, IsBurned, CasesOf, IsBooked}
 use Rattle.plain_lists.proofs.Lemmas.Facts.{equal_then as tie_both}
 
 -- ---- what the book has at a key
@@ -71,6 +71,12 @@ new_empty rs new = same_amounts burn_keys _ _ (λ q. amount-book q.0 q.1 rs ∙ 
 pub keys-push : (rs : List BookRow) (r : BookRow) → book_keys_in (rs ++ r ∷ []) ≡ book_keys_in rs ++ row_key r ∷ []
 keys-push [] r = refl
 keys-push (x ∷ rs) r = ap (λ ks. row_key x ∷ ks) (keys-push rs r)
+
+pub unburned_none : (k : Listed) (c : Cause) → total_value (total_for c (unburned_row k)) ≡ 0
+unburned_none k Cause.BurnAsset = refl
+unburned_none k Cause.LostTeleport = refl
+unburned_none k Cause.Merged = refl
+unburned_none k Cause.Saturated = refl
 
 zero_either : (b : Bool) (m n : ℕ) → m ≡ 0 → n ≡ 0 → (if b then m else n) ≡ 0
 zero_either true m n first second = first

@@ -12,6 +12,12 @@ use Rattle.asset_bundles.specs.Totals.{total_value}
 abbrev pub row_key : BookRow → Listed
 row_key r = (r.id, r.kind)
 
+-- the row of an asset of which nothing was burned
+abbrev pub unburned_row : Listed → BookRow
+unburned_row k =
+    let none : Total = record { high = 0; low = 0 } in
+    record { id = k.0; kind = k.1; burned = none; lost = none; merged = none; saturated = none }
+
 abbrev pub total_for : Cause → BookRow → Total
 total_for Cause.BurnAsset r = r.burned
 total_for Cause.LostTeleport r = r.lost

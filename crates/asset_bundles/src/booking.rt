@@ -1,5 +1,5 @@
 //! Burns written into the book, and read.
-ghost use Rattle.std.specs.Prelude.{◌≡◌, ◌≤◌, min, length, IsTrue, IfOk};
+ghost use Rattle.std.specs.Prelude.{◌≡◌, ◌+◌, ◌<◌, ◌≤◌, [], ◌∷◌, ◌++◌, min, length, vec_len, vec_capacity, IsTrue, IfOk};
 ghost use Rattle.std.specs.List.{prefix_len};
 ghost use Rattle.std.specs.Ordering.{eq_by_cmp};
 ghost use Rattle.amounts.specs.Amounts.{amount, single, empty};
@@ -7,27 +7,37 @@ ghost use Rattle.asset_bundles.specs.Totals.{total_value};
 ghost use Rattle.asset_bundles.specs.declared.book.Cause.{Cause};
 ghost use Rattle.asset_bundles.specs.Books.{Booked, burned_by_any_cause, most_burned};
 ghost use Rattle.asset_lists.specs.Listed.{Listed, listed_cmp, lists};
-ghost use Rattle.asset_bundles.specs.BookRows.{row_key, row_causes, book_keys_in, causes_at, total_for, total_at, is_other_row, IsBurned, IsBooked};
+ghost use Rattle.asset_bundles.specs.BookRows.{unburned_row, row_key, row_causes, book_keys_in, causes_at, total_for, total_at, is_other_row, IsBurned, IsBooked};
 
 use crate::book::BookRow;
 use crate::{BurnBook, Cause, Total};
 use asset_lists::{AssetId, Kind};
+use locations::Location;
 use std::alloc::{AllocError, Global};
 
 impl BookRow {
-    /// The row of an asset of which nothing was burned.
-    fn new(id: &AssetId, kind: Kind) -> BookRow
-        ensures key { row_key result ≡ (id.now, kind) }
-        ensures none { (c : Cause) → total_value (total_for c result) ≡ 0 }
-    {
+    /// A row to be written.
+    fn blank() -> BookRow {
         BookRow {
-            id: id.copy(),
-            kind,
+            id: AssetId::Concrete(Location::here()),
+            kind: Kind::Fungible,
             burned: Total::ZERO,
             lost: Total::ZERO,
             merged: Total::ZERO,
             saturated: Total::ZERO,
         }
+    }
+
+    /// Becomes the row of an asset of which nothing was burned.
+    fn start(&mut self, id: &AssetId, kind: Kind)
+        ensures { self.new ≡ unburned_row (id.now, kind) }
+    {
+        self.id.assign(id);
+        self.kind = kind;
+        self.burned = Total::ZERO;
+        self.lost = Total::ZERO;
+        self.merged = Total::ZERO;
+        self.saturated = Total::ZERO;
     }
 
     /// Whether it is the row of this asset.
@@ -120,14 +130,27 @@ fn sum_in(rows: &[BookRow], id: &AssetId, kind: Kind) -> Total
     Total::ZERO
 }
 
+/// Puts the row of an asset of which nothing was burned at the end of a list that has room for it.
+fn push_unburned(rows: &mut Vec<BookRow>, id: &AssetId, kind: Kind)
+    requires room { vec_len rows.old < vec_capacity rows.old }
+    ensures items { rows.new.items ≡ rows.old.items ++ unburned_row (id.now, kind) ∷ [] }
+    ensures len { vec_len rows.new ≡ vec_len rows.old + 1 }
+    ensures capacity { vec_capacity rows.new ≡ vec_capacity rows.old }
+{
+    let last = rows.len();
+    // For speed: the row is made where it stays.
+    rows.push_reserved(BookRow::blank());
+    rows[last].start(id, kind);
+}
+
 /// A row for each asset, of which nothing was burned.
 fn new_rows(alloc: Global, assets: &[(AssetId, Kind)]) -> Result<Vec<BookRow>, AllocError>
     ensures keys { IfOk result (λ rows. book_keys_in rows.items ≡ assets.now) }
     ensures none { IfOk result (λ rows. (k : Listed) (c : Cause) → total_at k c rows.items ≡ 0) }
 {
-    let mut rows = Vec::new(alloc);
+    let mut rows = Vec::with_capacity(alloc, assets.len())?;
     for asset in assets {
-        rows.push(BookRow::new(&asset.0, asset.1))?;
+        push_unburned(&mut rows, &asset.0, asset.1);
     }
     Ok(rows)
 }
