@@ -48,13 +48,16 @@ impl NetworkAsset {
         requires { IsTrue (has_path (path_of_site site.now) row.now) }
         ensures { result ≡ listed_at site.now row.now }
     {
-        match row.id.path(&site.path()) {
-            Ok(path) => NetworkAsset {
-                path,
-                kind: row.kind,
-            },
-            Err(_) => unreachable!(),
-        }
+        let context = site.path();
+        let chain = context.items();
+        let shared = chain.len() - usize::from(row.id.parents);
+        // For speed: the path is made where it stays.
+        let mut asset = NetworkAsset {
+            path: Junctions::from_few(&chain[..shared]),
+            kind: row.kind,
+        };
+        let _ = asset.path.append(&row.id.interior);
+        asset
     }
 
     /// Its path.
