@@ -1,5 +1,5 @@
 //! What chains list: rows of one path, ids that aren't normal, and rows that a partner or a reserve doesn't list.
-ghost use Rattle.std.specs.Prelude.{◌≡◌, ◌&&◌};
+ghost use Rattle.std.specs.Prelude.{◌≡◌, ◌≤◌, ◌&&◌, length};
 ghost use Rattle.std.specs.List.{list_any};
 ghost use Rattle.std.specs.Ordering.{eq_by_cmp};
 ghost use Rattle.locations.specs.Order.{junctions_cmp};
@@ -96,6 +96,13 @@ pub(crate) fn id_not_normal(spec: &NetworkSpec) -> Option<Incoherent>
 
 // ---- the row at another chain
 
+/// Where a search among the rows begins: a few rows before a place. For speed: chains mostly list an asset at about the same place.
+fn begin_of(rows: &[AssetRow], place: usize) -> usize
+    ensures { result ≤ length rows.now }
+{
+    rows.len().min(place.saturating_sub(4))
+}
+
 /// Whether a chain is one of these.
 fn is_among(chains: &[ChainId], chain: ChainId) -> bool
     ensures { result ≡ list_any (λ partner. chain_ids.same_chain partner chain) chains.now }
@@ -139,16 +146,40 @@ fn is_back(
     is_asset(context, &other.id, other.kind, home, row) && has_partner(chain, &other.role)
 }
 
-/// Whether the second chain lists the row's asset as native with the first chain as partner.
-fn has_back(spec: &NetworkSpec, here: &ChainSpec, row: &AssetRow, there: &ChainSpec) -> bool
+/// Whether one of these rows is of the row's asset, native, with the row's chain as partner.
+fn some_back(
+    home: &Junctions,
+    chain: ChainId,
+    row: &AssetRow,
+    context: &Junctions,
+    rows: &[AssetRow],
+) -> bool
+    ensures { result
+        ≡ list_any (λ other. (eq_by_cmp junctions_cmp (path_of context.now other.id) (path_of home.now row.now.id)
+        && same_kind other.kind row.now.kind)
+        && causes.has_partner chain other.role) rows.now }
+{
+    rows.iter()
+        .any(|other| is_back(home, chain, row, context, other))
+}
+
+/// Whether the second chain lists the row's asset as native with the first chain as partner. The search begins close to a place.
+fn has_back(
+    spec: &NetworkSpec,
+    here: &ChainSpec,
+    row: &AssetRow,
+    place: usize,
+    there: &ChainSpec,
+) -> bool
     ensures { result ≡ parts.has_back (document_table spec.now here.now) row.now
         (document_table spec.now there.now) }
 {
     let home = context_of(spec, here);
     let context = context_of(spec, there);
     let rows = there.assets.items();
-    rows.iter()
-        .any(|other| is_back(&home, here.chain, row, &context, other))
+    let (before, after) = rows.split_at(begin_of(rows, place));
+    some_back(&home, here.chain, row, &context, after)
+        || some_back(&home, here.chain, row, &context, before)
 }
 
 /// Whether the second chain is this one, and lists the row's asset as native with the first chain as partner.
@@ -156,13 +187,14 @@ fn lists_back(
     spec: &NetworkSpec,
     here: &ChainSpec,
     row: &AssetRow,
+    place: usize,
     chain: ChainId,
     there: &ChainSpec,
 ) -> bool
     ensures { result ≡ causes.lists_back (document_table spec.now here.now) row.now chain
         (document_table spec.now there.now) }
 {
-    same_chain(there.chain, chain) && has_back(spec, here, row, there)
+    same_chain(there.chain, chain) && has_back(spec, here, row, place, there)
 }
 
 /// Whether one of these chains lists the row's asset so.
@@ -170,6 +202,7 @@ fn some_lists_back(
     spec: &NetworkSpec,
     here: &ChainSpec,
     row: &AssetRow,
+    place: usize,
     chain: ChainId,
     chains: &[ChainSpec],
 ) -> bool
@@ -179,15 +212,21 @@ fn some_lists_back(
 {
     chains
         .iter()
-        .any(|there| lists_back(spec, here, row, chain, there))
+        .any(|there| lists_back(spec, here, row, place, chain, there))
 }
 
 /// Whether the chain is there, and lists the row's asset as native with the row's chain as partner.
-fn is_listed_back(spec: &NetworkSpec, here: &ChainSpec, row: &AssetRow, chain: ChainId) -> bool
+fn is_listed_back(
+    spec: &NetworkSpec,
+    here: &ChainSpec,
+    row: &AssetRow,
+    place: usize,
+    chain: ChainId,
+) -> bool
     ensures { result ≡ list_any (causes.lists_back (document_table spec.now here.now) row.now chain)
         (tables_in spec.now) }
 {
-    some_lists_back(spec, here, row, chain, spec.chains.items())
+    some_lists_back(spec, here, row, place, chain, spec.chains.items())
 }
 
 /// The first of a row's partners that doesn't list the asset as native with the row's chain as partner.
@@ -195,13 +234,14 @@ fn first_unlisted(
     spec: &NetworkSpec,
     here: &ChainSpec,
     row: &AssetRow,
+    place: usize,
     partners: &[ChainId],
 ) -> Option<Incoherent>
     ensures { finding_of result ≡ parts.first_unlisted (tables_in spec.now)
         (document_table spec.now here.now) row.now partners.now }
 {
     for partner in partners {
-        if !is_listed_back(spec, here, row, *partner) {
+        if !is_listed_back(spec, here, row, place, *partner) {
             return Some(Incoherent {
                 cause: IncoherentCause::PartnerUnlisted,
                 first: here.chain,
@@ -213,12 +253,23 @@ fn first_unlisted(
 }
 
 /// A row's first partner that doesn't list the asset so; a derivative has no partners.
-fn row_partner(spec: &NetworkSpec, here: &ChainSpec, row: &AssetRow) -> Option<Incoherent>
+fn row_partner(
+    spec: &NetworkSpec,
+    here: &ChainSpec,
+    row: &AssetRow,
+    place: usize,
+) -> Option<Incoherent>
     ensures { finding_of result ≡ causes.partner_unlisted (tables_in spec.now)
         (document_table spec.now here.now) row.now row.now.role }
 {
     match &row.role {
-        AssetRole::Native { partners, .. } => first_unlisted(spec, here, row, partners.items()),
+        AssetRole::Native { partners, .. } => first_unlisted(
+            spec,
+            here,
+            row,
+            place,
+            partners.items(),
+        ),
         AssetRole::Derivative { .. } => None,
     }
 }
@@ -229,10 +280,12 @@ fn chain_partner(spec: &NetworkSpec, here: &ChainSpec) -> Option<Incoherent>
         (document_table spec.now here.now) }
 {
     let rows = here.assets.items();
+    let mut place: usize = 0;
     for row in rows {
-        if let Some(found) = row_partner(spec, here, row) {
+        if let Some(found) = row_partner(spec, here, row, place) {
             return Some(found);
         }
+        place = place.saturating_add(1);
     }
     None
 }
@@ -260,16 +313,32 @@ fn is_source(home: &Junctions, row: &AssetRow, context: &Junctions, other: &Asse
     is_native(&other.role) && is_asset(context, &other.id, other.kind, home, row)
 }
 
-/// Whether the second chain lists the row's asset as native.
-fn has_source(spec: &NetworkSpec, here: &ChainSpec, row: &AssetRow, there: &ChainSpec) -> bool
+/// Whether one of these rows is of the row's asset, and native.
+fn some_source(home: &Junctions, row: &AssetRow, context: &Junctions, rows: &[AssetRow]) -> bool
+    ensures { result
+        ≡ list_any (λ other. (eq_by_cmp junctions_cmp (path_of context.now other.id) (path_of home.now row.now.id)
+        && same_kind other.kind row.now.kind) && is_native_role other.role) rows.now }
+{
+    rows.iter()
+        .any(|other| is_source(home, row, context, other))
+}
+
+/// Whether the second chain lists the row's asset as native. The search begins close to a place.
+fn has_source(
+    spec: &NetworkSpec,
+    here: &ChainSpec,
+    row: &AssetRow,
+    place: usize,
+    there: &ChainSpec,
+) -> bool
     ensures { result ≡ parts.has_source (document_table spec.now here.now) row.now
         (document_table spec.now there.now) }
 {
     let home = context_of(spec, here);
     let context = context_of(spec, there);
     let rows = there.assets.items();
-    rows.iter()
-        .any(|other| is_source(&home, row, &context, other))
+    let (before, after) = rows.split_at(begin_of(rows, place));
+    some_source(&home, row, &context, after) || some_source(&home, row, &context, before)
 }
 
 /// Whether the second chain is this one, and lists the row's asset as native.
@@ -277,13 +346,14 @@ fn lists_native(
     spec: &NetworkSpec,
     here: &ChainSpec,
     row: &AssetRow,
+    place: usize,
     chain: ChainId,
     there: &ChainSpec,
 ) -> bool
     ensures { result ≡ causes.lists_native (document_table spec.now here.now) row.now chain
         (document_table spec.now there.now) }
 {
-    same_chain(there.chain, chain) && has_source(spec, here, row, there)
+    same_chain(there.chain, chain) && has_source(spec, here, row, place, there)
 }
 
 /// Whether one of these chains lists the row's asset so.
@@ -291,6 +361,7 @@ fn some_lists_native(
     spec: &NetworkSpec,
     here: &ChainSpec,
     row: &AssetRow,
+    place: usize,
     chain: ChainId,
     chains: &[ChainSpec],
 ) -> bool
@@ -300,27 +371,38 @@ fn some_lists_native(
 {
     chains
         .iter()
-        .any(|there| lists_native(spec, here, row, chain, there))
+        .any(|there| lists_native(spec, here, row, place, chain, there))
 }
 
 /// Whether the chain is there, and lists the row's asset as native.
-fn is_native_at(spec: &NetworkSpec, here: &ChainSpec, row: &AssetRow, chain: ChainId) -> bool
+fn is_native_at(
+    spec: &NetworkSpec,
+    here: &ChainSpec,
+    row: &AssetRow,
+    place: usize,
+    chain: ChainId,
+) -> bool
     ensures { result ≡ list_any
         (causes.lists_native (document_table spec.now here.now) row.now chain)
         (tables_in spec.now) }
 {
-    some_lists_native(spec, here, row, chain, spec.chains.items())
+    some_lists_native(spec, here, row, place, chain, spec.chains.items())
 }
 
 /// A row's reserve, where it doesn't list the asset as native; a native asset has no reserve.
-fn row_reserve(spec: &NetworkSpec, here: &ChainSpec, row: &AssetRow) -> Option<Incoherent>
+fn row_reserve(
+    spec: &NetworkSpec,
+    here: &ChainSpec,
+    row: &AssetRow,
+    place: usize,
+) -> Option<Incoherent>
     ensures { finding_of result ≡ causes.reserve_unlisted (tables_in spec.now)
         (document_table spec.now here.now) row.now row.now.role }
 {
     match &row.role {
         AssetRole::Native { .. } => None,
         AssetRole::Derivative { reserve } => {
-            if is_native_at(spec, here, row, *reserve) {
+            if is_native_at(spec, here, row, place, *reserve) {
                 return None;
             }
             Some(Incoherent {
@@ -338,10 +420,12 @@ fn chain_reserve(spec: &NetworkSpec, here: &ChainSpec) -> Option<Incoherent>
         (document_table spec.now here.now) }
 {
     let rows = here.assets.items();
+    let mut place: usize = 0;
     for row in rows {
-        if let Some(found) = row_reserve(spec, here, row) {
+        if let Some(found) = row_reserve(spec, here, row, place) {
             return Some(found);
         }
+        place = place.saturating_add(1);
     }
     None
 }
