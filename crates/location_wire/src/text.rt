@@ -136,6 +136,16 @@ pub fn location_text(alloc: Global, l: &Location) -> Result<String, AllocError>
     Ok(text)
 }
 
+/// Appends the text of a path.
+pub fn push_path_text(alloc: Global, text: &mut String, p: &Junctions) -> Result<(), AllocError>
+    ensures { OnOk result (string_bytes text.new ≡ string_bytes text.old ++ path_text p.now) }
+{
+    if p.items().is_empty() {
+        return text.push_str("/");
+    }
+    push_steps(alloc, text, p.items())
+}
+
 /// The text of a path, as `/GlobalConsensus(Polkadot)/Parachain(2000)`: each junction with a slash before it; the empty path is `/`.
 pub fn path_text(alloc: Global, p: &Junctions) -> Result<String, AllocError>
     ensures { IfOk result (λ text. string_bytes text ≡ path_text p.now) }

@@ -8,14 +8,12 @@ ghost use Rattle.supply_audit.specs.AssetPlaces.{ArePlaces};
 ghost use Rattle.supply_audit.specs.Places.{chain_table};
 ghost use Rattle.report_text.specs.Plan.{backing_beginning, planned_backing, planned_if, planned_backings, planned_backing_text};
 
-use crate::figures::{kind_name, push_sum};
-use crate::paths::path_in;
+use crate::figures::{ROOM, kind_name, push_chain, push_sum};
 use chain_state::ChainState;
-use location_wire::path_text;
+use location_wire::push_path_text;
 use std::alloc::{AllocError, Global};
-use std::fmt::Write;
 use std::marker::Model;
-use supply_audit::{AssetPlaces, Cover, backing_at};
+use supply_audit::{AssetPlaces, Cover, NetworkAsset, backing_at};
 use trust_tables::{AssetRole, AssetRow, Site};
 
 /// The line of a derivative: its beginning, and the positions of it and of what covers it.
@@ -40,11 +38,15 @@ fn beginning(alloc: Global, site: &Site, row: &AssetRow) -> Result<String, Alloc
     requires { IsTrue (has_path (path_of_site site.now) row.now) }
     ensures { IfOk result (λ text. string_bytes text ≡ backing_beginning site.now row.now) }
 {
-    let chain = site.chain;
-    let kind = kind_name(row.kind);
-    let path = path_text(alloc, &path_in(site, row))?;
-    let mut text = String::new(alloc);
-    write!(text, "  backing {chain} {kind} {path} held ")?;
+    let asset = NetworkAsset::listed_at(site, row);
+    let mut text = String::with_capacity(alloc, ROOM)?;
+    text.push_str("  backing ")?;
+    push_chain(&mut text, site.chain)?;
+    text.push_str(" ")?;
+    text.push_str(kind_name(row.kind))?;
+    text.push_str(" ")?;
+    push_path_text(alloc, &mut text, asset.path())?;
+    text.push_str(" held ")?;
     Ok(text)
 }
 

@@ -2,11 +2,13 @@
 ghost use Rattle.std.specs.Prelude.{◌≡◌, ◌++◌, ℕ, min, OnOk, string_bytes};
 ghost use Rattle.asset_bundles.specs.Books.{most_burned};
 ghost use Rattle.asset_bundles.specs.Totals.{total_value};
+ghost use Rattle.chain_ids.specs.Texts.{chain_text};
 ghost use Rattle.step_text.specs.Texts.{kind_name, total_text};
 ghost use Rattle.report_text.specs.Sums.{sum_text};
 
 use asset_bundles::Total;
 use asset_lists::Kind;
+use chain_ids::ChainId;
 use std::alloc::AllocError;
 use std::fmt::Write;
 
@@ -17,6 +19,19 @@ pub(crate) fn kind_name(kind: Kind) -> &'static str
     match kind {
         Kind::Fungible => "fungible",
         Kind::Class => "class",
+    }
+}
+
+/// Bytes for the beginnings of most lines, so that they aren't moved while they grow.
+pub(crate) const ROOM: usize = 112;
+
+/// Appends the text of a chain.
+pub(crate) fn push_chain(text: &mut String, chain: ChainId) -> Result<(), AllocError>
+    ensures { OnOk result (string_bytes text.new ≡ string_bytes text.old ++ chain_text chain) }
+{
+    match chain {
+        ChainId::Relay => text.push_str("relay"),
+        ChainId::Para(number) => write!(text, "{number}"),
     }
 }
 

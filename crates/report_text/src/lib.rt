@@ -8,7 +8,6 @@ mod chains;
 mod figures;
 mod laws;
 mod natives;
-mod paths;
 mod plan;
 mod queues;
 mod sheet;

@@ -5,12 +5,11 @@ ghost use Rattle.supply_audit.specs.Places.{chain_table};
 ghost use Rattle.supply_audit.specs.RowPlaces.{places_in};
 ghost use Rattle.report_text.specs.Plan.{supply_beginning, planned_supply, planned_supply_text};
 
-use crate::figures::{kind_name, push_sum};
+use crate::figures::{ROOM, kind_name, push_sum};
 use crate::natives::Natives;
 use chain_state::ChainState;
-use location_wire::path_text;
+use location_wire::push_path_text;
 use std::alloc::{AllocError, Global};
-use std::fmt::Write;
 use std::marker::Model;
 use supply_audit::{HomePlaces, NetworkAsset, Place, supply_at};
 
@@ -35,10 +34,12 @@ impl Model for SupplyEntry {
 fn beginning(alloc: Global, asset: &NetworkAsset) -> Result<String, AllocError>
     ensures { IfOk result (λ text. string_bytes text ≡ supply_beginning asset.now) }
 {
-    let kind = kind_name(asset.kind());
-    let path = path_text(alloc, asset.path())?;
-    let mut text = String::new(alloc);
-    write!(text, "  supply {kind} {path} home ")?;
+    let mut text = String::with_capacity(alloc, ROOM)?;
+    text.push_str("  supply ")?;
+    text.push_str(kind_name(asset.kind()))?;
+    text.push_str(" ")?;
+    push_path_text(alloc, &mut text, asset.path())?;
+    text.push_str(" home ")?;
     Ok(text)
 }
 
