@@ -39,7 +39,7 @@ fn same_instance(a: &Fun, b: &Fun) -> bool
 {
     match (a, b) {
         (Fun::Fungible(_), Fun::Fungible(_)) => true,
-        (Fun::NonFungible(a), Fun::NonFungible(b)) => a.cmp(b).is_eq(),
+        (Fun::NonFungible(a), Fun::NonFungible(b)) => a == b,
         _ => false,
     }
 }

@@ -39,6 +39,7 @@ use network_spec::{Balance, ChainSpec, NetworkSpec};
 use operands::OpenQuery;
 use plain_lists::Listed;
 use std::alloc::{AllocError, Global};
+use std::slice;
 use trust_tables::Site;
 use weight_trader::{Rate, Trader};
 
@@ -116,7 +117,26 @@ impl ChainState {
             (held_assets (bundle_of (asset ∷ []))) ≡ None) }
         ensures kept { OnErr result (part_of self.new ≡ part_of self.old) }
     {
-        let goods = AssetBundle::mint(*self.events.allocator(), &[asset])?;
+        self.place_same(who, &asset)
+    }
+
+    /// Makes the same asset in an account, as `place` does, where it isn't given away.
+    fn place_same(&mut self, who: &[u8; 32], asset: &Asset) -> Result<(), DepositFault>
+        requires some { IsFalse (is_zero asset.now) }
+        requires listed { IsTrue (lists (listing (part_of self.old).rows)
+            (listed_of (unit_of asset.now))) }
+        ensures placed { OnOk result (part_of self.new
+            ≡ record (part_of self.old) {
+              held = (Deposited who.now (bundle_of (asset.now ∷ []))
+                  (accounts_of (part_of self.old))).held;
+            }) }
+        ensures fault { IfErr result (λ fault. IsDepositFault (part_of self.old).held who.now
+            (held_assets (bundle_of (asset.now ∷ []))) fault) }
+        ensures free { OnOk result (barred (part_of self.old).held who.now
+            (held_assets (bundle_of (asset.now ∷ []))) ≡ None) }
+        ensures kept { OnErr result (part_of self.new ≡ part_of self.old) }
+    {
+        let goods = AssetBundle::mint(*self.events.allocator(), slice::from_ref(asset))?;
         match self.ledger.deposit(who, goods) {
             Ok(()) => Ok(()),
             Err((goods, fault)) => {
@@ -168,7 +188,7 @@ impl ChainState {
             }) }
         ensures kept { OnErr result (part_of self.new ≡ part_of self.old) }
     {
-        match self.place(&balance.who, balance.asset.copy()) {
+        match self.place_same(&balance.who, &balance.asset) {
             Ok(()) => Ok(()),
             Err(DepositFault::Memory) => Err(AllocError),
             Err(_) => unreachable!(),

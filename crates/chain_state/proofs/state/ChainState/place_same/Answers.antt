@@ -9,15 +9,15 @@ use Rattle.chain_state.proofs.Floored.{after_either, got_after}
 use Rattle.chain_state.specs.Facts.{KeepsLockFloors}
 use Rattle.chain_state.proofs.Lemmas.Facts.{keeps_floors}
 use Rattle.chain_state.specs.Known.{floors_there, pools_free}
-use Rattle.chain_state.proofs.state.ChainState.place.Goals as goal
+use Rattle.chain_state.proofs.state.ChainState.place_same.Goals as goal
 
 pub mint-requires-clause-once : goal.mint-requires-clause-once
-mint-requires-clause-once c = once_each (c.args.asset ∷ []) refl
+mint-requires-clause-once c = once_each (c.args.asset.now ∷ []) refl
 
 pub deposit-requires : goal.deposit-requires
 deposit-requires c =
     let f = c.args.self.now in
-    let all = listed_list (listing f.settings.rows) (c.args.asset ∷ []) (and_from _ _ c.requires.listed refl) in
+    let all = listed_list (listing f.settings.rows) (c.args.asset.now ∷ []) (and_from _ _ c.requires.listed refl) in
     record { listed = subst (λ listed. AreListed listed c.in_ok-goods.goods) (sym f.ledger_lists) (subst (AreListed (listing f.settings.rows)) (sym c.in_ok-goods.ensures) all) }
 
 pub invariant_of-self-clause-floors : goal.invariant_of-self-clause-floors
