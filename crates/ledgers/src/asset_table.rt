@@ -8,7 +8,7 @@ ghost use Rattle.ledgers.specs.Ledgers.{listed_pair, number_in};
 use crate::listed_asset::{ListedAsset, Sought};
 use asset_lists::{AssetId, Kind};
 use indexmap::IndexSet;
-use locations::Location;
+use locations::{Location, StoredLocation};
 use std::alloc::{AllocError, Global};
 use std::marker::Model;
 
@@ -41,6 +41,7 @@ impl AssetTable {
     {
         let mut assets = IndexSet::with_capacity(alloc, list.len())?;
         for (id, kind) in list {
+            let id = StoredLocation::of(alloc, &id)?;
             assets.insert(ListedAsset { id, kind })?;
         }
         Ok(AssetTable { assets })
@@ -72,7 +73,7 @@ impl AssetTable {
         ensures { result ≡ slice_get self.now number }
     {
         match self.assets.get_index(number as usize) {
-            Some(asset) => Some((AssetId::Concrete(asset.id.copy()), asset.kind)),
+            Some(asset) => Some((AssetId::Concrete(asset.id.to_location()), asset.kind)),
             None => None,
         }
     }

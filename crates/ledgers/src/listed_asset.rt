@@ -5,13 +5,13 @@ ghost use Rattle.asset_lists.specs.Listed.{kind_number};
 
 use asset_lists::Kind;
 use indexmap::Equivalent;
-use locations::Location;
+use locations::{Location, StoredLocation};
 use std::hash::{Hash, Hasher};
 
 /// An asset that a chain lists: a location that has amounts, or a class of instances.
 #[derive(Debug, Drop)]
 pub(crate) struct ListedAsset {
-    pub(crate) id: Location,
+    pub(crate) id: StoredLocation,
     pub(crate) kind: Kind,
 }
 
@@ -108,7 +108,7 @@ impl Equivalent<ListedAsset> for Sought<'_> {
         (listed_asset_of q.id.now q.kind) };
 
     fn equivalent(&self, key: &ListedAsset) -> bool {
-        *self.id == key.id && is_same_kind(self.kind, key.kind)
+        key.id.is(self.id) && is_same_kind(self.kind, key.kind)
     }
 }
 

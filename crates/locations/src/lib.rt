@@ -6,9 +6,11 @@ mod grammar;
 mod interior;
 mod laws;
 mod relative;
+mod stored;
 
 pub use faults::{Full, LocationFault, PathFault};
 pub use grammar::{BodyId, BodyPart, Junction, NetworkId};
 pub use interior::{Junctions, MAX_JUNCTIONS, are_apart};
 pub use laws::{law_of_derived_order, law_of_exact_location_orders, law_of_paths};
 pub use relative::{Location, invert_target};
+pub use stored::StoredLocation;
