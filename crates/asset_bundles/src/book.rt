@@ -1,6 +1,6 @@
 //! The book of burns.
 use crate::Total;
-use asset_lists::{AssetId, Kind};
+use asset_lists::{Kind, StoredId};
 use std::marker::Model;
 
 /// Why assets were given up.
@@ -19,7 +19,7 @@ pub enum Cause {
 /// A listed asset, and what was burned of it for each cause.
 #[derive(Drop)]
 pub(crate) struct BookRow {
-    pub(crate) id: AssetId,
+    pub(crate) id: StoredId,
     pub(crate) kind: Kind,
     pub(crate) burned: Total,
     pub(crate) lost: Total,

@@ -1,5 +1,5 @@
 //! Burns written into the book, and read.
-ghost use Rattle.std.specs.Prelude.{◌≡◌, ◌+◌, ◌<◌, ◌≤◌, [], ◌∷◌, ◌++◌, min, length, vec_len, vec_capacity, IsTrue, IfOk};
+ghost use Rattle.std.specs.Prelude.{◌≡◌, ◌≤◌, min, length, IsTrue, IfOk};
 ghost use Rattle.std.specs.List.{prefix_len};
 ghost use Rattle.std.specs.Ordering.{eq_by_cmp};
 ghost use Rattle.amounts.specs.Amounts.{amount, single, empty};
@@ -11,40 +11,30 @@ ghost use Rattle.asset_bundles.specs.BookRows.{unburned_row, row_key, row_causes
 
 use crate::book::BookRow;
 use crate::{BurnBook, Cause, Total};
-use asset_lists::{AssetId, Kind};
-use locations::Location;
+use asset_lists::{AssetId, Kind, StoredId};
 use std::alloc::{AllocError, Global};
 
 impl BookRow {
-    /// A row to be written.
-    fn blank() -> BookRow {
-        BookRow {
-            id: AssetId::Concrete(Location::here()),
-            kind: Kind::Fungible,
+    /// The row of an asset of which nothing was burned. An `Err` is out of memory.
+    fn unburned(alloc: Global, id: &AssetId, kind: Kind) -> Result<BookRow, AllocError>
+        ensures { IfOk result (λ row. row ≡ unburned_row (id.now, kind)) }
+    {
+        let id = StoredId::of(alloc, id)?;
+        Ok(BookRow {
+            id,
+            kind,
             burned: Total::ZERO,
             lost: Total::ZERO,
             merged: Total::ZERO,
             saturated: Total::ZERO,
-        }
-    }
-
-    /// Becomes the row of an asset of which nothing was burned.
-    fn start(&mut self, id: &AssetId, kind: Kind)
-        ensures { self.new ≡ unburned_row (id.now, kind) }
-    {
-        self.id.assign(id);
-        self.kind = kind;
-        self.burned = Total::ZERO;
-        self.lost = Total::ZERO;
-        self.merged = Total::ZERO;
-        self.saturated = Total::ZERO;
+        })
     }
 
     /// Whether it is the row of this asset.
     fn is_of(&self, id: &AssetId, kind: Kind) -> bool
         ensures { result ≡ eq_by_cmp listed_cmp (id.now, kind) (row_key self.now) }
     {
-        *id == self.id && kind == self.kind
+        self.id.is(id) && kind == self.kind
     }
 
     /// What was burned for a cause.
@@ -130,19 +120,6 @@ fn sum_in(rows: &[BookRow], id: &AssetId, kind: Kind) -> Total
     Total::ZERO
 }
 
-/// Puts the row of an asset of which nothing was burned at the end of a list that has room for it.
-fn push_unburned(rows: &mut Vec<BookRow>, id: &AssetId, kind: Kind)
-    requires room { vec_len rows.old < vec_capacity rows.old }
-    ensures items { rows.new.items ≡ rows.old.items ++ unburned_row (id.now, kind) ∷ [] }
-    ensures len { vec_len rows.new ≡ vec_len rows.old + 1 }
-    ensures capacity { vec_capacity rows.new ≡ vec_capacity rows.old }
-{
-    let last = rows.len();
-    // For speed: the row is made where it stays.
-    rows.push_reserved(BookRow::blank());
-    rows[last].start(id, kind);
-}
-
 /// A row for each asset, of which nothing was burned.
 fn new_rows(alloc: Global, assets: &[(AssetId, Kind)]) -> Result<Vec<BookRow>, AllocError>
     ensures keys { IfOk result (λ rows. book_keys_in rows.items ≡ assets.now) }
@@ -150,7 +127,8 @@ fn new_rows(alloc: Global, assets: &[(AssetId, Kind)]) -> Result<Vec<BookRow>, A
 {
     let mut rows = Vec::with_capacity(alloc, assets.len())?;
     for asset in assets {
-        push_unburned(&mut rows, &asset.0, asset.1);
+        let row = BookRow::unburned(alloc, &asset.0, asset.1)?;
+        rows.push(row)?;
     }
     Ok(rows)
 }

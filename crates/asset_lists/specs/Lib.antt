@@ -4,3 +4,4 @@ pub mod DerivedOrder
 pub mod Listed
 pub mod Lists
 pub mod Moves
+pub mod Stored

@@ -5,6 +5,7 @@ mod faults;
 mod filters;
 mod laws;
 mod list;
+mod stored;
 mod units;
 
 pub use faults::{ListFault, ReanchorFault};
@@ -14,4 +15,5 @@ pub use laws::{
     law_of_rising,
 };
 pub use list::{Assets, MAX_ASSETS, copied, is_rising, push_asset, push_place, push_reanchored};
+pub use stored::StoredId;
 pub use units::{Asset, AssetId, Fun, Instance, Kind};

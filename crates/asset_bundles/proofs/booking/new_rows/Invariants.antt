@@ -1,5 +1,4 @@
-use Rattle.std.proofs.Common.{◌≡◌, take, length}
-use Rattle.std.specs.Prelude.{vec_len, vec_capacity}
+use Rattle.std.proofs.Common.{◌≡◌, take}
 use Rattle.asset_bundles.specs.declared.book.Cause.{Cause}
 use Rattle.asset_lists.specs.Listed.{Listed}
 use Rattle.asset_bundles.specs.BookRows.{book_keys_in, total_at}
@@ -9,6 +8,4 @@ abbrev pub invariant-loop-asset : goal.invariant-loop-asset
 invariant-loop-asset l = record {
   keys : book_keys_in l.rows.items ≡ take l.asset-index l.assets;
   none : (k : Listed) (c : Cause) → total_at k c l.rows.items ≡ 0;
-  filled : vec_len l.rows ≡ l.asset-index;
-  room : vec_capacity l.rows ≡ length l.assets;
 }
