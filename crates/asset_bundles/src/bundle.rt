@@ -11,10 +11,10 @@ ghost use Rattle.asset_bundles.specs.Joins.{IsWithinMost};
 ghost use Rattle.asset_bundles.specs.Taking.{IsTakeFault};
 
 use crate::TakeFault;
-use crate::items::{amount_held, amounts_fit, held, holds, total};
+use crate::items::{amount_by, amount_held, amounts_fit, held, holds, total};
 use crate::portions::{chosen, cut, parted, parted_by_list, takes_all};
 use crate::spending::{give_up, give_up_amount};
-use asset_lists::{Asset, AssetId, Assets, Filter, Kind, copied, push_asset};
+use asset_lists::{Asset, AssetId, Assets, Filter, Kind, StoredId, copied, push_asset};
 use std::alloc::{AllocError, Global};
 use std::marker::Model;
 use std::mem::replace;
@@ -104,6 +104,13 @@ impl AssetBundle {
         ensures { result ≡ amount self.now (id.now, None) }
     {
         amount_held(self.items.as_slice(), id)
+    }
+
+    /// The amount of the fungible asset of a stored id, as `amount`.
+    pub fn amount_by(&self, id: &StoredId) -> u128
+        ensures { result ≡ amount self.now (id.now, None) }
+    {
+        amount_by(self.items.as_slice(), id)
     }
 
     /// The amount of a fungible asset in its smallest unit, or the number of instances of a class.

@@ -5,11 +5,11 @@ ghost use Rattle.std.specs.Ordering.{eq_by_cmp};
 ghost use Rattle.amounts.specs.Rows.{sum_where};
 ghost use Rattle.amounts.specs.Amounts.{total};
 ghost use Rattle.asset_lists.specs.declared.units.Kind.{Kind};
-ghost use Rattle.asset_lists.specs.Units.{unit_of, amount_of, unit_cmp, assets_cmp};
+ghost use Rattle.asset_lists.specs.Units.{asset_id_cmp, unit_of, amount_of, unit_cmp, assets_cmp};
 ghost use Rattle.asset_bundles.specs.Bundles.{rows_of, found, is_asset, bundle_of, IsHolding};
 ghost use Rattle.asset_bundles.specs.Portions.{AreWithinMost};
 
-use asset_lists::{Asset, AssetId, Fun, Kind};
+use asset_lists::{Asset, AssetId, Fun, Kind, StoredId};
 
 /// For the prover alone: no amount is above the most of its type. Nothing is done.
 pub(crate) fn amounts_fit(items: &[Asset])
@@ -53,6 +53,33 @@ pub(crate) fn amount_held(items: &[Asset], id: &AssetId) -> u128
 {
     for item in items {
         if is_amount_of(id, item) {
+            return item.amount();
+        }
+    }
+    0
+}
+
+/// Whether a stored id is this one.
+fn is_stored_as(id: &StoredId, other: &AssetId) -> bool
+    ensures { result ≡ eq_by_cmp asset_id_cmp id.now other.now }
+{
+    id.is(other)
+}
+
+/// Whether it is an amount of the fungible asset of this stored id.
+#[tactic(auto, using(crate::proofs::Finding::same_test))]
+fn is_amount_by(id: &StoredId, item: &Asset) -> bool
+    ensures { result ≡ eq_by_cmp unit_cmp (id.now, None) (unit_of item.now) }
+{
+    matches!(item.fun, Fun::Fungible(_)) && is_stored_as(id, &item.id)
+}
+
+/// The amount of the fungible asset of this stored id.
+pub(crate) fn amount_by(items: &[Asset], id: &StoredId) -> u128
+    ensures { result ≡ found (id.now, None) items.now }
+{
+    for item in items {
+        if is_amount_by(id, item) {
             return item.amount();
         }
     }

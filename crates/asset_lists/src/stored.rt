@@ -45,6 +45,16 @@ impl StoredId {
         }
     }
 
+    /// The same id.
+    pub fn to_id(&self) -> AssetId
+        ensures { result ≡ self.now }
+    {
+        match &self.place {
+            Some(place) => AssetId::Concrete(place.to_location()),
+            None => AssetId::Abstract(self.bytes),
+        }
+    }
+
     /// Whether an id is this one.
     pub fn is(&self, id: &AssetId) -> bool
         ensures { result ≡ eq_by_cmp asset_id_cmp id.now self.now }

@@ -1,5 +1,5 @@
 //! What is kept of the fees in one asset.
-ghost use Rattle.std.specs.Prelude.{◌≡◌, ◌+◌, ◌-◌, ◌<◌, [], ◌∷◌, ◌++◌, min, vec_len, vec_capacity, None};
+ghost use Rattle.std.specs.Prelude.{◌≡◌, ◌+◌, ◌-◌, min, None, IfOk};
 ghost use Rattle.std.specs.Ordering.{eq_by_cmp};
 ghost use Rattle.asset_lists.specs.Units.{unit_cmp};
 ghost use Rattle.asset_bundles.specs.Totals.{total_value};
@@ -7,14 +7,14 @@ ghost use Rattle.asset_bundles.specs.Books.{most_burned};
 ghost use Rattle.chain_state.specs.Fees.{no_fee, raised_fee, cleared};
 
 use asset_bundles::{AssetBundle, Total};
-use asset_lists::AssetId;
-use locations::Location;
+use asset_lists::{AssetId, StoredId};
+use std::alloc::{AllocError, Global};
 use std::marker::Model;
 
 /// How much of one fungible asset is kept, in its smallest unit. The sum saturates at 2^160-1. Contracts see it as the unit and the sum.
 #[derive(Drop)]
 pub struct FeeRow {
-    id: AssetId,
+    id: StoredId,
     sum: Total,
 }
 
@@ -35,40 +35,23 @@ fn with_more(sum: Total, amount: u128) -> Total
     sum.plus(amount)
 }
 
-/// Puts a row with nothing of the asset at the end of a list that has room for it.
-pub(crate) fn push_none_of(rows: &mut Vec<FeeRow>, id: &AssetId)
-    requires room { vec_len rows.old < vec_capacity rows.old }
-    ensures items { rows.new.items ≡ rows.old.items ++ no_fee id.now ∷ [] }
-    ensures len { vec_len rows.new ≡ vec_len rows.old + 1 }
-    ensures capacity { vec_capacity rows.new ≡ vec_capacity rows.old }
-{
-    let last = rows.len();
-    rows.push_reserved(FeeRow::blank());
-    rows[last].start(id);
-}
-
 impl FeeRow {
-    /// A row to be written.
-    fn blank() -> FeeRow {
-        FeeRow {
-            id: AssetId::Concrete(Location::here()),
-            sum: Total::ZERO,
-        }
-    }
-
-    /// Becomes the row with nothing of the asset.
-    fn start(&mut self, id: &AssetId)
-        ensures { self.new ≡ no_fee id.now }
+    /// Nothing of the asset. An `Err` is out of memory.
+    pub(crate) fn none_of(alloc: Global, id: &AssetId) -> Result<FeeRow, AllocError>
+        ensures { IfOk result (λ row. row ≡ no_fee id.now) }
     {
-        self.id.assign(id);
-        self.sum = Total::ZERO;
+        let id = StoredId::of(alloc, id)?;
+        Ok(FeeRow {
+            id,
+            sum: Total::ZERO,
+        })
     }
 
     /// The asset.
-    pub fn id(&self) -> &AssetId
-        ensures { self.now.0 ≡ (result.now, None) }
+    pub fn id(&self) -> AssetId
+        ensures { self.now.0 ≡ (result, None) }
     {
-        &self.id
+        self.id.to_id()
     }
 
     /// What is kept of it.
@@ -82,14 +65,14 @@ impl FeeRow {
     pub(crate) fn is_of(&self, id: &AssetId) -> bool
         ensures { result ≡ eq_by_cmp unit_cmp (id.now, None) self.now.0 }
     {
-        *id == self.id
+        self.id.is(id)
     }
 
     /// Adds what the goods have of the asset.
     pub(crate) fn raise(&mut self, goods: &AssetBundle)
         ensures { self.new ≡ raised_fee goods.now self.old }
     {
-        self.sum = with_more(self.sum, goods.amount(&self.id));
+        self.sum = with_more(self.sum, goods.amount_by(&self.id));
     }
 
     /// Nothing of it is kept any longer.

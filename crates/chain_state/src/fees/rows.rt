@@ -7,7 +7,7 @@ ghost use Rattle.asset_lists.specs.Units.{Unit, unit_cmp};
 ghost use Rattle.asset_bundles.specs.Totals.{total_value};
 ghost use Rattle.chain_state.specs.Fees.{kept_goods, has_row, HaveRows, HaveRowsFor, saturated_fees, no_fee, raised_fee, cleared};
 
-use crate::fees::row::{FeeRow, push_none_of};
+use crate::fees::row::FeeRow;
 use crate::ids::fungible_ids;
 use asset_bundles::{AssetBundle, Total};
 use asset_lists::{AssetId, Kind};
@@ -47,7 +47,8 @@ fn new_rows(alloc: Global, ids: &[&AssetId]) -> Result<Vec<FeeRow>, AllocError>
 {
     let mut rows = Vec::with_capacity(alloc, ids.len())?;
     for id in ids {
-        push_none_of(&mut rows, *id);
+        let row = FeeRow::none_of(alloc, *id)?;
+        rows.push(row)?;
     }
     Ok(rows)
 }

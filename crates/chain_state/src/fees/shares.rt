@@ -118,11 +118,11 @@ impl ChainState {
         let mut above = Vec::new(alloc);
         for row in self.fees.rows() {
             let id = row.id();
-            let paid = self.paid_in(id);
+            let paid = self.paid_in(&id);
             let kept = row.sum();
-            let (fits, rest) = self.share(id, paid, kept);
-            push_coins(&mut within, id, fits)?;
-            push_above(&mut above, id, rest)?;
+            let (fits, rest) = self.share(&id, paid, kept);
+            push_coins(&mut within, &id, fits)?;
+            push_above(&mut above, &id, rest)?;
         }
         Ok((within, above))
     }
