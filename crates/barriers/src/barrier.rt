@@ -1,3 +1,4 @@
+//! The barriers of a chain, and which of them lets a program in.
 ghost use Rattle.std.specs.Prelude.{◌≡◌, true, false, if◌then◌else◌, IfOk};
 ghost use Rattle.barriers.specs.Barriers as barriers;
 ghost use Rattle.barriers.specs.Barriers.{admission, allows, holds_at, left_by};

@@ -84,7 +84,7 @@ pub record HasDoneFront (m : RowAmounts) (floors : Floors) (rows who : List ℕ)
 abbrev pub IsInterrupted : RowAmounts → Floors → List ℕ → List ℕ → AnyCall → RowAmounts → Type 0
 IsInterrupted m floors rows who c now = HasDoneFront m floors rows who (items_of c) now
 
--- memory was refused inside a batch: some of its calls were done, and not all
+-- memory was refused inside a batch: its first calls were done, maybe none, and not all
 pub record IsStoppedInside (m : RowAmounts) (floors : Floors) (rows who : List ℕ)
     (items : List Item) (now : RowAmounts) : Type 0 where
   pub front : List Item

@@ -58,7 +58,7 @@ pub fn law_of_interruptions()
         → ((k : AccountRow) → IsNumberAt m k) → (k : AccountRow) → IsNumberAt now k }
 {}
 
-/// What was moved can be moved back, which only running out of memory can refuse, and then all is as it was.
+/// What was moved can be moved back, which only running out of memory can refuse; once it is moved back, all is as it was.
 pub fn law_of_moving_back()
     ensures accepted { (m : RowAmounts) (floors : Floors) (rows : List ℕ) (row : ℕ)
         (from to : List ℕ) (n : ℕ)

@@ -1,4 +1,4 @@
-//! The sums that a report prints are the sums that are conserved.
+//! In a coherent network the sums that a report prints are the sums that are conserved.
 //! Checking accounts stay below their maximum: a law of every network, coherent or not.
 #![tactic(auto)]
 

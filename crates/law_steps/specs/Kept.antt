@@ -29,8 +29,8 @@ NetworkKeptBetween spec steps = KeptBetween (order_of spec) (first_world spec) s
 abbrev pub NetworkSound : NetworkSpec → List Step → Type 0
 NetworkSound spec steps = AllSound (order_of spec) (first_world spec) steps
 
--- every moment inside a run, as every world, keeps what `NetworkKept` says, with what the run holds counted; so does what is left where memory is
--- refused to it
+-- every moment inside a local execution, and inside a delivery after its first instruction, keeps what `NetworkKept` says, with what the run holds
+-- counted; so does what is left where memory is refused to one
 abbrev pub NetworkRunsKept : NetworkSpec → List Step → Type 0
 NetworkRunsKept spec steps = RunsKept (order_of spec) (first_world spec) steps
 

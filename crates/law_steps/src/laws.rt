@@ -122,8 +122,8 @@ pub fn law_of_rising_accounts()
     law_of_conserved_deliveries();
 }
 
-/// The same of all runs at once: every moment inside a run is kept, of local executions and of deliveries, also where memory is refused; and in
-/// none of them would a checking account pass its maximum.
+/// The same of all runs at once: every moment of a local execution is kept, and of a delivery after its first instruction, also where memory is
+/// refused; and wherever either comes no checking account would pass its maximum.
 pub fn law_of_kept_runs()
     ensures kept { (order : List Link) (w : World) (steps : List Step)
         → IsFirst w → RunsKept order w steps }

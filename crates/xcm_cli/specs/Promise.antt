@@ -64,7 +64,7 @@ pub record IsSecure (spec : NetworkSpec) (steps : List Step) : Type 0 where
   pub between : NetworkKeptBetween spec steps
   -- in every world each unit, wherever it is, and each burn belongs to a listed row
   pub sound : NetworkSound spec steps
-  -- and so it is inside each run, wherever it comes, and where memory is refused to it
+  -- and so it is inside each local execution, inside each delivery after its first instruction, and where memory is refused to one
   pub inside : NetworkRunsKept spec steps
   -- and where memory is refused to a drain after the steps, however many deliveries it has made
   pub drains : (now : World) → DrainStops (order_of spec) (world_behind_steps spec steps) now

@@ -70,9 +70,9 @@ pub fn run<I: Source, O: Sink>(
     ensures lawful { ReadNetworksAreLawful }
 
     // Where moreover none of the seven causes is found in it, every world keeps each asset, backs each derivative and has right checking
-    // accounts, inside runs too, and from world to world no derivative's cover shrinks; what is admitted is paid and received; no joining of
-    // bundles burns what would pass an amount's maximum or is there already; and in every world the sums which the supply block prints are
-    // conserved and covered.
+    // accounts, inside each local execution and, after its first instruction, each delivery too, and from world to world no derivative's cover
+    // shrinks; what is admitted is paid and received; no joining of bundles burns what would pass an amount's maximum or is there already; and
+    // in every world the sums which the supply block prints are conserved and covered.
     ensures kept { CoherentNetworksAreSecure }
 
     // In the network of drawn steps both hold without a premise.
