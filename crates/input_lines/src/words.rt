@@ -7,18 +7,17 @@ ghost use Rattle.input_lines.specs.Step.{split_word, without_prefix, chain_word,
 use crate::number::read_number;
 use chain_ids::ChainId;
 use hex::{FromHex, FromHexError};
+use memchr::memchr;
 use std::alloc::{AllocError, Global};
 
 /// The bytes before the first space, and those after it.
 pub(crate) fn split_word(words: &[u8]) -> Option<(&[u8], &[u8])>
     ensures { split_values result ≡ split_word words.now }
 {
-    for (at, byte) in words.iter().enumerate() {
-        if *byte == b' ' {
-            return Some((&words[..at], &words[at + 1..]));
-        }
+    match memchr(b' ', words) {
+        Some(at) => Some((&words[..at], &words[at + 1..])),
+        None => None,
     }
-    None
 }
 
 /// The digits after the `0x` that may come before.

@@ -1,9 +1,12 @@
-use Rattle.std.proofs.Common.{arith}
+use Rattle.std.proofs.Common.{arith, eq-eqb}
+use Rattle.std.proofs.lemmas.Bool.{eqb-true}
 use Rattle.input_lines.proofs.FirstWord.{split_at, no_split}
 use Rattle.input_lines.proofs.words.split_word.Goals as goal
 
-pub returns-then-byte-eq32 : goal.returns-then-byte-eq32
-returns-then-byte-eq32 c = split_at c.args.words.now c.loop-at.at c.loop-at-test.true c.if-byte-eq32.true c.loop-at.invariant
+pub returns-in-Some : goal.returns-in-Some
+returns-in-Some c =
+    split_at c.args.words.now c.in-Some.at c.in-Some.ensures.0.high (eqb-true _ _ c.in-Some.ensures.1)
+    (λ k h e. c.in-Some.ensures.0.before k (omega arith) h (eq-eqb _ _ e))
 
-pub returns : goal.returns
-returns c = no_split c.args.words.now (λ k h. c.loop-at.invariant k (omega arith))
+pub returns-in-None : goal.returns-in-None
+returns-in-None c = no_split c.args.words.now (λ k h e. c.in-None.ensures k (omega arith) h (eq-eqb _ _ e))
