@@ -1,7 +1,7 @@
 //! What the network document says of a chain.
 use asset_pools::Pool;
 use operands::PalletInfo;
-use plain_lists::Listed;
+use plain_lists::{Listed, SharedList};
 use trust_tables::{AssetRow, Site};
 
 /// What the network document says of a chain, which no call of the chain changes.
@@ -10,7 +10,7 @@ pub struct Settings {
     /// Where the chain is.
     pub site: Site,
     /// The assets that it lists.
-    pub rows: Listed<AssetRow>,
+    pub rows: SharedList<AssetRow>,
     /// The pallets of its runtime.
     pub pallets: Listed<PalletInfo>,
     /// The account that fees are paid to.

@@ -16,7 +16,7 @@ use document_entries::{
 };
 use network_spec::{Balance, ChainSpec};
 use operands::PalletInfo;
-use plain_lists::Listed;
+use plain_lists::{Listed, SharedList};
 use serde_json::Value;
 use std::alloc::{AllocError, Global};
 use trust_tables::AssetRow;
@@ -150,12 +150,14 @@ fn rates_field(alloc: Global, list: InChain, value: &Value) -> Result<Listed<Rat
 }
 
 /// The chain's assets.
-fn assets_field(alloc: Global, list: InChain, value: &Value) -> Result<Listed<AssetRow>, Stop>
+fn assets_field(alloc: Global, list: InChain, value: &Value) -> Result<SharedList<AssetRow>, Stop>
     ensures { Answers result (entries_field (codes "assets") sections.Assets asset_row list.chain
         (view value.now)) }
 {
     let items = list_field(list.fields(), "assets", value)?;
-    read_entries(alloc, &list, items)
+    let rows: Listed<AssetRow> = read_entries(alloc, &list, items)?;
+    let rows = SharedList::from_vec(alloc, rows.into_vec())?;
+    Ok(rows)
 }
 
 /// The chain's accounts.

@@ -4,7 +4,7 @@ use asset_pools::Pool;
 use barriers::Barrier;
 use chain_ids::ChainId;
 use operands::{PalletInfo, Weight};
-use plain_lists::Listed;
+use plain_lists::{Listed, SharedList};
 use trust_tables::AssetRow;
 use weight_trader::Rate;
 use xcm_program::WeightRule;
@@ -36,7 +36,7 @@ pub struct ChainSpec {
     /// What weight costs, in the order in which the rates are tried.
     pub rates: Listed<Rate>,
     /// The assets that it lists.
-    pub assets: Listed<AssetRow>,
+    pub assets: SharedList<AssetRow>,
     /// What its accounts hold.
     pub accounts: Listed<Balance>,
     /// The pallets of its runtime.

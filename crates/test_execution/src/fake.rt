@@ -24,7 +24,7 @@ use exec_base::{Event, Settings};
 use ledgers::all_holdings;
 use network_spec::Balance;
 use operands::OpenQuery;
-use plain_lists::Listed;
+use plain_lists::{Listed, SharedList};
 use std::alloc::{AllocError, Global};
 use trust_tables::{AssetRow, Site};
 
@@ -74,7 +74,7 @@ impl FakeHost {
         let balances = balances_of(alloc, accounts)?;
         let settings = Settings {
             site,
-            rows: Listed::from_vec(rows),
+            rows: SharedList::from_vec(alloc, rows)?,
             pallets: Listed::from_vec(Vec::new(alloc)),
             fee_account: [0; 32],
             calls: false,

@@ -1,5 +1,5 @@
 //! What a network document says of a chain, copied.
-ghost use Rattle.std.specs.Prelude.{◌≡◌, ◌+◌, ◌<◌, [], ◌∷◌, ◌++◌, map, find, vec_len, vec_capacity, IfOk, OnOk};
+ghost use Rattle.std.specs.Prelude.{◌≡◌, map, find, IfOk};
 ghost use Rattle.std.specs.Option.{option_copied};
 ghost use Rattle.chain_ids.specs.Chains.{same_chain};
 ghost use Rattle.network_spec.specs.declared.chain.ChainSpec.{ChainSpec};
@@ -14,47 +14,12 @@ use locations::{Junctions, Location};
 use network_spec::{ChainSpec, ChannelSpec};
 use operands::{OpenQuery, PalletInfo};
 use std::alloc::{AllocError, Global};
-use trust_tables::{AssetRole, AssetRow};
 
 /// The document's entry of a chain: the first of that name; `None` where there is none.
 pub(crate) fn entry_of<'a>(chains: &'a [ChainSpec], chain: ChainId) -> Option<&'a ChainSpec>
     ensures { option_copied result ≡ find (λ (c : ChainSpec). same_chain c.chain chain) chains.now }
 {
     chains.iter().find(|entry| entry.chain == chain)
-}
-
-/// Puts the same row at the end of a list that has room for it.
-fn push_row(alloc: Global, list: &mut Vec<AssetRow>, row: &AssetRow) -> Result<(), AllocError>
-    requires room { vec_len list.old < vec_capacity list.old }
-    ensures items { OnOk result (list.new.items ≡ list.old.items ++ row.now ∷ []) }
-    ensures len { OnOk result (vec_len list.new ≡ vec_len list.old + 1) }
-    ensures capacity { OnOk result (vec_capacity list.new ≡ vec_capacity list.old) }
-{
-    let role = row.role.copy(alloc)?;
-    let last = list.len();
-    list.push_reserved(AssetRow {
-        id: Location::here(),
-        kind: row.kind,
-        role: AssetRole::Derivative {
-            reserve: ChainId::Relay,
-        },
-    });
-    let place = &mut list[last];
-    place.id.assign(&row.id);
-    place.kind = row.kind;
-    place.role = role;
-    Ok(())
-}
-
-/// The same rows.
-pub(crate) fn copied_rows(alloc: Global, rows: &[AssetRow]) -> Result<Vec<AssetRow>, AllocError>
-    ensures { IfOk result (λ copy. copy.items ≡ rows.now) }
-{
-    let mut copy = Vec::with_capacity(alloc, rows.len())?;
-    for row in rows {
-        push_row(alloc, &mut copy, row)?;
-    }
-    Ok(copy)
 }
 
 /// The same pallets.

@@ -24,9 +24,7 @@ ghost use Rattle.chain_state.specs.ListedFees.{are_fees_listed};
 
 use crate::ChainState;
 use crate::fees::rows::FeeRows;
-use crate::opening::copies::{
-    channels_from, copied_pallets, copied_pools, copied_rows, entry_of, open_queries,
-};
+use crate::opening::copies::{channels_from, copied_pallets, copied_pools, entry_of, open_queries};
 use crate::opening::listing::{checking_accounts, ids, places};
 use asset_bundles::{AssetBundle, BurnBook};
 use asset_lists::Asset;
@@ -138,7 +136,7 @@ impl ChainState {
             (bare_part spec.now entry.now).channels) }
         ensures { IfOk result (λ chain. part_of chain ≡ bare_part spec.now entry.now) }
     {
-        let rows = copied_rows(alloc, entry.assets.items())?;
+        let rows = entry.assets.share()?;
         let pallets = copied_pallets(alloc, entry.pallets.items())?;
         let pools = copied_pools(alloc, entry.pools.items())?;
         let settings = Settings {
@@ -146,7 +144,7 @@ impl ChainState {
                 network: spec.network,
                 chain: entry.chain,
             },
-            rows: Listed::from_vec(rows),
+            rows,
             pallets: Listed::from_vec(pallets),
             fee_account: entry.fee_account,
             calls: entry.calls,
