@@ -1,5 +1,5 @@
 //! What each barrier allows and refuses.
-use asset_lists::{Asset, AssetId, Assets, Fun};
+use asset_lists::{Asset, AssetId, Assets, Filter, Fun, Wild};
 use barriers::{Barrier, OpenQuery, Origins, Program, Weight, allow, law_of_barriers};
 use locations::{Junction, Junctions, Location};
 use operands::{Response, WeightLimit};
@@ -66,7 +66,7 @@ fn bringing(alloc: Global, index: u8, count: u8) -> Result<Instruction, Fail> {
     })
 }
 
-/// So many assets, ClearOrigins and a purchase.
+/// So many assets, ClearOrigins, a purchase and a deposit.
 fn paying(
     alloc: Global,
     (index, count): (u8, u8),
@@ -79,6 +79,10 @@ fn paying(
     }
     let (fees, limit) = (Boxed::new(alloc, asset(0))?, limit_of(most));
     list.push(Instruction::BuyExecution { fees, limit })?;
+    list.push(Instruction::DepositAsset {
+        assets: Filter::Wild(Wild::AllCounted(1)),
+        beneficiary: Boxed::new(alloc, para(1))?,
+    })?;
     Ok(Program::from_vec(list))
 }
 
@@ -92,6 +96,7 @@ const PAYING: &[((u8, u8), usize, Most, bool)] = &[
     ((0, 2), 1, Some((4000, 400)), true),
     ((0, 3), 1, Some((4000, 400)), false),
     ((0, 1), 1, Some((9000, 399)), false),
+    ((0, 1), 1, Some((3999, 400)), false),
     ((0, 1), 1, Some((3999, 900)), false),
     ((1, 2), 1, None, true),
     ((2, 2), 1, None, true),

@@ -219,6 +219,31 @@ fn exceeds(
     is_listed(alloc, excess(alloc, &first, &second)?, above)
 }
 
+/// Joins 1 of the fungible asset to the most that there can be of it: what is kept, and what the book then has as saturated.
+fn saturated(alloc: Global) -> Result<(u128, Total), AllocError> {
+    let mut book = BurnBook::new(alloc, &[(coin(), Kind::Fungible)])?;
+    let most = Asset {
+        id: coin(),
+        fun: Fun::Fungible(MOST),
+    };
+    let one = Asset {
+        id: coin(),
+        fun: Fun::Fungible(1),
+    };
+    let goods = AssetBundle::mint(alloc, &[one])?;
+    // Units at rest may be dropped, should memory be refused.
+    let resting = goods.set_down();
+    let mut holding = AssetBundle::mint(alloc, &[most])?;
+    let other = AssetBundle::take_up(resting);
+    if let Err(other) = holding.join(other, &mut book) {
+        other.melt();
+    }
+    let kept = holding.amount(&coin());
+    holding.melt();
+    let booked = book.total(&coin(), Kind::Fungible, Cause::Saturated);
+    Ok((kept, booked))
+}
+
 /// Burns, loses and joins empty bundles: whether the join was out of memory.
 fn give_up_nothing(alloc: Global, book: &mut BurnBook) -> bool {
     AssetBundle::empty(alloc).burn(book, Cause::BurnAsset);
@@ -403,6 +428,7 @@ fn bundles_are_taken_apart_and_joined(rt: HostRuntime) -> Result<(), Fail> {
     for (first, second, above) in JOINS {
         assert!(rt; exceeds(alloc, *first, *second, *above)?);
     }
+    assert!(rt; saturated(alloc)? == (MOST, Total { high: 0, low: 1 }));
     assert!(rt; are_added());
     assert!(rt; are_booked(alloc)? && are_summed(alloc)?);
     assert!(rt; are_shipped(alloc)? && land(alloc)?);

@@ -1,6 +1,7 @@
 //! Accounts: moves and their refusals, sums, owners, and the accounts in order.
 ghost use Rattle.std.specs.Prelude.{◌≡◌, [], ◌∷◌, true, IsFalse, IfOk};
 ghost use Rattle.std.specs.List.{list_all};
+ghost use Rattle.locations.specs.declared.grammar.Junction.TheVariants.{GeneralIndex};
 ghost use Rattle.asset_lists.specs.declared.units.Kind.{Kind};
 ghost use Rattle.asset_lists.specs.declared.units.AssetId.TheVariants.{Concrete};
 ghost use Rattle.asset_lists.specs.Units.{unit_of, is_zero};
@@ -9,7 +10,7 @@ ghost use Rattle.asset_lists.specs.Listed.{listed_of, lists};
 use asset_bundles::{AssetBundle, Total};
 use asset_lists::{Asset, AssetId, Assets, Fun, Instance, Kind};
 use ledgers::{AccountKey, DepositFault, Ledger, LedgerFault, TransferFault, law_of_ledgers};
-use locations::{Junctions, Location};
+use locations::{Junction, Junctions, Location};
 use std::alloc::{AllocError, Global};
 use std::test::Fail;
 
@@ -436,5 +437,38 @@ fn hold_what_is_put(alloc: Global) -> Result<bool, AllocError> {
 #[test]
 fn what_accounts_hold(rt: HostRuntime) -> Result<(), Fail> {
     assert!(rt; hold_what_is_put(rt.alloc())? && are_keys());
+    Ok(())
+}
+
+/// The location of the first index.
+fn index() -> Location
+    ensures { result ≡ record { parents = 0; interior = GeneralIndex 1 ∷ [] } }
+{
+    Location {
+        parents: 0,
+        interior: Junctions::from_few(&[Junction::GeneralIndex(1)]),
+    }
+}
+
+/// A ledger of a fungible asset, and of a class of another id.
+fn opened_apart(alloc: Global) -> Result<Ledger, AllocError> {
+    let list = Vec::from_array(alloc, [(here(), Kind::Fungible), (index(), Kind::Class)])?;
+    Ledger::open(alloc, list)
+}
+
+/// Whether assets have their numbers by id and kind together.
+fn are_numbered(ledger: &Ledger) -> bool {
+    let coins = AssetId::Concrete(here());
+    let class = AssetId::Concrete(index());
+    ledger.number_of(&coins, Kind::Fungible) == Some(0)
+        && ledger.number_of(&class, Kind::Class) == Some(1)
+        && ledger.number_of(&coins, Kind::Class).is_none()
+        && ledger.number_of(&class, Kind::Fungible).is_none()
+}
+
+#[test]
+fn an_asset_is_listed_by_id_and_kind(rt: HostRuntime) -> Result<(), Fail> {
+    let ledger = opened_apart(rt.alloc())?;
+    assert!(rt; are_numbered(&ledger));
     Ok(())
 }

@@ -1,5 +1,6 @@
-//! Messages on a relay chain without assets.
+//! Messages on a relay chain without assets, and what is no message on a network with assets either.
 
+use crate::documents::THREE_CHAINS;
 use crate::parts::{Grown, ONCE, Part, Piece};
 use crate::running::PIECES;
 use crate::tables::{EXECUTE, NOT_A_MESSAGE, STEP, Table};
@@ -163,7 +164,22 @@ const OTHER_CAUSES: &[(&str, &str)] = &[
     ),
 ];
 
-/// Messages on a relay chain without assets.
+/// What is written where the network of three chains opens.
+const ASSETS: &str = "coherent
+  supply fungible /GlobalConsensus(Polkadot) home 1000000 flight 0 burned 0
+  backing 2000 fungible /GlobalConsensus(Polkadot) held 0 owed 0
+  backing 2001 fungible /GlobalConsensus(Polkadot) held 0 owed 0
+";
+
+/// The same, and the heading of the first step.
+const ASSETS_STEP: &str = "coherent
+  supply fungible /GlobalConsensus(Polkadot) home 1000000 flight 0 burned 0
+  backing 2000 fungible /GlobalConsensus(Polkadot) held 0 owed 0
+  backing 2001 fungible /GlobalConsensus(Polkadot) held 0 owed 0
+#1 exec relay
+";
+
+/// Messages on a relay chain without assets, and what is no message on a network with assets either.
 pub(crate) const MESSAGES: &[Table] = &[
     Table {
         network: "{}",
@@ -184,6 +200,13 @@ pub(crate) const MESSAGES: &[Table] = &[
         before: EXECUTE,
         status: Status::Done,
         opening: STEP,
+        rows: NO_MESSAGES,
+    },
+    Table {
+        network: THREE_CHAINS,
+        before: EXECUTE,
+        status: Status::Done,
+        opening: ASSETS_STEP,
         rows: NO_MESSAGES,
     },
     Table {
@@ -252,13 +275,15 @@ pub(crate) const LONG: &[Grown] = &[
     Grown {
         name: "65,536 bytes",
         input: &[
-            EXECUTED,
+            Part::Text(THREE_CHAINS),
+            Part::Text("\n---\n"),
+            Part::Text(EXECUTE),
             Part::Text("04"),
             Part::Each(65_535, &[Piece::Text("00")]),
             Part::Text("\n"),
         ],
         status: Status::Done,
-        report: &[OPENED, Part::Text(NOT_A_MESSAGE)],
+        report: &[Part::Text(ASSETS_STEP), Part::Text(NOT_A_MESSAGE)],
         pieces: ONCE,
     },
     Grown {
@@ -276,7 +301,8 @@ pub(crate) const LONG: &[Grown] = &[
     Grown {
         name: "fronts of 2 to 61 bytes",
         input: &[
-            Part::Text("{}\n---\n"),
+            Part::Text(THREE_CHAINS),
+            Part::Text("\n---\n"),
             Part::Each(
                 60,
                 &[
@@ -290,7 +316,7 @@ pub(crate) const LONG: &[Grown] = &[
         ],
         status: Status::Done,
         report: &[
-            Part::Text("coherent\n"),
+            Part::Text(ASSETS),
             Part::Each(
                 60,
                 &[
