@@ -441,7 +441,7 @@ fn what_accounts_hold(rt: HostRuntime) -> Result<(), Fail> {
 }
 
 /// The location of the first index.
-fn index() -> Location
+fn first_index() -> Location
     ensures { result ≡ record { parents = 0; interior = GeneralIndex 1 ∷ [] } }
 {
     Location {
@@ -452,14 +452,14 @@ fn index() -> Location
 
 /// A ledger of a fungible asset, and of a class of another id.
 fn opened_apart(alloc: Global) -> Result<Ledger, AllocError> {
-    let list = Vec::from_array(alloc, [(here(), Kind::Fungible), (index(), Kind::Class)])?;
+    let list = Vec::from_array(alloc, [(here(), Kind::Fungible), (first_index(), Kind::Class)])?;
     Ledger::open(alloc, list)
 }
 
 /// Whether assets have their numbers by id and kind together.
 fn are_numbered(ledger: &Ledger) -> bool {
     let coins = AssetId::Concrete(here());
-    let class = AssetId::Concrete(index());
+    let class = AssetId::Concrete(first_index());
     ledger.number_of(&coins, Kind::Fungible) == Some(0)
         && ledger.number_of(&class, Kind::Class) == Some(1)
         && ledger.number_of(&coins, Kind::Class).is_none()

@@ -5,7 +5,7 @@ use Rattle.asset_lists.specs.declared.units.AssetId.{AssetId}
 use Rattle.asset_lists.specs.declared.units.AssetId.TheVariants.{Concrete}
 use Rattle.asset_lists.specs.declared.units.Fun.TheVariants.{Fungible}
 use Rattle.asset_lists.specs.Listed.{Listed}
-use Rattle.asset_bundles.specs.Bundles.{Bundle, bundle_of}
+use Rattle.asset_bundles.specs.Bundles.{bundle_of}
 use Rattle.asset_bundles.specs.Books.{Book, AreListed}
 use Rattle.asset_bundles.specs.Joins.{Excess}
 use Rattle.asset_bundles.proofs.Lemmas.{listed_list, listed_excess}

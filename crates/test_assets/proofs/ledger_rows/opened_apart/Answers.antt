@@ -15,5 +15,5 @@ apart = ((refl, tt), (tt, tt))
 pub open-requires-clause-distinct : goal.open-requires-clause-distinct
 open-requires-clause-distinct c =
     subst (λ xs. IsDistinct (eq_by_cmp listed_cmp) (map listed_pair xs)) (sym c.in_ok-list.ensures.items)
-    (subst (λ (l : Location). IsDistinct (eq_by_cmp listed_cmp) (listed_pair (l, Kind.Fungible) ∷ listed_pair (c.index.result, Kind.Class) ∷ [])) (sym c.here.ensures)
-    (subst (λ (l : Location). IsDistinct (eq_by_cmp listed_cmp) (listed_pair (record { parents = 0; interior = [] }, Kind.Fungible) ∷ listed_pair (l, Kind.Class) ∷ [])) (sym c.index.ensures) apart))
+    (subst (λ (l : Location). IsDistinct (eq_by_cmp listed_cmp) (listed_pair (l, Kind.Fungible) ∷ listed_pair (c.first_index.result, Kind.Class) ∷ [])) (sym c.here.ensures)
+    (subst (λ (l : Location). IsDistinct (eq_by_cmp listed_cmp) (listed_pair (record { parents = 0; interior = [] }, Kind.Fungible) ∷ listed_pair (l, Kind.Class) ∷ [])) (sym c.first_index.ensures) apart))
