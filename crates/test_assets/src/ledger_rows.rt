@@ -452,7 +452,10 @@ fn first_index() -> Location
 
 /// A ledger of a fungible asset, and of a class of another id.
 fn opened_apart(alloc: Global) -> Result<Ledger, AllocError> {
-    let list = Vec::from_array(alloc, [(here(), Kind::Fungible), (first_index(), Kind::Class)])?;
+    let list = Vec::from_array(
+        alloc,
+        [(here(), Kind::Fungible), (first_index(), Kind::Class)],
+    )?;
     Ledger::open(alloc, list)
 }
 

@@ -20,6 +20,8 @@ mod lock_courses;
 #[cfg(test)]
 mod path_rows;
 #[cfg(test)]
+mod stored_rows;
+#[cfg(test)]
 mod trading_rows;
 #[cfg(test)]
 mod trap_rows;

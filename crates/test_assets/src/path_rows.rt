@@ -28,7 +28,7 @@ fn chain(items: &[Junction]) -> Result<Junctions, Full> {
     Ok(chain)
 }
 
-fn place(parents: u8, items: &[Junction]) -> Result<Location, Full> {
+pub(crate) fn place(parents: u8, items: &[Junction]) -> Result<Location, Full> {
     let interior = chain(items)?;
     Ok(Location { parents, interior })
 }

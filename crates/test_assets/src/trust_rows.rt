@@ -299,22 +299,3 @@ fn the_laws_of_trust_can_be_called() {
     law_of_exact_trust_tests();
     law_of_listings();
 }
-
-/// Whether the role is that of a native asset with these partners and so much on its checking account.
-fn is_native(role: &AssetRole, wanted: &[ChainId], amount: Option<u128>) -> bool {
-    match role {
-        AssetRole::Native { partners, checking } => partners.items() == wanted
-            && *checking == amount,
-        _ => false,
-    }
-}
-
-#[test]
-fn copies_of_roles(rt: HostRuntime) -> Result<(), Fail> {
-    let alloc = rt.alloc();
-    let partners = [ChainId::Relay, ChainId::Para(2000)];
-    let row = native(alloc, (1, &[]), &partners, Some(1_000_000))?;
-    let copied = row.role.copy(alloc)?;
-    assert!(rt; is_native(&copied, &partners, Some(1_000_000)));
-    Ok(())
-}

@@ -1,11 +1,8 @@
 //! The assets that a chain lists, each with the part that the chain plays for it.
-ghost use Rattle.std.specs.Prelude.{◌≡◌, IfOk};
-
 use crate::ChainId;
 use asset_lists::Kind;
 use locations::Location;
 use plain_lists::Listed;
-use std::alloc::{AllocError, Global};
 
 /// The part that a chain plays for an asset that it lists.
 #[derive(Debug, Drop)]
@@ -34,31 +31,4 @@ pub struct AssetRow {
     pub kind: Kind,
     /// Where it is at home, and whom the chain trusts with it.
     pub role: AssetRole,
-}
-
-impl AssetRole {
-    /// The same role.
-    pub fn copy(&self, alloc: Global) -> Result<AssetRole, AllocError>
-        ensures { IfOk result (λ role. role ≡ self.now) }
-    {
-        match self {
-            AssetRole::Native { partners, checking } => {
-                let partners = copied(alloc, partners.items())?;
-                Ok(AssetRole::Native {
-                    partners,
-                    checking: *checking,
-                })
-            }
-            AssetRole::Derivative { reserve } => Ok(AssetRole::Derivative { reserve: *reserve }),
-        }
-    }
-}
-
-/// A list of the same chains.
-fn copied(alloc: Global, chains: &[ChainId]) -> Result<Listed<ChainId>, AllocError>
-    ensures { IfOk result (λ list. list ≡ chains.now) }
-{
-    let mut items = Vec::with_capacity(alloc, chains.len())?;
-    items.extend_from_slice(chains)?;
-    Ok(Listed::from_vec(items))
 }

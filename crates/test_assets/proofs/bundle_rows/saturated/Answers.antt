@@ -24,6 +24,6 @@ join-requires c =
     (sym (ap (λ (b : Book). b.listed) c.in_ok-book.ensures ∙ ap (λ (id : AssetId). (id, Kind.Fungible) ∷ []) c.coin.ensures))
     (listed_excess listed c.in_ok-holding.holding c.take_up-other.result
     (subst (AreListed listed) (sym (c.in_ok-holding.ensures ∙ ap (λ (id : AssetId). bundle_of (record { id = id; fun = Fungible (2 ^ 128 - 1) } ∷ [])) c.coin-2.ensures))
-        (listed_list listed (record { id = here; fun = Fungible (2 ^ 128 - 1) } ∷ []) refl))
+    (listed_list listed (record { id = here; fun = Fungible (2 ^ 128 - 1) } ∷ []) refl))
     (subst (AreListed listed) (sym (c.take_up-other.ensures ∙ c.set_down-resting.ensures ∙ c.in_ok-goods.ensures ∙ ap (λ (id : AssetId). bundle_of (record { id = id; fun = Fungible 1 } ∷ [])) c.coin-3.ensures))
-        (listed_list listed (record { id = here; fun = Fungible 1 } ∷ []) refl)))
+    (listed_list listed (record { id = here; fun = Fungible 1 } ∷ []) refl)))
