@@ -11,7 +11,7 @@ use crate::supplies::SupplyEntry;
 use chain_state::ChainState;
 use std::alloc::{AllocError, Global};
 use std::marker::Model;
-use supply_audit::{Supply, are_touched, supply_at};
+use supply_audit::{FigureReader, Supply, are_touched};
 
 /// The line of an asset, as it was written last. Contracts see it as `KeptSupply`.
 #[derive(Drop)]
@@ -77,15 +77,17 @@ fn is_same_supply(one: Supply, other: Supply) -> bool
 }
 
 impl SupplyLine {
-    /// The line of an entry, with the figures of these chains.
+    /// The line of an entry, with the figures of the reader's chains.
     fn of(
         alloc: Global,
-        chains: &[ChainState],
+        reader: &mut FigureReader<'_>,
         entry: SupplyEntry,
     ) -> Result<SupplyLine, AllocError>
-        ensures { IfOk result (λ line. line ≡ kept_supply (map part_of chains.now) entry) }
+        ensures chains { reader.new.chains.now ≡ reader.old.chains.now }
+        ensures line { IfOk result (λ line. line
+            ≡ kept_supply (map part_of reader.old.chains.now) entry) }
     {
-        let found = supply_at(chains, entry.places.as_slice());
+        let found = reader.supply(entry.places.as_slice())?;
         let text = line_text(alloc, &entry, found)?;
         Ok(SupplyLine { entry, found, text })
     }
@@ -94,16 +96,17 @@ impl SupplyLine {
     fn renew(
         &mut self,
         alloc: Global,
-        chains: &[ChainState],
+        reader: &mut FigureReader<'_>,
         stale: &[bool],
     ) -> Result<(), AllocError>
-        ensures { OnOk result (self.new
-            ≡ renewed_supply stale.now (map part_of chains.now) self.old) }
+        ensures chains { reader.new.chains.now ≡ reader.old.chains.now }
+        ensures line { OnOk result (self.new
+            ≡ renewed_supply stale.now (map part_of reader.old.chains.now) self.old) }
     {
         if !are_touched(stale, self.entry.places.as_slice()) {
             return Ok(());
         }
-        let found = supply_at(chains, self.entry.places.as_slice());
+        let found = reader.supply(self.entry.places.as_slice())?;
         if is_same_supply(self.found, found) {
             return Ok(());
         }
@@ -138,9 +141,10 @@ pub(crate) fn supply_lines(
     ensures { IfOk result (λ lines. lines.items
         ≡ map (kept_supply (map part_of chains.now)) entries.items) }
 {
+    let mut reader = FigureReader::of(alloc, chains);
     let mut lines = Vec::new(alloc);
     for entry in entries {
-        let line = SupplyLine::of(alloc, chains, entry)?;
+        let line = SupplyLine::of(alloc, &mut reader, entry)?;
         lines.push(line)?;
     }
     Ok(lines)
@@ -156,8 +160,9 @@ pub(crate) fn renew_supplies(
     ensures { OnOk result (lines.new
         ≡ map (renewed_supply stale.now (map part_of chains.now)) lines.old) }
 {
+    let mut reader = FigureReader::of(alloc, chains);
     for line in lines.iter_mut() {
-        line.renew(alloc, chains, stale)?;
+        line.renew(alloc, &mut reader, stale)?;
     }
     Ok(())
 }

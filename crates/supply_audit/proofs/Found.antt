@@ -193,28 +193,28 @@ zero_more : (n : ℕ) → 0 + n ≡ n
 zero_more n = omega arith
 
 -- from no sums on, what rises is all that is sent
-pub all_sent : (what : Carried) (to : ChainId) (p : ChainPart) (listed : List Listed) (channels : List Outgoing) (old new : List Total)
+pub all_sent : (what : Carried) (to : Option ChainId) (p : ChainPart) (listed : List Listed) (channels : List Outgoing) (old new : List Total)
     → listed ≡ listing p.rows → channels ≡ p.channels → ((row : ℕ) → sum_in_row old row ≡ 0) → length new ≡ length listed
-    → Rise listed old new (λ k. total_sent what (Some to) channels k.0 k.1) → AreSentTo what to (Some p) new
+    → Rise listed old new (λ k. total_sent what to channels k.0 k.1) → AreSentTo what to (Some p) new
 all_sent what to p listed channels old new rows_are channels_are nothing many rise = λ r. at r (slice_get p.rows r) refl
   where
-    at : (r : ℕ) (row : Option AssetRow) → slice_get p.rows r ≡ row → sum_in_row new r ≡ min (share_in (Sent what (Some to)) r (Some p)) most_burned
+    at : (r : ℕ) (row : Option AssetRow) → slice_get p.rows r ≡ row → sum_in_row new r ≡ min (share_in (Sent what to) r (Some p)) most_burned
     at r None none =
         let few = past_end p.rows r none in
         let same : length new ≡ length p.rows = many ∙ ap length rows_are ∙ sym (as_many p.rows) in
         ap sum_or_none (slice_get_past new r (omega (arith, few, same)))
-        ∙ sym (ap (λ (o : Option AssetRow). min (figure_of_row (figure (Sent what (Some to)) p) o) most_burned) none)
+        ∙ sym (ap (λ (o : Option AssetRow). min (figure_of_row (figure (Sent what to) p) o) most_burned) none)
     at r (Some row) there =
         let key : slice_get listed r ≡ Some (listed_row row) = ap (λ (l : List Listed). slice_get l r) rows_are ∙ listed_at_row p.rows r row there in
-        let has = total_sent what (Some to) channels (Concrete row.id) row.kind in
+        let has = total_sent what to channels (Concrete row.id) row.kind in
         rise r 0 (listed_row row) key (nothing r)
-        ∙ ap (λ n. min n most_burned) (zero_more has ∙ ap (λ (cs : List Outgoing). total_sent what (Some to) cs (Concrete row.id) row.kind) channels_are)
-        ∙ sym (ap (λ (o : Option AssetRow). min (figure_of_row (figure (Sent what (Some to)) p) o) most_burned) there)
+        ∙ ap (λ n. min n most_burned) (zero_more has ∙ ap (λ (cs : List Outgoing). total_sent what to cs (Concrete row.id) row.kind) channels_are)
+        ∙ sym (ap (λ (o : Option AssetRow). min (figure_of_row (figure (Sent what to) p) o) most_burned) there)
 
 -- where no message waits, there are no sums
-pub none_sent_to : (what : Carried) (to : ChainId) (p : ChainPart) (sums : List Total) → sums ≡ [] → list_all (is_idle (Some to)) p.channels ≡ true → AreSentTo what to (Some p) sums
+pub none_sent_to : (what : Carried) (to : Option ChainId) (p : ChainPart) (sums : List Total) → sums ≡ [] → list_all (is_idle to) p.channels ≡ true → AreSentTo what to (Some p) sums
 none_sent_to what to p sums none idle = λ r.
-    ap (λ (xs : List Total). sum_in_row xs r) none ∙ nothing_in (Sent what (Some to)) p r (λ id kind. none_sent what (Some to) id kind p.channels idle)
+    ap (λ (xs : List Total). sum_in_row xs r) none ∙ nothing_in (Sent what to) p r (λ id kind. none_sent what to id kind p.channels idle)
 
 -- ---- what is added
 -- one element more, seen as another

@@ -1,5 +1,5 @@
--- What is known of messages that wait from one chain to another: what they carry, row by row of the sender's list. Chains and rows are
--- numbered from 0. This project's own rule.
+-- What is known of messages that wait from one chain to another, or to any: what they carry, row by row of the sender's list. Chains and rows
+-- are numbered from 0. This project's own rule.
 use Rattle.std.specs.Prelude.{◌≡◌, ℕ, ◌+◌, min, IsTrue, List, length, Option, Some, None, slice_get}
 use Rattle.std.specs.List.{IsDistinct}
 use Rattle.std.specs.Ordering.{eq_by_cmp}
@@ -22,10 +22,10 @@ sum_or_none (Some sum) = total_value sum
 abbrev pub sum_in_row : List Total → ℕ → ℕ
 sum_in_row sums row = sum_or_none (slice_get sums row)
 
--- what the messages of a chain carry to the chain of this name, row by row; each sum saturates
-abbrev pub AreSentTo : Carried → ChainId → Option ChainPart → List Total → Type 0
+-- what the messages of a chain carry to the chain of this name, or anywhere where none is given, row by row; each sum saturates
+abbrev pub AreSentTo : Carried → Option ChainId → Option ChainPart → List Total → Type 0
 AreSentTo what to part sums =
-    (row : ℕ) → sum_in_row sums row ≡ min (share_in (Sent what (Some to)) row part) most_burned
+    (row : ℕ) → sum_in_row sums row ≡ min (share_in (Sent what to) row part) most_burned
 
 -- what is known is so
 abbrev pub IsRightOf : LastFound → Carried → List ChainPart → Type 0

@@ -1,5 +1,5 @@
-//! What was found last of the messages from one chain to another.
-ghost use Rattle.std.specs.Prelude.{◌≡◌, min, map, IfOk, IsTrue, List, OnOk, Some, slice_get};
+//! What was found last of the messages from one chain to another, or to any.
+ghost use Rattle.std.specs.Prelude.{◌≡◌, min, map, IfOk, IsTrue, List, OnOk, slice_get};
 ghost use Rattle.asset_bundles.specs.Books.{most_burned};
 ghost use Rattle.asset_bundles.specs.Totals.{total_value};
 ghost use Rattle.exec_base.specs.Part.{ChainPart};
@@ -18,14 +18,27 @@ use chain_ids::ChainId;
 use chain_state::ChainState;
 use std::alloc::{AllocError, Global};
 
-/// A chain by its number, another by its name, and what the messages from the one to the other carry, row by row, if that is known.
+/// A chain by its number, another by its name or none, and what the messages from the one carry to the other, or to any where none is given, row by
+/// row, if that is known.
 #[derive(Drop)]
 pub(crate) struct LastFound {
     alloc: Global,
     known: bool,
     from: usize,
-    to: ChainId,
+    to: Option<ChainId>,
     sums: Vec<Total>,
+}
+
+/// Whether two targets are the same: a chain, or any where none is given.
+#[tactic(auto, using(chain_ids::proofs::Lemmas::same_chain_told))]
+fn is_same_target(one: Option<ChainId>, other: Option<ChainId>) -> bool
+    ensures { IsTrue result → one ≡ other }
+{
+    match (one, other) {
+        (None, None) => true,
+        (Some(one), Some(other)) => same_chain(one, other),
+        _ => false,
+    }
 }
 
 impl LastFound {
@@ -37,14 +50,13 @@ impl LastFound {
             alloc,
             known: false,
             from: 0,
-            to: ChainId::Relay,
+            to: None,
             sums: Vec::new(alloc),
         }
     }
 
     /// Whether it is of these chains.
-    #[tactic(auto, using(chain_ids::proofs::Lemmas::same_chain_told))]
-    fn is_of(&self, from: usize, to: ChainId) -> bool
+    fn is_of(&self, from: usize, to: Option<ChainId>) -> bool
         ensures known { IsTrue result → IsTrue self.now.known }
         ensures from { IsTrue result → self.now.from ≡ from }
         ensures to { IsTrue result → self.now.to ≡ to }
@@ -52,16 +64,16 @@ impl LastFound {
         if !self.known || self.from != from {
             return false;
         }
-        same_chain(self.to, to)
+        is_same_target(self.to, to)
     }
 
-    /// Looks at the messages from the chain of this number to the chain of this name, if these weren't asked for last.
+    /// Looks at the messages from the chain of this number to the chain of this name, or to any, if these weren't asked for last.
     fn look(
         &mut self,
         what: Carried,
         chains: &[ChainState],
         from: usize,
-        to: ChainId,
+        to: Option<ChainId>,
     ) -> Result<(), AllocError>
         requires { IsRightOf self.old what (map part_of chains.now) }
         ensures right { IsRightOf self.new what (map part_of chains.now) }
@@ -79,19 +91,19 @@ impl LastFound {
         Ok(())
     }
 
-    /// What the messages from a position's chain to the chain of this name carry of the position's row. The messages are looked at once for all rows that
-    /// are asked for one after another. An `Err` is out of memory.
+    /// What the messages from a position's chain carry of the position's row to the chain of this name, or to any where none is given. The messages are
+    /// looked at once for all rows that are asked for one after another. An `Err` is out of memory.
     pub(crate) fn sum(
         &mut self,
         what: Carried,
         chains: &[ChainState],
         place: Place,
-        to: ChainId,
+        to: Option<ChainId>,
     ) -> Result<Total, AllocError>
         requires { IsRightOf self.old what (map part_of chains.now) }
         ensures right { IsRightOf self.new what (map part_of chains.now) }
         ensures sum { IfOk result (λ sum. total_value sum
-            ≡ min (place_share (Sent what (Some to)) (map part_of chains.now) place) most_burned) }
+            ≡ min (place_share (Sent what to) (map part_of chains.now) place) most_burned) }
     {
         self.look(what, chains, place.chain, to)?;
         Ok(sum_in_row(&self.sums, place.row))

@@ -5,6 +5,7 @@ ghost use Rattle.asset_bundles.specs.Books.{most_burned};
 ghost use Rattle.asset_bundles.specs.Totals.{total_value};
 ghost use Rattle.chain_state.specs.PartOf.{part_of};
 ghost use Rattle.trust_tables.specs.Accounts.{sovereign_account};
+ghost use Rattle.supply_audit.specs.declared.figures.Carried.TheVariants.{Teleports};
 ghost use Rattle.supply_audit.specs.declared.figures.Figure.TheVariants.{Account, Sent};
 ghost use Rattle.supply_audit.specs.Found.{IsRightOf};
 ghost use Rattle.supply_audit.specs.Held.{IsHeldRight};
@@ -89,7 +90,7 @@ pub(crate) fn sent_over(
 {
     let mut total = none();
     for place in places {
-        total = total.sum(found.sum(what, chains, *place, to)?);
+        total = total.sum(found.sum(what, chains, *place, Some(to))?);
     }
     Ok(total)
 }
@@ -134,6 +135,49 @@ fn place_supply(chains: &[ChainState], place: &Place) -> Supply
         None => no_supply(),
         Some(chain) => row_supply_at(chain, place.row),
     }
+}
+
+/// What is at a position, what was sent from there as teleports and what was burned there. The messages of a chain are looked at once for all of its
+/// positions that are asked for one after another.
+fn stock_of(
+    found: &mut LastFound,
+    name: &mut AssetId,
+    chains: &[ChainState],
+    place: Place,
+) -> Result<Supply, AllocError>
+    requires { IsRightOf found.old Teleports (map part_of chains.now) }
+    ensures right { IsRightOf found.new Teleports (map part_of chains.now) }
+    ensures supply { IfOk result (λ supply.
+        HasSums supply (λ f. at.place_share f (map part_of chains.now) place)) }
+{
+    let home = place_share(name, Figure::Placed, chains, place);
+    let burned = place_share(name, Figure::Burned, chains, place);
+    let flight = found.sum(Carried::Teleports, chains, place, None)?;
+    Ok(Supply {
+        home,
+        flight,
+        burned,
+    })
+}
+
+/// The figures of these positions, as `supply_at` finds them. The messages of a chain are looked at once. An `Err` is out of memory.
+pub(crate) fn supply_over(
+    found: &mut LastFound,
+    name: &mut AssetId,
+    chains: &[ChainState],
+    places: &[Place],
+) -> Result<Supply, AllocError>
+    requires { IsRightOf found.old Teleports (map part_of chains.now) }
+    ensures right { IsRightOf found.new Teleports (map part_of chains.now) }
+    ensures supply { IfOk result (λ supply.
+        HasSums supply (λ f. at.over_places f (map part_of chains.now) places.now)) }
+{
+    let mut total = no_supply();
+    for place in places {
+        let more = stock_of(found, name, chains, *place)?;
+        total = sum(total, more);
+    }
+    Ok(total)
 }
 
 /// The figures of these positions.

@@ -1,4 +1,4 @@
-//! What the messages from one chain to another carry, row by row of the sender's list.
+//! What the messages from one chain to another, or to any, carry, row by row of the sender's list.
 ghost use Rattle.std.specs.Prelude.{◌≡◌, ℕ, map, length, Some, IfOk, slice_get, sum_by};
 ghost use Rattle.asset_bundles.specs.Bundles.{bundle_of};
 ghost use Rattle.asset_bundles.specs.Totals.{total_value};
@@ -124,35 +124,47 @@ fn add_waiting(sums: &mut [Total], ledger: &Ledger, what: Carried, queue: &Queue
     }
 }
 
-/// Adds what the messages of a channel carry, where it leads to the chain.
-fn add_channel(sums: &mut [Total], ledger: &Ledger, what: Carried, to: ChainId, queue: &Queue)
+/// Adds what the messages of a channel carry, where it leads to the chain, or anywhere where none is given.
+fn add_channel(
+    sums: &mut [Total],
+    ledger: &Ledger,
+    what: Carried,
+    to: Option<ChainId>,
+    queue: &Queue,
+)
     requires { AreSumsOf ledger.now.listed sums.old }
     ensures sums { AreSumsOf ledger.now.listed sums.new }
     ensures rise { Rise ledger.now.listed sums.old sums.new
-        (λ k. channel_share what (Some to) k.0 k.1 (outgoing_of queue.now)) }
+        (λ k. channel_share what to k.0 k.1 (outgoing_of queue.now)) }
 {
-    if is_towards(Some(to), queue) {
+    if is_towards(to, queue) {
         add_waiting(sums, ledger, what, queue);
     }
 }
 
-/// Adds what the messages of these channels carry to the chain.
-fn add_channels(sums: &mut [Total], ledger: &Ledger, what: Carried, to: ChainId, channels: &[Queue])
+/// Adds what the messages of these channels carry to the chain, or anywhere where none is given.
+fn add_channels(
+    sums: &mut [Total],
+    ledger: &Ledger,
+    what: Carried,
+    to: Option<ChainId>,
+    channels: &[Queue],
+)
     requires { AreSumsOf ledger.now.listed sums.old }
     ensures sums { AreSumsOf ledger.now.listed sums.new }
     ensures rise { Rise ledger.now.listed sums.old sums.new
-        (λ k. total_sent what (Some to) (map outgoing_of channels.now) k.0 k.1) }
+        (λ k. total_sent what to (map outgoing_of channels.now) k.0 k.1) }
 {
     for queue in channels {
         add_channel(sums, ledger, what, to, queue);
     }
 }
 
-/// What a chain's messages carry to another, row by row.
+/// What a chain's messages carry to another, or to any where none is given, row by row.
 fn filled_sums(
     alloc: Global,
     what: Carried,
-    to: ChainId,
+    to: Option<ChainId>,
     chain: &ChainState,
 ) -> Result<Vec<Total>, AllocError>
     ensures { IfOk result (λ sums. AreSentTo what to (Some (part_of chain.now)) sums.items) }
@@ -172,25 +184,25 @@ fn filled_sums(
 fn row_sums(
     alloc: Global,
     what: Carried,
-    to: ChainId,
+    to: Option<ChainId>,
     chain: &ChainState,
 ) -> Result<Vec<Total>, AllocError>
     ensures { IfOk result (λ sums. AreSentTo what to (Some (part_of chain.now)) sums.items) }
 {
-    if are_idle(Some(to), chain.queues()) {
+    if are_idle(to, chain.queues()) {
         return Ok(Vec::new(alloc));
     }
     filled_sums(alloc, what, to, chain)
 }
 
-/// What the messages from the chain of this number to the chain of this name carry, row by row of the former's list. Rows past the end have
-/// nothing. An `Err` is out of memory.
+/// What the messages from the chain of this number carry to the chain of this name, or to any where none is given, row by row of the former's list.
+/// Rows past the end have nothing. An `Err` is out of memory.
 pub(crate) fn sums_from(
     alloc: Global,
     what: Carried,
     chains: &[ChainState],
     from: usize,
-    to: ChainId,
+    to: Option<ChainId>,
 ) -> Result<Vec<Total>, AllocError>
     ensures { IfOk result (λ sums. AreSentTo what to
         (slice_get (map part_of chains.now) from) sums.items) }
