@@ -83,7 +83,7 @@ first_place (x ∷ xs) (suc r) k once at =
     let few = rest.1 in
     (omega (arith, here, place), omega (arith, few))
 
-number_at_row : (listed : List Listed) (r : ℕ) (k : Listed) → IsDistinct (eq_by_cmp listed_cmp) listed → slice_get listed r ≡ Some k → number_in listed k ≡ Some r
+pub number_at_row : (listed : List Listed) (r : ℕ) (k : Listed) → IsDistinct (eq_by_cmp listed_cmp) listed → slice_get listed r ≡ Some k → number_in listed k ≡ Some r
 number_at_row listed r k once at =
     let place = first_place listed r k once at in
     ap (λ (n : ℕ). cond (nat_lt n (length listed)) (Some n) None) place.0 ∙ found_some r (length listed) place.1
@@ -107,7 +107,7 @@ own_kind : (o : Option Instance) → is_kind (kind_of o) o ≡ true
 own_kind None = refl
 own_kind (Some instance) = refl
 
-listed_told : (k : Listed) (u : Unit) → is_asset k.0 k.1 u ≡ true → listed_of u ≡ k
+pub listed_told : (k : Listed) (u : Unit) → is_asset k.0 k.1 u ≡ true → listed_of u ≡ k
 listed_told k u e =
     let parts = and_parts (eq_by_cmp asset_id_cmp k.0 u.0) (is_kind k.1 u.1) e in
     let id : k.0 ≡ u.0 = (asset_id_decides k.0 u.0).0 parts.0 in
@@ -175,7 +175,7 @@ module _ (listed : List Listed) (once : IsDistinct (eq_by_cmp listed_cmp) listed
       ]
 
 -- ---- a chain's rows
-listed_at_row : (rows : List AssetRow) (r : ℕ) (row : AssetRow) → slice_get rows r ≡ Some row → slice_get (listing rows) r ≡ Some (listed_row row)
+pub listed_at_row : (rows : List AssetRow) (r : ℕ) (row : AssetRow) → slice_get rows r ≡ Some row → slice_get (listing rows) r ≡ Some (listed_row row)
 listed_at_row [] r row at = absurd cc
 listed_at_row (x ∷ rows) zero row at = (let same : x ≡ row = cc in ap (λ (y : AssetRow). Some (listed_row y)) same)
 listed_at_row (x ∷ rows) (suc r) row at = listed_at_row rows r row at

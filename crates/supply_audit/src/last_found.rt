@@ -11,6 +11,7 @@ ghost use Rattle.supply_audit.specs.Found.{AreSentTo, IsRightOf};
 
 use crate::Place;
 use crate::figures::Carried;
+use crate::hints::Hints;
 use crate::messages::same_chain;
 use crate::row_sums::{sum_in_row, sums_from};
 use asset_bundles::Total;
@@ -27,6 +28,7 @@ pub(crate) struct LastFound {
     from: usize,
     to: Option<ChainId>,
     sums: Vec<Total>,
+    hints: Hints,
 }
 
 /// Whether two targets are the same: a chain, or any where none is given.
@@ -52,6 +54,7 @@ impl LastFound {
             from: 0,
             to: None,
             sums: Vec::new(alloc),
+            hints: Hints::none(),
         }
     }
 
@@ -83,7 +86,7 @@ impl LastFound {
         if self.is_of(from, to) {
             return Ok(());
         }
-        let sums = sums_from(self.alloc, what, chains, from, to)?;
+        let sums = sums_from(self.alloc, &mut self.hints, what, chains, from, to)?;
         self.known = true;
         self.from = from;
         self.to = to;

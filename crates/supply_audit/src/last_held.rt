@@ -36,6 +36,7 @@ fn chain_amounts(chain: &ChainState, who: &[u8; 32]) -> Result<Vec<u128>, AllocE
 }
 
 /// The same at the chain of this number. An `Err` is out of memory.
+#[inline(never)]
 fn amounts_at(
     alloc: Global,
     chains: &[ChainState],

@@ -6,6 +6,7 @@ mod audit;
 mod cover;
 mod figure_reader;
 mod figures;
+mod hints;
 mod home_places;
 mod last_found;
 mod last_held;

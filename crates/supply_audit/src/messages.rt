@@ -19,7 +19,7 @@ use chain_queues::{Cargo, Queue, Queues};
 use locations::Location;
 
 /// Whether an asset of a list is of this id and kind.
-fn is_asset(asset: &Asset, id: &Location, kind: Kind) -> bool
+pub(crate) fn is_asset(asset: &Asset, id: &Location, kind: Kind) -> bool
     ensures { result ≡ is_asset (Concrete id.now) kind (unit_of asset.now) }
 {
     match &asset.id {

@@ -2,12 +2,14 @@
 ghost use Rattle.std.specs.Prelude.{◌≡◌, ℕ, map, length, Some, IfOk, slice_get, sum_by};
 ghost use Rattle.asset_bundles.specs.Bundles.{bundle_of};
 ghost use Rattle.asset_bundles.specs.Totals.{total_value};
+ghost use Rattle.trust_tables.specs.Trust.{listing};
 ghost use Rattle.chain_queues.specs.Queues.{outgoing_of};
 ghost use Rattle.chain_state.specs.PartOf.{part_of};
 ghost use Rattle.supply_audit.specs.Places.{asset_amount_in, by_way, carried_amount, channel_share, in_channel, list_share, total_sent};
 ghost use Rattle.supply_audit.specs.Found.{AreSentTo, AreSumsOf, Rise, sum_in_row};
 
 use crate::figures::Carried;
+use crate::hints::Hints;
 use crate::messages::{are_idle, is_towards};
 use crate::over_places::chain_of;
 use crate::totals::none;
@@ -18,6 +20,7 @@ use chain_queues::{Cargo, Queue};
 use chain_state::ChainState;
 use ledgers::Ledger;
 use std::alloc::{AllocError, Global};
+use trust_tables::AssetRow;
 
 /// The sum of the row at this index; 0 past the end.
 pub(crate) fn sum_in_row(sums: &[Total], row: usize) -> Total
@@ -42,15 +45,21 @@ fn zero_sums(alloc: Global, count: usize) -> Result<Vec<Total>, AllocError>
 }
 
 /// Adds an asset to the sum of its row, where it has one.
-fn add_asset(sums: &mut [Total], ledger: &Ledger, asset: &Asset)
-    requires { AreSumsOf ledger.now.listed sums.old }
+fn add_asset(
+    sums: &mut [Total],
+    hints: &mut Hints,
+    rows: &[AssetRow],
+    ledger: &Ledger,
+    asset: &Asset,
+)
+    requires sums { AreSumsOf ledger.now.listed sums.old }
+    requires listed { ledger.now.listed ≡ listing rows.now }
     ensures sums { AreSumsOf ledger.now.listed sums.new }
     ensures rise { Rise ledger.now.listed sums.old sums.new
         (λ k. list_share k.0 k.1 asset.now) }
 {
-    match ledger.number_of(&asset.id, asset.kind()) {
+    match hints.row_of(rows, ledger, asset) {
         Some(row) => {
-            let row = row as usize;
             sums[row] = sum_in_row(sums, row).plus(asset.amount());
         }
         None => {}
@@ -58,120 +67,174 @@ fn add_asset(sums: &mut [Total], ledger: &Ledger, asset: &Asset)
 }
 
 /// Adds the assets of a list.
-fn add_assets(sums: &mut [Total], ledger: &Ledger, assets: &[Asset])
-    requires { AreSumsOf ledger.now.listed sums.old }
+fn add_assets(
+    sums: &mut [Total],
+    hints: &mut Hints,
+    rows: &[AssetRow],
+    ledger: &Ledger,
+    assets: &[Asset],
+)
+    requires sums { AreSumsOf ledger.now.listed sums.old }
+    requires listed { ledger.now.listed ≡ listing rows.now }
     ensures sums { AreSumsOf ledger.now.listed sums.new }
     ensures rise { Rise ledger.now.listed sums.old sums.new
         (λ k. sum_by (list_share k.0 k.1) assets.now) }
 {
     for asset in assets {
-        add_asset(sums, ledger, asset);
+        add_asset(sums, hints, rows, ledger, asset);
     }
 }
 
 /// Adds the assets of a deposit's list.
-fn add_list(sums: &mut [Total], ledger: &Ledger, list: &Assets)
-    requires { AreSumsOf ledger.now.listed sums.old }
+fn add_list(
+    sums: &mut [Total],
+    hints: &mut Hints,
+    rows: &[AssetRow],
+    ledger: &Ledger,
+    list: &Assets,
+)
+    requires sums { AreSumsOf ledger.now.listed sums.old }
+    requires listed { ledger.now.listed ≡ listing rows.now }
     ensures sums { AreSumsOf ledger.now.listed sums.new }
     ensures rise { Rise ledger.now.listed sums.old sums.new
         (λ k. asset_amount_in k.0 k.1 (bundle_of list.now)) }
 {
-    add_assets(sums, ledger, list.items());
+    add_assets(sums, hints, rows, ledger, list.items());
 }
 
 /// Adds the assets of a shipment, where it goes this way.
-fn add_shipment(sums: &mut [Total], ledger: &Ledger, way: Way, shipment: &Shipment)
-    requires { AreSumsOf ledger.now.listed sums.old }
+fn add_shipment(
+    sums: &mut [Total],
+    hints: &mut Hints,
+    rows: &[AssetRow],
+    ledger: &Ledger,
+    way: Way,
+    shipment: &Shipment,
+)
+    requires sums { AreSumsOf ledger.now.listed sums.old }
+    requires listed { ledger.now.listed ≡ listing rows.now }
     ensures sums { AreSumsOf ledger.now.listed sums.new }
     ensures rise { Rise ledger.now.listed sums.old sums.new
         (λ k. by_way way shipment.now.way k.0 k.1 shipment.now.units) }
 {
     match (way, shipment.way()) {
-        (Way::Withdrawal, Way::Withdrawal) => add_assets(sums, ledger, shipment.items()),
-        (Way::Teleport, Way::Teleport) => add_assets(sums, ledger, shipment.items()),
+        (Way::Withdrawal, Way::Withdrawal) => add_assets(
+            sums,
+            hints,
+            rows,
+            ledger,
+            shipment.items(),
+        ),
+        (Way::Teleport, Way::Teleport) => add_assets(sums, hints, rows, ledger, shipment.items()),
         _ => {}
     }
 }
 
 /// Adds what a message carries.
-fn add_cargo(sums: &mut [Total], ledger: &Ledger, what: Carried, cargo: &Cargo)
-    requires { AreSumsOf ledger.now.listed sums.old }
+fn add_cargo(
+    sums: &mut [Total],
+    hints: &mut Hints,
+    rows: &[AssetRow],
+    ledger: &Ledger,
+    what: Carried,
+    cargo: &Cargo,
+)
+    requires sums { AreSumsOf ledger.now.listed sums.old }
+    requires listed { ledger.now.listed ≡ listing rows.now }
     ensures sums { AreSumsOf ledger.now.listed sums.new }
     ensures rise { Rise ledger.now.listed sums.old sums.new
         (λ k. carried_amount what k.0 k.1 cargo.now) }
 {
     match (what, cargo) {
         (Carried::Teleports, Cargo::Away(shipment)) => {
-            add_shipment(sums, ledger, Way::Teleport, shipment);
+            add_shipment(sums, hints, rows, ledger, Way::Teleport, shipment);
         }
         (Carried::Withdrawals, Cargo::Away(shipment)) => {
-            add_shipment(sums, ledger, Way::Withdrawal, shipment);
+            add_shipment(sums, hints, rows, ledger, Way::Withdrawal, shipment);
         }
-        (Carried::Deposits, Cargo::Deposit(list)) => add_list(sums, ledger, list),
+        (Carried::Deposits, Cargo::Deposit(list)) => add_list(sums, hints, rows, ledger, list),
         _ => {}
     }
 }
 
 /// Adds what the messages of a channel carry.
-fn add_waiting(sums: &mut [Total], ledger: &Ledger, what: Carried, queue: &Queue)
-    requires { AreSumsOf ledger.now.listed sums.old }
+fn add_waiting(
+    sums: &mut [Total],
+    hints: &mut Hints,
+    rows: &[AssetRow],
+    ledger: &Ledger,
+    what: Carried,
+    queue: &Queue,
+)
+    requires sums { AreSumsOf ledger.now.listed sums.old }
+    requires listed { ledger.now.listed ≡ listing rows.now }
     ensures sums { AreSumsOf ledger.now.listed sums.new }
     ensures rise { Rise ledger.now.listed sums.old sums.new
         (λ k. in_channel what k.0 k.1 (outgoing_of queue.now)) }
 {
     for i in 0..queue.waiting.len() {
-        add_cargo(sums, ledger, what, &queue.waiting[i].cargo);
+        add_cargo(sums, hints, rows, ledger, what, &queue.waiting[i].cargo);
     }
 }
 
 /// Adds what the messages of a channel carry, where it leads to the chain, or anywhere where none is given.
 fn add_channel(
     sums: &mut [Total],
+    hints: &mut Hints,
+    rows: &[AssetRow],
     ledger: &Ledger,
     what: Carried,
     to: Option<ChainId>,
     queue: &Queue,
 )
-    requires { AreSumsOf ledger.now.listed sums.old }
+    requires sums { AreSumsOf ledger.now.listed sums.old }
+    requires listed { ledger.now.listed ≡ listing rows.now }
     ensures sums { AreSumsOf ledger.now.listed sums.new }
     ensures rise { Rise ledger.now.listed sums.old sums.new
         (λ k. channel_share what to k.0 k.1 (outgoing_of queue.now)) }
 {
     if is_towards(to, queue) {
-        add_waiting(sums, ledger, what, queue);
+        add_waiting(sums, hints, rows, ledger, what, queue);
     }
 }
 
 /// Adds what the messages of these channels carry to the chain, or anywhere where none is given.
 fn add_channels(
     sums: &mut [Total],
+    hints: &mut Hints,
+    rows: &[AssetRow],
     ledger: &Ledger,
     what: Carried,
     to: Option<ChainId>,
     channels: &[Queue],
 )
-    requires { AreSumsOf ledger.now.listed sums.old }
+    requires sums { AreSumsOf ledger.now.listed sums.old }
+    requires listed { ledger.now.listed ≡ listing rows.now }
     ensures sums { AreSumsOf ledger.now.listed sums.new }
     ensures rise { Rise ledger.now.listed sums.old sums.new
         (λ k. total_sent what to (map outgoing_of channels.now) k.0 k.1) }
 {
     for queue in channels {
-        add_channel(sums, ledger, what, to, queue);
+        add_channel(sums, hints, rows, ledger, what, to, queue);
     }
 }
 
 /// What a chain's messages carry to another, or to any where none is given, row by row.
 fn filled_sums(
     alloc: Global,
+    hints: &mut Hints,
     what: Carried,
     to: Option<ChainId>,
     chain: &ChainState,
 ) -> Result<Vec<Total>, AllocError>
     ensures { IfOk result (λ sums. AreSentTo what to (Some (part_of chain.now)) sums.items) }
 {
-    let mut sums = zero_sums(alloc, chain.rows().len())?;
+    let rows = chain.rows();
+    let mut sums = zero_sums(alloc, rows.len())?;
     add_channels(
         &mut sums,
+        hints,
+        rows,
         chain.ledger(),
         what,
         to,
@@ -183,6 +246,7 @@ fn filled_sums(
 /// The same. Where no message waits there are no sums, and no memory is taken.
 fn row_sums(
     alloc: Global,
+    hints: &mut Hints,
     what: Carried,
     to: Option<ChainId>,
     chain: &ChainState,
@@ -192,13 +256,15 @@ fn row_sums(
     if are_idle(to, chain.queues()) {
         return Ok(Vec::new(alloc));
     }
-    filled_sums(alloc, what, to, chain)
+    filled_sums(alloc, hints, what, to, chain)
 }
 
 /// What the messages from the chain of this number carry to the chain of this name, or to any where none is given, row by row of the former's list.
 /// Rows past the end have nothing. An `Err` is out of memory.
+#[inline(never)]
 pub(crate) fn sums_from(
     alloc: Global,
+    hints: &mut Hints,
     what: Carried,
     chains: &[ChainState],
     from: usize,
@@ -209,6 +275,6 @@ pub(crate) fn sums_from(
 {
     match chain_of(chains, from) {
         None => Ok(Vec::new(alloc)),
-        Some(chain) => row_sums(alloc, what, to, chain),
+        Some(chain) => row_sums(alloc, hints, what, to, chain),
     }
 }

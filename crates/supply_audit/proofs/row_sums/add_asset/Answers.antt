@@ -1,4 +1,4 @@
-use Rattle.std.proofs.Common.{◌≡◌, ◌∙◌, ◌+◌, min, length, ap, sym, arith}
+use Rattle.std.proofs.Common.{◌≡◌, ◌∙◌, ◌+◌, min, length, sym, arith}
 use Rattle.std.specs.Prelude.{Some}
 use Rattle.asset_lists.specs.Listed.{listed_of}
 use Rattle.asset_lists.specs.Units.{unit_of}
@@ -12,14 +12,12 @@ returns-in-Some-clause-rise c =
     let listed = c.args.ledger.now.listed in
     let a = c.args.asset.now in
     let row = c.in-Some.row in
-    let found : number_in listed (listed_of (unit_of a)) ≡ Some row = ap (λ kind. number_in listed (a.id, kind)) (sym c.kind.ensures) ∙ sym c.in-Some.ensures.number in
+    let found : number_in listed (listed_of (unit_of a)) ≡ Some row = sym c.in-Some.ensures in
     let few = row_inside listed (listed_of (unit_of a)) row found in
-    let many : length c.args.sums.now ≡ length listed = c.requires.0 in
-    at_own_row listed c.requires.1 a c.args.sums.now row c.plus.result found (omega (arith, few, many))
+    let many : length c.args.sums.now ≡ length listed = c.requires.sums.0 in
+    at_own_row listed c.requires.sums.1 a c.args.sums.now row c.plus.result found (omega (arith, few, many))
     (c.plus.ensures ∙ (λ i. min (c.sum_in_row.ensures i + c.amount.ensures i) most_burned))
 
 pub returns-in-None-clause-rise : goal.returns-in-None-clause-rise
 returns-in-None-clause-rise c =
-    let listed = c.args.ledger.now.listed in
-    let a = c.args.asset.now in
-    unlisted listed c.requires.1 a c.args.sums.now (ap (λ kind. number_in listed (a.id, kind)) (sym c.kind.ensures) ∙ sym c.in-None.ensures.number)
+    unlisted c.args.ledger.now.listed c.requires.sums.1 c.args.asset.now c.args.sums.now (sym c.in-None.ensures)
