@@ -40,7 +40,7 @@ all_whole [] two a b = b
 all_whole (x ∷ xs) two a b = (a.0, all_whole xs two a.1 b)
 
 module _ {M : Type 0} (replies : M → Replies) (rooms : M → Rooms) where
-  pub flows_start : (machine : M) (bytes : List ℕ) (known : Option (List ℕ)) → Flows replies rooms machine machine bytes bytes known known
+  abbrev pub flows_start : (machine : M) (bytes : List ℕ) (known : Option (List ℕ)) → Flows replies rooms machine machine bytes bytes known known
   flows_start machine bytes known = record { took = []; text = []; appends = Appends-nil known; cut = λ more. refl; whole = tt; goes = λ at_end lines. refl; room = λ lines begun r. r }
 
   module _ (machine now : M) (bytes rest : List ℕ) (old mid : Option (List ℕ)) (f : Flows replies rooms machine now bytes rest old mid) where
@@ -53,7 +53,7 @@ module _ {M : Type 0} (replies : M → Replies) (rooms : M → Rooms) where
     flow_so_far r = then_nothing _ _ f.text (ap (replies machine false) (sym (append-nil f.took)) ∙ f.goes false []) r
 
     -- a line is taken: `next` says how the bytes that come begin with it
-    pub flows_line : {E : Type 0} (then : M) (less line : List ℕ) (due : List ℕ) (new : Option (List ℕ)) (result : Result (Option Status) E)
+    abbrev pub flows_line : {E : Type 0} (then : M) (less line : List ℕ) (due : List ℕ) (new : Option (List ℕ)) (result : Result (Option Status) E)
         → Advances (λ (x : Bool × List (List ℕ)). replies now x.0 (line ∷ x.1)) (λ x. replies then x.0 x.1) due mid new result → result ≡ Ok None
         → ((more : List ℕ) → lines_of (rest ++ more) ≡ line ∷ lines_of (less ++ more)) → ends_with 10 line ≡ true
         → ((lines : List (List ℕ)) (begun : ℕ) → rooms then lines begun → rooms now (line ∷ lines) begun) → Flows replies rooms machine then bytes less old new

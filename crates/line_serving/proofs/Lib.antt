@@ -1,4 +1,5 @@
 pub mod Lemmas
 mod Flowing
+mod Gathering
 mod PastLimits
 mod Streams

@@ -5,6 +5,7 @@ mod feeder;
 mod limits;
 mod lines;
 mod machine;
+mod page;
 mod serving;
 mod status;
 mod writing;

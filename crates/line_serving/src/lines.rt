@@ -6,6 +6,7 @@ ghost use Rattle.line_serving.specs.Calls.{HasWriteCause};
 ghost use Rattle.line_serving.specs.Feeding.{TakesLines};
 
 use crate::machine::LineMachine;
+use crate::page::Page;
 use crate::status::Status;
 use input_lines::line_len;
 use std::alloc::{AllocError, Global};
@@ -29,20 +30,32 @@ pub(crate) fn take_lines<M: LineMachine, O: Sink>(
     ensures taken { result ≡ Ok None → M.taken machine.new ≡ M.taken machine.old + used.new }
     ensures ready { result ≡ Ok None → M.is_ready machine.new }
 {
+    let mut page = Page::new(alloc);
     let mut at = 0;
     while let Some(len) = line_len(&bytes[at..]) {
-        match machine.take_line(alloc, &bytes[at..at + len], out) {
+        match machine.take_line(alloc, &bytes[at..at + len], &mut page) {
             Ok(None) => at += len,
             Ok(Some(status)) => {
                 *used = at;
-                return Ok(Some(status));
+                return page.ends(out, status);
             }
             Err(refused) => {
                 *used = at;
+                let _ = page.hand_on(out);
                 return Err(refused);
+            }
+        }
+        match page.turn(out) {
+            Ok(()) => {}
+            Err(_) => {
+                *used = at;
+                return Ok(Some(Status::WriteFault));
             }
         }
     }
     *used = at;
-    Ok(None)
+    match page.hand_on(out) {
+        Ok(()) => Ok(None),
+        Err(_) => Ok(Some(Status::WriteFault)),
+    }
 }

@@ -1,0 +1,25 @@
+-- Replies that are gathered before they are written. Source: this project's own rule.
+use Rattle.std.specs.Prelude.{◌≡◌, ◌≢◌, ℕ, List, ◌++◌, Option, Some, None, Result, Ok, MatchResult}
+use Rattle.std.specs.Io.KnownBytes.{Appends}
+use Rattle.xcm_io.specs.Bytes.{IsFront, IsProperFront}
+use Rattle.line_serving.specs.declared.status.Status.{Status}
+use Rattle.line_serving.specs.declared.status.Status.TheVariants.{WriteFault}
+
+-- The first of these bytes were written and the rest are left, or the write failed with a proper prefix of them written.
+abbrev pub HandsOn : {E : Type 0} → List ℕ → List ℕ → Option (List ℕ) → Option (List ℕ) → Result (Unit {0}) E → Type 0
+HandsOn bytes left old new result = MatchResult result
+    (λ _. (part : List ℕ) × (bytes ≡ part ++ left) × Appends old new part)
+    (λ _. (part : List ℕ) × IsProperFront part bytes × Appends old new part)
+
+-- These bytes were written, all of them unless the answer is that a write failed or that memory was refused. Otherwise the answer is
+-- the one handed in.
+pub record HandsOver {E : Type 0} (bytes : List ℕ) (answer : Status) (old new : Option (List ℕ))
+    (result : Result (Option Status) E) : Type 0 where
+  pub part : List ℕ
+  pub appends : Appends old new part
+  pub front : IsFront part bytes
+  pub ended : result ≢ Ok None
+  pub whole : (status : Status) → result ≡ Ok (Some status) → status ≢ WriteFault
+      → (status ≡ answer) × (part ≡ bytes)
+  pub short : result ≡ Ok (Some WriteFault)
+      → IsProperFront part bytes × (answer ≢ WriteFault)
