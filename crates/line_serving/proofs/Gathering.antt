@@ -1,5 +1,5 @@
 -- Lines whose replies are gathered before they are written.
-use Rattle.std.proofs.Common.{◌≡◌, ◌≢◌, ◌∙◌, ◌⊎◌, inl, inr, ◌<◌, ◌+◌, ℕ, Bool, true, false, List, [], ◌∷◌, ◌++◌, length, refl, sym, ap, subst, Option, Some, None, Result, Ok, Err, append_assoc, append-nil, arith, length-append}
+use Rattle.std.proofs.Common.{◌≡◌, ◌∙◌, ◌⊎◌, inl, inr, ◌<◌, ◌+◌, ℕ, Bool, true, false, List, [], ◌∷◌, ◌++◌, length, refl, sym, ap, subst, Option, Some, None, Result, Ok, Err, append_assoc, append-nil, arith, length-append}
 use Rattle.std.specs.Io.KnownBytes.{Appends}
 use Rattle.std.proofs.KnownBytes.{Appends-nil, Appends-trans}
 use Rattle.xcm_io.specs.Bytes.{IsFront, IsProperFront, AppendsWhole}
@@ -8,10 +8,10 @@ use Rattle.line_serving.specs.declared.status.Status.{Status}
 use Rattle.line_serving.specs.declared.status.Status.TheVariants.{Done, WriteFault, TooLong}
 use Rattle.line_serving.specs.Replies.{Reply, Replies, Rooms, ends, then_on}
 use Rattle.line_serving.specs.Calls.{Advances}
-use Rattle.line_serving.specs.Feeding.{Flows, StopsRun, StopsInLine, StopsAtLimit, AllWhole}
-use Rattle.line_serving.specs.Gathering.{HandsOver}
+use Rattle.line_serving.specs.Feeding.{Flows, StopsRun, StopsInLine, AllWhole}
+use Rattle.line_serving.specs.Gathering.{HandsOver, Hands}
 use Rattle.line_serving.proofs.Lemmas.{front_on, proper_on}
-use Rattle.line_serving.proofs.Flowing.{then_proper, whole_more, flows_start, flows_line, flows_over, flow_bytes, flow_so_far}
+use Rattle.line_serving.proofs.Flowing.{then_proper, then_front, then_ends, whole_more, flows_start, flows_line, flow_bytes, flow_so_far}
 
 -- ---- prefixes
 
@@ -102,14 +102,21 @@ pub record Gathers {M : Type 0} (replies : M → Replies) (rooms : M → Rooms) 
   pub flows : Flows replies rooms machine now bytes rest (Some []) (Some (told ++ held))
   pub cuts : (part : List ℕ) → IsProperFront part flows.text → CutInLine (replies machine) flows.took part
 
--- the same steps of a sink that has more before
-abbrev advances_at : {X E : Type 0} (before after : X → Reply) (due : List ℕ) (old new first then : Option (List ℕ)) (result : Result (Option Status) E) (a : Advances before after due old new result)
-    → Appends first then a.text → Advances before after due first then result
-advances_at before after due old new first then result a e = record { text = a.text; appends = e; front = a.front; goes_on = a.goes_on; ended = a.ended; short = a.short; long = a.long }
+goes_unfailed : {E : Type 0} (result : Result (Option Status) E) → result ≡ Ok None → result ≡ Ok (Some WriteFault) → ⊥
+goes_unfailed result e r = cc
 
-handed_part : {G : Type 0} (mid new : Option (List ℕ)) (page : List ℕ) (handed : Result (Unit {0}) G) → AppendsWhole mid new handed page → (part : List ℕ) × IsFront part page × Appends mid new part
-handed_part mid new page (Ok done) w = (page, ([], sym (append-nil page)), w)
-handed_part mid new page (Err failed) w = (w.0, (w.1.0, w.1.1), w.2)
+-- as a call of a sink that shows this text alone
+abbrev advances_of : {X E : Type 0} (before after : X → Reply) (due held left : List ℕ) (old new first then : Option (List ℕ)) (result : Result (Option Status) E) (h : Hands before after due held left old new result)
+    → result ≡ Ok None → Appends first then h.text → Advances before after due first then result
+advances_of before after due held left old new first then result h e w = record {
+  text = h.text;
+  appends = w;
+  front = h.front;
+  goes_on = λ r. (h.goes_on r).1;
+  ended = λ status r n. (h.ended status r n).1;
+  short = λ r. absurd (goes_unfailed result e r);
+  long = h.long;
+}
 
 module _ {M : Type 0} (replies : M → Replies) (rooms : M → Rooms) where
   pub gathers_start : (machine : M) (bytes : List ℕ) (known : Option (List ℕ)) (page : List ℕ) → page ≡ [] → Gathers replies rooms machine machine bytes bytes known known page
@@ -149,83 +156,165 @@ module _ {M : Type 0} (replies : M → Replies) (rooms : M → Rooms) where
           long = λ e. absurd cc;
         }
 
-    module _ {E : Type 0} (then : M) (less line page : List ℕ) (result : Result (Option Status) E) (r : replies now false [] ≡ ends [] Done)
-        (a : Advances (λ (x : Bool × List (List ℕ)). replies now x.0 (line ∷ x.1)) (λ x. replies then x.0 x.1) (replies now false (line ∷ [])).text (Some held) (Some page) result)
+    module _ {E : Type 0} (then : M) (less line left : List ℕ) (new : Option (List ℕ)) (result : Result (Option Status) E) (r : replies now false [] ≡ ends [] Done)
+        (h : Hands (λ (x : Bool × List (List ℕ)). replies now x.0 (line ∷ x.1)) (λ x. replies then x.0 x.1) (replies now false (line ∷ [])).text held left mid new result)
         (next : (more : List ℕ) → lines_of (rest ++ more) ≡ line ∷ lines_of (less ++ more)) (feed : ends_with 10 line ≡ true) where
-      -- what was told before, and the page
-      told_page : g.told ++ page ≡ (g.told ++ held) ++ a.text
-      told_page = ap (λ t. g.told ++ t) a.appends ∙ sym (append_assoc g.told held a.text)
+      -- what was told and is held, and more
+      text_held : (more : List ℕ) → g.flows.text ++ more ≡ g.told ++ (held ++ more)
+      text_held more = ap (λ t. t ++ more) (sym g.flows.appends) ∙ append_assoc g.told held more
 
-      text_page : g.flows.text ++ a.text ≡ g.told ++ page
-      text_page = ap (λ t. t ++ a.text) (sym g.flows.appends) ∙ sym told_page
+      so_far : replies machine false g.flows.took ≡ ends g.flows.text Done
+      so_far = flow_so_far replies rooms machine now bytes rest (Some []) (Some (g.told ++ held)) g.flows r
 
-      cuts_here : (part : List ℕ) → IsProperFront part (g.flows.text ++ a.text) → CutInLine (replies machine) (g.flows.took ++ line ∷ []) part
-      cuts_here = cut_more (replies machine) (replies now) g.flows.took g.flows.text line a.text (flow_so_far replies rooms machine now bytes rest (Some []) (Some (g.told ++ held)) g.flows r)
-          (g.flows.goes false (line ∷ [])) (a.front (false, [])) g.cuts
+      cuts_here : (more : List ℕ) → IsFront more (replies now false (line ∷ [])).text → (part : List ℕ) → IsProperFront part (g.flows.text ++ more) → CutInLine (replies machine) (g.flows.took ++ line ∷ []) part
+      cuts_here more front = cut_more (replies machine) (replies now) g.flows.took g.flows.text line more so_far (g.flows.goes false (line ∷ [])) front g.cuts
 
-      -- a line is taken, and of the page some was written
-      pub gathers_line : (new : Option (List ℕ)) (part left : List ℕ) → result ≡ Ok None → page ≡ part ++ left → Appends mid new part
-          → ((lines : List (List ℕ)) (begun : ℕ) → rooms then lines begun → rooms now (line ∷ lines) begun) → Gathers replies rooms machine then bytes less old new left
-      gathers_line new part left e p w m =
-          let all : (g.told ++ part) ++ left ≡ (g.told ++ held) ++ a.text = append_assoc g.told part left ∙ ap (λ t. g.told ++ t) (sym p) ∙ told_page in
+      -- the line is taken
+      pub gathers_line : result ≡ Ok None → ((lines : List (List ℕ)) (begun : ℕ) → rooms then lines begun → rooms now (line ∷ lines) begun) → Gathers replies rooms machine then bytes less old new left
+      gathers_line e m =
+          let all : (g.told ++ h.part) ++ left ≡ (g.told ++ held) ++ h.text =
+          append_assoc g.told h.part left ∙ ap (λ t. g.told ++ t) (sym (h.goes_on e).0) ∙ sym (append_assoc g.told held h.text) in
           record {
-            told = g.told ++ part;
-            appends = Appends-trans old mid new g.told part g.appends w;
-            flows = flows_line replies rooms machine now bytes rest (Some []) (Some (g.told ++ held)) g.flows then less line _ (Some ((g.told ++ part) ++ left)) result
-                (advances_at _ _ _ (Some held) (Some page) (Some (g.told ++ held)) (Some ((g.told ++ part) ++ left)) result a all) e next feed m;
-            cuts = cuts_here;
+            told = g.told ++ h.part;
+            appends = Appends-trans old mid new g.told h.part g.appends h.appends;
+            flows = flows_line replies rooms machine now bytes rest (Some []) (Some (g.told ++ held)) g.flows then less line (replies now false (line ∷ [])).text (Some ((g.told ++ h.part) ++ left)) result
+                (advances_of _ _ _ held left mid new (Some (g.told ++ held)) (Some ((g.told ++ h.part) ++ left)) result h e all) e next feed m;
+            cuts = cuts_here h.text (h.front (false, []));
           }
 
-      -- the run as it would be if all of the page were written
-      over_page : StopsRun (replies machine) bytes (Some []) (Some (g.told ++ page)) result
-      over_page = flows_over replies rooms machine now bytes rest (Some []) (Some (g.told ++ held)) g.flows then less line (Some (g.told ++ page)) result result r
-          (advances_at _ _ _ (Some held) (Some page) (Some (g.told ++ held)) (Some (g.told ++ page)) result a told_page) (λ status e. e) next feed
+      lines_here : lines_of bytes ≡ g.flows.took ++ line ∷ lines_of less
+      lines_here = lines_taken ∙ ap (λ l. g.flows.took ++ l) (ap lines_of (sym (append-nil rest)) ∙ next [] ∙ ap (λ b. line ∷ lines_of b) (append-nil less))
 
-      over_front : (part : List ℕ) → IsFront part page → (at_end : Bool) (more : List ℕ) → IsFront (g.told ++ part) (replies machine at_end (lines_of (bytes ++ more))).text
-      over_front part f at_end more =
-          let w = over_page.front at_end more in
-          (f.0 ++ w.0, w.1 ∙ ap (λ t. t ++ w.0) (sym over_page.appends ∙ ap (λ t. g.told ++ t) f.1 ∙ sym (append_assoc g.told part f.0)) ∙ append_assoc (g.told ++ part) f.0 w.0)
+      reply_here : (at_end : Bool) (more : List ℕ) → replies machine at_end (lines_of (bytes ++ more)) ≡ then_on g.flows.text (replies now at_end (line ∷ lines_of (less ++ more)))
+      reply_here at_end more = flow_bytes replies rooms machine now bytes rest (Some []) (Some (g.told ++ held)) g.flows at_end more ∙ ap (λ l. then_on g.flows.text (replies now at_end l)) (next more)
 
-      lines_here : lines_of bytes ≡ (g.flows.took ++ line ∷ []) ++ lines_of less
-      lines_here = lines_taken ∙ ap (λ l. g.flows.took ++ l) (ap lines_of (sym (append-nil rest)) ∙ next [] ∙ ap (λ b. line ∷ lines_of b) (append-nil less)) ∙ sym (append_assoc g.flows.took (line ∷ []) (lines_of less))
+      front_here : (at_end : Bool) (more : List ℕ) → IsFront (g.told ++ h.part) (replies machine at_end (lines_of (bytes ++ more))).text
+      front_here at_end more =
+          let w = then_front _ _ g.flows.text h.text (reply_here at_end more) (h.front (at_end, lines_of (less ++ more))) in
+          (h.told.0 ++ w.0, w.1 ∙ ap (λ t. t ++ w.0) (text_held h.text ∙ ap (λ t. g.told ++ t) h.told.1 ∙ sym (append_assoc g.told h.part h.told.0)) ∙ append_assoc (g.told ++ h.part) h.told.0 w.0)
 
-      cut_page : (part : List ℕ) → IsProperFront part page → StopsInLine (replies machine) false bytes (g.told ++ part)
-      cut_page part p = stops_cut (replies machine) bytes (g.flows.took ++ line ∷ []) (lines_of less) (g.told ++ part) lines_here (whole_more g.flows.took line g.flows.whole feed)
-          (cuts_here (g.told ++ part) (p.0, text_page ∙ ap (λ t. g.told ++ t) p.1 ∙ sym (append_assoc g.told part p.0), p.2))
-
-      -- the line is taken, and the page wasn't written whole
-      pub gathers_full : {F : Type 0} (new : Option (List ℕ)) (part : List ℕ) → IsProperFront part page → Appends mid new part → StopsRun {E = F} (replies machine) bytes old new (Ok (Some WriteFault))
-      gathers_full new part p w = record {
-        text = g.told ++ part;
-        appends = Appends-trans old mid new g.told part g.appends w;
-        front = over_front part (p.0, p.1);
-        ended = λ status e n. absurd (n cc);
-        short = λ e. cut_page part p;
-        long = λ e. absurd cc;
-      }
-
-      -- the line ended the run
-      pub gathers_over : {F : Type 0} (new : Option (List ℕ)) (status : Status) (answer : Result (Option Status) F) → result ≡ Ok (Some status) → HandsOver page status mid new answer → StopsRun (replies machine) bytes old new answer
-      gathers_over new status answer e h = record {
+      -- the line ended the run, or memory was refused in it
+      pub gathers_over : {F : Type 0} (answer : Result (Option Status) F) → ((status : Status) → answer ≡ Ok (Some status) → result ≡ Ok (Some status)) → StopsRun (replies machine) bytes old new answer
+      gathers_over answer same = record {
         text = g.told ++ h.part;
         appends = Appends-trans old mid new g.told h.part g.appends h.appends;
-        front = over_front h.part h.front;
-        ended = λ other o n at_end more. let w = h.whole other o n in
-            over_page.ended other (e ∙ ap (λ s. Ok (Some s)) (sym w.0)) n at_end more ∙ ap (λ t. ends t other) (sym over_page.appends ∙ ap (λ t. g.told ++ t) (sym w.1));
-        short = λ o. cut_page h.part (h.short o).0;
-        long = λ o. let w = h.whole TooLong o (λ x. cc) in
-            subst (StopsAtLimit (replies machine) bytes) (sym over_page.appends ∙ ap (λ t. g.told ++ t) (sym w.1)) (over_page.long (e ∙ ap (λ s. Ok (Some s)) (sym w.0)));
+        front = front_here;
+        ended = λ status o n at_end more. let w = h.ended status (same status o) n in
+            then_ends _ _ g.flows.text h.text status (reply_here at_end more) (w.1 (at_end, lines_of (less ++ more))) ∙ ap (λ t. ends t status) (text_held h.text ∙ ap (λ t. g.told ++ t) (sym w.0));
+        short = λ o. let p = h.short (same WriteFault o) in
+            stops_cut (replies machine) bytes (g.flows.took ++ line ∷ []) (lines_of less) (g.told ++ h.part) (lines_here ∙ sym (append_assoc g.flows.took (line ∷ []) (lines_of less)))
+            (whole_more g.flows.took line g.flows.whole feed)
+            (cuts_here (replies now false (line ∷ [])).text ([], sym (append-nil (replies now false (line ∷ [])).text)) (g.told ++ h.part)
+            (p.0, text_held (replies now false (line ∷ [])).text ∙ ap (λ t. g.told ++ t) p.1 ∙ sym (append_assoc g.told h.part p.0), p.2));
+        long = λ o. record {
+          before = g.flows.took;
+          behind = line ∷ lines_of less;
+          lines = lines_here;
+          reported = so_far ∙ ap (λ t. ends t Done) (sym (append-nil g.flows.text) ∙ ap (λ t. g.flows.text ++ t) (sym (h.long (same TooLong o))) ∙ text_held h.text
+              ∙ ap (λ t. g.told ++ t) (sym (h.ended TooLong (same TooLong o) (λ x. cc)).0));
+        };
       }
 
-      -- memory was refused in the line
-      pub gathers_err : {F G : Type 0} (new : Option (List ℕ)) (handed : Result (Unit {0}) G) (refused : F) → AppendsWhole mid new handed page → StopsRun (replies machine) bytes old new (Err refused)
-      gathers_err new handed refused w =
-          let some : (part : List ℕ) × IsFront part page × Appends mid new part = handed_part mid new page handed w in
-          record {
-            text = g.told ++ some.0;
-            appends = Appends-trans old mid new g.told some.0 g.appends some.2;
-            front = over_front some.0 some.1;
-            ended = λ status e n. cc;
-            short = λ e. absurd cc;
-            long = λ e. absurd cc;
-          }
+-- ---- a line that is handed to the machine
+
+handed_part : {G : Type 0} (mid new : Option (List ℕ)) (page : List ℕ) (handed : Result (Unit {0}) G) → AppendsWhole mid new handed page → (part : List ℕ) × IsFront part page × Appends mid new part
+handed_part mid new page (Ok done) w = (page, ([], sym (append-nil page)), w)
+handed_part mid new page (Err failed) w = (w.0, (w.1.0, w.1.1), w.2)
+
+module _ {X E : Type 0} (before after : X → Reply) (none : X) (held page : List ℕ) (old new : Option (List ℕ)) (taken : Result (Option Status) E)
+    (a : Advances before after (before none).text (Some held) (Some page) taken) where
+  part_front : (part : List ℕ) → IsFront part page → IsFront part (held ++ a.text)
+  part_front part f = (f.0, sym a.appends ∙ f.1)
+
+  part_short : (part : List ℕ) → IsProperFront part page → IsProperFront part (held ++ (before none).text)
+  part_short part f = proper_on part (held ++ a.text) (a.front none).0 (held ++ (before none).text) (f.0, sym a.appends ∙ f.1, f.2)
+      (ap (λ t. held ++ t) (a.front none).1 ∙ sym (append_assoc held a.text (a.front none).0))
+
+  -- its reply is gathered
+  pub hands_some : (part left : List ℕ) → taken ≡ Ok None → page ≡ part ++ left → Appends old new part → Hands {E = E} before after (before none).text held left old new (Ok None)
+  hands_some part left e p w = record {
+    text = a.text;
+    part = part;
+    appends = w;
+    told = part_front part (left, p);
+    front = a.front;
+    goes_on = λ r. (sym a.appends ∙ p, a.goes_on e);
+    ended = λ status r n. absurd cc;
+    short = λ r. absurd cc;
+    long = λ r. absurd cc;
+  }
+
+  -- the page wasn't written whole
+  pub hands_part : (part left : List ℕ) → IsProperFront part page → Appends old new part → Hands {E = E} before after (before none).text held left old new (Ok (Some WriteFault))
+  hands_part part left p w = record {
+    text = a.text;
+    part = part;
+    appends = w;
+    told = part_front part (p.0, p.1);
+    front = a.front;
+    goes_on = λ r. absurd cc;
+    ended = λ status r n. absurd (n cc);
+    short = λ r. part_short part p;
+    long = λ r. absurd cc;
+  }
+
+  -- the run is over
+  pub hands_over : {F : Type 0} (left : List ℕ) (status : Status) (answer : Result (Option Status) F) → taken ≡ Ok (Some status) → HandsOver page status old new answer
+      → Hands before after (before none).text held left old new answer
+  hands_over left status answer e h = record {
+    text = a.text;
+    part = h.part;
+    appends = h.appends;
+    told = part_front h.part h.front;
+    front = a.front;
+    goes_on = λ r. absurd (h.ended r);
+    ended = λ other r n. let w = h.whole other r n in (w.1 ∙ a.appends, a.ended other (e ∙ ap (λ s. Ok (Some s)) (sym w.0)) n);
+    short = λ r. part_short h.part (h.short r).0;
+    long = λ r. a.long (e ∙ ap (λ s. Ok (Some s)) (sym (h.whole TooLong r (λ x. cc)).0));
+  }
+
+  -- memory was refused
+  pub hands_err : {F G : Type 0} (left : List ℕ) (handed : Result (Unit {0}) G) (refused : F) → AppendsWhole old new handed page → Hands before after (before none).text held left old new (Err refused)
+  hands_err left handed refused w =
+      let some : (part : List ℕ) × IsFront part page × Appends old new part = handed_part old new page handed w in
+      record {
+        text = a.text;
+        part = some.0;
+        appends = some.2;
+        told = part_front some.0 some.1;
+        front = a.front;
+        goes_on = λ r. absurd cc;
+        ended = λ status r n. absurd cc;
+        short = λ r. absurd cc;
+        long = λ r. absurd cc;
+      }
+
+-- its reply goes to the sink behind what is held
+pub hands_directly : {X E : Type 0} (before after : X → Reply) (due held left : List ℕ) (old mid new : Option (List ℕ)) (result : Result (Option Status) E) → left ≡ [] → Appends old mid held
+    → Advances before after due mid new result → Hands before after due held left old new result
+hands_directly before after due held left old mid new result e w a = record {
+  text = a.text;
+  part = held ++ a.text;
+  appends = Appends-trans old mid new held a.text w a.appends;
+  told = ([], sym (append-nil (held ++ a.text)));
+  front = a.front;
+  goes_on = λ r. (sym (append-nil (held ++ a.text)) ∙ ap (λ l. (held ++ a.text) ++ l) (sym e), a.goes_on r);
+  ended = λ status r n. (refl, a.ended status r n);
+  short = λ r. let p = a.short r in (p.0, ap (λ t. held ++ t) p.1 ∙ sym (append_assoc held a.text p.0), p.2);
+  long = a.long;
+}
+
+-- what is held wasn't written whole, and the line isn't taken
+pub hands_nothing : {X E : Type 0} (before after : X → Reply) (due held left part : List ℕ) (old new : Option (List ℕ)) → IsProperFront part held → Appends old new part
+    → Hands {E = E} before after due held left old new (Ok (Some WriteFault))
+hands_nothing before after due held left part old new p w = record {
+  text = [];
+  part = part;
+  appends = w;
+  told = (p.0, append-nil held ∙ p.1);
+  front = λ more. ((before more).text, refl);
+  goes_on = λ r. absurd cc;
+  ended = λ status r n. absurd (n cc);
+  short = λ r. proper_on part held due (held ++ due) p refl;
+  long = λ r. refl;
+}

@@ -72,3 +72,9 @@ pub trait LineMachine {
     /// There is room for a line of which nothing has come.
     ghost room_to_begin: { (machine : Self) → is_ready machine → rooms machine [] 0 };
 }
+
+/// Which replies are too long to be held.
+pub trait LongReplies {
+    /// Whether the reply to the line goes to the sink as it comes, and isn't gathered with others. What is written is the same.
+    fn is_long(&self, line: &[u8]) -> bool;
+}
