@@ -10,7 +10,8 @@ use crate::ChainState;
 use asset_lists::Asset;
 use locations::Location;
 use operands::XcmError;
-use trust_tables::{find_row, is_partner, is_reserve};
+use std::slice::from_ref;
+use trust_tables::{AssetRow, find_row, is_partner, is_reserve};
 
 impl ChainState {
     /// Whether the chain lists the asset.
@@ -21,17 +22,32 @@ impl ChainState {
         find_row(self.settings.rows.items(), asset).is_some()
     }
 
+    /// The asset's row as a list, or no row where it has none. For speed it is found by the asset's number in the ledger, which lists
+    /// what the rows list.
+    fn own_row(&self, asset: &Asset) -> &[AssetRow]
+        ensures { row_of result.now asset.now ≡ row_of self.now.settings.rows asset.now }
+    {
+        match self.ledger.number_of(&asset.id, asset.kind()) {
+            Some(number) => match self.settings.rows.items().get(number as usize) {
+                Some(row) => from_ref(row),
+                None => &[],
+            },
+            None => &[],
+        }
+    }
+
     /// Why the chain at that location isn't trusted with the asset.
     fn trust_fault(&self, from: &Location, teleport: bool, asset: &Asset) -> Option<XcmError>
         ensures { result ≡ host.trust_fault (part_of self.now) from.now teleport asset.now }
     {
+        let rows = self.own_row(asset);
         if teleport {
-            if is_partner(self.settings.rows.items(), &self.settings.site, asset, from) {
+            if is_partner(rows, &self.settings.site, asset, from) {
                 return None;
             }
             return Some(XcmError::UntrustedTeleportLocation);
         }
-        if is_reserve(self.settings.rows.items(), &self.settings.site, asset, from) {
+        if is_reserve(rows, &self.settings.site, asset, from) {
             return None;
         }
         Some(XcmError::UntrustedReserveLocation)
