@@ -15,6 +15,7 @@ pub mod Reading
 pub mod Opening
 pub mod Exchanging
 pub mod Transferring
+pub mod Passing
 pub mod LedgerLaws
 pub mod AccountOrders
 pub mod AccountGoods

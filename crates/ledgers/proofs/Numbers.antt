@@ -1,5 +1,5 @@
 -- The numbers of listed assets: indices in a list in which nothing is twice.
-use Rattle.std.proofs.Common.{◌≡◌, ℕ, zero, List, length, get_or, refl, sym, ap, ◌∙◌}
+use Rattle.std.proofs.Common.{◌≡◌, ℕ, List, length, get_or, refl, sym, ap, ◌∙◌}
 use Rattle.std.specs.Prelude.{None, Some, slice_get}
 use Rattle.std.specs.Ordering.{eq_by_cmp}
 use Rattle.std.specs.List.{position_or_len}

@@ -6,7 +6,7 @@ ghost use Rattle.amounts.specs.Amounts.{amount, empty, plus, minus};
 ghost use Rattle.asset_lists.specs.declared.units.Kind.{Kind};
 ghost use Rattle.asset_bundles.specs.Bundles.{bundle_of, held_assets};
 ghost use Rattle.asset_lists.specs.Units.{unit_of};
-ghost use Rattle.asset_lists.specs.Listed.{listed_cmp};
+ghost use Rattle.asset_lists.specs.Listed.{listed_cmp, listed_of};
 ghost use Rattle.asset_bundles.specs.Totals.{total_value};
 ghost use Rattle.asset_bundles.specs.Books.{AreListed};
 ghost use Rattle.ledgers.specs.Ledgers.{listed_pair, number_in, sum_of, account_sum_of, owners_of, IsOwner, NoneNext, IsNext, account_goods, shortage, overflow, is_barred, barred, Withdrawn, Deposited, Transferred};
@@ -14,9 +14,7 @@ ghost use Rattle.ledgers.specs.LedgerFaults.{IsFirstBarred, IsLedgerFault, IsDep
 
 use crate::account_sums::account_sums;
 use crate::asset_table::AssetTable;
-use crate::list_moves::{
-    barred, give_all, make_all_room, overflow, put_all, shortage, sweep_all, take_all,
-};
+use crate::list_moves::{barred, move_all, overflow, put_all, shortage, sweep_all, take_all};
 use crate::next_account::next_holder;
 use crate::rows::Rows;
 use crate::sums::zero_sums;
@@ -107,6 +105,22 @@ impl Ledger {
         ensures amount { result ≡ amount self.now.held (who.now, unit_of asset.now) }
     {
         self.rows.held(who, asset)
+    }
+
+    /// What an account has of the unit of an asset, whose number the caller has looked up (`number_of`).
+    pub fn held_at(&self, number: Option<u32>, who: &[u8; 32], asset: &Asset) -> u128
+        requires number { number ≡ number_in self.now.listed (listed_of (unit_of asset.now)) }
+        ensures amount { result ≡ amount self.now.held (who.now, unit_of asset.now) }
+    {
+        self.rows.held_at(number, who, asset)
+    }
+
+    /// Whether an account can't take in an asset, whose number the caller has looked up (`number_of`).
+    pub fn is_barred_at(&self, number: Option<u32>, who: &[u8; 32], asset: &Asset) -> bool
+        requires number { number ≡ number_in self.now.listed (listed_of (unit_of asset.now)) }
+        ensures barred { result ≡ is_barred self.now.held who.now asset.now }
+    {
+        self.rows.barred_at(number, who, asset).is_some()
     }
 
     /// Whether an account can't take an asset in: an amount would pass 2^128-1, or the instance has an owner.
@@ -378,10 +392,7 @@ impl Ledger {
         if from.cmp(to).is_eq() {
             return Ok(());
         }
-        make_all_room(&mut self.rows, to, assets)?;
-        let needs_sweep = take_all(&mut self.rows, from, assets);
-        give_all(&mut self.rows, to, assets);
-        sweep_all(&mut self.rows, from, assets, needs_sweep);
+        move_all(&mut self.rows, from, to, assets)?;
         Ok(())
     }
 }

@@ -1,8 +1,8 @@
 //! Lists of assets moved into an account or out of it.
-ghost use Rattle.std.specs.Prelude.{◌≡◌, None, OnOk, OnErr, IsTrue, IsFalse, MatchOption};
+ghost use Rattle.std.specs.Prelude.{◌≡◌, None, OnOk, OnErr, IsTrue, IsFalse, IfSome, MatchOption, [], ◌∷◌};
 ghost use Rattle.std.specs.List.{list_all};
 ghost use Rattle.amounts.specs.Amounts.{plus_all, minus_all};
-ghost use Rattle.asset_lists.specs.Units.{unit_of};
+ghost use Rattle.asset_lists.specs.Units.{unit_of, instance_in};
 ghost use Rattle.asset_lists.specs.Lists.{has_zero, is_rising};
 ghost use Rattle.asset_lists.specs.Listed.{listed_of, lists};
 ghost use Rattle.ledgers.specs.Ledgers.{shortage, overflow, barred};
@@ -13,7 +13,7 @@ ghost use Rattle.ledgers.specs.AccountRows.{account_rows, HasAll, MayTakeAll, Ha
 use crate::DepositFault;
 use crate::row_moves::amount_of;
 use crate::rows::Rows;
-use asset_lists::Asset;
+use asset_lists::{Asset, Fun};
 use std::alloc::AllocError;
 
 /// What the account has of the first asset of which it has less than is listed.
@@ -147,5 +147,54 @@ pub(crate) fn put_all(rows: &mut Rows, who: &[u8; 32], list: &[Asset]) -> Result
     }
     make_all_room(rows, who, list)?;
     give_all(rows, who, list);
+    Ok(())
+}
+
+/// The amount that is the whole list; `None` where the list is anything else.
+fn only_amount(list: &[Asset]) -> Option<&Asset>
+    ensures { IfSome result (λ asset. (list.now ≡ asset.now ∷ [])
+        × (instance_in asset.now.fun ≡ None)) }
+{
+    match list {
+        [asset] => match asset.fun {
+            Fun::Fungible(_) => Some(asset),
+            Fun::NonFungible(_) => None,
+        },
+        _ => None,
+    }
+}
+
+/// Moves the listed assets from one account, which has them, to another, which may take them once they are taken. An `Err` is out of
+/// memory, and then nothing was moved.
+pub(crate) fn move_all(
+    rows: &mut Rows,
+    from: &[u8; 32],
+    to: &[u8; 32],
+    list: &[Asset],
+) -> Result<(), AllocError>
+    requires sound { AreSound rows.old }
+    requires others { to.now ≡ from.now → ⊥ }
+    requires no_zero { IsFalse (has_zero list.now) }
+    requires listed { IsTrue (list_all (λ a. lists rows.old.assets (listed_of (unit_of a)))
+        list.now) }
+    requires has { HasAll (rows_held rows.old) from.now list.now }
+    requires may { MayTakeAll (minus_all (rows_held rows.old) (account_rows from.now list.now))
+        to.now list.now }
+    requires once { IsTrue (is_rising list.now) }
+    ensures sound { AreSound rows.new }
+    ensures assets { rows.new.assets ≡ rows.old.assets }
+    ensures held { OnOk result (rows_held rows.new ≡ plus_all
+        (minus_all (rows_held rows.old) (account_rows from.now list.now))
+        (account_rows to.now list.now)) }
+    ensures kept { OnErr result (rows_held rows.new ≡ rows_held rows.old) }
+{
+    // For speed: one amount needs no row before it is given.
+    if let Some(asset) = only_amount(list) {
+        return rows.pass(from, to, asset);
+    }
+    make_all_room(rows, to, list)?;
+    let needs_sweep = take_all(rows, from, list);
+    give_all(rows, to, list);
+    sweep_all(rows, from, list, needs_sweep);
     Ok(())
 }

@@ -48,7 +48,16 @@ impl Rows {
         requires { AreSound self.now }
         ensures { result ≡ amount (rows_held self.now) (who.now, unit_of asset.now) }
     {
-        match self.number(asset) {
+        self.held_at(self.number(asset), who, asset)
+    }
+
+    /// What an account has of the unit of the asset of this number.
+    pub(crate) fn held_at(&self, number: Option<u32>, who: &[u8; 32], asset: &Asset) -> u128
+        requires sound { AreSound self.now }
+        requires number { number ≡ number_in self.now.assets (listed_of (unit_of asset.now)) }
+        ensures { result ≡ amount (rows_held self.now) (who.now, unit_of asset.now) }
+    {
+        match number {
             Some(number) => match asset.fun {
                 Fun::Fungible(_) => amount_in(&self.amounts, number, who),
                 Fun::NonFungible(instance) => {
@@ -103,9 +112,26 @@ impl Rows {
             (λ fault. IsTrue (is_barred (rows_held self.now) who.now asset.now)
             × IsBarred (rows_held self.now) who.now asset.now fault) }
     {
+        self.barred_at(self.number(asset), who, asset)
+    }
+
+    /// Why an account can't take in the asset of this number.
+    pub(crate) fn barred_at(
+        &self,
+        number: Option<u32>,
+        who: &[u8; 32],
+        asset: &Asset,
+    ) -> Option<DepositFault>
+        requires sound { AreSound self.now }
+        requires number { number ≡ number_in self.now.assets (listed_of (unit_of asset.now)) }
+        ensures { MatchOption result
+            (IsFalse (is_barred (rows_held self.now) who.now asset.now))
+            (λ fault. IsTrue (is_barred (rows_held self.now) who.now asset.now)
+            × IsBarred (rows_held self.now) who.now asset.now fault) }
+    {
         match asset.fun {
             Fun::Fungible(amount) => {
-                let have = self.held(who, asset);
+                let have = self.held_at(number, who, asset);
                 if have > u128::MAX - amount {
                     return Some(DepositFault::Overflow { have });
                 }
@@ -132,6 +158,21 @@ impl Rows {
         let Some(number) = self.number(asset) else {
             unreachable!();
         };
+        self.take_at(number, who, asset)
+    }
+
+    /// The same, where this is the asset's number.
+    fn take_at(&mut self, number: u32, who: &[u8; 32], asset: &Asset) -> bool
+        requires sound { AreSound self.old }
+        requires number { Some number ≡ number_in self.old.assets (listed_of (unit_of asset.now)) }
+        requires some { 0 < amount_of_asset asset.now }
+        requires enough { amount_of_asset asset.now
+            ≤ amount (rows_held self.old) (who.now, unit_of asset.now) }
+        ensures sound { AreSound self.new }
+        ensures stay { KeepsRows self.old self.new }
+        ensures held { rows_held self.new ≡ minus (rows_held self.old) (who.now, unit_of asset.now)
+            (amount_of_asset asset.now) }
+    {
         let amount = amount_of(asset);
         let left = lower_amount(&mut self.amounts, number, who, amount);
         set_owner(&mut self.owners, number, asset, None);
@@ -149,6 +190,16 @@ impl Rows {
         let Some(number) = self.number(asset) else {
             return;
         };
+        self.sweep_at(number, who, asset);
+    }
+
+    /// The same, where this is the asset's number.
+    fn sweep_at(&mut self, number: u32, who: &[u8; 32], asset: &Asset)
+        requires { AreSound self.old }
+        ensures sound { AreSound self.new }
+        ensures assets { self.new.assets ≡ self.old.assets }
+        ensures held { rows_held self.new ≡ rows_held self.old }
+    {
         sweep_amount(&mut self.amounts, number, who);
         sweep_instance(&mut self.owners, number, asset);
     }
@@ -207,6 +258,20 @@ impl Rows {
         let Some(number) = self.number(asset) else {
             unreachable!();
         };
+        self.put_at(number, who, asset)
+    }
+
+    /// The same, where this is the asset's number.
+    fn put_at(&mut self, number: u32, who: &[u8; 32], asset: &Asset) -> Result<(), AllocError>
+        requires sound { AreSound self.old }
+        requires number { Some number ≡ number_in self.old.assets (listed_of (unit_of asset.now)) }
+        requires may { MayTake (rows_held self.old) who.now asset.now }
+        ensures sound { AreSound self.new }
+        ensures assets { self.new.assets ≡ self.old.assets }
+        ensures held { OnOk result (rows_held self.new ≡ plus (rows_held self.old)
+            (who.now, unit_of asset.now) (amount_of_asset asset.now)) }
+        ensures kept { OnErr result (rows_held self.new ≡ rows_held self.old) }
+    {
         make_instance_row(&mut self.owners, number, asset)?;
         // For the prover alone: there are fewer than 2^63 rows of each kind, so a count and a sum have room for one more.
         let _ = self.amounts.len();
@@ -215,6 +280,38 @@ impl Rows {
         add_amount(&mut self.amounts, number, who, amount)?;
         set_owner(&mut self.owners, number, asset, Some(*who));
         raise_sum(&mut self.sums, number, amount);
+        Ok(())
+    }
+
+    /// Moves the asset from one account, which has it, to another, which may take it. An `Err` is out of memory, and then nothing was
+    /// moved. It takes no instance, since another account has it until it is taken.
+    pub(crate) fn pass(
+        &mut self,
+        from: &[u8; 32],
+        to: &[u8; 32],
+        asset: &Asset,
+    ) -> Result<(), AllocError>
+        requires sound { AreSound self.old }
+        requires others { to.now ≡ from.now → ⊥ }
+        requires some { 0 < amount_of_asset asset.now }
+        requires enough { amount_of_asset asset.now
+            ≤ amount (rows_held self.old) (from.now, unit_of asset.now) }
+        requires may { MayTake (rows_held self.old) to.now asset.now }
+        ensures sound { AreSound self.new }
+        ensures assets { self.new.assets ≡ self.old.assets }
+        ensures held { OnOk result (rows_held self.new ≡ plus
+            (minus (rows_held self.old) (from.now, unit_of asset.now) (amount_of_asset asset.now))
+            (to.now, unit_of asset.now) (amount_of_asset asset.now)) }
+        ensures kept { OnErr result (rows_held self.new ≡ rows_held self.old) }
+    {
+        let Some(number) = self.number(asset) else {
+            unreachable!();
+        };
+        self.put_at(number, to, asset)?;
+        if !self.take_at(number, from, asset) {
+            return Ok(());
+        }
+        self.sweep_at(number, from, asset);
         Ok(())
     }
 

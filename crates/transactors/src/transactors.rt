@@ -1,5 +1,5 @@
 //! The transactors of fungible assets and of instances, and one after the other.
-ghost use Rattle.std.specs.Prelude.{◌≡◌, is_some, unwrap_or};
+ghost use Rattle.std.specs.Prelude.{◌≡◌, is_some};
 ghost use Rattle.asset_lists.specs.Units.{unit_of};
 ghost use Rattle.asset_lists.specs.Listed.{listed_of};
 ghost use Rattle.ledgers.specs.Ledgers.{is_barred, number_in};
@@ -13,11 +13,16 @@ use ledgers::Ledger;
 use locations::Location;
 use trust_tables::{AssetRow, Site, account_of, has_row};
 
-/// The asset's number in the ledger, which lists what the rows list, and mostly in their order; 0 where it isn't listed.
-fn likely_place(ledger: &Ledger, a: &Asset) -> usize
-    ensures { result ≡ unwrap_or (number_in ledger.now.listed (listed_of (unit_of a.now))) 0 }
+/// The asset's number in the ledger; `None` where it isn't listed.
+fn number_of(ledger: &Ledger, a: &Asset) -> Option<u32>
+    ensures { result ≡ number_in ledger.now.listed (listed_of (unit_of a.now)) }
 {
-    match ledger.number_of(&a.id, a.kind()) {
+    ledger.number_of(&a.id, a.kind())
+}
+
+/// The index at which the row of an asset of this number mostly is, since the ledger lists what the rows list; 0 where it isn't listed.
+fn likely_place(number: Option<u32>) -> usize {
+    match number {
         Some(number) => number as usize,
         None => 0,
     }
@@ -25,19 +30,21 @@ fn likely_place(ledger: &Ledger, a: &Asset) -> usize
 
 /// Whether a row of that kind lists the asset. For speed the row of its number in the ledger is looked at first.
 #[tactic(auto, using(crate::proofs::Rows::row_of_kind, crate::proofs::Rows::found_row))]
-fn handles(kind: Kind, rows: &[AssetRow], ledger: &Ledger, a: &Asset) -> bool
+fn handles(kind: Kind, rows: &[AssetRow], number: Option<u32>, a: &Asset) -> bool
     ensures { result ≡ is_some (row_of (rows_of_kind kind rows.now) a.now) }
 {
-    a.kind() == kind && has_row(rows, likely_place(ledger, a), a)
+    a.kind() == kind && has_row(rows, likely_place(number), a)
 }
 
 /// Whether the account would take in the asset, which is handled or not.
 fn checked_in(
     handled: bool,
+    number: Option<u32>,
     account: Option<[u8; 32]>,
     ledger: &Ledger,
     a: &Asset,
 ) -> Result<(), MoveFault>
+    requires { number ≡ number_in ledger.now.listed (listed_of (unit_of a.now)) }
     ensures { result ≡ accepted (move_fault handled account
         (λ who. is_barred ledger.now.held who a.now)) }
 {
@@ -47,7 +54,7 @@ fn checked_in(
     let Some(who) = account else {
         return Err(MoveFault::NoAccount);
     };
-    if ledger.is_barred(&who, a) {
+    if ledger.is_barred_at(number, &who, a) {
         return Err(MoveFault::Refused);
     }
     Ok(())
@@ -56,10 +63,12 @@ fn checked_in(
 /// Whether the account would give the asset, which is handled or not. There are no floors.
 fn checked_out(
     handled: bool,
+    number: Option<u32>,
     account: Option<[u8; 32]>,
     ledger: &Ledger,
     a: &Asset,
 ) -> Result<(), MoveFault>
+    requires { number ≡ number_in ledger.now.listed (listed_of (unit_of a.now)) }
     ensures { result ≡ accepted (move_fault handled account
         (λ who. is_short_of no_unit_floors ledger.now.held who a.now)) }
 {
@@ -69,7 +78,7 @@ fn checked_out(
     let Some(who) = account else {
         return Err(MoveFault::NoAccount);
     };
-    if ledger.held_of(&who, a) < a.amount() {
+    if ledger.held_at(number, &who, a) < a.amount() {
         return Err(MoveFault::Refused);
     }
     Ok(())
@@ -108,12 +117,9 @@ impl<'a> Transactor for Fungibles<'a> {
         a: &Asset,
         account: Option<[u8; 32]>,
     ) -> Result<(), MoveFault> {
-        checked_in(
-            handles(Kind::Fungible, self.rows, ledger, a),
-            account,
-            ledger,
-            a,
-        )
+        let number = number_of(ledger, a);
+        let handled = handles(Kind::Fungible, self.rows, number, a);
+        checked_in(handled, number, account, ledger, a)
     }
 
     fn check_account_out(
@@ -122,12 +128,9 @@ impl<'a> Transactor for Fungibles<'a> {
         a: &Asset,
         account: Option<[u8; 32]>,
     ) -> Result<(), MoveFault> {
-        checked_out(
-            handles(Kind::Fungible, self.rows, ledger, a),
-            account,
-            ledger,
-            a,
-        )
+        let number = number_of(ledger, a);
+        let handled = handles(Kind::Fungible, self.rows, number, a);
+        checked_out(handled, number, account, ledger, a)
     }
 }
 
@@ -164,12 +167,9 @@ impl<'a> Transactor for Instances<'a> {
         a: &Asset,
         account: Option<[u8; 32]>,
     ) -> Result<(), MoveFault> {
-        checked_in(
-            handles(Kind::Class, self.rows, ledger, a),
-            account,
-            ledger,
-            a,
-        )
+        let number = number_of(ledger, a);
+        let handled = handles(Kind::Class, self.rows, number, a);
+        checked_in(handled, number, account, ledger, a)
     }
 
     fn check_account_out(
@@ -178,12 +178,9 @@ impl<'a> Transactor for Instances<'a> {
         a: &Asset,
         account: Option<[u8; 32]>,
     ) -> Result<(), MoveFault> {
-        checked_out(
-            handles(Kind::Class, self.rows, ledger, a),
-            account,
-            ledger,
-            a,
-        )
+        let number = number_of(ledger, a);
+        let handled = handles(Kind::Class, self.rows, number, a);
+        checked_out(handled, number, account, ledger, a)
     }
 }
 

@@ -1,6 +1,6 @@
 use Rattle.std.proofs.Common.{refl}
 use Rattle.ledgers.proofs.RowChanges.{alike_sound}
-use Rattle.ledgers.proofs.rows.Rows.sweep.Goals as goal
+use Rattle.ledgers.proofs.rows.Rows.sweep_at.Goals as goal
 
 pub returns : goal.returns
 returns c =
