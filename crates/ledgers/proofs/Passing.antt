@@ -33,9 +33,9 @@ module _ (held : Held) (k q : Holder) (n : ℕ) (other : k ≡ q → ⊥) where
       let whole = amount-plus holder_keys (minus held q n) k n x in
       elim (cases_Bool (eq_by_cmp holder_cmp x q)) [
         | inl here ↦ elim (cases_Bool (eq_by_cmp holder_cmp x k)) [
-            | inl there ↦ absurd (other (sym (key_same holder_keys x k there) ∙ key_same holder_keys x q here))
-            | inr not_there ↦ (let none : amount_if (eq_by_cmp holder_cmp x k) n ≡ 0 = ap (λ b. amount_if b n) not_there in omega (arith, taken, given, left, whole, none))
-          ]
+          | inl there ↦ absurd (other (sym (key_same holder_keys x k there) ∙ key_same holder_keys x q here))
+          | inr not_there ↦ (let none : amount_if (eq_by_cmp holder_cmp x k) n ≡ 0 = ap (λ b. amount_if b n) not_there in omega (arith, taken, given, left, whole, none))
+        ]
         | inr not_here ↦ (let none : amount_if (eq_by_cmp holder_cmp x q) n ≡ 0 = ap (λ b. amount_if b n) not_here in omega (arith, taken, given, left, whole, none))
       ]
 
