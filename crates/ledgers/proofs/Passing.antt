@@ -1,11 +1,11 @@
 -- An amount that one account gives another, put there before it is taken.
-use Rattle.std.proofs.Common.{◌≡◌, ℕ, ◌≤◌, List, [], ◌∷◌, refl, sym, ap, ◌∙◌, subst, arith, inl, inr}
-use Rattle.std.specs.Prelude.{Option, None, Some, Result, Ok, Err, OnOk}
+use Rattle.std.proofs.Common.{◌≡◌, ℕ, ◌≤◌, List, [], ◌∷◌, length, refl, sym, ap, ◌∙◌, subst, arith, inl, inr}
+use Rattle.std.specs.Prelude.{Option, None, Some, Result, Ok, Err, OnOk, MatchOption}
 use Rattle.std.specs.Ordering.{eq_by_cmp}
 use Rattle.std.proofs.lemmas.Bool.{cases_Bool}
 use Rattle.amounts.specs.Rows.{amount_if}
 use Rattle.amounts.specs.Amounts.{amount, plus, minus, plus_all, minus_all}
-use Rattle.amounts.proofs.Lemmas.{key_same, amount-plus, amount-minus}
+use Rattle.amounts.proofs.Lemmas.{same_key, key_same, amount-plus, amount-minus}
 use Rattle.amounts.proofs.Lemmas.AmountLaws.{same_amounts}
 use Rattle.asset_lists.specs.declared.units.Fun.{Fun}
 use Rattle.asset_lists.specs.declared.units.Asset.{Asset}
@@ -64,3 +64,25 @@ only_passed (Ok x) held now from to xs a one moved =
     moved ∙ ap (λ h. plus h (to, unit_of a) (amount_of a)) (sym first) ∙ sym (plus_first (minus_all held (account_rows from (a ∷ []))) to a [] ∙ plus_none _)
     ∙ ap (λ ys. plus_all (minus_all held (account_rows from ys)) (account_rows to ys)) (sym one)
 only_passed (Err e) held now from to xs a one moved = tt
+
+-- ---- what is given and taken back
+pub given_there : (held : Held) (k : Holder) (n : ℕ) → n ≤ amount (plus held k n) k
+given_there held k n =
+    let more = amount-plus holder_keys held k n k in
+    let one : amount_if (eq_by_cmp holder_cmp k k) n ≡ n = ap (λ b. amount_if b n) (same_key holder_keys k) in
+    omega (arith, more, one)
+
+pub taken_back : (held : Held) (k : Holder) (n : ℕ) → minus (plus held k n) k n ≡ held
+taken_back held k n = same_amounts holder_keys _ _ (λ x.
+    let taken = amount-minus holder_keys (plus held k n) k n x in
+    let given = amount-plus holder_keys held k n x in
+    omega (arith, taken, given))
+
+-- ---- a list without a first
+pub no_first : {A : Type 0} (o : Option A) (P : Type 0) (Q : A → Type 0) → MatchOption o P Q → ((x : A) → o ≡ Some x → ⊥) → P
+no_first None P Q says none = says
+no_first (Some x) P Q says none = absurd (none x refl)
+
+pub empty_list : {A : Type 0} (xs : List A) → length xs ≡ 0 → xs ≡ []
+empty_list [] none = refl
+empty_list (x ∷ xs) none = absurd (omega (arith, none))

@@ -128,13 +128,16 @@ pub(crate) fn give_all(rows: &mut Rows, who: &[u8; 32], list: &[Asset])
     }
 }
 
-/// Gives the listed assets to an account that may take them, and makes their rows where there are none. An `Err` is
-/// out of memory, and then nothing was given.
-pub(crate) fn put_all(rows: &mut Rows, who: &[u8; 32], list: &[Asset]) -> Result<(), AllocError>
+/// A list of at most so many assets is given without making room first.
+const SHORT: usize = 16;
+
+/// As `put_all`, of a short list: it calls itself for the assets after the first, and takes the first back where they weren't given.
+fn put_short(rows: &mut Rows, who: &[u8; 32], list: &[Asset]) -> Result<(), AllocError>
     requires sound { AreSound rows.old }
     requires listed { IsTrue (list_all (λ a. lists rows.old.assets (listed_of (unit_of a)))
         list.now) }
     requires may { MayTakeAll (rows_held rows.old) who.now list.now }
+    requires no_zero { IsFalse (has_zero list.now) }
     requires once { IsTrue (is_rising list.now) }
     ensures sound { AreSound rows.new }
     ensures assets { rows.new.assets ≡ rows.old.assets }
@@ -142,8 +145,37 @@ pub(crate) fn put_all(rows: &mut Rows, who: &[u8; 32], list: &[Asset]) -> Result
         ≡ plus_all (rows_held rows.old) (account_rows who.now list.now)) }
     ensures kept { OnErr result (rows_held rows.new ≡ rows_held rows.old) }
 {
-    if list.len() == 1 {
-        return rows.put(who, &list[0]);
+    let Some((first, others)) = list.split_first() else {
+        return Ok(());
+    };
+    rows.put(who, first)?;
+    match put_short(rows, who, others) {
+        Ok(()) => Ok(()),
+        Err(fault) => {
+            rows.take(who, first);
+            Err(fault)
+        }
+    }
+}
+
+/// Gives the listed assets to an account that may take them, and makes their rows where there are none. An `Err` is
+/// out of memory, and then nothing was given.
+pub(crate) fn put_all(rows: &mut Rows, who: &[u8; 32], list: &[Asset]) -> Result<(), AllocError>
+    requires sound { AreSound rows.old }
+    requires listed { IsTrue (list_all (λ a. lists rows.old.assets (listed_of (unit_of a)))
+        list.now) }
+    requires may { MayTakeAll (rows_held rows.old) who.now list.now }
+    requires no_zero { IsFalse (has_zero list.now) }
+    requires once { IsTrue (is_rising list.now) }
+    ensures sound { AreSound rows.new }
+    ensures assets { rows.new.assets ≡ rows.old.assets }
+    ensures held { OnOk result (rows_held rows.new
+        ≡ plus_all (rows_held rows.old) (account_rows who.now list.now)) }
+    ensures kept { OnErr result (rows_held rows.new ≡ rows_held rows.old) }
+{
+    // For speed: mostly there is memory.
+    if list.len() <= SHORT {
+        return put_short(rows, who, list);
     }
     make_all_room(rows, who, list)?;
     give_all(rows, who, list);

@@ -1,13 +1,13 @@
-use Rattle.std.proofs.Common.{◌≡◌, true, ap, sym, ◌∙◌, subst}
+use Rattle.std.proofs.Common.{◌≡◌, true, false, ap, sym, ◌∙◌, subst}
 use Rattle.std.specs.Prelude.{None}
 use Rattle.std.specs.List.{list_all}
 use Rattle.asset_lists.specs.Units.{unit_of}
-use Rattle.asset_lists.specs.Lists.{is_rising}
+use Rattle.asset_lists.specs.Lists.{is_rising, has_zero}
 use Rattle.asset_bundles.specs.Bundles.{bundle_of, held_assets}
 use Rattle.asset_lists.specs.Listed.{listed_of, lists}
 use Rattle.ledgers.specs.Ledgers.{Accounts, barred, Deposited}
 use Rattle.ledgers.specs.RowState.{rows_held, accounts_in}
-use Rattle.ledgers.proofs.Holding.{held_rises}
+use Rattle.ledgers.proofs.Holding.{held_rises, held_no_zero}
 use Rattle.ledgers.proofs.AccountMoves.{plus_whole}
 use Rattle.ledgers.proofs.Opening.{goods_listed, may_all}
 use Rattle.ledgers.proofs.Transferring.{as_seen}
@@ -26,6 +26,9 @@ put_all-requires-clause-may c =
     let assets = c.items.result.now in
     may_all (rows_held rows) c.args.who.now assets
     (as_seen (λ l xs. barred l.held c.args.who.now xs ≡ None) c.args.self.now (accounts_in rows) (held_assets c.args.goods) assets (sym c.self.view_is) (sym c.items.ensures.listed) c.requires.free)
+
+pub put_all-requires-clause-no_zero : goal.put_all-requires-clause-no_zero
+put_all-requires-clause-no_zero c = subst (λ xs. has_zero xs ≡ false) (sym c.items.ensures.listed) (held_no_zero c.args.goods)
 
 pub put_all-requires-clause-once : goal.put_all-requires-clause-once
 put_all-requires-clause-once c = subst (λ xs. is_rising xs ≡ true) (sym c.items.ensures.listed) (held_rises c.args.goods)
