@@ -1,6 +1,6 @@
 //! Lists as another chain names them.
-ghost use Rattle.std.specs.Prelude.{◌≡◌, None, Some, MatchOption, IfOk};
-ghost use Rattle.asset_lists.specs.Moves.{all_reanchored, reanchored_list};
+ghost use Rattle.std.specs.Prelude.{◌≡◌, None, Some, MatchOption, IfOk, IsTrue};
+ghost use Rattle.asset_lists.specs.Moves.{moved, all_reanchored, reanchored_list};
 ghost use Rattle.trust_tables.specs.Chains as chains;
 
 use asset_bundles::make_room;
@@ -32,7 +32,7 @@ fn all_reanchored(
         (all_reanchored target.now context.now list.now ≡ None)
         (λ all. all_reanchored target.now context.now list.now ≡ Some all.items)) }
 {
-    let mut all = Vec::new(alloc);
+    let mut all = Vec::with_capacity(alloc, list.len())?;
     for asset in list {
         make_room(&mut all)?;
         if !push_reanchored(&mut all, asset, target, context) {
@@ -40,6 +40,35 @@ fn all_reanchored(
         }
     }
     Ok(Some(all))
+}
+
+/// Whether the target names the asset as this one.
+fn is_seen_as(asset: &Asset, target: &Location, context: &Junctions, named: &Asset) -> bool
+    ensures { IsTrue result → moved target.now context.now asset.now ≡ Some named.now }
+{
+    let mut seen = Asset::zero();
+    asset.reanchor_into(target, context, &mut seen) && seen == *named
+}
+
+/// Whether the target names the assets as these, one by one in the order given: a quick test, which takes no memory.
+pub(crate) fn are_seen_as(
+    list: &[Asset],
+    target: &Location,
+    context: &Junctions,
+    named: &[Asset],
+) -> bool
+    ensures { IsTrue result
+        → all_reanchored target.now context.now list.now ≡ Some named.now }
+{
+    if list.len() != named.len() {
+        return false;
+    }
+    for i in 0..list.len() {
+        if !is_seen_as(&list[i], target, context, &named[i]) {
+            return false;
+        }
+    }
+    true
 }
 
 /// The list as the target names it, in its order; none where it can't name an asset, or where two become the same.
