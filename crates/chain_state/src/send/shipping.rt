@@ -54,31 +54,29 @@ impl ChainState {
         None
     }
 
-    /// The message that goes with goods that are shipped, with the chain that it goes to, and the list of the goods; or why they aren't
-    /// shipped.
+    /// The message that goes with goods that are shipped, with the chain that it goes to; or why they aren't shipped.
     fn ready_shipment(
         &self,
         goods: &AssetBundle,
         way: Way,
         dest: &Location,
         xcm: &Program,
-    ) -> Result<(ChainId, Vec<u8>, Vec<Asset>), HostFault>
+    ) -> Result<(ChainId, Vec<u8>), HostFault>
         requires forwardable { IsForwardable xcm.now }
         ensures ready { MatchResult result
             (λ ready. IsAcceptedByChannel (part_of self.now) dest.now (listed_program
             (λ a. away_program way a xcm.now)
             (seen_from (part_of self.now) dest.now (held_assets goods.now))) ready.0
             ready.1.items
-            × (ship_refusal (part_of self.now) goods.now way dest.now xcm.now ≡ None)
-            × (ready.2.items ≡ held_assets goods.now))
+            × (ship_refusal (part_of self.now) goods.now way dest.now xcm.now ≡ None))
             (IsSendFault (ship_refusal (part_of self.now) goods.now way dest.now xcm.now)) }
     {
-        let list = goods.list()?;
-        if let Some(error) = self.leave_refusal(list.as_slice(), way, dest) {
+        let list = goods.items();
+        if let Some(error) = self.leave_refusal(list, way, dest) {
             return Err(HostFault::Xcm(error));
         }
-        match self.encoded_around(list.as_slice(), dest, call_by(way), xcm) {
-            Ok((to, bytes)) => Ok((to, bytes, list)),
+        match self.encoded_around(list, dest, call_by(way), xcm) {
+            Ok((to, bytes)) => Ok((to, bytes)),
             Err(fault) => Err(fault),
         }
     }
@@ -111,14 +109,14 @@ impl ChainState {
             (number_to (part_of self.old) dest.now) (shipped (part_of self.old) goods way dest.now
             xcm.now) (part_of self.old) result (part_of self.new) }
     {
-        let (to, bytes, list) = match self.ready_shipment(&goods, way, dest, xcm) {
+        let (to, bytes) = match self.ready_shipment(&goods, way, dest, xcm) {
             Ok(ready) => ready,
             Err(fault) => return Err((goods, fault)),
         };
         if self.pending_events.reserve(1).is_err() {
             return Err((goods, HostFault::Memory));
         }
-        self.raise_for(way, &goods, list.as_slice());
+        self.raise_for(way, &goods, goods.items());
         Ok(self.post(to, bytes, Cargo::Away(goods.ship(way))))
     }
 }

@@ -19,7 +19,7 @@ returns-in-Some c =
     let dest = c.args.dest.now in
     let t = is_teleport c.args.way in
     let held = held_assets c.args.goods.now in
-    let assets = c.as_slice.ensures.value ∙ c.in_ok-list.ensures.listed in
+    let assets = c.items-list.ensures.listed in
     let leaves = ap (λ xs. or_else (first_fault (trust_fault p dest t) xs) (if t then first_fault (raise_fault p) xs else None)) (sym assets) ∙ sym c.leave_refusal.ensures ∙ c.in-Some.is in
     record {
       ready = sym (first_of_three (first_fault (trust_fault p dest t) held) (if t then first_fault (raise_fault p) held else None) (listed_refusal p dest (λ a. away_program c.args.way a c.args.xcm.now) (seen_from p dest held)))
@@ -27,7 +27,7 @@ returns-in-Some c =
     }
 
 pub encoded_around-requires-clause-some : goal.encoded_around-requires-clause-some
-encoded_around-requires-clause-some c = ap has_zero (c.as_slice-2.ensures.value ∙ c.in_ok-list.ensures.listed) ∙ goods_some c.args.goods.now
+encoded_around-requires-clause-some c = ap has_zero (c.items-list.ensures.listed) ∙ goods_some c.args.goods.now
 
 pub returns-in-Ok : goal.returns-in-Ok
 unfolding ship_refusal
@@ -38,17 +38,16 @@ returns-in-Ok c =
     let xcm = c.args.xcm.now in
     let t = is_teleport way in
     let held = held_assets c.args.goods.now in
-    let assets = c.as_slice.ensures.value ∙ c.in_ok-list.ensures.listed in
-    let again = c.as_slice-2.ensures.value ∙ c.in_ok-list.ensures.listed in
+    let assets = c.items-list.ensures.listed in
+    let again = c.items-list.ensures.listed in
     let leaves : or_else (first_fault (trust_fault p dest t) held) (if t then first_fault (raise_fault p) held else None) ≡ None =
     ap (λ xs. or_else (first_fault (trust_fault p dest t) xs) (if t then first_fault (raise_fault p) xs else None)) (sym assets) ∙ sym c.leave_refusal.ensures ∙ none_if c.leave_refusal.result c.in_default.not-Some in
-    let away = ready_away p dest way c.call_by.result xcm c.as_slice-2.result.now held (Ok (c.in-Ok.to, c.in-Ok.bytes)) c.call_by.ensures again c.in-Ok.ensures.ready in
+    let away = ready_away p dest way c.call_by.result xcm c.items-list.result.now held (Ok (c.in-Ok.to, c.in-Ok.bytes)) c.call_by.ensures again c.in-Ok.ensures.ready in
     record {
       ready = (
         away.0,
         sym (first_of_three (first_fault (trust_fault p dest t) held) (if t then first_fault (raise_fault p) held else None) (listed_refusal p dest (λ a. away_program way a xcm) (seen_from p dest held)))
             ∙ passed_first _ (listed_refusal p dest (λ a. away_program way a xcm) (seen_from p dest held)) leaves ∙ away.1,
-        c.in_ok-list.ensures.listed,
       );
     }
 
@@ -61,11 +60,11 @@ returns-in-Err c =
     let xcm = c.args.xcm.now in
     let t = is_teleport way in
     let held = held_assets c.args.goods.now in
-    let assets = c.as_slice.ensures.value ∙ c.in_ok-list.ensures.listed in
-    let again = c.as_slice-2.ensures.value ∙ c.in_ok-list.ensures.listed in
+    let assets = c.items-list.ensures.listed in
+    let again = c.items-list.ensures.listed in
     let leaves : or_else (first_fault (trust_fault p dest t) held) (if t then first_fault (raise_fault p) held else None) ≡ None =
     ap (λ xs. or_else (first_fault (trust_fault p dest t) xs) (if t then first_fault (raise_fault p) xs else None)) (sym assets) ∙ sym c.leave_refusal.ensures ∙ none_if c.leave_refusal.result c.in_default.not-Some in
-    let away = ready_away p dest way c.call_by.result xcm c.as_slice-2.result.now held (Err c.in-Err.fault) c.call_by.ensures again c.in-Err.ensures.ready in
+    let away = ready_away p dest way c.call_by.result xcm c.items-list.result.now held (Err c.in-Err.fault) c.call_by.ensures again c.in-Err.ensures.ready in
     let same = sym (first_of_three (first_fault (trust_fault p dest t) held) (if t then first_fault (raise_fault p) held else None) (listed_refusal p dest (λ a. away_program way a xcm) (seen_from p dest held)))
     ∙ passed_first _ (listed_refusal p dest (λ a. away_program way a xcm) (seen_from p dest held)) leaves in
     record { ready = subst (λ r. IsSendFault r c.in-Err.fault) (sym same) away }

@@ -32,7 +32,7 @@ raise_for-requires-clause-free c =
     let rest = (both_none (first_fault (trust_fault p dest (is_teleport way)) held)
     (or_else (if is_teleport way then first_fault (raise_fault p) held else None) (listed_refusal p dest (λ a. away_program way a c.args.xcm.now) (seen_from p dest held))) c.in-Ok.ensures.ready.1).1 in
     let free = (both_none (if is_teleport way then first_fault (raise_fault p) held else None) (listed_refusal p dest (λ a. away_program way a c.args.xcm.now) (seen_from p dest held)) rest).0 in
-    subst (λ xs. (if is_teleport way then first_fault (raise_fault p) xs else None) ≡ None) (sym (c.as_slice.ensures.value ∙ c.in-Ok.ensures.ready.2)) free
+    subst (λ xs. (if is_teleport way then first_fault (raise_fault p) xs else None) ≡ None) (sym (c.items.ensures.listed)) free
 
 pub post-requires-clause-free : goal.post-requires-clause-free
 post-requires-clause-free c =
