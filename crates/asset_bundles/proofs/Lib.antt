@@ -10,6 +10,7 @@ pub mod SumFacts
 pub mod Naming
 pub mod Conditions
 pub mod PieceFacts
+mod Growing
 mod Holding
 mod Mapped
 mod SumRows

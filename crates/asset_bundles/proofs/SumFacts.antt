@@ -62,7 +62,7 @@ pub most_more : (xs : List Asset) (i : ℕ) (a : Asset) → i < length xs → a 
     → AreWithinMost (take i xs) → AreWithinMost (take (i + 1) xs)
 most_more xs i a inside is here so_far = list_all_more is_within_most xs i a inside ∙ and_from _ _ so_far (ap is_within_most (sym is) ∙ here)
 
-found_most : (xs : List Asset) → AreWithinMost xs → (u : Unit) → found u xs ≤ most_of u.1
+pub found_most : (xs : List Asset) → AreWithinMost xs → (u : Unit) → found u xs ≤ most_of u.1
 found_most [] all u = omega arith
 found_most (a ∷ xs) all u =
     let parts = and_parts (is_within_most a) (list_all is_within_most xs) all in
@@ -100,7 +100,7 @@ amount_changed f fits xs h u =
     ∙ ap (λ b. amount b u) (bundle_of-changed (some f) (fits_some f fits) xs h)
     ∙ amount-with_amounts unit_keys (some f) (some_none f) (bundle_of xs) u
 
-fits_grown : (more : List Asset) → FitsInstances (grown_by more)
+pub fits_grown : (more : List Asset) → FitsInstances (grown_by more)
 fits_grown more id i = omega arith
 
 fits_above : (more : List Asset) → FitsInstances (above_by more)

@@ -1,5 +1,5 @@
 //! Bundles that are joined.
-ghost use Rattle.std.specs.Prelude.{◌≡◌, ◌++◌, IfOk, IfErr, OnOk, OnErr};
+ghost use Rattle.std.specs.Prelude.{◌≡◌, ◌++◌, [], IsTrue, IfOk, IfErr, OnOk, OnErr};
 ghost use Rattle.amounts.specs.Amounts.{merge};
 ghost use Rattle.asset_lists.specs.Units.{unit_of, amount_of};
 ghost use Rattle.asset_bundles.specs.Bundles.{bundle_of, held_assets, IsHolding};
@@ -9,7 +9,7 @@ ghost use Rattle.asset_bundles.specs.Portions.{changed, grown_by, above_by, new_
 
 use crate::burns::book_excess;
 use crate::items::{amounts_fit, held};
-use crate::portions::push_amount;
+use crate::portions::{push_amount, set_amount};
 use crate::{AssetBundle, BurnBook};
 use asset_lists::{Asset, Fun};
 use std::alloc::{AllocError, Global};
@@ -67,6 +67,54 @@ fn push_new(list: &mut Vec<Asset>, items: &[Asset], more: &[Asset]) -> Result<()
         push_amount(list, item, new_amount(item, items))?;
     }
     Ok(())
+}
+
+/// Whether each of the others is among the items.
+fn are_held(items: &[Asset], more: &[Asset]) -> bool
+    ensures { IsTrue result → changed (new_to items.now) more.now ≡ [] }
+{
+    for item in more {
+        if new_amount(item, items) != 0 {
+            return false;
+        }
+    }
+    true
+}
+
+/// Whether nothing is given up of the items where there is more of them.
+fn are_kept(items: &[Asset], more: &[Asset]) -> bool
+    ensures { IsTrue result → changed (above_by more.now) items.now ≡ [] }
+{
+    for item in items {
+        if amount_above(item, more) != 0 {
+            return false;
+        }
+    }
+    true
+}
+
+/// Makes each of the items what there is with what there is more of it, as far as that is kept.
+fn grow(items: &mut Vec<Asset>, more: &[Asset])
+    requires { IsHolding items.old.items }
+    ensures { items.new.items ≡ changed (grown_by more.now) items.old.items }
+{
+    for item in items.iter_mut() {
+        let amount = grown_amount(item, more);
+        set_amount(item, amount);
+    }
+}
+
+/// Whether all of the others are among the items, and nothing is given up of both: then each of the items grows.
+fn grows(items: &[Asset], more: &[Asset]) -> bool
+    requires items { IsHolding items.now }
+    requires more { IsHolding more.now }
+    requires within { AreWithinMost more.now }
+    ensures kept { IsTrue result → IsListOf (Joined (bundle_of items.now) (bundle_of more.now))
+        (changed (grown_by more.now) items.now) }
+    ensures above { IsTrue result
+        → IsListOf (Excess (bundle_of items.now) (bundle_of more.now)) [] }
+{
+    are_held(items, more) && are_kept(items, more)
 }
 
 /// Both lists as one in holding order, as far as each sum is kept.
@@ -150,6 +198,13 @@ impl AssetBundle {
             book_excess(book, &[]);
             let AssetBundle { items } = other;
             self.items = items;
+            return Ok(());
+        }
+        if grows(self.items.as_slice(), other.items.as_slice()) {
+            // In place.
+            grow(&mut self.items, other.items.as_slice());
+            book_excess(book, &[]);
+            other.melt();
             return Ok(());
         }
         let alloc = *self.items.allocator();

@@ -17,7 +17,7 @@ use Rattle.asset_bundles.proofs.bundle.AssetBundle.join.Goals as goal
 pub book_excess-requires-in-Ok : goal.book_excess-requires-in-Ok
 book_excess-requires-in-Ok c =
     let above : IsListOf (Excess c.args.self.now c.args.other) c.in-Ok.above.items =
-    excess_at _ _ _ _ _ c.in-Ok.ensures.above (ap bundle_of c.as_slice-2.ensures.value ∙ c.self.view_is) (ap bundle_of c.as_slice-3.ensures.value ∙ c.other.view_is) in
+    excess_at _ _ _ _ _ c.in-Ok.ensures.above (ap bundle_of c.as_slice-4.ensures.value ∙ c.self.view_is) (ap bundle_of c.as_slice-5.ensures.value ∙ c.other.view_is) in
     subst (λ xs. list_all (λ a. lists c.args.book.now.listed (listed_of (unit_of a))) xs ≡ true) (sym c.as_slice-in-Ok.ensures.value)
     (all_listed c.args.book.now c.in-Ok.above.items above.holding (subst (AreListed c.args.book.now.listed) (sym above.bundle) c.requires))
 
@@ -38,13 +38,19 @@ returns-then-is_empty-clause-booked c =
     c.book_excess.ensures ∙ ap (Booked c.args.book.now) (given_up_rows c.args.self.now c.args.other [] none_held
     (none_above c.self.inside.items.items c.other.inside.items.items c.args.self.now c.args.other none c.self.view_is c.other.invariant (subst AreWithinMost c.as_slice.ensures.value c.amounts_fit.ensures) c.other.view_is))
 
+pub returns-then-grows-clause-booked : goal.returns-then-grows-clause-booked
+returns-then-grows-clause-booked c =
+    let above : IsListOf (Excess c.args.self.now c.args.other) [] =
+    excess_at _ _ _ _ _ (c.grows.ensures.above c.if-grows.true) (ap bundle_of c.as_slice-2.ensures.value ∙ c.self.view_is) (ap bundle_of c.as_slice-3.ensures.value ∙ c.other.view_is) in
+    c.book_excess-then-grows.ensures ∙ ap (Booked c.args.book.now) (given_up_rows c.args.self.now c.args.other [] above.holding above.bundle)
+
 pub returns-in-Ok-clause-joined : goal.returns-in-Ok-clause-joined
 returns-in-Ok-clause-joined c =
-    (joined_at _ _ _ _ _ c.in-Ok.ensures.kept (ap bundle_of c.as_slice-2.ensures.value ∙ c.self.view_is) (ap bundle_of c.as_slice-3.ensures.value ∙ c.other.view_is)).bundle
+    (joined_at _ _ _ _ _ c.in-Ok.ensures.kept (ap bundle_of c.as_slice-4.ensures.value ∙ c.self.view_is) (ap bundle_of c.as_slice-5.ensures.value ∙ c.other.view_is)).bundle
 
 pub returns-in-Ok-clause-booked : goal.returns-in-Ok-clause-booked
 returns-in-Ok-clause-booked c =
     let above : IsListOf (Excess c.args.self.now c.args.other) c.in-Ok.above.items =
-    excess_at _ _ _ _ _ c.in-Ok.ensures.above (ap bundle_of c.as_slice-2.ensures.value ∙ c.self.view_is) (ap bundle_of c.as_slice-3.ensures.value ∙ c.other.view_is) in
+    excess_at _ _ _ _ _ c.in-Ok.ensures.above (ap bundle_of c.as_slice-4.ensures.value ∙ c.self.view_is) (ap bundle_of c.as_slice-5.ensures.value ∙ c.other.view_is) in
     c.book_excess-in-Ok.ensures ∙ ap (λ xs. Booked c.args.book.now (from_rows (rows_at excess_of (rows_of xs)))) c.as_slice-in-Ok.ensures.value
     ∙ ap (Booked c.args.book.now) (given_up_rows c.args.self.now c.args.other c.in-Ok.above.items above.holding above.bundle)
