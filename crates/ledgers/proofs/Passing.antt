@@ -1,21 +1,24 @@
 -- An amount that one account gives another, put there before it is taken.
-use Rattle.std.proofs.Common.{◌≡◌, ℕ, ◌≤◌, List, [], ◌∷◌, length, refl, sym, ap, ◌∙◌, subst, arith, inl, inr}
-use Rattle.std.specs.Prelude.{Option, None, Some, Result, Ok, Err, OnOk, MatchOption}
+use Rattle.std.proofs.Common.{◌≡◌, ℕ, ◌≤◌, ◌⊎◌, true, List, [], ◌∷◌, length, refl, sym, ap, ◌∙◌, subst, arith, inl, inr}
+use Rattle.std.specs.Prelude.{Option, None, Some, Result, Ok, Err, OnOk, MatchOption, is_none}
 use Rattle.std.specs.Ordering.{eq_by_cmp}
-use Rattle.std.proofs.lemmas.Bool.{cases_Bool}
-use Rattle.amounts.specs.Rows.{amount_if}
+use Rattle.std.proofs.lemmas.Bool.{cases_Bool, and_parts}
+use Rattle.amounts.specs.Rows.{sum_where, amount_if}
 use Rattle.amounts.specs.Amounts.{amount, plus, minus, plus_all, minus_all}
-use Rattle.amounts.proofs.Lemmas.{same_key, key_same, amount-plus, amount-minus}
+use Rattle.amounts.proofs.Lemmas.{same_key, key_same, amount-plus, amount-minus, amount-plus_all, amount-minus_all}
 use Rattle.amounts.proofs.Lemmas.AmountLaws.{same_amounts}
+use Rattle.std.specs.List.{list_all}
+use Rattle.asset_lists.specs.declared.units.Instance.{Instance}
 use Rattle.asset_lists.specs.declared.units.Fun.{Fun}
 use Rattle.asset_lists.specs.declared.units.Asset.{Asset}
 use Rattle.asset_lists.specs.Units.{Unit, unit_of, amount_of, instance_in}
-use Rattle.ledgers.specs.Ledgers.{Holder, holder_cmp, Held}
+use Rattle.ledgers.specs.Ledgers.{Holder, account_cmp, holder_cmp, Held}
 use Rattle.ledgers.specs.RowState.{may_take, MayTake}
-use Rattle.ledgers.specs.AccountRows.{account_rows, MayTakeAll}
-use Rattle.ledgers.proofs.Lemmas.{holder_keys}
+use Rattle.ledgers.specs.AccountRows.{account_rows, HasAll, MayTakeAll}
+use Rattle.ledgers.proofs.Lemmas.{holder_keys, account_keys}
 use Rattle.ledgers.proofs.RowLookups.{apart}
 use Rattle.ledgers.proofs.AccountMoves.{minus_first, minus_none, plus_first, plus_none}
+use Rattle.ledgers.proofs.Transferring.{no_rows_there, two_accounts}
 
 pub none_left : (o : Option ℕ) → ((x : ℕ) → o ≡ Some x → ⊥) → o ≡ None
 none_left None h = refl
@@ -86,3 +89,43 @@ no_first (Some x) P Q says none = absurd (none x refl)
 pub empty_list : {A : Type 0} (xs : List A) → length xs ≡ 0 → xs ≡ []
 empty_list [] none = refl
 empty_list (x ∷ xs) none = absurd (omega (arith, none))
+
+-- ---- lists of amounts
+pub still_all : (held : Held) (es : List (Holder × ℕ)) (who : List ℕ) (xs : List Asset) → HasAll held who xs → HasAll (plus_all held es) who xs
+still_all held es who xs has q =
+    let le = has q in
+    let more = amount-plus_all holder_keys held es q in
+    omega (arith, le, more)
+
+none_of_two : (from to : List ℕ) (xs : List Asset) → (to ≡ from → ⊥) → (q : Holder) → (sum_where (eq_by_cmp holder_cmp q) (account_rows from xs) ≡ 0) ⊎ (sum_where (eq_by_cmp holder_cmp q) (account_rows to xs) ≡ 0)
+none_of_two from to xs other q =
+    elim (cases_Bool (eq_by_cmp account_cmp to q.0)) [
+      | inl here ↦ inl (no_rows_there from q.0 q.1 xs (λ e. other (key_same account_keys to q.0 here ∙ e)))
+      | inr not_here ↦ inr (no_rows_there to q.0 q.1 xs (two_accounts to q.0 (eq_by_cmp account_cmp to q.0) refl not_here))
+    ]
+
+pub all_given_then_taken : (held : Held) (from to : List ℕ) (xs : List Asset) → (to ≡ from → ⊥)
+    → minus_all (plus_all held (account_rows to xs)) (account_rows from xs) ≡ plus_all (minus_all held (account_rows from xs)) (account_rows to xs)
+all_given_then_taken held from to xs other = same_amounts holder_keys _ _ (λ q.
+    let taken = amount-minus_all holder_keys (plus_all held (account_rows to xs)) (account_rows from xs) q in
+    let given = amount-plus_all holder_keys held (account_rows to xs) q in
+    let left = amount-minus_all holder_keys held (account_rows from xs) q in
+    let whole = amount-plus_all holder_keys (minus_all held (account_rows from xs)) (account_rows to xs) q in
+    elim (none_of_two from to xs other q) [
+      | inl none ↦ omega (arith, taken, given, left, whole, none)
+      | inr none ↦ omega (arith, taken, given, left, whole, none)
+    ])
+
+none_is : (o : Option Instance) → is_none o ≡ true → o ≡ None
+none_is None h = refl
+none_is (Some x) h = absurd (cc)
+
+-- an account may take amounts in before another gives them, where it may then
+pub may_amounts : (held : Held) (from to : List ℕ) (xs : List Asset) → (to ≡ from → ⊥) → (ys : List Asset) → list_all (λ a. is_none (instance_in a.fun)) ys ≡ true
+    → MayTakeAll (minus_all held (account_rows from xs)) to ys → MayTakeAll held to ys
+may_amounts held from to xs other [] all may = tt
+may_amounts held from to xs other (a ∷ ys) all may =
+    let both = and_parts (is_none (instance_in a.fun)) (list_all (λ b. is_none (instance_in b.fun)) ys) all in
+    let left = amount-minus_all holder_keys held (account_rows from xs) (to, unit_of a) in
+    let none = no_rows_there from to (unit_of a) xs other in
+    (may_before a.fun to (unit_of a) held (minus_all held (account_rows from xs)) (none_is (instance_in a.fun) both.0) (omega (arith, left, none)) may.0, may_amounts held from to xs other ys both.1 may.1)

@@ -1,5 +1,5 @@
 //! Lists of assets moved into an account or out of it.
-ghost use Rattle.std.specs.Prelude.{◌≡◌, None, OnOk, OnErr, IsTrue, IsFalse, IfSome, MatchOption, [], ◌∷◌};
+ghost use Rattle.std.specs.Prelude.{◌≡◌, None, OnOk, OnErr, IsTrue, IsFalse, IfSome, MatchOption, is_none, [], ◌∷◌};
 ghost use Rattle.std.specs.List.{list_all};
 ghost use Rattle.amounts.specs.Amounts.{plus_all, minus_all};
 ghost use Rattle.asset_lists.specs.Units.{unit_of, instance_in};
@@ -196,6 +196,52 @@ fn only_amount(list: &[Asset]) -> Option<&Asset>
     }
 }
 
+/// Whether it is an amount, and no instance.
+fn has_no_instance(asset: &Asset) -> bool
+    ensures { result ≡ is_none (instance_in asset.now.fun) }
+{
+    match asset.fun {
+        Fun::Fungible(_) => true,
+        Fun::NonFungible(_) => false,
+    }
+}
+
+/// Whether all assets are amounts.
+fn are_amounts(list: &[Asset]) -> bool
+    ensures { result ≡ list_all (λ a. is_none (instance_in a.fun)) list.now }
+{
+    list.iter().all(|asset| has_no_instance(asset))
+}
+
+/// Moves the listed assets from one account, which has them, to another, which may take them before they are taken. An `Err` is out of
+/// memory, and then nothing was moved.
+fn move_amounts(
+    rows: &mut Rows,
+    from: &[u8; 32],
+    to: &[u8; 32],
+    list: &[Asset],
+) -> Result<(), AllocError>
+    requires sound { AreSound rows.old }
+    requires others { to.now ≡ from.now → ⊥ }
+    requires no_zero { IsFalse (has_zero list.now) }
+    requires listed { IsTrue (list_all (λ a. lists rows.old.assets (listed_of (unit_of a)))
+        list.now) }
+    requires has { HasAll (rows_held rows.old) from.now list.now }
+    requires may { MayTakeAll (rows_held rows.old) to.now list.now }
+    requires once { IsTrue (is_rising list.now) }
+    ensures sound { AreSound rows.new }
+    ensures assets { rows.new.assets ≡ rows.old.assets }
+    ensures held { OnOk result (rows_held rows.new ≡ plus_all
+        (minus_all (rows_held rows.old) (account_rows from.now list.now))
+        (account_rows to.now list.now)) }
+    ensures kept { OnErr result (rows_held rows.new ≡ rows_held rows.old) }
+{
+    put_all(rows, to, list)?;
+    let may_be_empty = take_all(rows, from, list);
+    sweep_all(rows, from, list, may_be_empty);
+    Ok(())
+}
+
 /// Moves the listed assets from one account, which has them, to another, which may take them once they are taken. An `Err` is out of
 /// memory, and then nothing was moved.
 pub(crate) fn move_all(
@@ -220,9 +266,12 @@ pub(crate) fn move_all(
         (account_rows to.now list.now)) }
     ensures kept { OnErr result (rows_held rows.new ≡ rows_held rows.old) }
 {
-    // For speed: one amount needs no row before it is given.
+    // For speed: amounts can be given before they are taken, and no room has to be made first.
     if let Some(asset) = only_amount(list) {
         return rows.pass(from, to, asset);
+    }
+    if are_amounts(list) {
+        return move_amounts(rows, from, to, list);
     }
     make_all_room(rows, to, list)?;
     let needs_sweep = take_all(rows, from, list);

@@ -7,7 +7,7 @@ use Rattle.asset_lists.specs.Listed.{listed_of, lists}
 use Rattle.ledgers.specs.RowState.{rows_held}
 use Rattle.ledgers.specs.AccountRows.{account_rows, HasAll, MayTakeAll}
 use Rattle.ledgers.proofs.AccountMoves.{has_first, none_zero, room_stays}
-use Rattle.ledgers.proofs.Passing.{only_passed, may_one}
+use Rattle.ledgers.proofs.Passing.{only_passed, may_one, may_amounts}
 use Rattle.ledgers.proofs.list_moves.move_all.Goals as goal
 
 pub pass-requires-clause-some : goal.pass-requires-clause-some
@@ -24,6 +24,9 @@ pass-requires-clause-may c = may_one (rows_held c.args.rows.now) c.args.from.now
 
 pub returns-in-Some-clause-held : goal.returns-in-Some-clause-held
 returns-in-Some-clause-held c = only_passed c.pass.result (rows_held c.args.rows.now) (rows_held c.pass.new.self) c.args.from.now c.args.to.now c.args.list.now c.in-Some.asset.now c.in-Some.ensures.0 c.pass.ensures.held
+
+pub move_amounts-requires-clause-may : goal.move_amounts-requires-clause-may
+move_amounts-requires-clause-may c = may_amounts (rows_held c.args.rows.now) c.args.from.now c.args.to.now c.args.list.now c.requires.others c.args.list.now (sym c.are_amounts.ensures ∙ c.if-are_amounts.true) c.requires.may
 
 pub take_all-needs_sweep-requires-clause-has : goal.take_all-needs_sweep-requires-clause-has
 take_all-needs_sweep-requires-clause-has c = subst (λ h. HasAll h c.args.from.now c.args.list.now) (sym c.make_all_room.ensures.held) c.requires.has
