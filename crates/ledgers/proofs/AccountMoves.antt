@@ -1,6 +1,6 @@
 -- Lists of assets as rows of an account.
 use Rattle.std.proofs.Common.{◌≡◌, ℕ, zero, suc, ◌+◌, ◌-◌, ◌<◌, ◌≤◌, Bool, true, false, ◌||◌, if◌then◌else◌, cond, List, [], ◌∷◌, length, get_or, drop, drop-cons, add-one, not, inl, inr, ◌⊎◌, refl, sym, ap, ◌∙◌, subst, arith, true≢false}
-use Rattle.std.specs.Prelude.{Option, None, Some, slice_get, nat_lt, IsSome, Result, Ok, Err, OnOk}
+use Rattle.std.specs.Prelude.{Option, None, Some, slice_get, nat_lt, IsSome}
 use Rattle.std.specs.Ordering.{eq_by_cmp}
 use Rattle.std.specs.List.{list_any, position_or_len}
 use Rattle.std.proofs.lemmas.Bool.{and_parts, cases_Bool}
@@ -34,11 +34,6 @@ use Rattle.plain_lists.proofs.Lemmas.Facts.{neither_true as neither, not_zero_po
 -- ---- a list at one index
 pub at_place : (xs : List Asset) (i : ℕ) (a : Asset) → i < length xs → a ≡ get_or xs i a → drop i xs ≡ a ∷ drop (i + 1) xs
 at_place xs i a inside is = drop-cons xs i a inside ∙ ap (λ x. x ∷ drop (suc i) xs) (sym is) ∙ ap (λ n. a ∷ drop n xs) (sym (add-one i))
-
-pub only_one : (xs : List Asset) (a : Asset) → length xs ≡ 1 → a ≡ get_or xs 0 a → xs ≡ a ∷ []
-only_one [] a one is = absurd (omega (arith, one))
-only_one (x ∷ []) a one is = ap (λ y. y ∷ []) (sym is)
-only_one (x ∷ y ∷ ys) a one is = absurd (omega (arith, one))
 
 pub past_end : (xs : List Asset) (i : ℕ) → length xs ≤ i → drop i xs ≡ []
 past_end [] zero all = refl
@@ -236,8 +231,3 @@ more_room old new who xs i a keeps at room before k b h is =
       | inr same ↦ (let e : Some a ≡ Some b = sym at ∙ ap (slice_get xs) (sym same) ∙ is in
           let equal : a ≡ b = cc in subst (HasDepositRows new who) equal room)
     ]
-
--- where the one asset of a list was given, the list was
-pub only_given : {A B : Type 0} (r : Result A B) (held more : Held) (who : List ℕ) (xs : List Asset) (a : Asset) → xs ≡ a ∷ [] → OnOk r (more ≡ plus held (who, unit_of a) (amount_of a)) → OnOk r (more ≡ plus_all held (account_rows who xs))
-only_given (Ok x) held more who xs a one given = given ∙ sym (plus_first held who a [] ∙ plus_none _) ∙ ap (λ ys. plus_all held (account_rows who ys)) (sym one)
-only_given (Err e) held more who xs a one given = tt
