@@ -173,6 +173,15 @@ pub(crate) fn are_backings_current(lines: &[BackingLine], stale: &[bool]) -> boo
     lines.iter().all(|line| line.is_current(stale))
 }
 
+/// For speed: how long the lines are together.
+pub(crate) fn backings_length(lines: &[BackingLine]) -> usize {
+    let mut length: usize = 0;
+    for line in lines {
+        length = length.saturating_add(line.text.len());
+    }
+    length
+}
+
 /// Appends the lines.
 pub(crate) fn push_backing_lines(text: &mut String, lines: &[BackingLine]) -> Result<(), AllocError>
     ensures { OnOk result (string_bytes text.new

@@ -12,10 +12,12 @@ ghost use Rattle.report_text.specs.Marks.{IsMarked};
 
 use crate::SupplyPlan;
 use crate::backing_lines::{
-    BackingLine, are_backings_current, backing_lines, push_backing_lines, renew_backings,
+    BackingLine, are_backings_current, backing_lines, backings_length, push_backing_lines,
+    renew_backings,
 };
 use crate::supply_lines::{
-    SupplyLine, are_supplies_current, push_supply_lines, renew_supplies, supply_lines,
+    SupplyLine, are_supplies_current, push_supply_lines, renew_supplies, supplies_length,
+    supply_lines,
 };
 use chain_ids::ChainId;
 use chain_state::ChainState;
@@ -130,7 +132,9 @@ impl SupplySheet {
     fn lines(&self, alloc: Global) -> Result<String, AllocError>
         ensures { IfOk result (λ text. string_bytes text ≡ sheet_written self.now) }
     {
-        let mut text = String::new(alloc);
+        let supplies = supplies_length(self.supplies.as_slice());
+        let backings = backings_length(self.backings.as_slice());
+        let mut text = String::with_capacity(alloc, supplies.saturating_add(backings))?;
         push_supply_lines(&mut text, self.supplies.as_slice())?;
         push_backing_lines(&mut text, self.backings.as_slice())?;
         Ok(text)

@@ -175,6 +175,15 @@ pub(crate) fn are_supplies_current(lines: &[SupplyLine], stale: &[bool]) -> bool
     lines.iter().all(|line| line.is_current(stale))
 }
 
+/// For speed: how long the lines are together.
+pub(crate) fn supplies_length(lines: &[SupplyLine]) -> usize {
+    let mut length: usize = 0;
+    for line in lines {
+        length = length.saturating_add(line.text.len());
+    }
+    length
+}
+
 /// Appends the lines.
 pub(crate) fn push_supply_lines(text: &mut String, lines: &[SupplyLine]) -> Result<(), AllocError>
     ensures { OnOk result (string_bytes text.new
