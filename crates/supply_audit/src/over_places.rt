@@ -6,7 +6,9 @@ ghost use Rattle.asset_bundles.specs.Totals.{total_value};
 ghost use Rattle.chain_state.specs.PartOf.{part_of};
 ghost use Rattle.trust_tables.specs.Accounts.{sovereign_account};
 ghost use Rattle.supply_audit.specs.declared.figures.Carried.TheVariants.{Teleports};
-ghost use Rattle.supply_audit.specs.declared.figures.Figure.TheVariants.{Account, Sent};
+ghost use Rattle.supply_audit.specs.declared.figures.Figure.TheVariants.{Account, Burned, Placed, Sent};
+ghost use Rattle.asset_lists.specs.declared.units.AssetId.TheVariants.{Concrete};
+ghost use Rattle.supply_audit.specs.Places as places;
 ghost use Rattle.supply_audit.specs.Found.{IsRightOf};
 ghost use Rattle.supply_audit.specs.Held.{IsHeldRight};
 ghost use Rattle.supply_audit.specs.Supplies.{HasSums};
@@ -17,14 +19,15 @@ use crate::Place;
 use crate::figures::{Carried, Figure};
 use crate::last_found::LastFound;
 use crate::last_held::LastHeld;
-use crate::places::figure;
+use crate::places::{figure, placed};
 use crate::table::row_supply;
 use crate::totals::{no_supply, none, sum};
 use asset_bundles::Total;
-use asset_lists::AssetId;
+use asset_lists::{AssetId, Kind};
 use chain_ids::ChainId;
 use chain_state::ChainState;
 use ledgers::Supply;
+use locations::Location;
 use std::alloc::AllocError;
 
 /// The chain of this number.
@@ -137,6 +140,45 @@ fn place_supply(chains: &[ChainState], place: &Place) -> Supply
     }
 }
 
+/// What is at a chain under an id, and what was burned under it. `name` has room for the id.
+fn stock_under(name: &mut AssetId, chain: &ChainState, id: &Location, kind: Kind) -> (Total, Total)
+    ensures home { total_value result.0
+        ≡ min (places.figure Placed (part_of chain.now) (Concrete id.now) kind) most_burned }
+    ensures burned { total_value result.1
+        ≡ min (places.figure Burned (part_of chain.now) (Concrete id.now) kind) most_burned }
+{
+    name.assign_place(id);
+    let home = placed(chain, name, kind);
+    let burned = chain.burns().burned(name, kind);
+    (home, burned)
+}
+
+/// The same of the row at this index of a chain's list.
+fn row_stock(name: &mut AssetId, chain: &ChainState, row: usize) -> (Total, Total)
+    ensures home { total_value result.0
+        ≡ min (share_in Placed row (Some (part_of chain.now))) most_burned }
+    ensures burned { total_value result.1
+        ≡ min (share_in Burned row (Some (part_of chain.now))) most_burned }
+{
+    match chain.rows().get(row) {
+        None => (none(), none()),
+        Some(row) => stock_under(name, chain, &row.id, row.kind),
+    }
+}
+
+/// The same of the row at a position.
+fn place_stock(name: &mut AssetId, chains: &[ChainState], place: Place) -> (Total, Total)
+    ensures home { total_value result.0
+        ≡ min (at.place_share Placed (map part_of chains.now) place) most_burned }
+    ensures burned { total_value result.1
+        ≡ min (at.place_share Burned (map part_of chains.now) place) most_burned }
+{
+    match chain_of(chains, place.chain) {
+        None => (none(), none()),
+        Some(chain) => row_stock(name, chain, place.row),
+    }
+}
+
 /// What is at a position, what was sent from there as teleports and what was burned there. The messages of a chain are looked at once for all of its
 /// positions that are asked for one after another.
 fn stock_of(
@@ -150,8 +192,7 @@ fn stock_of(
     ensures supply { IfOk result (λ supply.
         HasSums supply (λ f. at.place_share f (map part_of chains.now) place)) }
 {
-    let home = place_share(name, Figure::Placed, chains, place);
-    let burned = place_share(name, Figure::Burned, chains, place);
+    let (home, burned) = place_stock(name, chains, place);
     let flight = found.sum(Carried::Teleports, chains, place, None)?;
     Ok(Supply {
         home,
