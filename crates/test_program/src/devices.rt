@@ -151,32 +151,39 @@ fn source_fails(alloc: Global, input: &str, failing: usize, piece: usize) -> Res
     Ok(ran.has(status, report.as_bytes()))
 }
 
-/// The answer and what is written where a write fails and each takes at most so many bytes: each line's report is written by calls of
-/// its own.
-fn front_of(alloc: Global, failing: usize, piece: usize) -> Result<(Status, Vec<u8>), Fail>
+/// The answer and what is written where a write fails and each takes at most so many bytes: the reports of the lines that end within one
+/// read are written by calls of their own.
+fn front_of(
+    alloc: Global,
+    input: &str,
+    failing: usize,
+    piece: usize,
+) -> Result<(Status, Vec<u8>), Fail>
     requires { 0 < piece }
 {
-    let mut front = Vec::new(alloc);
     let mut calls: usize = 0;
-    for (_, block) in LINES {
+    for read in 0..calls_for(input.len(), piece) {
+        let told = report_of(alloc, read.saturating_mul(piece))?.len();
+        let report = report_of(alloc, read.saturating_add(1).saturating_mul(piece))?;
+        let size = report.len().saturating_sub(told);
         let before = calls;
-        calls = calls.saturating_add(calls_for(block.len(), piece));
+        calls = calls.saturating_add(calls_for(size, piece));
         if failing <= calls {
             let count = failing.saturating_sub(before).saturating_sub(1);
-            let kept = count.saturating_mul(piece).min(block.len());
-            front.extend_from_slice(&block.as_bytes()[..kept])?;
-            return Ok((Status::WriteFault, front));
+            let kept = told.saturating_add(count.saturating_mul(piece));
+            let front = &report.as_bytes()[..kept.min(report.len())];
+            return Ok((Status::WriteFault, front.to_vec(alloc)?));
         }
-        front.extend_from_slice(block.as_bytes())?;
     }
-    Ok((Status::Done, front))
+    let report = report_of(alloc, input.len())?;
+    Ok((Status::Done, report.as_bytes().to_vec(alloc)?))
 }
 
 /// Whether a sink that fails at this write leaves what was written before.
 fn sink_fails(alloc: Global, input: &str, failing: usize, piece: usize) -> Result<bool, Fail>
     requires { 0 < piece }
 {
-    let (status, front) = front_of(alloc, failing, piece)?;
+    let (status, front) = front_of(alloc, input, failing, piece)?;
     let ran = ran_of(
         Program::Rudderrusset,
         alloc,
