@@ -8,7 +8,7 @@ ghost use Rattle.line_serving.specs.Calls.{HasWriteCause};
 ghost use Rattle.line_serving.specs.Feeding.{TakesLines, EndsRun, IsFed};
 
 use crate::lines::take_lines;
-use crate::machine::{LineMachine, LongReplies};
+use crate::machine::LineMachine;
 use crate::status::Status;
 use std::alloc::{AllocError, Global};
 use xcm_io::Sink;
@@ -20,7 +20,7 @@ pub(crate) struct Feeder<M> {
     pub(crate) pending: Vec<u8>,
 }
 
-impl<M: LineMachine + LongReplies> Feeder<M> {
+impl<M: LineMachine> Feeder<M> {
     /// A machine at the start of its input.
     pub(crate) fn new(alloc: Global, machine: M) -> Feeder<M>
         requires { M.is_ready machine }

@@ -11,7 +11,7 @@ mod status;
 mod writing;
 
 pub use limits::{fits_limits, passes_limits};
-pub use machine::{LineMachine, LongReplies};
+pub use machine::LineMachine;
 pub use serving::serve;
 pub use status::Status;
 pub use writing::{write_reply, write_text};

@@ -6,7 +6,7 @@ ghost use Rattle.line_serving.specs.Calls.{HasWriteCause};
 ghost use Rattle.line_serving.specs.Feeding.{TakesLines};
 ghost use Rattle.line_serving.specs.Gathering.{Hands};
 
-use crate::machine::{LineMachine, LongReplies};
+use crate::machine::LineMachine;
 use crate::page::Page;
 use crate::status::Status;
 use input_lines::line_len;
@@ -41,6 +41,7 @@ fn gather_line<M: LineMachine, O: Sink>(
         },
         Ok(Some(status)) => page.ends(out, status),
         Err(refused) => {
+            // The answer is out of memory whether or not what is gathered can be written.
             let _ = page.hand_on(out);
             Err(refused)
         }
@@ -48,7 +49,7 @@ fn gather_line<M: LineMachine, O: Sink>(
 }
 
 /// Hands a line to the machine, whose reply is gathered unless it is too long.
-fn hand_line<M: LineMachine + LongReplies, O: Sink>(
+fn hand_line<M: LineMachine, O: Sink>(
     alloc: Global,
     machine: &mut M,
     line: &[u8],
@@ -78,7 +79,7 @@ fn hand_line<M: LineMachine + LongReplies, O: Sink>(
 }
 
 /// Hands each whole line of the bytes to the machine, and tells how many bytes these are.
-pub(crate) fn take_lines<M: LineMachine + LongReplies, O: Sink>(
+pub(crate) fn take_lines<M: LineMachine, O: Sink>(
     alloc: Global,
     machine: &mut M,
     bytes: &[u8],

@@ -65,16 +65,14 @@ pub trait LineMachine {
         ensures cause { result ≡ Ok Status.WriteFault → Rose (O.faults out.old) (O.faults out.new) }
         ensures usage { result ≢ Ok Status.Usage };
 
+    /// Whether the reply to the line may be too long to be held: it then goes to the sink as it comes, and isn't gathered with others. What is
+    /// written is the same.
+    fn is_long(&self, line: &[u8]) -> bool;
+
     /// Where no line comes nothing is written.
     ghost nothing_yet: { (machine : Self) → is_ready machine
         → replies machine false [] ≡ ends [] Done };
 
     /// There is room for a line of which nothing has come.
     ghost room_to_begin: { (machine : Self) → is_ready machine → rooms machine [] 0 };
-}
-
-/// Which replies are too long to be held.
-pub trait LongReplies {
-    /// Whether the reply to the line goes to the sink as it comes, and isn't gathered with others. What is written is the same.
-    fn is_long(&self, line: &[u8]) -> bool;
 }

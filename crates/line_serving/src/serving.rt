@@ -7,13 +7,13 @@ ghost use Rattle.line_serving.specs.Serving.{Serves};
 
 use crate::feeder::Feeder;
 use crate::limits::PIECE;
-use crate::machine::{LineMachine, LongReplies};
+use crate::machine::LineMachine;
 use crate::status::Status;
 use std::alloc::{AllocError, Global};
 use xcm_io::{Sink, Source};
 
 /// Reads the source by pieces and hands its lines to the machine, which replies to each before more is read. `Err` is out of memory alone.
-pub fn serve<M: LineMachine + LongReplies + Drop, I: Source, O: Sink>(
+pub fn serve<M: LineMachine + Drop, I: Source, O: Sink>(
     alloc: Global,
     machine: M,
     input: &mut I,

@@ -12,7 +12,7 @@ use crate::limits::MAX_NETWORK;
 use crate::phase::{Opened, Phase, Session};
 use crate::queues::{asks_for_queues, write_queues};
 use input_lines::{ends_network, read_line, text_of};
-use line_serving::{LineMachine, LongReplies, Status, fits_limits, passes_limits, write_text};
+use line_serving::{LineMachine, Status, fits_limits, passes_limits, write_text};
 use report_blocks::{AuditedNet, LineOutcome, open_audited, opening_text, serve};
 use std::alloc::{AllocError, Global};
 use step_text::{line_refused_line, network_refused_line};
@@ -108,9 +108,7 @@ impl LineMachine for Session {
             },
         }
     }
-}
 
-impl LongReplies for Session {
     /// The block of `queues` has what waits in all channels, which is written a message at a time.
     fn is_long(&self, line: &[u8]) -> bool {
         line.starts_with(b"queues")

@@ -5,7 +5,7 @@ ghost use Rattle.std.specs.Prelude.{◌≡◌};
 use crate::block::{message_block, not_hex_line};
 use crate::line::{HexLine, read_hex_line};
 use input_lines::text_of;
-use line_serving::{LineMachine, LongReplies, Status, fits_limits, passes_limits, write_text};
+use line_serving::{LineMachine, Status, fits_limits, passes_limits, write_text};
 use std::alloc::{AllocError, Global};
 use xcm_io::Sink;
 
@@ -74,9 +74,7 @@ impl LineMachine for Explainer {
     fn finish<O: Sink>(&self, _alloc: Global, _out: &mut O) -> Result<Status, AllocError> {
         Ok(Status::Done)
     }
-}
 
-impl LongReplies for Explainer {
     fn is_long(&self, _line: &[u8]) -> bool {
         false
     }
