@@ -10,13 +10,22 @@ use std::collections::BTreeMap;
 /// Each note by who holds the lock, the asset and the owner.
 pub(crate) type NoteRows = BTreeMap<(Location, Location, [u8; 32]), u128>;
 
+/// The key of a note.
+fn key_of(locker: &Location, id: &Location, owner: &[u8; 32]) -> (Location, Location, [u8; 32])
+    ensures { result ≡ (locker.now, id.now, owner.now) }
+{
+    // For speed: both locations are written where they will be.
+    let mut key = (Location::here(), Location::here(), *owner);
+    key.0.assign(locker);
+    key.1.assign(id);
+    key
+}
+
 /// A note, 0 where there is none.
 pub(crate) fn note_in(rows: &NoteRows, locker: &Location, id: &Location, owner: &[u8; 32]) -> u128
     ensures { result ≡ note_at rows.now.entries (locker.now, id.now, owner.now) }
 {
-    rows.get(&(locker.copy(), id.copy(), *owner))
-        .copied()
-        .unwrap_or(0)
+    rows.get(&key_of(locker, id, owner)).copied().unwrap_or(0)
 }
 
 /// Makes a note the greater of what it is and an amount. An `Err` is out of memory.
@@ -33,8 +42,9 @@ pub(crate) fn raise_note(
         (max (note_at rows.old.entries (locker.now, id.now, owner.now)) amount)) }
     ensures kept { OnErr result (notes_in rows.new.entries ≡ notes_in rows.old.entries) }
 {
-    if amount > note_in(rows, locker, id, owner) {
-        rows.insert((locker.copy(), id.copy(), *owner), amount)?;
+    let key = key_of(locker, id, owner);
+    if amount > rows.get(&key).copied().unwrap_or(0) {
+        rows.insert(key, amount)?;
     }
     Ok(())
 }
@@ -51,7 +61,7 @@ pub(crate) fn lower_note(
     ensures { notes_in rows.new.entries ≡ with_amount (notes_in rows.old.entries)
         (locker.now, id.now, owner.now) amount }
 {
-    let key = (locker.copy(), id.copy(), *owner);
+    let key = key_of(locker, id, owner);
     if amount == 0 {
         rows.remove(&key);
         return;

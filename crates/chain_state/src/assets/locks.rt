@@ -2,7 +2,9 @@
 ghost use Rattle.std.specs.Prelude.{◌≡◌, ◌∷◌, ℕ, [], IfOk, MatchOption, MatchResult};
 ghost use Rattle.std.specs.Option.{option_copied, option_map};
 ghost use Rattle.locations.specs.declared.relative.Location.{Location};
+ghost use Rattle.locations.specs.Reanchoring.{reanchored};
 ghost use Rattle.asset_lists.specs.Units.{unit_of};
+ghost use Rattle.asset_lists.specs.Moves.{moved};
 ghost use Rattle.xcm_program.specs.declared.instruction.Instruction.{roll-Instruction};
 ghost use Rattle.xcm_program.specs.declared.instruction.Instruction.TheOpen.{Instruction-F};
 ghost use Rattle.exec_base.specs.Answers.{AnswersOrRefuses};
@@ -39,27 +41,66 @@ fn lock_id(asset: &Asset) -> Option<&Location>
 }
 
 /// A message that tells of a lock.
-fn note_of(alloc: Global, asset: Asset, owner: Location) -> Result<Program, AllocError>
+fn note_of(
+    alloc: Global,
+    asset: Boxed<Asset>,
+    owner: Boxed<Location>,
+) -> Result<Program, AllocError>
     ensures { IfOk result (λ program. program
         ≡ roll-Instruction (Instruction-F.NoteUnlockable asset owner) ∷ []) }
 {
     let mut items = Vec::with_capacity(alloc, 1)?;
-    let asset = Boxed::new(alloc, asset)?;
-    let owner = Boxed::new(alloc, owner)?;
     items.push(Instruction::NoteUnlockable { asset, owner })?;
     Ok(Listed::from_vec(items))
 }
 
 /// A message that asks to let a lock fall.
-fn unlock_of(alloc: Global, asset: Asset, target: Location) -> Result<Program, AllocError>
+fn unlock_of(
+    alloc: Global,
+    asset: Boxed<Asset>,
+    target: Boxed<Location>,
+) -> Result<Program, AllocError>
     ensures { IfOk result (λ program. program
         ≡ roll-Instruction (Instruction-F.UnlockAsset asset target) ∷ []) }
 {
     let mut items = Vec::with_capacity(alloc, 1)?;
-    let asset = Boxed::new(alloc, asset)?;
-    let target = Boxed::new(alloc, target)?;
     items.push(Instruction::UnlockAsset { asset, target })?;
     Ok(Listed::from_vec(items))
+}
+
+/// The asset as the target names it; none where it can't be named there. An `Err` is out of memory.
+fn seen_asset(
+    alloc: Global,
+    asset: &Asset,
+    target: &Location,
+    context: &Junctions,
+) -> Result<Option<Boxed<Asset>>, AllocError>
+    ensures { IfOk result (λ seen. seen ≡ moved target.now context.now asset.now) }
+{
+    // For speed: it is written where it will be.
+    let mut seen = Box::new(alloc, Asset::zero())?;
+    if asset.reanchor_into(target, context, &mut *seen) {
+        return Ok(Some(Boxed::from_box(seen)));
+    }
+    Ok(None)
+}
+
+/// The location as the target names it; none where it can't be named there. An `Err` is out of memory.
+fn seen_place(
+    alloc: Global,
+    place: &Location,
+    target: &Location,
+    context: &Junctions,
+) -> Result<Option<Boxed<Location>>, AllocError>
+    ensures { IfOk result (λ seen. seen
+        ≡ querier_from (reanchored place.now target.now context.now)) }
+{
+    // For speed: it is written where it will be.
+    let mut seen = Box::new(alloc, Location::here())?;
+    match place.reanchor_into(target, context, &mut *seen) {
+        Ok(()) => Ok(Some(Boxed::from_box(seen))),
+        Err(_) => Ok(None),
+    }
 }
 
 /// The account that a location's last junction names.
@@ -92,25 +133,25 @@ fn own_account(place: &Location) -> Option<[u8; 32]>
 
 impl ChainState {
     /// The account and the asset of a lock.
-    fn lock_place(&self, asset: &Asset, owner: &Location) -> Option<([u8; 32], Location)>
-        ensures { (unlocker : Location) → option_map (λ place. (place.0, place.1, unlocker)) result
-            ≡ lock_key (part_of self.now) asset.now owner.now unlocker }
+    fn lock_place<'a>(&self, asset: &'a Asset, owner: &Location) -> Option<([u8; 32], &'a Location)>
+        ensures { (unlocker : Location) → option_map (λ place. (place.0, place.1.now, unlocker))
+            result ≡ lock_key (part_of self.now) asset.now owner.now unlocker }
     {
         let id = lock_id(asset)?;
         let who = account_of(owner, &self.settings.site)?;
-        Some((who, id.copy()))
+        Some((who, id))
     }
 
     /// The account and the asset, where they may be locked.
-    fn lockable(
+    fn lockable<'a>(
         &self,
-        asset: &Asset,
+        asset: &'a Asset,
         owner: &Location,
         unlocker: &Location,
-    ) -> Option<([u8; 32], Location)>
+    ) -> Option<([u8; 32], &'a Location)>
         ensures { MatchOption result (MayNotLock (part_of self.now) asset.now owner.now
             unlocker.now) (λ place. MayLock (part_of self.now) asset.now owner.now unlocker.now
-            (place.0, place.1, unlocker.now)) }
+            (place.0, place.1.now, unlocker.now)) }
     {
         if !self.settings.locks {
             return None;
@@ -139,14 +180,15 @@ impl ChainState {
             (IsSendFault (named_refusal (part_of self.now) unlocker.now
             (note_program (part_of self.now) asset.now owner.now unlocker.now))) }
     {
+        let alloc = *self.events.allocator();
         let context = self.settings.site.path();
-        let Some(seen) = asset.reanchored(unlocker, &context) else {
+        let Some(seen) = seen_asset(alloc, asset, unlocker, &context)? else {
             return Err(HostFault::Xcm(XcmError::ReanchorFailed));
         };
-        let Ok(place) = owner.reanchored(unlocker, &context) else {
+        let Some(place) = seen_place(alloc, owner, unlocker, &context)? else {
             return Err(HostFault::Xcm(XcmError::ReanchorFailed));
         };
-        let program = note_of(*self.events.allocator(), seen, place)?;
+        let program = note_of(alloc, seen, place)?;
         self.encoded_to(unlocker, &program)
     }
 
@@ -174,7 +216,7 @@ impl ChainState {
         };
         self.pending_events.reserve(1)?;
         self.locked
-            .lock(&place.0, &place.1, asset.amount(), unlocker)?;
+            .lock(&place.0, place.1, asset.amount(), unlocker)?;
         Ok(self.post(to, bytes, Cargo::Nothing))
     }
 
@@ -197,7 +239,7 @@ impl ChainState {
         let Some(place) = self.lock_place(asset, target) else {
             return Err(HostFault::Xcm(XcmError::LockError));
         };
-        match self.locked.unlock(&place.0, &place.1, asset.amount(), from) {
+        match self.locked.unlock(&place.0, place.1, asset.amount(), from) {
             Ok(()) => Ok(()),
             Err(_) => Err(HostFault::Xcm(XcmError::LockError)),
         }
@@ -233,15 +275,15 @@ impl ChainState {
 
     /// The account of a note that is asked for, where so much is noted.
     #[tactic(auto, unfolding(exec_base::specs::Host::request_key))]
-    fn requestable(
+    fn requestable<'a>(
         &self,
-        asset: &Asset,
+        asset: &'a Asset,
         owner: &Location,
         locker: &Location,
-    ) -> Option<([u8; 32], Location)>
+    ) -> Option<([u8; 32], &'a Location)>
         ensures { MatchOption result (MayNotRequest (part_of self.now) asset.now owner.now
             locker.now) (λ place. MayRequest (part_of self.now) asset.now owner.now locker.now
-            (locker.now, place.1, place.0)) }
+            (locker.now, place.1.now, place.0)) }
     {
         if !self.settings.locks {
             return None;
@@ -249,7 +291,7 @@ impl ChainState {
         let id = lock_id(asset)?;
         let who = own_account(owner)?;
         if asset.amount() <= self.locked.noted(locker, id, &who) {
-            return Some((who, id.copy()));
+            return Some((who, id));
         }
         None
     }
@@ -271,7 +313,8 @@ impl ChainState {
             (unlock_program (part_of self.now) asset.now (Some (locker.now, id, who.now))
             locker.now))) }
     {
-        let Some(seen) = asset.reanchored(locker, &self.settings.site.path()) else {
+        let alloc = *self.events.allocator();
+        let Some(seen) = seen_asset(alloc, asset, locker, &self.settings.site.path())? else {
             return Err(HostFault::Xcm(XcmError::ReanchorFailed));
         };
         let account = [Junction::AccountId32 {
@@ -282,7 +325,8 @@ impl ChainState {
             parents: 0,
             interior: Junctions::from_few(&account),
         };
-        let program = unlock_of(*self.events.allocator(), seen, target)?;
+        let target = Boxed::new(alloc, target)?;
+        let program = unlock_of(alloc, seen, target)?;
         self.encoded_to(locker, &program)
     }
 
@@ -311,7 +355,7 @@ impl ChainState {
         self.pending_events.reserve(1)?;
         match self
             .locked
-            .reduce(locker, &place.1, asset.amount(), &place.0)
+            .reduce(locker, place.1, asset.amount(), &place.0)
         {
             Ok(()) => Ok(self.post(to, bytes, Cargo::Nothing)),
             Err(_) => unreachable!(),

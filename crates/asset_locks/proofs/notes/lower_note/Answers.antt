@@ -1,4 +1,4 @@
-use Rattle.std.proofs.Common.{◌≡◌, Some, None, ap, ◌∙◌, sym}
+use Rattle.std.proofs.Common.{Some, None, ap, ◌∙◌, sym}
 use Rattle.amounts.specs.Amounts.{with_amount}
 use Rattle.asset_locks.specs.LockMaps.{NoteKey}
 use Rattle.asset_locks.specs.NoteRows.{notes_in}
@@ -9,22 +9,16 @@ pub returns-then-amount-eq0 : goal.returns-then-amount-eq0
 returns-then-amount-eq0 c =
     let rows = c.args.rows.now.entries in
     let key : NoteKey = (c.args.locker.now, c.args.id.now, c.args.owner.now) in
-    let said : NoteKey = (c.copy.result, c.copy-2.result, c.args.owner.now) in
-    let same : said ≡ key = λ i. (c.copy.ensures.same i, c.copy-2.ensures.same i, c.args.owner.now) in
-    note_written rows key said same c.remove.new.self.entries None c.remove.ensures.updates.0 ∙ ap (with_amount (notes_in rows) key) (sym c.if-amount-eq0.true)
+    note_written rows key c.key_of-key.result c.key_of-key.ensures c.remove.new.self.entries None c.remove.ensures.updates.0 ∙ ap (with_amount (notes_in rows) key) (sym c.if-amount-eq0.true)
 
 pub unreachable-requires : goal.unreachable-requires
 unreachable-requires c =
     let rows = c.args.rows.now.entries in
     let key : NoteKey = (c.args.locker.now, c.args.id.now, c.args.owner.now) in
-    let said : NoteKey = (c.copy.result, c.copy-2.result, c.args.owner.now) in
-    let same : said ≡ key = λ i. (c.copy.ensures.same i, c.copy-2.ensures.same i, c.args.owner.now) in
-    c.if-amount-eq0.false (note_absent rows key said same c.in-Err.ensures.absent c.args.amount c.requires)
+    c.if-amount-eq0.false (note_absent rows key c.key_of-key.result c.key_of-key.ensures c.in-Err.ensures.absent c.args.amount c.requires)
 
 pub returns : goal.returns
 returns c =
     let rows = c.args.rows.now.entries in
     let key : NoteKey = (c.args.locker.now, c.args.id.now, c.args.owner.now) in
-    let said : NoteKey = (c.copy.result, c.copy-2.result, c.args.owner.now) in
-    let same : said ≡ key = λ i. (c.copy.ensures.same i, c.copy-2.ensures.same i, c.args.owner.now) in
-    note_written rows key said same c.insert.new.self.entries (Some c.args.amount) c.in-Ok.ensures.updates.0
+    note_written rows key c.key_of-key.result c.key_of-key.ensures c.insert.new.self.entries (Some c.args.amount) c.in-Ok.ensures.updates.0
