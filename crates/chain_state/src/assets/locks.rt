@@ -9,7 +9,7 @@ ghost use Rattle.xcm_program.specs.declared.instruction.Instruction.{roll-Instru
 ghost use Rattle.xcm_program.specs.declared.instruction.Instruction.TheOpen.{Instruction-F};
 ghost use Rattle.exec_base.specs.Answers.{AnswersOrRefuses};
 ghost use Rattle.exec_base.specs.Host as host;
-ghost use Rattle.exec_base.specs.Host.{lock_key, note_program, lock_refusal, asset_locked, unlock_refusal, asset_unlocked, note_key, note_refusal, asset_noted, request_key, unlock_program, request_refusal, asset_requested};
+ghost use Rattle.exec_base.specs.Host.{querier_from, lock_key, note_program, lock_refusal, asset_locked, unlock_refusal, asset_unlocked, note_key, note_refusal, asset_noted, request_key, unlock_program, request_refusal, asset_requested};
 ghost use Rattle.exec_base.specs.Sending.{named_refusal, number_to, IsForwardable};
 ghost use Rattle.chain_state.specs.PartOf.{part_of};
 ghost use Rattle.chain_state.specs.Sends.{IsSendFault};
