@@ -116,7 +116,7 @@ fn push_arrival(
 }
 
 /// Appends the text of a chain.
-fn push_chain(text: &mut String, chain: ChainId) -> Result<(), AllocError>
+pub(crate) fn push_chain(text: &mut String, chain: ChainId) -> Result<(), AllocError>
     ensures { OnOk result (string_bytes text.new ≡ string_bytes text.old ++ chain_text chain) }
 {
     match chain {
@@ -217,7 +217,7 @@ fn push_weight(text: &mut String, weight: Weight) -> Result<(), AllocError>
 }
 
 /// Appends a number.
-fn push_number(text: &mut String, number: u64) -> Result<(), AllocError>
+pub(crate) fn push_number(text: &mut String, number: u64) -> Result<(), AllocError>
     ensures { OnOk result (string_bytes text.new ≡ string_bytes text.old ++ decimal number) }
 {
     text.push_str(itoa::Buffer::new().format(number))
