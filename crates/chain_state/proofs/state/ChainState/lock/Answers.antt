@@ -44,7 +44,7 @@ returns c =
         lock_goes p c.args.asset.now c.args.owner.now dest _ may ∙ told_goes p dest _ to bytes told,
         number_is p dest told.program to bytes c.post.result told.taken number,
         c.post.ensures.posted
-            ∙ (λ i. posted_at to bytes c.post.result (record p { locked = (c.in_ok-lock.ensures.locked ∙ ap (λ n. Locked (c.in-Some.place.0, c.in-Some.place.1, c.args.unlocker.now) n (part_of c.args.self.now).locked) c.amount.ensures) i; pending_events = c.reserve.ensures.items i }))
+            ∙ (λ i. posted_at to bytes c.post.result (record p { locked = (c.in_ok-lock.ensures.locked ∙ ap (λ n. Locked (c.in-Some.place.0, c.in-Some.place.1.now, c.args.unlocker.now) n (part_of c.args.self.now).locked) c.amount.ensures) i; pending_events = c.reserve.ensures.items i }))
             ∙ lock_leaves p c.args.asset.now c.args.owner.now dest _ to bytes c.post.result may told number,
       );
     }
@@ -53,7 +53,7 @@ pub invariant_of-self-2-clause-floors : goal.invariant_of-self-2-clause-floors
 invariant_of-self-2-clause-floors c =
     let f = c.args.self.now in
     let p = part_of f in
-    let key : LockKey = (c.in-Some.place.0, c.in-Some.place.1, c.args.unlocker.now) in
+    let key : LockKey = (c.in-Some.place.0, c.in-Some.place.1.now, c.args.unlocker.now) in
     let n = c.amount.result in
     let may = c.in-Some.ensures in
     let locked = subst (λ (a : ℕ). HasFloors (Locked key a f.locked) f.ledger.held) (sym c.amount.ensures) (lockable_floors p c.args.asset.now c.args.owner.now c.args.unlocker.now key may.is may.enough (floors_there f)) in

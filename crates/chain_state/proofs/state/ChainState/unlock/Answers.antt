@@ -10,7 +10,7 @@ use Rattle.chain_state.proofs.state.ChainState.unlock.Goals as goal
 pub invariant_of-self-clause-floors : goal.invariant_of-self-clause-floors
 invariant_of-self-clause-floors c =
     let f = c.args.self.now in
-    let key : LockKey = (c.in-Some.place.0, c.in-Some.place.1, c.args.from.now) in
+    let key : LockKey = (c.in-Some.place.0, c.in-Some.place.1.now, c.args.from.now) in
     let n = c.amount.result in
     after_either (λ (l : LocksAndNotes). KeepsLockFloors f.settings.pools l f.ledger.held) f.locked (Unlocked key n f.locked) c.unlock.new.self c.unlock.result c.unlock.ensures.unlocked c.unlock.ensures.kept
     f.floors (keeps_floors _ _ _ (unlocked_floors (Some key) n f.locked f.ledger.held (floors_there f)) (unlocked_frees f.settings.pools key n f.locked (pools_free f)))
