@@ -173,7 +173,7 @@ pub(crate) fn put_all(rows: &mut Rows, who: &[u8; 32], list: &[Asset]) -> Result
         ≡ plus_all (rows_held rows.old) (account_rows who.now list.now)) }
     ensures kept { OnErr result (rows_held rows.new ≡ rows_held rows.old) }
 {
-    // For speed: mostly there is memory.
+    // For speed: usually there is memory.
     if list.len() <= SHORT {
         return put_short(rows, who, list);
     }

@@ -96,7 +96,7 @@ pub(crate) fn id_not_normal(spec: &NetworkSpec) -> Option<Incoherent>
 
 // ---- the row at another chain
 
-/// Where a search among the rows begins: a few rows before a place. For speed: chains mostly list an asset at about the same place.
+/// Where a search among the rows begins: a few rows before a place. For speed: chains usually list an asset at about the same place.
 fn begin_of(rows: &[AssetRow], place: usize) -> usize
     ensures { result ≤ length rows.now }
 {

@@ -33,7 +33,7 @@ impl<T: Drop> SharedList<T> {
         }
     }
 
-    /// The same list, for another value. It takes no memory; an `Err` is more than 2^63 of them.
+    /// The same list, for another value. It takes no memory; an `Err` is 2^64-1 of them.
     pub fn share(&self) -> Result<SharedList<T>, AllocError>
         ensures { IfOk result (λ list. list ≡ self.now) }
     {

@@ -20,7 +20,7 @@ pub(crate) struct Hints {
     rows: [usize; 64],
 }
 
-/// A number below 64 by a junction. Ids of one chain mostly end with different numbers.
+/// A number below 64 by a junction. Ids of one chain usually end with different numbers.
 fn slot_of_junction(junction: &Junction) -> usize
     ensures { result < 64 }
 {

@@ -20,7 +20,7 @@ fn number_of(ledger: &Ledger, a: &Asset) -> Option<u32>
     ledger.number_of(&a.id, a.kind())
 }
 
-/// The index at which the row of an asset of this number mostly is, since the ledger lists what the rows list; 0 where it isn't listed.
+/// The index at which the row of an asset of this number usually is, since the ledger lists what the rows list; 0 where it isn't listed.
 fn likely_place(number: Option<u32>) -> usize {
     match number {
         Some(number) => number as usize,

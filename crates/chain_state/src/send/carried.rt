@@ -97,7 +97,7 @@ impl ChainState {
         let context = sender.path();
         let carried = cargo_list(&self.cargo);
         let called = list.items();
-        // For speed: mostly the order is the same under both chains' ids.
+        // For speed: usually the order is the same under both chains' ids.
         if are_seen_as(carried, &target, &context, called) {
             return Ok(true);
         }

@@ -85,7 +85,7 @@ pub(crate) fn named(
     let Some(mut all) = all_reanchored(alloc, list, target, context)? else {
         return Ok(None);
     };
-    // For speed: mostly the order is the same under both ids.
+    // For speed: usually the order is the same under both ids.
     if is_rising(all.as_slice()) {
         return Ok(Some(all));
     }
