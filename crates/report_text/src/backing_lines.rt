@@ -7,7 +7,7 @@ ghost use Rattle.supply_audit.specs.Covers.{own_touched, kept_touched};
 ghost use Rattle.report_text.specs.Sheets.{kept_backing, renewed_backing, backing_written};
 
 use crate::backings::BackingEntry;
-use crate::figures::push_sum;
+use crate::figures::{FIGURES, push_sum};
 use chain_state::ChainState;
 use std::alloc::{AllocError, Global};
 use std::marker::Model;
@@ -54,7 +54,8 @@ fn line_text(alloc: Global, entry: &BackingEntry, found: CoverFigures) -> Result
     })) }
 {
     let owed = found.standing.sum(found.coming);
-    let mut text = String::new(alloc);
+    let size = entry.beginning.len().saturating_add(FIGURES);
+    let mut text = String::with_capacity(alloc, size)?;
     text.push_str(&entry.beginning)?;
     push_sum(&mut text, found.held)?;
     text.push_str(" owed ")?;

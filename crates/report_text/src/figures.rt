@@ -22,7 +22,10 @@ pub(crate) fn kind_name(kind: Kind) -> &'static str
 }
 
 /// Bytes for the beginnings of most lines, so that they aren't moved while they grow.
-pub(crate) const ROOM: usize = 112;
+pub(crate) const ROOM: usize = 96;
+
+/// Bytes for the figures and words behind the beginnings of most lines.
+pub(crate) const FIGURES: usize = 40;
 
 /// Appends the text of a chain.
 pub(crate) fn push_chain(text: &mut String, chain: ChainId) -> Result<(), AllocError>

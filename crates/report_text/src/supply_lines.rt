@@ -6,7 +6,7 @@ ghost use Rattle.chain_state.specs.PartOf.{part_of};
 ghost use Rattle.supply_audit.specs.Stale as stales;
 ghost use Rattle.report_text.specs.Sheets.{kept_supply, renewed_supply, supply_written};
 
-use crate::figures::push_sum;
+use crate::figures::{FIGURES, push_sum};
 use crate::supplies::SupplyEntry;
 use chain_state::ChainState;
 use std::alloc::{AllocError, Global};
@@ -53,7 +53,8 @@ fn line_text(alloc: Global, entry: &SupplyEntry, found: Supply) -> Result<String
       burned = total_value found.burned;
     })) }
 {
-    let mut text = String::new(alloc);
+    let size = entry.beginning.len().saturating_add(FIGURES);
+    let mut text = String::with_capacity(alloc, size)?;
     text.push_str(&entry.beginning)?;
     push_sum(&mut text, found.home)?;
     text.push_str(" flight ")?;

@@ -16,7 +16,7 @@ returns c =
     let owed = total_value found.standing + total_value found.coming in
     let held_high : found.held.high < 2 ^ 32 = search rules in
     let held_low : found.held.low < 2 ^ 128 = search rules in
-    let start = string_bytes c.new-text.result in
+    let start = string_bytes c.in_ok-text.text in
     let first = string_bytes c.push_str.new.self in
     let second = string_bytes c.push_sum.new.text in
     let third = string_bytes c.push_str-2.new.self in
@@ -33,5 +33,5 @@ returns c =
     let from_third = behind second third end (codes " owed ") (sum_text owed ++ codes "\n") has_owed from_fourth in
     let from_second = behind first second end (sum_text held) (codes " owed " ++ (sum_text owed ++ codes "\n")) has_held from_third in
     behind start first end beginning rest has_beginning from_second
-    ∙ ap (λ t. t ++ (beginning ++ rest)) c.new-text.ensures.bytes
+    ∙ ap (λ t. t ++ (beginning ++ rest)) c.in_ok-text.ensures.bytes
     ∙ ap (λ (e : PlannedBacking). e.beginning ++ rest) c.entry.view_is

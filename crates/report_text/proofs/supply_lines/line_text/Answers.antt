@@ -21,7 +21,7 @@ returns c =
     let flight_low : found.flight.low < 2 ^ 128 = search rules in
     let burned_high : found.burned.high < 2 ^ 32 = search rules in
     let burned_low : found.burned.low < 2 ^ 128 = search rules in
-    let start = string_bytes c.new-text.result in
+    let start = string_bytes c.in_ok-text.text in
     let first = string_bytes c.push_str.new.self in
     let second = string_bytes c.push_sum.new.text in
     let third = string_bytes c.push_str-2.new.self in
@@ -44,5 +44,5 @@ returns c =
     let from_third = behind second third end (codes " flight ") (sum_text flight ++ (codes " burned " ++ (sum_text burned ++ codes "\n"))) has_flight from_fourth in
     let from_second = behind first second end (sum_text home) (codes " flight " ++ (sum_text flight ++ (codes " burned " ++ (sum_text burned ++ codes "\n")))) has_home from_third in
     behind start first end beginning rest has_beginning from_second
-    ∙ ap (λ t. t ++ (beginning ++ rest)) c.new-text.ensures.bytes
+    ∙ ap (λ t. t ++ (beginning ++ rest)) c.in_ok-text.ensures.bytes
     ∙ ap (λ (e : PlannedSupply). e.beginning ++ rest) c.entry.view_is
