@@ -29,8 +29,8 @@ fn push_balances(alloc: Global, text: &mut String, chain: &ChainState) -> Result
     text.push_str(&lines)
 }
 
-/// What the accounts of a chain hold, its checking accounts, and its locks.
-fn chain_balances(alloc: Global, chain: &ChainState) -> Result<String, AllocError>
+/// What the accounts of a chain hold, its checking accounts, and its locks: a line each. An `Err` is out of memory.
+pub fn chain_balances(alloc: Global, chain: &ChainState) -> Result<String, AllocError>
     ensures { IfOk result (λ text. string_bytes text ≡ balances_of (part_of chain.now)) }
 {
     let name = chain.site().chain;
@@ -63,8 +63,8 @@ fn push_traps(alloc: Global, text: &mut String, chain: &ChainState) -> Result<()
     text.push_str(&lines)
 }
 
-/// What is trapped at a chain.
-fn chain_traps(alloc: Global, chain: &ChainState) -> Result<String, AllocError>
+/// What is trapped at a chain: a line each. An `Err` is out of memory.
+pub fn chain_traps(alloc: Global, chain: &ChainState) -> Result<String, AllocError>
     ensures { IfOk result (λ text. string_bytes text ≡ chain_traps_text (part_of chain.now)) }
 {
     trapped_text(alloc, chain.site().chain, chain.traps())

@@ -15,7 +15,7 @@ mod supplies;
 mod supply_lines;
 
 pub use block::supply_block;
-pub use chains::{balances_text, traps_text};
+pub use chains::{balances_text, chain_balances, chain_traps, traps_text};
 pub use laws::law_of_natives;
 pub use plan::SupplyPlan;
 pub use queues::{queue_between, queues_text};

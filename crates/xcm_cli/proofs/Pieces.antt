@@ -1,7 +1,7 @@
 -- Texts that are written in pieces, one after the other.
 use Rattle.std.proofs.Common.{◌≡◌, ◌≢◌, ◌∙◌, ◌⊎◌, inl, inr, ℕ, ◌+◌, ◌<◌, ◌≤◌, Bool, List, [], ◌∷◌, ◌++◌, length, take, drop, get_or, map, refl, sym, ap, subst, Option, Some, None, Result, Ok, Err, append_assoc, append-nil, arith}
 use Rattle.std.proofs.lemmas.Grind.{flat_map-append}
-use Rattle.std.specs.Prelude.{flat_map}
+use Rattle.std.specs.Prelude.{flat_map, MatchOption, ⊤}
 use Rattle.std.proofs.lemmas.List.{take_more, take-append-drop}
 use Rattle.std.proofs.KnownBytes.{Appends-nil, Appends-trans}
 use Rattle.xcm_io.specs.Bytes.{IsFront, IsProperFront}
@@ -10,23 +10,25 @@ use Rattle.exec_base.specs.Part.{ChainPart}
 use Rattle.network_spec.specs.declared.network.NetworkSpec.{NetworkSpec}
 use Rattle.network_steps.specs.Genesis.{order_of}
 use Rattle.network_steps.specs.Worlds.{World, parts_of}
-use Rattle.network_steps.specs.Steps.{Link}
-use Rattle.network_steps.specs.Steps as steps
+use Rattle.network_steps.specs.Steps.{Link, next_world}
 use Rattle.input_lines.specs.declared.step.Step.{Step as LineStep}
-use Rattle.input_lines.specs.declared.step.Step.TheVariants as told
+use Rattle.chain_state.specs.declared.state.ChainState.{ChainState}
+use Rattle.chain_state.specs.PartOf.{part_of}
 use Rattle.input_lines.specs.declared.line.Line.{Line}
 use Rattle.input_lines.specs.declared.line.Line.TheVariants as lines
 use Rattle.step_text.specs.Steps.{heading}
-use Rattle.step_text.specs.Blocks.{link_text}
-use Rattle.report_blocks.specs.Asked.{Asks, asked_of}
-use Rattle.report_blocks.specs.Reads.{queues_block}
+use Rattle.step_text.specs.Blocks.{balances_of, chain_traps_text, link_text}
+use Rattle.report_blocks.specs.Asked.{Asks, asked_of, world_step, line_step}
+use Rattle.report_blocks.specs.Reads.{balances_block, traps_block, queues_block}
 use Rattle.report_blocks.specs.Blocks.{audit_lines, step_block, step_lines}
 use Rattle.line_serving.specs.Replies.{Reply, then_on}
 use Rattle.line_serving.specs.Calls.{Writes, Advances, HasWriteCause}
 use Rattle.line_serving.specs.declared.status.Status.{Status}
 use Rattle.line_serving.specs.declared.status.Status.TheVariants.{Done, Usage, ReadFault, WriteFault, TooLong}
 use Rattle.line_serving.proofs.Lemmas.{wrote_front, front_on, proper_on}
-use Rattle.xcm_cli.specs.Pieces.{WritesInPieces}
+use Rattle.xcm_cli.specs.Pieces.{WritesInPieces, step_of_block}
+use Rattle.xcm_cli.specs.declared.long_blocks.LongBlock.{LongBlock}
+use Rattle.xcm_cli.specs.declared.long_blocks.LongBlock.TheVariants as blocks
 
 -- nothing, where there is nothing to write
 pub none_written : {E : Type 0} (known : Option (List ℕ)) (count : ℕ) → WritesInPieces {E = E} [] known known count count (Ok None)
@@ -154,7 +156,7 @@ module _ {A : Type 0} (f : A → List ℕ) (items : List A) (k : ℕ) (x : A) (i
         pieces_as _ _ old new before now (Err refused) with_rest
         (refused_there (flat_map f (take k items) ++ f x) (flat_map f (drop (k + 1) items)) old new before now went refused both)
 
--- ---- the step `queues`
+-- ---- the blocks that are written in pieces
 
 flat_map_map : {A B : Type 0} (f : B → List ℕ) (g : A → B) (xs : List A) → flat_map (λ x. f (g x)) xs ≡ flat_map f (map g xs)
 flat_map_map f g [] = refl
@@ -164,13 +166,46 @@ pub queues_are : {A : Type 0} (link : A → Link) (channels : List A) (parts : L
 unfolding queues_block
 queues_are link channels parts w same = flat_map_map (link_text parts) link channels ∙ ap (λ ps. flat_map (link_text ps) (map link channels)) same
 
-pub block_is : (audit : Bool) (spec : NetworkSpec) (w : World) (number : ℕ) → heading number told.Queues ++ (queues_block (order_of spec) w ++ audit_lines audit w) ≡ step_block audit spec w number steps.Queues
-unfolding step_block step_lines
-block_is audit spec w number = refl
+pub balances_are : (chains : List ChainState) (w : World) → map part_of chains ≡ parts_of w → flat_map (λ c. balances_of (part_of c)) chains ≡ balances_block w
+unfolding balances_block
+balances_are chains w same = flat_map_map balances_of part_of chains ∙ ap (flat_map balances_of) same
 
-pub queues_asked : (line : Line) (step : LineStep) → line ≡ lines.Step step → step ≡ told.Queues → asked_of line ≡ Asks steps.Queues
+pub traps_are : (chains : List ChainState) (w : World) → map part_of chains ≡ parts_of w → flat_map (λ c. chain_traps_text (part_of c)) chains ≡ traps_block w
+unfolding traps_block
+traps_are chains w same = flat_map_map chain_traps_text part_of chains ∙ ap (flat_map chain_traps_text) same
+
+pub balances_lines : (spec : NetworkSpec) (w : World) (block : LongBlock) → block ≡ blocks.Balances → balances_block w ≡ step_lines spec w (step_of_block block)
+unfolding step_lines
+balances_lines spec w block e = ap (λ b. step_lines spec w (step_of_block b)) (sym e)
+
+pub traps_lines : (spec : NetworkSpec) (w : World) (block : LongBlock) → block ≡ blocks.Traps → traps_block w ≡ step_lines spec w (step_of_block block)
+unfolding step_lines
+traps_lines spec w block e = ap (λ b. step_lines spec w (step_of_block b)) (sym e)
+
+pub queues_lines : (spec : NetworkSpec) (w : World) (block : LongBlock) → block ≡ blocks.Queues → queues_block (order_of spec) w ≡ step_lines spec w (step_of_block block)
+unfolding step_lines
+queues_lines spec w block e = ap (λ b. step_lines spec w (step_of_block b)) (sym e)
+
+-- such a step changes nothing
+pub block_stays : (order : List Link) (w : World) (block : LongBlock) → w ≡ next_world order w (step_of_block block)
+block_stays order w blocks.Balances = refl
+block_stays order w blocks.Traps = refl
+block_stays order w blocks.Queues = refl
+
+pub block_is : (audit : Bool) (spec : NetworkSpec) (w : World) (number : ℕ) (block : LongBlock)
+    → heading number (line_step (step_of_block block)) ++ (step_lines spec w (step_of_block block) ++ audit_lines audit w) ≡ step_block audit spec w number (step_of_block block)
+unfolding step_block
+block_is audit spec w number block =
+    ap (λ next. heading number (line_step (step_of_block block)) ++ (step_lines spec w (step_of_block block) ++ audit_lines audit next)) (block_stays (order_of spec) w block)
+
+step_asked : (line : Line) (step : LineStep) (block : LongBlock) → line ≡ lines.Step step → world_step step ≡ step_of_block block → asked_of line ≡ Asks (step_of_block block)
 unfolding asked_of
-queues_asked line step e s = ap asked_of (e ∙ ap lines.Step s)
+step_asked line step block e s = ap asked_of e ∙ ap Asks s
+
+pub block_asked : (line : Line) (step : LineStep) (found : Option LongBlock) → line ≡ lines.Step step → MatchOption found ⊤ (λ block. world_step step ≡ step_of_block block)
+    → MatchOption found ⊤ (λ block. asked_of line ≡ Asks (step_of_block block))
+block_asked line step None e found = found
+block_asked line step (Some block) e found = step_asked line step block e found
 
 -- ---- how a call that writes in pieces goes on with the run
 

@@ -1,8 +1,10 @@
 //! The run of the program over a source and a sink: the network, the step lines, the report.
 #![tactic(auto)]
 
+mod chains;
 mod laws;
 mod limits;
+mod long_blocks;
 mod phase;
 mod queues;
 mod session;

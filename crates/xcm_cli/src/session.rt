@@ -9,8 +9,8 @@ ghost use Rattle.xcm_cli.specs.Report.{lines_reply, steps_reply};
 ghost use Rattle.xcm_cli.specs.Session.{IsReadySession, Opens, reply_at, runs_steps};
 
 use crate::limits::MAX_NETWORK;
+use crate::long_blocks::{long_block, write_block};
 use crate::phase::{Opened, Phase, Session};
-use crate::queues::{asks_for_queues, write_queues};
 use input_lines::{ends_network, read_line, text_of};
 use line_serving::{LineMachine, Status, fits_limits, passes_limits, write_text};
 use report_blocks::{AuditedNet, LineOutcome, open_audited, opening_text, serve};
@@ -109,9 +109,9 @@ impl LineMachine for Session {
         }
     }
 
-    /// The block of `queues` has what waits in all channels, which is written a message at a time.
+    /// These blocks say what is at all chains or in all channels, and are written in pieces.
     fn is_long(&self, line: &[u8]) -> bool {
-        line.starts_with(b"queues")
+        line.starts_with(b"queues") || line.starts_with(b"balances") || line.starts_with(b"traps")
     }
 }
 
@@ -176,9 +176,9 @@ fn take_step<O: Sink>(
         Ok(asked) => asked,
         Err(refused) => return Err(refused),
     };
-    if asks_for_queues(&asked) {
+    if let Some(block) = long_block(&asked) {
         *done += 1;
-        return write_queues(alloc, net, audit, *done, out);
+        return write_block(alloc, net, audit, *done, block, out);
     }
     match serve(alloc, net, audit, *done + 1, &asked) {
         Ok(LineOutcome::Nothing) => Ok(None),

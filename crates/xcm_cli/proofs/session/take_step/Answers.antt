@@ -1,5 +1,5 @@
 use Rattle.std.proofs.Common.{◌≡◌, ◌∙◌, ◌+◌, sym, ap, refl, true, false, []}
-use Rattle.network_steps.specs.Steps as steps
+use Rattle.network_steps.specs.Genesis.{order_of}
 use Rattle.input_lines.specs.Lines.{text_of}
 use Rattle.input_lines.specs.Step.{read_line}
 use Rattle.chain_net.specs.Nets.{world_of, spec_of}
@@ -7,7 +7,8 @@ use Rattle.report_blocks.specs.Asked.{asked_of, Nothing, Asks, Unknown}
 use Rattle.report_blocks.specs.Serving.{IsServed}
 use Rattle.line_serving.specs.Replies.{fits_limits}
 use Rattle.line_serving.proofs.Lemmas.{stays, stops, refuses, writes_on, writes_end}
-use Rattle.xcm_cli.proofs.Pieces.{pieces_on}
+use Rattle.xcm_cli.proofs.Pieces.{pieces_on, block_stays}
+use Rattle.xcm_cli.specs.Pieces.{step_of_block}
 use Rattle.xcm_cli.proofs.Advance.{served_nothing, served_block, served_unknown, no_step, block_step, refused_step, long_step}
 use Rattle.xcm_cli.proofs.session.take_step.Goals as goal
 
@@ -45,10 +46,12 @@ returns-in-Ok-Unknown-clause-run g c =
 pub returns-in-Err-clause-run : goal.returns-in-Err-clause-run
 returns-in-Err-clause-run g c = refuses _ _ _ _ _
 
-pub returns-then-asks_for_queues-clause-run : goal.returns-then-asks_for_queues-clause-run
-returns-then-asks_for_queues-clause-run g c =
+pub returns-in-Some-clause-run : goal.returns-in-Some-clause-run
+returns-in-Some-clause-run g c =
+    let step = step_of_block c.in-Some.block in
     let within : fits_limits c.args.taken c.args.line.now ≡ true = sym c.fits_limits.ensures ∙ c.if-not-fits_limits.false in
-    let asked : asked_of (read_line (text_of c.args.line.now)) ≡ Asks steps.Queues =
-    ap (λ t. asked_of (read_line t)) (sym c.text_of.ensures) ∙ ap asked_of (sym c.in-Ok.ensures) ∙ c.asks_for_queues.ensures c.if-asks_for_queues.true in
-    pieces_on _ _ _ [] _ _ _ _ _ c.write_queues.ensures.written
-    (λ lines. block_step _ _ _ _ _ _ _ _ steps.Queues _ _ lines within asked refl (ap world_of c.write_queues.ensures.same) (ap spec_of c.write_queues.ensures.same))
+    let asked : asked_of (read_line (text_of c.args.line.now)) ≡ Asks step =
+    ap (λ t. asked_of (read_line t)) (sym c.text_of.ensures) ∙ ap asked_of (sym c.in-Ok.ensures) ∙ c.in-Some.ensures in
+    let stays = block_stays (order_of (spec_of c.args.net.now)) (world_of c.args.net.now) c.in-Some.block in
+    pieces_on _ _ _ [] _ _ _ _ _ c.write_block.ensures.written
+    (λ lines. block_step _ _ _ _ _ _ _ _ step _ _ lines within asked refl (ap world_of c.write_block.ensures.same ∙ stays) (ap spec_of c.write_block.ensures.same))

@@ -1,0 +1,6 @@
+use Rattle.chain_net.specs.Nets.{world_of}
+use Rattle.xcm_cli.proofs.Pieces.{pieces_as, balances_are}
+use Rattle.xcm_cli.proofs.chains.write_balances.Goals as goal
+
+pub returns : goal.returns
+returns g c = pieces_as _ _ _ _ _ _ _ (balances_are c.chains.result.now (world_of c.args.net.now) c.chains.ensures) c.write_all_balances.ensures
