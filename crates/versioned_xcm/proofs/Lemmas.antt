@@ -2,6 +2,7 @@
 -- written for it, and that both versions can say it.
 pub mod HeadLaws
 pub mod ProgramLaws
+pub mod Exact
 use denote.Hole.Carrier
 use Rattle.std.proofs.Common.{◌≡◌, ◌∙◌, ℕ, ◌+◌, true, ◌&&◌, List, ◌++◌, length, map, refl, ap, append_assoc, arith}
 use Rattle.std.specs.Cmp.Derive.{both_true}

@@ -1,2 +1,1 @@
 pub mod Lemmas
-pub mod Exact

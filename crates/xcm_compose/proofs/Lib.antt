@@ -3,3 +3,4 @@ mod Steps
 mod Cutting
 mod Streaming
 mod Judging
+mod Searching

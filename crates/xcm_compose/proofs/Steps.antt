@@ -10,17 +10,17 @@ use Rattle.line_serving.specs.Replies.{Reply, ends, then_on, fits_limits, max_in
 use Rattle.line_serving.specs.Calls.{Writes, Finishes}
 use Rattle.line_serving.proofs.Lemmas.{wrote_front}
 use Rattle.plain_lists.proofs.Lemmas.Facts.{second_true as both}
-use Rattle.xcm_compose.specs.declared.expected.Expected.TheVariants.{Same}
 use Rattle.xcm_compose.specs.declared.composer.Composer.{Composer}
-use Rattle.xcm_compose.specs.Answers.{IsAnswer, refused_line}
+use Rattle.xcm_compose.specs.Answers.{IsAnswer}
 use Rattle.xcm_compose.specs.Replies.{goes_on, begun_tree, with_line, Chosen, IsAnswered, IsReply, IsTextReply, IsInBounds}
 use Rattle.xcm_compose.specs.Runs.{Ways, Proceeds, Concludes}
+use Rattle.xcm_compose.proofs.Searching.{some_judged}
 
 -- ---- something may always come
 
 some_answer : (tree : List ℕ) → (text : List ℕ) × IsAnswer tree text
 some_answer [] = ([], refl)
-some_answer (b ∷ tree) = (refused_line 0 Same, inr (record { line = 0; expected = Same; refused = refl }))
+some_answer (b ∷ tree) = some_judged (b ∷ tree)
 
 pub answered_then : (tree : List ℕ) (IsRest : Reply → Type 0) → (whole : Reply) × IsRest whole → (whole : Reply) × IsAnswered tree IsRest whole
 answered_then tree IsRest rest = let a = some_answer tree in (then_on a.0 rest.0, (a.0, rest.0, a.1, rest.1, refl))

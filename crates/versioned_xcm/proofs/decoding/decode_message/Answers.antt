@@ -1,4 +1,4 @@
-use Rattle.versioned_xcm.proofs.Exact.{exact_for}
+use Rattle.versioned_xcm.proofs.Lemmas.Exact.{exact_for}
 use Rattle.versioned_xcm.proofs.decoding.decode_message.Goals as goal
 
 pub returns-clause-message : goal.returns-clause-message

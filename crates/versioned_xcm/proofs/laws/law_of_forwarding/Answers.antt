@@ -1,5 +1,5 @@
 use Rattle.versioned_xcm.specs.Message.{forwarded}
-use Rattle.versioned_xcm.proofs.Exact.{round_trip}
+use Rattle.versioned_xcm.proofs.Lemmas.Exact.{round_trip}
 use Rattle.versioned_xcm.proofs.Lemmas.{forwarded_convertible}
 use Rattle.versioned_xcm.proofs.laws.law_of_forwarding.Goals as goal
 

@@ -1,4 +1,4 @@
-use Rattle.versioned_xcm.proofs.Exact.{exact}
+use Rattle.versioned_xcm.proofs.Lemmas.Exact.{exact}
 use Rattle.versioned_xcm.proofs.laws.law_of_messages.Goals as goal
 
 pub returns : goal.returns
